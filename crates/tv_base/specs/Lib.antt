@@ -1,0 +1,4 @@
+pub mod Streams
+pub mod Errors
+pub mod Causes
+pub mod Texts

@@ -1,0 +1,16 @@
+-- What is heard, and the room for it.
+use Rattle.std.specs.Prelude.{ℕ, ◌≡◌, ◌⊎◌, List, [], ◌∷◌, ◌++◌, flat_map, nat_lt, if◌then◌else◌}
+use Rattle.tv_model.specs.Files.{Heard}
+
+-- of a line whose telling was refused: nothing, or a first part of the line without its line feed
+abbrev pub TellsPart : Heard → Heard → ℕ → List ℕ → Type 0
+TellsPart before now moment line =
+    (now ≡ before) ⊎ ((part : List ℕ) × (rest : List ℕ) × (line ≡ part ++ rest) × (now ≡ before ++ (moment, part) ∷ []))
+
+-- all pieces, one after the other
+abbrev pub bytes_heard : Heard → List ℕ
+bytes_heard heard = flat_map (λ piece. piece.1) heard
+
+-- the room for one more piece among so many of so many places: what was prepared, where there is a place
+abbrev pub room_of : (pieces places prepared : ℕ) → ℕ
+room_of pieces places prepared = if nat_lt pieces places then prepared else 0

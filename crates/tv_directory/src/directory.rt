@@ -1,0 +1,148 @@
+//! A directory as the layers above see it.
+ghost use Rattle.std.specs.Prelude.{◌≡◌, ◌≢◌, ◌≤◌, ◌++◌, [], List, ℕ, Bool, true, false, Option, Some, None, IsSome, is_some, IfOk, IfErr, OnOk, string_bytes};
+ghost use Rattle.tv_model.specs.Names.{is_file_name};
+ghost use Rattle.tv_model.specs.Files.{Reads, Same, Sets, MaySet, KeepsOthers, Heard, Rose};
+ghost use Rattle.tv_base.specs.Causes.{IsDevice, IoCause, OpenReadCause, OpenWriteCause};
+ghost use Rattle.tv_directory.specs.Watch.{IsNewWriter};
+
+use crate::watch::WatchCall;
+use tv_base::{IoError, IoFault, OpenReadError, OpenWriteError};
+
+/// Files that are written once, under plain or dotted names.
+///
+/// The device may refuse any call. It then answers a fault of kind `Device`, and a count rises.
+pub trait Directory {
+    /// What writes a file.
+    type Writer: Drop;
+
+    /// Who may watch this directory.
+    type Callback: WatchCall;
+
+    /// Whether the directory tells its content.
+    ghost tells: { Type 0 };
+
+    /// The bytes that each name reads, where the content is told.
+    ghost reads: { Self → Reads };
+
+    /// The clock, which doesn't go back.
+    ghost moment: { Self → ℕ };
+
+    /// What was told so far, where that is told. Nothing that is said here changes it.
+    ghost heard: { Self → Heard };
+
+    /// How many bytes of a line, its line feed counted, can be told without memory.
+    ghost room: { Self → ℕ };
+
+    /// How many calls the device has refused.
+    ghost faults: { Self → ℕ };
+
+    /// This writer was opened here, and no call on it was refused. No call takes that away.
+    ghost opened: { Self → Self.Writer → Bool };
+
+    /// The writer's name wasn't deleted since it was opened.
+    ghost lives: { Self → Self.Writer → Bool };
+
+    /// The name that a writer writes to.
+    ghost name_of: { Self.Writer → List ℕ };
+
+    /// What was written by a writer.
+    ghost written: { Self.Writer → List ℕ };
+
+    /// Whether the name reads. It never answers that the file doesn't exist.
+    fn exists(&mut self, name: &str) -> Result<bool, OpenReadError>
+        requires { is_file_name name.now ≡ true }
+        ensures answer { tells → IfOk result (λ found. found ≡ is_some (reads self.old name.now)) }
+        ensures content { tells → Same (reads self.old) (reads self.new) }
+        ensures quiet { OnOk result (faults self.new ≡ faults self.old) }
+        ensures cause { IfErr result (OpenReadCause ⊥ (Rose (faults self.old) (faults self.new)) (faults self.new ≡ faults self.old)) }
+        ensures writers { (w : _) → opened self.old w ≡ true → opened self.new w ≡ true }
+        ensures alive { (w : _) → lives self.old w ≡ true → lives self.new w ≡ true }
+        ensures clock { moment self.old ≤ moment self.new }
+        ensures heard { heard self.new ≡ heard self.old }
+        ensures room { room self.old ≤ room self.new };
+
+    /// Makes an empty file that isn't sealed. `FileAlreadyExists` comes where the name reads.
+    fn open_write(&mut self, name: &str) -> Result<Self::Writer, OpenWriteError>
+        requires { is_file_name name.now ≡ true }
+        ensures writer { IfOk result (λ w. IsNewWriter (opened self.new) (lives self.new) name_of written name.now w) }
+        ensures absent { tells → OnOk result (reads self.old name.now ≡ None) }
+        ensures ok { tells → OnOk result (Sets (reads self.old) (reads self.new) name.now (Some [])) }
+        ensures err { tells → IfErr result (OpenWriteCause (IsSome (reads self.old name.now) × Same (reads self.old) (reads self.new)) (MaySet (reads self.old) (reads self.new) name.now (Some [])) (Same (reads self.old) (reads self.new))) }
+        ensures quiet { OnOk result (faults self.new ≡ faults self.old) }
+        ensures cause { IfErr result (OpenWriteCause (faults self.new ≡ faults self.old) (Rose (faults self.old) (faults self.new)) (faults self.new ≡ faults self.old)) }
+        ensures writers { (w : _) → opened self.old w ≡ true → opened self.new w ≡ true }
+        ensures alive { (w : _) → lives self.old w ≡ true → lives self.new w ≡ true }
+        ensures clock { moment self.old ≤ moment self.new }
+        ensures heard { heard self.new ≡ heard self.old }
+        ensures room { room self.old ≤ room self.new };
+
+    /// Appends the bytes. A file that isn't sealed may read any part of what was written.
+    fn write(&mut self, writer: &mut Self::Writer, bytes: &[u8]) -> Result<(), IoError>
+        requires { opened self.old writer.old ≡ true }
+        ensures ok { OnOk result ((written writer.new ≡ written writer.old ++ bytes.now) × (opened self.new writer.new ≡ true)) }
+        ensures err { IfErr result (IoCause (Unit {0}) ((written writer.new ≡ written writer.old) × (opened self.new writer.new ≡ true))) }
+        ensures name { name_of writer.new ≡ name_of writer.old }
+        ensures lives { lives self.old writer.old ≡ true → lives self.new writer.new ≡ true }
+        ensures content { tells → KeepsOthers (reads self.old) (reads self.new) (name_of writer.old) }
+        ensures there { tells → lives self.old writer.old ≡ true → IsSome (reads self.new (name_of writer.old)) }
+        ensures gone { tells → lives self.old writer.old ≡ false → Same (reads self.old) (reads self.new) }
+        ensures quiet { OnOk result (faults self.new ≡ faults self.old) }
+        ensures cause { IfErr result (IoCause (Rose (faults self.old) (faults self.new)) (faults self.new ≡ faults self.old)) }
+        ensures writers { (w : _) → opened self.old w ≡ true → opened self.new w ≡ true }
+        ensures alive { (w : _) → lives self.old w ≡ true → lives self.new w ≡ true }
+        ensures clock { moment self.old ≤ moment self.new }
+        ensures heard { heard self.new ≡ heard self.old }
+        ensures room { room self.old ≤ room self.new };
+
+    /// Seals the file with all bytes that were written. Where the name was deleted since, nothing changes.
+    fn terminate(&mut self, writer: Self::Writer) -> Result<(), IoError>
+        requires { opened self.old writer ≡ true }
+        ensures ok { tells → lives self.old writer ≡ true → OnOk result (Sets (reads self.old) (reads self.new) (name_of writer) (Some (written writer))) }
+        ensures err { tells → IfErr result (IoCause (MaySet (reads self.old) (reads self.new) (name_of writer) (Some (written writer))) (Same (reads self.old) (reads self.new))) }
+        ensures gone { tells → lives self.old writer ≡ false → Same (reads self.old) (reads self.new) }
+        ensures quiet { OnOk result (faults self.new ≡ faults self.old) }
+        ensures cause { IfErr result (IoCause (Rose (faults self.old) (faults self.new)) (faults self.new ≡ faults self.old)) }
+        ensures writers { (w : _) → opened self.old w ≡ true → opened self.new w ≡ true }
+        ensures alive { (w : _) → lives self.old w ≡ true → lives self.new w ≡ true }
+        ensures clock { moment self.old ≤ moment self.new }
+        ensures heard { heard self.new ≡ heard self.old }
+        ensures room { room self.old ≤ room self.new };
+
+    /// The bytes that the name reads. `FileDoesNotExist` comes where it doesn't read.
+    fn atomic_read(&mut self, name: &str) -> Result<Vec<u8>, OpenReadError>
+        requires { is_file_name name.now ≡ true }
+        ensures bytes { tells → IfOk result (λ bytes. reads self.old name.now ≡ Some bytes.items) }
+        ensures absent { tells → IfErr result (OpenReadCause (reads self.old name.now ≡ None) (Unit {0}) (Unit {0})) }
+        ensures content { tells → Same (reads self.old) (reads self.new) }
+        ensures quiet { OnOk result (faults self.new ≡ faults self.old) }
+        ensures cause { IfErr result (OpenReadCause (faults self.new ≡ faults self.old) (Rose (faults self.old) (faults self.new)) (faults self.new ≡ faults self.old)) }
+        ensures writers { (w : _) → opened self.old w ≡ true → opened self.new w ≡ true }
+        ensures alive { (w : _) → lives self.old w ≡ true → lives self.new w ≡ true }
+        ensures clock { moment self.old ≤ moment self.new }
+        ensures heard { heard self.new ≡ heard self.old }
+        ensures room { room self.old ≤ room self.new };
+
+    /// Gives the name these bytes in one step.
+    fn atomic_write(&mut self, name: &str, bytes: &[u8]) -> Result<(), IoError>
+        requires { is_file_name name.now ≡ true }
+        ensures ok { tells → OnOk result (Sets (reads self.old) (reads self.new) name.now (Some bytes.now)) }
+        ensures err { tells → IfErr result (IoCause (MaySet (reads self.old) (reads self.new) name.now (Some bytes.now)) (Same (reads self.old) (reads self.new))) }
+        ensures quiet { OnOk result (faults self.new ≡ faults self.old) }
+        ensures cause { IfErr result (IoCause (Rose (faults self.old) (faults self.new)) (faults self.new ≡ faults self.old)) }
+        ensures writers { (w : _) → opened self.old w ≡ true → opened self.new w ≡ true }
+        ensures alive { (w : _) → lives self.old w ≡ true → lives self.new w ≡ true }
+        ensures clock { moment self.old ≤ moment self.new }
+        ensures heard { heard self.new ≡ heard self.old }
+        ensures room { room self.old ≤ room self.new };
+
+    /// Waits until the device has kept what was written. Takes no memory; the text of a fault is empty.
+    fn sync_directory(&mut self) -> Result<(), IoFault>
+        ensures content { tells → Same (reads self.old) (reads self.new) }
+        ensures quiet { OnOk result (faults self.new ≡ faults self.old) }
+        ensures cause { IfErr result (λ fault. IsDevice fault × (string_bytes fault.text ≡ []) × Rose (faults self.old) (faults self.new)) }
+        ensures writers { (w : _) → opened self.old w ≡ true → opened self.new w ≡ true }
+        ensures alive { (w : _) → lives self.old w ≡ true → lives self.new w ≡ true }
+        ensures clock { moment self.old ≤ moment self.new }
+        ensures heard { heard self.new ≡ heard self.old }
+        ensures room { room self.old ≤ room self.new };
+}

@@ -1,0 +1,16 @@
+//! Directories: what the layers above may do with one, and one in memory.
+#![tactic(auto)]
+
+mod bench;
+mod bench_clock;
+mod bench_told;
+mod directory;
+mod outside;
+#[cfg(test)]
+mod tests;
+mod watch;
+
+pub use bench::{Bench, BenchWriter};
+pub use directory::Directory;
+pub use outside::Outside;
+pub use watch::{NoWatch, WatchCall};

@@ -1,0 +1,3 @@
+pub mod Texts
+pub mod SetsOfTexts
+pub mod Saves

@@ -1,0 +1,88 @@
+-- A set of texts, seen as their bytes.
+use Rattle.std.proofs.Common.{◌≡◌, ℕ, Bool, true, false, ◌&&◌, ◌||◌, cond, List, [], ◌∷◌, map, refl, sym, ap, subst, ◌∙◌, string_bytes, String, Global}
+use Rattle.std.specs.declared.cmp.Ordering.{Ordering}
+use Rattle.std.specs.declared.cmp.Ordering.TheVariants.{Less, Equal, Greater}
+use Rattle.std.specs.Ordering.{is_eq, match_ordering}
+use Rattle.std.specs.List.{list_all, list_any, AllByRecursion}
+use Rattle.std.specs.List.Sorted.{IsStrictlySortedBy}
+use Rattle.std.specs.String.{string_cmp}
+use Rattle.std.specs.BTreeMap.{is_at}
+use Rattle.std.specs.BTreeSet.{insert_key}
+use Rattle.std.specs.Set.{remove_key}
+use Rattle.std.specs.Str.{IsUtf8}
+use Rattle.std.proofs.lemmas.Str.{IsUtf8-string_bytes}
+use Rattle.tv_model.specs.Names.{byte_cmp, has, is_plain}
+use Rattle.tv_model.specs.Listing.{IsListed, IsListOf, list_text}
+use Rattle.tv_model.proofs.Entries.{is_by_order, remove_inserted, sorted_put}
+use Rattle.tv_model.proofs.PlainNames.{both}
+use Rattle.tv_managed.specs.Managed.{AreManaged}
+
+placed : (r : Ordering) (k x : String Global) (xs : List (String Global)) (rest : List (String Global)) (rest' : List (List ℕ)) → map string_bytes rest ≡ rest'
+    → map string_bytes (match_ordering r (k ∷ x ∷ xs) (x ∷ xs) (x ∷ rest)) ≡ match_ordering r (string_bytes k ∷ string_bytes x ∷ map string_bytes xs) (string_bytes x ∷ map string_bytes xs) (string_bytes x ∷ rest')
+placed Less k x xs rest rest' e = refl
+placed Equal k x xs rest rest' e = refl
+placed Greater k x xs rest rest' e = ap (λ (t : List (List ℕ)). string_bytes x ∷ t) e
+
+pub bytes_inserted : (keys : List (String Global)) (k : String Global) → map string_bytes (insert_key string_cmp keys k) ≡ insert_key byte_cmp (map string_bytes keys) (string_bytes k)
+bytes_inserted [] k = refl
+bytes_inserted (x ∷ keys) k = placed (string_cmp k x) k x keys (insert_key string_cmp keys k) _ (bytes_inserted keys k)
+
+cut : (b : Bool) (x : String Global) (xs rest : List (String Global)) (rest' : List (List ℕ)) → map string_bytes rest ≡ rest'
+    → map string_bytes (cond b xs (x ∷ rest)) ≡ cond b (map string_bytes xs) (string_bytes x ∷ rest')
+cut true x xs rest rest' e = refl
+cut false x xs rest rest' e = ap (λ (t : List (List ℕ)). string_bytes x ∷ t) e
+
+pub bytes_removed : (keys : List (String Global)) (name : List ℕ) → map string_bytes (remove_key (is_at (λ k. byte_cmp name (string_bytes k))) keys) ≡ remove_key (is_at (byte_cmp name)) (map string_bytes keys)
+bytes_removed [] name = refl
+bytes_removed (x ∷ keys) name = cut (is_eq (byte_cmp name (string_bytes x))) x keys (remove_key (is_at (λ k. byte_cmp name (string_bytes k))) keys) _ (bytes_removed keys name)
+
+pub bytes_had : (keys : List (String Global)) (name : List ℕ) → list_any (is_at (λ k. byte_cmp name (string_bytes k))) keys ≡ has (map string_bytes keys) name
+bytes_had [] name = refl
+bytes_had (x ∷ keys) name = rw (is_by_order name (string_bytes x), bytes_had keys name) refl
+
+placed_all : (test : List ℕ → Bool) (r : Ordering) (k x : List ℕ) (xs rest : List (List ℕ)) → test k ≡ true → list_all test (x ∷ xs) ≡ true → list_all test rest ≡ true
+    → list_all test (match_ordering r (k ∷ x ∷ xs) (x ∷ xs) (x ∷ rest)) ≡ true
+placed_all test Less k x xs rest here h more = rw here h
+placed_all test Equal k x xs rest here h more = h
+placed_all test Greater k x xs rest here h more = rw (both (test x) (list_all test xs) h).0 more
+
+pub all_inserted : (test : List ℕ → Bool) (names : List (List ℕ)) (name : List ℕ) → test name ≡ true → list_all test names ≡ true → list_all test (insert_key byte_cmp names name) ≡ true
+all_inserted test [] name here h = rw here refl
+all_inserted test (x ∷ names) name here h = placed_all test (byte_cmp name x) name x names _ here h (all_inserted test names name here (both (test x) (list_all test names) h).1)
+
+-- texts that are plain are listed
+pub are_listed : (keys : List (String Global)) → list_all is_plain (map string_bytes keys) ≡ true → AllByRecursion IsListed (map string_bytes keys)
+are_listed [] h = tt
+are_listed (k ∷ keys) h = let t = both (is_plain (string_bytes k)) (list_all is_plain (map string_bytes keys)) h in ((t.0, IsUtf8-string_bytes k), are_listed keys t.1)
+
+-- a plain name more
+pub managed_inserted : (names : List (List ℕ)) (name : List ℕ) → is_plain name ≡ true → AreManaged names → AreManaged (insert_key byte_cmp names name)
+managed_inserted names name plain h = record {
+  plain = all_inserted is_plain names name plain h.plain;
+  ordered = sorted_put names name h.ordered;
+}
+
+-- the set after a text was put
+pub inserted_is : (keys new : List (String Global)) (copy : String Global) (old : List (List ℕ)) (name : List ℕ) → new ≡ insert_key string_cmp keys copy → string_bytes copy ≡ name → map string_bytes keys ≡ old
+    → map string_bytes new ≡ insert_key byte_cmp old name
+inserted_is keys new copy old name put is e =
+    ap (λ (ks : List (String Global)). map string_bytes ks) put ∙ bytes_inserted keys copy ∙ ap (λ (n : List ℕ). insert_key byte_cmp (map string_bytes keys) n) is ∙ ap (λ (ns : List (List ℕ)). insert_key byte_cmp ns name) e
+
+-- a text that was put, and was taken out again
+pub removed_is : (keys new : List (String Global)) (old : List (List ℕ)) (name : List ℕ) → new ≡ remove_key (is_at (λ k. byte_cmp name (string_bytes k))) keys → map string_bytes keys ≡ insert_key byte_cmp old name → has old name ≡ false
+    → map string_bytes new ≡ old
+removed_is keys new old name cut e none =
+    ap (λ (ks : List (String Global)). map string_bytes ks) cut ∙ bytes_removed keys name ∙ ap (λ (ns : List (List ℕ)). remove_key (is_at (byte_cmp name)) ns) e ∙ remove_inserted old name none
+
+-- whether a text is in the set
+pub had_is : (keys : List (String Global)) (old : List (List ℕ)) (name : List ℕ) (b : Bool) → b ≡ list_any (is_at (λ k. byte_cmp name (string_bytes k))) keys → map string_bytes keys ≡ old → has old name ≡ b
+had_is keys old name b e f = ap (λ (ns : List (List ℕ)). has ns name) (sym f) ∙ sym (bytes_had keys name) ∙ sym e
+
+-- the text of the list stands for the names
+pub list_of : (keys : List (String Global)) (names : List (List ℕ)) → map string_bytes keys ≡ names → AreManaged (map string_bytes keys) → IsListOf (list_text names) names
+list_of keys names e h = subst (λ (ns : List (List ℕ)). IsListOf (list_text ns) ns) e (record { each = are_listed keys h.plain; ordered = h.ordered; text = refl })
+
+-- no names
+pub none_managed : AreManaged []
+unfolding IsStrictlySortedBy
+none_managed = record { plain = refl; ordered = tt }

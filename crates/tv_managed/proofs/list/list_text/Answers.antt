@@ -1,0 +1,23 @@
+use Rattle.std.proofs.Common.{rules, ◌≡◌, ◌∷◌, ◌++◌, List, ℕ, map, string_bytes, sym, ap, ◌∙◌}
+use Rattle.std.specs.List.{join_with_byte}
+use Rattle.std.proofs.lemmas.Map.Iter.{iter_end}
+use Rattle.tv_model.specs.Listing.{quoted}
+use Rattle.tv_managed.proofs.Texts.{separator, is_nil_append, join_last, map_map, list_ends}
+use Rattle.tv_managed.proofs.list.list_text.Goals as goal
+
+pub loop-name-preserved : goal.loop-name-preserved
+loop-name-preserved c = record {
+  text =
+      c.in_ok-push_name.ensures
+      ∙ ap (λ (t : List ℕ). t ++ (separator c.loop-name.is_first ++ quoted c.deref.result.now)) c.loop-name.invariant.text
+      ∙ ap (λ (n : List ℕ). (91 ∷ join_with_byte 44 (map (λ name. quoted (string_bytes name.now)) c.loop-name.yielded)) ++ (separator c.loop-name.is_first ++ quoted n)) c.deref.ensures
+      ∙ ap (λ (t : List ℕ). 91 ∷ t) (sym (join_last (λ name. quoted (string_bytes name.now)) c.loop-name.yielded c.in-Some.name c.loop-name.is_first c.loop-name.invariant.first));
+  first = sym (is_nil_append c.loop-name.yielded c.in-Some.name);
+}
+
+pub returns : goal.returns
+returns c =
+    let all : map (λ name. name.now) c.loop-name.yielded ≡ c.args.names.now.keys = search (rules, iter_end) in
+    let texts : map (λ name. quoted (string_bytes name.now)) c.loop-name.yielded ≡ map quoted (map string_bytes c.args.names.now.keys) =
+    sym (ap (map quoted) (map_map string_bytes (λ name. name.now) c.loop-name.yielded) ∙ map_map quoted (λ name. string_bytes name.now) c.loop-name.yielded) ∙ ap (λ names. map quoted (map string_bytes names)) all in
+    list_ends (map string_bytes c.args.names.now.keys) c.loop-name.text.items _ (c.loop-name.invariant.text ∙ ap (λ (t : List (List ℕ)). 91 ∷ join_with_byte 44 t) texts) c.in_ok-extend_from_slice.ensures.items

@@ -1,0 +1,13 @@
+//! A directory that lists the files that it manages before it makes them, and seals each with a footer.
+#![tactic(auto)]
+
+mod footer;
+mod list;
+mod managed_directory;
+mod telling;
+#[cfg(test)]
+mod tests;
+mod writer;
+
+pub use managed_directory::{ManagedDirectory, Refused};
+pub use writer::ManagedWriter;

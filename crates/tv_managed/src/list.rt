@@ -1,0 +1,62 @@
+//! The file that lists the managed files.
+ghost use Rattle.std.specs.Prelude.{◌≡◌, ◌≤◌, [], ◌∷◌, ◌++◌, true, Some, IfOk, IfErr, OnOk, map, string_bytes, if◌then◌else◌};
+ghost use Rattle.tv_model.specs.Names.{list_name};
+ghost use Rattle.tv_model.specs.Listing.{list_text, quoted};
+ghost use Rattle.tv_model.specs.Files.{Sets, MaySet, Rose};
+ghost use Rattle.tv_base.specs.Causes.{IoCause};
+
+use std::alloc::Global;
+use std::collections::BTreeSet;
+use tv_base::{IoError, MANAGED_FILEPATH};
+use tv_directory::Directory;
+use tv_model::Memory;
+
+// Adds a name in quotation marks, and a comma before it where it isn't the first.
+fn push_name(text: &mut Vec<u8>, name: &str, is_first: bool) -> Result<(), Memory>
+    ensures { OnOk result (text.new.items ≡ text.old.items ++ ((if is_first then [] else 44 ∷ []) ++ quoted name.now)) }
+{
+    if !is_first {
+        text.push(b',')?;
+    }
+    text.push(b'"')?;
+    text.extend_from_slice(name.as_bytes())?;
+    text.push(b'"')?;
+    Ok(())
+}
+
+/// The text of the list of these names.
+fn list_text(alloc: Global, names: &BTreeSet<String>) -> Result<Vec<u8>, Memory>
+    ensures { IfOk result (λ text. text.items ≡ list_text (map string_bytes names.now.keys)) }
+{
+    let mut text = Vec::new(alloc);
+    text.push(b'[')?;
+    let mut is_first = true;
+    for name in names {
+        push_name(&mut text, name, is_first)?;
+        is_first = false;
+    }
+    text.extend_from_slice(b"]\n")?;
+    Ok(text)
+}
+
+/// Writes the list of these names, and waits until the device has kept it.
+pub(crate) fn save_list<D: Directory>(
+    alloc: Global,
+    directory: &mut D,
+    names: &BTreeSet<String>,
+) -> Result<(), IoError>
+    ensures ok { D.tells → OnOk result (Sets (D.reads directory.old) (D.reads directory.new) list_name (Some (list_text (map string_bytes names.now.keys)))) }
+    ensures err { D.tells → MaySet (D.reads directory.old) (D.reads directory.new) list_name (Some (list_text (map string_bytes names.now.keys))) }
+    ensures quiet { OnOk result (D.faults directory.new ≡ D.faults directory.old) }
+    ensures cause { IfErr result (IoCause (Rose (D.faults directory.old) (D.faults directory.new)) (D.faults directory.new ≡ D.faults directory.old)) }
+    ensures writers { (w : _) → D.opened directory.old w ≡ true → D.opened directory.new w ≡ true }
+    ensures alive { (w : _) → D.lives directory.old w ≡ true → D.lives directory.new w ≡ true }
+    ensures clock { D.moment directory.old ≤ D.moment directory.new }
+    ensures heard { D.heard directory.new ≡ D.heard directory.old }
+    ensures room { D.room directory.old ≤ D.room directory.new }
+{
+    let text = list_text(alloc, names)?;
+    directory.atomic_write(MANAGED_FILEPATH, text.as_slice())?;
+    directory.sync_directory()?;
+    Ok(())
+}

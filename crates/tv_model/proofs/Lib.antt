@@ -1,0 +1,17 @@
+pub mod ChecksumFits
+pub mod Checksums
+pub mod CommitRefusals
+pub mod EmptyScript
+pub mod Entries
+pub mod FileRefusals
+pub mod FirstCommit
+pub mod ListText
+pub mod NoFeeds
+pub mod Payload
+pub mod PlainNames
+pub mod PrintedMeta
+pub mod Samples
+pub mod SealedFile
+pub mod SegmentFiles
+pub mod SegmentRefusals
+pub mod SoundStates

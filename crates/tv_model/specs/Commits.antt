@@ -1,0 +1,110 @@
+-- Commits, and what `meta.json` says.
+use Rattle.std.specs.Prelude.{ℕ, ◌≡◌, ◌≤◌, ◌<◌, ◌^◌, ◌/◌, ◌%◌, ◌+◌, ◌==◌, ◌||◌, nat_lt, Bool, true, false, List, [], ◌∷◌, ◌++◌, map, codes, Option, Some, None, IfSome, if◌then◌else◌}
+use Rattle.std.specs.Fmt.{decimal}
+use Rattle.std.specs.List.{flat_map, join_with_byte, AllByRecursion}
+use Rattle.std.specs.List.Sorted.{IsStrictlySortedBy}
+use Rattle.std.specs.Str.{IsUtf8}
+use Rattle.uuid.specs.Text.{hyphenated_text, lower}
+use Rattle.tv_model.specs.declared.segment.DeleteMeta.{DeleteMeta}
+use Rattle.tv_model.specs.declared.segment.LiveSegment.{LiveSegment}
+use Rattle.tv_model.specs.Names.{byte_cmp, is}
+use Rattle.tv_model.specs.Ids.{IsId}
+use Rattle.tv_model.specs.Segments.{num_deleted, delete_opstamp}
+
+-- A commit: its number, the payload that its writer added, and its segments by id. (The machine keeps the current one alone; the commits of a run are those of its states.)
+pub record Commit : Type 0 where
+  pub opstamp : ℕ
+  pub payload : Option (List ℕ)
+  pub segments : List (List ℕ × LiveSegment)
+
+-- the commit of an index that was just made
+abbrev pub first_commit : Commit
+first_commit = record { opstamp = 0; payload = None; segments = [] }
+
+-- a segment with an id, whose numbers are within their ranges: no more documents are deleted than there are
+pub record IsSegment (e : List ℕ × LiveSegment) : Type 0 where
+  pub id : IsId e.0
+  pub max_doc : e.1.max_doc < 2 ^ 32
+  pub deletes : num_deleted e.1.deletes ≤ e.1.max_doc
+  pub opstamp : delete_opstamp e.1.deletes < 2 ^ 64
+
+-- the segments stand in id order, each once, the number is one of 64 bits, and the payload is a text
+pub record IsCommit (commit : Commit) : Type 0 where
+  pub ordered : IsStrictlySortedBy byte_cmp (map (λ e. e.0) commit.segments)
+  pub segments : AllByRecursion IsSegment commit.segments
+  pub opstamp : commit.opstamp < 2 ^ 64
+  pub payload : IfSome commit.payload IsUtf8
+
+-- how the documents of an index are kept
+pub record Settings : Type 0 where
+  pub dedicated_thread : Bool
+  pub blocksize : ℕ
+
+abbrev pub default_settings : Settings
+default_settings = record { dedicated_thread = true; blocksize = 16384 }
+
+-- whether documents are compressed on a thread of their own; printed only where they are not
+abbrev pub thread_text : Bool → List ℕ
+thread_text true = []
+thread_text false = codes ",\"docstore_compress_dedicated_thread\":false"
+
+abbrev pub settings_text : Settings → List ℕ
+settings_text settings =
+    codes "{\"docstore_compression\":\"none\"" ++ thread_text settings.dedicated_thread ++ codes ",\"docstore_blocksize\":" ++ decimal settings.blocksize ++ codes "}"
+
+abbrev pub deletes_text : Option DeleteMeta → List ℕ
+deletes_text None = codes "null"
+deletes_text (Some meta) = codes "{\"num_deleted_docs\":" ++ decimal meta.num_deleted_docs ++ codes ",\"opstamp\":" ++ decimal meta.opstamp ++ codes "}"
+
+abbrev pub segment_text : List ℕ × LiveSegment → List ℕ
+segment_text e =
+    codes "{\"segment_id\":\"" ++ hyphenated_text lower e.0 ++ codes "\",\"max_doc\":" ++ decimal e.1.max_doc ++ codes ",\"deletes\":" ++ deletes_text e.1.deletes ++ codes "}"
+
+-- a hexadecimal digit in lower case
+abbrev pub hex_digit : ℕ → ℕ
+hex_digit n = if nat_lt n 10 then 48 + n else 87 + n
+
+-- a byte of a JSON string: `"`, `\` and the control characters are escaped
+abbrev pub escaped_byte : ℕ → List ℕ
+escaped_byte b =
+    if b == 34 then codes "\\\""
+    else if b == 92 then codes "\\\\"
+    else if b == 8 then codes "\\b"
+    else if b == 12 then codes "\\f"
+    else if b == 10 then codes "\\n"
+    else if b == 13 then codes "\\r"
+    else if b == 9 then codes "\\t"
+    else if nat_lt b 32 then codes "\\u00" ++ hex_digit (b / 16) ∷ hex_digit (b % 16) ∷ []
+    else b ∷ []
+
+abbrev pub escaped : List ℕ → List ℕ
+escaped text = flat_map escaped_byte text
+
+abbrev pub payload_text : Option (List ℕ) → List ℕ
+payload_text None = []
+payload_text (Some text) = codes ",\"payload\":\"" ++ escaped text ++ codes "\""
+
+-- the printed form of a commit under a schema of this text
+abbrev pub printed : Settings → List ℕ → Commit → List ℕ
+printed settings schema commit =
+    codes "{\"index_settings\":" ++ settings_text settings
+    ++ codes ",\"segments\":[" ++ join_with_byte 44 (map segment_text commit.segments)
+    ++ codes "],\"schema\":" ++ schema
+    ++ codes ",\"opstamp\":" ++ decimal commit.opstamp
+    ++ payload_text commit.payload
+    ++ codes "}"
+
+-- The bytes mean this commit under these settings and this schema. (So far only as they are printed here, with a line feed; other spellings of the JSON
+-- will join, and then bytes may also mean a commit of another schema.)
+pub record Means (settings : Settings) (schema bytes : List ℕ) (commit : Commit) : Type 0 where
+  pub is_commit : IsCommit commit
+  pub blocksize : settings.blocksize < 2 ^ 64
+  pub text : bytes ≡ printed settings schema commit ++ 10 ∷ []
+
+-- the one schema with a field that is accepted so far
+abbrev pub text_schema : List ℕ
+text_schema = codes "[{\"name\":\"text\",\"type\":\"text\",\"options\":{\"indexing\":{\"record\":\"position\",\"fieldnorms\":true,\"tokenizer\":\"default\"},\"stored\":false,\"fast\":false}}]"
+
+-- the schemas that are accepted so far, byte for byte: the empty one, and the one above
+abbrev pub is_schema : List ℕ → Bool
+is_schema bytes = is bytes (codes "[]") || is bytes text_schema

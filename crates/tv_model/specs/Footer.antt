@@ -1,0 +1,31 @@
+-- A sealed file: what was written, and a footer with its checksum.
+use Rattle.std.specs.Prelude.{ℕ, ◌≡◌, ◌<◌, ◌^◌, ◌/◌, ◌%◌, List, [], ◌∷◌, ◌++◌, length, codes}
+use Rattle.std.specs.Fmt.{decimal}
+use Rattle.tv_model.specs.Checksum.{crc32}
+
+-- four bytes of a number, the lowest first
+abbrev pub four_bytes : ℕ → List ℕ
+four_bytes n = n % 256 ∷ n / 256 % 256 ∷ n / 65536 % 256 ∷ n / 16777216 % 256 ∷ []
+
+-- the JSON of the footer: the version of the writer, and the checksum of the body
+abbrev pub footer_json : ℕ → List ℕ
+footer_json crc = codes "{\"version\":{\"major\":0,\"minor\":26,\"patch\":2,\"index_format_version\":7},\"crc\":" ++ decimal crc ++ codes "}"
+
+-- the number by which a footer is known
+abbrev pub footer_magic : ℕ
+footer_magic = 1337
+
+-- the JSON, its length, and that number
+abbrev pub footer : ℕ → List ℕ
+footer crc = footer_json crc ++ four_bytes (length (footer_json crc)) ++ four_bytes footer_magic
+
+-- the bytes of a sealed file
+abbrev pub sealed : List ℕ → List ℕ
+sealed body = body ++ footer (crc32 body)
+
+-- A file that can be read: a body and a footer, whatever its checksum is. (So far only the footer as it is written here counts; other spellings of its JSON and other versions will join.)
+pub record IsGood (bytes : List ℕ) : Type 0 where
+  pub body : List ℕ
+  pub crc : ℕ
+  pub fits : crc < 2 ^ 32
+  pub whole : bytes ≡ body ++ footer crc

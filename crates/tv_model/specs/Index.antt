@@ -1,0 +1,72 @@
+-- An index in a directory.
+use Rattle.std.specs.Prelude.{ℕ, ◌≡◌, ◌≢◌, ◌+◌, ◌==◌, Bool, true, List, [], ◌∷◌, Option, Some, None, IsSome, is_some, option_map, if◌then◌else◌}
+use Rattle.std.specs.BTreeSet.{insert_key}
+use Rattle.tv_model.specs.Names.{byte_cmp, has, is_undotted, list_name, meta_name}
+use Rattle.tv_model.specs.Files.{Reads}
+use Rattle.tv_model.specs.Footer.{IsGood}
+use Rattle.tv_model.specs.Listing.{Lists}
+use Rattle.tv_model.specs.Segments.{all_required}
+use Rattle.tv_model.specs.Commits.{Commit, Settings, default_settings, Means, first_commit}
+use Rattle.tv_model.specs.CommitEvents.{last_stamp}
+use Rattle.tv_model.specs.State.{State, FileState, Sealed, Open, file_at}
+
+-- a file of the machine, next to what its name reads
+abbrev pub FileReads : Option FileState → Option (List ℕ) → Type 0
+FileReads None read = read ≡ None
+FileReads (Some (Sealed bytes)) read = read ≡ Some bytes
+FileReads (Some (Open body)) read = IsSome read
+
+-- the name is that of a file of the machine: it has no dot in front, and isn't `meta.json`
+abbrev pub IsFileOf : List ℕ → Type 0
+IsFileOf name = (is_undotted name ≡ true) × (name ≢ meta_name)
+
+-- a directory that reads so holds this state, under these settings and this schema
+pub record DirectoryHolds (settings : Settings) (schema : List ℕ) (reads : Reads) (s : State) : Type 0 where
+  pub names : (n : List ℕ) → is_some (file_at s n) ≡ true → IsFileOf n
+  pub files : (n : List ℕ) → IsFileOf n → FileReads (file_at s n) (reads n)
+  pub meta : (text : List ℕ) × (reads meta_name ≡ Some text) × Means settings schema text s.commit
+  pub listing : Lists (reads list_name) s.managed
+
+-- the commit's required files are there and can be read
+pub record HasFiles (reads : Reads) (commit : Commit) : Type 0 where
+  pub each : (n : List ℕ) → has (all_required commit.segments) n ≡ true → (bytes : List ℕ) × (reads n ≡ Some bytes) × IsGood bytes
+
+-- `meta.json` is absent, or it means a commit whose required files are there and can be read
+abbrev pub IsSoundMeta : List ℕ → Reads → Option (List ℕ) → Type 0
+IsSoundMeta schema reads None = Unit {0}
+IsSoundMeta schema reads (Some text) = (settings : Settings) × (commit : Commit) × Means settings schema text commit × HasFiles reads commit
+
+-- what is read is sound: every undotted file is listed, and the commit's files can be read
+pub record IsSound (schema : List ℕ) (reads : Reads) : Type 0 where
+  pub names : List (List ℕ)
+  pub listing : Lists (reads list_name) names
+  pub listed : (n : List ℕ) → is_undotted n ≡ true → IsSome (reads n) → has names n ≡ true
+  pub commit : IsSoundMeta schema reads (reads meta_name)
+
+-- the number after a commit's
+abbrev pub next_after : ℕ → ℕ
+next_after opstamp = if opstamp == last_stamp then last_stamp else opstamp + 1
+
+-- the commit and the managed names with which an index opens; where there is no `meta.json`, an empty commit is made
+abbrev pub OpensWith : Settings → List ℕ → Option (List ℕ) → List (List ℕ) → State → Type 0
+OpensWith settings schema None listed s = (settings ≡ default_settings) × (s.commit ≡ first_commit) × (s.managed ≡ insert_key byte_cmp listed meta_name)
+OpensWith settings schema (Some text) listed s = Means settings schema text s.commit × (s.managed ≡ listed)
+
+-- a directory that reads so opens to this state
+pub record OpensTo (settings : Settings) (schema : List ℕ) (reads : Reads) (s : State) : Type 0 where
+  pub listed : List (List ℕ)
+  pub listing : Lists (reads list_name) listed
+  pub opened : OpensWith settings schema (reads meta_name) listed s
+  pub live : s.live ≡ s.commit.segments
+  pub next : s.next ≡ next_after s.commit.opstamp
+  pub names : (n : List ℕ) → is_some (file_at s n) ≡ true → IsFileOf n
+  pub files : (n : List ℕ) → IsFileOf n → file_at s n ≡ option_map Sealed (reads n)
+
+-- no index stands in the directory
+pub record HasNoIndex (reads : Reads) : Type 0 where
+  pub listing : reads list_name ≡ None
+  pub meta : reads meta_name ≡ None
+
+-- the state of an index that was just made in a directory without files
+abbrev pub first_state : State
+first_state = record { files = []; managed = meta_name ∷ []; live = []; next = 1; commit = first_commit }

@@ -1,0 +1,82 @@
+//! The lines that are told.
+ghost use Rattle.std.specs.Prelude.{◌≡◌, [], ◌∷◌, ◌++◌, true, IfOk};
+ghost use Rattle.std.specs.Fmt.{decimal};
+ghost use Rattle.hex.specs.Hex.{encode_lower};
+ghost use Rattle.tv_model.specs.Lines.{has_no_feed};
+
+use crate::file_name::FileName;
+use crate::id::SegmentId;
+use crate::memory::Memory;
+use std::alloc::Global;
+use std::marker::Model;
+
+/// A line that is told. No line feed stands in it.
+#[derive(Debug, Drop)]
+pub struct Answer {
+    text: Vec<u8>,
+}
+
+impl Model for Answer {
+    ghost use Rattle.std.specs.Prelude.{List, ℕ, ◌≡◌, true};
+    ghost use Rattle.tv_model.specs.Lines.{has_no_feed};
+
+    ghost Value = { List ℕ };
+
+    ghost view = { λ a. a.text.items };
+
+    ghost invariant = { λ a. has_no_feed a.text.items ≡ true };
+}
+
+impl Answer {
+    /// A line of this text.
+    pub fn new(alloc: Global, text: &str) -> Result<Answer, Memory>
+        requires { has_no_feed text.now ≡ true }
+        ensures { IfOk result (λ line. line ≡ text.now) }
+    {
+        let text = Vec::from_slice(alloc, text.as_bytes())?;
+        Ok(Answer { text })
+    }
+
+    /// The line with one more word, after a space.
+    pub fn word(self, word: &[u8]) -> Result<Answer, Memory>
+        requires { has_no_feed word.now ≡ true }
+        ensures { IfOk result (λ line. line ≡ self ++ 32 ∷ word.now) }
+    {
+        let mut text = self.text;
+        text.push(b' ')?;
+        text.extend_from_slice(word)?;
+        Ok(Answer { text })
+    }
+
+    /// The line with an id, in lower-case digits.
+    pub fn id(self, id: SegmentId) -> Result<Answer, Memory>
+        ensures { IfOk result (λ line. line ≡ self ++ 32 ∷ encode_lower id) }
+    {
+        let mut digits = [0; 32];
+        id.write_digits(&mut digits);
+        self.word(&digits)
+    }
+
+    /// The line with a number.
+    pub fn number(self, number: u64) -> Result<Answer, Memory>
+        ensures { IfOk result (λ line. line ≡ self ++ 32 ∷ decimal number) }
+    {
+        let mut digits = itoa::Buffer::new();
+        self.word(digits.format(number).as_bytes())
+    }
+
+    /// The line with the name of a file.
+    pub fn name(self, name: &FileName) -> Result<Answer, Memory>
+        ensures { IfOk result (λ line. line ≡ self ++ 32 ∷ name.now) }
+    {
+        self.word(name.as_str().as_bytes())
+    }
+
+    /// Its bytes, among which is no line feed.
+    pub fn as_slice(&self) -> &[u8]
+        ensures bytes { result.now ≡ self.now }
+        ensures feed { has_no_feed result.now ≡ true }
+    {
+        self.text.as_slice()
+    }
+}

@@ -1,0 +1,111 @@
+//! Bytes, texts and lists of ids, seen by contracts as plain lists.
+ghost use Rattle.std.specs.Prelude.{◌≡◌, string_bytes, IfSome, IsSome, ◌↔◌, true};
+ghost use Rattle.tv_model.specs.Ids.{are_distinct};
+
+use crate::id::SegmentId;
+use std::marker::Model;
+
+/// Some bytes.
+#[derive(Debug, Drop)]
+pub struct Blob {
+    bytes: Vec<u8>,
+}
+
+impl Model for Blob {
+    ghost use Rattle.std.specs.Prelude.{List, ℕ};
+
+    ghost Value = { List ℕ };
+
+    ghost view = { λ a. a.bytes.items };
+}
+
+impl Blob {
+    /// These bytes.
+    pub fn new(bytes: Vec<u8>) -> Blob
+        ensures { result ≡ bytes.items }
+    {
+        Blob { bytes }
+    }
+
+    /// The bytes.
+    pub fn as_slice(&self) -> &[u8]
+        ensures { result.now ≡ self.now }
+    {
+        self.bytes.as_slice()
+    }
+}
+
+/// Some text. To a contract it is its bytes.
+#[derive(Debug, Drop)]
+pub struct Text {
+    text: String,
+}
+
+impl Model for Text {
+    ghost use Rattle.std.specs.Prelude.{List, ℕ, string_bytes};
+
+    ghost Value = { List ℕ };
+
+    ghost view = { λ a. string_bytes a.text };
+}
+
+impl Text {
+    /// This text.
+    pub fn new(text: String) -> Text
+        ensures { result ≡ string_bytes text }
+    {
+        Text { text }
+    }
+
+    /// The text.
+    pub fn as_str(&self) -> &str
+        ensures { result.now ≡ self.now }
+    {
+        self.text.as_str()
+    }
+}
+
+/// Some ids, none of them twice.
+#[derive(Debug, Drop)]
+pub struct IdList {
+    ids: Vec<SegmentId>,
+}
+
+impl Model for IdList {
+    ghost use Rattle.std.specs.Prelude.{List, ℕ};
+
+    ghost Value = { List (List ℕ) };
+
+    ghost view = { λ a. a.ids.items };
+}
+
+impl IdList {
+    /// These ids, where none of them stands twice.
+    pub fn new(ids: Vec<SegmentId>) -> Option<IdList>
+        ensures distinct { IsSome result ↔ (are_distinct ids.items ≡ true) }
+        ensures list { IfSome result (λ list. list ≡ ids.items) }
+    {
+        if has_no_double(ids.as_slice()) {
+            Some(IdList { ids })
+        } else {
+            None
+        }
+    }
+
+    /// The ids.
+    pub fn as_slice(&self) -> &[SegmentId]
+        ensures { result.now ≡ self.now }
+    {
+        self.ids.as_slice()
+    }
+}
+
+// Whether no id stands twice.
+fn has_no_double(ids: &[SegmentId]) -> bool
+    ensures { result ≡ are_distinct ids.now }
+{
+    match ids {
+        [] => true,
+        [id, others @ ..] => !others.contains(id) && has_no_double(others),
+    }
+}

@@ -1,0 +1,27 @@
+//! Want of memory.
+use std::alloc::{AllocError, AllocFailed};
+use std::fmt;
+
+/// There was no memory for what was asked.
+#[derive(Clone, Copy, Debug, PartialEq, Eq)]
+pub struct Memory;
+
+impl fmt::Display for Memory {
+    fn fmt<W: fmt::Write>(&self, f: &mut fmt::Formatter<W>) -> fmt::Result {
+        f.write_str("Memory")
+    }
+}
+
+impl std::error::Error for Memory {}
+
+impl From<AllocError> for Memory {
+    fn from(_error: AllocError) -> Memory {
+        Memory
+    }
+}
+
+impl<T: Drop> From<AllocFailed<T>> for Memory {
+    fn from(_error: AllocFailed<T>) -> Memory {
+        Memory
+    }
+}

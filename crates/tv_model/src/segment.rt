@@ -1,0 +1,74 @@
+//! What is known of a segment.
+ghost use Rattle.std.specs.Prelude.{◌≡◌, nat_lt};
+ghost use Rattle.tv_model.specs.Segments.{extension, num_deleted, num_docs};
+
+use crate::Opstamp;
+
+/// The kinds of file that a segment has, in the order in which they are listed.
+#[derive(Clone, Copy, Debug, PartialEq, Eq)]
+pub enum SegmentComponent {
+    Postings,
+    Positions,
+    FastFields,
+    FieldNorms,
+    Terms,
+    Store,
+    Delete,
+}
+
+impl SegmentComponent {
+    /// The end of the name of such a file, after its dot.
+    pub fn extension(&self) -> &'static str
+        ensures { result.now ≡ extension self.now }
+    {
+        match self {
+            SegmentComponent::Postings => "idx",
+            SegmentComponent::Positions => "pos",
+            SegmentComponent::FastFields => "fast",
+            SegmentComponent::FieldNorms => "fieldnorm",
+            SegmentComponent::Terms => "term",
+            SegmentComponent::Store => "store",
+            SegmentComponent::Delete => "del",
+        }
+    }
+}
+
+/// How many documents of a segment are deleted, and by which delete.
+#[derive(Clone, Copy, Debug, PartialEq, Eq)]
+pub struct DeleteMeta {
+    pub num_deleted_docs: u32,
+    pub opstamp: Opstamp,
+}
+
+/// What is known of a segment beside its id and its files.
+#[derive(Clone, Copy, Debug, PartialEq, Eq)]
+pub struct LiveSegment {
+    pub max_doc: u32,
+    pub deletes: Option<DeleteMeta>,
+}
+
+impl LiveSegment {
+    // How many documents are deleted.
+    fn num_deleted_docs(&self) -> u32
+        ensures { result ≡ num_deleted self.now.deletes }
+    {
+        match self.deletes {
+            Some(meta) => meta.num_deleted_docs,
+            None => 0,
+        }
+    }
+
+    /// How many documents are living.
+    pub fn num_docs(&self) -> u32
+        ensures { result ≡ num_docs self.now }
+    {
+        self.max_doc.saturating_sub(self.num_deleted_docs())
+    }
+
+    /// Whether documents are deleted.
+    pub fn has_deletes(&self) -> bool
+        ensures { result ≡ nat_lt 0 (num_deleted self.now.deletes) }
+    {
+        self.num_deleted_docs() > 0
+    }
+}

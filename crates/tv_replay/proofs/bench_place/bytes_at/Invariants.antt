@@ -1,0 +1,7 @@
+use Rattle.std.proofs.Common.{◌≡◌, drop}
+use Rattle.tv_model.specs.State.{at}
+use Rattle.tv_directory.specs.Bench.{named}
+use Rattle.tv_replay.proofs.bench_place.bytes_at.Given as goal
+
+abbrev pub invariant-loop-name : goal.invariant-loop-name
+invariant-loop-name l = at (named l.pairs) l.path ≡ at (named (drop l.name-index l.pairs)) l.path

@@ -1,0 +1,42 @@
+-- What single words stand for.
+use Rattle.std.specs.Prelude.{ℕ, ◌&&◌, nat_lt, List, [], ◌∷◌, Option, Some, None, Result, Ok, Err, find, if◌then◌else◌}
+use Rattle.std.specs.Fmt.{decimal}
+use Rattle.std.specs.Str.Parse.{digits_value}
+use Rattle.hex.specs.Hex.{encode_lower, decode_of, decode_sized}
+use Rattle.hex.specs.declared.error.FromHexError.{FromHexError}
+use Rattle.tv_model.specs.declared.segment.SegmentComponent.{SegmentComponent}
+use Rattle.tv_model.specs.declared.segment.SegmentComponent.TheVariants.{Postings, Positions, FastFields, FieldNorms, Terms, Store}
+use Rattle.tv_model.specs.Names.{is}
+use Rattle.tv_model.specs.Segments.{extension}
+
+-- the bytes, where the word is how they are printed
+abbrev pub printed_id : List ℕ → Result (List ℕ) FromHexError → Option (List ℕ)
+printed_id word (Ok bytes) = if is (encode_lower bytes) word then Some bytes else None
+printed_id word (Err e) = None
+
+-- the id that a word spells: thirty-two digits, with lower-case letters
+abbrev pub id_at : List ℕ → Option (List ℕ)
+id_at word = printed_id word (decode_sized word 16)
+
+-- the number below a limit that a word spells: decimal, without sign or leading zeros
+abbrev pub number_at : ℕ → List ℕ → Option ℕ
+number_at limit word =
+    let n = digits_value 10 word in
+    if is (decimal n) word && nat_lt n limit then Some n else None
+
+-- the components that scripts may name (so far not the delete files)
+abbrev pub named_components : List SegmentComponent
+named_components = Postings ∷ Positions ∷ FastFields ∷ FieldNorms ∷ Terms ∷ Store ∷ []
+
+-- the component that a word names
+abbrev pub component_at : List ℕ → Option SegmentComponent
+component_at word = find (λ component. is (extension component) word) named_components
+
+-- the bytes that a word spells, at least one, in digits of either case
+abbrev pub some_bytes : Result (List ℕ) FromHexError → Option (List ℕ)
+some_bytes (Ok []) = None
+some_bytes (Ok (b ∷ bytes)) = Some (b ∷ bytes)
+some_bytes (Err e) = None
+
+abbrev pub bytes_at : List ℕ → Option (List ℕ)
+bytes_at word = some_bytes (decode_of word)

@@ -1,0 +1,84 @@
+-- Reading the words of a line.
+use Rattle.std.specs.Prelude.{ℕ, ◌^◌, List, [], ◌∷◌, codes, Option, Some, None, if◌then◌else◌}
+use Rattle.tv_model.specs.declared.event.Event.{Event}
+use Rattle.tv_model.specs.declared.event.Event.TheVariants as events
+use Rattle.tv_model.specs.Ids.{are_distinct}
+use Rattle.tv_model.specs.Names.{is}
+use Rattle.tv_replay.specs.Fields.{id_at, number_at, component_at, bytes_at}
+
+infixl 10 ◌>>=◌
+abbrev pub ◌>>=◌ : {A B : Type 0} → Option A → (A → Option B) → Option B
+None >>= f = None
+(Some x) >>= f = f x
+
+abbrev pub segment_in : List (List ℕ) → Option Event
+segment_in (id ∷ []) = do
+  id ← id_at id
+  Some (events.Segment id)
+segment_in args = None
+
+abbrev pub open_in : List (List ℕ) → Option Event
+open_in (id ∷ component ∷ []) = do
+  id ← id_at id
+  component ← component_at component
+  Some (events.Open id component)
+open_in args = None
+
+abbrev pub write_in : List (List ℕ) → Option Event
+write_in (id ∷ component ∷ digits ∷ []) = do
+  id ← id_at id
+  component ← component_at component
+  bytes ← bytes_at digits
+  Some (events.Write id component bytes)
+write_in args = None
+
+abbrev pub seal_in : List (List ℕ) → Option Event
+seal_in (id ∷ component ∷ []) = do
+  id ← id_at id
+  component ← component_at component
+  Some (events.Seal id component)
+seal_in args = None
+
+abbrev pub docs_in : List (List ℕ) → Option Event
+docs_in (id ∷ n ∷ []) = do
+  id ← id_at id
+  n ← number_at (2 ^ 32) n
+  Some (events.Docs id n)
+docs_in args = None
+
+-- the ids that the words spell, where each of them spells one
+abbrev pub ids_in : List (List ℕ) → Option (List (List ℕ))
+ids_in [] = Some []
+ids_in (word ∷ words) = do
+  id ← id_at word
+  ids ← ids_in words
+  Some (id ∷ ids)
+
+-- a commit without payload of some ids, where none of them stands twice
+abbrev pub commit_of : List (List ℕ) → Option Event
+commit_of ids = if are_distinct ids then Some (events.Commit None ids) else None
+
+abbrev pub commit_in : List (List ℕ) → Option Event
+commit_in [] = None
+commit_in (payload ∷ words) =
+    if is payload (codes "-") then (do
+      ids ← ids_in words
+      commit_of ids)
+    else None
+
+abbrev pub managed_in : List (List ℕ) → Option Event
+managed_in [] = Some events.Managed
+managed_in args = None
+
+-- the event that these words stand for
+abbrev pub event_in : List (List ℕ) → Option Event
+event_in [] = None
+event_in (word ∷ args) =
+    if is word (codes "segment") then segment_in args
+    else if is word (codes "open") then open_in args
+    else if is word (codes "write") then write_in args
+    else if is word (codes "seal") then seal_in args
+    else if is word (codes "docs") then docs_in args
+    else if is word (codes "commit") then commit_in args
+    else if is word (codes "managed") then managed_in args
+    else None

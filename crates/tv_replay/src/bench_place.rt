@@ -1,0 +1,333 @@
+//! A place in memory, for tests.
+ghost use Rattle.std.specs.Prelude.{◌≡◌, ◌≤◌, ◌-◌, ◌++◌, [], ◌∷◌, ◌↔◌, List, ℕ, Some, None, IsSome, IsErr, option_map, length, IfOk, IfErr, OnOk};
+ghost use Rattle.tv_model.specs.State.{at};
+ghost use Rattle.tv_base.specs.Causes.{IsDevice, IoCause};
+ghost use Rattle.tv_directory.specs.Bench.{named};
+ghost use Rattle.tv_replay.specs.BenchPlace.{refused};
+
+use crate::place::Place;
+use std::alloc::Global;
+use std::marker::Model;
+use tv_base::{IoError, IoFault, IoKind, OpenDirectoryError, TextSource};
+use tv_directory::Outside;
+use tv_model::Memory;
+
+/// A place in memory, which lends its one directory for any folder.
+#[derive(Drop)]
+pub struct BenchPlace<O: Outside + Drop> {
+    alloc: Global,
+    schemas: Vec<(String, Vec<u8>)>,
+    scripts: Vec<(String, Vec<u8>)>,
+    // It is here exactly while nothing is lent.
+    bench: Option<O>,
+    lent: Option<String>,
+    // Has the capacity for `room` bytes.
+    said: Vec<u8>,
+    room: usize,
+    faults: u64,
+}
+
+impl<O: Outside + Drop> Model for BenchPlace<O> {
+    ghost use Rattle.std.specs.Prelude.{◌≡◌, ◌≤◌, ◌↔◌, None, IsSome, option_map, string_bytes, vec_len, vec_capacity};
+    ghost use Rattle.tv_directory.specs.Bench.{named};
+    ghost use Rattle.tv_replay.specs.BenchPlace.{PlaceState};
+
+    ghost Value = { PlaceState O };
+
+    ghost view = { λ a. record { schemas = named a.schemas.items; scripts = named a.scripts.items; bench = a.bench; lent = option_map string_bytes a.lent; said = a.said.items; room = a.room; faults = a.faults } };
+
+    ghost invariant = { λ a. record { bench : IsSome a.bench ↔ (a.lent ≡ None); said : vec_len a.said ≤ a.room; capacity : a.room ≤ vec_capacity a.said } };
+}
+
+impl<O: Outside + Drop> BenchPlace<O> {
+    /// A place with these schemas and scripts, each under its path, and this directory. Where a path
+    /// stands in several pairs, the first one counts. At most `room` bytes can be said. Nothing is
+    /// lent, nothing was said, and no call was refused.
+    pub fn new(
+        alloc: Global,
+        schemas: Vec<(String, Vec<u8>)>,
+        scripts: Vec<(String, Vec<u8>)>,
+        bench: O,
+        room: usize,
+    ) -> Result<BenchPlace<O>, Memory>
+        ensures schemas { IfOk result (λ place. ⟦<BenchPlace<O> as Place>⟧.schemas place ≡ at (named schemas.items)) }
+        ensures scripts { IfOk result (λ place. ⟦<BenchPlace<O> as Place>⟧.scripts place ≡ at (named scripts.items)) }
+        ensures kept { IfOk result (λ place. (folder : List ℕ) → ⟦<BenchPlace<O> as Place>⟧.kept place folder ≡ Some bench) }
+        ensures lent { IfOk result (λ place. ⟦<BenchPlace<O> as Place>⟧.lent place ≡ None) }
+        ensures said { IfOk result (λ place. ⟦<BenchPlace<O> as Place>⟧.said place ≡ []) }
+        ensures room { IfOk result (λ place. place.room ≡ room) }
+        ensures faults { IfOk result (λ place. ⟦<BenchPlace<O> as Place>⟧.faults place ≡ 0) }
+    {
+        match Vec::with_capacity(alloc, room) {
+            Ok(said) => Ok(BenchPlace {
+                alloc,
+                schemas,
+                scripts,
+                bench: Some(bench),
+                lent: None,
+                said,
+                room,
+                faults: 0,
+            }),
+            Err(_) => Err(Memory),
+        }
+    }
+
+    /// The directory, where it isn't lent, and what was said. Takes no memory.
+    pub fn into_parts(self) -> (O, Vec<u8>)
+        requires { ⟦<BenchPlace<O> as Place>⟧.lent self ≡ None }
+        ensures bench { (folder : List ℕ) → ⟦<BenchPlace<O> as Place>⟧.kept self folder ≡ Some result.0 }
+        ensures said { result.1.items ≡ ⟦<BenchPlace<O> as Place>⟧.said self }
+    {
+        let BenchPlace {
+            alloc: _,
+            schemas: _,
+            scripts: _,
+            bench,
+            lent: _,
+            said,
+            room: _,
+            faults: _,
+        } = self;
+        (bench.unwrap(), said)
+    }
+
+    // Counts a refused call.
+    fn count_refusal(&mut self)
+        ensures { self.new ≡ refused self.old }
+    {
+        self.faults = self.faults.saturating_add(1);
+    }
+
+    // Counts a refused call, and makes its fault.
+    fn refuse(&mut self) -> IoFault
+        ensures device { IsDevice result }
+        ensures count { self.new ≡ refused self.old }
+    {
+        self.count_refusal();
+        IoFault {
+            kind: IoKind::Device,
+            text: String::new(self.alloc),
+        }
+    }
+}
+
+// The bytes under a path.
+fn bytes_at<'a>(pairs: &'a [(String, Vec<u8>)], path: &str) -> Option<&'a [u8]>
+    ensures { option_map (λ bytes. bytes.now) result ≡ at (named pairs.now) path.now }
+{
+    for (name, bytes) in pairs {
+        if name.as_str() == path {
+            return Some(bytes.as_slice());
+        }
+    }
+    None
+}
+
+impl<O: Outside + Drop> Place for BenchPlace<O> {
+    type Out = O;
+
+    type Text = TextSource;
+
+    ghost tells = { Unit {0} };
+
+    ghost tells_said = { Unit {0} };
+
+    ghost schemas = { λ p. at p.schemas };
+
+    ghost scripts = { λ p. at p.scripts };
+
+    ghost kept = { λ p folder. p.bench };
+
+    ghost lent = { λ p. p.lent };
+
+    ghost said = { λ p. p.said };
+
+    ghost is_schema_path = { λ path. Unit {0} };
+
+    ghost is_script_path = { λ path. Unit {0} };
+
+    ghost is_folder_path = { λ path. Unit {0} };
+
+    ghost faults = { λ p. p.faults };
+
+    fn schema(&mut self, path: &str) -> Result<Vec<u8>, IoError>
+        ensures bytes { IfOk result (λ bytes. at self.old.schemas path.now ≡ Some bytes.items) }
+        ensures answered { OnOk result (self.new ≡ self.old) }
+        // Memory is wanted only for bytes that are there.
+        ensures why { IfErr result (IoCause ((at self.old.schemas path.now ≡ None) × (self.new ≡ refused self.old)) (IsSome (at self.old.schemas path.now) × (self.new ≡ self.old))) }
+    {
+        match bytes_at(self.schemas.as_slice(), path) {
+            Some(bytes) => Ok(Vec::from_slice(self.alloc, bytes)?),
+            None => Err(IoError::Fault(self.refuse())),
+        }
+    }
+
+    fn script(&mut self, path: &str) -> Result<TextSource, IoError>
+        ensures text { IfOk result (λ text. at self.old.scripts path.now ≡ Some text.left) }
+        ensures fresh { IfOk result (λ text. (text.fail_at ≡ []) × (text.call ≡ 0) × (text.faults ≡ 0)) }
+        ensures answered { OnOk result (self.new ≡ self.old) }
+        // Memory is wanted only for a script that is there.
+        ensures why { IfErr result (IoCause ((at self.old.scripts path.now ≡ None) × (self.new ≡ refused self.old)) (IsSome (at self.old.scripts path.now) × (self.new ≡ self.old))) }
+    {
+        match bytes_at(self.scripts.as_slice(), path) {
+            Some(bytes) => {
+                let text = Vec::from_slice(self.alloc, bytes)?;
+                Ok(TextSource::new(text, Vec::new(self.alloc)))
+            }
+            None => Err(IoError::Fault(self.refuse())),
+        }
+    }
+
+    fn lend(&mut self, folder: &str) -> Result<O, OpenDirectoryError>
+        requires free { self.old.lent ≡ None }
+        ensures given { IfOk result (λ bench. self.old.bench ≡ Some bench) }
+        ensures lends { OnOk result (self.new ≡ record self.old { bench = None; lent = Some folder.now }) }
+        ensures why { IfErr result (λ error. (error ≡ OpenDirectoryError.Memory) × (self.new ≡ self.old)) }
+    {
+        let Ok(folder) = String::from_str(self.alloc, folder) else {
+            return Err(OpenDirectoryError::Memory);
+        };
+        match self.bench.take() {
+            Some(bench) => {
+                self.lent = Some(folder);
+                Ok(bench)
+            }
+            None => unreachable!(),
+        }
+    }
+
+    fn end_script(&mut self, text: TextSource)
+        ensures none { text.faults ≡ 0 → self.new ≡ self.old }
+        ensures some { (text.faults ≡ 0 → ⊥) → self.new ≡ refused self.old }
+    {
+        if text.faults() > 0 {
+            self.count_refusal();
+        }
+    }
+
+    fn give_back(&mut self, outside: O)
+        requires { IsSome self.old.lent }
+        ensures { self.new ≡ record self.old { bench = Some outside; lent = None } }
+    {
+        self.bench = Some(outside);
+        self.lent = None;
+    }
+
+    fn say(&mut self, line: &[u8]) -> Result<(), IoFault>
+        ensures says { OnOk result (self.new ≡ record self.old { said = self.old.said ++ line.now ++ 10 ∷ [] }) }
+        ensures full { IsErr result ↔ (self.old.room - length self.old.said ≤ length line.now) }
+        ensures why { IfErr result (λ fault. IsDevice fault × (self.new ≡ refused self.old)) }
+    {
+        if self.room - self.said.len() <= line.len() {
+            return Err(self.refuse());
+        }
+        self.said.extend_from_slice(line).unwrap();
+        self.said.push(b'\n').unwrap();
+        Ok(())
+    }
+}
+
+#[cfg(test)]
+mod tests {
+    use super::*;
+    use std::alloc::AllocError;
+    use std::test::Fail;
+    use tv_base::Source;
+    use tv_directory::{Bench, NoWatch};
+
+    type TestPlace = BenchPlace<Bench<NoWatch>>;
+
+    // A path and its bytes.
+    fn pair(alloc: Global, path: &str, bytes: &[u8]) -> Result<(String, Vec<u8>), AllocError> {
+        Ok((
+            String::from_str(alloc, path)?,
+            Vec::from_slice(alloc, bytes)?,
+        ))
+    }
+
+    // A place with two schemas, one of which stands there twice, and a script. Ten bytes can be said.
+    fn test_place(alloc: Global) -> Result<TestPlace, Fail>
+        ensures { IfOk result (λ place. place.lent ≡ None) }
+    {
+        let mut schemas = Vec::new(alloc);
+        schemas.push(pair(alloc, "a.json", b"[1]")?)?;
+        schemas.push(pair(alloc, "b.json", b"[2]")?)?;
+        schemas.push(pair(alloc, "a.json", b"[3]")?)?;
+        let mut scripts = Vec::new(alloc);
+        scripts.push(pair(alloc, "a.json", b"managed\n")?)?;
+        let bench = Bench::new(alloc, Vec::new(alloc))?;
+        let place = BenchPlace::new(alloc, schemas, scripts, bench, 10)?;
+        Ok(place)
+    }
+
+    // Says a line to a place of any kind.
+    fn says<P: Place>(place: &mut P, line: &[u8]) -> bool {
+        place.say(line).is_ok()
+    }
+
+    #[test]
+    fn a_schema_is_that_of_its_path(rt: HostRuntime) -> Result<(), Fail> {
+        let mut place = test_place(rt.alloc())?;
+        for (path, want) in [("a.json", b"[1]"), ("b.json", b"[2]")] {
+            assert_eq!(rt; place.schema(path)?.as_slice(), want.as_slice(), "{path}");
+        }
+        assert_eq!(rt; place.faults, 0);
+        for path in ["", "a", "a.json ", "c.json"] {
+            match place.schema(path) {
+                Err(IoError::Fault(_)) => {}
+                _ => panic!(rt; "nothing is there"),
+            }
+        }
+        assert_eq!(rt; place.faults, 4);
+        Ok(())
+    }
+
+    #[test]
+    fn a_script_is_read_to_its_end(rt: HostRuntime) -> Result<(), Fail> {
+        let mut place = test_place(rt.alloc())?;
+        let mut text = place.script("a.json")?;
+        let mut bytes = [0; 16];
+        assert_eq!(rt; text.read(&mut bytes)?, 8);
+        assert_eq!(rt; &bytes[..8], b"managed\n".as_slice());
+        assert_eq!(rt; text.read(&mut bytes)?, 0);
+        place.end_script(text);
+        assert_eq!(rt; place.faults, 0);
+        assert!(rt; place.script("b.json").is_err(), "that is a schema's path");
+        assert_eq!(rt; place.faults, 1);
+        Ok(())
+    }
+
+    #[test]
+    fn the_directory_comes_back_as_it_was_left(rt: HostRuntime) -> Result<(), Fail> {
+        let mut place = test_place(rt.alloc())?;
+        let mut bench = place.lend("folder")?;
+        bench.ready(4)?;
+        bench.tell(b"told")?;
+        place.give_back(bench);
+        place.say(b"said")?;
+        let bench = place.lend("another folder")?;
+        place.give_back(bench);
+        let (bench, said) = place.into_parts();
+        assert_eq!(rt; bench.heard_lines()?.as_slice(), b"told\n".as_slice());
+        assert_eq!(rt; said.as_slice(), b"said\n".as_slice());
+        Ok(())
+    }
+
+    #[test]
+    fn lines_are_said_while_there_is_room(rt: HostRuntime) -> Result<(), Fail> {
+        let mut place = test_place(rt.alloc())?;
+        for (line, want) in [
+            (b"ten bytes.".as_slice(), false),
+            (b"four", true),
+            (b"fives", false),
+            (b"4444", true),
+            (b"", false),
+        ] {
+            assert_eq!(rt; says(&mut place, line), want);
+        }
+        assert_eq!(rt; place.faults, 3);
+        assert_eq!(rt; place.said.as_slice(), b"four\n4444\n".as_slice());
+        Ok(())
+    }
+}

@@ -1,0 +1,80 @@
+//! What single words of a line stand for.
+ghost use Rattle.std.specs.Prelude.{◌≡◌, ◌^◌, IfOk};
+ghost use Rattle.tv_replay.specs.Fields.{id_at, number_at, component_at, bytes_at};
+
+use hex::FromHexError;
+use std::alloc::Global;
+use tv_model::{Blob, Memory, SegmentComponent, SegmentId};
+
+// The components that scripts may name (so far not the delete files).
+const NAMED_COMPONENTS: [SegmentComponent; 6] = [
+    SegmentComponent::Postings,
+    SegmentComponent::Positions,
+    SegmentComponent::FastFields,
+    SegmentComponent::FieldNorms,
+    SegmentComponent::Terms,
+    SegmentComponent::Store,
+];
+
+// The id that a word spells.
+pub(crate) fn id_of(word: &[u8]) -> Option<SegmentId>
+    ensures { result ≡ id_at word.now }
+{
+    let mut bytes = [0; 16];
+    hex::decode_to_slice(word, &mut bytes).ok()?;
+    let id = SegmentId::from_bytes(bytes);
+    // Digits of either case give the bytes, but an id has lower-case ones alone.
+    let mut digits = [0; 32];
+    id.write_digits(&mut digits);
+    if digits.as_slice() == word {
+        Some(id)
+    } else {
+        None
+    }
+}
+
+// The number of 64 bits that a word spells.
+pub(crate) fn number_of(word: &[u8]) -> Option<u64>
+    ensures { result ≡ number_at (2 ^ 64) word.now }
+{
+    let Ok(text) = std::str::from_utf8(word) else {
+        return None;
+    };
+    let Ok(number) = text.parse::<u64>() else {
+        return None;
+    };
+    // A sign or a leading zero is read, but isn't printed.
+    let mut digits = itoa::Buffer::new();
+    if digits.format(number).as_bytes() == word {
+        Some(number)
+    } else {
+        None
+    }
+}
+
+// The component that a word names.
+pub(crate) fn component_of(word: &[u8]) -> Option<SegmentComponent>
+    ensures { result ≡ component_at word.now }
+{
+    NAMED_COMPONENTS
+        .iter()
+        .copied()
+        .find(|component| component.extension().as_bytes() == word)
+}
+
+// The bytes that a word spells.
+pub(crate) fn bytes_of(alloc: Global, word: &[u8]) -> Result<Option<Blob>, Memory>
+    ensures { IfOk result (λ found. found ≡ bytes_at word.now) }
+{
+    match hex::decode(alloc, word) {
+        Ok(bytes) => {
+            if bytes.as_slice().is_empty() {
+                Ok(None)
+            } else {
+                Ok(Some(Blob::new(bytes)))
+            }
+        }
+        Err(FromHexError::OutOfMemory) => Err(Memory),
+        Err(_) => Ok(None),
+    }
+}
