@@ -1,4 +1,17 @@
 pub mod Numbers
 pub mod Spelling
 pub mod Laws
+pub mod Feeds
+pub mod LineLemmas
+pub mod Limits
+pub mod Progress
+pub mod Printing
+pub mod OpenFiles
+pub mod SegmentEvents
+pub mod FileEvents
+pub mod CommitEvents
 pub mod Benches
+pub mod Applying
+pub mod Runs
+pub mod Creation
+pub mod Steps

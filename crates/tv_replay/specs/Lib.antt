@@ -1,4 +1,14 @@
 pub mod Fields
 pub mod Reading
+pub mod ScriptLines
+pub mod ScriptCauses
+pub mod Kept
+pub mod Telling
+pub mod StoreCauses
+pub mod Replays
+pub mod OpenFiles
 pub mod Places
+pub mod ErrorLines
+pub mod Runs
 pub mod BenchPlace
+pub mod Applying

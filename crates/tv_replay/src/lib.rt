@@ -1,14 +1,32 @@
-//! Scripts: their lines and the events that these are, and where a run of the program finds them.
+//! Scripts replayed over a directory: their events, the index that these are applied to, and the
+//! program's top call.
 #![tactic(auto)]
 
+mod answers;
 mod bench_place;
+mod commit;
+mod commit_events;
+mod error_line;
+mod file_events;
+mod files;
+mod held;
+mod lines;
+mod next_event;
+mod opening;
 mod place;
+mod program;
+mod replaying;
 mod script;
+mod segment_events;
+mod store;
 #[cfg(test)]
 mod tests;
 mod words;
 
 pub use bench_place::BenchPlace;
 pub use place::Place;
+pub use program::run;
+pub use replaying::{Replayed, Tally, replay};
 pub use script::parse_event;
-pub use tv_model::{Blob, Event, IdList, SegmentComponent, SegmentId, Text};
+pub use store::IndexStore;
+pub use tv_model::{Answer, Blob, Event, IdList, SegmentComponent, SegmentId, Text};

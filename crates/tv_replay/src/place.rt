@@ -99,12 +99,14 @@ pub trait Place {
         ensures said { said self.new ≡ said self.old };
 
     /// Says a line, to which a line feed is added. Where it is refused, a part of the line may have
-    /// been said, without the line feed. Takes no memory.
+    /// been said, without the line feed. A refusal that was counted before is counted still. Takes
+    /// no memory.
     fn say(&mut self, line: &[u8]) -> Result<(), IoFault>
         ensures told { tells_said → OnOk result (said self.new ≡ said self.old ++ line.now ++ 10 ∷ []) }
         ensures part { tells_said → OnErr result (SaysPart (said self.old) (said self.new) line.now) }
         ensures quiet { OnOk result (faults self.new ≡ faults self.old) }
         ensures cause { IfErr result (λ fault. IsDevice fault × Rose (faults self.old) (faults self.new)) }
+        ensures counted { (before : ℕ) → Rose before (faults self.old) → Rose before (faults self.new) }
         ensures folders { tells → (f : List ℕ) → kept self.new f ≡ kept self.old f }
         ensures lent { lent self.new ≡ lent self.old };
 }

@@ -1,0 +1,104 @@
+-- How far the reading of a script has come, and one more event at the end of a run.
+use Rattle.std.proofs.Common.{◌≡◌, ℕ, suc, ◌+◌, ◌≤◌, List, [], ◌∷◌, ◌++◌, length, Option, Some, None, refl, sym, ap, subst, ◌∙◌, arith, append_assoc, length-append}
+use Rattle.std.proofs.lemmas.List.{append-nil}
+use Rattle.tv_model.specs.declared.event.Event.{Event}
+use Rattle.tv_model.specs.State.{State, Told}
+use Rattle.tv_model.specs.Lines.{opening_line}
+use Rattle.tv_model.specs.Machine.{step, answers, after, report}
+use Rattle.tv_model.specs.Script.{lines_of, IsLine, AreLines}
+use Rattle.tv_replay.specs.ScriptLines.{pending, TakesEvent}
+use Rattle.tv_replay.proofs.LineLemmas.{pending_is}
+
+-- ---- one more event at the end
+
+pub after-last : (s : State) (events : List Event) (e : Event) → after s (events ++ e ∷ []) ≡ (step (after s events) e).1
+after-last s [] e = refl
+after-last s (first ∷ events) e = after-last (step s first).1 events e
+
+pub answers-last : (s : State) (events : List Event) (e : Event) → answers s (events ++ e ∷ []) ≡ answers s events ++ (step (after s events) e).0 ∷ []
+answers-last s [] e = refl
+answers-last s (first ∷ events) e = ap (λ (ls : List (List ℕ)). (step s first).0 ∷ ls) (answers-last (step s first).1 events e)
+
+pub AreLines-last : (texts : List (List ℕ)) (events : List Event) (text : List ℕ) (e : Event) → AreLines texts events → IsLine text e → AreLines (texts ++ text ∷ []) (events ++ e ∷ [])
+AreLines-last [] [] text e h l = (l, tt)
+AreLines-last (t ∷ texts) (f ∷ events) text e h l = (h.0, AreLines-last texts events text e h.1 l)
+AreLines-last [] (f ∷ events) text e h l = absurd h
+AreLines-last (t ∷ texts) [] text e h l = absurd h
+
+pub AreLines-length : (texts : List (List ℕ)) (events : List Event) → AreLines texts events → length texts ≡ length events
+AreLines-length [] [] h = refl
+AreLines-length (t ∷ texts) (f ∷ events) h = ap suc (AreLines-length texts events h.1)
+AreLines-length [] (f ∷ events) h = absurd h
+AreLines-length (t ∷ texts) [] h = absurd h
+
+-- where the state is that after some events, a step leads to that after one more
+pub after_step : (s now new : State) (events : List Event) (e : Event) (answer : List ℕ) → now ≡ after s events → (answer, new) ≡ step now e → new ≡ after s (events ++ e ∷ [])
+after_step s now new events e answer is stepped =
+    let same : step now e ≡ step (after s events) e = ap (λ (x : State). step x e) is in
+    ap (λ (p : Told). p.1) (stepped ∙ same) ∙ sym (after-last s events e)
+
+-- and its answer is the last of theirs
+pub answers_step : (s now new : State) (events : List Event) (e : Event) (answer : List ℕ) → now ≡ after s events → (answer, new) ≡ step now e → answers s (events ++ e ∷ []) ≡ answers s events ++ answer ∷ []
+answers_step s now new events e answer is stepped =
+    let same : step now e ≡ step (after s events) e = ap (λ (x : State). step x e) is in
+    let told : answer ≡ (step (after s events) e).0 = ap (λ (p : Told). p.0) (stepped ∙ same) in
+    answers-last s events e ∙ ap (λ (line : List ℕ). answers s events ++ line ∷ []) (sym told)
+
+pub report_step : (s now new : State) (events : List Event) (e : Event) (answer : List ℕ) → now ≡ after s events → (answer, new) ≡ step now e → report s (events ++ e ∷ []) ≡ report s events ++ answer ∷ []
+report_step s now new events e answer is stepped = ap (λ (ls : List (List ℕ)). opening_line s ∷ ls) (answers_step s now new events e answer is stepped)
+
+-- ---- the lines that were read
+
+-- the first lines of a script are these events' lines, and this is left after them
+pub record ReadSoFar (script : List ℕ) (left : Option (List ℕ)) (events : List Event) : Type 0 where
+  pub texts : List (List ℕ)
+  pub rest : List ℕ
+  pub left_is : left ≡ Some rest
+  pub split : lines_of script ≡ texts ++ lines_of rest
+  pub each : AreLines texts events
+
+pub nothing_read : (script held : List ℕ) (left : Option (List ℕ)) → held ≡ [] → left ≡ Some script → ReadSoFar script (pending held left) []
+nothing_read script held left none is =
+    record {
+      texts = [];
+      rest = script;
+      left_is = pending_is held script left is ∙ ap (λ (xs : List ℕ). Some (xs ++ script)) none;
+      split = refl;
+      each = tt;
+    }
+
+pub one_more_read : (script : List ℕ) (left later : Option (List ℕ)) (events : List Event) (r : ReadSoFar script left events) (e : Event) → TakesEvent r.rest (Some e) later → ReadSoFar script later (events ++ e ∷ [])
+one_more_read script left later events r e t =
+    record {
+      texts = r.texts ++ t.0 ∷ [];
+      rest = t.1;
+      left_is = t.2;
+      split = r.split ∙ ap (λ (ls : List (List ℕ)). r.texts ++ ls) t.3 ∙ sym (append_assoc r.texts (t.0 ∷ []) (lines_of t.1));
+      each = AreLines-last r.texts events t.0 e r.each t.4;
+    }
+
+-- no event was found, so nothing was left before, and nothing is left
+pub none_left : (rest : List ℕ) (found : Option Event) (later : Option (List ℕ)) → TakesEvent rest found later → ((e : Event) → found ≡ Some e → ⊥) → (rest ≡ []) × (later ≡ Some [])
+none_left rest None later t none = t
+none_left rest (Some e) later t none = absurd (none e refl)
+
+-- where nothing is left, the lines are all lines
+pub all_read : (script : List ℕ) (left : Option (List ℕ)) (events : List Event) (r : ReadSoFar script left events) → r.rest ≡ [] → AreLines (lines_of script) events
+all_read script left events r none =
+    let whole : r.texts ≡ lines_of script = sym (r.split ∙ ap (λ (xs : List ℕ). r.texts ++ lines_of xs) none ∙ append-nil r.texts) in
+    subst (λ (ls : List (List ℕ)). AreLines ls events) whole r.each
+
+-- the lines of a script are those that were read and those that are left
+pub lines_read : (script : List ℕ) (left : Option (List ℕ)) (events : List Event) (r : ReadSoFar script left events) → length (lines_of script) ≡ length events + length (lines_of r.rest)
+lines_read script left events r =
+    let len : length (lines_of script) ≡ length r.texts + length (lines_of r.rest) = ap length r.split ∙ length-append r.texts (lines_of r.rest) in
+    omega (arith, AreLines-length r.texts events r.each)
+
+-- one more line stands after those that were read
+pub more_lines : (script : List ℕ) (left : Option (List ℕ)) (events : List Event) (r : ReadSoFar script left events) (line : List ℕ) (others : List (List ℕ)) → lines_of r.rest ≡ line ∷ others → length events + 1 ≤ length (lines_of script)
+more_lines script left events r line others is =
+    let one : length (lines_of r.rest) ≡ length (line ∷ others) = ap length is in
+    omega (arith, lines_read script left events r)
+
+pub more_events : (script : List ℕ) (left later : Option (List ℕ)) (events : List Event) (r : ReadSoFar script left events) (e : Event) → TakesEvent r.rest (Some e) later → length events + 1 ≤ length (lines_of script)
+more_events script left later events r e t = more_lines script left events r t.0 (lines_of t.1) t.3

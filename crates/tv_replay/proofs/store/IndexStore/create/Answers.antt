@@ -1,0 +1,22 @@
+use Rattle.std.proofs.Common.{ℕ, List, [], ◌≡◌, sym, ap, subst, ◌∙◌}
+use Rattle.tv_model.specs.Files.{Reads, Same}
+use Rattle.tv_replay.specs.Kept.{Kept}
+use Rattle.tv_replay.proofs.Creation.{created, remade, list_made, printed_of}
+use Rattle.tv_replay.proofs.store.IndexStore.create.Goals as goal
+
+pub returns-clause-holds : goal.returns-clause-holds
+returns-clause-holds g c tells s old same opens none is =
+    let reads = g.O.Directory.reads in
+    let at_start = ap (λ v. v.0) c.self.view_is in
+    let kept = ap (λ v. v.0) c.self-2.view_is ∙ c.in_ok-line-2.ensures.kept ∙ is in
+    let asked = subst (λ d. Same (reads old) (reads d)) (sym (ap (λ v. v.1) c.self-2.view_is)) (λ n. c.in_ok-line-2.ensures.content tells n ∙ same n) in
+    let told = c.in_ok-tell.ensures.content tells in
+    created (reads old) (reads c.self-2.inside.files.0) (reads c.tell.new.self.0) c.args.self.now.0.schema c.as_slice-2.result.now s _
+    asked none opens
+    (remade _ c.args.self.now.0.schema c.tell.new.self.1 c.tell.new.self.2 kept (c.in_ok-tell.ensures.names ∙ c.in_ok-save_meta.ensures.names) (c.in_ok-tell.ensures.open_files ∙ c.in_ok-save_meta.ensures.open_files))
+    (printed_of c.as_slice-2.result.now c.in_ok-text.text.items c.args.self.now.0.schema c.as_slice.result.now c.self.inside.commit c.as_slice-2.ensures.value c.in_ok-text.ensures
+    (c.as_slice.ensures ∙ ap (λ k. k.schema) at_start) (ap (λ k. k.commit) (at_start ∙ is)))
+    (told _ ∙ c.in_ok-save_meta.ensures.saved tells)
+    (λ n a b. told n ∙ c.in_ok-save_meta.ensures.others tells n a b)
+    (list_made (reads c.self-2.inside.files.0) (reads c.save_meta.new.self.0) (reads c.tell.new.self.0) c.self-2.inside.files.1 c.save_meta.new.self.1
+    (ap (λ (k : Kept). k.managed) kept) c.in_ok-save_meta.ensures.names told (c.in_ok-save_meta.ensures.list tells))

@@ -1,0 +1,42 @@
+-- What a store keeps in memory, and the state of the machine that it holds with what its directory reads.
+use Rattle.std.specs.Prelude.{ℕ, ◌≡◌, ◌≤◌, true, List, length, Option, Some, None, IsSome, is_some}
+use Rattle.std.specs.List.{AllByRecursion}
+use Rattle.tv_model.specs.declared.segment.LiveSegment.{LiveSegment}
+use Rattle.tv_model.specs.Names.{has, list_name, meta_name}
+use Rattle.tv_model.specs.Files.{Reads}
+use Rattle.tv_model.specs.Listing.{Lists}
+use Rattle.tv_model.specs.Commits.{Commit, IsSegment, Means, default_settings}
+use Rattle.tv_model.specs.State.{State, FileState, Sealed, Open, at, file_at}
+use Rattle.tv_model.specs.Index.{IsFileOf}
+
+-- the schema's text, the live segments, the next number, the current commit, the managed names, and what was written to each open file
+pub record Kept : Type 0 where
+  pub schema : List ℕ
+  pub live : List (List ℕ × LiveSegment)
+  pub next : ℕ
+  pub commit : Commit
+  pub managed : List (List ℕ)
+  pub open_files : List (List ℕ × List ℕ)
+
+-- a file of the machine, next to what its name reads and what was written to it
+abbrev pub FileHolds : Option FileState → Option (List ℕ) → Option (List ℕ) → Type 0
+FileHolds None read written = (read ≡ None) × (written ≡ None)
+FileHolds (Some (Sealed bytes)) read written = (read ≡ Some bytes) × (written ≡ None)
+FileHolds (Some (Open body)) read written = IsSome read × (written ≡ Some body)
+
+-- what is read and what is kept hold this state
+pub record Holds (reads : Reads) (kept : Kept) (s : State) : Type 0 where
+  pub live : kept.live ≡ s.live
+  pub next : kept.next ≡ s.next
+  pub commit : kept.commit ≡ s.commit
+  pub managed : kept.managed ≡ s.managed
+  pub segments : AllByRecursion IsSegment s.live
+  pub names : (n : List ℕ) → is_some (file_at s n) ≡ true → IsFileOf n
+  pub files : (n : List ℕ) → IsFileOf n → FileHolds (file_at s n) (reads n) (at kept.open_files n)
+  pub meta : (text : List ℕ) × (reads meta_name ≡ Some text) × Means default_settings kept.schema text s.commit
+  pub listing : Lists (reads list_name) s.managed
+  pub listed : has s.managed meta_name ≡ true
+
+-- no open file has more bytes than this
+abbrev pub AtMost : ℕ → Kept → Type 0
+AtMost bound kept = AllByRecursion (λ e. length e.1 ≤ bound) kept.open_files

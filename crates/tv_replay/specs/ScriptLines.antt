@@ -1,0 +1,53 @@
+-- A script that comes in pieces, and what is taken from its front.
+use Rattle.std.specs.Prelude.{ℕ, ◌≡◌, ◌<◌, Bool, true, false, List, [], ◌∷◌, ◌++◌, length, Option, Some, None, option_map}
+use Rattle.tv_model.specs.declared.event.Event.{Event}
+use Rattle.tv_model.specs.declared.event.Event.TheVariants as events
+use Rattle.tv_model.specs.Lines.{has_no_feed}
+use Rattle.tv_model.specs.Script.{line_limit, lines_of, IsLine}
+
+-- what is held, and after it what is left, where that is told
+abbrev pub pending : List ℕ → Option (List ℕ) → Option (List ℕ)
+pending held left = option_map (λ rest. held ++ rest) left
+
+-- no line feed stands in the bytes
+abbrev pub NoFeed : List ℕ → Type 0
+NoFeed bytes = has_no_feed bytes ≡ true
+
+-- the bytes up to the first line feed were moved to the end of a line, and that line feed was taken out; or all bytes, where there is none
+abbrev pub Moves : Bool → List ℕ → List ℕ → List ℕ → List ℕ → Type 0
+Moves true held rest line longer = (front : List ℕ) × NoFeed front × (held ≡ front ++ 10 ∷ rest) × (longer ≡ line ++ front)
+Moves false held rest line longer = NoFeed held × (rest ≡ []) × (longer ≡ line ++ held)
+
+-- the first line of a script was taken; or there is none, and nothing is left
+abbrev pub Takes : List ℕ → Option (List ℕ) → Option (List ℕ) → Type 0
+Takes script (Some line) left = (rest : List ℕ) × (left ≡ Some rest) × (lines_of script ≡ line ∷ lines_of rest)
+Takes script None left = (script ≡ []) × (left ≡ Some [])
+
+-- the first line of a script is longer than a line may be
+abbrev pub IsTooLong : List ℕ → Type 0
+IsTooLong script = (line : List ℕ) × (lines : List (List ℕ)) × (lines_of script ≡ line ∷ lines) × (line_limit < length line)
+
+-- a script begins with these bytes of its first line, and this is left of it
+abbrev pub Begins : List ℕ → List ℕ → Option (List ℕ) → Type 0
+Begins script line left = (rest : List ℕ) × (left ≡ Some rest) × (script ≡ line ++ rest) × NoFeed line
+
+-- the first line of a script was taken, and it is this event's; or there is none, and nothing is left
+abbrev pub TakesEvent : List ℕ → Option Event → Option (List ℕ) → Type 0
+TakesEvent script (Some event) left =
+    (text : List ℕ) × (rest : List ℕ) × (left ≡ Some rest) × (lines_of script ≡ text ∷ lines_of rest) × IsLine text event
+TakesEvent script None left = (script ≡ []) × (left ≡ Some [])
+
+-- the first line of a script is no event's
+abbrev pub IsNoEvent : List ℕ → Type 0
+IsNoEvent script =
+    (text : List ℕ) × (texts : List (List ℕ)) × (lines_of script ≡ text ∷ texts) × ((event : Event) → IsLine text event → ⊥)
+
+-- how many bytes an event adds to a file
+abbrev pub written_by : Event → ℕ
+written_by (events.Segment id) = 0
+written_by (events.Open id component) = 0
+written_by (events.Write id component bytes) = length bytes
+written_by (events.Seal id component) = 0
+written_by (events.Docs id n) = 0
+written_by (events.Commit payload ids) = 0
+written_by events.Managed = 0

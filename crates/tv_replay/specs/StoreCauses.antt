@@ -1,0 +1,104 @@
+-- Why a store answers an error.
+use Rattle.std.specs.Prelude.{◌≡◌, ◌⊎◌, ◌<◌, ◌≤◌, ◌^◌, ◌+◌, ℕ, List, true, false, codes, IsSome, string_bytes}
+use Rattle.tv_model.specs.Names.{list_name, meta_name}
+use Rattle.tv_model.specs.Files.{Reads}
+use Rattle.tv_model.specs.Commits.{is_schema}
+use Rattle.tv_base.specs.Causes.{IsDevice}
+use Rattle.tv_base.specs.declared.open_errors.OpenWriteError.TheVariants as write
+use Rattle.tv_base.specs.declared.open_errors.OpenWriteError.{OpenWriteError}
+use Rattle.tv_base.specs.declared.error.TantivyError.{TantivyError}
+use Rattle.tv_base.specs.declared.error.TantivyError.TheVariants as errors
+
+abbrev pub WriteFault : (refused : Type 0) → OpenWriteError → Type 0
+WriteFault refused (write.IoError fault path) = IsDevice fault × refused
+WriteFault refused (write.FileAlreadyExists path) = ⊥
+WriteFault refused (write.Leaving path) = ⊥
+WriteFault refused write.Memory = ⊥
+
+-- An event fails only where the device refused a call, where memory was wanted, or where a file would pass 64 bits of bytes.
+abbrev pub EventCause : (refused quiet spent : Type 0) → TantivyError → Type 0
+EventCause refused quiet spent (errors.IoError fault) = IsDevice fault × refused
+EventCause refused quiet spent (errors.OpenWriteError error) = WriteFault refused error
+EventCause refused quiet spent errors.Exhausted = quiet × spent
+EventCause refused quiet spent errors.Memory = quiet
+EventCause refused quiet spent (errors.OpenDirectoryError error) = ⊥
+EventCause refused quiet spent (errors.OpenReadError error) = ⊥
+EventCause refused quiet spent errors.IndexAlreadyExists = ⊥
+EventCause refused quiet spent (errors.LockFailure error text) = ⊥
+EventCause refused quiet spent (errors.DataCorruption error) = ⊥
+EventCause refused quiet spent errors.Poisoned = ⊥
+EventCause refused quiet spent (errors.FieldNotFound text) = ⊥
+EventCause refused quiet spent (errors.InvalidArgument text) = ⊥
+EventCause refused quiet spent (errors.ErrorInThread text) = ⊥
+EventCause refused quiet spent (errors.IndexBuilderMissingArgument text) = ⊥
+EventCause refused quiet spent (errors.SchemaError text) = ⊥
+EventCause refused quiet spent (errors.SystemError text) = ⊥
+EventCause refused quiet spent (errors.IncompatibleIndex why) = ⊥
+EventCause refused quiet spent (errors.InternalError text) = ⊥
+EventCause refused quiet spent (errors.IdInUse text) = ⊥
+
+-- it isn't the error of a file that was to be made
+abbrev pub MakesNoFile : TantivyError → Type 0
+MakesNoFile (errors.OpenWriteError error) = ⊥
+MakesNoFile other = Unit {0}
+
+-- the texts of what is refused at an opening
+abbrev pub schema_refusal : List ℕ
+schema_refusal = codes "the schema is not of the stated form"
+
+abbrev pub index_refusal : List ℕ
+index_refusal = codes "an index stands here"
+
+-- an index stands in the directory: its list or its `meta.json` reads
+abbrev pub HasIndex : Reads → Type 0
+HasIndex reads = IsSome (reads list_name) ⊎ IsSome (reads meta_name)
+
+-- why an argument is refused at an opening: the schema first, then an index that stands, where the content is told
+abbrev pub OpeningRefusal : (tells : Type 0) → (schema : List ℕ) → Reads → List ℕ → Type 0
+OpeningRefusal tells schema reads text =
+    ((is_schema schema ≡ false) × (text ≡ schema_refusal))
+    ⊎ ((is_schema schema ≡ true) × (text ≡ index_refusal) × (tells → HasIndex reads))
+
+-- an argument refused with this text, or want of memory for the text
+abbrev pub IsRefusal : List ℕ → TantivyError → Type 0
+IsRefusal text (errors.InvalidArgument t) = string_bytes t ≡ text
+IsRefusal text errors.Memory = Unit {0}
+IsRefusal text (errors.OpenDirectoryError e) = ⊥
+IsRefusal text (errors.OpenReadError e) = ⊥
+IsRefusal text (errors.OpenWriteError e) = ⊥
+IsRefusal text errors.IndexAlreadyExists = ⊥
+IsRefusal text (errors.LockFailure e t) = ⊥
+IsRefusal text (errors.IoError f) = ⊥
+IsRefusal text (errors.DataCorruption e) = ⊥
+IsRefusal text errors.Poisoned = ⊥
+IsRefusal text (errors.FieldNotFound t) = ⊥
+IsRefusal text (errors.ErrorInThread t) = ⊥
+IsRefusal text (errors.IndexBuilderMissingArgument t) = ⊥
+IsRefusal text (errors.SchemaError t) = ⊥
+IsRefusal text (errors.SystemError t) = ⊥
+IsRefusal text (errors.IncompatibleIndex w) = ⊥
+IsRefusal text (errors.InternalError t) = ⊥
+IsRefusal text (errors.IdInUse t) = ⊥
+IsRefusal text errors.Exhausted = ⊥
+
+-- why an opening fails
+abbrev pub OpeningCause : (tells : Type 0) → (schema : List ℕ) → Reads → (refused quiet : Type 0) → TantivyError → Type 0
+OpeningCause tells schema reads refused quiet (errors.InvalidArgument text) = quiet × OpeningRefusal tells schema reads (string_bytes text)
+OpeningCause tells schema reads refused quiet (errors.IoError fault) = (is_schema schema ≡ true) × IsDevice fault × refused
+OpeningCause tells schema reads refused quiet errors.Memory = quiet
+OpeningCause tells schema reads refused quiet errors.Exhausted = ⊥
+OpeningCause tells schema reads refused quiet (errors.OpenWriteError error) = ⊥
+OpeningCause tells schema reads refused quiet (errors.OpenDirectoryError error) = ⊥
+OpeningCause tells schema reads refused quiet (errors.OpenReadError error) = ⊥
+OpeningCause tells schema reads refused quiet errors.IndexAlreadyExists = ⊥
+OpeningCause tells schema reads refused quiet (errors.LockFailure error text) = ⊥
+OpeningCause tells schema reads refused quiet (errors.DataCorruption error) = ⊥
+OpeningCause tells schema reads refused quiet errors.Poisoned = ⊥
+OpeningCause tells schema reads refused quiet (errors.FieldNotFound text) = ⊥
+OpeningCause tells schema reads refused quiet (errors.ErrorInThread text) = ⊥
+OpeningCause tells schema reads refused quiet (errors.IndexBuilderMissingArgument text) = ⊥
+OpeningCause tells schema reads refused quiet (errors.SchemaError text) = ⊥
+OpeningCause tells schema reads refused quiet (errors.SystemError text) = ⊥
+OpeningCause tells schema reads refused quiet (errors.IncompatibleIndex why) = ⊥
+OpeningCause tells schema reads refused quiet (errors.InternalError text) = ⊥
+OpeningCause tells schema reads refused quiet (errors.IdInUse text) = ⊥

@@ -1,0 +1,129 @@
+//! Bytes of a script that were read and are not yet taken.
+ghost use Rattle.std.specs.Prelude.{◌≡◌, ◌<◌, [], ◌++◌, ◌≢◌, ◌≤◌, ℕ, length, slice_index, take, IfOk, OnOk, IfErr, IsTrue, ◌↔◌};
+ghost use Rattle.tv_model.specs.Files.{Rose};
+ghost use Rattle.tv_model.specs.Script.{line_limit};
+ghost use Rattle.tv_base.specs.Causes.{IsDevice};
+ghost use Rattle.tv_base.specs.Streams.{Reads, Keeps, IsAtEnd};
+ghost use Rattle.tv_replay.specs.ScriptLines.{Moves, pending};
+
+use crate::script::LINE_LIMIT;
+use std::alloc::{AllocError, Global};
+use std::marker::Model;
+use tv_base::{IoFault, Source};
+
+// How many bytes are read at once, at most.
+const BLOCK: usize = 8192;
+
+/// Bytes that were read and are not yet taken. To a contract it is these bytes.
+#[derive(Drop)]
+pub(crate) struct Held {
+    buffer: Vec<u8>,
+    start: usize,
+    end: usize,
+}
+
+impl Model for Held {
+    ghost use Rattle.std.specs.Prelude.{List, ℕ, ◌-◌, ◌≤◌, ◌<◌, take, drop, length};
+
+    ghost Value = { List ℕ };
+
+    ghost view = { λ a. take (a.end - a.start) (drop a.start a.buffer.items) };
+
+    ghost invariant = { λ a. (a.start ≤ a.end) × (a.end ≤ length a.buffer.items) × (0 < length a.buffer.items) };
+}
+
+// Where the first line feed stands, or how many bytes there are where none does.
+fn feed_at(bytes: &[u8]) -> usize
+    ensures within { result ≤ length bytes.now }
+    ensures before { (k : ℕ) → k < result → slice_index bytes.now k ≢ 10 }
+    ensures feed { result < length bytes.now → slice_index bytes.now result ≡ 10 }
+{
+    bytes
+        .iter()
+        .position(|b| *b == b'\n')
+        .unwrap_or(bytes.len())
+}
+
+// Reads the next bytes into the front of a block, to follow a line of this length. None come only
+// at the end. It asks for no more than bring the line to one byte more than a line may have.
+fn read_block<S: Source>(source: &mut S, block: &mut [u8], len: usize) -> Result<usize, IoFault>
+    requires some { 0 < length block.old }
+    requires short { len ≤ line_limit }
+    ensures count { IfOk result (λ n. n ≤ length block.old) }
+    ensures bytes { IfOk result (λ n. Reads (take n block.new) (S.left source.old) (S.left source.new)) }
+    ensures end { IfOk result (λ n. n ≡ 0 → IsAtEnd (S.left source.old)) }
+    ensures quiet { OnOk result (S.faults source.new ≡ S.faults source.old) }
+    ensures cause { IfErr result (λ fault. IsDevice fault × Rose (S.faults source.old) (S.faults source.new)) }
+{
+    let room = block.len().min(LINE_LIMIT + 1 - len);
+    source.read(&mut block[..room])
+}
+
+impl Held {
+    /// Nothing, with room for a block.
+    pub(crate) fn new(alloc: Global) -> Result<Held, AllocError>
+        ensures { IfOk result (λ held. held ≡ []) }
+    {
+        Ok(Held {
+            buffer: vec![in alloc; 0; BLOCK]?,
+            start: 0,
+            end: 0,
+        })
+    }
+
+    /// Whether nothing is held.
+    pub(crate) fn is_empty(&self) -> bool
+        ensures { IsTrue result ↔ (self.now ≡ []) }
+    {
+        self.start == self.end
+    }
+
+    // Reads the next bytes, where nothing is held, to follow a line of this length. None come only
+    // at the end.
+    fn fill<S: Source>(&mut self, source: &mut S, len: usize) -> Result<(), IoFault>
+        requires empty { self.old ≡ [] }
+        requires short { len ≤ line_limit }
+        ensures bytes { OnOk result (Reads self.new (S.left source.old) (S.left source.new)) }
+        ensures end { OnOk result (self.new ≡ [] → IsAtEnd (S.left source.old)) }
+        ensures quiet { OnOk result (S.faults source.new ≡ S.faults source.old) }
+        ensures cause { IfErr result (λ fault. IsDevice fault × Rose (S.faults source.old) (S.faults source.new)) }
+    {
+        self.start = 0;
+        self.end = 0;
+        self.end = read_block(source, self.buffer.as_mut_slice(), len)?;
+        Ok(())
+    }
+
+    /// Reads the next bytes, where nothing is held, to follow a line of this length. Then nothing
+    /// is held only at the end.
+    pub(crate) fn refill<S: Source>(&mut self, source: &mut S, len: usize) -> Result<(), IoFault>
+        requires { len ≤ line_limit }
+        ensures same { OnOk result (Keeps (pending self.old (S.left source.old)) (pending self.new (S.left source.new))) }
+        ensures end { OnOk result (self.new ≡ [] → IsAtEnd (pending self.old (S.left source.old))) }
+        ensures quiet { OnOk result (S.faults source.new ≡ S.faults source.old) }
+        ensures cause { IfErr result (λ fault. IsDevice fault × Rose (S.faults source.old) (S.faults source.new)) }
+    {
+        if self.is_empty() {
+            self.fill(source, len)?;
+        }
+        Ok(())
+    }
+
+    /// Moves the bytes up to the first line feed to the end of a line, and takes that line feed
+    /// out. Without a line feed all bytes are moved.
+    pub(crate) fn move_line(&mut self, line: &mut Vec<u8>) -> Result<bool, AllocError>
+        ensures { IfOk result (λ found. Moves found self.old self.new line.old.items line.new.items) }
+    {
+        let held = &self.buffer[self.start..self.end];
+        let len = feed_at(held);
+        let (front, _) = held.split_at(len);
+        line.extend_from_slice(front)?;
+        if len == held.len() {
+            self.start = self.end;
+            Ok(false)
+        } else {
+            self.start += len + 1;
+            Ok(true)
+        }
+    }
+}

@@ -1,0 +1,122 @@
+//! A script replayed over a directory.
+ghost use Rattle.std.specs.Prelude.{◌≡◌, ◌≢◌, ◌⊎◌, ℕ, List, [], Some, None, true, IfOk, IfErr, OnOk, string_bytes};
+ghost use Rattle.tv_model.specs.Files.{Rose};
+ghost use Rattle.tv_replay.specs.Kept.{AtMost};
+ghost use Rattle.tv_replay.specs.ScriptLines.{pending, TakesEvent};
+ghost use Rattle.tv_replay.specs.Replays.{Replays, ReplayCause, LineRefusal, IsTooMany, line_refusal};
+ghost use Rattle.tv_replay.specs.Applying.{Runs, RunCause, IsErrorOf};
+
+use crate::held::Held;
+use crate::next_event::{ScriptError, next_event};
+use crate::store::IndexStore;
+use std::alloc::{AllocError, Global};
+use tv_base::{Source, TantivyError};
+use tv_directory::Outside;
+use tv_managed::Refused;
+
+/// What a replay did: how many lines its script had.
+#[derive(Clone, Copy, Debug, PartialEq, Eq)]
+pub struct Tally {
+    pub events: u32,
+}
+
+/// The directory after a replay, and how the replay went.
+pub struct Replayed<O> {
+    pub outside: O,
+    pub outcome: Result<Tally, TantivyError>,
+}
+
+/// Makes an index with this schema in a directory, applies the events of a script to it, one a line,
+/// and tells the opening line and the line of each event.
+///
+/// Ok means that the script was read to its end. The directory comes back after an error too.
+pub fn replay<O: Outside, R: Source>(
+    alloc: Global,
+    outside: O,
+    schema: &[u8],
+    script: &mut R,
+) -> Replayed<O>
+    // What was told and left at Ok.
+    ensures done { IfOk result.outcome (λ tally. Replays O.tells O.tells_heard schema.now (R.left script.old) (R.left script.new) (O.reads outside) (O.reads result.outside) (O.heard outside) (O.heard result.outside) tally.events) }
+    // No call was refused where it answers Ok.
+    ensures quiet { OnOk result.outcome ((O.faults result.outside ≡ O.faults outside) × (R.faults script.new ≡ R.faults script.old)) }
+    // Why it answers an error.
+    ensures cause { IfErr result.outcome (ReplayCause O.tells schema.now (O.reads outside) (R.left script.old) (Rose (O.faults outside) (O.faults result.outside) ⊎ Rose (R.faults script.old) (R.faults script.new)) ((O.faults result.outside ≡ O.faults outside) × (R.faults script.new ≡ R.faults script.old))) }
+{
+    let mut store = match IndexStore::open(alloc, outside, schema) {
+        Ok(store) => store,
+        Err(Refused { error, directory }) => {
+            return Replayed {
+                outside: directory,
+                outcome: Err(error),
+            };
+        }
+    };
+    let outcome = apply_all(alloc, &mut store, script);
+    Replayed {
+        outside: store.into_outside(),
+        outcome,
+    }
+}
+
+// Applies the events of a script, one after the other.
+fn apply_all<O: Outside, R: Source>(
+    alloc: Global,
+    store: &mut IndexStore<O>,
+    script: &mut R,
+) -> Result<Tally, TantivyError>
+    requires open { store.old.2 ≡ true }
+    requires short { AtMost 0 store.old.0 }
+    ensures done { IfOk result (λ tally. Runs O.tells O.tells_heard (O.reads store.old.1) (O.reads store.new.1) store.old.0 store.new.0 (O.heard store.old.1) (O.heard store.new.1) (R.left script.old) (R.left script.new) tally.events) }
+    ensures quiet { OnOk result ((O.faults store.new.1 ≡ O.faults store.old.1) × (R.faults script.new ≡ R.faults script.old)) }
+    ensures cause { IfErr result (RunCause (LineRefusal (R.left script.old)) (IsTooMany (R.left script.old)) (Rose (O.faults store.old.1) (O.faults store.new.1) ⊎ Rose (R.faults script.old) (R.faults script.new)) ((O.faults store.new.1 ≡ O.faults store.old.1) × (R.faults script.new ≡ R.faults script.old))) }
+{
+    let mut held = Held::new(alloc)?;
+    for events in 0..u32::MAX {
+        let event = match next_event(alloc, script, &mut held) {
+            Ok(Some(event)) => event,
+            Ok(None) => return Ok(Tally { events }),
+            Err(error) => return Err(script_error(alloc, error, events + 1)),
+        };
+        let _answer = store.apply(&event)?;
+    }
+    let tally = end_of(alloc, script, &mut held)?;
+    Ok(tally)
+}
+
+// What stands after the last line that is taken: the end, or a line too many.
+fn end_of<R: Source>(alloc: Global, script: &mut R, held: &mut Held) -> Result<Tally, TantivyError>
+    ensures count { IfOk result (λ tally. tally.events ≡ u32.MAX) }
+    ensures end { OnOk result ((rest : List ℕ) → pending held.old (R.left script.old) ≡ Some rest → TakesEvent rest None (pending held.new (R.left script.new))) }
+    ensures quiet { OnOk result (R.faults script.new ≡ R.faults script.old) }
+    ensures cause { IfErr result (RunCause (λ text. ⊥) ((rest : List ℕ) → pending held.old (R.left script.old) ≡ Some rest → rest ≢ []) (Rose (R.faults script.old) (R.faults script.new)) (R.faults script.new ≡ R.faults script.old)) }
+{
+    match next_event(alloc, script, held) {
+        Ok(None) => Ok(Tally { events: u32::MAX }),
+        Ok(Some(_)) => Err(TantivyError::Exhausted),
+        Err(ScriptError::NotAnEvent) => Err(TantivyError::Exhausted),
+        Err(ScriptError::Memory) => Err(TantivyError::Memory),
+        Err(ScriptError::Fault(fault)) => Err(TantivyError::IoError(fault)),
+    }
+}
+
+// The error that a line of this number makes.
+fn script_error(alloc: Global, error: ScriptError, number: u32) -> TantivyError
+    ensures { IsErrorOf error number result }
+{
+    match error {
+        ScriptError::Memory => TantivyError::Memory,
+        ScriptError::Fault(fault) => TantivyError::IoError(fault),
+        ScriptError::NotAnEvent => match refusal_of(alloc, number) {
+            Ok(text) => TantivyError::InvalidArgument(text),
+            Err(_) => TantivyError::Memory,
+        },
+    }
+}
+
+// What is said of a line that is no event's.
+fn refusal_of(alloc: Global, number: u32) -> Result<String, AllocError>
+    ensures { IfOk result (λ text. string_bytes text ≡ line_refusal number) }
+{
+    format!(in alloc; "line {number} is not of the event grammar")
+}
