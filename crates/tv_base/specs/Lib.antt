@@ -2,3 +2,13 @@ pub mod Streams
 pub mod Errors
 pub mod Causes
 pub mod Texts
+pub mod Writers
+pub mod Places
+pub mod PlaceLaws
+pub mod Entries
+pub mod EntryLaws
+pub mod Visits
+pub mod VisitLaws
+pub mod Futures
+pub mod FutureStates
+pub mod Bytes

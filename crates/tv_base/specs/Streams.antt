@@ -12,3 +12,18 @@ IsAtEnd before = (left : List ℕ) → before ≡ Some left → left ≡ []
 -- what is left stays the same, where it is told
 abbrev pub Keeps : Option (List ℕ) → Option (List ℕ) → Type 0
 Keeps before after = (left : List ℕ) → before ≡ Some left → after ≡ Some left
+
+-- the piece came to the end of what was taken, where that is told
+abbrev pub Takes : List ℕ → Option (List ℕ) → Option (List ℕ) → Type 0
+Takes piece before after = (taken : List ℕ) → before ≡ Some taken → after ≡ Some (taken ++ piece)
+
+-- the same of a first part of the piece, which may be empty
+abbrev pub TakesPart : List ℕ → Option (List ℕ) → Option (List ℕ) → Type 0
+TakesPart piece before after =
+    (taken : List ℕ) → before ≡ Some taken → (part : List ℕ) × (rest : List ℕ) × (piece ≡ part ++ rest) × (after ≡ Some (taken ++ part))
+
+-- a sink in memory: what it took, how many bytes it may take in all, and how many calls it refused
+pub record SinkState : Type 0 where
+  pub taken : List ℕ
+  pub room : ℕ
+  pub faults : ℕ

@@ -4,7 +4,7 @@ ghost use Rattle.tv_base.specs.Errors.{of_io, of_lock, of_open_directory, of_ope
 
 use crate::io::{IoError, IoFault};
 use crate::open_errors::{LockError, OpenDirectoryError, OpenReadError, OpenWriteError};
-use crate::version::Incompatibility;
+use crate::versions::Incompatibility;
 use std::alloc::{AllocError, AllocFailed};
 use std::fmt;
 use thiserror::Error;

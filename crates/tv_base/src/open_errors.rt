@@ -2,7 +2,7 @@
 ghost use Rattle.std.specs.Prelude.{◌≡◌};
 
 use crate::io::IoFault;
-use crate::version::Incompatibility;
+use crate::versions::Incompatibility;
 use std::alloc::{AllocError, AllocFailed};
 use thiserror::Error;
 use tv_model::Memory;
@@ -73,6 +73,45 @@ pub enum DeleteError {
     Memory,
 }
 
+impl LockError {
+    /// That the device refused a call.
+    pub fn wrap_io_error(io_error: IoFault) -> LockError
+        ensures wrapped { result ≡ LockError.IoError io_error }
+    {
+        LockError::IoError(io_error)
+    }
+}
+
+impl OpenDirectoryError {
+    /// That the device refused a call, at this directory.
+    pub fn wrap_io_error(io_error: IoFault, directory_path: String) -> OpenDirectoryError
+        ensures wrapped { result ≡ OpenDirectoryError.IoError io_error directory_path }
+    {
+        OpenDirectoryError::IoError {
+            io_error,
+            directory_path,
+        }
+    }
+}
+
+impl OpenWriteError {
+    /// That the device refused a call, at this file.
+    pub fn wrap_io_error(io_error: IoFault, filepath: String) -> OpenWriteError
+        ensures wrapped { result ≡ OpenWriteError.IoError io_error filepath }
+    {
+        OpenWriteError::IoError { io_error, filepath }
+    }
+}
+
+impl OpenReadError {
+    /// That the device refused a call, at this file.
+    pub fn wrap_io_error(io_error: IoFault, filepath: String) -> OpenReadError
+        ensures wrapped { result ≡ OpenReadError.IoError io_error filepath }
+    {
+        OpenReadError::IoError { io_error, filepath }
+    }
+}
+
 impl From<AllocError> for OpenWriteError {
     ghost use Rattle.tv_base.specs.declared.open_errors.OpenWriteError.TheVariants.{Memory};
 
@@ -130,5 +169,15 @@ impl From<Memory> for OpenReadError {
 
     fn from(_error: Memory) -> OpenReadError {
         OpenReadError::Memory
+    }
+}
+
+impl From<Incompatibility> for OpenReadError {
+    ghost use Rattle.tv_base.specs.declared.open_errors.OpenReadError.TheVariants.{IncompatibleIndex};
+
+    ghost from_gives = { λ why e. e ≡ IncompatibleIndex why };
+
+    fn from(why: Incompatibility) -> OpenReadError {
+        OpenReadError::IncompatibleIndex(why)
     }
 }

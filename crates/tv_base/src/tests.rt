@@ -1,7 +1,7 @@
 use crate::{
-    DataCorruption, DeleteError, Incompatibility, IoError, IoFault, IoKind, LockError, Memory,
-    OpenDirectoryError, OpenReadError, OpenWriteError, Source, TantivyError, TextSource, Version,
-    is_plain_name,
+    DataCorruption, DeleteError, Exhausted, Incompatibility, IoError, IoFault, IoKind, LockError,
+    Memory, OpenDirectoryError, OpenReadError, OpenWriteError, Source, TantivyError, TextSource,
+    Version, is_plain_name,
 };
 use std::alloc::{AllocError, Global};
 use std::fmt::{Debug, Display};
@@ -244,6 +244,7 @@ fn texts_of_locks_and_devices(rt: HostRuntime) {
     prints(&rt, a, &IoError::Fault(fault(&rt, a)), "bad disk");
     prints(&rt, a, &IoError::Memory, "Memory");
     prints(&rt, a, &Memory, "Memory");
+    prints(&rt, a, &Exhausted, "Exhausted");
 }
 
 #[test]
@@ -336,6 +337,34 @@ fn conversions(rt: HostRuntime) {
     ] {
         assert_eq!(rt; error, want);
     }
+}
+
+#[test]
+fn faults_are_wrapped(rt: HostRuntime) {
+    let a = rt.alloc();
+    let x = || text(&rt, a, "x");
+    let lock = LockError::wrap_io_error(fault(&rt, a));
+    assert_eq!(rt; lock, LockError::IoError(fault(&rt, a)));
+    let directory = OpenDirectoryError::wrap_io_error(fault(&rt, a), x());
+    let want = OpenDirectoryError::IoError {
+        io_error: fault(&rt, a),
+        directory_path: x(),
+    };
+    assert_eq!(rt; directory, want);
+    let write = OpenWriteError::wrap_io_error(fault(&rt, a), x());
+    let want = OpenWriteError::IoError {
+        io_error: fault(&rt, a),
+        filepath: x(),
+    };
+    assert_eq!(rt; write, want);
+    let read = OpenReadError::wrap_io_error(fault(&rt, a), x());
+    let want = OpenReadError::IoError {
+        io_error: fault(&rt, a),
+        filepath: x(),
+    };
+    assert_eq!(rt; read, want);
+    let read = OpenReadError::from(mismatch());
+    assert_eq!(rt; read, OpenReadError::IncompatibleIndex(mismatch()));
 }
 
 #[test]

@@ -1,0 +1,2 @@
+pub mod VInts
+mod VIntRows

@@ -1,0 +1,25 @@
+-- The entries of an inventory.
+use Rattle.std.specs.Prelude.{ℕ, ◌+◌, ◌-◌, Bool, false, eqb, nat_lt, List, Option, Some, None, if◌then◌else◌, find}
+use Rattle.tv_base.specs.declared.inventory.Entry.{Entry}
+use Rattle.tv_base.specs.Places.{change_at, take_out}
+
+-- an entry of this number
+abbrev pub is_at : {T : Type 0} → ℕ → Entry T → Bool
+is_at number e = eqb e.number number
+
+-- one more, and one fewer, share of an entry
+abbrev pub one_more : {T : Type 0} → Entry T → Entry T
+one_more e = record e { count = e.count + 1 }
+
+abbrev pub one_fewer : {T : Type 0} → Entry T → Entry T
+one_fewer e = record e { count = e.count - 1 }
+
+-- at most one share of it is out
+abbrev pub is_last : {T : Type 0} → Option (Entry T) → Bool
+is_last None = false
+is_last (Some e) = nat_lt e.count 2
+
+-- one share of a number less; the last one takes the entry out
+abbrev pub released : {T : Type 0} → ℕ → List (Entry T) → List (Entry T)
+released number es =
+    if is_last (find (is_at number) es) then take_out (is_at number) es else change_at (is_at number) one_fewer es

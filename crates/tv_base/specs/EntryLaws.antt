@@ -1,0 +1,35 @@
+-- Facts on the entries of an inventory.
+use Rattle.std.proofs.Common.{◌≡◌, ℕ, suc, ◌<◌, Bool, true, false, if◌then◌else◌, List, [], ◌∷◌, ◌++◌, Some, None, IsSome, All, find, refl, eqb, arith, slice_index_or, nat_lt, slice_set}
+use Rattle.tv_base.specs.declared.inventory.Entry.{Entry}
+use Rattle.tv_base.specs.Entries.{is_at, one_fewer, is_last, released}
+use Rattle.tv_base.specs.Places.{IsPlace}
+
+-- a number above all of a list's is new there
+pub none_at : {T : Type 0} (n : ℕ) (es : List (Entry T)) → All (λ e. e.number < n) es → find (is_at n) es ≡ None
+none_at n [] below = refl
+none_at n (e ∷ es) below =
+    let no : eqb e.number n ≡ false = grind (arith, below 0 e (grind arith)) in
+    rw no (none_at n es (λ k d lt. below (suc k) d (grind (arith, lt))))
+
+pub place_count : {T : Type 0} (n : ℕ) (es : List (Entry T)) (i : ℕ) (d : Entry T) → IsPlace (is_at n) es i → d ≡ slice_index_or es i d → nat_lt d.count 2 ≡ false → is_last (find (is_at n) es) ≡ false
+place_count n es i d place is more = rw (place.found d, ← is) more
+
+-- a share given back that isn't the last
+pub lessened : {T : Type 0} (n : ℕ) (es : List (Entry T)) (i : ℕ) (d e : Entry T) → IsPlace (is_at n) es i → d ≡ slice_index_or es i d → nat_lt d.count 2 ≡ false → e ≡ slice_index_or es i e → slice_set es i (one_fewer e) ≡ released n es
+lessened n es i d e place is more at =
+    let last : is_last (find (is_at n) es) ≡ false = place_count n es i d place is more in
+    rw last (place.written one_fewer e at)
+
+either_found : {T : Type 0} (n : ℕ) (e : Entry T) (es : List (Entry T)) (b : Bool) → IsSome (find (is_at n) es) → IsSome (if b then Some e else find (is_at n) es)
+either_found n e es true there = refl
+either_found n e es false there = there
+
+-- the last entry is found under its number
+last_is_found : {T : Type 0} (old : List (Entry T)) (n : ℕ) (e : Entry T) → e.number ≡ n → IsSome (find (is_at n) (old ++ e ∷ []))
+last_is_found [] n e is =
+    let same : eqb n n ≡ true = grind arith in
+    rw (is, same) refl
+last_is_found (first ∷ old) n e is = either_found n first (old ++ e ∷ []) (eqb first.number n) (last_is_found old n e is)
+
+pub last_found : {T : Type 0} (es old : List (Entry T)) (n : ℕ) (value : T) → es ≡ old ++ record { number = n; count = 1; value = value } ∷ [] → IsSome (find (is_at n) es)
+last_found es old n value is = rw is (last_is_found old n (record { number = n; count = 1; value = value }) refl)

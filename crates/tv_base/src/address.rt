@@ -1,0 +1,82 @@
+//! Where a document is, and which field of it is meant.
+ghost use Rattle.std.specs.Prelude.{◌≡◌};
+
+use std::marker::Model;
+
+/// The number of a document in its segment, from 0 on.
+pub type DocId = u32;
+
+/// The place of a segment among those of a searcher, from 0 on.
+pub type SegmentOrdinal = u32;
+
+/// A document of a searcher. Addresses are in order of their segments, then of their documents.
+#[derive(Clone, Copy, Debug, PartialEq, Eq, PartialOrd, Ord, Hash)]
+pub struct DocAddress {
+    pub segment_ord: SegmentOrdinal,
+    pub doc_id: DocId,
+}
+
+impl DocAddress {
+    /// The document of this number in this segment.
+    pub fn new(segment_ord: SegmentOrdinal, doc_id: DocId) -> DocAddress
+        ensures address { result ≡ record { segment_ord = segment_ord; doc_id = doc_id } }
+    {
+        DocAddress {
+            segment_ord,
+            doc_id,
+        }
+    }
+}
+
+/// A field of the schema, by its number. To a contract it is that number.
+#[derive(Clone, Copy, Debug, PartialEq, Eq, PartialOrd, Ord, Hash)]
+pub struct Field(u32);
+
+impl Model for Field {
+    ghost use Rattle.std.specs.Prelude.{ℕ};
+
+    ghost Value = { ℕ };
+
+    ghost view = { λ field. field.0 };
+
+    ghost inverse = { λ id. record { 0 = id } };
+}
+
+impl Field {
+    /// The field of this number.
+    pub const fn from_field_id(id: u32) -> Field
+        ensures number { result ≡ id }
+    {
+        Field(id)
+    }
+
+    /// The number of the field.
+    pub const fn field_id(&self) -> u32
+        ensures number { result ≡ self.now }
+    {
+        self.0
+    }
+}
+
+#[cfg(test)]
+mod tests {
+    use super::*;
+
+    #[test]
+    fn addresses_are_ordered(rt: HostRuntime) {
+        let rows = [(0, 0), (0, 7), (1, 3), (2, 0)];
+        for (before, after) in rows.iter().zip(rows[1..].iter()) {
+            let low = DocAddress::new(before.0, before.1);
+            let high = DocAddress::new(after.0, after.1);
+            assert!(rt; low < high);
+            assert!(rt; low == DocAddress::new(before.0, before.1));
+        }
+    }
+
+    #[test]
+    fn fields_have_numbers(rt: HostRuntime) {
+        let field = Field::from_field_id(3);
+        assert_eq!(rt; field.field_id(), 3);
+        assert!(rt; field < Field::from_field_id(4));
+    }
+}

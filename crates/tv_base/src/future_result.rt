@@ -1,0 +1,205 @@
+//! A result that may come later.
+ghost use Rattle.std.specs.Prelude.{◌≡◌, Some, None, false, IfOk, IfErr, IfSome};
+ghost use Rattle.futures.specs.Poll.{OnPending};
+ghost use Rattle.futures.specs.Task.{Keeps};
+
+use crate::error::TantivyError;
+use crossbeam_utils::Backoff;
+use futures::channel::oneshot;
+use futures::future::Future;
+use futures::task::{Context, Poll};
+use std::alloc::Global;
+use std::marker::Model;
+use std::mem;
+use std::sync::Wait;
+use tv_model::Memory;
+
+type Answer<T> = Result<T, TantivyError>;
+
+/// A result that is there from the start, or is sent later.
+#[derive(Drop)]
+pub struct FutureResult<T: Drop> {
+    state: State<T>,
+}
+
+#[derive(Drop)]
+enum State<T: Drop> {
+    Finished(Answer<T>),
+    // With the text of the error that is answered where the sender is gone.
+    InProgress(oneshot::Receiver<Answer<T>>, String),
+    Answered,
+}
+
+impl<T: Drop> Model for FutureResult<T> {
+    ghost use Rattle.tv_base.specs.Futures.{Promise};
+
+    ghost Value = { Promise T };
+
+    ghost use Rattle.tv_base.specs.FutureStates.{promise_of};
+
+    ghost view = { λ f. promise_of f.state };
+}
+
+/// The end that sends the result.
+#[derive(Drop)]
+pub struct Sender<T: Drop>(oneshot::Sender<Answer<T>>);
+
+impl<T: Drop> Sender<T> {
+    /// Sends the result, or gives it back where the future is gone. Takes no memory.
+    pub fn send(self, answer: Result<T, TantivyError>) -> Result<(), Result<T, TantivyError>>
+        ensures back { IfErr result (λ back. back ≡ answer) }
+    {
+        self.0.send(answer)
+    }
+}
+
+impl<T: Drop> FutureResult<T> {
+    /// A result that is sent later. Where its sender is dropped before, it is the error `SystemError`
+    /// with this message.
+    pub fn create(alloc: Global, msg: &'static str) -> Result<(FutureResult<T>, Sender<T>), Memory>
+        ensures waiting { IfOk result (λ ends. ends.0 ≡ record { finished = None; answered = false }) }
+    {
+        let message = String::from_str(alloc, msg)?;
+        let (sender, receiver) = oneshot::channel(alloc)?;
+        let state = State::InProgress(receiver, message);
+        Ok((FutureResult { state }, Sender(sender)))
+    }
+
+    /// A result that is there. Takes no memory.
+    pub fn done(answer: Result<T, TantivyError>) -> FutureResult<T>
+        ensures finished { result ≡ record { finished = Some answer; answered = false } }
+    {
+        FutureResult {
+            state: State::Finished(answer),
+        }
+    }
+
+    /// The result, as soon as it is there. May wait. Takes no memory.
+    pub fn wait<R: Wait>(self, rt: &R) -> Result<T, TantivyError>
+        requires unanswered { self.answered ≡ false }
+        ensures answer { IfSome self.finished (λ answer. result ≡ answer) }
+    {
+        match self.state {
+            State::Finished(answer) => answer,
+            State::InProgress(receiver, message) => received(rt, receiver, message),
+            State::Answered => unreachable!(),
+        }
+    }
+
+    /// The result, if it is there. Otherwise the task of `cx` is woken once it is. Takes no memory.
+    pub fn poll(&mut self, cx: &mut Context<'_>) -> Poll<Result<T, TantivyError>>
+        requires unanswered { self.old.answered ≡ false }
+        ensures answer { IfSome self.old.finished (λ answer. result ≡ Poll.Ready answer) }
+        ensures again { OnPending result (self.new.answered ≡ false) }
+        ensures kept { Keeps cx.old cx.new }
+    {
+        match mem::replace(&mut self.state, State::Answered) {
+            State::Finished(answer) => Poll::Ready(answer),
+            State::InProgress(mut receiver, message) => match receiver.poll(cx) {
+                Poll::Ready(Ok(answer)) => Poll::Ready(answer),
+                Poll::Ready(Err(_)) => Poll::Ready(Err(TantivyError::SystemError(message))),
+                Poll::Pending => {
+                    self.state = State::InProgress(receiver, message);
+                    Poll::Pending
+                }
+            },
+            State::Answered => unreachable!(),
+        }
+    }
+}
+
+impl<T: Drop> From<TantivyError> for FutureResult<T> {
+    ghost use Rattle.std.specs.Prelude.{◌≡◌, Some, Err, false};
+
+    ghost from_gives = { λ error f. f ≡ record { finished = Some (Err error); answered = false } };
+
+    fn from(error: TantivyError) -> FutureResult<T> {
+        FutureResult::done(Err(error))
+    }
+}
+
+// What is sent, or the error of this text where the sender is gone.
+fn received<T: Drop, R: Wait>(
+    rt: &R,
+    mut receiver: oneshot::Receiver<Answer<T>>,
+    message: String,
+) -> Answer<T> {
+    let backoff = Backoff::new();
+    for _ in rt.forever() {
+        match receiver.try_recv() {
+            Ok(Some(answer)) => return answer,
+            Ok(None) => backoff.snooze(),
+            Err(_) => return Err(TantivyError::SystemError(message)),
+        }
+    }
+    unreachable!()
+}
+
+#[cfg(test)]
+mod tests {
+    use super::*;
+    use futures::executor::block_on;
+    use std::test::Fail;
+    use std::thread;
+
+    // One look at a future: whether it is pending.
+    #[derive(Drop)]
+    struct Look(FutureResult<u8>);
+
+    impl Future for Look {
+        type Output = bool;
+
+        ghost use Rattle.std.specs.Prelude.{◌≡◌, false};
+
+        ghost can_poll = { λ l. l.0.answered ≡ false };
+
+        fn poll(&mut self, cx: &mut Context<'_>) -> Poll<bool> {
+            Poll::Ready(self.0.poll(cx).is_pending())
+        }
+    }
+
+    #[test]
+    fn finished_ones(rt: HostRuntime) {
+        let future = FutureResult::<u8>::done(Err(TantivyError::Poisoned));
+        assert_eq!(rt; future.wait(&rt), Err(TantivyError::Poisoned));
+        let future = FutureResult::<u8>::from(TantivyError::Poisoned);
+        assert_eq!(rt; future.wait(&rt), Err(TantivyError::Poisoned));
+    }
+
+    #[test]
+    fn those_in_progress(rt: HostRuntime) -> Result<(), Fail> {
+        let a = rt.alloc();
+        let (future, sender) = FutureResult::<u8>::create(a, "failed")?;
+        drop(sender);
+        let failed = TantivyError::SystemError(String::from_str(a, "failed")?);
+        assert_eq!(rt; future.wait(&rt), Err(failed));
+        let (future, sender) = FutureResult::<u8>::create(a, "failed")?;
+        assert!(rt; sender.send(Ok(2)).is_ok());
+        assert_eq!(rt; future.wait(&rt), Ok(2));
+        let (future, sender) = FutureResult::<u8>::create(a, "failed")?;
+        assert!(rt; sender.send(Err(TantivyError::Poisoned)).is_ok());
+        assert_eq!(rt; future.wait(&rt), Err(TantivyError::Poisoned));
+        let (future, sender) = FutureResult::<u8>::create(a, "failed")?;
+        drop(future);
+        assert_eq!(rt; sender.send(Ok(2)), Err(Ok(2)));
+        Ok(())
+    }
+
+    #[test]
+    fn one_is_polled_before_the_send(rt: HostRuntime) -> Result<(), Fail> {
+        let (future, sender) = FutureResult::<u8>::create(rt.alloc(), "failed")?;
+        let pending = block_on(&rt, Look(future))?;
+        assert!(rt; pending);
+        drop(sender);
+        Ok(())
+    }
+
+    #[test]
+    fn one_is_sent_by_another_thread(rt: HostRuntime) -> Result<(), Fail> {
+        let (future, sender) = FutureResult::<u8>::create(rt.alloc(), "failed")?;
+        let child = thread::spawn(&rt, move || sender.send(Ok(3)).is_ok())?;
+        assert_eq!(rt; future.wait(&rt), Ok(3));
+        assert!(rt; child.join(&rt));
+        Ok(())
+    }
+}

@@ -1,0 +1,257 @@
+//! Values that are kept as long as a ticket of theirs is out.
+ghost use Rattle.std.specs.Prelude.{◌≡◌, ◌<◌, ◌++◌, [], ◌∷◌, ◌↔◌, None, IfOk, IfSome, IsSome, IsErr, OnErr, MatchOption, find, map, position, slice_index_or, slice_set, vec_len};
+ghost use Rattle.std.specs.List.{AllZip};
+ghost use Rattle.std.specs.Option.{IsSomeAnd};
+ghost use Rattle.tv_base.specs.declared.inventory.Entry.{Entry};
+ghost use Rattle.tv_base.specs.Entries.{is_at, one_more, released};
+ghost use Rattle.tv_base.specs.Places.{IsAbsent, IsPlace, change_at};
+ghost use Rattle.tv_base.specs.Visits.{IsVisited};
+
+use crate::exhausted::Exhausted;
+use std::alloc::Global;
+use std::marker::Model;
+use tv_model::Memory;
+
+/// What can be visited.
+pub trait Visit {
+    /// What a visit may do to it: before, and after.
+    ghost visited: { Self → Self → Type 0 };
+
+    /// Visits it once.
+    fn visit(&mut self)
+        ensures visited { visited self.old self.new };
+}
+
+/// A share of one value of an inventory. To a contract it is the value's number.
+#[derive(Debug, Drop, PartialEq, Eq)]
+pub struct Ticket {
+    number: u64,
+}
+
+impl Model for Ticket {
+    ghost use Rattle.std.specs.Prelude.{ℕ};
+
+    ghost Value = { ℕ };
+
+    ghost view = { λ t. t.number };
+
+    ghost inverse = { λ number. record { number = number } };
+}
+
+impl Ticket {
+    /// The ticket of this number. It isn't counted by any inventory.
+    pub fn new(number: u64) -> Ticket
+        ensures number { result ≡ number }
+    {
+        Ticket { number }
+    }
+
+    /// The number of the value.
+    pub fn number(&self) -> u64
+        ensures number { result ≡ self.now }
+    {
+        self.number
+    }
+}
+
+/// A value, its number, and how many tickets of it are out.
+#[derive(Drop)]
+pub struct Entry<T> {
+    pub number: u64,
+    pub count: u64,
+    pub value: T,
+}
+
+/// Values in the order in which they were tracked. To a contract it is the list of its entries.
+#[derive(Drop)]
+pub struct Inventory<T> {
+    next: u64,
+    entries: Vec<Entry<T>>,
+}
+
+impl<T> Model for Inventory<T> {
+    ghost use Rattle.std.specs.Prelude.{◌<◌, All, List};
+    ghost use Rattle.tv_base.specs.declared.inventory.Entry.{Entry};
+
+    ghost Value = { List (Entry T) };
+
+    ghost view = { λ a. a.entries.items };
+
+    ghost invariant = { λ a. All (λ e. e.number < a.next) a.entries.items };
+}
+
+impl<T> Inventory<T> {
+    /// No values. Takes no memory.
+    pub fn new(alloc: Global) -> Inventory<T>
+        ensures empty { result ≡ [] }
+    {
+        Inventory {
+            next: 0,
+            entries: Vec::new(alloc),
+        }
+    }
+}
+
+impl<T: Drop> Inventory<T> {
+    /// Takes a value in, and answers its first ticket, with a number that no entry has. Where memory is
+    /// wanted, the value is dropped.
+    pub fn track(&mut self, value: T) -> Result<Ticket, Memory>
+        ensures fresh { IfOk result (λ ticket. find (is_at ticket) self.old ≡ None) }
+        ensures ok { IfOk result (λ ticket. self.new ≡ self.old ++ record { number = ticket; count = 1; value = value } ∷ []) }
+        ensures err { OnErr result (self.new ≡ self.old) }
+    {
+        let number = self.next;
+        if number == u64::MAX {
+            return Err(Memory);
+        }
+        self.entries.push(Entry {
+            number,
+            count: 1,
+            value,
+        })?;
+        self.next = number + 1;
+        Ok(Ticket { number })
+    }
+
+    /// One more ticket of the same number. A ticket of no entry has a further one without effect. Takes
+    /// no memory.
+    pub fn share(&mut self, t: &Ticket) -> Result<Ticket, Exhausted>
+        ensures number { IfOk result (λ other. other ≡ t.now) }
+        ensures ok { IfOk result (λ _. self.new ≡ change_at (is_at t.now) one_more self.old) }
+        ensures err { OnErr result (self.new ≡ self.old) }
+        ensures full { IsErr result ↔ IsSomeAnd (find (is_at t.now) self.old) (λ e. e.count ≡ 18446744073709551615) }
+    {
+        let number = t.number;
+        let Some(i) = place(&self.entries, number) else {
+            return Ok(Ticket { number });
+        };
+        let entry = &mut self.entries[i];
+        if entry.count == u64::MAX {
+            return Err(Exhausted);
+        }
+        entry.count += 1;
+        Ok(Ticket::new(number))
+    }
+
+    /// The value of a ticket.
+    pub fn get(&self, t: &Ticket) -> &T
+        requires here { IsSome (find (is_at t.now) self.now) }
+        ensures value { IfSome (find (is_at t.now) self.now) (λ e. result.now ≡ e.value) }
+    {
+        let number = t.number;
+        let Some(i) = place(&self.entries, number) else {
+            unreachable!()
+        };
+        &self.entries[i].value
+    }
+
+    /// Gives a ticket back. With the last one the value is dropped. A ticket of no entry is dropped
+    /// without effect. Takes no memory.
+    pub fn release(&mut self, t: Ticket)
+        ensures released { self.new ≡ released t self.old }
+    {
+        let number = t.number;
+        let Some(i) = place(&self.entries, number) else {
+            return;
+        };
+        if self.entries[i].count < 2 {
+            drop(self.entries.remove(i));
+            return;
+        }
+        let entry = &mut self.entries[i];
+        entry.count -= 1;
+    }
+
+    /// The values, in the order in which they were tracked.
+    pub fn list(&self) -> Result<Vec<&T>, Memory>
+        ensures values { IfOk result (λ values. map (λ v. v.now) values.items ≡ map (λ e. e.value) self.now) }
+    {
+        let mut values = Vec::new(*self.entries.allocator());
+        for e in &self.entries {
+            values.push(&e.value)?;
+        }
+        Ok(values)
+    }
+}
+
+impl<T: Visit> Inventory<T> {
+    /// Visits each value once, in the order in which they were tracked.
+    pub fn visit_all(&mut self)
+        ensures visited { AllZip (IsVisited T.visited) self.old self.new }
+    {
+        visit_entries(&mut self.entries);
+    }
+}
+
+// The first index of a number.
+fn spot<T>(entries: &Vec<Entry<T>>, number: u64) -> Option<usize>
+    ensures { result ≡ position (is_at number) entries.now.items }
+{
+    entries.iter().position(|e| e.number == number)
+}
+
+// The place of the entry of a number.
+fn place<T>(entries: &Vec<Entry<T>>, number: u64) -> Option<usize>
+    ensures { MatchOption result (IsAbsent (is_at number) entries.now.items) (λ i. IsPlace (is_at number) entries.now.items i) }
+{
+    spot(entries, number)
+}
+
+// Visits one value.
+fn visit_at<T: Visit>(entries: &mut Vec<Entry<T>>, i: usize)
+    requires { i < vec_len entries.old }
+    ensures { (e f : Entry T) × (e ≡ slice_index_or entries.old.items i e) × IsVisited T.visited e f × (entries.new.items ≡ slice_set entries.old.items i f) }
+{
+    let entry = &mut entries[i];
+    entry.value.visit();
+}
+
+// Visits each value once, in order.
+fn visit_entries<T: Visit>(entries: &mut Vec<Entry<T>>)
+    ensures { AllZip (IsVisited T.visited) entries.old.items entries.new.items }
+{
+    for i in 0..entries.len() {
+        visit_at(entries, i);
+    }
+}
+
+#[cfg(test)]
+mod tests {
+    use super::*;
+    use std::test::Fail;
+
+    // The values, one after the other.
+    fn shown(inventory: &Inventory<char>, alloc: Global) -> Result<String, Fail> {
+        let mut text = String::new(alloc);
+        for value in &inventory.list()? {
+            text.push(**value)?;
+        }
+        Ok(text)
+    }
+
+    #[test]
+    fn tickets_keep_their_values(rt: HostRuntime) -> Result<(), Fail> {
+        let alloc = rt.alloc();
+        let mut inventory = Inventory::new(alloc);
+        let x = inventory.track('x')?;
+        let y = inventory.track('y')?;
+        let other = inventory.share(&x)?;
+        inventory.release(x);
+        assert_eq!(rt; shown(&inventory, alloc)?.as_str(), "xy");
+        inventory.release(other);
+        assert_eq!(rt; shown(&inventory, alloc)?.as_str(), "y");
+        inventory.release(y);
+        assert_eq!(rt; shown(&inventory, alloc)?.as_str(), "");
+        Ok(())
+    }
+
+    #[test]
+    #[tactic(auto, using(crate::specs::EntryLaws::last_found))]
+    fn a_ticket_has_its_value(rt: HostRuntime) -> Result<(), Fail> {
+        let mut inventory = Inventory::new(rt.alloc());
+        inventory.track('x')?;
+        let ticket = inventory.track('y')?;
+        assert_eq!(rt; *inventory.get(&ticket), 'y');
+        Ok(())
+    }
+}

@@ -1,0 +1,234 @@
+//! What files are written with.
+ghost use Rattle.std.specs.Prelude.{◌≡◌, ◌+◌, ◌++◌, List, ℕ, Bool, true, false, length, min, IfErr, OnOk, OnErr};
+ghost use Rattle.tv_base.specs.Causes.{IoCause};
+ghost use Rattle.tv_model.specs.Files.{Rose};
+
+use crate::io::IoError;
+use std::marker::Model;
+
+/// What writes one file, and is told where the file ends.
+///
+/// A device may refuse any call. It then answers a fault of kind `Device`, and a count rises. No call
+/// follows a refused one, or the end.
+pub trait TerminatingWrite {
+    /// The bytes that were taken.
+    ghost taken: { Self → List ℕ };
+
+    /// How many calls the device has refused.
+    ghost faults: { Self → ℕ };
+
+    /// No further call may be made: the end was told, or a call was refused.
+    ghost ended: { Self → Bool };
+
+    /// Takes all of these bytes. Where memory is wanted, none of them is taken; how many a refused call
+    /// has taken isn't said.
+    fn write_all(&mut self, bytes: &[u8]) -> Result<(), IoError>
+        requires going { ended self.old ≡ false }
+        ensures ok { OnOk result (taken self.new ≡ taken self.old ++ bytes.now) }
+        ensures memory { IfErr result (IoCause (Unit {0}) (taken self.new ≡ taken self.old)) }
+        ensures going { OnOk result (ended self.new ≡ false) }
+        ensures again { IfErr result (IoCause (Unit {0}) (ended self.new ≡ false)) }
+        ensures quiet { OnOk result (faults self.new ≡ faults self.old) }
+        ensures cause { IfErr result (IoCause (Rose (faults self.old) (faults self.new)) (faults self.new ≡ faults self.old)) };
+
+    /// Hands the bytes that were taken on to the device.
+    fn flush(&mut self) -> Result<(), IoError>
+        requires going { ended self.old ≡ false }
+        ensures ok { OnOk result (taken self.new ≡ taken self.old) }
+        ensures memory { IfErr result (IoCause (Unit {0}) (taken self.new ≡ taken self.old)) }
+        ensures going { OnOk result (ended self.new ≡ false) }
+        ensures again { IfErr result (IoCause (Unit {0}) (ended self.new ≡ false)) }
+        ensures quiet { OnOk result (faults self.new ≡ faults self.old) }
+        ensures cause { IfErr result (IoCause (Rose (faults self.old) (faults self.new)) (faults self.new ≡ faults self.old)) };
+
+    /// Tells the end. It is the last call, whatever it answers.
+    fn terminate(&mut self) -> Result<(), IoError>
+        requires going { ended self.old ≡ false }
+        ensures ended { ended self.new ≡ true }
+        ensures ok { OnOk result (taken self.new ≡ taken self.old) }
+        ensures memory { IfErr result (IoCause (Unit {0}) (taken self.new ≡ taken self.old)) }
+        ensures quiet { OnOk result (faults self.new ≡ faults self.old) }
+        ensures cause { IfErr result (IoCause (Rose (faults self.old) (faults self.new)) (faults self.new ≡ faults self.old)) };
+}
+
+/// A writer that counts the bytes which go through it.
+#[derive(Drop)]
+pub struct CountingWriter<W> {
+    writer: W,
+    written: u64,
+}
+
+impl<W> Model for CountingWriter<W> {
+    ghost use Rattle.tv_base.specs.Writers.{Counting};
+
+    ghost Value = { Counting W };
+
+    ghost view = { λ c. record { writer = c.writer; written = c.written } };
+}
+
+impl<W: TerminatingWrite> CountingWriter<W> {
+    /// Counts what is written to this writer from now on. Takes no memory.
+    pub fn wrap(w: W) -> CountingWriter<W>
+        requires going { W.ended w ≡ false }
+        ensures writer { result.writer ≡ w }
+        ensures none { result.written ≡ 0 }
+    {
+        CountingWriter {
+            writer: w,
+            written: 0,
+        }
+    }
+
+    /// How many bytes were written. The number stays at `u64::MAX`.
+    pub fn written_bytes(&self) -> u64
+        ensures number { result ≡ self.now.written }
+    {
+        self.written
+    }
+
+    /// The writer below. Takes no memory.
+    pub fn finish(self) -> W
+        ensures writer { result ≡ self.writer }
+    {
+        self.writer
+    }
+}
+
+impl<W: TerminatingWrite> TerminatingWrite for CountingWriter<W> {
+    ghost taken = { λ c. W.taken c.writer };
+
+    ghost faults = { λ c. W.faults c.writer };
+
+    ghost ended = { λ c. W.ended c.writer };
+
+    fn write_all(&mut self, bytes: &[u8]) -> Result<(), IoError>
+        requires going { W.ended self.old.writer ≡ false }
+        ensures ok { OnOk result (W.taken self.new.writer ≡ W.taken self.old.writer ++ bytes.now) }
+        ensures memory { IfErr result (IoCause (Unit {0}) (W.taken self.new.writer ≡ W.taken self.old.writer)) }
+        ensures going { OnOk result (W.ended self.new.writer ≡ false) }
+        ensures again { IfErr result (IoCause (Unit {0}) (W.ended self.new.writer ≡ false)) }
+        ensures quiet { OnOk result (W.faults self.new.writer ≡ W.faults self.old.writer) }
+        ensures cause { IfErr result (IoCause (Rose (W.faults self.old.writer) (W.faults self.new.writer)) (W.faults self.new.writer ≡ W.faults self.old.writer)) }
+        ensures counted { OnOk result (self.new.written ≡ min (self.old.written + length bytes.now) 18446744073709551615) }
+        ensures kept { OnErr result (self.new.written ≡ self.old.written) }
+    {
+        self.writer.write_all(bytes)?;
+        self.written = self.written.saturating_add(bytes.len() as u64);
+        Ok(())
+    }
+
+    fn flush(&mut self) -> Result<(), IoError>
+        requires going { W.ended self.old.writer ≡ false }
+        ensures ok { OnOk result (W.taken self.new.writer ≡ W.taken self.old.writer) }
+        ensures memory { IfErr result (IoCause (Unit {0}) (W.taken self.new.writer ≡ W.taken self.old.writer)) }
+        ensures going { OnOk result (W.ended self.new.writer ≡ false) }
+        ensures again { IfErr result (IoCause (Unit {0}) (W.ended self.new.writer ≡ false)) }
+        ensures quiet { OnOk result (W.faults self.new.writer ≡ W.faults self.old.writer) }
+        ensures cause { IfErr result (IoCause (Rose (W.faults self.old.writer) (W.faults self.new.writer)) (W.faults self.new.writer ≡ W.faults self.old.writer)) }
+        ensures kept { self.new.written ≡ self.old.written }
+    {
+        self.writer.flush()
+    }
+
+    fn terminate(&mut self) -> Result<(), IoError>
+        requires going { W.ended self.old.writer ≡ false }
+        ensures ended { W.ended self.new.writer ≡ true }
+        ensures ok { OnOk result (W.taken self.new.writer ≡ W.taken self.old.writer) }
+        ensures memory { IfErr result (IoCause (Unit {0}) (W.taken self.new.writer ≡ W.taken self.old.writer)) }
+        ensures quiet { OnOk result (W.faults self.new.writer ≡ W.faults self.old.writer) }
+        ensures cause { IfErr result (IoCause (Rose (W.faults self.old.writer) (W.faults self.new.writer)) (W.faults self.new.writer ≡ W.faults self.old.writer)) }
+        ensures kept { self.new.written ≡ self.old.written }
+    {
+        self.writer.terminate()
+    }
+}
+
+#[cfg(test)]
+mod tests {
+    use super::*;
+    use crate::io::{IoFault, IoKind};
+    use std::alloc::Global;
+    use std::test::Fail;
+
+    // A writer in memory. Once it is broken, it refuses writes.
+    #[derive(Drop)]
+    struct Page {
+        bytes: Vec<u8>,
+        broken: bool,
+        faults: u64,
+        ended: bool,
+    }
+
+    fn blank(alloc: Global, broken: bool) -> Page
+        ensures { result.ended ≡ false }
+    {
+        Page {
+            bytes: Vec::new(alloc),
+            broken,
+            faults: 0,
+            ended: false,
+        }
+    }
+
+    impl TerminatingWrite for Page {
+        ghost taken = { λ p. p.bytes.items };
+
+        ghost faults = { λ p. p.faults };
+
+        ghost ended = { λ p. p.ended };
+
+        fn write_all(&mut self, bytes: &[u8]) -> Result<(), IoError> {
+            if self.broken {
+                self.faults = self.faults.saturating_add(1);
+                self.ended = true;
+                return Err(IoError::Fault(IoFault {
+                    kind: IoKind::Device,
+                    text: String::new(*self.bytes.allocator()),
+                }));
+            }
+            self.bytes.extend_from_slice(bytes)?;
+            Ok(())
+        }
+
+        fn flush(&mut self) -> Result<(), IoError> {
+            Ok(())
+        }
+
+        fn terminate(&mut self) -> Result<(), IoError> {
+            self.ended = true;
+            Ok(())
+        }
+    }
+
+    #[test]
+    fn bytes_are_counted(rt: HostRuntime) -> Result<(), Fail> {
+        let mut writer = CountingWriter::wrap(blank(rt.alloc(), false));
+        writer.write_all(b"abc")?;
+        writer.write_all(b"de")?;
+        writer.flush()?;
+        writer.terminate()?;
+        assert_eq!(rt; writer.written_bytes(), 5);
+        let page = writer.finish();
+        assert_eq!(rt; page.bytes.as_slice(), b"abcde".as_slice());
+        Ok(())
+    }
+
+    #[test]
+    fn the_count_stays_at_its_end(rt: HostRuntime) -> Result<(), Fail> {
+        let mut writer = CountingWriter {
+            writer: blank(rt.alloc(), false),
+            written: u64::MAX - 1,
+        };
+        writer.write_all(b"abc")?;
+        assert_eq!(rt; writer.written_bytes(), u64::MAX);
+        Ok(())
+    }
+
+    #[test]
+    fn a_refused_write_is_not_counted(rt: HostRuntime) {
+        let mut writer = CountingWriter::wrap(blank(rt.alloc(), true));
+        let answer = writer.write_all(b"abc");
+        assert!(rt; matches!(answer, Err(IoError::Fault(_))));
+        assert_eq!(rt; writer.written_bytes(), 0);
+    }
+}
