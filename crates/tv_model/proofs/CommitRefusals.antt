@@ -62,8 +62,8 @@ unsealed_script =
 
 -- the first file that isn't sealed is told: by id, though the line has the lower id last, and then in the order of the components
 pub unsealed_told : answers first_state unsealed_script ≡
-    codes "segment a5c4dcfbdfe645089129e308e26d5523"
-    ∷ codes "docs a5c4dcfbdfe645089129e308e26d5523 1"
+    codes "segment a5c4dfcbdfe645089129e308e26d5523"
+    ∷ codes "docs a5c4dfcbdfe645089129e308e26d5523 1"
     ∷ codes "segment 00000000000000000000000000000001"
     ∷ codes "docs 00000000000000000000000000000001 1"
     ∷ codes "refused unsealed 00000000000000000000000000000001.idx"

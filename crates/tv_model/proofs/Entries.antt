@@ -114,7 +114,7 @@ below_absent : (xs : List (List ℕ)) (name : List ℕ) → AllByRecursion (λ y
 below_absent [] name h = refl
 below_absent (x ∷ xs) name h = rw (is_by_order name x ∙ ap is_eq h.0, below_absent xs name h.1) refl
 
-below_all : (xs : List (List ℕ)) (name x : List ℕ) → byte_cmp name x ≡ Less → AllByRecursion (λ y. byte_cmp x y ≡ Less) xs → AllByRecursion (λ y. byte_cmp name y ≡ Less) xs
+pub below_all : (xs : List (List ℕ)) (name x : List ℕ) → byte_cmp name x ≡ Less → AllByRecursion (λ y. byte_cmp x y ≡ Less) xs → AllByRecursion (λ y. byte_cmp name y ≡ Less) xs
 below_all [] name x l h = tt
 below_all (y ∷ ys) name x l h = (nat_list_cmp_total.trans name x y l h.0, below_all ys name x l h.1)
 

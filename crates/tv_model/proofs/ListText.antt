@@ -11,6 +11,6 @@ pub first_list : list_text first_state.managed ≡ codes "[\"meta.json\"]" ++ 10
 first_list = refl
 
 -- and after a first commit, in the order of the names
-pub committed_list : list_text (after first_state first_script).managed ≡ codes "[\"a5c4dcfbdfe645089129e308e26d5523.fast\",\"a5c4dcfbdfe645089129e308e26d5523.fieldnorm\",\"a5c4dcfbdfe645089129e308e26d5523.idx\",\"a5c4dcfbdfe645089129e308e26d5523.pos\",\"a5c4dcfbdfe645089129e308e26d5523.store\",\"a5c4dcfbdfe645089129e308e26d5523.term\",\"meta.json\"]" ++ 10 ∷ []
+pub committed_list : list_text (after first_state first_script).managed ≡ codes "[\"a5c4dfcbdfe645089129e308e26d5523.fast\",\"a5c4dfcbdfe645089129e308e26d5523.fieldnorm\",\"a5c4dfcbdfe645089129e308e26d5523.idx\",\"a5c4dfcbdfe645089129e308e26d5523.pos\",\"a5c4dfcbdfe645089129e308e26d5523.store\",\"a5c4dfcbdfe645089129e308e26d5523.term\",\"meta.json\"]" ++ 10 ∷ []
 unfolding encode_with digits
 committed_list = refl

@@ -7,9 +7,9 @@ use Rattle.tv_model.specs.Names.{meta_name}
 use Rattle.tv_model.specs.Commits.{first_commit}
 use Rattle.tv_model.specs.State.{State}
 
--- `a5c4dcfbdfe645089129e308e26d5523`
+-- `a5c4dfcbdfe645089129e308e26d5523`
 abbrev pub id_a : List ℕ
-id_a = 165 ∷ 196 ∷ 220 ∷ 251 ∷ 223 ∷ 230 ∷ 69 ∷ 8 ∷ 145 ∷ 41 ∷ 227 ∷ 8 ∷ 226 ∷ 109 ∷ 85 ∷ 35 ∷ []
+id_a = 165 ∷ 196 ∷ 223 ∷ 203 ∷ 223 ∷ 230 ∷ 69 ∷ 8 ∷ 145 ∷ 41 ∷ 227 ∷ 8 ∷ 226 ∷ 109 ∷ 85 ∷ 35 ∷ []
 
 -- `00000000000000000000000000000001`
 abbrev pub id_b : List ℕ

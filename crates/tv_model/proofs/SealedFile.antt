@@ -31,10 +31,10 @@ unfolding digits
 length_digits = refl
 
 -- the files that a script has made
-pub first_postings : file_at (after first_state first_script) (codes "a5c4dcfbdfe645089129e308e26d5523.idx") ≡ Some (Sealed (sealed (codes "123456789")))
+pub first_postings : file_at (after first_state first_script) (codes "a5c4dfcbdfe645089129e308e26d5523.idx") ≡ Some (Sealed (sealed (codes "123456789")))
 unfolding encode_with digits
 first_postings = refl
 
-pub first_store : file_at (after first_state first_script) (codes "a5c4dcfbdfe645089129e308e26d5523.store") ≡ Some (Sealed (sealed []))
+pub first_store : file_at (after first_state first_script) (codes "a5c4dfcbdfe645089129e308e26d5523.store") ≡ Some (Sealed (sealed []))
 unfolding encode_with digits
 first_store = refl

@@ -1,10 +1,10 @@
 -- The event that commits.
-use Rattle.std.specs.Prelude.{ℕ, ◌+◌, List, [], ◌∷◌, length, codes, Option, Some, None, Bool, true, false, not, is_none, nat_lt, find, fold, ◌==◌, if◌then◌else◌}
+use Rattle.std.specs.Prelude.{ℕ, ◌+◌, List, [], ◌∷◌, length, codes, Option, Some, None, Bool, true, false, not, ◌&&◌, is_none, nat_lt, find, ◌==◌, if◌then◌else◌}
+use Rattle.std.specs.List.{filter}
 use Rattle.std.specs.Fmt.{decimal}
-use Rattle.std.specs.BTreeMap.{insert_entry}
 use Rattle.hex.specs.Hex.{encode_lower}
 use Rattle.tv_model.specs.declared.segment.LiveSegment.{LiveSegment}
-use Rattle.tv_model.specs.Names.{byte_cmp}
+use Rattle.tv_model.specs.Names.{has}
 use Rattle.tv_model.specs.Segments.{num_docs, all_required}
 use Rattle.tv_model.specs.State.{State, Told, FileState, Sealed, Open, live_at, file_at}
 use Rattle.tv_model.specs.Lines.{line, refuse, refuse_for}
@@ -13,15 +13,9 @@ use Rattle.tv_model.specs.Lines.{line, refuse, refuse_for}
 abbrev pub last_stamp : ℕ
 last_stamp = 18446744073709551615
 
--- some segments, and this one in its place where it has living documents
-abbrev pub with_living : List (List ℕ × LiveSegment) → List ℕ → Option LiveSegment → List (List ℕ × LiveSegment)
-with_living segments id None = segments
-with_living segments id (Some segment) =
-    if nat_lt 0 (num_docs segment) then insert_entry byte_cmp segments id segment else segments
-
--- the named segments that have living documents, in id order
+-- the live segments that are named and have living documents (live segments stand in id order)
 abbrev pub chosen : State → List (List ℕ) → List (List ℕ × LiveSegment)
-chosen s ids = fold (λ segments id. with_living segments id (live_at s id)) [] ids
+chosen s ids = filter (λ e. has ids e.0 && nat_lt 0 (num_docs e.1)) s.live
 
 abbrev pub is_sealed : Option FileState → Bool
 is_sealed None = false

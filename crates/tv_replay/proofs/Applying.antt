@@ -23,10 +23,10 @@ use Rattle.tv_replay.specs.declared.next_event.ScriptError.{ScriptError}
 use Rattle.tv_replay.specs.declared.next_event.ScriptError.TheVariants as script
 use Rattle.tv_replay.specs.Kept.{Kept, FileHolds, Holds, AtMost}
 use Rattle.tv_replay.specs.Telling.{TellsLine, TellsLines}
-use Rattle.tv_replay.specs.ScriptLines.{pending, TakesEvent, IsNoEvent}
+use Rattle.tv_replay.specs.ScriptLines.{pending, TakesEvent, IsNoEvent, IsTooLong}
 use Rattle.tv_replay.specs.ScriptCauses.{ScriptCause}
 use Rattle.tv_replay.specs.StoreCauses.{WriteFault, EventCause, OpeningCause, IsRefusal}
-use Rattle.tv_replay.specs.Replays.{Replays, ReplayCause, StopsAt, LineRefusal, IsTooMany, line_refusal}
+use Rattle.tv_replay.specs.Replays.{Replays, ReplayCause, StopsAt, LineRefusal, IsTooMany, line_refusal, long_refusal}
 use Rattle.tv_replay.specs.Applying.{Applies, Runs, RunCause, IsErrorOf}
 use Rattle.tv_replay.proofs.LineLemmas.{pending_some}
 use Rattle.tv_replay.proofs.Progress.{after-last, answers-last, AreLines-length, ReadSoFar, nothing_read, one_more_read, all_read}
@@ -176,10 +176,26 @@ pub stops_at_line : (tells tells_heard : Type 0) (old_reads now_reads : Reads) (
     → ((rest : List ℕ) → left ≡ Some rest → IsNoEvent rest) → number ≡ count + 1 → LineRefusal text (line_refusal number)
 stops_at_line tells tells_heard old_reads now_reads old_kept now_kept old_heard now_heard text left count number p wrong is = (
   number,
-  refl,
-  λ whole told.
-      let r = p.read whole told in
-      (r.rest, stops whole left p.events count number r p.counted is, wrong r.rest r.left_is),
+  inl (
+    refl,
+    λ whole told.
+        let r = p.read whole told in
+        (r.rest, stops whole left p.events count number r p.counted is, wrong r.rest r.left_is),
+  ),
+)
+
+-- the next line is too long
+pub stops_at_long : (tells tells_heard : Type 0) (old_reads now_reads : Reads) (old_kept now_kept : Kept) (old_heard now_heard : Heard) (text left : Option (List ℕ)) (count number : ℕ)
+    → Progress tells tells_heard old_reads now_reads old_kept now_kept old_heard now_heard text left count
+    → ((rest : List ℕ) → left ≡ Some rest → IsTooLong rest) → number ≡ count + 1 → LineRefusal text (long_refusal number)
+stops_at_long tells tells_heard old_reads now_reads old_kept now_kept old_heard now_heard text left count number p long is = (
+  number,
+  inr (
+    refl,
+    λ whole told.
+        let r = p.read whole told in
+        (r.rest, stops whole left p.events count number r p.counted is, long r.rest r.left_is),
+  ),
 )
 
 -- there is a line too many
@@ -218,10 +234,12 @@ refusal_cause refusal too_many refused quiet text errors.Memory h q r = q
 refusal_cause refusal too_many refused quiet text other h q r = absurd h
 
 -- a script's
-pub script_cause : (refusal : List ℕ → Type 0) (too_many refused quiet more all : Type 0) (failed : ScriptError) (number : ℕ) (error : TantivyError) → IsErrorOf failed number error → ScriptCause refused quiet failed → (refused → more) → (quiet → all) → (failed ≡ script.NotAnEvent → refusal (line_refusal number)) → RunCause refusal too_many more all error
-script_cause refusal too_many refused quiet more all script.Memory number error is h f q r = subst (RunCause refusal too_many more all) (sym is) (q h)
-script_cause refusal too_many refused quiet more all (script.Fault fault) number error is h f q r = subst (RunCause refusal too_many more all) (sym is) (h.0, f h.1)
-script_cause refusal too_many refused quiet more all script.NotAnEvent number error is h f q r = refusal_cause refusal too_many more all (line_refusal number) error is (q h) (r refl)
+pub script_cause : (refusal : List ℕ → Type 0) (too_many refused quiet more all : Type 0) (failed : ScriptError) (number : ℕ) (error : TantivyError) → IsErrorOf failed number error → ScriptCause refused quiet failed → (refused → more) → (quiet → all)
+    → (failed ≡ script.NotAnEvent → refusal (line_refusal number)) → (failed ≡ script.TooLong → refusal (long_refusal number)) → RunCause refusal too_many more all error
+script_cause refusal too_many refused quiet more all script.Memory number error is h f q r l = subst (RunCause refusal too_many more all) (sym is) (q h)
+script_cause refusal too_many refused quiet more all (script.Fault fault) number error is h f q r l = subst (RunCause refusal too_many more all) (sym is) (h.0, f h.1)
+script_cause refusal too_many refused quiet more all script.NotAnEvent number error is h f q r l = refusal_cause refusal too_many more all (line_refusal number) error is (q h) (r refl)
+script_cause refusal too_many refused quiet more all script.TooLong number error is h f q r l = refusal_cause refusal too_many more all (long_refusal number) error is (q h) (l refl)
 
 -- the end's
 pub end_cause : (refusal : List ℕ → Type 0) (some too_many refused quiet more all : Type 0) (error : TantivyError) → RunCause (λ text. ⊥) some refused quiet error → (refused → more) → (quiet → all) → (some → too_many) → RunCause refusal too_many more all error

@@ -1,16 +1,12 @@
 -- The event that commits: what it chooses, the files that it asks for, and the state that it leads to.
-use Rattle.std.proofs.Common.{◌≡◌, ◌≢◌, ℕ, zero, suc, ◌+◌, ◌<◌, ◌≤◌, Bool, true, false, true≢false, cond, nat_lt, List, [], ◌∷◌, ◌++◌, length, map, take, get_or, codes, Option, Some, None, refl, sym, ap, subst, ◌∙◌, arith, append_assoc, length-append}
-use Rattle.std.specs.Prelude.{find, fold, is_none, ◌==◌}
+use Rattle.std.proofs.Common.{◌≡◌, ◌≢◌, ℕ, zero, suc, ◌+◌, ◌<◌, ◌≤◌, Bool, true, false, true≢false, cond, ◌&&◌, nat_lt, List, [], ◌∷◌, ◌++◌, length, map, take, get_or, codes, Option, Some, None, refl, sym, ap, subst, ◌∙◌, arith, append_assoc, length-append}
+use Rattle.std.specs.Prelude.{find, is_none, ◌==◌}
 use Rattle.std.specs.Fmt.{decimal}
-use Rattle.std.specs.List.{flat_map, AllByRecursion}
+use Rattle.std.specs.List.{flat_map, filter, AllByRecursion}
 use Rattle.std.specs.List.Sorted.{IsStrictlySortedBy}
-use Rattle.std.specs.declared.cmp.Ordering.TheVariants.{Less, Equal, Greater}
-use Rattle.std.specs.Ordering.{is_eq, match_ordering}
-use Rattle.std.specs.BTreeMap.{is_at, insert_entry}
 use Rattle.std.specs.BTreeSet.{insert_key}
 use Rattle.std.proofs.lemmas.Bool.{ne_eqb}
 use Rattle.std.proofs.lemmas.List.{take_more}
-use Rattle.std.proofs.lemmas.List.Sums.{fold_push}
 use Rattle.std.proofs.lemmas.List.Folds.{find-append, flat_map-map}
 use Rattle.hex.specs.Hex.{encode_lower, lower_digits}
 use Rattle.hex.proofs.HexLemmas.{length-encode_with}
@@ -25,19 +21,15 @@ use Rattle.tv_model.specs.Segments.{name_of, num_deleted, num_docs, delete_opsta
 use Rattle.tv_model.specs.Commits.{Commit, IsSegment, IsCommit, Means, printed, default_settings}
 use Rattle.tv_model.specs.State.{State, at, file_at}
 use Rattle.tv_model.specs.Lines.{line, refuse}
-use Rattle.tv_model.specs.CommitEvents.{with_living, chosen, first_unsealed, first_unknown, commit_sealed, commit_known, commit_step, last_stamp}
+use Rattle.tv_model.specs.CommitEvents.{chosen, first_unsealed, first_unknown, commit_sealed, commit_known, commit_step, last_stamp}
 use Rattle.tv_model.specs.Index.{IsFileOf}
-use Rattle.tv_model.proofs.Entries.{text_at, insert_present}
+use Rattle.tv_model.proofs.Entries.{insert_present}
 use Rattle.tv_model.proofs.PlainNames.{undotted}
 use Rattle.tv_model.proofs.SoundStates.{name_is_file}
 use Rattle.tv_managed.specs.Managed.{KeepsOtherFiles}
 use Rattle.tv_replay.specs.Kept.{Kept, Holds, FileHolds}
 
 -- ---- lists, one element further
-
-pub fold_further : {A B : Type 0} (f : B → A → B) (b : B) (xs : List A) (i : ℕ) (x : A) → i < length xs → x ≡ get_or xs i x → fold f b (take (i + 1) xs) ≡ f (fold f b (take i xs)) x
-fold_further {A} f b xs i x h is =
-    ap (fold f b) (take_more xs i x h ∙ ap (λ (y : A). take i xs ++ y ∷ []) (sym is)) ∙ fold_push f b (take i xs) x
 
 pub find_further : {A : Type 0} (p : A → Bool) (xs : List A) (i : ℕ) (x : A) → i < length xs → x ≡ get_or xs i x → find p (take i xs) ≡ None → p x ≡ false → find p (take (i + 1) xs) ≡ None
 find_further {A} p xs i x h is none fails =
@@ -123,41 +115,16 @@ all_put names id_of segment_of xs segments so_far all =
 
 -- ---- the segments that are chosen
 
-segment_at : (es : List (List ℕ × LiveSegment)) (id : List ℕ) (segment : LiveSegment) → AllByRecursion IsSegment es → at es id ≡ Some segment → IsSegment (id, segment)
-segment_at [] id segment h e = absurd cc
-segment_at (x ∷ es) id segment h e =
-    elim (is_at (byte_cmp id) x.0) as (λ b. is_at (byte_cmp id) x.0 ≡ b → cond b (Some x.1) (at es id) ≡ Some segment → IsSegment (id, segment)) [
-      | true ↦ λ here k.
-          let key : id ≡ x.0 = text_at id x.0 here in
-          let value : x.1 ≡ segment = cc in
-          subst (λ (q : List ℕ). IsSegment (q, segment)) (sym key) (subst (λ (v : LiveSegment). IsSegment (x.0, v)) value h.0)
-      | false ↦ λ other k. segment_at es id segment h.1 k
-    ] refl e
+picked : (b : Bool) (e : List ℕ × LiveSegment) (es : List (List ℕ × LiveSegment)) → IsSegment e → AllByRecursion IsSegment es → AllByRecursion IsSegment (cond b (e ∷ es) es)
+picked true e es it h = (it, h)
+picked false e es it h = h
 
-segments_put : (es : List (List ℕ × LiveSegment)) (id : List ℕ) (segment : LiveSegment) → AllByRecursion IsSegment es → IsSegment (id, segment) → AllByRecursion IsSegment (insert_entry byte_cmp es id segment)
-segments_put [] id segment h it = (it, tt)
-segments_put (x ∷ es) id segment h it =
-    elim (byte_cmp id x.0) as (λ r. byte_cmp id x.0 ≡ r → AllByRecursion IsSegment (match_ordering r ((id, segment) ∷ x ∷ es) ((x.0, segment) ∷ es) (x ∷ insert_entry byte_cmp es id segment))) [
-      | Less ↦ λ r. (it, h)
-      | Equal ↦ λ r. (subst (λ (q : List ℕ). IsSegment (q, segment)) (text_at id x.0 (ap is_eq r)) it, h.1)
-      | Greater ↦ λ r. (h.0, segments_put es id segment h.1 it)
-    ] refl
-
-put_if : (b : Bool) (es more : List (List ℕ × LiveSegment)) → AllByRecursion IsSegment es → AllByRecursion IsSegment more → AllByRecursion IsSegment (cond b more es)
-put_if true es more h k = k
-put_if false es more h k = h
-
-living_put : (es : List (List ℕ × LiveSegment)) (id : List ℕ) (segment : Option LiveSegment) → AllByRecursion IsSegment es → ((v : LiveSegment) → segment ≡ Some v → IsSegment (id, v)) → AllByRecursion IsSegment (with_living es id segment)
-living_put es id None h it = h
-living_put es id (Some segment) h it = put_if (nat_lt 0 (num_docs segment)) es (insert_entry byte_cmp es id segment) h (segments_put es id segment h (it segment refl))
-
-chosen_from : (live : List (List ℕ × LiveSegment)) (ids : List (List ℕ)) (start : List (List ℕ × LiveSegment)) → AllByRecursion IsSegment live → AllByRecursion IsSegment start
-    → AllByRecursion IsSegment (fold (λ segments id. with_living segments id (at live id)) start ids)
-chosen_from live [] start h k = k
-chosen_from live (id ∷ ids) start h k = chosen_from live ids (with_living start id (at live id)) h (living_put start id (at live id) k (λ v e. segment_at live id v h e))
+filtered : (p : List ℕ × LiveSegment → Bool) (es : List (List ℕ × LiveSegment)) → AllByRecursion IsSegment es → AllByRecursion IsSegment (filter p es)
+filtered p [] h = tt
+filtered p (e ∷ es) h = picked (p e) e (filter p es) h.0 (filtered p es h.1)
 
 pub chosen_are_segments : (s : State) (ids : List (List ℕ)) → AllByRecursion IsSegment s.live → AllByRecursion IsSegment (chosen s ids)
-chosen_are_segments s ids h = chosen_from s.live ids [] h tt
+chosen_are_segments s ids h = filtered (λ e. has ids e.0 && nat_lt 0 (num_docs e.1)) s.live h
 
 -- ---- what is held
 
@@ -249,9 +216,9 @@ first_unknown_is s live ids given found same are e =
     sym (e ∙ ap (λ (es : List (List ℕ × LiveSegment)). find (λ id. is_none (at es id)) given) same ∙ ap (find (λ id. is_none (at s.live id))) are)
 
 -- the segments that are chosen from what is kept
-pub chosen_is : (s : State) (live segments : List (List ℕ × LiveSegment)) (ids given : List (List ℕ)) → live ≡ s.live → given ≡ ids → segments ≡ fold (λ segments id. with_living segments id (at live id)) [] given → segments ≡ chosen s ids
+pub chosen_is : (s : State) (live segments : List (List ℕ × LiveSegment)) (ids given : List (List ℕ)) → live ≡ s.live → given ≡ ids → segments ≡ filter (λ e. has given e.0 && nat_lt 0 (num_docs e.1)) live → segments ≡ chosen s ids
 chosen_is s live segments ids given same are e =
-    e ∙ ap (λ (es : List (List ℕ × LiveSegment)). fold (λ segments id. with_living segments id (at es id)) [] given) same ∙ ap (fold (λ segments id. with_living segments id (at s.live id)) []) are
+    e ∙ ap (filter (λ e. has given e.0 && nat_lt 0 (num_docs e.1))) same ∙ ap (λ (names : List (List ℕ)). filter (λ e. has names e.0 && nat_lt 0 (num_docs e.1)) s.live) are
 
 -- the answer and the state that a step leads to, where there is a number left
 numbered_step : (reads : Reads) (kept : Kept) (s : State) (payload : Option (List ℕ)) (ids : List (List ℕ)) (unknown : Option (List ℕ)) (answer : List ℕ)

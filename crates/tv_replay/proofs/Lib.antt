@@ -15,3 +15,5 @@ pub mod Applying
 pub mod Runs
 pub mod Creation
 pub mod Steps
+pub mod Chosen
+pub mod Complete

@@ -1,11 +1,11 @@
 -- What a run tells or says: no line feed stands in the lines of errors, and what each refusal leads to.
 use Rattle.std.proofs.Common.{◌≡◌, ◌⊎◌, inl, inr, ℕ, zero, suc, ◌+◌, ◌<◌, ◌/◌, ◌%◌, ◌==◌, Bool, true, false, not, nat_lt, if◌then◌else◌, ◌≤◌, List, [], ◌∷◌, ◌++◌, length, get_or, codes, refl, sym, ap, subst, ◌∙◌, arith, string_bytes, Result, Ok, Err}
-use Rattle.std.specs.Prelude.{nat_eq, OnOk, IfErr, OnErr, map}
+use Rattle.std.specs.Prelude.{nat_eq, OnOk, IfErr, OnErr, map, Option, Some, None, IsSome}
 use Rattle.std.specs.Cmp.Lexicographic.{pointwise, same_text}
 use Rattle.std.specs.List.{starts_with}
 use Rattle.std.specs.Fmt.{decimal, digits, digits_onto, digit_glyph}
 use Rattle.std.proofs.lemmas.Bool.{ne_eqb}
-use Rattle.tv_model.specs.Files.{Reads, Rose}
+use Rattle.tv_model.specs.Files.{Reads, Heard, Rose}
 use Rattle.tv_model.specs.Lines.{has_no_feed}
 use Rattle.tv_model.proofs.NoFeeds.{no_feed_append}
 use Rattle.tv_base.specs.Causes.{IoCause}
@@ -18,8 +18,8 @@ use Rattle.tv_base.specs.declared.error.TantivyError.{TantivyError}
 use Rattle.tv_base.specs.declared.error.TantivyError.TheVariants as errors
 use Rattle.tv_replay.specs.ErrorLines.{argument_line, error_line}
 use Rattle.tv_replay.specs.Places.{LendCause, SaysPart}
-use Rattle.tv_replay.specs.Replays.{ReplayCause, line_refusal}
-use Rattle.tv_replay.specs.Runs.{memory_line, replay_words, SaysLine}
+use Rattle.tv_replay.specs.Replays.{ReplayCause, LineRefusal, line_refusal, long_refusal}
+use Rattle.tv_replay.specs.Runs.{schema_line, folder_line, replay_words, SaysLine, OnlySays, Refuses, Reports}
 use Rattle.tv_replay.specs.StoreCauses.{OpeningRefusal}
 
 -- a digit is no line feed
@@ -46,6 +46,9 @@ decimal_no_feed n = digits_no_feed 64 n [] refl
 refusal_no_feed : (number : ℕ) → has_no_feed (line_refusal number) ≡ true
 refusal_no_feed number = no_feed_append (codes "line " ++ decimal number) (codes " is not of the event grammar") (no_feed_append (codes "line ") (decimal number) refl (decimal_no_feed number)) refl
 
+long_no_feed : (number : ℕ) → has_no_feed (long_refusal number) ≡ true
+long_no_feed number = no_feed_append (codes "line " ++ decimal number) (codes " is longer than 1048576 bytes") (no_feed_append (codes "line ") (decimal number) refl (decimal_no_feed number)) refl
+
 argument_no_feed : (text : List ℕ) → has_no_feed text ≡ true → has_no_feed (argument_line text) ≡ true
 argument_no_feed text h = whichever (starts_with nat_eq text (codes "line ")) (codes "error " ++ text) (codes "error argument") (no_feed_append (codes "error ") text refl h) refl
 
@@ -53,28 +56,15 @@ opening_no_feed : (tells : Type 0) (schema : List ℕ) (reads : Reads) (text : L
 opening_no_feed tells schema reads text (inl (_, is)) = rw is refl
 opening_no_feed tells schema reads text (inr (_, is, _)) = rw is refl
 
+line_no_feed : (script : Option (List ℕ)) (text : List ℕ) → LineRefusal script text → has_no_feed text ≡ true
+line_no_feed script text (number, inl h) = rw h.0 (refusal_no_feed number)
+line_no_feed script text (number, inr h) = rw h.0 (long_no_feed number)
+
 -- no line feed stands in the line of an error that a replay answers
 pub error_no_feed : (tells : Type 0) (schema : List ℕ) (reads : Reads) (script : _) (refused quiet : Type 0) (error : TantivyError) → ReplayCause tells schema reads script refused quiet error → has_no_feed (error_line error) ≡ true
 error_no_feed tells schema reads script refused quiet (errors.InvalidArgument text) (_, inl opening) = argument_no_feed (string_bytes text) (opening_no_feed tells schema reads (string_bytes text) opening)
-error_no_feed tells schema reads script refused quiet (errors.InvalidArgument text) (_, inr (_, _, (number, is, _))) = argument_no_feed (string_bytes text) (rw is (refusal_no_feed number))
-error_no_feed tells schema reads script refused quiet (errors.IoError fault) h = refl
-error_no_feed tells schema reads script refused quiet (errors.OpenWriteError error) h = refl
-error_no_feed tells schema reads script refused quiet errors.Exhausted h = refl
-error_no_feed tells schema reads script refused quiet errors.Memory h = refl
-error_no_feed tells schema reads script refused quiet (errors.OpenDirectoryError error) h = refl
-error_no_feed tells schema reads script refused quiet (errors.OpenReadError error) h = refl
-error_no_feed tells schema reads script refused quiet errors.IndexAlreadyExists h = refl
-error_no_feed tells schema reads script refused quiet (errors.LockFailure error text) h = refl
-error_no_feed tells schema reads script refused quiet (errors.DataCorruption error) h = refl
-error_no_feed tells schema reads script refused quiet errors.Poisoned h = refl
-error_no_feed tells schema reads script refused quiet (errors.FieldNotFound text) h = refl
-error_no_feed tells schema reads script refused quiet (errors.ErrorInThread text) h = refl
-error_no_feed tells schema reads script refused quiet (errors.IndexBuilderMissingArgument text) h = refl
-error_no_feed tells schema reads script refused quiet (errors.SchemaError text) h = refl
-error_no_feed tells schema reads script refused quiet (errors.SystemError text) h = refl
-error_no_feed tells schema reads script refused quiet (errors.IncompatibleIndex why) h = refl
-error_no_feed tells schema reads script refused quiet (errors.InternalError text) h = refl
-error_no_feed tells schema reads script refused quiet (errors.IdInUse text) h = refl
+error_no_feed tells schema reads script refused quiet (errors.InvalidArgument text) (_, inr (_, _, line)) = argument_no_feed (string_bytes text) (line_no_feed script (string_bytes text) line)
+error_no_feed tells schema reads script refused quiet other h = refl
 
 -- why a schema wasn't had: a device refused it, or memory was wanted
 pub schema_cause : (refused quiet : Type 0) (error : IoError) → IoCause refused quiet error → refused ⊎ (quiet × (of_io error ≡ errors.Memory))
@@ -89,38 +79,77 @@ lend_cause refused quiet (directory.FailedToCreateTempDir fault) h = absurd h
 lend_cause refused quiet (directory.IoError fault path) (_, h) = inl h
 lend_cause refused quiet directory.Memory h = inr (h, refl)
 
--- a line that was to be said was said, or the place refused it
-said_or_refused : {T E : Type 0} (r : Result T E) (told said refused : Type 0) (D : E → Type 0) → (told → OnOk r said) → IfErr r (λ e. D e × refused) → refused ⊎ (told → said)
-said_or_refused (Ok x) told said refused D f g = inr f
-said_or_refused (Err e) told said refused D f (_, h) = inl h
+-- what is said of them
+pub schema_line_is : (error : IoError) → (of_io error ≡ errors.Memory → ⊥) → error_line (of_io error) ≡ schema_line
+schema_line_is (io.Fault fault) other = refl
+schema_line_is io.Memory other = absurd (other refl)
 
--- the line of want of memory was
-pub says_memory : {T E : Type 0} (r : Result T E) (told refused : Type 0) (D : E → Type 0) (before now line items : List ℕ) (error : TantivyError) → (told → OnOk r (now ≡ before ++ line ++ 10 ∷ [])) → IfErr r (λ e. D e × refused)
-    → line ≡ items → items ≡ error_line error → error ≡ errors.Memory → refused ⊎ (told → now ≡ before ++ memory_line ++ 10 ∷ [])
-says_memory r told refused D before now line items error f g slice is memory =
-    let whole : line ≡ memory_line = slice ∙ is ∙ ap error_line memory in
-    said_or_refused r told (now ≡ before ++ memory_line ++ 10 ∷ []) refused D (subst (λ l. told → OnOk r (now ≡ before ++ l ++ 10 ∷ [])) whole f) g
+pub folder_line_is : (error : OpenDirectoryError) → (of_open_directory error ≡ errors.Memory → ⊥) → error_line (of_open_directory error) ≡ folder_line
+folder_line_is directory.Memory other = absurd (other refl)
+folder_line_is error other = refl
+
+-- a line was said, or the place refused it
+says_line : {T E : Type 0} (r : Result T E) (D : E → Type 0) (told : Type 0) (faults faults_now : ℕ) (before now line : List ℕ) → OnOk r (faults_now ≡ faults) → (told → OnOk r (now ≡ before ++ line ++ 10 ∷ [])) → (told → OnErr r (SaysPart before now line)) → IfErr r (λ e. D e × Rose faults faults_now)
+    → SaysLine told faults faults_now before now line
+says_line (Ok x) D told faults faults_now before now line q f g h = inl (q, f)
+says_line (Err e) D told faults faults_now before now line q f g h = inr (h.1, g)
+
+pub only_says : {O T E : Type 0} (r : Result T E) (D : E → Type 0) (told tells_said : Type 0) (before now : List ℕ → Option O) (faults faults_now : ℕ) (said_before said_now line : List ℕ)
+    → OnOk r (faults_now ≡ faults) → (tells_said → OnOk r (said_now ≡ said_before ++ line ++ 10 ∷ [])) → (tells_said → OnErr r (SaysPart said_before said_now line)) → IfErr r (λ e. D e × Rose faults faults_now)
+    → (told → (f : List ℕ) → now f ≡ before f) → OnlySays told tells_said before now faults faults_now said_before said_now line
+only_says r D told tells_said before now faults faults_now said_before said_now line q f g h folders = record {
+  says = says_line r D tells_said faults faults_now said_before said_now line q f g h;
+  folders = folders;
+}
+
+-- the line that was said is this one
+pub says_this : {O : Type 0} {told tells_said : Type 0} {before now : List ℕ → Option O} {faults faults_now : ℕ} {said_before said_now line whole : List ℕ}
+    → line ≡ whole → OnlySays told tells_said before now faults faults_now said_before said_now line → OnlySays told tells_said before now faults faults_now said_before said_now whole
+says_this {O} {told} {tells_said} {before} {now} {faults} {faults_now} {said_before} {said_now} {line} {whole} is only =
+    subst (λ (l : List ℕ). OnlySays told tells_said before now faults faults_now said_before said_now l) is only
+
+-- what was said and kept, told of from an earlier moment
+says_since : {O : Type 0} {told tells_said : Type 0} {before between now : List ℕ → Option O} {faults faults_now : ℕ} {said_before said_between said_now line : List ℕ}
+    → (told → (f : List ℕ) → between f ≡ before f) → said_between ≡ said_before
+    → OnlySays told tells_said between now faults faults_now said_between said_now line → OnlySays told tells_said before now faults faults_now said_before said_now line
+says_since {tells_said = tells_said} {faults = faults} {faults_now = faults_now} {said_now = said_now} {line = line} folders silent only = record {
+  says = subst (λ (s : List ℕ). SaysLine tells_said faults faults_now s said_now line) silent only.says;
+  folders = λ t f. only.folders t f ∙ folders t f;
+}
 
 -- the place refused a schema or a folder, and then the line of that was said
-pub place_failed : {X : Type 0} (old start mid new : ℕ) (memory : Type 0) → start ≡ old → Rose start mid ⊎ ((mid ≡ start) × memory) → ((before : ℕ) → Rose before mid → Rose before new) → (memory → ⊥) → Rose old new ⊎ X
-place_failed old start mid new memory same (inl rose) counted other = inl (subst (λ n. Rose n new) same (counted start rose))
-place_failed old start mid new memory same (inr (_, h)) counted other = absurd (other h)
+pub refuses : {O : Type 0} (told tells_said memory : Type 0) (before between now : List ℕ → Option O) (faults start count faults_now : ℕ) (said_before said_between said_now line whole : List ℕ)
+    → start ≡ faults → Rose start count ⊎ ((count ≡ start) × memory) → (memory → ⊥) → (told → (f : List ℕ) → between f ≡ before f) → said_between ≡ said_before → line ≡ whole
+    → OnlySays told tells_said between now count faults_now said_between said_now line → Refuses told tells_said before now faults faults_now said_before said_now whole
+refuses told tells_said memory before between now faults start count faults_now said_before said_between said_now line whole same (inl rose) other folders silent is only =
+    record { count = count; refused = subst (λ (n : ℕ). Rose n count) same rose; only = says_since folders silent (says_this is only) }
+refuses told tells_said memory before between now faults start count faults_now said_before said_between said_now line whole same (inr (_, m)) other folders silent is only = absurd (other m)
 
-pub place_memory : {X : Type 0} (old start mid new : ℕ) (memory told : Type 0) (before between now : List ℕ) → start ≡ old → Rose start mid ⊎ ((mid ≡ start) × memory) → ((before : ℕ) → Rose before mid → Rose before new)
-    → between ≡ before → Rose mid new ⊎ (told → now ≡ between ++ memory_line ++ 10 ∷ []) → Rose old new ⊎ ((told → now ≡ before ++ memory_line ++ 10 ∷ []) ⊎ X)
-place_memory old start mid new memory told before between now same (inl rose) counted silent said = inl (subst (λ n. Rose n new) same (counted start rose))
-place_memory old start mid new memory told before between now same (inr (quiet, _)) counted silent (inl rose) = inl (subst (λ n. Rose n new) (quiet ∙ same) rose)
-place_memory old start mid new memory told before between now same (inr (quiet, _)) counted silent (inr said) = inr (inl (λ t. said t ∙ ap (λ (s : List ℕ). s ++ memory_line ++ 10 ∷ []) silent))
+-- memory was wanted for a schema or a folder, or for the line of its refusal
+pub wants : {O X : Type 0} (told tells_said memory : Type 0) (before between now : List ℕ → Option O) (faults start count faults_now : ℕ) (said_before said_between said_now line : List ℕ)
+    → start ≡ faults → Rose start count ⊎ ((count ≡ start) × memory) → (told → (f : List ℕ) → between f ≡ before f) → said_between ≡ said_before
+    → OnlySays told tells_said between now count faults_now said_between said_now line
+    → OnlySays told tells_said before now faults faults_now said_before said_now line ⊎ (Refuses told tells_said before now faults faults_now said_before said_now line ⊎ X)
+wants told tells_said memory before between now faults start count faults_now said_before said_between said_now line same (inl rose) folders silent only =
+    inr (inl (record { count = count; refused = subst (λ (n : ℕ). Rose n count) same rose; only = says_since folders silent only }))
+wants told tells_said memory before between now faults start count faults_now said_before said_between said_now line same (inr (quiet, _)) folders silent only =
+    inl (subst (λ (n : ℕ). OnlySays told tells_said before now n faults_now said_before said_now line) (quiet ∙ same) (says_since folders silent only))
 
--- the directory was given back with a report, or the place refused to say the line
-pub after_report : {A X : Type 0} (old mid new : ℕ) → mid ≡ old → Rose mid new ⊎ A → (A → X) → Rose old new ⊎ X
-after_report old mid new same (inl rose) f = inl (subst (λ n. Rose n new) same rose)
-after_report old mid new same (inr a) f = inr (f a)
+-- a report, told of from an earlier moment at which nothing more had been said and refused
+pub reports_since : {O : Type 0} {tells tells_heard : Type 0} {reads : O → Reads} {heard : O → Heard} {faults moment : O → ℕ} {told tells_said : Type 0} {stopped : O} {kept_now : Option O} {start count faults_now : ℕ} {said_before said_between said_now line : List ℕ}
+    → count ≡ start → said_between ≡ said_before → Reports tells tells_heard reads heard faults moment told tells_said stopped kept_now count faults_now said_between said_now line
+    → Reports tells tells_heard reads heard faults moment told tells_said stopped kept_now start faults_now said_before said_now line
+reports_since {O} {tells} {tells_heard} {reads} {heard} {faults} {moment} {told} {tells_said} {stopped} {kept_now} {start} {count} {faults_now} {said_before} {said_between} {said_now} {line} same silent r =
+    subst (λ (s : List ℕ). Reports tells tells_heard reads heard faults moment told tells_said stopped kept_now start faults_now s said_now line) silent
+    (subst (λ (n : ℕ). Reports tells tells_heard reads heard faults moment told tells_said stopped kept_now n faults_now said_between said_now line) same r)
 
--- a line that was to be said: it was, or a part of it was
-pub says_line : {T E : Type 0} (r : Result T E) (told : Type 0) (before now line whole : List ℕ) → line ≡ whole → (told → OnOk r (now ≡ before ++ line ++ 10 ∷ [])) → (told → OnErr r (SaysPart before now line)) → told → SaysLine before now whole
-says_line (Ok x) told before now line whole is f g t = subst (λ l. SaysLine before now l) is (inl (f t))
-says_line (Err e) told before now line whole is f g t = subst (λ l. SaysLine before now l) is (inr (g t))
+pub not_done : (n : ℕ) → (n ≡ 1) ⊎ (n ≡ 3) → n ≡ 0 → ⊥
+not_done n (inl one) none = omega arith
+not_done n (inr three) none = omega arith
+
+pub had : {A : Type 0} (there : Option A) (it : A) → there ≡ Some it → IsSome there
+had None it e = absurd cc
+had (Some x) it e = refl
 
 -- three words of which the first is `replay`
 pub are_replay : {A : Type 0} (text : A → List ℕ) (words : List A) (a b c : A) (first folder path : List ℕ) → 3 ≤ length words → length words < 4 → a ≡ get_or words 0 a → b ≡ get_or words 1 b → c ≡ get_or words 2 c

@@ -12,7 +12,7 @@ use Rattle.tv_model.specs.Script.{lines_of, Fits, AreLines}
 use Rattle.tv_replay.specs.declared.next_event.ScriptError.{ScriptError}
 use Rattle.tv_replay.specs.declared.next_event.ScriptError.TheVariants as script
 use Rattle.tv_replay.specs.Kept.{Kept, Holds}
-use Rattle.tv_replay.specs.Replays.{line_refusal}
+use Rattle.tv_replay.specs.Replays.{line_refusal, long_refusal}
 use Rattle.tv_replay.specs.StoreCauses.{WriteFault, IsRefusal}
 use Rattle.tv_replay.specs.Telling.{TellsLines}
 
@@ -37,23 +37,11 @@ RunCause refusal too_many refused quiet (errors.IoError fault) = IsDevice fault 
 RunCause refusal too_many refused quiet (errors.OpenWriteError error) = WriteFault refused error
 RunCause refusal too_many refused quiet errors.Exhausted = quiet × too_many
 RunCause refusal too_many refused quiet errors.Memory = quiet
-RunCause refusal too_many refused quiet (errors.OpenDirectoryError error) = ⊥
-RunCause refusal too_many refused quiet (errors.OpenReadError error) = ⊥
-RunCause refusal too_many refused quiet errors.IndexAlreadyExists = ⊥
-RunCause refusal too_many refused quiet (errors.LockFailure error text) = ⊥
-RunCause refusal too_many refused quiet (errors.DataCorruption error) = ⊥
-RunCause refusal too_many refused quiet errors.Poisoned = ⊥
-RunCause refusal too_many refused quiet (errors.FieldNotFound text) = ⊥
-RunCause refusal too_many refused quiet (errors.ErrorInThread text) = ⊥
-RunCause refusal too_many refused quiet (errors.IndexBuilderMissingArgument text) = ⊥
-RunCause refusal too_many refused quiet (errors.SchemaError text) = ⊥
-RunCause refusal too_many refused quiet (errors.SystemError text) = ⊥
-RunCause refusal too_many refused quiet (errors.IncompatibleIndex why) = ⊥
-RunCause refusal too_many refused quiet (errors.InternalError text) = ⊥
-RunCause refusal too_many refused quiet (errors.IdInUse text) = ⊥
+RunCause refusal too_many refused quiet other = ⊥
 
 -- the error that a line of this number makes, or want of memory for its text
 abbrev pub IsErrorOf : ScriptError → ℕ → TantivyError → Type 0
 IsErrorOf script.Memory number error = error ≡ errors.Memory
 IsErrorOf (script.Fault fault) number error = error ≡ errors.IoError fault
 IsErrorOf script.NotAnEvent number error = IsRefusal (line_refusal number) error
+IsErrorOf script.TooLong number error = IsRefusal (long_refusal number) error

@@ -12,3 +12,5 @@ pub mod ErrorLines
 pub mod Runs
 pub mod BenchPlace
 pub mod Applying
+pub mod Choosing
+pub mod Completeness

@@ -11,7 +11,7 @@ use Rattle.tv_model.specs.Index.{DirectoryHolds, IsSound, OpensTo, HasNoIndex, f
 use Rattle.tv_base.specs.Causes.{IsDevice}
 use Rattle.tv_base.specs.declared.error.TantivyError.{TantivyError}
 use Rattle.tv_base.specs.declared.error.TantivyError.TheVariants as errors
-use Rattle.tv_replay.specs.ScriptLines.{IsNoEvent}
+use Rattle.tv_replay.specs.ScriptLines.{IsNoEvent, IsTooLong}
 use Rattle.tv_replay.specs.StoreCauses.{OpeningRefusal, WriteFault}
 use Rattle.tv_replay.specs.Telling.{TellsLines}
 
@@ -36,14 +36,20 @@ pub record StopsAt (script : List ℕ) (number : ℕ) (rest : List ℕ) : Type 0
   pub place : length texts + 1 ≡ number
   pub split : lines_of script ≡ texts ++ lines_of rest
 
--- the text of what is said of a line that is no event's
+-- what is said of a line that is no event's, and of one that is longer than a line may be
 abbrev pub line_refusal : ℕ → List ℕ
 line_refusal number = codes "line " ++ decimal number ++ codes " is not of the event grammar"
 
--- the text names the first line that is no event's, where the script is told
+abbrev pub long_refusal : ℕ → List ℕ
+long_refusal number = codes "line " ++ decimal number ++ codes " is longer than 1048576 bytes"
+
+-- the text names the first line that is refused, where the script is told: one that is too long, or else one that is no event's
 abbrev pub LineRefusal : Option (List ℕ) → List ℕ → Type 0
 LineRefusal script text =
-    (number : ℕ) × (text ≡ line_refusal number) × ((whole : List ℕ) → script ≡ Some whole → (rest : List ℕ) × StopsAt whole number rest × IsNoEvent rest)
+    (number : ℕ) × (
+    (text ≡ line_refusal number) × ((whole : List ℕ) → script ≡ Some whole → (rest : List ℕ) × StopsAt whole number rest × IsNoEvent rest)
+    ⊎ (text ≡ long_refusal number) × ((whole : List ℕ) → script ≡ Some whole → (rest : List ℕ) × StopsAt whole number rest × IsTooLong rest)
+    )
 
 -- the script goes on after the last line that is taken
 abbrev pub IsTooMany : Option (List ℕ) → Type 0
@@ -57,17 +63,4 @@ ReplayCause tells schema reads script refused quiet (errors.IoError fault) = (is
 ReplayCause tells schema reads script refused quiet (errors.OpenWriteError error) = (is_schema schema ≡ true) × (tells → HasNoIndex reads) × WriteFault refused error
 ReplayCause tells schema reads script refused quiet errors.Exhausted = quiet × (is_schema schema ≡ true) × (tells → HasNoIndex reads) × IsTooMany script
 ReplayCause tells schema reads script refused quiet errors.Memory = quiet
-ReplayCause tells schema reads script refused quiet (errors.OpenDirectoryError error) = ⊥
-ReplayCause tells schema reads script refused quiet (errors.OpenReadError error) = ⊥
-ReplayCause tells schema reads script refused quiet errors.IndexAlreadyExists = ⊥
-ReplayCause tells schema reads script refused quiet (errors.LockFailure error text) = ⊥
-ReplayCause tells schema reads script refused quiet (errors.DataCorruption error) = ⊥
-ReplayCause tells schema reads script refused quiet errors.Poisoned = ⊥
-ReplayCause tells schema reads script refused quiet (errors.FieldNotFound text) = ⊥
-ReplayCause tells schema reads script refused quiet (errors.ErrorInThread text) = ⊥
-ReplayCause tells schema reads script refused quiet (errors.IndexBuilderMissingArgument text) = ⊥
-ReplayCause tells schema reads script refused quiet (errors.SchemaError text) = ⊥
-ReplayCause tells schema reads script refused quiet (errors.SystemError text) = ⊥
-ReplayCause tells schema reads script refused quiet (errors.IncompatibleIndex why) = ⊥
-ReplayCause tells schema reads script refused quiet (errors.InternalError text) = ⊥
-ReplayCause tells schema reads script refused quiet (errors.IdInUse text) = ⊥
+ReplayCause tells schema reads script refused quiet other = ⊥

@@ -14,3 +14,4 @@ abbrev pub ScriptCause : (refused quiet : Type 0) → ScriptError → Type 0
 ScriptCause refused quiet script.Memory = quiet
 ScriptCause refused quiet (script.Fault fault) = IsDevice fault × refused
 ScriptCause refused quiet script.NotAnEvent = quiet
+ScriptCause refused quiet script.TooLong = quiet

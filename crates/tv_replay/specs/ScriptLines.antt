@@ -1,5 +1,5 @@
 -- A script that comes in pieces, and what is taken from its front.
-use Rattle.std.specs.Prelude.{ℕ, ◌≡◌, ◌<◌, Bool, true, false, List, [], ◌∷◌, ◌++◌, length, Option, Some, None, option_map}
+use Rattle.std.specs.Prelude.{ℕ, ◌≡◌, ◌<◌, ◌≤◌, Bool, true, false, List, [], ◌∷◌, ◌++◌, length, Option, Some, None, option_map}
 use Rattle.tv_model.specs.declared.event.Event.{Event}
 use Rattle.tv_model.specs.declared.event.Event.TheVariants as events
 use Rattle.tv_model.specs.Lines.{has_no_feed}
@@ -37,10 +37,10 @@ TakesEvent script (Some event) left =
     (text : List ℕ) × (rest : List ℕ) × (left ≡ Some rest) × (lines_of script ≡ text ∷ lines_of rest) × IsLine text event
 TakesEvent script None left = (script ≡ []) × (left ≡ Some [])
 
--- the first line of a script is no event's
+-- the first line of a script is no longer than a line may be, and no event's
 abbrev pub IsNoEvent : List ℕ → Type 0
 IsNoEvent script =
-    (text : List ℕ) × (texts : List (List ℕ)) × (lines_of script ≡ text ∷ texts) × ((event : Event) → IsLine text event → ⊥)
+    (text : List ℕ) × (texts : List (List ℕ)) × (lines_of script ≡ text ∷ texts) × (length text ≤ line_limit) × ((event : Event) → IsLine text event → ⊥)
 
 -- how many bytes an event adds to a file
 abbrev pub written_by : Event → ℕ

@@ -1,5 +1,5 @@
 -- Why a store answers an error.
-use Rattle.std.specs.Prelude.{◌≡◌, ◌⊎◌, ◌<◌, ◌≤◌, ◌^◌, ◌+◌, ℕ, List, true, false, codes, IsSome, string_bytes}
+use Rattle.std.specs.Prelude.{◌≡◌, ◌⊎◌, ℕ, List, true, false, codes, IsSome, string_bytes}
 use Rattle.tv_model.specs.Names.{list_name, meta_name}
 use Rattle.tv_model.specs.Files.{Reads}
 use Rattle.tv_model.specs.Commits.{is_schema}
@@ -11,9 +11,7 @@ use Rattle.tv_base.specs.declared.error.TantivyError.TheVariants as errors
 
 abbrev pub WriteFault : (refused : Type 0) → OpenWriteError → Type 0
 WriteFault refused (write.IoError fault path) = IsDevice fault × refused
-WriteFault refused (write.FileAlreadyExists path) = ⊥
-WriteFault refused (write.Leaving path) = ⊥
-WriteFault refused write.Memory = ⊥
+WriteFault refused other = ⊥
 
 -- An event fails only where the device refused a call, where memory was wanted, or where a file would pass 64 bits of bytes.
 abbrev pub EventCause : (refused quiet spent : Type 0) → TantivyError → Type 0
@@ -21,21 +19,7 @@ EventCause refused quiet spent (errors.IoError fault) = IsDevice fault × refuse
 EventCause refused quiet spent (errors.OpenWriteError error) = WriteFault refused error
 EventCause refused quiet spent errors.Exhausted = quiet × spent
 EventCause refused quiet spent errors.Memory = quiet
-EventCause refused quiet spent (errors.OpenDirectoryError error) = ⊥
-EventCause refused quiet spent (errors.OpenReadError error) = ⊥
-EventCause refused quiet spent errors.IndexAlreadyExists = ⊥
-EventCause refused quiet spent (errors.LockFailure error text) = ⊥
-EventCause refused quiet spent (errors.DataCorruption error) = ⊥
-EventCause refused quiet spent errors.Poisoned = ⊥
-EventCause refused quiet spent (errors.FieldNotFound text) = ⊥
-EventCause refused quiet spent (errors.InvalidArgument text) = ⊥
-EventCause refused quiet spent (errors.ErrorInThread text) = ⊥
-EventCause refused quiet spent (errors.IndexBuilderMissingArgument text) = ⊥
-EventCause refused quiet spent (errors.SchemaError text) = ⊥
-EventCause refused quiet spent (errors.SystemError text) = ⊥
-EventCause refused quiet spent (errors.IncompatibleIndex why) = ⊥
-EventCause refused quiet spent (errors.InternalError text) = ⊥
-EventCause refused quiet spent (errors.IdInUse text) = ⊥
+EventCause refused quiet spent other = ⊥
 
 -- it isn't the error of a file that was to be made
 abbrev pub MakesNoFile : TantivyError → Type 0
@@ -63,42 +47,11 @@ OpeningRefusal tells schema reads text =
 abbrev pub IsRefusal : List ℕ → TantivyError → Type 0
 IsRefusal text (errors.InvalidArgument t) = string_bytes t ≡ text
 IsRefusal text errors.Memory = Unit {0}
-IsRefusal text (errors.OpenDirectoryError e) = ⊥
-IsRefusal text (errors.OpenReadError e) = ⊥
-IsRefusal text (errors.OpenWriteError e) = ⊥
-IsRefusal text errors.IndexAlreadyExists = ⊥
-IsRefusal text (errors.LockFailure e t) = ⊥
-IsRefusal text (errors.IoError f) = ⊥
-IsRefusal text (errors.DataCorruption e) = ⊥
-IsRefusal text errors.Poisoned = ⊥
-IsRefusal text (errors.FieldNotFound t) = ⊥
-IsRefusal text (errors.ErrorInThread t) = ⊥
-IsRefusal text (errors.IndexBuilderMissingArgument t) = ⊥
-IsRefusal text (errors.SchemaError t) = ⊥
-IsRefusal text (errors.SystemError t) = ⊥
-IsRefusal text (errors.IncompatibleIndex w) = ⊥
-IsRefusal text (errors.InternalError t) = ⊥
-IsRefusal text (errors.IdInUse t) = ⊥
-IsRefusal text errors.Exhausted = ⊥
+IsRefusal text other = ⊥
 
 -- why an opening fails
 abbrev pub OpeningCause : (tells : Type 0) → (schema : List ℕ) → Reads → (refused quiet : Type 0) → TantivyError → Type 0
 OpeningCause tells schema reads refused quiet (errors.InvalidArgument text) = quiet × OpeningRefusal tells schema reads (string_bytes text)
 OpeningCause tells schema reads refused quiet (errors.IoError fault) = (is_schema schema ≡ true) × IsDevice fault × refused
 OpeningCause tells schema reads refused quiet errors.Memory = quiet
-OpeningCause tells schema reads refused quiet errors.Exhausted = ⊥
-OpeningCause tells schema reads refused quiet (errors.OpenWriteError error) = ⊥
-OpeningCause tells schema reads refused quiet (errors.OpenDirectoryError error) = ⊥
-OpeningCause tells schema reads refused quiet (errors.OpenReadError error) = ⊥
-OpeningCause tells schema reads refused quiet errors.IndexAlreadyExists = ⊥
-OpeningCause tells schema reads refused quiet (errors.LockFailure error text) = ⊥
-OpeningCause tells schema reads refused quiet (errors.DataCorruption error) = ⊥
-OpeningCause tells schema reads refused quiet errors.Poisoned = ⊥
-OpeningCause tells schema reads refused quiet (errors.FieldNotFound text) = ⊥
-OpeningCause tells schema reads refused quiet (errors.ErrorInThread text) = ⊥
-OpeningCause tells schema reads refused quiet (errors.IndexBuilderMissingArgument text) = ⊥
-OpeningCause tells schema reads refused quiet (errors.SchemaError text) = ⊥
-OpeningCause tells schema reads refused quiet (errors.SystemError text) = ⊥
-OpeningCause tells schema reads refused quiet (errors.IncompatibleIndex why) = ⊥
-OpeningCause tells schema reads refused quiet (errors.InternalError text) = ⊥
-OpeningCause tells schema reads refused quiet (errors.IdInUse text) = ⊥
+OpeningCause tells schema reads refused quiet other = ⊥

@@ -1,20 +1,21 @@
 //! The event that commits.
-ghost use Rattle.std.specs.Prelude.{◌≡◌, ◌≤◌, ◌<◌, ◌+◌, ◌++◌, [], ◌∷◌, ℕ, length, map, codes, not, is_none, find, fold, option_map, IfOk, IfErr, IfSome, OnOk};
-ghost use Rattle.std.specs.List.{AllByRecursion};
+ghost use Rattle.std.specs.Prelude.{◌≡◌, ◌≤◌, ◌<◌, ◌+◌, ◌++◌, [], ◌∷◌, ℕ, length, map, codes, not, ◌&&◌, nat_lt, is_none, find, option_map, IfOk, IfErr, IfSome, OnOk};
+ghost use Rattle.std.specs.List.{AllByRecursion, filter};
 ghost use Rattle.std.specs.Str.{IsUtf8};
 ghost use Rattle.std.specs.Fmt.{decimal};
 ghost use Rattle.std.specs.BTreeSet.{insert_key};
 ghost use Rattle.hex.specs.Hex.{encode_lower};
-ghost use Rattle.tv_model.specs.Names.{byte_cmp, list_name, meta_name};
+ghost use Rattle.tv_model.specs.Names.{byte_cmp, has, list_name, meta_name};
 ghost use Rattle.tv_model.specs.Files.{Rose, Same};
 ghost use Rattle.tv_model.specs.State.{State, at, file_at};
 ghost use Rattle.tv_model.specs.Lines.{line};
 ghost use Rattle.tv_model.specs.Listing.{Lists};
-ghost use Rattle.tv_model.specs.Segments.{name_of, all_required, required_names};
-ghost use Rattle.tv_model.specs.CommitEvents.{commit_step, commit_sealed, first_unsealed, with_living, is_sealed};
+ghost use Rattle.tv_model.specs.Segments.{name_of, num_docs, all_required, required_names};
+ghost use Rattle.tv_model.specs.CommitEvents.{commit_step, commit_sealed, first_unsealed, is_sealed};
 ghost use Rattle.tv_model.specs.Commits.{IsSegment, IsCommit};
 ghost use Rattle.tv_model.specs.Index.{IsFileOf};
 ghost use Rattle.tv_managed.specs.Managed.{KeepsOtherFiles};
+ghost use Rattle.tv_replay.specs.Choosing.{with_living};
 ghost use Rattle.tv_replay.specs.Kept.{Holds, AtMost};
 ghost use Rattle.tv_replay.specs.StoreCauses.{EventCause};
 
@@ -148,8 +149,10 @@ fn chosen(
     live: &BTreeMap<SegmentId, LiveSegment>,
     ids: &[SegmentId],
 ) -> Result<BTreeMap<SegmentId, LiveSegment>, Memory>
-    ensures { IfOk result (λ segments. segments.entries ≡ fold (λ segments id. with_living segments id (at live.now.entries id)) [] ids.now) }
+    ensures { IfOk result (λ segments. segments.entries ≡ filter (λ e. has ids.now e.0 && nat_lt 0 (num_docs e.1)) live.now.entries) }
 {
+    // A contract learns from the length that the live ids stand in their order.
+    let _count = live.len();
     let mut segments = BTreeMap::new(alloc);
     for id in ids {
         put_living(&mut segments, *id, live.get(id).copied())?;

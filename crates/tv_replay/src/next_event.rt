@@ -2,7 +2,7 @@
 ghost use Rattle.std.specs.Prelude.{◌≡◌, ◌≤◌, List, ℕ, Some, IfOk, OnOk, IfErr, IfSome, IsErrOf};
 ghost use Rattle.tv_model.specs.Files.{Rose};
 ghost use Rattle.tv_model.specs.Script.{line_limit, Fits};
-ghost use Rattle.tv_replay.specs.ScriptLines.{pending, TakesEvent, IsNoEvent, written_by};
+ghost use Rattle.tv_replay.specs.ScriptLines.{pending, TakesEvent, IsNoEvent, IsTooLong, written_by};
 ghost use Rattle.tv_replay.specs.ScriptCauses.{ScriptCause};
 
 use crate::held::Held;
@@ -21,6 +21,8 @@ pub(crate) enum ScriptError {
     Fault(IoFault),
     /// The next line is no event's.
     NotAnEvent,
+    /// The next line is longer than a line may be.
+    TooLong,
 }
 
 impl From<Memory> for ScriptError {
@@ -45,6 +47,7 @@ pub(crate) fn next_event<S: Source>(
     // So are its fields within their ranges.
     ensures fits { IfOk result (λ found. IfSome found Fits) }
     ensures refused { IsErrOf result ScriptError.NotAnEvent → (script : List ℕ) → pending held.old (S.left source.old) ≡ Some script → IsNoEvent script }
+    ensures too_long { IsErrOf result ScriptError.TooLong → (script : List ℕ) → pending held.old (S.left source.old) ≡ Some script → IsTooLong script }
     ensures quiet { OnOk result (S.faults source.new ≡ S.faults source.old) }
     ensures cause { IfErr result (ScriptCause (Rose (S.faults source.old) (S.faults source.new)) (S.faults source.new ≡ S.faults source.old)) }
 {
@@ -53,8 +56,7 @@ pub(crate) fn next_event<S: Source>(
         Ok(None) => return Ok(None),
         Err(LineError::Memory) => return Err(ScriptError::Memory),
         Err(LineError::Fault(fault)) => return Err(ScriptError::Fault(fault)),
-        // No event has such a line.
-        Err(LineError::TooLong) => return Err(ScriptError::NotAnEvent),
+        Err(LineError::TooLong) => return Err(ScriptError::TooLong),
     };
     match parse_event(alloc, line.as_slice())? {
         Some(event) => Ok(Some(event)),

@@ -77,6 +77,7 @@ pub trait Place {
         ensures given { tells → IfOk result (λ outside. kept self.old folder.now ≡ Some outside) }
         ensures lent { OnOk result (lent self.new ≡ Some folder.now) }
         ensures free { OnErr result (lent self.new ≡ None) }
+        ensures folders { tells → OnErr result ((f : List ℕ) → kept self.new f ≡ kept self.old f) }
         ensures quiet { OnOk result (faults self.new ≡ faults self.old) }
         ensures cause { IfErr result (LendCause (Rose (faults self.old) (faults self.new)) (faults self.new ≡ faults self.old)) }
         ensures said { said self.new ≡ said self.old };

@@ -1,10 +1,11 @@
 //! The top call of the program.
-ghost use Rattle.std.specs.Prelude.{◌≡◌, ◌≢◌, ◌⊎◌, ◌++◌, [], ◌∷◌, ◌↔◌, List, ℕ, None, IsSome, Some, true, map, string_bytes};
+ghost use Rattle.std.specs.Prelude.{◌≡◌, ◌≢◌, ◌⊎◌, ◌↔◌, List, ℕ, None, IsSome, Some, true, false, map, string_bytes};
 ghost use Rattle.tv_base.specs.declared.error.TantivyError.TheVariants as errors;
-ghost use Rattle.tv_model.specs.Files.{Rose, Same};
+ghost use Rattle.tv_model.specs.Files.{Same};
 ghost use Rattle.tv_model.specs.Lines.{has_no_feed};
+ghost use Rattle.tv_directory.specs.Telling.{TellsPart};
 ghost use Rattle.tv_replay.specs.ErrorLines.{error_line};
-ghost use Rattle.tv_replay.specs.Runs.{replay_words, usage_line, memory_line, SaysLine, Succeeds, Fails, Wants, Reports};
+ghost use Rattle.tv_replay.specs.Runs.{replay_words, usage_line, memory_line, OnlySays, Ends, Reports};
 ghost use Rattle.tv_replay.specs.Telling.{TellsLine};
 
 use crate::error_line::error_line;
@@ -25,7 +26,8 @@ const MEMORY_LINE: &[u8] = b"error memory";
 /// wanted.
 ///
 /// So far the words are `replay FOLDER SCHEMA`: the script is replayed over the folder, with the
-/// schema of the path. After an error its line is told to the folder's owner, or said.
+/// schema of the path. After an error its line is told to the folder's owner, or said: one line, or a
+/// part of it where the place refuses that too.
 pub fn run<P: Place, R: Source>(
     alloc: Global,
     words: &[String],
@@ -36,22 +38,13 @@ pub fn run<P: Place, R: Source>(
     requires paths { (folder path : List ℕ) → map string_bytes words.now ≡ replay_words folder path → P.is_folder_path folder × P.is_schema_path path }
     ensures free { P.lent place.new ≡ None }
     ensures usage { (result ≡ 2) ↔ ((folder path : List ℕ) → map string_bytes words.now ≢ replay_words folder path) }
-    ensures usage_line { P.tells_said → result ≡ 2 → SaysLine (P.said place.old) (P.said place.new) usage_line }
-    // The whole script was replayed.
-    ensures done { (folder path : List ℕ) → map string_bytes words.now ≡ replay_words folder path → result ≡ 0
-        → Succeeds P.Out.tells P.Out.tells_heard P.Out.reads P.Out.heard P.Out.faults P.Out.moment P.tells (P.kept place.old folder) (P.kept place.new folder) (P.schemas place.old path) (R.left script.old) (R.left script.new) (R.faults script.old) (R.faults script.new) }
+    ensures usage_line { result ≡ 2 → OnlySays P.tells P.tells_said (P.kept place.old) (P.kept place.new) (P.faults place.old) (P.faults place.new) (P.said place.old) (P.said place.new) usage_line }
+    // What was replayed, told and said.
+    ensures ends { (folder path : List ℕ) → map string_bytes words.now ≡ replay_words folder path
+        → Ends P.Out.tells P.Out.tells_heard P.Out.reads P.Out.heard P.Out.faults P.Out.moment P.tells P.tells_said (P.kept place.old) (P.kept place.new) folder (P.schemas place.old path) (R.left script.old) (R.left script.new) (R.faults script.old) (R.faults script.new) (P.faults place.old) (P.faults place.new) (P.said place.old) (P.said place.new) result }
+    // After the whole script nothing was said, and the place refused no call.
     ensures nothing_said { result ≡ 0 → P.said place.new ≡ P.said place.old }
-    // The place refused no call.
     ensures quiet { result ≡ 0 → P.faults place.new ≡ P.faults place.old }
-    // An error for its cause, or the place refused a call.
-    ensures failed { (folder path : List ℕ) → map string_bytes words.now ≡ replay_words folder path → result ≡ 1
-        → Rose (P.faults place.old) (P.faults place.new)
-        ⊎ Fails P.Out.tells P.Out.tells_heard P.Out.reads P.Out.heard P.Out.faults P.Out.moment P.tells (P.kept place.old folder) (P.kept place.new folder) (P.schemas place.old path) (R.left script.old) (R.faults script.old) (R.faults script.new) P.tells_said (P.said place.old) (P.said place.new) }
-    // Memory was wanted, which was told or said, or the place refused a call.
-    ensures memory { (folder path : List ℕ) → map string_bytes words.now ≡ replay_words folder path → result ≡ 3
-        → Rose (P.faults place.old) (P.faults place.new)
-        ⊎ (P.tells_said → P.said place.new ≡ P.said place.old ++ memory_line ++ 10 ∷ [])
-        ⊎ Wants P.Out.tells P.Out.tells_heard P.Out.reads P.Out.heard P.Out.faults P.Out.moment P.tells (P.kept place.old folder) (P.kept place.new folder) (P.schemas place.old path) (R.left script.old) (R.faults script.old) (R.faults script.new) P.tells_said (P.said place.old) (P.said place.new) }
     ensures statuses { (result ≡ 0) ⊎ (result ≡ 1) ⊎ (result ≡ 2) ⊎ (result ≡ 3) }
 {
     match words {
@@ -59,7 +52,7 @@ pub fn run<P: Place, R: Source>(
             run_replay(alloc, folder.as_str(), path.as_str(), place, script)
         }
         _ => {
-            let _refused = place.say(USAGE.as_bytes());
+            say_line(place, USAGE.as_bytes());
             2
         }
     }
@@ -77,15 +70,9 @@ fn run_replay<P: Place, R: Source>(
     requires folder { P.is_folder_path folder.now }
     requires path { P.is_schema_path path.now }
     ensures free { P.lent place.new ≡ None }
-    ensures done { result ≡ 0 → Succeeds P.Out.tells P.Out.tells_heard P.Out.reads P.Out.heard P.Out.faults P.Out.moment P.tells (P.kept place.old folder.now) (P.kept place.new folder.now) (P.schemas place.old path.now) (R.left script.old) (R.left script.new) (R.faults script.old) (R.faults script.new) }
+    ensures ends { Ends P.Out.tells P.Out.tells_heard P.Out.reads P.Out.heard P.Out.faults P.Out.moment P.tells P.tells_said (P.kept place.old) (P.kept place.new) folder.now (P.schemas place.old path.now) (R.left script.old) (R.left script.new) (R.faults script.old) (R.faults script.new) (P.faults place.old) (P.faults place.new) (P.said place.old) (P.said place.new) result }
     ensures nothing_said { result ≡ 0 → P.said place.new ≡ P.said place.old }
     ensures quiet { result ≡ 0 → P.faults place.new ≡ P.faults place.old }
-    ensures failed { result ≡ 1 → Rose (P.faults place.old) (P.faults place.new)
-        ⊎ Fails P.Out.tells P.Out.tells_heard P.Out.reads P.Out.heard P.Out.faults P.Out.moment P.tells (P.kept place.old folder.now) (P.kept place.new folder.now) (P.schemas place.old path.now) (R.left script.old) (R.faults script.old) (R.faults script.new) P.tells_said (P.said place.old) (P.said place.new) }
-    ensures memory { result ≡ 3 → Rose (P.faults place.old) (P.faults place.new)
-        ⊎ (P.tells_said → P.said place.new ≡ P.said place.old ++ memory_line ++ 10 ∷ [])
-        ⊎ Wants P.Out.tells P.Out.tells_heard P.Out.reads P.Out.heard P.Out.faults P.Out.moment P.tells (P.kept place.old folder.now) (P.kept place.new folder.now) (P.schemas place.old path.now) (R.left script.old) (R.faults script.old) (R.faults script.new) P.tells_said (P.said place.old) (P.said place.new) }
-    ensures statuses { (result ≡ 0) ⊎ (result ≡ 1) ⊎ (result ≡ 3) }
 {
     let schema = match place.schema(path) {
         Ok(schema) => schema,
@@ -93,7 +80,7 @@ fn run_replay<P: Place, R: Source>(
     };
     let outside = match place.lend(folder) {
         Ok(outside) => outside,
-        Err(error) => return say_error(alloc, place, TantivyError::from(error)),
+        Err(refusal) => return say_error(alloc, place, TantivyError::from(refusal)),
     };
     let Replayed { outside, outcome } = replay(alloc, outside, schema.as_slice(), script);
     match outcome {
@@ -105,22 +92,29 @@ fn run_replay<P: Place, R: Source>(
     }
 }
 
+// Says a line.
+#[tactic(auto, using(crate::proofs::Runs::only_says))]
+fn say_line<P: Place>(place: &mut P, line: &[u8])
+    ensures lent { P.lent place.new ≡ P.lent place.old }
+    ensures says { OnlySays P.tells P.tells_said (P.kept place.old) (P.kept place.new) (P.faults place.old) (P.faults place.new) (P.said place.old) (P.said place.new) line.now }
+{
+    let _refused = place.say(line);
+}
+
 // Says the line of an error, and answers its status.
 fn say_error<P: Place>(alloc: Global, place: &mut P, error: TantivyError) -> u8
     ensures lent { P.lent place.new ≡ P.lent place.old }
-    // A refusal that was counted before is counted still.
-    ensures counted { (before : ℕ) → Rose before (P.faults place.old) → Rose before (P.faults place.new) }
-    ensures other { result ≡ 1 → error ≢ errors.Memory }
-    ensures memory { result ≡ 3 → Rose (P.faults place.old) (P.faults place.new) ⊎ (P.tells_said → P.said place.new ≡ P.said place.old ++ memory_line ++ 10 ∷ []) }
+    ensures other { result ≡ 1 → (error ≢ errors.Memory) × OnlySays P.tells P.tells_said (P.kept place.old) (P.kept place.new) (P.faults place.old) (P.faults place.new) (P.said place.old) (P.said place.new) (error_line error) }
+    ensures memory { result ≡ 3 → OnlySays P.tells P.tells_said (P.kept place.old) (P.kept place.new) (P.faults place.old) (P.faults place.new) (P.said place.old) (P.said place.new) memory_line }
     ensures statuses { (result ≡ 1) ⊎ (result ≡ 3) }
 {
     match error_line(alloc, &error) {
         Ok(line) => {
-            let _refused = place.say(line.as_slice());
+            say_line(place, line.as_slice());
             status_of(&error)
         }
         Err(_) => {
-            let _refused = place.say(MEMORY_LINE);
+            say_line(place, MEMORY_LINE);
             3
         }
     }
@@ -147,11 +141,8 @@ fn give_back_after<P: Place>(
     requires lent { IsSome (P.lent place.old) }
     requires feed { has_no_feed (error_line error) ≡ true }
     ensures free { P.lent place.new ≡ None }
-    ensures other { result ≡ 1 → error ≢ errors.Memory }
-    ensures failed { (folder : List ℕ) → P.lent place.old ≡ Some folder → result ≡ 1 → Rose (P.faults place.old) (P.faults place.new)
-        ⊎ Reports P.Out.tells P.Out.tells_heard P.Out.reads P.Out.heard P.Out.faults P.Out.moment P.tells outside (P.kept place.new folder) (error_line error) P.tells_said (P.said place.old) (P.said place.new) }
-    ensures memory { (folder : List ℕ) → P.lent place.old ≡ Some folder → result ≡ 3 → Rose (P.faults place.old) (P.faults place.new)
-        ⊎ Reports P.Out.tells P.Out.tells_heard P.Out.reads P.Out.heard P.Out.faults P.Out.moment P.tells outside (P.kept place.new folder) memory_line P.tells_said (P.said place.old) (P.said place.new) }
+    ensures other { (folder : List ℕ) → P.lent place.old ≡ Some folder → result ≡ 1 → (error ≢ errors.Memory) × Reports P.Out.tells P.Out.tells_heard P.Out.reads P.Out.heard P.Out.faults P.Out.moment P.tells P.tells_said outside (P.kept place.new folder) (P.faults place.old) (P.faults place.new) (P.said place.old) (P.said place.new) (error_line error) }
+    ensures memory { (folder : List ℕ) → P.lent place.old ≡ Some folder → result ≡ 3 → Reports P.Out.tells P.Out.tells_heard P.Out.reads P.Out.heard P.Out.faults P.Out.moment P.tells P.tells_said outside (P.kept place.new folder) (P.faults place.old) (P.faults place.new) (P.said place.old) (P.said place.new) memory_line }
     ensures statuses { (result ≡ 1) ⊎ (result ≡ 3) }
 {
     match error_line(alloc, &error) {
@@ -172,8 +163,7 @@ fn report<P: Place>(place: &mut P, outside: P::Out, line: &[u8])
     requires lent { IsSome (P.lent place.old) }
     requires feed { has_no_feed line.now ≡ true }
     ensures free { P.lent place.new ≡ None }
-    ensures reports { (folder : List ℕ) → P.lent place.old ≡ Some folder → Rose (P.faults place.old) (P.faults place.new)
-        ⊎ Reports P.Out.tells P.Out.tells_heard P.Out.reads P.Out.heard P.Out.faults P.Out.moment P.tells outside (P.kept place.new folder) line.now P.tells_said (P.said place.old) (P.said place.new) }
+    ensures reports { (folder : List ℕ) → P.lent place.old ≡ Some folder → Reports P.Out.tells P.Out.tells_heard P.Out.reads P.Out.heard P.Out.faults P.Out.moment P.tells P.tells_said outside (P.kept place.new folder) (P.faults place.old) (P.faults place.new) (P.said place.old) (P.said place.new) line.now }
 {
     let mut outside = outside;
     let told = tell_line(&mut outside, line);
@@ -181,13 +171,14 @@ fn report<P: Place>(place: &mut P, outside: P::Out, line: &[u8])
     if told {
         return;
     }
-    let _refused = place.say(line);
+    say_line(place, line);
 }
 
 // Tells a line, where there is room for it and it isn't refused.
 fn tell_line<O: Outside>(outside: &mut O, line: &[u8]) -> bool
     requires { has_no_feed line.now ≡ true }
     ensures told { O.tells_heard → result ≡ true → TellsLine (O.heard outside.old) (O.heard outside.new) (O.moment outside.old) (O.moment outside.new) line.now }
+    ensures part { O.tells_heard → result ≡ false → (told_at : ℕ) × TellsPart (O.heard outside.old) (O.heard outside.new) told_at line.now }
     ensures content { O.tells → Same (O.reads outside.old) (O.reads outside.new) }
 {
     match outside.ready(line.len()) {

@@ -1,10 +1,12 @@
 //! A script replayed over a directory.
 ghost use Rattle.std.specs.Prelude.{◌≡◌, ◌≢◌, ◌⊎◌, ℕ, List, [], Some, None, true, IfOk, IfErr, OnOk, string_bytes};
 ghost use Rattle.tv_model.specs.Files.{Rose};
+ghost use Rattle.tv_replay.specs.Completeness.{IsReady};
 ghost use Rattle.tv_replay.specs.Kept.{AtMost};
 ghost use Rattle.tv_replay.specs.ScriptLines.{pending, TakesEvent};
-ghost use Rattle.tv_replay.specs.Replays.{Replays, ReplayCause, LineRefusal, IsTooMany, line_refusal};
+ghost use Rattle.tv_replay.specs.Replays.{Replays, ReplayCause, LineRefusal, IsTooMany, line_refusal, long_refusal};
 ghost use Rattle.tv_replay.specs.Applying.{Runs, RunCause, IsErrorOf};
+ghost use Rattle.tv_replay.specs.StoreCauses.{IsRefusal};
 
 use crate::held::Held;
 use crate::next_event::{ScriptError, next_event};
@@ -42,6 +44,8 @@ pub fn replay<O: Outside, R: Source>(
     ensures quiet { OnOk result.outcome ((O.faults result.outside ≡ O.faults outside) × (R.faults script.new ≡ R.faults script.old)) }
     // Why it answers an error.
     ensures cause { IfErr result.outcome (ReplayCause O.tells schema.now (O.reads outside) (R.left script.old) (Rose (O.faults outside) (O.faults result.outside) ⊎ Rose (R.faults script.old) (R.faults script.new)) ((O.faults result.outside ≡ O.faults outside) × (R.faults script.new ≡ R.faults script.old))) }
+    // Where it is told a valid schema, a valid script and a sound start without an index, and no call is refused, it comes to its end, or wants memory.
+    ensures complete { O.tells → IsReady schema.now (R.left script.old) (O.reads outside) → (Rose (O.faults outside) (O.faults result.outside) ⊎ Rose (R.faults script.old) (R.faults script.new) → ⊥) → IfErr result.outcome (λ error. error ≡ TantivyError.Memory) }
 {
     let mut store = match IndexStore::open(alloc, outside, schema) {
         Ok(store) => store,
@@ -95,6 +99,7 @@ fn end_of<R: Source>(alloc: Global, script: &mut R, held: &mut Held) -> Result<T
         Ok(None) => Ok(Tally { events: u32::MAX }),
         Ok(Some(_)) => Err(TantivyError::Exhausted),
         Err(ScriptError::NotAnEvent) => Err(TantivyError::Exhausted),
+        Err(ScriptError::TooLong) => Err(TantivyError::Exhausted),
         Err(ScriptError::Memory) => Err(TantivyError::Memory),
         Err(ScriptError::Fault(fault)) => Err(TantivyError::IoError(fault)),
     }
@@ -107,10 +112,18 @@ fn script_error(alloc: Global, error: ScriptError, number: u32) -> TantivyError
     match error {
         ScriptError::Memory => TantivyError::Memory,
         ScriptError::Fault(fault) => TantivyError::IoError(fault),
-        ScriptError::NotAnEvent => match refusal_of(alloc, number) {
-            Ok(text) => TantivyError::InvalidArgument(text),
-            Err(_) => TantivyError::Memory,
-        },
+        ScriptError::NotAnEvent => argument_error(refusal_of(alloc, number)),
+        ScriptError::TooLong => argument_error(long_refusal_of(alloc, number)),
+    }
+}
+
+// An argument that is refused with this text, or want of memory for the text.
+fn argument_error(text: Result<String, AllocError>) -> TantivyError
+    ensures { (refusal : List ℕ) → IfOk text (λ text. string_bytes text ≡ refusal) → IsRefusal refusal result }
+{
+    match text {
+        Ok(text) => TantivyError::InvalidArgument(text),
+        Err(_) => TantivyError::Memory,
     }
 }
 
@@ -119,4 +132,11 @@ fn refusal_of(alloc: Global, number: u32) -> Result<String, AllocError>
     ensures { IfOk result (λ text. string_bytes text ≡ line_refusal number) }
 {
     format!(in alloc; "line {number} is not of the event grammar")
+}
+
+// What is said of a line that is longer than a line may be.
+fn long_refusal_of(alloc: Global, number: u32) -> Result<String, AllocError>
+    ensures { IfOk result (λ text. string_bytes text ≡ long_refusal number) }
+{
+    format!(in alloc; "line {number} is longer than 1048576 bytes")
 }

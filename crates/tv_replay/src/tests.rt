@@ -279,9 +279,9 @@ fn reads_ask_for_little(rt: HostRuntime) -> Result<(), Fail> {
             1_048_532,
             "Managed\nFastFields 524266\nManaged\nend",
         ),
-        ("fast", 1_048_534, "Managed\nNotAnEvent"),
-        ("idx", 1_048_534, "Managed\nNotAnEvent"),
-        ("idx", 3_000_000, "Managed\nNotAnEvent"),
+        ("fast", 1_048_534, "Managed\nTooLong"),
+        ("idx", 1_048_534, "Managed\nTooLong"),
+        ("idx", 3_000_000, "Managed\nTooLong"),
     ] {
         let mut script = Vec::new(rt.alloc());
         script.extend_from_slice(b"managed\n")?;

@@ -1,8 +1,11 @@
-use Rattle.std.proofs.Common.{◌≡◌, ◌<◌, [], length, sym, ap, ◌∙◌, arith}
+use Rattle.std.proofs.Common.{◌≡◌, ◌<◌, length, sym, ap, ◌∙◌, arith}
 use Rattle.tv_model.specs.State.{at}
-use Rattle.tv_model.specs.CommitEvents.{with_living}
-use Rattle.tv_replay.proofs.CommitEvents.{fold_further}
+use Rattle.tv_replay.specs.Choosing.{with_living}
+use Rattle.tv_replay.proofs.Chosen.{chosen_further, none_chosen}
 use Rattle.tv_replay.proofs.commit_events.chosen.Goals as goal
+
+pub loop-id-init : goal.loop-id-init
+loop-id-init c = c.new-segments.ensures.empty ∙ sym (none_chosen c.args.live.now.entries)
 
 pub loop-id-preserved : goal.loop-id-preserved
 loop-id-preserved c =
@@ -13,4 +16,4 @@ loop-id-preserved c =
     c.in_ok-put_living.ensures
     ∙ ap (λ segment. with_living c.loop-id.segments.entries id segment) found
     ∙ ap (λ segments. with_living segments id (at live id)) c.loop-id.invariant
-    ∙ sym (fold_further (λ segments id. with_living segments id (at live id)) [] c.args.ids.now c.loop-id.id-index id within c.id-item.is)
+    ∙ chosen_further live c.args.ids.now c.loop-id.id-index id c.len-count.ensures.ordered within c.id-item.is

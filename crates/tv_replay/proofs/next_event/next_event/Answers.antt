@@ -1,6 +1,6 @@
-use Rattle.std.proofs.Common.{◌≡◌, sym, ◌∙◌, List, ℕ, Option, Some, None}
+use Rattle.std.proofs.Common.{◌≡◌, ◌≤◌, sym, ◌∙◌, arith, List, length, ℕ, Option, Some, None, vec_len}
 use Rattle.tv_model.specs.declared.event.Event.{Event}
-use Rattle.tv_model.specs.Script.{lines_of, Fits, IsLine}
+use Rattle.tv_model.specs.Script.{line_limit, lines_of, Fits, IsLine}
 use Rattle.tv_replay.proofs.Limits.{written_fits}
 use Rattle.tv_replay.proofs.next_event.next_event.Goals as goal
 
@@ -20,10 +20,13 @@ returns-in-Some-clause-event g c script told =
 pub returns-clause-refused : goal.returns-clause-refused
 returns-clause-refused g c _ script told =
     let taken = rw c.in-Ok-Some.field-0-is at c.in-Ok-Some.ensures.line in
-    let t = taken script told in (
+    let t = taken script told in
+    let short : vec_len c.in-Ok-Some.line ≤ line_limit = rw c.in-Ok-Some.field-0-is at c.in-Ok-Some.ensures.within in
+    let most : length c.in-Ok-Some.line.items ≤ line_limit = omega (arith, short, c.in-Ok-Some.line.ok.0) in (
       c.in-Ok-Some.line.items,
       lines_of t.0,
       t.2,
+      most,
       λ e line. not_both c.in-None.is (c.in_ok-event.ensures.only e (rw c.as_slice.ensures.value line)),
     )
 

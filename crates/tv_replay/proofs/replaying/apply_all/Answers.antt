@@ -6,7 +6,7 @@ use Rattle.tv_replay.specs.declared.next_event.ScriptError.{ScriptError}
 use Rattle.tv_replay.specs.Kept.{AtMost}
 use Rattle.tv_replay.specs.ScriptLines.{pending, written_by}
 use Rattle.tv_replay.specs.Replays.{LineRefusal, IsTooMany}
-use Rattle.tv_replay.proofs.Applying.{starts, goes_on, ends, stops_at_line, stops_at_last, one_more_line, never_spent, event_cause, script_cause, end_cause, rose_from}
+use Rattle.tv_replay.proofs.Applying.{starts, goes_on, ends, stops_at_line, stops_at_long, stops_at_last, one_more_line, never_spent, event_cause, script_cause, end_cause, rose_from}
 use Rattle.tv_replay.proofs.replaying.apply_all.Goals as goal
 
 pub loop-events-init : goal.loop-events-init
@@ -35,6 +35,7 @@ returns-in-Err-clause-cause g c =
     c.in-Err.error (c.loop-events.events + 1) c.script_error.result c.script_error.ensures c.in-Err.ensures.cause
     (λ rose. inr (rose_from _ _ _ before rose)) (λ quiet. (c.loop-events.invariant.outside_quiet, quiet ∙ before))
     (λ is. stops_at_line _ _ _ _ _ _ _ _ _ _ c.loop-events.events _ c.loop-events.invariant.run (c.in-Err.ensures.refused (ap (λ (e : ScriptError). Err e) is)) refl)
+    (λ is. stops_at_long _ _ _ _ _ _ _ _ _ _ c.loop-events.events _ c.loop-events.invariant.run (c.in-Err.ensures.too_long (ap (λ (e : ScriptError). Err e) is)) refl)
 
 pub returns-in_err-_answer-clause-cause : goal.returns-in_err-_answer-clause-cause
 returns-in_err-_answer-clause-cause g c =

@@ -1,7 +1,9 @@
-use Rattle.std.proofs.Common.{◌≡◌, ◌⊎◌, refl, ◌∙◌, inl}
+use Rattle.std.proofs.Common.{◌≡◌, ◌⊎◌, Err, refl, ◌∙◌, inl}
 use Rattle.std.proofs.lemmas.Result.{IfOk-weaker, IfErr-weaker}
 use Rattle.tv_model.specs.Files.{Rose}
+use Rattle.tv_replay.specs.declared.replaying.Tally.{Tally}
 use Rattle.tv_replay.proofs.Applying.{replays, opening_cause, run_cause, either_rose}
+use Rattle.tv_replay.proofs.Complete.{comes_to_its_end}
 use Rattle.tv_replay.proofs.replaying.replay.Goals as goal
 
 pub returns-in-Err-clause-cause : goal.returns-in-Err-clause-cause
@@ -12,6 +14,10 @@ returns-in-Err-clause-cause g c =
     opening_cause g.O.Directory.tells c.args.schema.now (g.O.Directory.reads c.args.outside) (g.R.Source.left c.args.script.now)
     (Rose (devices c.args.outside) (devices back)) (devices back ≡ devices c.args.outside) (Rose (devices c.args.outside) (devices back) ⊎ Rose reads reads) ((devices back ≡ devices c.args.outside) × (reads ≡ reads))
     c.in-Err.field-0.error c.in-Err.ensures.cause (λ rose. inl rose) (λ quiet. (quiet, refl))
+
+pub returns-in-Err-clause-complete : goal.returns-in-Err-clause-complete
+returns-in-Err-clause-complete g c t ready none =
+    comes_to_its_end {A = Tally} g.O.Directory.tells c.args.schema.now (g.O.Directory.reads c.args.outside) (g.R.Source.left c.args.script.now) _ _ (Err c.in-Err.field-0.error) t ready none (returns-in-Err-clause-cause g c)
 
 pub returns-clause-cause : goal.returns-clause-cause
 returns-clause-cause g c =
@@ -37,3 +43,7 @@ returns-clause-done g c =
     (IfOk-weaker c.apply_all-outcome.result _ _
     (λ tally runs. replays _ _ c.args.schema.now _ _ _ _ _ _ _ _ _ _ _ _ tally.events opened.schema opened.none opened.«open».1 opened.holds opened.told runs)
     c.apply_all-outcome.ensures.done)
+
+pub returns-clause-complete : goal.returns-clause-complete
+returns-clause-complete g c t ready none =
+    comes_to_its_end g.O.Directory.tells c.args.schema.now (g.O.Directory.reads c.args.outside) (g.R.Source.left c.args.script.now) _ _ c.apply_all-outcome.result t ready none (returns-clause-cause g c)
