@@ -8,6 +8,8 @@ use Rattle.tv_base.specs.declared.open_errors.OpenReadError.{OpenReadError}
 use Rattle.tv_base.specs.declared.open_errors.OpenReadError.TheVariants as read
 use Rattle.tv_base.specs.declared.open_errors.OpenWriteError.{OpenWriteError}
 use Rattle.tv_base.specs.declared.open_errors.OpenWriteError.TheVariants as write
+use Rattle.tv_base.specs.declared.open_errors.DeleteError.{DeleteError}
+use Rattle.tv_base.specs.declared.open_errors.DeleteError.TheVariants as delete
 
 -- the device refused a call
 abbrev pub IsDevice : IoFault → Type 0
@@ -31,3 +33,9 @@ OpenWriteCause there refused quiet (write.FileAlreadyExists path) = there
 OpenWriteCause there refused quiet (write.Leaving path) = ⊥
 OpenWriteCause there refused quiet (write.IoError fault path) = IsDevice fault × refused
 OpenWriteCause there refused quiet write.Memory = quiet
+
+-- the same of a call that deletes a file: `absent` where there is no such file
+abbrev pub DeleteCause : (absent refused quiet : Type 0) → DeleteError → Type 0
+DeleteCause absent refused quiet (delete.FileDoesNotExist path) = absent
+DeleteCause absent refused quiet (delete.IoError fault path) = IsDevice fault × refused
+DeleteCause absent refused quiet delete.Memory = quiet

@@ -167,19 +167,34 @@ mod tests {
     }
 
     #[test]
-    fn those_in_progress(rt: HostRuntime) -> Result<(), Fail> {
+    fn one_whose_sender_is_gone(rt: HostRuntime) -> Result<(), Fail> {
         let a = rt.alloc();
         let (future, sender) = FutureResult::<u8>::create(a, "failed")?;
         drop(sender);
         let failed = TantivyError::SystemError(String::from_str(a, "failed")?);
         assert_eq!(rt; future.wait(&rt), Err(failed));
-        let (future, sender) = FutureResult::<u8>::create(a, "failed")?;
+        Ok(())
+    }
+
+    #[test]
+    fn one_that_is_sent(rt: HostRuntime) -> Result<(), Fail> {
+        let (future, sender) = FutureResult::<u8>::create(rt.alloc(), "failed")?;
         assert!(rt; sender.send(Ok(2)).is_ok());
         assert_eq!(rt; future.wait(&rt), Ok(2));
-        let (future, sender) = FutureResult::<u8>::create(a, "failed")?;
+        Ok(())
+    }
+
+    #[test]
+    fn one_that_is_sent_an_error(rt: HostRuntime) -> Result<(), Fail> {
+        let (future, sender) = FutureResult::<u8>::create(rt.alloc(), "failed")?;
         assert!(rt; sender.send(Err(TantivyError::Poisoned)).is_ok());
         assert_eq!(rt; future.wait(&rt), Err(TantivyError::Poisoned));
-        let (future, sender) = FutureResult::<u8>::create(a, "failed")?;
+        Ok(())
+    }
+
+    #[test]
+    fn one_that_nobody_waits_for(rt: HostRuntime) -> Result<(), Fail> {
+        let (future, sender) = FutureResult::<u8>::create(rt.alloc(), "failed")?;
         drop(future);
         assert_eq!(rt; sender.send(Ok(2)), Err(Ok(2)));
         Ok(())

@@ -113,21 +113,29 @@ mod tests {
         sink.put(bytes)
     }
 
+    // Whether a put was refused by the device, with no text.
+    fn is_refused(answer: Result<(), IoFault>) -> bool {
+        match answer {
+            Ok(()) => false,
+            Err(fault) => fault.kind == IoKind::Device && fault.text.is_empty(),
+        }
+    }
+
     #[test]
     fn what_has_no_room_is_refused(rt: HostRuntime) -> Result<(), Fail> {
         let mut sink = VecSink::new(rt.alloc(), 5)?;
-        let refused = IoFault {
-            kind: IoKind::Device,
-            text: String::new(rt.alloc()),
-        };
-        assert!(rt; put(&mut sink, b"abc").is_ok());
-        assert_eq!(rt; put(&mut sink, b"def").as_ref(), Err(&refused));
-        assert_eq!(rt; sink.as_slice(), b"abc".as_slice());
-        assert!(rt; put(&mut sink, b"de").is_ok());
-        assert!(rt; put(&mut sink, b"").is_ok());
-        assert_eq!(rt; put(&mut sink, b"f").as_ref(), Err(&refused));
-        assert_eq!(rt; sink.as_slice(), b"abcde".as_slice());
-        assert_eq!(rt; sink.faults(), 2);
+        let rows: [(&[u8], bool, &[u8], u64); 5] = [
+            (b"abc", false, b"abc", 0),
+            (b"def", true, b"abc", 1),
+            (b"de", false, b"abcde", 1),
+            (b"", false, b"abcde", 1),
+            (b"f", true, b"abcde", 2),
+        ];
+        for (bytes, refused, taken, faults) in rows {
+            assert_eq!(rt; is_refused(put(&mut sink, bytes)), refused);
+            assert_eq!(rt; sink.as_slice(), taken);
+            assert_eq!(rt; sink.faults(), faults);
+        }
         Ok(())
     }
 }

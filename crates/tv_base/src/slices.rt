@@ -140,27 +140,38 @@ impl FileSlice {
 #[cfg(test)]
 mod tests {
     use super::*;
+    use std::process::Abort;
     use std::test::Fail;
+
+    // Looks whether a part of a file is these bytes.
+    fn check(rt: &impl Abort, part: &FileSlice, want: &[u8]) -> Result<(), Fail> {
+        assert_eq!(rt; part.len(), want.len());
+        let bytes = part.read_bytes()?;
+        assert_eq!(rt; bytes.share()?.as_slice(), want);
+        assert_eq!(rt; bytes.len(), want.len());
+        Ok(())
+    }
 
     #[test]
     fn parts_of_a_file(rt: HostRuntime) -> Result<(), Fail> {
         let file = FileSlice::new(OwnedBytes::new(b"abcd".to_vec(rt.alloc())?)?);
-        let rows: [(FileSlice, &[u8]); 7] = [
-            (file.slice(1..3)?, b"bc"),
-            (file.slice_from(2)?, b"cd"),
-            (file.slice_to(1)?, b"a"),
-            (file.slice_from_end(1)?, b"d"),
-            (file.slice(1..4)?.slice(1..2)?, b"c"),
-            (file.share()?, b"abcd"),
-            (FileSlice::empty(), b""),
-        ];
-        for (part, want) in &rows {
-            assert_eq!(rt; part.len(), want.len());
-            let bytes = part.read_bytes()?;
-            assert_eq!(rt; bytes.share()?.as_slice(), *want);
-            assert_eq!(rt; bytes.len(), want.len());
-        }
+        check(&rt, &file.slice(1..3)?, b"bc")?;
+        check(&rt, &file.slice_from(2)?, b"cd")?;
+        check(&rt, &file.slice_to(1)?, b"a")?;
+        check(&rt, &file.slice_from_end(1)?, b"d")?;
+        check(&rt, &file.share()?, b"abcd")
+    }
+
+    #[test]
+    fn a_part_of_a_part(rt: HostRuntime) -> Result<(), Fail> {
+        let file = FileSlice::new(OwnedBytes::new(b"abcd".to_vec(rt.alloc())?)?);
+        let part = file.slice(1..4)?;
+        check(&rt, &part.slice(1..2)?, b"c")
+    }
+
+    #[test]
+    fn nothing(rt: HostRuntime) -> Result<(), Fail> {
         assert!(rt; OwnedBytes::empty().as_slice().is_empty());
-        Ok(())
+        check(&rt, &FileSlice::empty(), b"")
     }
 }

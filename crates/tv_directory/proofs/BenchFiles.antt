@@ -1,30 +1,53 @@
 -- What a map of files reads after files were put.
-use Rattle.std.proofs.Common.{◌≡◌, ℕ, Bool, true, false, cond, List, [], ◌∷◌, ◌++◌, Option, Some, refl, sym, ap, subst, ◌∙◌, append_assoc, true≢false}
+use Rattle.std.proofs.Common.{◌≡◌, ◌≢◌, ℕ, Bool, true, false, cond, List, [], ◌∷◌, ◌++◌, Option, Some, refl, sym, ap, subst, ◌∙◌, append_assoc, true≢false}
 use Rattle.std.specs.Prelude.{option_map, string_bytes, String, Vec}
 use Rattle.std.proofs.lemmas.List.{reverse-append}
 use Rattle.std.specs.List.{AllByRecursion}
-use Rattle.std.specs.BTreeMap.{is_at, insert_entry}
+use Rattle.std.specs.BTreeMap.{is_at}
 use Rattle.tv_model.specs.Names.{byte_cmp, is_file_name}
 use Rattle.tv_model.specs.State.{at}
 use Rattle.tv_model.specs.Files.{Reads, Same, Sets}
-use Rattle.tv_model.proofs.Entries.{at_itself, text_at, lookup_put}
-use Rattle.tv_directory.specs.declared.bench.BenchFile.{BenchFile}
-use Rattle.tv_directory.specs.Bench.{content, reads_of, named, last_of}
+use Rattle.tv_model.proofs.Entries.{at_itself, text_at}
+use Rattle.tv_directory.specs.declared.bench_files.BenchFile.{BenchFile}
+use Rattle.tv_directory.specs.Bench.{bytes_of, reads_of, number_at, named, last_of}
 
-here : {X Y : Type 0} (f : X → Y) (b : Bool) (x : X) (rest : Option X) → b ≡ true → option_map f (cond b (Some x) rest) ≡ Some (f x)
-here f true x rest e = refl
-here f false x rest e = absurd cc
+-- another name isn't at this one's place
+pub isnt_at : (name n : List ℕ) → n ≢ name → is_at (byte_cmp name) n ≡ false
+isnt_at name n other =
+    elim (is_at (byte_cmp name) n) as (λ b. is_at (byte_cmp name) n ≡ b → b ≡ false) [
+      | true ↦ λ e. absurd (other (sym (text_at name n e)))
+      | false ↦ λ e. refl
+    ] refl
 
-elsewhere : {X : Type 0} (b : Bool) (x : X) (rest : Option X) → (b ≡ true → ⊥) → cond b (Some x) rest ≡ rest
-elsewhere true x rest h = absurd (h refl)
-elsewhere false x rest h = refl
+-- the files of some names, and of one that was given another file or none
+pub record Gives (old new : List (List ℕ × BenchFile)) (name : List ℕ) (file : Option BenchFile) : Type 0 where
+  pub changed : at new name ≡ file
+  pub others : (n : List ℕ) → n ≢ name → at new n ≡ at old n
 
--- the name reads the file that was put, and every other name what it read
-pub sets_by : (old new : List (List ℕ × BenchFile)) (name : List ℕ) (file : BenchFile) → new ≡ insert_entry byte_cmp old name file → Sets (reads_of old) (reads_of new) name (Some (content file))
-sets_by old new name file e = record {
-  changed = rw (e, lookup_put old name name file) (here content (is_at (byte_cmp name) name) file (at old name) (at_itself name));
-  others = λ n other. rw (e, lookup_put old name n file, elsewhere (is_at (byte_cmp name) n) file (at old n) (λ same. other (sym (text_at name n same)))) refl;
+-- what the map's own clause says of a key that was put or taken out
+pub gives_by : (old new : List (List ℕ × BenchFile)) (name : List ℕ) (file : Option BenchFile) → at new name ≡ file → ((n : List ℕ) → is_at (byte_cmp name) n ≡ false → at new n ≡ at old n) → Gives old new name file
+gives_by old new name file changed others = record { changed = changed; others = λ n other. others n (isnt_at name n other) }
+
+pub sets_to : (old new : List (List ℕ × BenchFile)) (name : List ℕ) (file : Option BenchFile) → Gives old new name file → Sets (reads_of old) (reads_of new) name (option_map (λ file. bytes_of file.content) file)
+sets_to old new name file given = record {
+  changed = ap (option_map (λ file. bytes_of file.content)) given.changed;
+  others = λ n other. ap (option_map (λ file. bytes_of file.content)) (given.others n other);
 }
+
+-- whether a name is this one
+same_or : {P : Type 0} (name n : List ℕ) → (n ≡ name → P) → (n ≢ name → P) → P
+same_or {P} name n same other =
+    elim (is_at (byte_cmp name) n) as (λ b. is_at (byte_cmp name) n ≡ b → P) [
+      | true ↦ λ e. same (sym (text_at name n e))
+      | false ↦ λ e. other (λ is. true≢false (sym (at_itself name) ∙ ap (λ (k : List ℕ). is_at (byte_cmp name) k) (sym is) ∙ e))
+    ] refl
+
+-- a file under the number that it had
+pub same_numbers : (old new : List (List ℕ × BenchFile)) (name : List ℕ) (number : ℕ) → number_at old name ≡ Some number → number_at new name ≡ Some number → ((n : List ℕ) → n ≢ name → number_at new n ≡ number_at old n) → (n : List ℕ) → number_at new n ≡ number_at old n
+same_numbers old new name number was now others n =
+    same_or name n
+    (λ same. ap (number_at new) same ∙ now ∙ sym was ∙ ap (number_at old) (sym same))
+    (λ other. others n other)
 
 -- where the last pairs of a list are still to come, the map reads what the others say
 pub record PutsAll {X Y : Type 0} (all rest : List (String X × Vec ℕ Y)) (files : List (List ℕ × BenchFile)) : Type 0 where

@@ -1,3 +1,4 @@
 pub mod Watch
 pub mod Telling
+pub mod Device
 pub mod Bench

@@ -1,16 +1,17 @@
 //! A directory as the layers above see it.
-ghost use Rattle.std.specs.Prelude.{◌≡◌, ◌≢◌, ◌≤◌, ◌++◌, [], List, ℕ, Bool, true, false, Option, Some, None, IsSome, is_some, IfOk, IfErr, OnOk, string_bytes};
+ghost use Rattle.std.specs.Prelude.{◌≡◌, ◌≢◌, ◌≤◌, ◌++◌, [], List, ℕ, Bool, true, false, Option, Some, None, IsSome, is_some, IfOk, IfErr, OnOk, OnErr, string_bytes};
 ghost use Rattle.tv_model.specs.Names.{is_file_name};
 ghost use Rattle.tv_model.specs.Files.{Reads, Same, Sets, MaySet, KeepsOthers, Heard, Rose};
-ghost use Rattle.tv_base.specs.Causes.{IsDevice, IoCause, OpenReadCause, OpenWriteCause};
+ghost use Rattle.tv_base.specs.Causes.{IsDevice, IoCause, OpenReadCause, OpenWriteCause, DeleteCause};
 ghost use Rattle.tv_directory.specs.Watch.{IsNewWriter};
 
 use crate::watch::WatchCall;
-use tv_base::{IoError, IoFault, OpenReadError, OpenWriteError};
+use tv_base::{DeleteError, FileSlice, IoError, IoFault, OpenReadError, OpenWriteError};
 
 /// Files that are written once, under plain or dotted names.
 ///
-/// The device may refuse any call. It then answers a fault of kind `Device`, and a count rises.
+/// The device may refuse any call. It then answers a fault of kind `Device`, and a count rises:
+/// `refusals` for a delete, and `faults` for any other call.
 pub trait Directory {
     /// What writes a file.
     type Writer: Drop;
@@ -33,8 +34,11 @@ pub trait Directory {
     /// How many bytes of a line, its line feed counted, can be told without memory.
     ghost room: { Self → ℕ };
 
-    /// How many calls the device has refused.
+    /// How many calls other than deletes the device has refused.
     ghost faults: { Self → ℕ };
+
+    /// How many deletes the device has refused.
+    ghost refusals: { Self → ℕ };
 
     /// This writer was opened here, and no call on it was refused. No call takes that away.
     ghost opened: { Self → Self.Writer → Bool };
@@ -55,8 +59,27 @@ pub trait Directory {
         ensures content { tells → Same (reads self.old) (reads self.new) }
         ensures quiet { OnOk result (faults self.new ≡ faults self.old) }
         ensures cause { IfErr result (OpenReadCause ⊥ (Rose (faults self.old) (faults self.new)) (faults self.new ≡ faults self.old)) }
+        ensures refusals { refusals self.new ≡ refusals self.old }
         ensures writers { (w : _) → opened self.old w ≡ true → opened self.new w ≡ true }
         ensures alive { (w : _) → lives self.old w ≡ true → lives self.new w ≡ true }
+        ensures ended { (w : _) → opened self.old w ≡ true → lives self.old w ≡ false → lives self.new w ≡ false }
+        ensures clock { moment self.old ≤ moment self.new }
+        ensures heard { heard self.new ≡ heard self.old }
+        ensures room { room self.old ≤ room self.new };
+
+    /// The file that the name reads, whose bytes no later call changes. `FileDoesNotExist` comes where
+    /// the name doesn't read.
+    fn open_read(&mut self, name: &str) -> Result<FileSlice, OpenReadError>
+        requires { is_file_name name.now ≡ true }
+        ensures bytes { tells → IfOk result (λ file. reads self.old name.now ≡ Some file) }
+        ensures absent { tells → IfErr result (OpenReadCause (reads self.old name.now ≡ None) (Unit {0}) (Unit {0})) }
+        ensures content { tells → Same (reads self.old) (reads self.new) }
+        ensures quiet { OnOk result (faults self.new ≡ faults self.old) }
+        ensures cause { IfErr result (OpenReadCause (faults self.new ≡ faults self.old) (Rose (faults self.old) (faults self.new)) (faults self.new ≡ faults self.old)) }
+        ensures refusals { refusals self.new ≡ refusals self.old }
+        ensures writers { (w : _) → opened self.old w ≡ true → opened self.new w ≡ true }
+        ensures alive { (w : _) → lives self.old w ≡ true → lives self.new w ≡ true }
+        ensures ended { (w : _) → opened self.old w ≡ true → lives self.old w ≡ false → lives self.new w ≡ false }
         ensures clock { moment self.old ≤ moment self.new }
         ensures heard { heard self.new ≡ heard self.old }
         ensures room { room self.old ≤ room self.new };
@@ -70,8 +93,10 @@ pub trait Directory {
         ensures err { tells → IfErr result (OpenWriteCause (IsSome (reads self.old name.now) × Same (reads self.old) (reads self.new)) (MaySet (reads self.old) (reads self.new) name.now (Some [])) (Same (reads self.old) (reads self.new))) }
         ensures quiet { OnOk result (faults self.new ≡ faults self.old) }
         ensures cause { IfErr result (OpenWriteCause (faults self.new ≡ faults self.old) (Rose (faults self.old) (faults self.new)) (faults self.new ≡ faults self.old)) }
+        ensures refusals { refusals self.new ≡ refusals self.old }
         ensures writers { (w : _) → opened self.old w ≡ true → opened self.new w ≡ true }
         ensures alive { (w : _) → lives self.old w ≡ true → lives self.new w ≡ true }
+        ensures ended { (w : _) → opened self.old w ≡ true → lives self.old w ≡ false → lives self.new w ≡ false }
         ensures clock { moment self.old ≤ moment self.new }
         ensures heard { heard self.new ≡ heard self.old }
         ensures room { room self.old ≤ room self.new };
@@ -83,13 +108,16 @@ pub trait Directory {
         ensures err { IfErr result (IoCause (Unit {0}) ((written writer.new ≡ written writer.old) × (opened self.new writer.new ≡ true))) }
         ensures name { name_of writer.new ≡ name_of writer.old }
         ensures lives { lives self.old writer.old ≡ true → lives self.new writer.new ≡ true }
+        ensures lost { lives self.old writer.old ≡ false → lives self.new writer.new ≡ false }
         ensures content { tells → KeepsOthers (reads self.old) (reads self.new) (name_of writer.old) }
         ensures there { tells → lives self.old writer.old ≡ true → IsSome (reads self.new (name_of writer.old)) }
         ensures gone { tells → lives self.old writer.old ≡ false → Same (reads self.old) (reads self.new) }
         ensures quiet { OnOk result (faults self.new ≡ faults self.old) }
         ensures cause { IfErr result (IoCause (Rose (faults self.old) (faults self.new)) (faults self.new ≡ faults self.old)) }
+        ensures refusals { refusals self.new ≡ refusals self.old }
         ensures writers { (w : _) → opened self.old w ≡ true → opened self.new w ≡ true }
         ensures alive { (w : _) → lives self.old w ≡ true → lives self.new w ≡ true }
+        ensures ended { (w : _) → opened self.old w ≡ true → lives self.old w ≡ false → lives self.new w ≡ false }
         ensures clock { moment self.old ≤ moment self.new }
         ensures heard { heard self.new ≡ heard self.old }
         ensures room { room self.old ≤ room self.new };
@@ -102,8 +130,10 @@ pub trait Directory {
         ensures gone { tells → lives self.old writer ≡ false → Same (reads self.old) (reads self.new) }
         ensures quiet { OnOk result (faults self.new ≡ faults self.old) }
         ensures cause { IfErr result (IoCause (Rose (faults self.old) (faults self.new)) (faults self.new ≡ faults self.old)) }
+        ensures refusals { refusals self.new ≡ refusals self.old }
         ensures writers { (w : _) → opened self.old w ≡ true → opened self.new w ≡ true }
         ensures alive { (w : _) → lives self.old w ≡ true → lives self.new w ≡ true }
+        ensures ended { (w : _) → opened self.old w ≡ true → lives self.old w ≡ false → lives self.new w ≡ false }
         ensures clock { moment self.old ≤ moment self.new }
         ensures heard { heard self.new ≡ heard self.old }
         ensures room { room self.old ≤ room self.new };
@@ -116,8 +146,10 @@ pub trait Directory {
         ensures content { tells → Same (reads self.old) (reads self.new) }
         ensures quiet { OnOk result (faults self.new ≡ faults self.old) }
         ensures cause { IfErr result (OpenReadCause (faults self.new ≡ faults self.old) (Rose (faults self.old) (faults self.new)) (faults self.new ≡ faults self.old)) }
+        ensures refusals { refusals self.new ≡ refusals self.old }
         ensures writers { (w : _) → opened self.old w ≡ true → opened self.new w ≡ true }
         ensures alive { (w : _) → lives self.old w ≡ true → lives self.new w ≡ true }
+        ensures ended { (w : _) → opened self.old w ≡ true → lives self.old w ≡ false → lives self.new w ≡ false }
         ensures clock { moment self.old ≤ moment self.new }
         ensures heard { heard self.new ≡ heard self.old }
         ensures room { room self.old ≤ room self.new };
@@ -129,8 +161,31 @@ pub trait Directory {
         ensures err { tells → IfErr result (IoCause (MaySet (reads self.old) (reads self.new) name.now (Some bytes.now)) (Same (reads self.old) (reads self.new))) }
         ensures quiet { OnOk result (faults self.new ≡ faults self.old) }
         ensures cause { IfErr result (IoCause (Rose (faults self.old) (faults self.new)) (faults self.new ≡ faults self.old)) }
+        ensures refusals { refusals self.new ≡ refusals self.old }
         ensures writers { (w : _) → opened self.old w ≡ true → opened self.new w ≡ true }
         ensures alive { (w : _) → lives self.old w ≡ true → lives self.new w ≡ true }
+        ensures ended { (w : _) → opened self.old w ≡ true → lives self.old w ≡ false → lives self.new w ≡ false }
+        ensures clock { moment self.old ≤ moment self.new }
+        ensures heard { heard self.new ≡ heard self.old }
+        ensures room { room self.old ≤ room self.new };
+
+    /// Deletes the file. `FileDoesNotExist` comes where the name doesn't read. Nothing changes where
+    /// it is refused. Its count is one of 64 bits.
+    fn delete(&mut self, name: &str) -> Result<(), DeleteError>
+        requires { is_file_name name.now ≡ true }
+        ensures there { tells → OnOk result (IsSome (reads self.old name.now)) }
+        ensures ok { tells → OnOk result (Sets (reads self.old) (reads self.new) name.now None) }
+        ensures absent { tells → IfErr result (DeleteCause (reads self.old name.now ≡ None) (Unit {0}) (Unit {0})) }
+        ensures err { tells → OnErr result (Same (reads self.old) (reads self.new)) }
+        ensures quiet { OnOk result (refusals self.new ≡ refusals self.old) }
+        ensures cause { IfErr result (DeleteCause (refusals self.new ≡ refusals self.old) (Rose (refusals self.old) (refusals self.new)) (refusals self.new ≡ refusals self.old)) }
+        ensures fits { refusals self.new ≤ 18446744073709551615 }
+        ensures faults { faults self.new ≡ faults self.old }
+        ensures writers { (w : _) → opened self.old w ≡ true → opened self.new w ≡ true }
+        ensures alive { (w : _) → name_of w ≢ name.now → lives self.old w ≡ true → lives self.new w ≡ true }
+        ensures kept { OnErr result ((w : _) → lives self.old w ≡ true → lives self.new w ≡ true) }
+        ensures lost { OnOk result ((w : _) → name_of w ≡ name.now → lives self.new w ≡ false) }
+        ensures ended { (w : _) → opened self.old w ≡ true → lives self.old w ≡ false → lives self.new w ≡ false }
         ensures clock { moment self.old ≤ moment self.new }
         ensures heard { heard self.new ≡ heard self.old }
         ensures room { room self.old ≤ room self.new };
@@ -140,8 +195,10 @@ pub trait Directory {
         ensures content { tells → Same (reads self.old) (reads self.new) }
         ensures quiet { OnOk result (faults self.new ≡ faults self.old) }
         ensures cause { IfErr result (λ fault. IsDevice fault × (string_bytes fault.text ≡ []) × Rose (faults self.old) (faults self.new)) }
+        ensures refusals { refusals self.new ≡ refusals self.old }
         ensures writers { (w : _) → opened self.old w ≡ true → opened self.new w ≡ true }
         ensures alive { (w : _) → lives self.old w ≡ true → lives self.new w ≡ true }
+        ensures ended { (w : _) → opened self.old w ≡ true → lives self.old w ≡ false → lives self.new w ≡ false }
         ensures clock { moment self.old ≤ moment self.new }
         ensures heard { heard self.new ≡ heard self.old }
         ensures room { room self.old ≤ room self.new };

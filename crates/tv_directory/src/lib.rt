@@ -3,6 +3,9 @@
 
 mod bench;
 mod bench_clock;
+mod bench_device;
+mod bench_directory;
+mod bench_files;
 mod bench_told;
 mod directory;
 mod outside;

@@ -1,5 +1,5 @@
 //! A directory whose owner is also told lines.
-ghost use Rattle.std.specs.Prelude.{◌≡◌, ◌≤◌, ◌<◌, ◌++◌, [], ◌∷◌, List, ℕ, true, length, OnOk, OnErr, IfErr};
+ghost use Rattle.std.specs.Prelude.{◌≡◌, ◌≤◌, ◌<◌, ◌++◌, [], ◌∷◌, List, ℕ, true, false, length, OnOk, OnErr, IfErr};
 ghost use Rattle.tv_model.specs.Files.{Same, Rose};
 ghost use Rattle.tv_model.specs.Lines.{has_no_feed};
 ghost use Rattle.tv_base.specs.Causes.{IsDevice};
@@ -19,8 +19,10 @@ pub trait Outside: Directory {
         ensures made { OnOk result (len < Self.room self.new) }
         ensures content { Self.tells → Same (Self.reads self.old) (Self.reads self.new) }
         ensures quiet { Self.faults self.new ≡ Self.faults self.old }
+        ensures refusals { Self.refusals self.new ≡ Self.refusals self.old }
         ensures writers { (w : _) → Self.opened self.old w ≡ true → Self.opened self.new w ≡ true }
         ensures alive { (w : _) → Self.lives self.old w ≡ true → Self.lives self.new w ≡ true }
+        ensures ended { (w : _) → Self.opened self.old w ≡ true → Self.lives self.old w ≡ false → Self.lives self.new w ≡ false }
         ensures clock { Self.moment self.old ≤ Self.moment self.new }
         ensures heard { Self.heard self.new ≡ Self.heard self.old }
         ensures room { Self.room self.old ≤ Self.room self.new };
@@ -35,7 +37,9 @@ pub trait Outside: Directory {
         ensures content { Self.tells → Same (Self.reads self.old) (Self.reads self.new) }
         ensures quiet { OnOk result (Self.faults self.new ≡ Self.faults self.old) }
         ensures cause { IfErr result (λ fault. IsDevice fault × Rose (Self.faults self.old) (Self.faults self.new)) }
+        ensures refusals { Self.refusals self.new ≡ Self.refusals self.old }
         ensures writers { (w : _) → Self.opened self.old w ≡ true → Self.opened self.new w ≡ true }
         ensures alive { (w : _) → Self.lives self.old w ≡ true → Self.lives self.new w ≡ true }
+        ensures ended { (w : _) → Self.opened self.old w ≡ true → Self.lives self.old w ≡ false → Self.lives self.new w ≡ false }
         ensures clock { Self.moment self.old ≤ Self.moment self.new };
 }

@@ -7,7 +7,7 @@ ghost use Rattle.tv_model.specs.Lines.{has_no_feed};
 use crate::{Bench, Directory, NoWatch, Outside};
 use std::alloc::{AllocError, Global};
 use std::test::Fail;
-use tv_base::{OpenReadError, OpenWriteError};
+use tv_base::{DeleteError, IoError, IoFault, IoKind, OpenReadError, OpenWriteError};
 
 type TestBench = Bench<NoWatch>;
 
@@ -49,12 +49,12 @@ fn seal(bench: &mut TestBench, name: &str) -> Result<bool, Fail>
     requires { is_file_name name.now ≡ true }
 {
     let mut writer = bench.open_write(name)?;
-    for piece in [b"one ".as_slice(), b"", b"two"] {
-        bench.write(&mut writer, piece)?;
-    }
-    let is_empty = has(bench, name, b"")?;
+    bench.write(&mut writer, b"one ")?;
+    bench.write(&mut writer, b"")?;
+    bench.write(&mut writer, b"two")?;
+    let unsealed = bench.atomic_read(name)?;
     bench.terminate(writer)?;
-    Ok(is_empty)
+    Ok(unsealed.is_empty())
 }
 
 #[derive(Clone, Copy)]
@@ -216,5 +216,167 @@ fn a_caller_needs_the_bound_alone(rt: HostRuntime) -> Result<(), Fail> {
     assert_eq!(rt; bytes.as_slice(), b"one two".as_slice());
     let heard = bench.heard_lines()?;
     assert_eq!(rt; heard.as_slice(), b"wrote a.idx 7\n".as_slice());
+    Ok(())
+}
+
+#[derive(Clone, Copy)]
+enum Call {
+    Exists,
+    OpenRead,
+    AtomicRead,
+    AtomicWrite,
+    Sync,
+    Delete,
+    Tell,
+}
+
+// Of which kind the fault of a read is.
+fn fault_of_read<T: Drop>(answer: Result<T, OpenReadError>) -> Option<IoKind> {
+    match answer {
+        Err(OpenReadError::IoError { io_error, .. }) => Some(io_error.kind),
+        _ => None,
+    }
+}
+
+// Of which kind the fault of a delete is.
+fn fault_of_delete(answer: Result<(), DeleteError>) -> Option<IoKind> {
+    match answer {
+        Err(DeleteError::IoError { io_error, .. }) => Some(io_error.kind),
+        _ => None,
+    }
+}
+
+// Of which kind the fault of a write is.
+fn fault_of_write(answer: Result<(), IoError>) -> Option<IoKind> {
+    match answer {
+        Err(IoError::Fault(fault)) => Some(fault.kind),
+        _ => None,
+    }
+}
+
+// Of which kind the fault of another call is.
+fn fault_of(answer: Result<(), IoFault>) -> Option<IoKind> {
+    match answer {
+        Err(fault) => Some(fault.kind),
+        Ok(()) => None,
+    }
+}
+
+// Makes one call on a directory that has `a.idx`, and answers of which kind its fault is.
+fn make(bench: &mut TestBench, call: Call) -> Result<Option<IoKind>, Fail> {
+    match call {
+        Call::Exists => Ok(fault_of_read(bench.exists("a.idx"))),
+        Call::OpenRead => Ok(fault_of_read(bench.open_read("a.idx"))),
+        Call::AtomicRead => Ok(fault_of_read(bench.atomic_read("absent"))),
+        Call::AtomicWrite => Ok(fault_of_write(bench.atomic_write("a.idx", b"new"))),
+        Call::Sync => Ok(fault_of(bench.sync_directory())),
+        Call::Delete => Ok(fault_of_delete(bench.delete("absent"))),
+        Call::Tell => {
+            bench.ready(4)?;
+            Ok(fault_of(bench.tell(b"line")))
+        }
+    }
+}
+
+#[test]
+fn the_listed_calls_are_refused(rt: HostRuntime) -> Result<(), Fail> {
+    let alloc = rt.alloc();
+    let mut bench = empty_bench(alloc)?;
+    assert!(rt; seal(&mut bench, "a.idx")?);
+    // The calls of `seal` had the numbers 0 to 5.
+    let mut calls = Vec::new(alloc);
+    for number in [13, 6, 8, 9, 10, 11, 12, 6] {
+        calls.push(number)?;
+    }
+    bench.fail_at(calls);
+    for (call, is_refused, moment) in [
+        (Call::OpenRead, true, 2),
+        (Call::Exists, false, 2),
+        (Call::Exists, true, 2),
+        (Call::AtomicRead, true, 2),
+        (Call::AtomicWrite, true, 3),
+        (Call::Sync, true, 3),
+        (Call::Delete, true, 3),
+        (Call::Tell, true, 3),
+        (Call::OpenRead, false, 3),
+        (Call::Sync, false, 4),
+    ] {
+        assert_eq!(rt;
+            make(&mut bench, call)?.is_some(),
+            is_refused,
+            "before {moment}"
+        );
+        assert_eq!(rt; bench.moment(), moment);
+    }
+    assert_eq!(rt; bench.faults(), 6);
+    assert_eq!(rt; bench.refusals(), 1);
+    assert!(rt; has(&mut bench, "a.idx", b"one two")?);
+    assert!(rt; bench.heard_lines()?.as_slice().is_empty());
+    Ok(())
+}
+
+#[test]
+fn a_refused_write_leaves_the_writer(rt: HostRuntime) -> Result<(), Fail> {
+    let alloc = rt.alloc();
+    let mut bench = empty_bench(alloc)?;
+    let mut calls = Vec::new(alloc);
+    for number in [0, 2, 4] {
+        calls.push(number)?;
+    }
+    bench.fail_at(calls);
+    assert!(rt; bench.open_write("a.idx").is_err());
+    assert_eq!(rt; bench.moment(), 1, "the name may have a file after a crash");
+    let mut writer = bench.open_write("a.idx")?;
+    assert!(rt; bench.write(&mut writer, b"refused").is_err());
+    bench.fail_at(Vec::new(alloc));
+    bench.write(&mut writer, b"written")?;
+    bench.terminate(writer)?;
+    assert!(rt; has(&mut bench, "a.idx", b"written")?);
+    assert_eq!(rt; bench.faults(), 2);
+    Ok(())
+}
+
+#[test]
+fn a_deleted_file_is_gone(rt: HostRuntime) -> Result<(), Fail> {
+    let mut bench = empty_bench(rt.alloc())?;
+    bench.atomic_write("a.idx", b"a")?;
+    bench.atomic_write("b.idx", b"b")?;
+    bench.delete("a.idx")?;
+    assert!(rt; !bench.exists("a.idx")?);
+    assert!(rt; has(&mut bench, "b.idx", b"b")?);
+    match bench.delete("a.idx") {
+        Err(DeleteError::FileDoesNotExist(path)) => assert_eq!(rt; path.as_str(), "a.idx"),
+        _ => panic!(rt; "it is gone"),
+    }
+    assert_eq!(rt; bench.moment(), 3);
+    assert_eq!(rt; bench.refusals(), 0);
+    Ok(())
+}
+
+#[test]
+fn a_writer_leaves_a_file_alone_that_was_made_anew(rt: HostRuntime) -> Result<(), Fail> {
+    let mut bench = empty_bench(rt.alloc())?;
+    let mut first = bench.open_write("a.idx")?;
+    bench.write(&mut first, b"first")?;
+    bench.delete("a.idx")?;
+    let mut second = bench.open_write("a.idx")?;
+    bench.write(&mut first, b" and more")?;
+    bench.write(&mut second, b"second")?;
+    bench.terminate(second)?;
+    bench.terminate(first)?;
+    assert!(rt; has(&mut bench, "a.idx", b"second")?);
+    assert_eq!(rt; bench.moment(), 4, "the last call changed nothing");
+    Ok(())
+}
+
+#[test]
+fn a_file_that_is_read_stays_what_it_was(rt: HostRuntime) -> Result<(), Fail> {
+    let mut bench = empty_bench(rt.alloc())?;
+    assert!(rt; seal(&mut bench, "a.idx")?);
+    let file = bench.open_read("a.idx")?;
+    bench.atomic_write("a.idx", b"new")?;
+    bench.delete("a.idx")?;
+    let bytes = file.read_bytes()?;
+    assert_eq!(rt; bytes.as_slice(), b"one two".as_slice());
     Ok(())
 }

@@ -1,3 +1,6 @@
 pub mod Texts
 pub mod SetsOfTexts
 pub mod Saves
+pub mod Removals
+pub mod Tried
+pub mod Endings

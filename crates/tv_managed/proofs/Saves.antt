@@ -1,5 +1,5 @@
 -- What a save of the list changes.
-use Rattle.std.proofs.Common.{◌≡◌, ◌≢◌, ◌⊎◌, ℕ, Bool, true, false, true≢false, List, refl, sym, ap, subst, ◌∙◌, ⊎_elim, inl, inr, Option, Some, None}
+use Rattle.std.proofs.Common.{◌≡◌, ◌≢◌, ◌⊎◌, ℕ, true, false, true≢false, List, refl, sym, ap, subst, ◌∙◌, ⊎_elim, inl, inr, Option, Some, None}
 use Rattle.std.specs.Prelude.{IsSome}
 use Rattle.std.specs.BTreeSet.{insert_key}
 use Rattle.tv_model.specs.Names.{byte_cmp, is, has, is_undotted, list_name}
@@ -77,3 +77,11 @@ others_of_refused_write old new name value io.Memory h = λ n ne. h n
 -- a call that changes nothing
 pub still_covers : {D : Type 0} (reads : D → Reads) (old new : D) (before after : List (List ℕ)) → Same (reads old) (reads new) → after ≡ before → Covers (reads old list_name) before → Covers (reads new list_name) after
 still_covers reads old new before after same is h = subst (Covers (reads new list_name)) (sym is) (subst (λ r. Covers r before) (sym (same list_name)) h)
+
+-- a list that reads as before has the names that are left
+pub covers_again : (now before : Option (List ℕ)) (names after : List (List ℕ)) → now ≡ before → after ≡ names → Covers before names → Covers now after
+covers_again now before names after same left was = subst (Covers now) (sym left) (subst (λ read. Covers read names) (sym same) was)
+
+-- the list that reads has fewer names too
+pub covers_fewer : (now before : Option (List ℕ)) (names after : List (List ℕ)) → now ≡ before → ((n : List ℕ) → has after n ≡ true → has names n ≡ true) → Covers before names → Covers now after
+covers_fewer now before names after same fewer was = (was.0, subst (λ read. Lists read was.0) (sym same) was.1, λ n h. was.2 n (fewer n h))

@@ -1,2 +1,4 @@
 pub mod Managed
+pub mod Reading
+pub mod Collecting
 pub mod Writers

@@ -1,13 +1,16 @@
 //! A directory that lists the files that it manages before it makes them, and seals each with a footer.
 #![tactic(auto)]
 
+mod collecting;
 mod footer;
 mod list;
 mod managed_directory;
+mod reading;
 mod telling;
 #[cfg(test)]
 mod tests;
 mod writer;
 
+pub use collecting::GarbageCollectionResult;
 pub use managed_directory::{ManagedDirectory, Refused};
 pub use writer::ManagedWriter;

@@ -1,5 +1,5 @@
 //! The file that lists the managed files.
-ghost use Rattle.std.specs.Prelude.{◌≡◌, ◌≤◌, [], ◌∷◌, ◌++◌, true, Some, IfOk, IfErr, OnOk, map, string_bytes, if◌then◌else◌};
+ghost use Rattle.std.specs.Prelude.{◌≡◌, ◌≤◌, [], ◌∷◌, ◌++◌, true, false, Some, IfOk, IfErr, OnOk, map, string_bytes, if◌then◌else◌};
 ghost use Rattle.tv_model.specs.Names.{list_name};
 ghost use Rattle.tv_model.specs.Listing.{list_text, quoted};
 ghost use Rattle.tv_model.specs.Files.{Sets, MaySet, Rose};
@@ -49,8 +49,10 @@ pub(crate) fn save_list<D: Directory>(
     ensures err { D.tells → MaySet (D.reads directory.old) (D.reads directory.new) list_name (Some (list_text (map string_bytes names.now.keys))) }
     ensures quiet { OnOk result (D.faults directory.new ≡ D.faults directory.old) }
     ensures cause { IfErr result (IoCause (Rose (D.faults directory.old) (D.faults directory.new)) (D.faults directory.new ≡ D.faults directory.old)) }
+    ensures refusals { D.refusals directory.new ≡ D.refusals directory.old }
     ensures writers { (w : _) → D.opened directory.old w ≡ true → D.opened directory.new w ≡ true }
     ensures alive { (w : _) → D.lives directory.old w ≡ true → D.lives directory.new w ≡ true }
+    ensures ended { (w : _) → D.opened directory.old w ≡ true → D.lives directory.old w ≡ false → D.lives directory.new w ≡ false }
     ensures clock { D.moment directory.old ≤ D.moment directory.new }
     ensures heard { D.heard directory.new ≡ D.heard directory.old }
     ensures room { D.room directory.old ≤ D.room directory.new }

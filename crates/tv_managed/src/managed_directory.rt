@@ -100,8 +100,10 @@ impl<D: Directory> ManagedDirectory<D> {
         ensures on_list { D.tells → Covers (D.reads self.old.0 list_name) self.old.1 → OnOk result (IsOnList (D.reads self.new.0 list_name) name.now) }
         ensures quiet { OnOk result (D.faults self.new.0 ≡ D.faults self.old.0) }
         ensures cause { IfErr result (IoCause (Rose (D.faults self.old.0) (D.faults self.new.0)) (D.faults self.new.0 ≡ D.faults self.old.0)) }
+        ensures refusals { D.refusals self.new.0 ≡ D.refusals self.old.0 }
         ensures writers { (w : _) → D.opened self.old.0 w ≡ true → D.opened self.new.0 w ≡ true }
         ensures alive { (w : _) → D.lives self.old.0 w ≡ true → D.lives self.new.0 w ≡ true }
+        ensures ended { (w : _) → D.opened self.old.0 w ≡ true → D.lives self.old.0 w ≡ false → D.lives self.new.0 w ≡ false }
         ensures clock { D.moment self.old.0 ≤ D.moment self.new.0 }
         ensures heard { D.heard self.new.0 ≡ D.heard self.old.0 }
         ensures room { D.room self.old.0 ≤ D.room self.new.0 }
@@ -130,8 +132,10 @@ impl<D: Directory> ManagedDirectory<D> {
         ensures names { self.new.1 ≡ self.old.1 }
         ensures quiet { OnOk result (D.faults self.new.0 ≡ D.faults self.old.0) }
         ensures cause { IfErr result (OpenReadCause ⊥ (Rose (D.faults self.old.0) (D.faults self.new.0)) (D.faults self.new.0 ≡ D.faults self.old.0)) }
+        ensures refusals { D.refusals self.new.0 ≡ D.refusals self.old.0 }
         ensures writers { (w : _) → D.opened self.old.0 w ≡ true → D.opened self.new.0 w ≡ true }
         ensures alive { (w : _) → D.lives self.old.0 w ≡ true → D.lives self.new.0 w ≡ true }
+        ensures ended { (w : _) → D.opened self.old.0 w ≡ true → D.lives self.old.0 w ≡ false → D.lives self.new.0 w ≡ false }
         ensures clock { D.moment self.old.0 ≤ D.moment self.new.0 }
         ensures heard { D.heard self.new.0 ≡ D.heard self.old.0 }
         ensures room { D.room self.old.0 ≤ D.room self.new.0 }
@@ -155,8 +159,10 @@ impl<D: Directory> ManagedDirectory<D> {
         ensures listed { D.tells → Covers (D.reads self.old.0 list_name) self.old.1 → ListsNew (D.reads self.old.0) (D.reads self.new.0) }
         ensures quiet { OnOk result (D.faults self.new.0 ≡ D.faults self.old.0) }
         ensures cause { IfErr result (OpenWriteCause (D.faults self.new.0 ≡ D.faults self.old.0) (Rose (D.faults self.old.0) (D.faults self.new.0)) (D.faults self.new.0 ≡ D.faults self.old.0)) }
+        ensures refusals { D.refusals self.new.0 ≡ D.refusals self.old.0 }
         ensures writers { (w : _) → D.opened self.old.0 w ≡ true → D.opened self.new.0 w ≡ true }
         ensures alive { (w : _) → D.lives self.old.0 w ≡ true → D.lives self.new.0 w ≡ true }
+        ensures ended { (w : _) → D.opened self.old.0 w ≡ true → D.lives self.old.0 w ≡ false → D.lives self.new.0 w ≡ false }
         ensures clock { D.moment self.old.0 ≤ D.moment self.new.0 }
         ensures heard { D.heard self.new.0 ≡ D.heard self.old.0 }
         ensures room { D.room self.old.0 ≤ D.room self.new.0 }
@@ -181,8 +187,10 @@ impl<D: Directory> ManagedDirectory<D> {
         ensures names { self.new.1 ≡ self.old.1 }
         ensures quiet { OnOk result (D.faults self.new.0 ≡ D.faults self.old.0) }
         ensures cause { IfErr result (OpenWriteCause ⊥ (Rose (D.faults self.old.0) (D.faults self.new.0)) (D.faults self.new.0 ≡ D.faults self.old.0)) }
+        ensures refusals { D.refusals self.new.0 ≡ D.refusals self.old.0 }
         ensures writers { (w : _) → D.opened self.old.0 w ≡ true → D.opened self.new.0 w ≡ true }
         ensures alive { (w : _) → D.lives self.old.0 w ≡ true → D.lives self.new.0 w ≡ true }
+        ensures ended { (w : _) → D.opened self.old.0 w ≡ true → D.lives self.old.0 w ≡ false → D.lives self.new.0 w ≡ false }
         ensures clock { D.moment self.old.0 ≤ D.moment self.new.0 }
         ensures heard { D.heard self.new.0 ≡ D.heard self.old.0 }
         ensures room { D.room self.old.0 ≤ D.room self.new.0 }
@@ -209,8 +217,10 @@ impl<D: Directory> ManagedDirectory<D> {
         ensures on_list { D.tells → Covers (D.reads self.old.0 list_name) self.old.1 → is_undotted name.now ≡ true → OnOk result (IsOnList (D.reads self.new.0 list_name) name.now) }
         ensures quiet { OnOk result (D.faults self.new.0 ≡ D.faults self.old.0) }
         ensures cause { IfErr result (OpenWriteCause ⊥ (Rose (D.faults self.old.0) (D.faults self.new.0)) (D.faults self.new.0 ≡ D.faults self.old.0)) }
+        ensures refusals { D.refusals self.new.0 ≡ D.refusals self.old.0 }
         ensures writers { (w : _) → D.opened self.old.0 w ≡ true → D.opened self.new.0 w ≡ true }
         ensures alive { (w : _) → D.lives self.old.0 w ≡ true → D.lives self.new.0 w ≡ true }
+        ensures ended { (w : _) → D.opened self.old.0 w ≡ true → D.lives self.old.0 w ≡ false → D.lives self.new.0 w ≡ false }
         ensures clock { D.moment self.old.0 ≤ D.moment self.new.0 }
         ensures heard { D.heard self.new.0 ≡ D.heard self.old.0 }
         ensures room { D.room self.old.0 ≤ D.room self.new.0 }
@@ -235,13 +245,16 @@ impl<D: Directory> ManagedDirectory<D> {
         ensures summed { OnOk result (IsSummed D.written writer.old → IsSummed D.written writer.new) }
         ensures name { D.name_of writer.new.writer ≡ D.name_of writer.old.writer }
         ensures lives { D.lives self.old.0 writer.old.writer ≡ true → D.lives self.new.0 writer.new.writer ≡ true }
+        ensures lost { D.lives self.old.0 writer.old.writer ≡ false → D.lives self.new.0 writer.new.writer ≡ false }
         ensures content { D.tells → KeepsOthers (D.reads self.old.0) (D.reads self.new.0) (D.name_of writer.old.writer) }
         ensures there { D.tells → D.lives self.old.0 writer.old.writer ≡ true → IsSome (D.reads self.new.0 (D.name_of writer.old.writer)) }
         ensures names { self.new.1 ≡ self.old.1 }
         ensures quiet { OnOk result (D.faults self.new.0 ≡ D.faults self.old.0) }
         ensures cause { IfErr result (IoCause (Rose (D.faults self.old.0) (D.faults self.new.0)) (D.faults self.new.0 ≡ D.faults self.old.0)) }
+        ensures refusals { D.refusals self.new.0 ≡ D.refusals self.old.0 }
         ensures writers { (w : _) → D.opened self.old.0 w ≡ true → D.opened self.new.0 w ≡ true }
         ensures alive { (w : _) → D.lives self.old.0 w ≡ true → D.lives self.new.0 w ≡ true }
+        ensures ended { (w : _) → D.opened self.old.0 w ≡ true → D.lives self.old.0 w ≡ false → D.lives self.new.0 w ≡ false }
         ensures clock { D.moment self.old.0 ≤ D.moment self.new.0 }
         ensures heard { D.heard self.new.0 ≡ D.heard self.old.0 }
         ensures room { D.room self.old.0 ≤ D.room self.new.0 }
@@ -260,8 +273,10 @@ impl<D: Directory> ManagedDirectory<D> {
         ensures names { self.new.1 ≡ self.old.1 }
         ensures quiet { OnOk result (D.faults self.new.0 ≡ D.faults self.old.0) }
         ensures cause { IfErr result (IoCause (Rose (D.faults self.old.0) (D.faults self.new.0)) (D.faults self.new.0 ≡ D.faults self.old.0)) }
+        ensures refusals { D.refusals self.new.0 ≡ D.refusals self.old.0 }
         ensures writers { (w : _) → D.opened self.old.0 w ≡ true → D.opened self.new.0 w ≡ true }
         ensures alive { (w : _) → D.lives self.old.0 w ≡ true → D.lives self.new.0 w ≡ true }
+        ensures ended { (w : _) → D.opened self.old.0 w ≡ true → D.lives self.old.0 w ≡ false → D.lives self.new.0 w ≡ false }
         ensures clock { D.moment self.old.0 ≤ D.moment self.new.0 }
         ensures heard { D.heard self.new.0 ≡ D.heard self.old.0 }
         ensures room { D.room self.old.0 ≤ D.room self.new.0 }
@@ -285,8 +300,10 @@ impl<D: Directory> ManagedDirectory<D> {
         ensures names { self.new.1 ≡ self.old.1 }
         ensures quiet { OnOk result (D.faults self.new.0 ≡ D.faults self.old.0) }
         ensures cause { IfErr result (OpenReadCause (D.faults self.new.0 ≡ D.faults self.old.0) (Rose (D.faults self.old.0) (D.faults self.new.0)) (D.faults self.new.0 ≡ D.faults self.old.0)) }
+        ensures refusals { D.refusals self.new.0 ≡ D.refusals self.old.0 }
         ensures writers { (w : _) → D.opened self.old.0 w ≡ true → D.opened self.new.0 w ≡ true }
         ensures alive { (w : _) → D.lives self.old.0 w ≡ true → D.lives self.new.0 w ≡ true }
+        ensures ended { (w : _) → D.opened self.old.0 w ≡ true → D.lives self.old.0 w ≡ false → D.lives self.new.0 w ≡ false }
         ensures clock { D.moment self.old.0 ≤ D.moment self.new.0 }
         ensures heard { D.heard self.new.0 ≡ D.heard self.old.0 }
         ensures room { D.room self.old.0 ≤ D.room self.new.0 }
@@ -307,8 +324,10 @@ impl<D: Directory> ManagedDirectory<D> {
         ensures listed { D.tells → Covers (D.reads self.old.0 list_name) self.old.1 → ListsNew (D.reads self.old.0) (D.reads self.new.0) }
         ensures quiet { OnOk result (D.faults self.new.0 ≡ D.faults self.old.0) }
         ensures cause { IfErr result (IoCause (Rose (D.faults self.old.0) (D.faults self.new.0)) (D.faults self.new.0 ≡ D.faults self.old.0)) }
+        ensures refusals { D.refusals self.new.0 ≡ D.refusals self.old.0 }
         ensures writers { (w : _) → D.opened self.old.0 w ≡ true → D.opened self.new.0 w ≡ true }
         ensures alive { (w : _) → D.lives self.old.0 w ≡ true → D.lives self.new.0 w ≡ true }
+        ensures ended { (w : _) → D.opened self.old.0 w ≡ true → D.lives self.old.0 w ≡ false → D.lives self.new.0 w ≡ false }
         ensures clock { D.moment self.old.0 ≤ D.moment self.new.0 }
         ensures heard { D.heard self.new.0 ≡ D.heard self.old.0 }
         ensures room { D.room self.old.0 ≤ D.room self.new.0 }
@@ -326,8 +345,10 @@ impl<D: Directory> ManagedDirectory<D> {
         ensures names { self.new.1 ≡ self.old.1 }
         ensures quiet { OnOk result (D.faults self.new.0 ≡ D.faults self.old.0) }
         ensures cause { IfErr result (λ fault. IsDevice fault × (string_bytes fault.text ≡ []) × Rose (D.faults self.old.0) (D.faults self.new.0)) }
+        ensures refusals { D.refusals self.new.0 ≡ D.refusals self.old.0 }
         ensures writers { (w : _) → D.opened self.old.0 w ≡ true → D.opened self.new.0 w ≡ true }
         ensures alive { (w : _) → D.lives self.old.0 w ≡ true → D.lives self.new.0 w ≡ true }
+        ensures ended { (w : _) → D.opened self.old.0 w ≡ true → D.lives self.old.0 w ≡ false → D.lives self.new.0 w ≡ false }
         ensures clock { D.moment self.old.0 ≤ D.moment self.new.0 }
         ensures heard { D.heard self.new.0 ≡ D.heard self.old.0 }
         ensures room { D.room self.old.0 ≤ D.room self.new.0 }

@@ -1,5 +1,5 @@
 //! Lines that are told on to the directory's owner.
-ghost use Rattle.std.specs.Prelude.{◌≡◌, ◌≤◌, ◌<◌, ◌++◌, [], ◌∷◌, true, length, OnOk, OnErr, IfErr};
+ghost use Rattle.std.specs.Prelude.{◌≡◌, ◌≤◌, ◌<◌, ◌++◌, [], ◌∷◌, true, false, length, OnOk, OnErr, IfErr};
 ghost use Rattle.tv_model.specs.Files.{Same, Rose};
 ghost use Rattle.tv_model.specs.Lines.{has_no_feed};
 ghost use Rattle.tv_base.specs.Causes.{IsDevice};
@@ -17,8 +17,10 @@ impl<O: Outside> ManagedDirectory<O> {
         ensures content { O.tells → Same (O.reads self.old.0) (O.reads self.new.0) }
         ensures names { self.new.1 ≡ self.old.1 }
         ensures quiet { O.faults self.new.0 ≡ O.faults self.old.0 }
+        ensures refusals { O.refusals self.new.0 ≡ O.refusals self.old.0 }
         ensures writers { (w : _) → O.opened self.old.0 w ≡ true → O.opened self.new.0 w ≡ true }
         ensures alive { (w : _) → O.lives self.old.0 w ≡ true → O.lives self.new.0 w ≡ true }
+        ensures ended { (w : _) → O.opened self.old.0 w ≡ true → O.lives self.old.0 w ≡ false → O.lives self.new.0 w ≡ false }
         ensures clock { O.moment self.old.0 ≤ O.moment self.new.0 }
         ensures heard { O.heard self.new.0 ≡ O.heard self.old.0 }
         ensures room { O.room self.old.0 ≤ O.room self.new.0 }
@@ -36,8 +38,10 @@ impl<O: Outside> ManagedDirectory<O> {
         ensures names { self.new.1 ≡ self.old.1 }
         ensures quiet { OnOk result (O.faults self.new.0 ≡ O.faults self.old.0) }
         ensures cause { IfErr result (λ fault. IsDevice fault × Rose (O.faults self.old.0) (O.faults self.new.0)) }
+        ensures refusals { O.refusals self.new.0 ≡ O.refusals self.old.0 }
         ensures writers { (w : _) → O.opened self.old.0 w ≡ true → O.opened self.new.0 w ≡ true }
         ensures alive { (w : _) → O.lives self.old.0 w ≡ true → O.lives self.new.0 w ≡ true }
+        ensures ended { (w : _) → O.opened self.old.0 w ≡ true → O.lives self.old.0 w ≡ false → O.lives self.new.0 w ≡ false }
         ensures clock { O.moment self.old.0 ≤ O.moment self.new.0 }
     {
         self.directory.tell(line)

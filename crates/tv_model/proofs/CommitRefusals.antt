@@ -7,9 +7,9 @@ use Rattle.tv_model.specs.declared.event.Event.TheVariants as events
 use Rattle.tv_model.specs.declared.segment.SegmentComponent.TheVariants.{Postings, Positions, FastFields, FieldNorms}
 use Rattle.tv_model.specs.Names.{meta_name}
 use Rattle.tv_model.specs.Index.{next_after}
-use Rattle.tv_model.specs.State.{State}
-use Rattle.tv_model.specs.Machine.{report, answers, after}
-use Rattle.tv_model.proofs.Samples.{id_a, id_b, id_c, first_state, first_script}
+use Rattle.tv_model.specs.State.{State, no_readers}
+use Rattle.tv_model.specs.Machine.{Turn, report, answers, after}
+use Rattle.tv_model.proofs.Samples.{id_a, id_b, id_c, first_state, first_script, unrefused}
 
 -- the state of an index whose commit has the last number
 abbrev spent_state : State
@@ -19,10 +19,11 @@ spent_state = record {
   live = [];
   next = next_after 18446744073709551615;
   commit = record { opstamp = 18446744073709551615; payload = None; segments = [] };
+  reading = no_readers;
 }
 
 -- nothing more is committed there, and other events go on
-pub stamps_spent : report spent_state (events.Commit None [] ∷ events.Segment id_b ∷ []) ≡
+pub stamps_spent : report spent_state (unrefused (events.Commit None [] ∷ events.Segment id_b ∷ [])) ≡
     codes "open 18446744073709551615 0"
     ∷ codes "refused stamps-spent"
     ∷ codes "segment 00000000000000000000000000000001"
@@ -31,18 +32,18 @@ unfolding encode_with digits
 stamps_spent = refl
 
 -- that the numbers are spent is told before an unknown id
-pub stamps_first : answers spent_state (events.Commit None (id_c ∷ []) ∷ []) ≡ codes "refused stamps-spent" ∷ []
+pub stamps_first : answers spent_state (unrefused (events.Commit None (id_c ∷ []) ∷ [])) ≡ codes "refused stamps-spent" ∷ []
 unfolding encode_with digits
 stamps_first = refl
 
 -- the first unknown id in the order of the line is told, though a later one is below it
-pub unknown_told : answers first_state (events.Commit None (id_c ∷ id_b ∷ []) ∷ []) ≡ codes "refused unknown-segment 00000000000000000000000000000002" ∷ []
+pub unknown_told : answers first_state (unrefused (events.Commit None (id_c ∷ id_b ∷ []) ∷ [])) ≡ codes "refused unknown-segment 00000000000000000000000000000002" ∷ []
 unfolding encode_with digits
 unknown_told = refl
 
 -- two segments of a document each, and some files of the one with the lower id
-abbrev unsealed_script : List Event
-unsealed_script =
+abbrev unsealed_script : List Turn
+unsealed_script = unrefused (
     events.Segment id_a
     ∷ events.Docs id_a 1
     ∷ events.Segment id_b
@@ -58,7 +59,7 @@ unsealed_script =
     ∷ events.Open id_b FieldNorms
     ∷ events.Seal id_b FieldNorms
     ∷ events.Commit None (id_a ∷ id_b ∷ [])
-    ∷ []
+    ∷ [])
 
 -- the first file that isn't sealed is told: by id, though the line has the lower id last, and then in the order of the components
 pub unsealed_told : answers first_state unsealed_script ≡
@@ -82,7 +83,7 @@ unfolding encode_with digits
 unsealed_told = refl
 
 -- a segment without documents is left out of a commit, and its files needn't be there
-pub empty_left_out : answers (after first_state first_script) (events.Segment id_b ∷ events.Commit None (id_b ∷ id_a ∷ []) ∷ events.Commit None (id_b ∷ []) ∷ []) ≡
+pub empty_left_out : answers (after first_state first_script) (unrefused (events.Segment id_b ∷ events.Commit None (id_b ∷ id_a ∷ []) ∷ events.Commit None (id_b ∷ []) ∷ [])) ≡
     codes "segment 00000000000000000000000000000001"
     ∷ codes "commit 2 1"
     ∷ codes "commit 3 0"

@@ -10,7 +10,7 @@ use Rattle.tv_model.proofs.Samples.{first_state, first_script}
 
 -- a commit of no segments, after a first one
 abbrev told : Told
-told = step (after first_state first_script) (events.Commit (Some (codes "hi")) [])
+told = step (after first_state first_script) (events.Commit (Some (codes "hi")) []) []
 
 pub payload_told : told.0 ≡ codes "commit 2 0"
 unfolding encode_with digits

@@ -6,7 +6,7 @@ use Rattle.hex.specs.Hex.{encode_lower}
 use Rattle.tv_model.specs.declared.segment.LiveSegment.{LiveSegment}
 use Rattle.tv_model.specs.Names.{has}
 use Rattle.tv_model.specs.Segments.{num_docs, all_required}
-use Rattle.tv_model.specs.State.{State, Told, FileState, Sealed, Open, live_at, file_at}
+use Rattle.tv_model.specs.State.{State, Told, FileState, Sealed, Open, Left, live_at, file_at}
 use Rattle.tv_model.specs.Lines.{line, refuse, refuse_for}
 
 -- the end of 64 bits, which no commit and no delete gets
@@ -20,6 +20,7 @@ chosen s ids = filter (λ e. has ids e.0 && nat_lt 0 (num_docs e.1)) s.live
 abbrev pub is_sealed : Option FileState → Bool
 is_sealed None = false
 is_sealed (Some (Open body)) = false
+is_sealed (Some Left) = false
 is_sealed (Some (Sealed bytes)) = true
 
 -- the first required file that isn't sealed

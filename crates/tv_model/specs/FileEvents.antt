@@ -7,7 +7,7 @@ use Rattle.tv_model.specs.declared.segment.SegmentComponent.{SegmentComponent}
 use Rattle.tv_model.specs.Names.{byte_cmp}
 use Rattle.tv_model.specs.Footer.{sealed}
 use Rattle.tv_model.specs.Segments.{name_of, is_delete, num_deleted}
-use Rattle.tv_model.specs.State.{State, Told, FileState, Sealed, Open, live_at, file_at, with_file}
+use Rattle.tv_model.specs.State.{State, Told, FileState, Sealed, Open, Left, live_at, file_at, with_file}
 use Rattle.tv_model.specs.Lines.{line, refuse}
 
 -- a new open file, whose name is managed
@@ -32,6 +32,7 @@ abbrev pub write_name : State → List ℕ → List ℕ → Option FileState →
 write_name s name bytes (Some (Open body)) =
     (line (codes "wrote") (name ∷ decimal (length (body ++ bytes)) ∷ []), with_file s name (Open (body ++ bytes)))
 write_name s name bytes (Some (Sealed body)) = refuse s (codes "not-open")
+write_name s name bytes (Some Left) = refuse s (codes "not-open")
 write_name s name bytes None = refuse s (codes "not-open")
 
 abbrev pub write_of : State → List ℕ → SegmentComponent → List ℕ → Option LiveSegment → Told
@@ -47,6 +48,7 @@ abbrev pub seal_name : State → List ℕ → Option FileState → Told
 seal_name s name (Some (Open body)) =
     (line (codes "sealed") (name ∷ decimal (length body) ∷ []), with_file s name (Sealed (sealed body)))
 seal_name s name (Some (Sealed body)) = refuse s (codes "not-open")
+seal_name s name (Some Left) = refuse s (codes "not-open")
 seal_name s name None = refuse s (codes "not-open")
 
 abbrev pub seal_of : State → List ℕ → SegmentComponent → Option LiveSegment → Told

@@ -1,5 +1,5 @@
 -- What a directory reads, name by name, and how a call changes it.
-use Rattle.std.specs.Prelude.{◌≡◌, ◌≢◌, ◌⊎◌, ◌<◌, ℕ, List, Option}
+use Rattle.std.specs.Prelude.{◌≡◌, ◌≢◌, ◌⊎◌, ◌<◌, ◌≤◌, ◌+◌, ℕ, List, Option}
 
 -- the bytes that each name reads, where there is such a file
 abbrev pub Reads : Type 0
@@ -30,3 +30,7 @@ Heard = List (ℕ × List ℕ)
 -- a count rose; one that is kept in 64 bits may also stand at their end
 abbrev pub Rose : ℕ → ℕ → Type 0
 Rose before now = (before < now) ⊎ (now ≡ 18446744073709551615)
+
+-- a count rose by at least so much, or stands at the end of 64 bits
+abbrev pub RoseBy : ℕ → ℕ → ℕ → Type 0
+RoseBy n before now = (before + n ≤ now) ⊎ (18446744073709551615 ≤ now)

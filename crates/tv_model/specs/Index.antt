@@ -8,13 +8,14 @@ use Rattle.tv_model.specs.Listing.{Lists}
 use Rattle.tv_model.specs.Segments.{all_required}
 use Rattle.tv_model.specs.Commits.{Commit, Settings, default_settings, Means, first_commit}
 use Rattle.tv_model.specs.CommitEvents.{last_stamp}
-use Rattle.tv_model.specs.State.{State, FileState, Sealed, Open, file_at}
+use Rattle.tv_model.specs.State.{State, FileState, Sealed, Open, Left, file_at, no_readers}
 
 -- a file of the machine, next to what its name reads
 abbrev pub FileReads : Option FileState → Option (List ℕ) → Type 0
 FileReads None read = read ≡ None
 FileReads (Some (Sealed bytes)) read = read ≡ Some bytes
 FileReads (Some (Open body)) read = IsSome read
+FileReads (Some Left) read = IsSome read
 
 -- the name is that of a file of the machine: it has no dot in front, and isn't `meta.json`
 abbrev pub IsFileOf : List ℕ → Type 0
@@ -59,6 +60,7 @@ pub record OpensTo (settings : Settings) (schema : List ℕ) (reads : Reads) (s 
   pub opened : OpensWith settings schema (reads meta_name) listed s
   pub live : s.live ≡ s.commit.segments
   pub next : s.next ≡ next_after s.commit.opstamp
+  pub reading : s.reading ≡ no_readers
   pub names : (n : List ℕ) → is_some (file_at s n) ≡ true → IsFileOf n
   pub files : (n : List ℕ) → IsFileOf n → file_at s n ≡ option_map Sealed (reads n)
 
@@ -69,4 +71,4 @@ pub record HasNoIndex (reads : Reads) : Type 0 where
 
 -- the state of an index that was just made in a directory without files
 abbrev pub first_state : State
-first_state = record { files = []; managed = meta_name ∷ []; live = []; next = 1; commit = first_commit }
+first_state = record { files = []; managed = meta_name ∷ []; live = []; next = 1; commit = first_commit; reading = no_readers }

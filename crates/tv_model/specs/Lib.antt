@@ -13,7 +13,16 @@ pub mod SegmentEvents
 pub mod FileEvents
 pub mod CommitEvents
 pub mod ReportEvents
+pub mod Collections
 pub mod Machine
 pub mod Index
 pub mod Script
 pub mod SoundStates
+pub mod Living
+pub mod CollectionEvents
+pub mod ReaderEvents
+pub mod SearcherEvents
+pub mod Readable
+pub mod Serving
+pub mod Collecting
+pub mod Telling

@@ -1,5 +1,5 @@
 -- The machine: one step, and a run of steps.
-use Rattle.std.specs.Prelude.{ℕ, List, [], ◌∷◌}
+use Rattle.std.specs.Prelude.{ℕ, ◌+◌, Bool, not, List, [], ◌∷◌, map, filter, length, sum}
 use Rattle.tv_model.specs.declared.event.Event.{Event}
 use Rattle.tv_model.specs.declared.event.Event.TheVariants as events
 use Rattle.tv_model.specs.State.{State, Told}
@@ -7,28 +7,57 @@ use Rattle.tv_model.specs.Lines.{opening_line}
 use Rattle.tv_model.specs.SegmentEvents.{segment_step, docs_step}
 use Rattle.tv_model.specs.FileEvents.{open_step, write_step, seal_step}
 use Rattle.tv_model.specs.CommitEvents.{commit_step}
+use Rattle.tv_model.specs.CollectionEvents.{gc_step, release_segment_step}
+use Rattle.tv_model.specs.ReaderEvents.{reader_step, reload_step, release_reader_step}
+use Rattle.tv_model.specs.SearcherEvents.{searcher_step, show_step, bytes_step, release_searcher_step}
 use Rattle.tv_model.specs.ReportEvents.{managed_step}
 
--- what an event tells, and the state after it
-abbrev pub step : State → Event → Told
-step s (events.Segment id) = segment_step s id
-step s (events.Open id component) = open_step s id component
-step s (events.Write id component bytes) = write_step s id component bytes
-step s (events.Seal id component) = seal_step s id component
-step s (events.Docs id n) = docs_step s id n
-step s (events.Commit payload ids) = commit_step s payload ids
-step s events.Managed = managed_step s
+-- What an event tells, and the state after it. The outcomes say which deletes that it asks for are refused; only a collection asks for some.
+abbrev pub step : State → Event → List Bool → Told
+step s (events.Segment id) outcomes = segment_step s id
+step s (events.Open id component) outcomes = open_step s id component
+step s (events.Write id component bytes) outcomes = write_step s id component bytes
+step s (events.Seal id component) outcomes = seal_step s id component
+step s (events.Docs id n) outcomes = docs_step s id n
+step s (events.Commit payload ids) outcomes = commit_step s payload ids
+step s events.Gc outcomes = gc_step s outcomes
+step s (events.Reader policy) outcomes = reader_step s policy
+step s (events.Reload number) outcomes = reload_step s number
+step s (events.Searcher number) outcomes = searcher_step s number
+step s (events.Show number) outcomes = show_step s number
+step s (events.Bytes number ord component) outcomes = bytes_step s number ord component
+step s (events.ReleaseSegment id) outcomes = release_segment_step s id
+step s (events.ReleaseReader number) outcomes = release_reader_step s number
+step s (events.ReleaseSearcher number) outcomes = release_searcher_step s number
+step s events.Managed outcomes = managed_step s
 
--- what a list of events tells, line by line
-abbrev pub answers : State → List Event → List (List ℕ)
+-- an event of a run, with the outcomes of its deletes
+abbrev pub Turn : Type 0
+Turn = Event × List Bool
+
+-- what a run tells, line by line
+abbrev pub answers : State → List Turn → List (List ℕ)
 answers s [] = []
-answers s (event ∷ events) = (step s event).0 ∷ answers (step s event).1 events
+answers s (turn ∷ turns) = (step s turn.0 turn.1).0 ∷ answers (step s turn.0 turn.1).1 turns
 
--- the state after a list of events
-abbrev pub after : State → List Event → State
+-- the state after a run
+abbrev pub after : State → List Turn → State
 after s [] = s
-after s (event ∷ events) = after (step s event).1 events
+after s (turn ∷ turns) = after (step s turn.0 turn.1).1 turns
 
 -- all that is told: the opening line, and then the answers
-abbrev pub report : State → List Event → List (List ℕ)
-report s events = opening_line s ∷ answers s events
+abbrev pub report : State → List Turn → List (List ℕ)
+report s turns = opening_line s ∷ answers s turns
+
+-- the events of a run
+abbrev pub events_of : List Turn → List Event
+events_of turns = map (λ turn. turn.0) turns
+
+-- how many deletes of a turn were refused
+abbrev pub refused_in : List Bool → ℕ
+refused_in outcomes = length (filter not outcomes)
+
+-- and how many of a run
+abbrev pub all_refused : List Turn → ℕ
+all_refused [] = 0
+all_refused (turn ∷ turns) = refused_in turn.1 + all_refused turns

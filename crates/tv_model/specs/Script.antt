@@ -5,6 +5,7 @@ use Rattle.std.specs.List.{join_with_byte, onto_first, AllByRecursion}
 use Rattle.hex.specs.Hex.{encode_lower, decode_of}
 use Rattle.tv_model.specs.declared.event.Event.{Event}
 use Rattle.tv_model.specs.declared.event.Event.TheVariants as events
+use Rattle.tv_model.specs.declared.reload_policy.ReloadPolicy.TheVariants.{Manual}
 use Rattle.tv_model.specs.declared.segment.SegmentComponent.{SegmentComponent}
 use Rattle.tv_model.specs.Ids.{IsId, are_distinct}
 use Rattle.tv_model.specs.Segments.{extension, is_delete}
@@ -22,7 +23,7 @@ lines_of (b ∷ bytes) = if b == 10 then [] ∷ lines_of bytes else onto_first b
 abbrev pub IsNamed : SegmentComponent → Type 0
 IsNamed component = is_delete component ≡ false
 
--- the fields of an event are within their ranges (so far a commit has no payload)
+-- the fields of an event are within their ranges (so far a commit has no payload, and a reader reloads where it is asked to)
 abbrev pub Fits : Event → Type 0
 Fits (events.Segment id) = IsId id
 Fits (events.Open id component) = IsId id × IsNamed component
@@ -30,6 +31,15 @@ Fits (events.Write id component bytes) = IsId id × IsNamed component × (0 < le
 Fits (events.Seal id component) = IsId id × IsNamed component
 Fits (events.Docs id n) = IsId id × (n < 2 ^ 32)
 Fits (events.Commit payload ids) = (payload ≡ None) × AllByRecursion IsId ids × (are_distinct ids ≡ true)
+Fits events.Gc = Unit {0}
+Fits (events.Reader policy) = policy ≡ Manual
+Fits (events.Reload number) = number < 2 ^ 64
+Fits (events.Searcher number) = number < 2 ^ 64
+Fits (events.Show number) = number < 2 ^ 64
+Fits (events.Bytes number ord component) = (number < 2 ^ 64) × (ord < 2 ^ 32) × IsNamed component
+Fits (events.ReleaseSegment id) = IsId id
+Fits (events.ReleaseReader number) = number < 2 ^ 64
+Fits (events.ReleaseSearcher number) = number < 2 ^ 64
 Fits events.Managed = Unit {0}
 
 -- the first word of the event's line
@@ -40,6 +50,15 @@ keyword (events.Write id component bytes) = codes "write"
 keyword (events.Seal id component) = codes "seal"
 keyword (events.Docs id n) = codes "docs"
 keyword (events.Commit payload ids) = codes "commit"
+keyword events.Gc = codes "gc"
+keyword (events.Reader policy) = codes "reader"
+keyword (events.Reload number) = codes "reload"
+keyword (events.Searcher number) = codes "searcher"
+keyword (events.Show number) = codes "show"
+keyword (events.Bytes number ord component) = codes "bytes"
+keyword (events.ReleaseSegment id) = codes "release"
+keyword (events.ReleaseReader number) = codes "release"
+keyword (events.ReleaseSearcher number) = codes "release"
 keyword events.Managed = codes "managed"
 
 -- these are the words after it; bytes may be spelled with digits of either case
@@ -51,6 +70,15 @@ AreArguments (events.Write id component bytes) words =
 AreArguments (events.Seal id component) words = words ≡ encode_lower id ∷ extension component ∷ []
 AreArguments (events.Docs id n) words = words ≡ encode_lower id ∷ decimal n ∷ []
 AreArguments (events.Commit payload ids) words = words ≡ codes "-" ∷ map encode_lower ids
+AreArguments events.Gc words = words ≡ []
+AreArguments (events.Reader policy) words = words ≡ codes "manual" ∷ []
+AreArguments (events.Reload number) words = words ≡ decimal number ∷ []
+AreArguments (events.Searcher number) words = words ≡ decimal number ∷ []
+AreArguments (events.Show number) words = words ≡ decimal number ∷ []
+AreArguments (events.Bytes number ord component) words = words ≡ decimal number ∷ decimal ord ∷ extension component ∷ []
+AreArguments (events.ReleaseSegment id) words = words ≡ codes "segment" ∷ encode_lower id ∷ []
+AreArguments (events.ReleaseReader number) words = words ≡ codes "reader" ∷ decimal number ∷ []
+AreArguments (events.ReleaseSearcher number) words = words ≡ codes "searcher" ∷ decimal number ∷ []
 AreArguments events.Managed words = words ≡ []
 
 -- the text is a line of the event: its words, one space apart

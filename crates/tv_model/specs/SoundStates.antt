@@ -7,6 +7,10 @@ use Rattle.tv_model.specs.CommitEvents.{is_sealed}
 use Rattle.tv_model.specs.State.{State, Sealed, file_at}
 use Rattle.tv_model.specs.Index.{IsFileOf}
 
+-- the files that the commit requires are sealed
+pub record IsWhole (s : State) : Type 0 where
+  pub each : (n : List ℕ) → has (all_required s.commit.segments) n ≡ true → is_sealed (file_at s n) ≡ true
+
 -- every file is managed and has a name of its own kind, each sealed file opens, and the commit's required files are sealed
 pub record IsSoundState (s : State) : Type 0 where
   -- `meta.json` is managed
@@ -17,5 +21,5 @@ pub record IsSoundState (s : State) : Type 0 where
   pub listed : (n : List ℕ) → is_some (file_at s n) ≡ true → has s.managed n ≡ true
   -- a sealed file has a body and its footer
   pub good : (n bytes : List ℕ) → file_at s n ≡ Some (Sealed bytes) → IsGood bytes
-  -- a file that a reader of the commit needs is there, and sealed
-  pub whole : (n : List ℕ) → has (all_required s.commit.segments) n ≡ true → is_sealed (file_at s n) ≡ true
+  -- the files that the commit requires are sealed
+  pub whole : IsWhole s

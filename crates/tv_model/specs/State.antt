@@ -1,23 +1,50 @@
 -- The state of the machine.
-use Rattle.std.specs.Prelude.{ℕ, List, Option}
+use Rattle.std.specs.Prelude.{ℕ, List, [], Option}
 use Rattle.std.specs.Map.{lookup}
 use Rattle.std.specs.BTreeMap.{is_at, insert_entry}
+use Rattle.std.specs.Ordering.{nat_cmp}
+use Rattle.tv_model.specs.declared.reload_policy.ReloadPolicy.{ReloadPolicy}
 use Rattle.tv_model.specs.declared.segment.LiveSegment.{LiveSegment}
 use Rattle.tv_model.specs.Names.{byte_cmp}
 use Rattle.tv_model.specs.Commits.{Commit}
 
--- a file: sealed with its bytes, or open with what was written so far (files that are neither will join)
+-- a file: sealed with its bytes, open with what was written so far, or left, which is neither sealed nor written any more
 pub data FileState : Type 0 where
   Sealed : List ℕ → FileState
   Open : List ℕ → FileState
+  Left : FileState
 
--- the files whose names have no dot in front, `meta.json` apart; the managed names; the live segments; the number that the next commit gets; the current commit
+-- What is shown of a commit: under which number of its reader, the commit, and of each of its segments the bodies of the required files, in their order.
+pub record Snapshot : Type 0 where
+  pub generation : ℕ
+  pub commit : Commit
+  pub bodies : List (List (List ℕ))
+
+-- a reader: when it is to reload, the number of the next snapshot, and the one that it shows
+pub record Reader : Type 0 where
+  pub policy : ReloadPolicy
+  pub next : ℕ
+  pub shown : Snapshot
+
+-- the readers and the searchers by their numbers, and the numbers that the next ones get
+pub record Readers : Type 0 where
+  pub readers : List (ℕ × Reader)
+  pub searchers : List (ℕ × Snapshot)
+  pub next_reader : ℕ
+  pub next_searcher : ℕ
+
+-- nobody reads
+abbrev pub no_readers : Readers
+no_readers = record { readers = []; searchers = []; next_reader = 0; next_searcher = 0 }
+
+-- the files whose names have no dot in front, `meta.json` apart; the managed names; the live segments; the number that the next commit gets; the current commit; who reads
 pub record State : Type 0 where
   pub files : List (List ℕ × FileState)
   pub managed : List (List ℕ)
   pub live : List (List ℕ × LiveSegment)
   pub next : ℕ
   pub commit : Commit
+  pub reading : Readers
 
 -- an answer line, and the state after it
 abbrev pub Told : Type 0
@@ -38,3 +65,13 @@ with_live s id segment = record s { live = insert_entry byte_cmp s.live id segme
 
 abbrev pub with_file : State → List ℕ → FileState → State
 with_file s name file = record s { files = insert_entry byte_cmp s.files name file }
+
+-- what stands at a number
+abbrev pub at_number : {X : Type 0} → List (ℕ × X) → ℕ → Option X
+at_number entries number = lookup (is_at (nat_cmp number)) entries
+
+abbrev pub reader_at : State → ℕ → Option Reader
+reader_at s number = at_number s.reading.readers number
+
+abbrev pub searcher_at : State → ℕ → Option Snapshot
+searcher_at s number = at_number s.reading.searchers number

@@ -3,10 +3,13 @@ ghost use Rattle.std.specs.Prelude.{◌≡◌, [], ◌∷◌, ◌++◌, true, If
 ghost use Rattle.std.specs.Fmt.{decimal};
 ghost use Rattle.hex.specs.Hex.{encode_lower};
 ghost use Rattle.tv_model.specs.Lines.{has_no_feed};
+ghost use Rattle.tv_model.specs.SearcherEvents.{payload_word, segment_word, bytes_word};
 
+use crate::blob::Text;
 use crate::file_name::FileName;
 use crate::id::SegmentId;
 use crate::memory::Memory;
+use crate::segment::LiveSegment;
 use std::alloc::Global;
 use std::marker::Model;
 
@@ -70,6 +73,55 @@ impl Answer {
         ensures { IfOk result (λ line. line ≡ self ++ 32 ∷ name.now) }
     {
         self.word(name.as_str().as_bytes())
+    }
+
+    // The line with more bytes at the end of its last word.
+    fn more(self, bytes: &[u8]) -> Result<Answer, Memory>
+        requires { has_no_feed bytes.now ≡ true }
+        ensures { IfOk result (λ line. line ≡ self ++ bytes.now) }
+    {
+        let mut text = self.text;
+        text.extend_from_slice(bytes)?;
+        Ok(Answer { text })
+    }
+
+    // The line with bytes in lower-case digits at the end of its last word.
+    fn digits(self, alloc: Global, bytes: &[u8]) -> Result<Answer, Memory>
+        ensures { IfOk result (λ line. line ≡ self ++ encode_lower bytes.now) }
+    {
+        let digits = hex::encode(alloc, bytes)?;
+        self.more(digits.as_bytes())
+    }
+
+    /// The line with some bytes, in lower-case digits; `-` where there are none.
+    pub fn bytes(self, alloc: Global, bytes: &[u8]) -> Result<Answer, Memory>
+        ensures { IfOk result (λ line. line ≡ self ++ 32 ∷ bytes_word bytes.now) }
+    {
+        if bytes.is_empty() {
+            return self.word(b"-");
+        }
+        self.word(b"")?.digits(alloc, bytes)
+    }
+
+    /// The line with a payload: `+` and its bytes in lower-case digits; `-` where there is none.
+    pub fn payload(self, alloc: Global, payload: &Option<Text>) -> Result<Answer, Memory>
+        ensures { IfOk result (λ line. line ≡ self ++ 32 ∷ payload_word payload.now) }
+    {
+        match payload {
+            None => self.word(b"-"),
+            Some(text) => self.word(b"+")?.digits(alloc, text.as_str().as_bytes()),
+        }
+    }
+
+    /// The line with a segment: its id, and behind `=` how many of its documents are living.
+    pub fn segment(self, id: SegmentId, segment: LiveSegment) -> Result<Answer, Memory>
+        ensures { IfOk result (λ line. line ≡ self ++ 32 ∷ segment_word (id, segment)) }
+    {
+        let mut digits = itoa::Buffer::new();
+        let count = u64::from(segment.num_docs());
+        self.id(id)?
+            .more(b"=")?
+            .more(digits.format(count).as_bytes())
     }
 
     /// Its bytes, among which is no line feed.

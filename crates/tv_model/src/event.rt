@@ -1,6 +1,7 @@
 //! The events of a script.
 use crate::blob::{Blob, IdList, Text};
 use crate::id::SegmentId;
+use crate::reload_policy::ReloadPolicy;
 use crate::segment::SegmentComponent;
 
 /// One event, which is one line of a script.
@@ -18,6 +19,24 @@ pub enum Event {
     Docs(SegmentId, u32),
     /// Publishes the named segments.
     Commit(Option<Text>, IdList),
+    /// Deletes the files that nothing needs.
+    Gc,
+    /// Makes a reader.
+    Reader(ReloadPolicy),
+    /// Makes a reader show the current commit.
+    Reload(u64),
+    /// Makes a searcher, which shows what a reader shows now.
+    Searcher(u64),
+    /// Asks for the commit that a searcher shows.
+    Show(u64),
+    /// Asks for the body of a file of a segment, counted from 0, that a searcher shows.
+    Bytes(u64, u32, SegmentComponent),
+    /// Makes a segment live no more.
+    ReleaseSegment(SegmentId),
+    /// Ends a reader.
+    ReleaseReader(u64),
+    /// Ends a searcher.
+    ReleaseSearcher(u64),
     /// Asks for the managed names.
     Managed,
 }

@@ -9,7 +9,9 @@ mod blob;
 mod event;
 mod file_name;
 mod id;
+pub mod laws;
 mod memory;
+mod reload_policy;
 mod segment;
 #[cfg(test)]
 mod tests;
@@ -20,6 +22,7 @@ pub use event::Event;
 pub use file_name::{FileName, segment_file_name};
 pub use id::SegmentId;
 pub use memory::Memory;
+pub use reload_policy::ReloadPolicy;
 pub use segment::{DeleteMeta, LiveSegment, SegmentComponent};
 
 /// The number of a commit, or of a delete. Later ones are larger.

@@ -3,7 +3,7 @@
 
 use crate::{
     Answer, Blob, DeleteMeta, FileName, IdList, LiveSegment, SegmentComponent, SegmentId, Text,
-    segment_file_name,
+    laws, segment_file_name,
 };
 use std::alloc::Global;
 use std::test::Fail;
@@ -111,6 +111,30 @@ fn an_answer_is_words_with_spaces_between(rt: HostRuntime) -> Result<(), Fail> {
 }
 
 #[test]
+fn bytes_in_an_answer_are_digits(rt: HostRuntime) -> Result<(), Fail> {
+    let alloc = rt.alloc();
+    let segment = LiveSegment {
+        max_doc: 5,
+        deletes: Some(DeleteMeta {
+            num_deleted_docs: 2,
+            opstamp: 7,
+        }),
+    };
+    let answer = Answer::new(alloc, "said")?
+        .bytes(alloc, b"")?
+        .bytes(alloc, b"\x0a\xff")?
+        .payload(alloc, &None)?
+        .payload(alloc, &Some(Text::new(String::from_str(alloc, "")?)))?
+        .payload(alloc, &Some(Text::new(String::from_str(alloc, "hi")?)))?
+        .segment(id(), segment)?;
+    assert_eq!(rt;
+        answer.as_slice(),
+        b"said - 0aff - + +6869 a5c4dfcbdfe645089129e308e26d5523=3".as_slice()
+    );
+    Ok(())
+}
+
+#[test]
 fn ids_in_a_list_differ(rt: HostRuntime) -> Result<(), Fail> {
     let alloc = rt.alloc();
     let other = SegmentId::from_bytes([0; 16]);
@@ -130,4 +154,13 @@ fn bytes_and_texts_are_kept(rt: HostRuntime) -> Result<(), Fail> {
     let text = Text::new(String::from_str(alloc, "abc")?);
     assert_eq!(rt; text.as_str(), "abc");
     Ok(())
+}
+
+#[test]
+fn laws_are_called() {
+    laws::searchers_keep_their_commit();
+    laws::collections_take_what_nothing_needs();
+    laws::lines_tell_outcomes();
+    laws::reports_determine_runs();
+    laws::files_keep_their_body();
 }

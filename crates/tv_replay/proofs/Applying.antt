@@ -1,35 +1,48 @@
 -- A script replayed: how far a run has come, and what a whole run is.
 use Rattle.std.proofs.Common.{◌≡◌, ◌≢◌, ◌⊎◌, ℕ, ◌+◌, ◌*◌, ◌^◌, ◌≤◌, ◌<◌, true, true≢false, List, [], ◌∷◌, ◌++◌, length, Option, Some, None, refl, sym, ap, subst, ◌∙◌, arith, append_assoc, length-append, inl, inr}
-use Rattle.std.specs.Prelude.{IsSome, option_map}
+use Rattle.std.specs.Prelude.{IsSome, is_some, option_map}
 use Rattle.std.specs.List.{AllByRecursion}
-use Rattle.std.proofs.lemmas.List.{append-nil, map-append}
+use Rattle.std.specs.List.Sorted.{IsStrictlySortedBy}
+use Rattle.std.specs.BTreeSet.{insert_key}
+use Rattle.std.proofs.lemmas.List.{append-nil, map-append, length-map}
 use Rattle.tv_base.specs.declared.error.TantivyError.{TantivyError}
 use Rattle.tv_base.specs.declared.error.TantivyError.TheVariants as errors
 use Rattle.tv_base.specs.declared.open_errors.OpenWriteError.{OpenWriteError}
 use Rattle.tv_base.specs.declared.open_errors.OpenWriteError.TheVariants as write
+use Rattle.tv_base.specs.declared.open_errors.OpenReadError.{OpenReadError}
+use Rattle.tv_base.specs.declared.open_errors.OpenReadError.TheVariants as read
 use Rattle.tv_model.specs.declared.event.Event.{Event}
-use Rattle.tv_model.specs.Names.{has, list_name}
-use Rattle.tv_model.specs.Files.{Reads, Heard, Rose}
+use Rattle.tv_model.specs.declared.segment.LiveSegment.{LiveSegment}
+use Rattle.tv_model.specs.Names.{byte_cmp, has, list_name, meta_name}
+use Rattle.tv_model.specs.Files.{Reads, Heard, Rose, RoseBy}
+use Rattle.tv_model.specs.Footer.{IsGood, HasBody}
 use Rattle.tv_model.specs.Listing.{Lists}
-use Rattle.tv_model.specs.Commits.{is_schema, default_settings, Means}
-use Rattle.tv_model.specs.State.{State, FileState, Sealed, Open, file_at}
+use Rattle.tv_model.specs.Commits.{Commit, is_schema, default_settings, Means}
+use Rattle.tv_model.specs.Segments.{all_required}
+use Rattle.tv_model.specs.State.{State, FileState, Sealed, Open, Left, file_at}
 use Rattle.tv_model.specs.Lines.{opening_of}
-use Rattle.tv_model.specs.Machine.{step, answers, after}
-use Rattle.tv_model.specs.Index.{FileReads, DirectoryHolds, OpensWith, OpensTo, IsSound, HasNoIndex, first_state}
+use Rattle.tv_model.specs.Readable.{AllReadGood}
+use Rattle.tv_model.specs.Machine.{Turn, step, answers, after, events_of, refused_in, all_refused}
+use Rattle.tv_model.specs.Index.{FileReads, IsFileOf, DirectoryHolds, OpensWith, OpensTo, IsSound, HasNoIndex, first_state}
 use Rattle.tv_model.specs.Script.{line_limit, lines_of, Fits}
-use Rattle.tv_model.specs.SoundStates.{IsSoundState}
+use Rattle.tv_model.specs.SoundStates.{IsWhole, IsSoundState}
 use Rattle.tv_model.proofs.SoundStates.{step_sound, first_sound, holds_sound}
+use Rattle.tv_model.proofs.WholeStates.{after_whole, sealed_since}
+use Rattle.tv_model.proofs.Serving.{serves, serves_as_sealed}
+use Rattle.tv_model.proofs.Collects.{collects_in}
 use Rattle.tv_replay.specs.declared.next_event.ScriptError.{ScriptError}
 use Rattle.tv_replay.specs.declared.next_event.ScriptError.TheVariants as script
 use Rattle.tv_replay.specs.Kept.{Kept, FileHolds, Holds, AtMost}
 use Rattle.tv_replay.specs.Telling.{TellsLine, TellsLines}
-use Rattle.tv_replay.specs.ScriptLines.{pending, TakesEvent, IsNoEvent, IsTooLong}
+use Rattle.tv_replay.specs.ScriptLines.{pending, TakesEvent, IsNoEvent, IsTooLong, written_by}
+use Rattle.tv_replay.specs.ReaderNumbers.{FewNumbers}
+use Rattle.tv_replay.specs.ReadCauses.{ReadFault, ApplyCause}
 use Rattle.tv_replay.specs.ScriptCauses.{ScriptCause}
-use Rattle.tv_replay.specs.StoreCauses.{WriteFault, EventCause, OpeningCause, IsRefusal}
-use Rattle.tv_replay.specs.Replays.{Replays, ReplayCause, StopsAt, LineRefusal, IsTooMany, line_refusal, long_refusal}
-use Rattle.tv_replay.specs.Applying.{Applies, Runs, RunCause, IsErrorOf}
+use Rattle.tv_replay.specs.StoreCauses.{WriteFault, OpeningCause, IsRefusal}
+use Rattle.tv_replay.specs.Replays.{Replays, ReplayCause, StopsAt, BeginsWith, LineRefusal, IsTooMany, IsBadFile, NeverOpens, line_refusal, long_refusal}
+use Rattle.tv_replay.specs.Applying.{Stepped, Spent, Applies, Runs, RunCause, BadIn, BadSince, HoldsNone, IsErrorOf}
 use Rattle.tv_replay.proofs.LineLemmas.{pending_some}
-use Rattle.tv_replay.proofs.Progress.{after-last, answers-last, AreLines-length, ReadSoFar, nothing_read, one_more_read, all_read}
+use Rattle.tv_replay.proofs.Progress.{after-last, answers-last, events-last, readable-last, refused-last, AreLines-length, ReadSoFar, nothing_read, one_more_read, all_read}
 
 -- ---- telling
 
@@ -61,9 +74,9 @@ fits-last : (events : List Event) (e : Event) → AllByRecursion Fits events →
 fits-last [] e all fits = (fits, tt)
 fits-last (first ∷ events) e all fits = (all.0, fits-last events e all.1 fits)
 
-events_sound : (s : State) (events : List Event) → AllByRecursion Fits events → IsSoundState s → IsSoundState (after s events)
-events_sound s [] all h = h
-events_sound s (e ∷ events) all h = events_sound (step s e).1 events all.1 (step_sound s e all.0 h)
+turns_sound : (s : State) (turns : List Turn) → AllByRecursion Fits (events_of turns) → IsSoundState s → IsSoundState (after s turns)
+turns_sound s [] all h = h
+turns_sound s (t ∷ turns) all h = turns_sound (step s t.0 t.1).1 turns all.1 (step_sound s t.0 t.1 all.0 h)
 
 -- ---- how long files are
 
@@ -75,63 +88,76 @@ longer small large (e ∷ files) le all = (omega (arith, all.0), longer small la
 pub one_more_line : (kept : Kept) (count written : ℕ) → written ≤ line_limit → AtMost (count * line_limit + written) kept → AtMost ((count + 1) * line_limit) kept
 one_more_line kept count written small all = longer (count * line_limit + written) ((count + 1) * line_limit) kept.open_files (omega arith) all
 
--- files stay far shorter than 64 bits of bytes
-pub never_spent : (kept : Kept) (count written : ℕ) → count < 2 ^ 32 → written ≤ line_limit → AtMost (count * line_limit) kept → ((bound : ℕ) → AtMost bound kept → 2 ^ 64 ≤ bound + written) → ⊥
-never_spent kept count written few small all spent = let much : 2 ^ 64 ≤ count * line_limit + written = spent (count * line_limit) all in omega arith
+-- files stay far shorter than 64 bits of bytes, and numbers far below
+pub never_spent : (kept : Kept) (event : Event) (count : ℕ) → count < 2 ^ 32 → written_by event ≤ line_limit → AtMost (count * line_limit) kept → FewNumbers (count * line_limit) kept.reading → Spent kept event → ⊥
+never_spent kept event count few small all numbers (inl spent) = let much : 2 ^ 64 ≤ count * line_limit + written_by event = spent (count * line_limit) all in omega arith
+never_spent kept event count few small all numbers (inr spent) = let much : 2 ^ 64 ≤ count * line_limit + written_by event = spent (count * line_limit) numbers in omega arith
 
 -- ---- how far a run has come
 
 -- these events were applied, and they are the lines that were read
-pub record Progress (tells tells_heard : Type 0) (old_reads new_reads : Reads) (old_kept new_kept : Kept) (old_heard new_heard : Heard) (text left : Option (List ℕ)) (count : ℕ) : Type 0 where
-  pub events : List Event
-  pub counted : count ≡ length events
-  pub read : (whole : List ℕ) → text ≡ Some whole → ReadSoFar whole left events
-  pub applied : Applies tells tells_heard old_reads new_reads old_kept new_kept old_heard new_heard events
+pub record Progress (tells tells_heard : Type 0) (old_reads new_reads : Reads) (old_kept new_kept : Kept) (old_heard new_heard : Heard) (old_refusals new_refusals : ℕ) (text left : Option (List ℕ)) (count : ℕ) : Type 0 where
+  pub turns : List Turn
+  pub counted : count ≡ length turns
+  pub read : (whole : List ℕ) → text ≡ Some whole → ReadSoFar whole left (events_of turns)
+  pub applied : Applies tells tells_heard old_reads new_reads old_kept new_kept old_heard new_heard old_refusals new_refusals turns
 
-pub starts : (tells tells_heard : Type 0) (reads : Reads) (kept : Kept) (heard : Heard) (held : List ℕ) (text : Option (List ℕ)) → held ≡ [] → Progress tells tells_heard reads reads kept kept heard heard text (pending held text) 0
-starts tells tells_heard reads kept heard held text none =
+pub starts : (tells tells_heard : Type 0) (reads : Reads) (kept : Kept) (heard : Heard) (refusals : ℕ) (held : List ℕ) (text : Option (List ℕ)) → held ≡ [] → Progress tells tells_heard reads reads kept kept heard heard refusals refusals text (pending held text) 0
+starts tells tells_heard reads kept heard refusals held text none =
     record {
-      events = [];
+      turns = [];
       counted = refl;
       read = λ whole told. nothing_read whole held text none told;
       applied = record {
         fits = tt;
         schema = refl;
-        holds = λ t s h. h;
-        told = λ t th s h. record { pieces = []; heard = sym (append-nil heard); each = refl };
+        holds = λ t s h w. h;
+        told = λ t th s h w. record { pieces = []; heard = sym (append-nil heard); each = refl };
+        readable = λ t s h w. tt;
+        refused = inl (omega arith);
       };
     }
 
-one_more_applied : (tells tells_heard : Type 0) (old_reads now_reads new_reads : Reads) (old_kept now_kept new_kept : Kept) (old_heard now_heard new_heard : Heard) (events : List Event) (e : Event) (answer : List ℕ) (from to : ℕ)
-    → Applies tells tells_heard old_reads now_reads old_kept now_kept old_heard now_heard events → Fits e → new_kept.schema ≡ now_kept.schema
-    → (tells → (s : State) → Holds now_reads now_kept s → (answer ≡ (step s e).0) × Holds new_reads new_kept (step s e).1)
+rose_more : (some more old now new : ℕ) → RoseBy some old now → RoseBy more now new → RoseBy (some + more) old new
+rose_more some more old now new (inl a) (inl b) = inl (omega arith)
+rose_more some more old now new (inl a) (inr b) = inr b
+rose_more some more old now new (inr a) (inr b) = inr b
+rose_more some more old now new (inr a) (inl b) = inr (omega arith)
+
+one_more_applied : (tells tells_heard : Type 0) (old_reads now_reads new_reads : Reads) (old_kept now_kept new_kept : Kept) (old_heard now_heard new_heard : Heard) (old_refusals now_refusals new_refusals : ℕ) (turns : List Turn) (e : Event) (answer : List ℕ) (from to : ℕ)
+    → Applies tells tells_heard old_reads now_reads old_kept now_kept old_heard now_heard old_refusals now_refusals turns → Fits e → new_kept.schema ≡ now_kept.schema
+    → (stepped : Stepped tells now_reads new_reads now_kept new_kept now_refusals new_refusals e answer)
     → (tells_heard → TellsLine now_heard new_heard from to answer)
-    → Applies tells tells_heard old_reads new_reads old_kept new_kept old_heard new_heard (events ++ e ∷ [])
-one_more_applied tells tells_heard old_reads now_reads new_reads old_kept now_kept new_kept old_heard now_heard new_heard events e answer from to a fits schema stepped said =
+    → Applies tells tells_heard old_reads new_reads old_kept new_kept old_heard new_heard old_refusals new_refusals (turns ++ (e, stepped.0) ∷ [])
+one_more_applied tells tells_heard old_reads now_reads new_reads old_kept now_kept new_kept old_heard now_heard new_heard old_refusals now_refusals new_refusals turns e answer from to a fits schema stepped said =
+    let t : Turn = (e, stepped.0) in
     record {
-      fits = fits-last events e a.fits fits;
+      fits = subst (λ (es : List Event). AllByRecursion Fits es) (sym (events-last turns t)) (fits-last (events_of turns) e a.fits fits);
       schema = schema ∙ a.schema;
-      holds = λ t s h. subst (Holds new_reads new_kept) (sym (after-last s events e)) (stepped t (after s events) (a.holds t s h)).1;
-      told = λ t th s h.
-          let more = tells_more old_heard now_heard new_heard from to answer (answers s events) (a.told t th s h) (said th) in
-          let is : answer ≡ (step (after s events) e).0 = (stepped t (after s events) (a.holds t s h)).0 in
-          subst (TellsLines old_heard new_heard) (ap (λ (line : List ℕ). answers s events ++ line ∷ []) is ∙ sym (answers-last s events e)) more;
+      holds = λ tell s h w. subst (Holds new_reads new_kept) (sym (after-last s turns t)) (stepped.2 tell (after s turns) (a.holds tell s h w) (after_whole s turns w)).1;
+      told = λ tell th s h w.
+          let more = tells_more old_heard now_heard new_heard from to answer (answers s turns) (a.told tell th s h w) (said th) in
+          let is : answer ≡ (step (after s turns) e stepped.0).0 = (stepped.2 tell (after s turns) (a.holds tell s h w) (after_whole s turns w)).0 in
+          subst (TellsLines old_heard new_heard) (ap (λ (line : List ℕ). answers s turns ++ line ∷ []) is ∙ sym (answers-last s turns t)) more;
+      readable = λ tell s h w. readable-last s turns t (a.readable tell s h w) (stepped.2 tell (after s turns) (a.holds tell s h w) (after_whole s turns w)).2;
+      refused = subst (λ (n : ℕ). RoseBy n old_refusals new_refusals) (sym (refused-last turns t)) (rose_more (all_refused turns) (refused_in stepped.0) old_refusals now_refusals new_refusals a.refused stepped.1);
     }
 
-pub goes_on : (tells tells_heard : Type 0) (old_reads now_reads new_reads : Reads) (old_kept now_kept new_kept : Kept) (old_heard now_heard new_heard : Heard) (text left later : Option (List ℕ)) (count : ℕ) (e : Event) (answer : List ℕ) (from to : ℕ)
-    → Progress tells tells_heard old_reads now_reads old_kept now_kept old_heard now_heard text left count
+pub goes_on : (tells tells_heard : Type 0) (old_reads now_reads new_reads : Reads) (old_kept now_kept new_kept : Kept) (old_heard now_heard new_heard : Heard) (old_refusals now_refusals new_refusals : ℕ) (text left later : Option (List ℕ)) (count : ℕ) (e : Event) (answer : List ℕ) (from to : ℕ)
+    → Progress tells tells_heard old_reads now_reads old_kept now_kept old_heard now_heard old_refusals now_refusals text left count
     → ((rest : List ℕ) → left ≡ Some rest → TakesEvent rest (Some e) later) → Fits e → new_kept.schema ≡ now_kept.schema
-    → (tells → (s : State) → Holds now_reads now_kept s → (answer ≡ (step s e).0) × Holds new_reads new_kept (step s e).1)
+    → Stepped tells now_reads new_reads now_kept new_kept now_refusals new_refusals e answer
     → (tells_heard → TellsLine now_heard new_heard from to answer)
-    → Progress tells tells_heard old_reads new_reads old_kept new_kept old_heard new_heard text later (count + 1)
-goes_on tells tells_heard old_reads now_reads new_reads old_kept now_kept new_kept old_heard now_heard new_heard text left later count e answer from to p takes fits schema stepped said =
+    → Progress tells tells_heard old_reads new_reads old_kept new_kept old_heard new_heard old_refusals new_refusals text later (count + 1)
+goes_on tells tells_heard old_reads now_reads new_reads old_kept now_kept new_kept old_heard now_heard new_heard old_refusals now_refusals new_refusals text left later count e answer from to p takes fits schema stepped said =
+    let t : Turn = (e, stepped.0) in
     record {
-      events = p.events ++ e ∷ [];
-      counted = ap (λ (n : ℕ). n + 1) p.counted ∙ sym (length-append p.events (e ∷ []));
+      turns = p.turns ++ t ∷ [];
+      counted = ap (λ (n : ℕ). n + 1) p.counted ∙ sym (length-append p.turns (t ∷ []));
       read = λ whole told.
           let r = p.read whole told in
-          one_more_read whole left later p.events r e (takes r.rest r.left_is);
-      applied = one_more_applied tells tells_heard old_reads now_reads new_reads old_kept now_kept new_kept old_heard now_heard new_heard p.events e answer from to p.applied fits schema stepped said;
+          subst (λ (es : List Event). ReadSoFar whole later es) (sym (events-last p.turns t)) (one_more_read whole left later (events_of p.turns) r e (takes r.rest r.left_is));
+      applied = one_more_applied tells tells_heard old_reads now_reads new_reads old_kept now_kept new_kept old_heard now_heard new_heard old_refusals now_refusals new_refusals p.turns e answer from to p.applied fits schema stepped said;
     }
 
 none_after : (held rest : List ℕ) → [] ≡ held ++ rest → rest ≡ []
@@ -145,18 +171,18 @@ none_pending held left e =
     p.1 ∙ ap (λ (xs : List ℕ). Some xs) (none_after held p.0 p.2)
 
 -- at the end of the script
-pub ends : (tells tells_heard : Type 0) (old_reads now_reads : Reads) (old_kept now_kept : Kept) (old_heard now_heard : Heard) (text before : Option (List ℕ)) (held : List ℕ) (left : Option (List ℕ)) (count number : ℕ)
-    → Progress tells tells_heard old_reads now_reads old_kept now_kept old_heard now_heard text before count
+pub ends : (tells tells_heard : Type 0) (old_reads now_reads : Reads) (old_kept now_kept : Kept) (old_heard now_heard : Heard) (old_refusals now_refusals : ℕ) (text before : Option (List ℕ)) (held : List ℕ) (left : Option (List ℕ)) (count number : ℕ)
+    → Progress tells tells_heard old_reads now_reads old_kept now_kept old_heard now_heard old_refusals now_refusals text before count
     → ((rest : List ℕ) → before ≡ Some rest → TakesEvent rest None (pending held left)) → number ≡ count
-    → Runs tells tells_heard old_reads now_reads old_kept now_kept old_heard now_heard text left number
-ends tells tells_heard old_reads now_reads old_kept now_kept old_heard now_heard text before held left count number p takes is =
+    → Runs tells tells_heard old_reads now_reads old_kept now_kept old_heard now_heard old_refusals now_refusals text left number
+ends tells tells_heard old_reads now_reads old_kept now_kept old_heard now_heard old_refusals now_refusals text before held left count number p takes is =
     record {
-      events = p.events;
+      turns = p.turns;
       counted = is ∙ p.counted;
       lines = λ whole told.
           let r = p.read whole told in
           let t = takes r.rest r.left_is in
-          (all_read whole before p.events r t.0, none_pending held left t.1);
+          (all_read whole before (events_of p.turns) r t.0, none_pending held left t.1);
       applied = p.applied;
     }
 
@@ -170,41 +196,44 @@ stops whole left events count number r counted is =
       split = r.split;
     }
 
+as_many : (turns : List Turn) → length (events_of turns) ≡ length turns
+as_many turns = length-map turns (λ (t : Turn). t.0)
+
 -- the next line is no event's
-pub stops_at_line : (tells tells_heard : Type 0) (old_reads now_reads : Reads) (old_kept now_kept : Kept) (old_heard now_heard : Heard) (text left : Option (List ℕ)) (count number : ℕ)
-    → Progress tells tells_heard old_reads now_reads old_kept now_kept old_heard now_heard text left count
+pub stops_at_line : (tells tells_heard : Type 0) (old_reads now_reads : Reads) (old_kept now_kept : Kept) (old_heard now_heard : Heard) (old_refusals now_refusals : ℕ) (text left : Option (List ℕ)) (count number : ℕ)
+    → Progress tells tells_heard old_reads now_reads old_kept now_kept old_heard now_heard old_refusals now_refusals text left count
     → ((rest : List ℕ) → left ≡ Some rest → IsNoEvent rest) → number ≡ count + 1 → LineRefusal text (line_refusal number)
-stops_at_line tells tells_heard old_reads now_reads old_kept now_kept old_heard now_heard text left count number p wrong is = (
+stops_at_line tells tells_heard old_reads now_reads old_kept now_kept old_heard now_heard old_refusals now_refusals text left count number p wrong is = (
   number,
   inl (
     refl,
     λ whole told.
         let r = p.read whole told in
-        (r.rest, stops whole left p.events count number r p.counted is, wrong r.rest r.left_is),
+        (r.rest, stops whole left (events_of p.turns) count number r (p.counted ∙ sym (as_many p.turns)) is, wrong r.rest r.left_is),
   ),
 )
 
 -- the next line is too long
-pub stops_at_long : (tells tells_heard : Type 0) (old_reads now_reads : Reads) (old_kept now_kept : Kept) (old_heard now_heard : Heard) (text left : Option (List ℕ)) (count number : ℕ)
-    → Progress tells tells_heard old_reads now_reads old_kept now_kept old_heard now_heard text left count
+pub stops_at_long : (tells tells_heard : Type 0) (old_reads now_reads : Reads) (old_kept now_kept : Kept) (old_heard now_heard : Heard) (old_refusals now_refusals : ℕ) (text left : Option (List ℕ)) (count number : ℕ)
+    → Progress tells tells_heard old_reads now_reads old_kept now_kept old_heard now_heard old_refusals now_refusals text left count
     → ((rest : List ℕ) → left ≡ Some rest → IsTooLong rest) → number ≡ count + 1 → LineRefusal text (long_refusal number)
-stops_at_long tells tells_heard old_reads now_reads old_kept now_kept old_heard now_heard text left count number p long is = (
+stops_at_long tells tells_heard old_reads now_reads old_kept now_kept old_heard now_heard old_refusals now_refusals text left count number p long is = (
   number,
   inr (
     refl,
     λ whole told.
         let r = p.read whole told in
-        (r.rest, stops whole left p.events count number r p.counted is, long r.rest r.left_is),
+        (r.rest, stops whole left (events_of p.turns) count number r (p.counted ∙ sym (as_many p.turns)) is, long r.rest r.left_is),
   ),
 )
 
 -- there is a line too many
-pub stops_at_last : (tells tells_heard : Type 0) (old_reads now_reads : Reads) (old_kept now_kept : Kept) (old_heard now_heard : Heard) (text left : Option (List ℕ)) (count : ℕ)
-    → Progress tells tells_heard old_reads now_reads old_kept now_kept old_heard now_heard text left count
+pub stops_at_last : (tells tells_heard : Type 0) (old_reads now_reads : Reads) (old_kept now_kept : Kept) (old_heard now_heard : Heard) (old_refusals now_refusals : ℕ) (text left : Option (List ℕ)) (count : ℕ)
+    → Progress tells tells_heard old_reads now_reads old_kept now_kept old_heard now_heard old_refusals now_refusals text left count
     → count ≡ 4294967295 → ((rest : List ℕ) → left ≡ Some rest → rest ≢ []) → IsTooMany text
-stops_at_last tells tells_heard old_reads now_reads old_kept now_kept old_heard now_heard text left count p is some whole told =
+stops_at_last tells tells_heard old_reads now_reads old_kept now_kept old_heard now_heard old_refusals now_refusals text left count p is some whole told =
     let r = p.read whole told in
-    (r.rest, stops whole left p.events count 4294967296 r p.counted (omega arith), some r.rest r.left_is)
+    (r.rest, stops whole left (events_of p.turns) count 4294967296 r (p.counted ∙ sym (as_many p.turns)) (omega (arith, is)), some r.rest r.left_is)
 
 -- where a line stands, something is left
 pub some_left : (rest line : List ℕ) (lines : List (List ℕ)) → lines_of rest ≡ line ∷ lines → rest ≢ []
@@ -219,36 +248,46 @@ write_fault (write.FileAlreadyExists path) f h = absurd h
 write_fault (write.Leaving path) f h = absurd h
 write_fault write.Memory f h = absurd h
 
+read_fault : {refused quiet more all : Type 0} {bad absent worse gone : List ℕ → Type 0} (error : OpenReadError) → (refused → more) → (quiet → all) → ((path : List ℕ) → bad path → worse path) → ((path : List ℕ) → absent path → gone path)
+    → ReadFault refused quiet bad absent error → ReadFault more all worse gone error
+read_fault (read.IoError fault path) f q b a (inl h) = inl (h.0, f h.1)
+read_fault (read.IoError fault path) f q b a (inr h) = inr (h.0, q h.1, h.2, b _ h.3)
+read_fault (read.FileDoesNotExist path) f q b a h = (q h.0, h.1, a _ h.2)
+read_fault other f q b a h = absurd h
+
 -- an event's
-pub event_cause : (refusal : List ℕ → Type 0) (too_many refused quiet spent more all : Type 0) (error : TantivyError) → EventCause refused quiet spent error → (refused → more) → (quiet → all) → (spent → ⊥) → RunCause refusal too_many more all error
-event_cause refusal too_many refused quiet spent more all (errors.IoError fault) h f q never = (h.0, f h.1)
-event_cause refusal too_many refused quiet spent more all (errors.OpenWriteError error) h f q never = write_fault error f h
-event_cause refusal too_many refused quiet spent more all errors.Exhausted h f q never = absurd (never h.1)
-event_cause refusal too_many refused quiet spent more all errors.Memory h f q never = q h
-event_cause refusal too_many refused quiet spent more all other h f q never = absurd h
+pub event_cause : (refusal : List ℕ → Type 0) (too_many refused quiet spent more all : Type 0) (bad absent worse gone : List ℕ → Type 0) (error : TantivyError) → ApplyCause refused quiet spent bad absent error → (refused → more) → (quiet → all) → (spent → ⊥)
+    → ((path : List ℕ) → bad path → worse path) → ((path : List ℕ) → absent path → gone path) → RunCause refusal too_many more all worse gone error
+event_cause refusal too_many refused quiet spent more all bad absent worse gone (errors.IoError fault) h f q never b a = (h.0, f h.1)
+event_cause refusal too_many refused quiet spent more all bad absent worse gone (errors.OpenWriteError error) h f q never b a = write_fault error f h
+event_cause refusal too_many refused quiet spent more all bad absent worse gone (errors.OpenReadError error) h f q never b a = read_fault error f q b a h
+event_cause refusal too_many refused quiet spent more all bad absent worse gone errors.Exhausted h f q never b a = absurd (never h.1)
+event_cause refusal too_many refused quiet spent more all bad absent worse gone errors.Memory h f q never b a = q h
+event_cause refusal too_many refused quiet spent more all bad absent worse gone other h f q never b a = absurd h
 
 -- a refusal's
-refusal_cause : (refusal : List ℕ → Type 0) (too_many refused quiet : Type 0) (text : List ℕ) (error : TantivyError) → IsRefusal text error → quiet → refusal text → RunCause refusal too_many refused quiet error
-refusal_cause refusal too_many refused quiet text (errors.InvalidArgument t) h q r = (q, subst refusal (sym h) r)
-refusal_cause refusal too_many refused quiet text errors.Memory h q r = q
-refusal_cause refusal too_many refused quiet text other h q r = absurd h
+refusal_cause : (refusal : List ℕ → Type 0) (too_many refused quiet : Type 0) (bad absent : List ℕ → Type 0) (text : List ℕ) (error : TantivyError) → IsRefusal text error → quiet → refusal text → RunCause refusal too_many refused quiet bad absent error
+refusal_cause refusal too_many refused quiet bad absent text (errors.InvalidArgument t) h q r = (q, subst refusal (sym h) r)
+refusal_cause refusal too_many refused quiet bad absent text errors.Memory h q r = q
+refusal_cause refusal too_many refused quiet bad absent text other h q r = absurd h
 
 -- a script's
-pub script_cause : (refusal : List ℕ → Type 0) (too_many refused quiet more all : Type 0) (failed : ScriptError) (number : ℕ) (error : TantivyError) → IsErrorOf failed number error → ScriptCause refused quiet failed → (refused → more) → (quiet → all)
-    → (failed ≡ script.NotAnEvent → refusal (line_refusal number)) → (failed ≡ script.TooLong → refusal (long_refusal number)) → RunCause refusal too_many more all error
-script_cause refusal too_many refused quiet more all script.Memory number error is h f q r l = subst (RunCause refusal too_many more all) (sym is) (q h)
-script_cause refusal too_many refused quiet more all (script.Fault fault) number error is h f q r l = subst (RunCause refusal too_many more all) (sym is) (h.0, f h.1)
-script_cause refusal too_many refused quiet more all script.NotAnEvent number error is h f q r l = refusal_cause refusal too_many more all (line_refusal number) error is (q h) (r refl)
-script_cause refusal too_many refused quiet more all script.TooLong number error is h f q r l = refusal_cause refusal too_many more all (long_refusal number) error is (q h) (l refl)
+pub script_cause : (refusal : List ℕ → Type 0) (too_many refused quiet more all : Type 0) (bad absent : List ℕ → Type 0) (failed : ScriptError) (number : ℕ) (error : TantivyError) → IsErrorOf failed number error → ScriptCause refused quiet failed → (refused → more) → (quiet → all)
+    → (failed ≡ script.NotAnEvent → refusal (line_refusal number)) → (failed ≡ script.TooLong → refusal (long_refusal number)) → RunCause refusal too_many more all bad absent error
+script_cause refusal too_many refused quiet more all bad absent script.Memory number error is h f q r l = subst (RunCause refusal too_many more all bad absent) (sym is) (q h)
+script_cause refusal too_many refused quiet more all bad absent (script.Fault fault) number error is h f q r l = subst (RunCause refusal too_many more all bad absent) (sym is) (h.0, f h.1)
+script_cause refusal too_many refused quiet more all bad absent script.NotAnEvent number error is h f q r l = refusal_cause refusal too_many more all bad absent (line_refusal number) error is (q h) (r refl)
+script_cause refusal too_many refused quiet more all bad absent script.TooLong number error is h f q r l = refusal_cause refusal too_many more all bad absent (long_refusal number) error is (q h) (l refl)
 
 -- the end's
-pub end_cause : (refusal : List ℕ → Type 0) (some too_many refused quiet more all : Type 0) (error : TantivyError) → RunCause (λ text. ⊥) some refused quiet error → (refused → more) → (quiet → all) → (some → too_many) → RunCause refusal too_many more all error
-end_cause refusal some too_many refused quiet more all (errors.InvalidArgument text) h f q k = absurd h.1
-end_cause refusal some too_many refused quiet more all (errors.IoError fault) h f q k = (h.0, f h.1)
-end_cause refusal some too_many refused quiet more all (errors.OpenWriteError error) h f q k = write_fault error f h
-end_cause refusal some too_many refused quiet more all errors.Exhausted h f q k = (q h.0, k h.1)
-end_cause refusal some too_many refused quiet more all errors.Memory h f q k = q h
-end_cause refusal some too_many refused quiet more all other h f q k = absurd h
+pub end_cause : (refusal : List ℕ → Type 0) (some too_many refused quiet more all : Type 0) (bad absent : List ℕ → Type 0) (error : TantivyError) → RunCause (λ text. ⊥) some refused quiet (λ path. ⊥) (λ path. ⊥) error → (refused → more) → (quiet → all) → (some → too_many) → RunCause refusal too_many more all bad absent error
+end_cause refusal some too_many refused quiet more all bad absent (errors.InvalidArgument text) h f q k = absurd h.1
+end_cause refusal some too_many refused quiet more all bad absent (errors.IoError fault) h f q k = (h.0, f h.1)
+end_cause refusal some too_many refused quiet more all bad absent (errors.OpenWriteError error) h f q k = write_fault error f h
+end_cause refusal some too_many refused quiet more all bad absent (errors.OpenReadError error) h f q k = read_fault {worse = bad} {gone = absent} error f q (λ path b. absurd b) (λ path b. absurd b) h
+end_cause refusal some too_many refused quiet more all bad absent errors.Exhausted h f q k = (q h.0, k h.1)
+end_cause refusal some too_many refused quiet more all bad absent errors.Memory h f q k = q h
+end_cause refusal some too_many refused quiet more all bad absent other h f q k = absurd h
 
 -- an opening's, as a replay's
 pub opening_cause : (tells : Type 0) (schema : List ℕ) (reads : Reads) (text : Option (List ℕ)) (refused quiet more all : Type 0) (error : TantivyError) → OpeningCause tells schema reads refused quiet error → (refused → more) → (quiet → all) → ReplayCause tells schema reads text more all error
@@ -258,13 +297,15 @@ opening_cause tells schema reads text refused quiet more all errors.Memory h f q
 opening_cause tells schema reads text refused quiet more all other h f q = absurd h
 
 -- a run's, as a replay's
-pub run_cause : (tells : Type 0) (schema : List ℕ) (reads : Reads) (text : Option (List ℕ)) (refused quiet more all : Type 0) (error : TantivyError) → RunCause (LineRefusal text) (IsTooMany text) refused quiet error → is_schema schema ≡ true → (tells → HasNoIndex reads) → (refused → more) → (quiet → all) → ReplayCause tells schema reads text more all error
-run_cause tells schema reads text refused quiet more all (errors.InvalidArgument t) h is none f q = (q h.0, inr (is, none, h.1))
-run_cause tells schema reads text refused quiet more all (errors.IoError fault) h is none f q = (is, h.0, f h.1)
-run_cause tells schema reads text refused quiet more all (errors.OpenWriteError error) h is none f q = (is, none, write_fault error f h)
-run_cause tells schema reads text refused quiet more all errors.Exhausted h is none f q = (q h.0, is, none, h.1)
-run_cause tells schema reads text refused quiet more all errors.Memory h is none f q = q h
-run_cause tells schema reads text refused quiet more all other h is none f q = absurd h
+pub run_cause : (tells : Type 0) (schema : List ℕ) (reads : Reads) (text : Option (List ℕ)) (refused quiet more all : Type 0) (bad absent : List ℕ → Type 0) (error : TantivyError) → RunCause (LineRefusal text) (IsTooMany text) refused quiet bad absent error
+    → is_schema schema ≡ true → (tells → HasNoIndex reads) → (refused → more) → (quiet → all) → ((path : List ℕ) → bad path → IsBadFile tells schema reads text path) → ((path : List ℕ) → absent path → NeverOpens tells schema reads) → ReplayCause tells schema reads text more all error
+run_cause tells schema reads text refused quiet more all bad absent (errors.InvalidArgument t) h is none f q b a = (q h.0, inr (is, none, h.1))
+run_cause tells schema reads text refused quiet more all bad absent (errors.IoError fault) h is none f q b a = (is, h.0, f h.1)
+run_cause tells schema reads text refused quiet more all bad absent (errors.OpenWriteError error) h is none f q b a = (is, none, write_fault error f h)
+run_cause tells schema reads text refused quiet more all bad absent (errors.OpenReadError error) h is none f q b a = (is, none, read_fault error f q b a h)
+run_cause tells schema reads text refused quiet more all bad absent errors.Exhausted h is none f q b a = (q h.0, is, none, h.1)
+run_cause tells schema reads text refused quiet more all bad absent errors.Memory h is none f q b a = q h
+run_cause tells schema reads text refused quiet more all bad absent other h is none f q b a = absurd h
 
 -- a count that rose from a later place rose from an earlier one, where it was the same
 pub rose_from : (old now new : ℕ) → now ≡ old → Rose now new → Rose old new
@@ -280,6 +321,7 @@ file_reads : (file : Option FileState) (read written : Option (List ℕ)) → Fi
 file_reads None read written h = h.0
 file_reads (Some (Sealed bytes)) read written h = h.0
 file_reads (Some (Open body)) read written h = h.0
+file_reads (Some Left) read written h = h.0
 
 directory_holds : (schema : List ℕ) (reads : Reads) (kept : Kept) (s : State) → kept.schema ≡ schema → Holds reads kept s → DirectoryHolds default_settings schema reads s
 directory_holds schema reads kept s is h = record {
@@ -293,7 +335,7 @@ unread : (read : Option (List ℕ)) → (IsSome read → ⊥) → ◌≡◌ {A =
 unread None none = refl
 unread (Some bytes) none = absurd (none refl)
 
-no_names : (read : Option (List ℕ)) (names : List (List ℕ)) → Lists read names → read ≡ None → names ≡ []
+pub no_names : (read : Option (List ℕ)) (names : List (List ℕ)) → Lists read names → read ≡ None → names ≡ []
 no_names None names h e = h
 no_names (Some bytes) names h e = absurd cc
 
@@ -301,13 +343,14 @@ unlisted : (names : List (List ℕ)) (n : List ℕ) → names ≡ [] → has nam
 unlisted names n none h = true≢false (sym h ∙ ap (λ (ns : List (List ℕ)). has ns n) none)
 
 -- a sound directory without index opens to the first state
-opens_first : (schema : List ℕ) (reads : Reads) → HasNoIndex reads → IsSound schema reads → OpensTo default_settings schema reads first_state
+pub opens_first : (schema : List ℕ) (reads : Reads) → HasNoIndex reads → IsSound schema reads → OpensTo default_settings schema reads first_state
 opens_first schema reads none sound = record {
   listed = [];
   listing = subst (λ (r : Option (List ℕ)). Lists r []) (sym none.listing) refl;
   opened = subst (λ (r : Option (List ℕ)). OpensWith default_settings schema r [] first_state) (sym none.meta) (refl, refl, refl);
   live = refl;
   next = refl;
+  reading = refl;
   names = λ n h. absurd (true≢false (sym h));
   files = λ n file.
       let no : sound.names ≡ [] = no_names (reads list_name) sound.names sound.listing none.listing in
@@ -316,17 +359,36 @@ opens_first schema reads none sound = record {
 
 -- ---- the whole replay
 
-pub replays : (tells tells_heard : Type 0) (schema : List ℕ) (old_reads mid_reads new_reads : Reads) (mid_kept new_kept : Kept) (old_heard mid_heard new_heard : Heard) (from to : ℕ) (text left : Option (List ℕ)) (count : ℕ)
+-- an index that is made in a directory without one has no segments, so its commit requires no files
+no_files : (segments : List (List ℕ × LiveSegment)) (n : List ℕ) → segments ≡ [] → has (all_required segments) n ≡ true → ⊥
+no_files segments n none h = true≢false (sym h ∙ ap (λ (es : List (List ℕ × LiveSegment)). has (all_required es) n) none)
+
+pub opens_whole : (schema : List ℕ) (reads : Reads) (s : State) → HasNoIndex reads → OpensTo default_settings schema reads s → IsWhole s
+opens_whole schema reads s none o =
+    let opened : OpensWith default_settings schema None o.listed s = subst (λ (r : Option (List ℕ)). OpensWith default_settings schema r o.listed s) none.meta o.opened in
+    record { each = λ n h. absurd (no_files s.commit.segments n (ap (λ (c : Commit). c.segments) opened.1) h) }
+
+-- an index that opens where none stood lists `meta.json` alone
+opens_sorted : (schema : List ℕ) (reads : Reads) (s : State) → HasNoIndex reads → OpensTo default_settings schema reads s → IsStrictlySortedBy byte_cmp s.managed
+unfolding IsStrictlySortedBy
+opens_sorted schema reads s none o =
+    let opened : OpensWith default_settings schema None o.listed s = subst (λ (r : Option (List ℕ)). OpensWith default_settings schema r o.listed s) none.meta o.opened in
+    let listed : Lists None o.listed = subst (λ (r : Option (List ℕ)). Lists r o.listed) none.listing o.listing in
+    let managed : s.managed ≡ meta_name ∷ [] = opened.2 ∙ ap (λ (ns : List (List ℕ)). insert_key byte_cmp ns meta_name) listed in
+    subst (IsStrictlySortedBy byte_cmp) (sym managed) (tt, tt)
+
+pub replays : (tells tells_heard : Type 0) (schema : List ℕ) (old_reads mid_reads new_reads : Reads) (mid_kept new_kept : Kept) (old_heard mid_heard new_heard : Heard) (old_refusals new_refusals from to : ℕ) (text left : Option (List ℕ)) (count : ℕ)
     → is_schema schema ≡ true → (tells → HasNoIndex old_reads) → mid_kept.schema ≡ schema
     → (tells → (s : State) → OpensTo default_settings schema old_reads s → Holds mid_reads mid_kept s)
     → (tells_heard → TellsLine old_heard mid_heard from to (opening_of mid_kept.commit))
-    → Runs tells tells_heard mid_reads new_reads mid_kept new_kept mid_heard new_heard text left count
-    → Replays tells tells_heard schema text left old_reads new_reads old_heard new_heard count
-replays tells tells_heard schema old_reads mid_reads new_reads mid_kept new_kept old_heard mid_heard new_heard from to text left count is none same opened said r =
-    let holds : tells → (s : State) → OpensTo default_settings schema old_reads s → DirectoryHolds default_settings schema new_reads (after s r.events) =
-    λ t s o. directory_holds schema new_reads new_kept (after s r.events) (r.applied.schema ∙ same) (r.applied.holds t s (opened t s o)) in
+    → Runs tells tells_heard mid_reads new_reads mid_kept new_kept mid_heard new_heard old_refusals new_refusals text left count
+    → Replays tells tells_heard schema text left old_reads new_reads old_heard new_heard old_refusals new_refusals count
+replays tells tells_heard schema old_reads mid_reads new_reads mid_kept new_kept old_heard mid_heard new_heard old_refusals new_refusals from to text left count is none same opened said r =
+    let whole : tells → (s : State) → OpensTo default_settings schema old_reads s → IsWhole s = λ t s o. opens_whole schema old_reads s (none t) o in
+    let holds : tells → (s : State) → OpensTo default_settings schema old_reads s → DirectoryHolds default_settings schema new_reads (after s r.turns) =
+    λ t s o. directory_holds schema new_reads new_kept (after s r.turns) (r.applied.schema ∙ same) (r.applied.holds t s (opened t s o) (whole t s o)) in
     record {
-      events = r.events;
+      turns = r.turns;
       counted = r.counted;
       schema_is = is;
       lines = r.lines;
@@ -334,10 +396,86 @@ replays tells tells_heard schema old_reads mid_reads new_reads mid_kept new_kept
       told = λ t th s o.
           let h = opened t s o in
           let first : TellsLine old_heard mid_heard from to (opening_of s.commit) = subst (λ c. TellsLine old_heard mid_heard from to (opening_of c)) h.commit (said th) in
-          tells_first old_heard mid_heard new_heard from to (opening_of s.commit) (answers s r.events) first (r.applied.told t th s h);
+          tells_first old_heard mid_heard new_heard from to (opening_of s.commit) (answers s r.turns) first (r.applied.told t th s h (whole t s o));
       holds = holds;
+      readable = λ t s o. r.applied.readable t s (opened t s o) (whole t s o);
+      serves = λ t s o. serves s r.turns o.reading o.next;
+      collects = λ t s o. collects_in s r.turns (opens_sorted schema old_reads s (none t) o);
+      refused = r.applied.refused;
       first = λ t sound. opens_first schema old_reads (none t) sound;
+      as_sealed = λ t sound. serves_as_sealed first_state r.turns first_sound r.applied.fits;
       sound = λ t sound.
-          holds_sound default_settings schema new_reads (after first_state r.events) (holds t first_state (opens_first schema old_reads (none t) sound))
-          (events_sound first_state r.events r.applied.fits first_sound);
+          holds_sound default_settings schema new_reads (after first_state r.turns) (holds t first_state (opens_first schema old_reads (none t) sound))
+          (turns_sound first_state r.turns r.applied.fits first_sound);
     }
+
+since_start : (s : State) (turns : List Turn) (path bytes : List ℕ) → ((body : List ℕ) → HasBody bytes body → ⊥) → (file_at s path ≡ Some (Sealed bytes)) ⊎ IsGood bytes → file_at s path ≡ Some (Sealed bytes)
+since_start s turns path bytes none (inl e) = e
+since_start s turns path bytes none (inr good) = absurd (none good.body (good.crc, good.fits, good.whole))
+
+sealed_reads : (read : Option (List ℕ)) (bytes : List ℕ) → option_map Sealed read ≡ Some (Sealed bytes) → read ≡ Some bytes
+sealed_reads None bytes e = absurd cc
+sealed_reads (Some other) bytes e = cc
+
+sealed_stands : (file : Option FileState) (read written : Option (List ℕ)) (bytes : List ℕ) → file ≡ Some (Sealed bytes) → FileHolds file read written → read ≡ Some bytes
+sealed_stands file read written bytes e h = (subst (λ (f : Option FileState). FileHolds f read written) e h).0
+
+begins : (script : List ℕ) (left : Option (List ℕ)) (events : List Event) → ReadSoFar script left events → BeginsWith script events
+begins script left events r = record { texts = r.texts; rest = r.rest; each = r.each; split = r.split }
+
+-- an event met the file after these turns, which stood so at the start of the run
+pub bad_since : (tells : Type 0) (old_reads now_reads : Reads) (old_kept now_kept : Kept) (text left later : Option (List ℕ)) (turns : List Turn) (event : Event)
+    → ((whole : List ℕ) → text ≡ Some whole → ReadSoFar whole left (events_of turns))
+    → ((rest : List ℕ) → left ≡ Some rest → TakesEvent rest (Some event) later)
+    → (tells → (s : State) → Holds old_reads old_kept s → IsWhole s → Holds now_reads now_kept (after s turns))
+    → (tells → (s : State) → Holds old_reads old_kept s → IsWhole s → AllReadGood s turns)
+    → (path : List ℕ) → BadIn tells now_reads now_kept event path → BadSince tells old_reads old_kept text path
+bad_since tells old_reads now_reads old_kept now_kept text left later turns event read takes holds readable path bad t s h w =
+    let b = bad t (after s turns) (holds t s h w) (after_whole s turns w) in
+    let sealed : file_at s path ≡ Some (Sealed b.1.bytes) = since_start s turns path b.1.bytes b.1.no_body (sealed_since s turns path b.1.bytes b.1.sealed) in
+    let named : IsFileOf path = h.names path (ap is_some sealed) in
+    record {
+      turns = turns;
+      readable = readable t s h w;
+      event = event;
+      lines = λ whole told.
+          let r = read whole told in
+          begins whole later (events_of turns ++ event ∷ []) (one_more_read whole left later (events_of turns) r event (takes r.rest r.left_is));
+      reading = b.0;
+      required = b.1.required;
+      bytes = b.1.bytes;
+      sealed = sealed;
+      stood = sealed_stands (file_at s path) (old_reads path) _ b.1.bytes sealed (h.files path named);
+      undotted = named.0;
+      no_body = b.1.no_body;
+    }
+
+pub none_since : (tells : Type 0) (old_reads now_reads : Reads) (old_kept now_kept : Kept) (turns : List Turn)
+    → (tells → (s : State) → Holds old_reads old_kept s → IsWhole s → Holds now_reads now_kept (after s turns))
+    → HoldsNone tells now_reads now_kept → HoldsNone tells old_reads old_kept
+none_since tells old_reads now_reads old_kept now_kept turns holds none t s h w = none t (after s turns) (holds t s h w) (after_whole s turns w)
+
+-- so it was a file of the directory when it was opened
+pub bad_at_start : (tells : Type 0) (schema : List ℕ) (old_reads mid_reads : Reads) (mid_kept : Kept) (text : Option (List ℕ)) → (tells → HasNoIndex old_reads)
+    → (tells → (s : State) → OpensTo default_settings schema old_reads s → Holds mid_reads mid_kept s)
+    → (path : List ℕ) → BadSince tells mid_reads mid_kept text path → IsBadFile tells schema old_reads text path
+bad_at_start tells schema old_reads mid_reads mid_kept text none opened path bad t s o =
+    let b = bad t s (opened t s o) (opens_whole schema old_reads s (none t) o) in
+    record {
+      turns = b.turns;
+      readable = b.readable;
+      event = b.event;
+      lines = b.lines;
+      reading = b.reading;
+      required = b.required;
+      bytes = b.bytes;
+      sealed = b.sealed;
+      stood = sealed_reads (old_reads path) b.bytes (sym (o.files path (o.names path (ap is_some b.sealed))) ∙ b.sealed);
+      undotted = b.undotted;
+      no_body = b.no_body;
+    }
+
+pub never_at_start : (tells : Type 0) (schema : List ℕ) (old_reads mid_reads : Reads) (mid_kept : Kept) → (tells → HasNoIndex old_reads)
+    → (tells → (s : State) → OpensTo default_settings schema old_reads s → Holds mid_reads mid_kept s)
+    → HoldsNone tells mid_reads mid_kept → NeverOpens tells schema old_reads
+never_at_start tells schema old_reads mid_reads mid_kept none opened holds_none t s o = holds_none t s (opened t s o) (opens_whole schema old_reads s (none t) o)

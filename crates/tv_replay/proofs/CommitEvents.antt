@@ -139,6 +139,8 @@ still_holds before now kept after s same is h =
       segments = h.segments;
       names = h.names;
       files = λ n file. subst (λ r. FileHolds (file_at s n) r (at kept.open_files n)) (sym (same n)) (h.files n file);
+      left = h.left;
+      reading = h.reading;
       meta = (h.meta.0, same meta_name ∙ h.meta.1, h.meta.2);
       listing = subst (λ r. Lists r s.managed) (sym (same list_name)) h.listing;
       listed = h.listed;
@@ -180,6 +182,8 @@ published before now kept after s payload segments commit text h is_new sound pr
       files = λ n file.
           subst (λ r. FileHolds (file_at s n) r (at after.open_files n)) (sym (others n file.1 (undotted_isnt_list n file.0)))
           (subst (λ (es : List (List ℕ × List ℕ)). FileHolds (file_at s n) (before n) (at es n)) (sym open_files) (h.files n file));
+      left = λ n. ap (λ (k : Kept). has k.left n) is_after ∙ h.left n;
+      reading = ap (λ (k : Kept). k.reading) is_after ∙ h.reading;
       meta = (
         text,
         saved,

@@ -1,21 +1,27 @@
 -- A replay that is ready stops only for want of memory, or where a device refused a call.
-use Rattle.std.proofs.Common.{◌≡◌, ◌≢◌, ◌⊎◌, inl, inr, ℕ, suc, ◌+◌, ◌≤◌, ◌<◌, ◌^◌, Bool, cond, true, false, true≢false, List, [], ◌∷◌, ◌++◌, length, length-append, Option, Some, None, Result, Ok, Err, refl, sym, ap, subst, ◌∙◌, arith}
+use Rattle.std.proofs.Common.{◌≡◌, ◌≢◌, ◌⊎◌, inl, inr, ℕ, ◌+◌, ◌≤◌, Bool, cond, true, false, true≢false, List, [], ◌∷◌, ◌++◌, length, length-append, Option, Some, None, Result, Ok, Err, refl, sym, ap, subst, ◌∙◌, arith}
 use Rattle.std.specs.Prelude.{IsSome, is_some, IfErr, string_bytes}
 use Rattle.std.specs.List.{onto_first}
+use Rattle.tv_base.specs.declared.open_errors.OpenReadError.{OpenReadError}
+use Rattle.tv_base.specs.declared.open_errors.OpenReadError.TheVariants as read
 use Rattle.tv_base.specs.declared.open_errors.OpenWriteError.{OpenWriteError}
 use Rattle.tv_base.specs.declared.open_errors.OpenWriteError.TheVariants as write
 use Rattle.tv_base.specs.declared.error.TantivyError.{TantivyError}
 use Rattle.tv_base.specs.declared.error.TantivyError.TheVariants as errors
 use Rattle.tv_model.specs.declared.event.Event.{Event}
+use Rattle.tv_model.specs.Names.{has, list_name}
 use Rattle.tv_model.specs.Files.{Reads}
-use Rattle.tv_model.specs.Commits.{is_schema, default_settings}
-use Rattle.tv_model.specs.Index.{IsSound, HasNoIndex, OpensTo, first_state}
+use Rattle.tv_model.specs.Listing.{Lists}
+use Rattle.tv_model.specs.Commits.{is_schema}
+use Rattle.tv_model.specs.Index.{IsSound, HasNoIndex, first_state}
 use Rattle.tv_model.specs.Script.{line_limit, lines_of, IsLine, AreLines}
 use Rattle.tv_replay.specs.ScriptLines.{IsNoEvent, IsTooLong}
 use Rattle.tv_replay.specs.StoreCauses.{WriteFault, HasIndex, OpeningRefusal}
-use Rattle.tv_replay.specs.Replays.{ReplayCause, StopsAt, LineRefusal, IsTooMany}
+use Rattle.tv_replay.specs.ReadCauses.{ReadFault}
+use Rattle.tv_replay.specs.Replays.{ReplayCause, StopsAt, LineRefusal, IsBadFile, NeverOpens}
 use Rattle.tv_replay.specs.Completeness.{IsScript, IsReady}
 use Rattle.tv_replay.proofs.Progress.{AreLines-length}
+use Rattle.tv_replay.proofs.Applying.{opens_first, no_names}
 
 -- the event whose line stands after some others
 event_there : (texts : List (List ℕ)) (text : List ℕ) (more : List (List ℕ)) (events : List Event) → AreLines (texts ++ text ∷ more) events → (event : Event) × IsLine text event
@@ -59,6 +65,9 @@ no_more_lines whole rest valid stops some =
     let events : length (lines_of whole) ≡ length valid.0 = AreLines-length (lines_of whole) valid.0 valid.1 in
     omega (arith, stops.place, some_line rest some, valid.2)
 
+unread_listed : (reads : Reads) (names : List (List ℕ)) → Lists (reads list_name) names → reads list_name ≡ None → names ≡ []
+unread_listed reads names lists none = no_names (reads list_name) names lists none
+
 isnt_absent : {X : Type 0} (o : Option X) → o ≡ None → IsSome o → ⊥
 isnt_absent None e h = true≢false (sym h)
 isnt_absent (Some x) e h = absurd cc
@@ -81,6 +90,20 @@ no_refusal tells schema script reads text t ready (inl (inl h)) = true≢false (
 no_refusal tells schema script reads text t ready (inl (inr h)) = no_index reads ready.none (h.2 t)
 no_refusal tells schema script reads text t ready (inr h) = no_line_refusal schema script reads text ready (h.2)
 
+-- a sound start without an index opens, and reads no file of its own
+no_bad_file : (tells : Type 0) (schema : List ℕ) (reads : Reads) (script : Option (List ℕ)) (path : List ℕ) → tells → IsSound schema reads → HasNoIndex reads → IsBadFile tells schema reads script path → ⊥
+no_bad_file tells schema reads script path t sound none bad =
+    let b = bad t first_state (opens_first schema reads none sound) in
+    let listed : has sound.names path ≡ true = sound.listed path b.undotted (ap is_some b.stood) in
+    true≢false (sym listed ∙ ap (λ (ns : List (List ℕ)). has ns path) (unread_listed reads sound.names sound.listing none.listing))
+
+no_read_fault : (tells refused quiet : Type 0) (schema : List ℕ) (reads : Reads) (script : Option (List ℕ)) (error : OpenReadError) → tells → IsSound schema reads → HasNoIndex reads → (refused → ⊥)
+    → ReadFault refused quiet (IsBadFile tells schema reads script) (λ path. NeverOpens tells schema reads) error → ⊥
+no_read_fault tells refused quiet schema reads script (read.IoError fault path) t sound none f (inl h) = f h.1
+no_read_fault tells refused quiet schema reads script (read.IoError fault path) t sound none f (inr h) = no_bad_file tells schema reads script (string_bytes path) t sound none h.3
+no_read_fault tells refused quiet schema reads script (read.FileDoesNotExist path) t sound none f h = h.2 t first_state (opens_first schema reads none sound)
+no_read_fault tells refused quiet schema reads script other t sound none f h = h
+
 no_write_fault : (refused : Type 0) (error : OpenWriteError) → (refused → ⊥) → WriteFault refused error → ⊥
 no_write_fault refused (write.IoError fault path) f h = f h.1
 no_write_fault refused (write.FileAlreadyExists path) f h = h
@@ -92,6 +115,7 @@ only_memory : (tells : Type 0) (schema : List ℕ) (reads : Reads) (script : Opt
 only_memory tells schema reads script refused quiet (errors.InvalidArgument text) t ready f h = absurd (no_refusal tells schema script reads (string_bytes text) t ready h.1)
 only_memory tells schema reads script refused quiet (errors.IoError fault) t ready f h = absurd (f h.2)
 only_memory tells schema reads script refused quiet (errors.OpenWriteError error) t ready f h = absurd (no_write_fault refused error f h.2)
+only_memory tells schema reads script refused quiet (errors.OpenReadError error) t ready f h = absurd (no_read_fault tells refused quiet schema reads script error t ready.sound ready.none f h.2)
 only_memory tells schema reads script refused quiet errors.Exhausted t ready f h =
     let stop = h.3 ready.text ready.told in
     absurd (no_more_lines ready.text stop.0 ready.valid stop.1 stop.2)

@@ -1,6 +1,6 @@
 -- What an index holds that was just made.
-use Rattle.std.proofs.Common.{ℕ, zero, suc, ◌≡◌, ◌≤◌, ◌<◌, ◌+◌, ◌++◌, ◌∷◌, [], List, Option, Some, None, true, refl, sym, ap, subst, ◌∙◌, arith}
-use Rattle.std.specs.Prelude.{option_map}
+use Rattle.std.proofs.Common.{ℕ, ◌≡◌, ◌++◌, ◌∷◌, [], List, Option, Some, None, true, false, refl, sym, ap, subst, ◌∙◌, arith}
+use Rattle.std.specs.Prelude.{is_some, option_map}
 use Rattle.std.specs.BTreeSet.{insert_key}
 use Rattle.std.specs.List.{AllByRecursion}
 use Rattle.std.specs.List.Sorted.{IsStrictlySortedBy}
@@ -9,16 +9,27 @@ use Rattle.tv_model.specs.Names.{byte_cmp, has, meta_name, list_name}
 use Rattle.tv_model.specs.Files.{Reads, Same}
 use Rattle.tv_model.specs.Listing.{Lists}
 use Rattle.tv_model.specs.Commits.{Commit, IsSegment, IsCommit, Means, printed, first_commit, default_settings}
-use Rattle.tv_model.specs.State.{State, FileState, Sealed, at, file_at}
+use Rattle.tv_model.specs.State.{State, FileState, Sealed, Open, Left, no_readers, at, file_at}
 use Rattle.tv_model.specs.Index.{IsFileOf, OpensTo, OpensWith, HasNoIndex, next_after}
 use Rattle.tv_managed.specs.Managed.{KeepsOtherFiles}
-use Rattle.tv_replay.specs.Kept.{Kept, FileHolds, Holds}
+use Rattle.tv_replay.specs.Kept.{Kept, FileHolds, is_left, Holds}
 use Rattle.tv_replay.proofs.CommitEvents.{undotted_isnt_list}
 
 -- a file that reads is held sealed, and one that doesn't isn't held
 holds_read : (r : Option (List ℕ)) → FileHolds (option_map Sealed r) r None
 holds_read None = (refl, refl)
 holds_read (Some bytes) = (refl, refl)
+
+-- no file of an opening is left
+by_file : (file : Option FileState) (read : Option (List ℕ)) → (is_some file ≡ true → file ≡ option_map Sealed read) → false ≡ is_left file
+by_file None read h = refl
+by_file (Some (Sealed bytes)) read h = refl
+by_file (Some (Open body)) read h = refl
+by_file (Some Left) None h = absurd (let e = h refl in cc)
+by_file (Some Left) (Some bytes) h = absurd (let e = h refl in cc)
+
+none_left : (s : State) (n : List ℕ) (read : Option (List ℕ)) → (is_some (file_at s n) ≡ true → IsFileOf n) → (IsFileOf n → file_at s n ≡ option_map Sealed read) → false ≡ is_left (file_at s n)
+none_left s n read named is = by_file (file_at s n) read (λ there. is (named there))
 
 -- the first commit is one
 pub first_is_commit : IsCommit first_commit
@@ -27,7 +38,7 @@ first_is_commit = record { ordered = tt; segments = tt; opstamp = omega arith; p
 
 -- what is kept of an index that was just made
 abbrev pub made : List ℕ → Kept
-made schema = record { schema = schema; live = []; next = 1; commit = first_commit; managed = insert_key byte_cmp [] meta_name; open_files = [] }
+made schema = record { schema = schema; live = []; next = 1; commit = first_commit; managed = insert_key byte_cmp [] meta_name; open_files = []; left = []; reading = no_readers }
 
 pub created : (empty mid after : Reads) (schema text : List ℕ) (s : State) (kept : Kept)
     → Same empty mid
@@ -60,6 +71,8 @@ created empty mid after schema text s kept same none o is_made printed_is saved 
           (subst (λ (es : List (List ℕ × List ℕ)). FileHolds (option_map Sealed (empty n)) (after n) (at es n)) (sym open_files)
           (subst (λ (r : Option (List ℕ)). FileHolds (option_map Sealed (empty n)) r None) (sym (others n file.1 (undotted_isnt_list n file.0) ∙ same n))
           (holds_read (empty n))));
+      left = λ n. ap (λ (k : Kept). has k.left n) is_made ∙ none_left s n (empty n) (o.names n) (o.files n);
+      reading = ap (λ (k : Kept). k.reading) is_made ∙ sym o.reading;
       meta = (
         text,
         saved,
@@ -75,7 +88,7 @@ created empty mid after schema text s kept same none o is_made printed_is saved 
 
 -- what is kept after the list was saved
 pub remade : (before : Kept) (schema : List ℕ) (managed : List (List ℕ)) (files : List (List ℕ × List ℕ))
-    → before ≡ record { schema = schema; live = []; next = 1; commit = first_commit; managed = []; open_files = [] }
+    → before ≡ record { schema = schema; live = []; next = 1; commit = first_commit; managed = []; open_files = []; left = []; reading = no_readers }
     → managed ≡ insert_key byte_cmp before.managed meta_name
     → files ≡ before.open_files
     → (record before { managed = managed; open_files = files }) ≡ made schema

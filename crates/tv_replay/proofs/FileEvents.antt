@@ -17,14 +17,14 @@ use Rattle.tv_model.specs.Footer.{sealed}
 use Rattle.tv_model.specs.Files.{Reads, Same, KeepsOthers, Sets}
 use Rattle.tv_model.specs.Listing.{Lists}
 use Rattle.tv_model.specs.Segments.{name_of, extension, is_delete, delete_opstamp, num_deleted}
-use Rattle.tv_model.specs.State.{State, Told, FileState, Sealed, Open, at, live_at, file_at, with_file}
+use Rattle.tv_model.specs.State.{State, Told, FileState, Sealed, Open, Left, at, live_at, file_at, with_file}
 use Rattle.tv_model.specs.Lines.{line, refuse}
 use Rattle.tv_model.specs.FileEvents.{open_name, open_of, open_step, write_name, write_of, write_step, seal_name, seal_of, seal_step}
 use Rattle.tv_model.specs.Index.{IsFileOf}
 use Rattle.tv_model.proofs.Entries.{same_at, at_itself, text_at, lookup_put, has_kept}
 use Rattle.tv_model.proofs.PlainNames.{undotted}
 use Rattle.tv_managed.specs.Managed.{Makes}
-use Rattle.tv_replay.specs.Kept.{Kept, FileHolds, Holds, AtMost}
+use Rattle.tv_replay.specs.Kept.{Kept, FileHolds, is_left, Holds, AtMost}
 use Rattle.tv_replay.proofs.OpenFiles.{all_put, all_left, all_found}
 
 -- a name that begins with an id is that of a file of the machine
@@ -59,6 +59,8 @@ same_holds reads reads1 kept kept1 s same e h =
       segments = h.segments;
       names = h.names;
       files = λ n fits. subst (λ (r : Option (List ℕ)). FileHolds (file_at s n) r (at kept.open_files n)) (sym (same n)) (h.files n fits);
+      left = h.left;
+      reading = h.reading;
       meta = (h.meta.0, same meta_name ∙ h.meta.1, h.meta.2);
       listing = subst (λ (r : Option (List ℕ)). Lists r s.managed) (sym (same list_name)) h.listing;
       listed = h.listed;
@@ -104,12 +106,18 @@ named : {P : Type 0} (b : Bool) (file : FileState) (old : Option FileState) → 
 named true file old here there h = here refl
 named false file old here there h = there h
 
+-- a file that is put is not left, and neither was the one in its place
+left_put : (b left : Bool) (file : FileState) (old : Option FileState) → (b ≡ true → left ≡ false) → is_left (Some file) ≡ false → left ≡ is_left old → left ≡ is_left (cond b (Some file) old)
+left_put true left file old here now was = here refl ∙ sym now
+left_put false left file old here now was = was
+
 -- what is held where one file changed
 changed : (reads reads2 : Reads) (kept : Kept) (s : State) (name : List ℕ) (file : FileState) (managed : List (List ℕ)) (open_files : List (List ℕ × List ℕ))
     → IsFileOf name → ((n : List ℕ) → n ≢ name → n ≢ list_name → reads2 n ≡ reads n) → Lists (reads2 list_name) managed → has managed meta_name ≡ true
     → FileHolds (Some file) (reads2 name) (at open_files name) → ((n : List ℕ) → is_at (byte_cmp name) n ≡ false → at open_files n ≡ at kept.open_files n)
+    → is_left (file_at s name) ≡ false → is_left (Some file) ≡ false
     → Holds reads kept s → Holds reads2 (record kept { managed = managed; open_files = open_files }) (record (with_file s name file) { managed = managed })
-changed reads reads2 kept s name file managed open_files fits others listing listed here rest h = record {
+changed reads reads2 kept s name file managed open_files fits others listing listed here rest was now h = record {
   live = h.live;
   next = h.next;
   commit = h.commit;
@@ -126,6 +134,10 @@ changed reads reads2 kept s name file managed open_files fits others listing lis
       let undotted_isnt : n ≢ list_name = λ same. true≢false (sym it.0 ∙ ap is_undotted same) in
       subst (λ (r : Option (List ℕ)). FileHolds (file_at s n) r (at open_files n)) (sym (others n (apart name n e) undotted_isnt))
       (subst (λ (w : Option (List ℕ)). FileHolds (file_at s n) (reads n) w) (sym (rest n e)) (h.files n it))));
+  left = λ n.
+      subst (λ (o : Option FileState). has kept.left n ≡ is_left o) (sym (lookup_put s.files name n file))
+      (left_put (is_at (byte_cmp name) n) (has kept.left n) file (file_at s n) (λ e. h.left n ∙ ap (λ (m : List ℕ). is_left (file_at s m)) (sym (text_at name n e)) ∙ was) now (h.left n));
+  reading = h.reading;
   meta = (h.meta.0, others meta_name (λ e. fits.1 (sym e)) (λ e. absurd cc) ∙ h.meta.1, h.meta.2);
   listing = listing;
   listed = listed;
@@ -140,22 +152,30 @@ isnt_there : (file : Option FileState) (read written : Option (List ℕ)) → Fi
 isnt_there None read written h none = refl
 isnt_there (Some (Sealed bytes)) read written h none = absurd cc
 isnt_there (Some (Open body)) read written h none = let some : is_some read ≡ true = h.0 in absurd (true≢false (sym some ∙ ap is_some none))
+isnt_there (Some Left) read written h none = let some : is_some read ≡ true = h.0 in absurd (true≢false (sym some ∙ ap is_some none))
+
+absent_isnt_left : (file : Option FileState) → is_some file ≡ false → is_left file ≡ false
+absent_isnt_left None e = refl
+absent_isnt_left (Some file) e = absurd (true≢false e)
 
 -- a file that was written to is open, and one that wasn't isn't
 is_open_file : (file : Option FileState) (read written : Option (List ℕ)) (body : List ℕ) → FileHolds file read written → written ≡ Some body → file ≡ Some (Open body)
 is_open_file None read written body h e = absurd cc
 is_open_file (Some (Sealed bytes)) read written body h e = absurd cc
 is_open_file (Some (Open text)) read written body h e = let same : Some text ≡ Some body = sym h.1 ∙ e in cc
+is_open_file (Some Left) read written body h e = absurd cc
 
 write_refused : (s : State) (name bytes : List ℕ) (file : Option FileState) (read written : Option (List ℕ)) → FileHolds file read written → written ≡ None → write_name s name bytes file ≡ refuse s (codes "not-open")
 write_refused s name bytes None read written h e = refl
 write_refused s name bytes (Some (Sealed body)) read written h e = refl
 write_refused s name bytes (Some (Open body)) read written h e = absurd cc
+write_refused s name bytes (Some Left) read written h e = refl
 
 seal_refused : (s : State) (name : List ℕ) (file : Option FileState) (read written : Option (List ℕ)) → FileHolds file read written → written ≡ None → seal_name s name file ≡ refuse s (codes "not-open")
 seal_refused s name None read written h e = refl
 seal_refused s name (Some (Sealed body)) read written h e = refl
 seal_refused s name (Some (Open body)) read written h e = absurd cc
+seal_refused s name (Some Left) read written h e = refl
 
 -- a file whose length is told has a body of that length
 has_body : (o : Option (List ℕ)) (len : ℕ) → Some len ≡ option_map length o → (body : List ℕ) × (o ≡ Some body) × (len ≡ length body)
@@ -233,7 +253,7 @@ opened reads reads2 kept s id name component segment answer managed open_files f
     (lists (subst (λ (m : List (List ℕ)). Lists (reads list_name) m) (sym h.managed) h.listing))
     (subst (λ (m : List (List ℕ)). has m meta_name ≡ true) (sym managed_is) (has_kept s.managed name meta_name h.listed))
     (ap is_some makes.empty, looks name ∙ ap (λ (b : Bool). cond b (Some []) (at kept.open_files name)) (at_itself name))
-    (λ n e. looks n ∙ ap (λ (b : Bool). cond b (Some []) (at kept.open_files n)) e) h in
+    (λ n e. looks n ∙ ap (λ (b : Bool). cond b (Some []) (at kept.open_files n)) e) (absent_isnt_left (file_at s name) gone) refl h in
     told_is (open_step s id component) (line (codes "opened") (name ∷ []), after (insert_key byte_cmp s.managed name)) answer reads2 (record kept { managed = managed; open_files = open_files })
     (open_found s id name component segment false found lacks is ∙ ap (λ (b : Bool). cond b (refuse s (codes "exists")) (line (codes "opened") (name ∷ []), after (insert_key byte_cmp s.managed name))) gone)
     (said, subst (λ (m : List (List ℕ)). Holds reads2 (record kept { managed = managed; open_files = open_files }) (after m)) managed_is holds)
@@ -278,7 +298,7 @@ written reads reads2 kept s id name component bytes segment len answer managed o
     let holds = changed reads reads2 kept s name (Open (body ++ bytes)) s.managed open_files fits (λ n isnt _. others n isnt)
     (kept_list reads reads2 name s.managed fits others h.listing) h.listed
     (there, looks name ∙ ap (λ (b : Bool). cond b (Some (body ++ bytes)) (at (remove_entry (is_at (byte_cmp name)) kept.open_files) name)) (at_itself name))
-    (λ n e. looks n ∙ ap (λ (b : Bool). cond b (Some (body ++ bytes)) (at (remove_entry (is_at (byte_cmp name)) kept.open_files) n)) e ∙ left_at kept.open_files name n e) h in
+    (λ n e. looks n ∙ ap (λ (b : Bool). cond b (Some (body ++ bytes)) (at (remove_entry (is_at (byte_cmp name)) kept.open_files) n)) e ∙ left_at kept.open_files name n e) (ap is_left file) refl h in
     told_is (write_step s id component bytes) (line (codes "wrote") (name ∷ decimal (length (body ++ bytes)) ∷ []), with_file s name (Open (body ++ bytes))) answer reads2 (record kept { managed = managed; open_files = open_files })
     (write_found s id name component bytes segment found is ∙ ap (λ (f : Option FileState). write_name s name bytes f) file)
     (said ∙ ap (λ (n : ℕ). line (codes "wrote") (name ∷ decimal n ∷ [])) longer, subst (λ (m : List (List ℕ)). Holds reads2 (record kept { managed = m; open_files = open_files }) (with_file s name (Open (body ++ bytes)))) (sym (same ∙ h.managed)) holds)
@@ -298,7 +318,7 @@ sealed_file reads reads2 kept s id name component segment len answer managed ope
     let holds = changed reads reads2 kept s name (Sealed (sealed body)) s.managed open_files fits (λ n isnt _. new.others n isnt)
     (kept_list reads reads2 name s.managed fits new.others h.listing) h.listed
     (new.changed, closed)
-    (λ n e. ap (λ (es : List (List ℕ × List ℕ)). at es n) cut ∙ left_at kept.open_files name n e) h in
+    (λ n e. ap (λ (es : List (List ℕ × List ℕ)). at es n) cut ∙ left_at kept.open_files name n e) (ap is_left file) refl h in
     told_is (seal_step s id component) (line (codes "sealed") (name ∷ decimal (length body) ∷ []), with_file s name (Sealed (sealed body))) answer reads2 (record kept { managed = managed; open_files = open_files })
     (seal_found s id name component segment found is ∙ ap (λ (f : Option FileState). seal_name s name f) file)
     (said ∙ ap (λ (n : ℕ). line (codes "sealed") (name ∷ decimal n ∷ [])) it.2, subst (λ (m : List (List ℕ)). Holds reads2 (record kept { managed = m; open_files = open_files }) (with_file s name (Sealed (sealed body)))) (sym (same ∙ h.managed)) holds)

@@ -15,8 +15,6 @@ last_within a b c d = simp length-append (omega arith)
 
 -- what an event adds to a file fits into its line
 pub written_fits : (text : List ℕ) (e : Event) → IsLine text e → written_by e ≤ line_limit
-written_fits text (events.Segment id) line = omega arith
-written_fits text (events.Open id c) line = omega arith
 written_fits text (events.Write id c bytes) line =
     let digits = line.are.0 in
     let twice : length digits ≡ 2 * length bytes = (decode_of-ok digits bytes line.are.1).2 in
@@ -25,7 +23,7 @@ written_fits text (events.Write id c bytes) line =
     let len : length text ≡ length (join_with_byte 32 (codes "write" ∷ encode_lower id ∷ extension c ∷ digits ∷ [])) = ap length spelled in
     let within : length digits ≤ length (join_with_byte 32 (codes "write" ∷ encode_lower id ∷ extension c ∷ digits ∷ [])) = last_within (codes "write") (encode_lower id) (extension c) digits in
     omega (arith, line.short)
-written_fits text (events.Seal id c) line = omega arith
-written_fits text (events.Docs id n) line = omega arith
-written_fits text (events.Commit payload ids) line = omega arith
-written_fits text events.Managed line = omega arith
+written_fits text (events.Reader policy) line = omega arith
+written_fits text (events.Reload number) line = omega arith
+written_fits text (events.Searcher number) line = omega arith
+written_fits text other line = omega arith

@@ -1,23 +1,34 @@
 -- How far the reading of a script has come, and one more event at the end of a run.
 use Rattle.std.proofs.Common.{◌≡◌, ℕ, suc, ◌+◌, ◌≤◌, List, [], ◌∷◌, ◌++◌, length, Option, Some, None, refl, sym, ap, subst, ◌∙◌, arith, append_assoc, length-append}
-use Rattle.std.proofs.lemmas.List.{append-nil}
+use Rattle.std.proofs.lemmas.List.{append-nil, map-append}
 use Rattle.tv_model.specs.declared.event.Event.{Event}
-use Rattle.tv_model.specs.State.{State, Told}
-use Rattle.tv_model.specs.Lines.{opening_line}
-use Rattle.tv_model.specs.Machine.{step, answers, after, report}
+use Rattle.tv_model.specs.State.{State}
+use Rattle.tv_model.specs.Machine.{Turn, step, answers, after, events_of, refused_in, all_refused}
+use Rattle.tv_model.specs.Readable.{ReadsGood, AllReadGood}
 use Rattle.tv_model.specs.Script.{lines_of, IsLine, AreLines}
 use Rattle.tv_replay.specs.ScriptLines.{pending, TakesEvent}
 use Rattle.tv_replay.proofs.LineLemmas.{pending_is}
 
 -- ---- one more event at the end
 
-pub after-last : (s : State) (events : List Event) (e : Event) → after s (events ++ e ∷ []) ≡ (step (after s events) e).1
-after-last s [] e = refl
-after-last s (first ∷ events) e = after-last (step s first).1 events e
+pub after-last : (s : State) (turns : List Turn) (t : Turn) → after s (turns ++ t ∷ []) ≡ (step (after s turns) t.0 t.1).1
+after-last s [] t = refl
+after-last s (first ∷ turns) t = after-last (step s first.0 first.1).1 turns t
 
-pub answers-last : (s : State) (events : List Event) (e : Event) → answers s (events ++ e ∷ []) ≡ answers s events ++ (step (after s events) e).0 ∷ []
-answers-last s [] e = refl
-answers-last s (first ∷ events) e = ap (λ (ls : List (List ℕ)). (step s first).0 ∷ ls) (answers-last (step s first).1 events e)
+pub answers-last : (s : State) (turns : List Turn) (t : Turn) → answers s (turns ++ t ∷ []) ≡ answers s turns ++ (step (after s turns) t.0 t.1).0 ∷ []
+answers-last s [] t = refl
+answers-last s (first ∷ turns) t = ap (λ (ls : List (List ℕ)). (step s first.0 first.1).0 ∷ ls) (answers-last (step s first.0 first.1).1 turns t)
+
+pub events-last : (turns : List Turn) (t : Turn) → events_of (turns ++ t ∷ []) ≡ events_of turns ++ t.0 ∷ []
+events-last turns t = map-append (λ (turn : Turn). turn.0) turns (t ∷ [])
+
+pub readable-last : (s : State) (turns : List Turn) (t : Turn) → AllReadGood s turns → ReadsGood (after s turns) t.0 → AllReadGood s (turns ++ t ∷ [])
+readable-last s [] t all good = (good, tt)
+readable-last s (first ∷ turns) t all good = (all.0, readable-last (step s first.0 first.1).1 turns t all.1 good)
+
+pub refused-last : (turns : List Turn) (t : Turn) → all_refused (turns ++ t ∷ []) ≡ all_refused turns + refused_in t.1
+refused-last [] t = omega arith
+refused-last (first ∷ turns) t = omega (arith, refused-last turns t)
 
 pub AreLines-last : (texts : List (List ℕ)) (events : List Event) (text : List ℕ) (e : Event) → AreLines texts events → IsLine text e → AreLines (texts ++ text ∷ []) (events ++ e ∷ [])
 AreLines-last [] [] text e h l = (l, tt)
@@ -30,22 +41,6 @@ AreLines-length [] [] h = refl
 AreLines-length (t ∷ texts) (f ∷ events) h = ap suc (AreLines-length texts events h.1)
 AreLines-length [] (f ∷ events) h = absurd h
 AreLines-length (t ∷ texts) [] h = absurd h
-
--- where the state is that after some events, a step leads to that after one more
-pub after_step : (s now new : State) (events : List Event) (e : Event) (answer : List ℕ) → now ≡ after s events → (answer, new) ≡ step now e → new ≡ after s (events ++ e ∷ [])
-after_step s now new events e answer is stepped =
-    let same : step now e ≡ step (after s events) e = ap (λ (x : State). step x e) is in
-    ap (λ (p : Told). p.1) (stepped ∙ same) ∙ sym (after-last s events e)
-
--- and its answer is the last of theirs
-pub answers_step : (s now new : State) (events : List Event) (e : Event) (answer : List ℕ) → now ≡ after s events → (answer, new) ≡ step now e → answers s (events ++ e ∷ []) ≡ answers s events ++ answer ∷ []
-answers_step s now new events e answer is stepped =
-    let same : step now e ≡ step (after s events) e = ap (λ (x : State). step x e) is in
-    let told : answer ≡ (step (after s events) e).0 = ap (λ (p : Told). p.0) (stepped ∙ same) in
-    answers-last s events e ∙ ap (λ (line : List ℕ). answers s events ++ line ∷ []) (sym told)
-
-pub report_step : (s now new : State) (events : List Event) (e : Event) (answer : List ℕ) → now ≡ after s events → (answer, new) ≡ step now e → report s (events ++ e ∷ []) ≡ report s events ++ answer ∷ []
-report_step s now new events e answer is stepped = ap (λ (ls : List (List ℕ)). opening_line s ∷ ls) (answers_step s now new events e answer is stepped)
 
 -- ---- the lines that were read
 

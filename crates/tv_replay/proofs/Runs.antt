@@ -7,18 +7,23 @@ use Rattle.std.specs.Fmt.{decimal, digits, digits_onto, digit_glyph}
 use Rattle.std.proofs.lemmas.Bool.{ne_eqb}
 use Rattle.tv_model.specs.Files.{Reads, Heard, Rose}
 use Rattle.tv_model.specs.Lines.{has_no_feed}
-use Rattle.tv_model.proofs.NoFeeds.{no_feed_append}
+use Rattle.tv_model.proofs.NoFeeds.{no_feed_append, no_feed_name}
 use Rattle.tv_base.specs.Causes.{IoCause}
 use Rattle.tv_base.specs.Errors.{of_io, of_open_directory}
 use Rattle.tv_base.specs.declared.io.IoError.{IoError}
 use Rattle.tv_base.specs.declared.io.IoError.TheVariants as io
+use Rattle.tv_base.specs.declared.io.IoKind.{IoKind}
+use Rattle.tv_base.specs.declared.io.IoKind.TheVariants.{Device, UnexpectedEof, InvalidData}
+use Rattle.tv_base.specs.declared.open_errors.OpenReadError.{OpenReadError}
+use Rattle.tv_base.specs.declared.open_errors.OpenReadError.TheVariants as read
 use Rattle.tv_base.specs.declared.open_errors.OpenDirectoryError.{OpenDirectoryError}
 use Rattle.tv_base.specs.declared.open_errors.OpenDirectoryError.TheVariants as directory
 use Rattle.tv_base.specs.declared.error.TantivyError.{TantivyError}
 use Rattle.tv_base.specs.declared.error.TantivyError.TheVariants as errors
-use Rattle.tv_replay.specs.ErrorLines.{argument_line, error_line}
+use Rattle.tv_replay.specs.ErrorLines.{argument_line, fault_line, read_line, error_line}
+use Rattle.tv_replay.specs.ReadCauses.{ReadFault}
 use Rattle.tv_replay.specs.Places.{LendCause, SaysPart}
-use Rattle.tv_replay.specs.Replays.{ReplayCause, LineRefusal, line_refusal, long_refusal}
+use Rattle.tv_replay.specs.Replays.{ReplayCause, LineRefusal, IsBadFile, NeverOpens, line_refusal, long_refusal}
 use Rattle.tv_replay.specs.Runs.{schema_line, folder_line, replay_words, SaysLine, OnlySays, Refuses, Reports}
 use Rattle.tv_replay.specs.StoreCauses.{OpeningRefusal}
 
@@ -60,10 +65,25 @@ line_no_feed : (script : Option (List ℕ)) (text : List ℕ) → LineRefusal sc
 line_no_feed script text (number, inl h) = rw h.0 (refusal_no_feed number)
 line_no_feed script text (number, inr h) = rw h.0 (long_no_feed number)
 
+fault_no_feed : (kind : IoKind) (path : List ℕ) → has_no_feed path ≡ true → has_no_feed (fault_line kind path) ≡ true
+fault_no_feed Device path h = refl
+fault_no_feed UnexpectedEof path h = no_feed_append (codes "error footer ") path refl h
+fault_no_feed InvalidData path h = no_feed_append (codes "error footer ") path refl h
+
+device_no_feed : (kind : IoKind) (path : List ℕ) → kind ≡ Device → has_no_feed (fault_line kind path) ≡ true
+device_no_feed kind path is = rw is refl
+
+read_no_feed : (refused quiet : Type 0) (bad absent : List ℕ → Type 0) (error : OpenReadError) → ReadFault refused quiet bad absent error → has_no_feed (read_line error) ≡ true
+read_no_feed refused quiet bad absent (read.IoError fault path) (inl h) = device_no_feed fault.kind (string_bytes path) h.0
+read_no_feed refused quiet bad absent (read.IoError fault path) (inr h) = fault_no_feed fault.kind (string_bytes path) (no_feed_name (string_bytes path) h.2)
+read_no_feed refused quiet bad absent (read.FileDoesNotExist path) h = no_feed_append (codes "error missing ") (string_bytes path) refl (no_feed_name (string_bytes path) h.1)
+read_no_feed refused quiet bad absent other h = absurd h
+
 -- no line feed stands in the line of an error that a replay answers
 pub error_no_feed : (tells : Type 0) (schema : List ℕ) (reads : Reads) (script : _) (refused quiet : Type 0) (error : TantivyError) → ReplayCause tells schema reads script refused quiet error → has_no_feed (error_line error) ≡ true
 error_no_feed tells schema reads script refused quiet (errors.InvalidArgument text) (_, inl opening) = argument_no_feed (string_bytes text) (opening_no_feed tells schema reads (string_bytes text) opening)
 error_no_feed tells schema reads script refused quiet (errors.InvalidArgument text) (_, inr (_, _, line)) = argument_no_feed (string_bytes text) (line_no_feed script (string_bytes text) line)
+error_no_feed tells schema reads script refused quiet (errors.OpenReadError error) (_, _, fault) = read_no_feed refused quiet (IsBadFile tells schema reads script) (λ path. NeverOpens tells schema reads) error fault
 error_no_feed tells schema reads script refused quiet other h = refl
 
 -- why a schema wasn't had: a device refused it, or memory was wanted
@@ -136,12 +156,12 @@ wants told tells_said memory before between now faults start count faults_now sa
     inl (subst (λ (n : ℕ). OnlySays told tells_said before now n faults_now said_before said_now line) (quiet ∙ same) (says_since folders silent only))
 
 -- a report, told of from an earlier moment at which nothing more had been said and refused
-pub reports_since : {O : Type 0} {tells tells_heard : Type 0} {reads : O → Reads} {heard : O → Heard} {faults moment : O → ℕ} {told tells_said : Type 0} {stopped : O} {kept_now : Option O} {start count faults_now : ℕ} {said_before said_between said_now line : List ℕ}
-    → count ≡ start → said_between ≡ said_before → Reports tells tells_heard reads heard faults moment told tells_said stopped kept_now count faults_now said_between said_now line
-    → Reports tells tells_heard reads heard faults moment told tells_said stopped kept_now start faults_now said_before said_now line
-reports_since {O} {tells} {tells_heard} {reads} {heard} {faults} {moment} {told} {tells_said} {stopped} {kept_now} {start} {count} {faults_now} {said_before} {said_between} {said_now} {line} same silent r =
-    subst (λ (s : List ℕ). Reports tells tells_heard reads heard faults moment told tells_said stopped kept_now start faults_now s said_now line) silent
-    (subst (λ (n : ℕ). Reports tells tells_heard reads heard faults moment told tells_said stopped kept_now n faults_now said_between said_now line) same r)
+pub reports_since : {O : Type 0} {tells tells_heard : Type 0} {reads : O → Reads} {heard : O → Heard} {faults refusals moment : O → ℕ} {told tells_said : Type 0} {stopped : O} {kept_now : Option O} {start count faults_now : ℕ} {said_before said_between said_now line : List ℕ}
+    → count ≡ start → said_between ≡ said_before → Reports tells tells_heard reads heard faults refusals moment told tells_said stopped kept_now count faults_now said_between said_now line
+    → Reports tells tells_heard reads heard faults refusals moment told tells_said stopped kept_now start faults_now said_before said_now line
+reports_since {O} {tells} {tells_heard} {reads} {heard} {faults} {refusals} {moment} {told} {tells_said} {stopped} {kept_now} {start} {count} {faults_now} {said_before} {said_between} {said_now} {line} same silent r =
+    subst (λ (s : List ℕ). Reports tells tells_heard reads heard faults refusals moment told tells_said stopped kept_now start faults_now s said_now line) silent
+    (subst (λ (n : ℕ). Reports tells tells_heard reads heard faults refusals moment told tells_said stopped kept_now n faults_now said_between said_now line) same r)
 
 pub not_done : (n : ℕ) → (n ≡ 1) ⊎ (n ≡ 3) → n ≡ 0 → ⊥
 not_done n (inl one) none = omega arith

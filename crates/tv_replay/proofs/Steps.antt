@@ -1,33 +1,122 @@
 -- What the steps of the events say, put together.
-use Rattle.std.proofs.Common.{ℕ, ◌≡◌, ◌+◌, ◌≤◌, ◌^◌, Bool, true, false, true≢false, List, [], length, Option, Some, None, sym, ap, subst, ◌∙◌, arith, refl, Result, Ok, Err, IfErr}
-use Rattle.std.specs.Prelude.{is_some}
+use Rattle.std.proofs.Common.{ℕ, ◌≡◌, ◌+◌, ◌≤◌, Bool, true, false, true≢false, inl, List, [], ◌∷◌, length, Option, Some, None, sym, ap, subst, ◌∙◌, arith, refl, Result, Ok, Err, IfErr}
+use Rattle.std.specs.Prelude.{is_some, IfOk, OnOk}
 use Rattle.std.specs.List.{AllByRecursion}
 use Rattle.tv_model.specs.declared.event.Event.{Event}
 use Rattle.tv_base.specs.declared.error.TantivyError.{TantivyError}
 use Rattle.tv_base.specs.declared.error.TantivyError.TheVariants as errors
-use Rattle.tv_replay.specs.Kept.{Kept, AtMost}
-use Rattle.tv_replay.specs.ScriptLines.{written_by}
-use Rattle.tv_model.specs.Files.{Reads, Rose}
+use Rattle.tv_replay.specs.Kept.{Kept, Holds, AtMost}
+use Rattle.tv_replay.specs.ReaderNumbers.{FewNumbers}
+use Rattle.tv_replay.specs.Applying.{Stepped}
+use Rattle.tv_replay.specs.ReadCauses.{ApplyCause}
+use Rattle.tv_replay.proofs.FewNumbers.{few_more}
+use Rattle.tv_replay.proofs.FileEvents.{same_holds}
+use Rattle.tv_model.specs.Files.{Reads, Same, Rose, RoseBy}
+use Rattle.tv_model.specs.State.{State, Told, Readers, no_readers}
+use Rattle.tv_model.specs.Machine.{step, refused_in}
+use Rattle.tv_model.specs.SoundStates.{IsWhole}
+use Rattle.tv_model.specs.Readable.{ReadsGood}
 use Rattle.tv_model.specs.Commits.{is_schema, first_commit}
 use Rattle.tv_replay.specs.StoreCauses.{EventCause, OpeningCause, MakesNoFile}
 
--- a cause stays one where more may be spent
-cause_of : (refused quiet spent more : Type 0) (error : TantivyError) → EventCause refused quiet spent error → (spent → more) → EventCause refused quiet more error
-cause_of refused quiet spent more (errors.IoError fault) h f = h
-cause_of refused quiet spent more (errors.OpenWriteError error) h f = h
-cause_of refused quiet spent more errors.Exhausted h f = (h.0, f h.1)
-cause_of refused quiet spent more errors.Memory h f = h
-cause_of refused quiet spent more other h f = absurd h
+-- ---- what an event did, by what its method says
 
-pub cause_in : (A refused quiet spent more : Type 0) (result : Result A TantivyError) → IfErr result (λ error. EventCause refused quiet spent error) → (spent → more) → IfErr result (λ error. EventCause refused quiet more error)
-cause_in A refused quiet spent more (Ok answer) h f = h
-cause_in A refused quiet spent more (Err error) h f = cause_of refused quiet spent more error h f
+-- a cause of an event that reads no commit's files
+plain_cause : (refused quiet spent more : Type 0) (bad absent : List ℕ → Type 0) (error : TantivyError) → EventCause refused quiet spent error → (spent → more) → ApplyCause refused quiet more bad absent error
+plain_cause refused quiet spent more bad absent (errors.IoError fault) h f = h
+plain_cause refused quiet spent more bad absent (errors.OpenWriteError error) h f = h
+plain_cause refused quiet spent more bad absent errors.Exhausted h f = (h.0, f h.1)
+plain_cause refused quiet spent more bad absent errors.Memory h f = h
+plain_cause refused quiet spent more bad absent other h f = absurd h
 
--- an event that writes nothing leaves the lengths as they were
-pub nothing_written : (bound : ℕ) (event : Event) (kept : Kept) → written_by event ≡ 0 → AtMost bound kept → AtMost (bound + written_by event) kept
-nothing_written bound event kept none h =
-    let same : bound ≡ bound + written_by event = omega (arith, none) in
-    subst (λ (b : ℕ). AtMost b kept) same h
+pub cause_in : (A refused quiet spent more : Type 0) (bad absent : List ℕ → Type 0) (result : Result A TantivyError) → IfErr result (λ error. EventCause refused quiet spent error) → (spent → more) → IfErr result (λ error. ApplyCause refused quiet more bad absent error)
+cause_in A refused quiet spent more bad absent (Ok answer) h f = h
+cause_in A refused quiet spent more bad absent (Err error) h f = plain_cause refused quiet spent more bad absent error h f
+
+-- and of one that does
+pub read_cause : (refused quiet spent more : Type 0) (bad absent : List ℕ → Type 0) (error : TantivyError) → ApplyCause refused quiet spent bad absent error → (spent → more) → ApplyCause refused quiet more bad absent error
+read_cause refused quiet spent more bad absent (errors.IoError fault) h f = h
+read_cause refused quiet spent more bad absent (errors.OpenWriteError error) h f = h
+read_cause refused quiet spent more bad absent (errors.OpenReadError error) h f = h
+read_cause refused quiet spent more bad absent errors.Exhausted h f = (h.0, f h.1)
+read_cause refused quiet spent more bad absent errors.Memory h f = h
+read_cause refused quiet spent more bad absent other h f = absurd h
+
+pub read_cause_in : (A refused quiet spent more : Type 0) (bad absent : List ℕ → Type 0) (result : Result A TantivyError) → IfErr result (λ error. ApplyCause refused quiet spent bad absent error) → (spent → more) → IfErr result (λ error. ApplyCause refused quiet more bad absent error)
+read_cause_in A refused quiet spent more bad absent (Ok answer) h f = h
+read_cause_in A refused quiet spent more bad absent (Err error) h f = read_cause refused quiet spent more bad absent error h f
+
+-- an event that deletes nothing and reads no commit's files
+pub stepped : {E : Type 0} (tells : Type 0) (old_reads new_reads : Reads) (old_kept new_kept : Kept) (old_refusals new_refusals : ℕ) (event : Event) (told : State → Told) (result : Result (List ℕ) E)
+    → new_refusals ≡ old_refusals → ((s : State) → step s event [] ≡ told s) → ((s : State) → ReadsGood s event)
+    → (tells → (s : State) → Holds old_reads old_kept s → IfOk result (λ answer. (answer ≡ (told s).0) × Holds new_reads new_kept (told s).1))
+    → IfOk result (Stepped tells old_reads new_reads old_kept new_kept old_refusals new_refusals event)
+stepped tells old_reads new_reads old_kept new_kept old_refusals new_refusals event told (Ok answer) quiet is good h = (
+  [],
+  inl (omega (arith, quiet)),
+  λ t s held whole.
+      let k = h t s held in
+      (k.0 ∙ ap (λ (x : Told). x.0) (sym (is s)), subst (λ (x : Told). Holds new_reads new_kept x.1) (sym (is s)) k.1, good s),
+)
+stepped tells old_reads new_reads old_kept new_kept old_refusals new_refusals event told (Err error) quiet is good h = tt
+
+-- one that reads them
+pub stepped_reading : {E : Type 0} (tells : Type 0) (old_reads new_reads : Reads) (old_kept new_kept : Kept) (old_refusals new_refusals : ℕ) (event : Event) (told : State → Told) (good : State → Type 0) (result : Result (List ℕ) E)
+    → new_refusals ≡ old_refusals → ((s : State) → step s event [] ≡ told s) → ((s : State) → good s → ReadsGood s event)
+    → (tells → (s : State) → Holds old_reads old_kept s → IsWhole s → IfOk result (λ answer. (answer ≡ (told s).0) × Holds new_reads new_kept (told s).1 × good s))
+    → IfOk result (Stepped tells old_reads new_reads old_kept new_kept old_refusals new_refusals event)
+stepped_reading tells old_reads new_reads old_kept new_kept old_refusals new_refusals event told good (Ok answer) quiet is reads h = (
+  [],
+  inl (omega (arith, quiet)),
+  λ t s held whole.
+      let k = h t s held whole in
+      (k.0 ∙ ap (λ (x : Told). x.0) (sym (is s)), subst (λ (x : Told). Holds new_reads new_kept x.1) (sym (is s)) k.1, reads s k.2),
+)
+stepped_reading tells old_reads new_reads old_kept new_kept old_refusals new_refusals event told good (Err error) quiet is reads h = tt
+
+-- one that deletes
+pub stepped_deleting : {E : Type 0} (tells : Type 0) (old_reads new_reads : Reads) (old_kept new_kept : Kept) (old_refusals new_refusals : ℕ) (event : Event) (told : State → List Bool → Told) (result : Result (List ℕ) E)
+    → ((s : State) (outcomes : List Bool) → step s event outcomes ≡ told s outcomes) → ((s : State) → ReadsGood s event)
+    → IfOk result (λ answer. (outcomes : List Bool) × RoseBy (refused_in outcomes) old_refusals new_refusals × (tells → (s : State) → Holds old_reads old_kept s → (answer ≡ (told s outcomes).0) × Holds new_reads new_kept (told s outcomes).1))
+    → IfOk result (Stepped tells old_reads new_reads old_kept new_kept old_refusals new_refusals event)
+stepped_deleting tells old_reads new_reads old_kept new_kept old_refusals new_refusals event told (Ok answer) is good h = (
+  h.0,
+  h.1,
+  λ t s held whole.
+      let k = h.2 t s held in
+      (k.0 ∙ ap (λ (x : Told). x.0) (sym (is s h.0)), subst (λ (x : Told). Holds new_reads new_kept x.1) (sym (is s h.0)) k.1, good s),
+)
+stepped_deleting tells old_reads new_reads old_kept new_kept old_refusals new_refusals event told (Err error) is good h = tt
+
+-- what is told afterwards changes nothing
+pub stepped_same : (tells : Type 0) (old_reads mid_reads new_reads : Reads) (old_kept mid_kept new_kept : Kept) (old_refusals mid_refusals new_refusals : ℕ) (event : Event) (answer : List ℕ)
+    → (tells → Same mid_reads new_reads) → new_kept ≡ mid_kept → new_refusals ≡ mid_refusals
+    → Stepped tells old_reads mid_reads old_kept mid_kept old_refusals mid_refusals event answer → Stepped tells old_reads new_reads old_kept new_kept old_refusals new_refusals event answer
+stepped_same tells old_reads mid_reads new_reads old_kept mid_kept new_kept old_refusals mid_refusals new_refusals event answer same kept quiet h = (
+  h.0,
+  subst (λ (n : ℕ). RoseBy (refused_in h.0) old_refusals n) (sym quiet) h.1,
+  λ t s held whole.
+      let k = h.2 t s held whole in
+      (k.0, same_holds mid_reads new_reads mid_kept new_kept (step s event h.0).1 (same t) kept k.1, k.2),
+)
+
+longer : (es : List (List ℕ × List ℕ)) (bound n : ℕ) → AllByRecursion (λ e. length e.1 ≤ bound) es → AllByRecursion (λ e. length e.1 ≤ bound + n) es
+longer [] bound n h = tt
+longer (e ∷ es) bound n h = (omega (arith, h.0), longer es bound n h.1)
+
+-- what is at most a bound is at most a larger one
+pub at_most : (bound n : ℕ) (kept : Kept) → AtMost bound kept → AtMost (bound + n) kept
+at_most bound n kept h = longer kept.open_files bound n h
+
+-- so are the numbers of who reads, where they stay
+pub numbers_stay : {A E : Type 0} (bound n : ℕ) (old new : Readers) (result : Result A E) → new ≡ old → FewNumbers bound old → OnOk result (FewNumbers (bound + n) new)
+numbers_stay bound n old new (Ok answer) same h = subst (FewNumbers (bound + n)) (sym same) (few_more bound n old h)
+numbers_stay bound n old new (Err error) same h = tt
+
+-- or where they are few after the event
+pub numbers_are : {A E : Type 0} (bound n : ℕ) (new : Readers) (result : Result A E) → OnOk result (FewNumbers bound new) → OnOk result (FewNumbers (bound + n) new)
+numbers_are bound n new (Ok answer) h = few_more bound n new h
+numbers_are bound n new (Err error) h = tt
 
 -- the same bodies are open
 pub same_lens : (bound : ℕ) (kept : Kept) (files : List (List ℕ × List ℕ)) → files ≡ kept.open_files → AtMost bound kept → AllByRecursion (λ e. length e.1 ≤ bound) files
@@ -54,7 +143,7 @@ later_fault start before after end b e rose = subst (λ (x : ℕ). Rose x end) b
 
 -- what is kept of an index that is yet to be made
 abbrev pub blank : List ℕ → Kept
-blank schema = record { schema = schema; live = []; next = 1; commit = first_commit; managed = []; open_files = [] }
+blank schema = record { schema = schema; live = []; next = 1; commit = first_commit; managed = []; open_files = []; left = []; reading = no_readers }
 
 pub still_blank : (kept : Kept) (schema : List ℕ) → kept ≡ blank schema → kept ≡ blank kept.schema
 still_blank kept schema e = subst (λ (x : List ℕ). kept ≡ blank x) (sym (ap (λ (k : Kept). k.schema) e)) e

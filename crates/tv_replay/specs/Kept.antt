@@ -1,15 +1,15 @@
 -- What a store keeps in memory, and the state of the machine that it holds with what its directory reads.
-use Rattle.std.specs.Prelude.{ℕ, ◌≡◌, ◌≤◌, true, List, length, Option, Some, None, IsSome, is_some}
+use Rattle.std.specs.Prelude.{ℕ, ◌≡◌, ◌≤◌, Bool, true, false, List, length, Option, Some, None, IsSome, is_some}
 use Rattle.std.specs.List.{AllByRecursion}
 use Rattle.tv_model.specs.declared.segment.LiveSegment.{LiveSegment}
 use Rattle.tv_model.specs.Names.{has, list_name, meta_name}
 use Rattle.tv_model.specs.Files.{Reads}
 use Rattle.tv_model.specs.Listing.{Lists}
 use Rattle.tv_model.specs.Commits.{Commit, IsSegment, Means, default_settings}
-use Rattle.tv_model.specs.State.{State, FileState, Sealed, Open, at, file_at}
+use Rattle.tv_model.specs.State.{State, FileState, Sealed, Open, Left, Readers, at, file_at}
 use Rattle.tv_model.specs.Index.{IsFileOf}
 
--- the schema's text, the live segments, the next number, the current commit, the managed names, and what was written to each open file
+-- the schema's text, the live segments, the next number, the current commit, the managed names, what was written to each open file, the files that were left, and who reads
 pub record Kept : Type 0 where
   pub schema : List ℕ
   pub live : List (List ℕ × LiveSegment)
@@ -17,12 +17,22 @@ pub record Kept : Type 0 where
   pub commit : Commit
   pub managed : List (List ℕ)
   pub open_files : List (List ℕ × List ℕ)
+  pub left : List (List ℕ)
+  pub reading : Readers
 
 -- a file of the machine, next to what its name reads and what was written to it
 abbrev pub FileHolds : Option FileState → Option (List ℕ) → Option (List ℕ) → Type 0
 FileHolds None read written = (read ≡ None) × (written ≡ None)
 FileHolds (Some (Sealed bytes)) read written = (read ≡ Some bytes) × (written ≡ None)
 FileHolds (Some (Open body)) read written = IsSome read × (written ≡ Some body)
+FileHolds (Some Left) read written = IsSome read × (written ≡ None)
+
+-- whether a file was left
+abbrev pub is_left : Option FileState → Bool
+is_left None = false
+is_left (Some (Sealed bytes)) = false
+is_left (Some (Open body)) = false
+is_left (Some Left) = true
 
 -- what is read and what is kept hold this state
 pub record Holds (reads : Reads) (kept : Kept) (s : State) : Type 0 where
@@ -33,6 +43,8 @@ pub record Holds (reads : Reads) (kept : Kept) (s : State) : Type 0 where
   pub segments : AllByRecursion IsSegment s.live
   pub names : (n : List ℕ) → is_some (file_at s n) ≡ true → IsFileOf n
   pub files : (n : List ℕ) → IsFileOf n → FileHolds (file_at s n) (reads n) (at kept.open_files n)
+  pub left : (n : List ℕ) → has kept.left n ≡ is_left (file_at s n)
+  pub reading : kept.reading ≡ s.reading
   pub meta : (text : List ℕ) × (reads meta_name ≡ Some text) × Means default_settings kept.schema text s.commit
   pub listing : Lists (reads list_name) s.managed
   pub listed : has s.managed meta_name ≡ true

@@ -1,5 +1,6 @@
 pub mod Fields
 pub mod Reading
+pub mod Choosing
 pub mod ScriptLines
 pub mod ScriptCauses
 pub mod Kept
@@ -12,5 +13,8 @@ pub mod ErrorLines
 pub mod Runs
 pub mod BenchPlace
 pub mod Applying
-pub mod Choosing
+pub mod ReadCauses
+pub mod Bodies
+pub mod ReaderNumbers
 pub mod Completeness
+pub mod SearcherLines

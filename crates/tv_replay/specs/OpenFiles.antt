@@ -1,6 +1,5 @@
 -- The files of a store that are open.
-use Rattle.std.specs.Prelude.{ℕ, ◌≡◌, ◌<◌, ◌^◌, Bool, true, List, length, Option, option_map}
-use Rattle.std.specs.List.{AllByRecursion}
+use Rattle.std.specs.Prelude.{ℕ, ◌≡◌, Bool, true, List, length}
 
 -- an open file: its writer was opened here under its name, keeps the checksum of what was written, and its length is kept beside it
 pub record IsOpenFile {W : Type 0} (opened lives : W → Bool) (name_of written : W → List ℕ) (name : List ℕ) (w : W) (summed : Type 0) (len : ℕ) : Type 0 where

@@ -2,6 +2,7 @@
 use Rattle.std.specs.Prelude.{ℕ, ◌^◌, List, [], ◌∷◌, codes, Option, Some, None, if◌then◌else◌}
 use Rattle.tv_model.specs.declared.event.Event.{Event}
 use Rattle.tv_model.specs.declared.event.Event.TheVariants as events
+use Rattle.tv_model.specs.declared.reload_policy.ReloadPolicy.TheVariants.{Manual}
 use Rattle.tv_model.specs.Ids.{are_distinct}
 use Rattle.tv_model.specs.Names.{is}
 use Rattle.tv_replay.specs.Fields.{id_at, number_at, component_at, bytes_at}
@@ -66,9 +67,73 @@ commit_in (payload ∷ words) =
       commit_of ids)
     else None
 
+abbrev pub gc_in : List (List ℕ) → Option Event
+gc_in [] = Some events.Gc
+gc_in args = None
+
+-- so far a reader reloads where it is asked to
+abbrev pub reader_in : List (List ℕ) → Option Event
+reader_in (policy ∷ []) = if is policy (codes "manual") then Some (events.Reader Manual) else None
+reader_in args = None
+
+abbrev pub reload_in : List (List ℕ) → Option Event
+reload_in (number ∷ []) = do
+  number ← number_at (2 ^ 64) number
+  Some (events.Reload number)
+reload_in args = None
+
+abbrev pub searcher_in : List (List ℕ) → Option Event
+searcher_in (number ∷ []) = do
+  number ← number_at (2 ^ 64) number
+  Some (events.Searcher number)
+searcher_in args = None
+
+abbrev pub show_in : List (List ℕ) → Option Event
+show_in (number ∷ []) = do
+  number ← number_at (2 ^ 64) number
+  Some (events.Show number)
+show_in args = None
+
+abbrev pub bytes_in : List (List ℕ) → Option Event
+bytes_in (number ∷ ord ∷ component ∷ []) = do
+  number ← number_at (2 ^ 64) number
+  ord ← number_at (2 ^ 32) ord
+  component ← component_at component
+  Some (events.Bytes number ord component)
+bytes_in args = None
+
+-- what is released, by its kind and its id or number
+abbrev pub released_in : List ℕ → List ℕ → Option Event
+released_in kind subject =
+    if is kind (codes "segment") then (do
+      id ← id_at subject
+      Some (events.ReleaseSegment id))
+    else if is kind (codes "reader") then (do
+      number ← number_at (2 ^ 64) subject
+      Some (events.ReleaseReader number))
+    else if is kind (codes "searcher") then (do
+      number ← number_at (2 ^ 64) subject
+      Some (events.ReleaseSearcher number))
+    else None
+
+abbrev pub release_in : List (List ℕ) → Option Event
+release_in (kind ∷ subject ∷ []) = released_in kind subject
+release_in args = None
+
 abbrev pub managed_in : List (List ℕ) → Option Event
 managed_in [] = Some events.Managed
 managed_in args = None
+
+-- the event about a reader or a searcher, or the release, that these words stand for
+abbrev pub reader_event_in : List ℕ → List (List ℕ) → Option Event
+reader_event_in word args =
+    if is word (codes "reader") then reader_in args
+    else if is word (codes "reload") then reload_in args
+    else if is word (codes "searcher") then searcher_in args
+    else if is word (codes "show") then show_in args
+    else if is word (codes "bytes") then bytes_in args
+    else if is word (codes "release") then release_in args
+    else None
 
 -- the event that these words stand for
 abbrev pub event_in : List (List ℕ) → Option Event
@@ -80,5 +145,6 @@ event_in (word ∷ args) =
     else if is word (codes "seal") then seal_in args
     else if is word (codes "docs") then docs_in args
     else if is word (codes "commit") then commit_in args
+    else if is word (codes "gc") then gc_in args
     else if is word (codes "managed") then managed_in args
-    else None
+    else reader_event_in word args

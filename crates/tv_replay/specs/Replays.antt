@@ -1,31 +1,45 @@
 -- A script replayed over a directory.
-use Rattle.std.specs.Prelude.{ℕ, ◌≡◌, ◌≢◌, ◌⊎◌, ◌+◌, true, List, [], ◌++◌, length, codes, Option, Some, string_bytes}
+use Rattle.std.specs.Prelude.{ℕ, ◌≡◌, ◌≢◌, ◌⊎◌, ◌+◌, true, List, [], ◌∷◌, ◌++◌, length, codes, Option, Some, string_bytes}
 use Rattle.std.specs.Fmt.{decimal}
 use Rattle.tv_model.specs.declared.event.Event.{Event}
-use Rattle.tv_model.specs.Files.{Reads, Heard}
+use Rattle.tv_model.specs.Names.{has, is_undotted}
+use Rattle.tv_model.specs.Files.{Reads, Heard, RoseBy}
+use Rattle.tv_model.specs.Footer.{HasBody}
 use Rattle.tv_model.specs.Commits.{is_schema, default_settings}
-use Rattle.tv_model.specs.State.{State}
-use Rattle.tv_model.specs.Machine.{after, report}
+use Rattle.tv_model.specs.Segments.{all_required}
+use Rattle.tv_model.specs.State.{State, Sealed, file_at}
+use Rattle.tv_model.specs.Machine.{Turn, after, report, events_of, all_refused}
+use Rattle.tv_model.specs.Readable.{AllReadGood}
+use Rattle.tv_model.specs.Serving.{Serves, ServesAsSealed}
+use Rattle.tv_model.specs.Collecting.{CollectsIn}
 use Rattle.tv_model.specs.Script.{lines_of, AreLines}
 use Rattle.tv_model.specs.Index.{DirectoryHolds, IsSound, OpensTo, HasNoIndex, first_state}
 use Rattle.tv_base.specs.Causes.{IsDevice}
 use Rattle.tv_base.specs.declared.error.TantivyError.{TantivyError}
 use Rattle.tv_base.specs.declared.error.TantivyError.TheVariants as errors
 use Rattle.tv_replay.specs.ScriptLines.{IsNoEvent, IsTooLong}
+use Rattle.tv_replay.specs.ReadCauses.{Reading, ReadFault}
 use Rattle.tv_replay.specs.StoreCauses.{OpeningRefusal, WriteFault}
 use Rattle.tv_replay.specs.Telling.{TellsLines}
 
 -- A replay that answered Ok: the script is the lines of some events; from each state to which the directory opened, the report of the machine's run on these
--- events was told, line by line, and the directory holds the run's last state; and from a sound start what it reads is sound.
-pub record Replays (tells tells_heard : Type 0) (schema : List ℕ) (script left : Option (List ℕ)) (old_reads new_reads : Reads) (old_heard new_heard : Heard) (count : ℕ) : Type 0 where
-  pub events : List Event
-  pub counted : count ≡ length events
+-- events was told, line by line, and the directory holds the run's last state; each event that reads a commit's files found that it could; no more deletes were
+-- refused than their count rose; and from a sound start what it reads is sound. The run's readers and searchers serve as `Serves` says, and from a sound start
+-- they show each file as it was sealed; its collections take what nothing needs, as `CollectsIn` says.
+pub record Replays (tells tells_heard : Type 0) (schema : List ℕ) (script left : Option (List ℕ)) (old_reads new_reads : Reads) (old_heard new_heard : Heard) (old_refusals new_refusals count : ℕ) : Type 0 where
+  pub turns : List Turn
+  pub counted : count ≡ length turns
   pub schema_is : is_schema schema ≡ true
-  pub lines : (text : List ℕ) → script ≡ Some text → AreLines (lines_of text) events × (left ≡ Some [])
+  pub lines : (text : List ℕ) → script ≡ Some text → AreLines (lines_of text) (events_of turns) × (left ≡ Some [])
   pub none : tells → HasNoIndex old_reads
-  pub told : tells → tells_heard → (s : State) → OpensTo default_settings schema old_reads s → TellsLines old_heard new_heard (report s events)
-  pub holds : tells → (s : State) → OpensTo default_settings schema old_reads s → DirectoryHolds default_settings schema new_reads (after s events)
+  pub told : tells → tells_heard → (s : State) → OpensTo default_settings schema old_reads s → TellsLines old_heard new_heard (report s turns)
+  pub holds : tells → (s : State) → OpensTo default_settings schema old_reads s → DirectoryHolds default_settings schema new_reads (after s turns)
+  pub readable : tells → (s : State) → OpensTo default_settings schema old_reads s → AllReadGood s turns
+  pub serves : tells → (s : State) → OpensTo default_settings schema old_reads s → Serves s turns
+  pub collects : tells → (s : State) → OpensTo default_settings schema old_reads s → CollectsIn s turns
+  pub refused : RoseBy (all_refused turns) old_refusals new_refusals
   pub first : tells → IsSound schema old_reads → OpensTo default_settings schema old_reads first_state
+  pub as_sealed : tells → IsSound schema old_reads → ServesAsSealed first_state turns
   pub sound : tells → IsSound schema old_reads → IsSound schema new_reads
 
 -- the lines before a place are events' lines, and this is what is left of the script there
@@ -55,12 +69,53 @@ LineRefusal script text =
 abbrev pub IsTooMany : Option (List ℕ) → Type 0
 IsTooMany script = (whole : List ℕ) → script ≡ Some whole → (rest : List ℕ) × StopsAt whole 4294967296 rest × (rest ≢ [])
 
+-- the first lines of a script are the lines of these events
+pub record BeginsWith (script : List ℕ) (events : List Event) : Type 0 where
+  pub texts : List (List ℕ)
+  pub rest : List ℕ
+  pub each : AreLines texts events
+  pub split : lines_of script ≡ texts ++ lines_of rest
+
+-- From a state over what a directory reads, a run meets a file without a footer.
+pub record MeetsBadFile (script : Option (List ℕ)) (reads : Reads) (s : State) (path : List ℕ) : Type 0 where
+  -- what was done before
+  pub turns : List Turn
+  -- each event before that reads a commit's files could do so
+  pub readable : AllReadGood s turns
+  -- the event that meets the file
+  pub event : Event
+  -- where the script is told, its first lines are those of the events before, and the next one is this event's
+  pub lines : (text : List ℕ) → script ≡ Some text → BeginsWith text (events_of turns ++ event ∷ [])
+  -- the event reads the files that the current commit requires
+  pub reading : Reading (after s turns) event
+  -- this file is one of them
+  pub required : has (all_required (after s turns).commit.segments) path ≡ true
+  -- it was sealed at the start, with these bytes
+  pub bytes : List ℕ
+  pub sealed : file_at s path ≡ Some (Sealed bytes)
+  -- which the directory reads
+  pub stood : reads path ≡ Some bytes
+  -- its name has no dot in front
+  pub undotted : is_undotted path ≡ true
+  -- and the bytes don't end in a footer
+  pub no_body : (body : List ℕ) → HasBody bytes body → ⊥
+
+-- where the content is told, a run from each state to which the directory opens meets this file, which has no footer
+abbrev pub IsBadFile : (tells : Type 0) → (schema : List ℕ) → Reads → (script : Option (List ℕ)) → List ℕ → Type 0
+IsBadFile tells schema reads script path = tells → (s : State) → OpensTo default_settings schema reads s → MeetsBadFile script reads s path
+
+-- where the content is told, the directory opens to no state
+abbrev pub NeverOpens : (tells : Type 0) → (schema : List ℕ) → Reads → Type 0
+NeverOpens tells schema reads = tells → (s : State) → OpensTo default_settings schema reads s → ⊥
+
 -- why a replay answers an error: `refused` where a device refused a call, `quiet` where none did
 abbrev pub ReplayCause : (tells : Type 0) → (schema : List ℕ) → Reads → (script : Option (List ℕ)) → (refused quiet : Type 0) → TantivyError → Type 0
 ReplayCause tells schema reads script refused quiet (errors.InvalidArgument text) =
     quiet × (OpeningRefusal tells schema reads (string_bytes text) ⊎ ((is_schema schema ≡ true) × (tells → HasNoIndex reads) × LineRefusal script (string_bytes text)))
 ReplayCause tells schema reads script refused quiet (errors.IoError fault) = (is_schema schema ≡ true) × IsDevice fault × refused
 ReplayCause tells schema reads script refused quiet (errors.OpenWriteError error) = (is_schema schema ≡ true) × (tells → HasNoIndex reads) × WriteFault refused error
+ReplayCause tells schema reads script refused quiet (errors.OpenReadError error) =
+    (is_schema schema ≡ true) × (tells → HasNoIndex reads) × ReadFault refused quiet (IsBadFile tells schema reads script) (λ path. NeverOpens tells schema reads) error
 ReplayCause tells schema reads script refused quiet errors.Exhausted = quiet × (is_schema schema ≡ true) × (tells → HasNoIndex reads) × IsTooMany script
 ReplayCause tells schema reads script refused quiet errors.Memory = quiet
 ReplayCause tells schema reads script refused quiet other = ⊥

@@ -44,7 +44,7 @@ pub record Refuses {O : Type 0} (told tells_said : Type 0) (kept_before kept_now
   pub refused : Rose faults count
   pub only : OnlySays told tells_said kept_before kept_now count faults_now said_before said_now line
 
-module _ {O : Type 0} (tells tells_heard : Type 0) (reads : O → Reads) (heard : O → Heard) (faults moment : O → ℕ) (told tells_said : Type 0) where
+module _ {O : Type 0} (tells tells_heard : Type 0) (reads : O → Reads) (heard : O → Heard) (faults refusals moment : O → ℕ) (told tells_said : Type 0) where
   -- The whole script was replayed over the directory that was lent for the folder, which was given back, and no call was refused.
   pub record Succeeds (kept_before kept_now : Option O) (schema_there script left : Option (List ℕ)) (script_faults script_faults_now : ℕ) : Type 0 where
     pub before : O
@@ -54,7 +54,7 @@ module _ {O : Type 0} (tells tells_heard : Type 0) (reads : O → Reads) (heard 
     pub lent : told → kept_before ≡ Some before
     pub given_back : told → kept_now ≡ Some now
     pub schema_is : told → schema_there ≡ Some schema
-    pub replays : Replays tells tells_heard schema script left (reads before) (reads now) (heard before) (heard now) count
+    pub replays : Replays tells tells_heard schema script left (reads before) (reads now) (heard before) (heard now) (refusals before) (refusals now) count
     pub quiet : (faults now ≡ faults before) × (script_faults_now ≡ script_faults)
 
   -- The directory was given back, and reads what it read when the replay stopped. A line was told to it, and nothing was said; or no more than a part of the line was told, and the line was said.

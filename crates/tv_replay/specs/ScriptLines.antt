@@ -42,12 +42,10 @@ abbrev pub IsNoEvent : List ℕ → Type 0
 IsNoEvent script =
     (text : List ℕ) × (texts : List (List ℕ)) × (lines_of script ≡ text ∷ texts) × (length text ≤ line_limit) × ((event : Event) → IsLine text event → ⊥)
 
--- how many bytes an event adds to a file
+-- how many bytes an event adds to a file, or how many numbers of readers, searchers and snapshots it takes
 abbrev pub written_by : Event → ℕ
-written_by (events.Segment id) = 0
-written_by (events.Open id component) = 0
 written_by (events.Write id component bytes) = length bytes
-written_by (events.Seal id component) = 0
-written_by (events.Docs id n) = 0
-written_by (events.Commit payload ids) = 0
-written_by events.Managed = 0
+written_by (events.Reader policy) = 1
+written_by (events.Reload number) = 1
+written_by (events.Searcher number) = 1
+written_by other = 0

@@ -27,6 +27,8 @@ impl<O: Outside> IndexStore<O> {
         ensures quiet { O.faults self.new.1 ≡ O.faults self.old.1 }
         ensures heard { O.heard self.new.1 ≡ O.heard self.old.1 }
         ensures clock { O.moment self.old.1 ≤ O.moment self.new.1 }
+        ensures refusals { O.refusals self.new.1 ≡ O.refusals self.old.1 }
+        ensures reading { self.new.0.reading ≡ self.old.0.reading }
         ensures more { O.room self.old.1 ≤ O.room self.new.1 }
     {
         self.files.ready(answer.as_slice().len())?;
@@ -44,6 +46,8 @@ impl<O: Outside> IndexStore<O> {
         ensures quiet { O.faults self.new.1 ≡ O.faults self.old.1 }
         ensures heard { O.heard self.new.1 ≡ O.heard self.old.1 }
         ensures clock { O.moment self.old.1 ≤ O.moment self.new.1 }
+        ensures refusals { O.refusals self.new.1 ≡ O.refusals self.old.1 }
+        ensures reading { self.new.0.reading ≡ self.old.0.reading }
     {
         let answer = refused(self.alloc, word)?;
         let ready = self.ready(answer)?;

@@ -68,6 +68,24 @@ impl Commit {
         self.segments.len()
     }
 
+    /// Its segments, in the order of their ids.
+    pub(crate) fn segments(&self, alloc: Global) -> Result<Vec<(SegmentId, LiveSegment)>, Memory>
+        ensures { IfOk result (λ segments. segments.items ≡ self.now.segments) }
+    {
+        listed(alloc, &self.segments)
+    }
+
+    /// A copy of its payload.
+    pub(crate) fn payload(&self, alloc: Global) -> Result<Option<Text>, Memory>
+        ensures { IfOk result (λ payload. payload ≡ self.now.payload) }
+    {
+        let Some(text) = &self.payload else {
+            return Ok(None);
+        };
+        let copy = String::from_str(alloc, text.as_str())?;
+        Ok(Some(Text::new(copy)))
+    }
+
     /// Whether the segment is one of its own.
     pub(crate) fn has_segment(&self, id: SegmentId) -> bool
         ensures { result ≡ is_some (at self.now.segments id) }
@@ -90,6 +108,20 @@ impl Commit {
         put(&mut text, "}\n")?;
         Ok(text)
     }
+}
+
+/// Some segments as a list, in the order of their ids.
+pub(crate) fn listed(
+    alloc: Global,
+    segments: &BTreeMap<SegmentId, LiveSegment>,
+) -> Result<Vec<(SegmentId, LiveSegment)>, Memory>
+    ensures { IfOk result (λ list. list.items ≡ segments.now.entries) }
+{
+    let mut list = Vec::new(alloc);
+    for (id, live) in segments {
+        list.push((*id, *live))?;
+    }
+    Ok(list)
 }
 
 // Adds a text.
@@ -280,110 +312,5 @@ fn put_escaped(out: &mut Vec<u8>, byte: u8) -> Result<(), Memory>
             out.push(byte)?;
             Ok(())
         }
-    }
-}
-
-#[cfg(test)]
-mod tests {
-    use super::*;
-    use std::test::Fail;
-
-    const SCHEMA: &str =
-        r#"[{"name":"text","type":"text","options":{"indexing":{"record":"position","fieldnorms":true,"tokenizer":"default"},"stored":false,"fast":false}}]"#;
-
-    const FRONT: &str =
-        r#"{"index_settings":{"docstore_compression":"none","docstore_blocksize":16384},"segments":"#;
-
-    const FIRST: [u8; 16] = [
-        0xa5, 0xc4, 0xdf, 0xcb, 0xdf, 0xe6, 0x45, 0x08, 0x91, 0x29, 0xe3, 0x08, 0xe2, 0x6d, 0x55,
-        0x23,
-    ];
-
-    const SECOND: [u8; 16] = [0, 0, 0, 0, 0, 0, 0, 0, 0, 0, 0, 0, 0, 0, 0, 1];
-
-    // Some segments.
-    fn segments(
-        alloc: Global,
-        rows: &[([u8; 16], u32, Option<DeleteMeta>)],
-    ) -> Result<BTreeMap<SegmentId, LiveSegment>, Fail> {
-        let mut segments = BTreeMap::new(alloc);
-        for (id, max_doc, deletes) in rows {
-            segments.insert(
-                SegmentId::from_bytes(*id),
-                LiveSegment {
-                    max_doc: *max_doc,
-                    deletes: *deletes,
-                },
-            )?;
-        }
-        Ok(segments)
-    }
-
-    // What is printed of a commit under the schema above, as a text.
-    fn printed(alloc: Global, commit: &Commit) -> Result<String, Fail> {
-        let text = commit.print(alloc, SCHEMA.as_bytes())?;
-        Ok(String::from_utf8(text)?)
-    }
-
-    #[test]
-    fn prints_the_first_commit(rt: HostRuntime) -> Result<(), Fail> {
-        let found = printed(rt.alloc(), &Commit::first(rt.alloc()))?;
-        let want =
-            r#"{"index_settings":{"docstore_compression":"none","docstore_blocksize":16384},"segments":[],"schema":[{"name":"text","type":"text","options":{"indexing":{"record":"position","fieldnorms":true,"tokenizer":"default"},"stored":false,"fast":false}}],"opstamp":0}"#;
-        let want = format!(in rt.alloc(); "{want}\n")?;
-        assert_eq!(rt; found.as_str(), want.as_str());
-        Ok(())
-    }
-
-    #[test]
-    fn prints_segments(rt: HostRuntime) -> Result<(), Fail> {
-        let deletes = Some(DeleteMeta {
-            num_deleted_docs: 1,
-            opstamp: 2,
-        });
-        let rows: [(&[([u8; 16], u32, Option<DeleteMeta>)], &str); 3] = [
-            (
-                &[(FIRST, 3, None)],
-                r#"[{"segment_id":"a5c4dfcb-dfe6-4508-9129-e308e26d5523","max_doc":3,"deletes":null}]"#,
-            ),
-            (
-                &[(FIRST, 3, deletes)],
-                r#"[{"segment_id":"a5c4dfcb-dfe6-4508-9129-e308e26d5523","max_doc":3,"deletes":{"num_deleted_docs":1,"opstamp":2}}]"#,
-            ),
-            (
-                &[(FIRST, 3, None), (SECOND, 4_294_967_295, None)],
-                r#"[{"segment_id":"00000000-0000-0000-0000-000000000001","max_doc":4294967295,"deletes":null},{"segment_id":"a5c4dfcb-dfe6-4508-9129-e308e26d5523","max_doc":3,"deletes":null}]"#,
-            ),
-        ];
-        for (segments_of, shown) in rows {
-            let commit = Commit::new(1, None, segments(rt.alloc(), segments_of)?);
-            let found = printed(rt.alloc(), &commit)?;
-            let want = format!(in rt.alloc();
-                "{FRONT}{shown},\"schema\":{SCHEMA},\"opstamp\":1}}\n"
-            )?;
-            assert_eq!(rt; found.as_str(), want.as_str());
-        }
-        Ok(())
-    }
-
-    #[test]
-    fn prints_payloads(rt: HostRuntime) -> Result<(), Fail> {
-        let rows = [
-            ("hi", "hi"),
-            ("", ""),
-            ("\"\\\u{8}\u{c}\n\r\t", r#"\"\\\b\f\n\r\t"#),
-            ("\u{0}\u{b}\u{1f}", r"\u0000\u000b\u001f"),
-            (" /\u{7f}é", " /\u{7f}é"),
-        ];
-        for (payload, shown) in rows {
-            let payload = Text::new(String::from_str(rt.alloc(), payload)?);
-            let commit = Commit::new(2, Some(payload), BTreeMap::new(rt.alloc()));
-            let found = printed(rt.alloc(), &commit)?;
-            let want = format!(in rt.alloc();
-                "{FRONT}[],\"schema\":{SCHEMA},\"opstamp\":2,\"payload\":\"{shown}\"}}\n"
-            )?;
-            assert_eq!(rt; found.as_str(), want.as_str());
-        }
-        Ok(())
     }
 }

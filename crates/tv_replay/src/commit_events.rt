@@ -58,7 +58,7 @@ fn copied(alloc: Global, payload: &Option<Text>) -> Result<Option<Text>, Memory>
 }
 
 // Adds the name of one file of a segment.
-fn push_name(
+pub(crate) fn push_name(
     alloc: Global,
     names: &mut Vec<FileName>,
     id: SegmentId,
@@ -102,6 +102,19 @@ fn push_required(
     }
     push_name(alloc, names, id, segment, SegmentComponent::Delete)?;
     Ok(())
+}
+
+/// The names of the files that a segment has to have sealed, in their order.
+pub(crate) fn required_of(
+    alloc: Global,
+    id: SegmentId,
+    segment: LiveSegment,
+) -> Result<Vec<FileName>, Memory>
+    ensures { IfOk result (λ names. names.items ≡ required_names id segment) }
+{
+    let mut names = Vec::new(alloc);
+    push_required(alloc, &mut names, id, segment)?;
+    Ok(names)
 }
 
 // The names of the files that these segments have to have sealed, in their order.
@@ -198,7 +211,12 @@ impl<O: Outside> IndexStore<O> {
         ensures quiet { OnOk result (O.faults self.new.1 ≡ O.faults self.old.1) }
         ensures cause { IfErr result (EventCause (Rose (O.faults self.old.1) (O.faults self.new.1)) (O.faults self.new.1 ≡ O.faults self.old.1) ⊥) }
         ensures clock { O.moment self.old.1 ≤ O.moment self.new.1 }
+        ensures refusals { O.refusals self.new.1 ≡ O.refusals self.old.1 }
+        ensures reading { self.new.0.reading ≡ self.old.0.reading }
     {
+        if self.left.contains(name) {
+            return Ok(true);
+        }
         let is_sealed = self.files.is_sealed(name)?;
         Ok(!is_sealed)
     }
@@ -217,6 +235,8 @@ impl<O: Outside> IndexStore<O> {
         ensures quiet { OnOk result (O.faults self.new.1 ≡ O.faults self.old.1) }
         ensures cause { IfErr result (EventCause (Rose (O.faults self.old.1) (O.faults self.new.1)) (O.faults self.new.1 ≡ O.faults self.old.1) ⊥) }
         ensures clock { O.moment self.old.1 ≤ O.moment self.new.1 }
+        ensures refusals { O.refusals self.new.1 ≡ O.refusals self.old.1 }
+        ensures reading { self.new.0.reading ≡ self.old.0.reading }
     {
         for name in names {
             if self.is_unsealed(name)? {
@@ -236,6 +256,8 @@ impl<O: Outside> IndexStore<O> {
         ensures quiet { O.faults self.new.1 ≡ O.faults self.old.1 }
         ensures heard { O.heard self.new.1 ≡ O.heard self.old.1 }
         ensures clock { O.moment self.old.1 ≤ O.moment self.new.1 }
+        ensures refusals { O.refusals self.new.1 ≡ O.refusals self.old.1 }
+        ensures reading { self.new.0.reading ≡ self.old.0.reading }
     {
         self.files.ready(REFUSAL_ROOM)?;
         let ready = self.ready(answer)?;
@@ -252,6 +274,8 @@ impl<O: Outside> IndexStore<O> {
         ensures quiet { O.faults self.new.1 ≡ O.faults self.old.1 }
         ensures heard { O.heard self.new.1 ≡ O.heard self.old.1 }
         ensures clock { O.moment self.old.1 ≤ O.moment self.new.1 }
+        ensures refusals { O.refusals self.new.1 ≡ O.refusals self.old.1 }
+        ensures reading { self.new.0.reading ≡ self.old.0.reading }
     {
         let answer = refused(self.alloc, "unknown-segment")?.id(id)?;
         let ready = self.ready(answer)?;
@@ -268,6 +292,8 @@ impl<O: Outside> IndexStore<O> {
         ensures quiet { O.faults self.new.1 ≡ O.faults self.old.1 }
         ensures heard { O.heard self.new.1 ≡ O.heard self.old.1 }
         ensures clock { O.moment self.old.1 ≤ O.moment self.new.1 }
+        ensures refusals { O.refusals self.new.1 ≡ O.refusals self.old.1 }
+        ensures reading { self.new.0.reading ≡ self.old.0.reading }
     {
         let answer = refused(self.alloc, "unsealed")?.name(name)?;
         let ready = self.ready(answer)?;
@@ -289,6 +315,8 @@ impl<O: Outside> IndexStore<O> {
         ensures quiet { OnOk result (O.faults self.new.1 ≡ O.faults self.old.1) }
         ensures cause { IfErr result (EventCause (Rose (O.faults self.old.1) (O.faults self.new.1)) (O.faults self.new.1 ≡ O.faults self.old.1) ⊥) }
         ensures clock { O.moment self.old.1 ≤ O.moment self.new.1 }
+        ensures refusals { O.refusals self.new.1 ≡ O.refusals self.old.1 }
+        ensures reading { self.new.0.reading ≡ self.old.0.reading }
     {
         self.files.save_meta(text)?;
         self.commit = commit;
@@ -311,6 +339,8 @@ impl<O: Outside> IndexStore<O> {
         ensures quiet { OnOk result (O.faults self.new.1 ≡ O.faults self.old.1) }
         ensures cause { IfErr result (EventCause (Rose (O.faults self.old.1) (O.faults self.new.1)) (O.faults self.new.1 ≡ O.faults self.old.1) ⊥) }
         ensures clock { O.moment self.old.1 ≤ O.moment self.new.1 }
+        ensures refusals { O.refusals self.new.1 ≡ O.refusals self.old.1 }
+        ensures reading { self.new.0.reading ≡ self.old.0.reading }
     {
         if self.next == Opstamp::MAX {
             let answer = self.refuse("stamps-spent")?;
@@ -342,6 +372,8 @@ impl<O: Outside> IndexStore<O> {
         ensures quiet { OnOk result (O.faults self.new.1 ≡ O.faults self.old.1) }
         ensures cause { IfErr result (EventCause (Rose (O.faults self.old.1) (O.faults self.new.1)) (O.faults self.new.1 ≡ O.faults self.old.1) ⊥) }
         ensures clock { O.moment self.old.1 ≤ O.moment self.new.1 }
+        ensures refusals { O.refusals self.new.1 ≡ O.refusals self.old.1 }
+        ensures reading { self.new.0.reading ≡ self.old.0.reading }
     {
         let names = required_files(self.alloc, &segments)?;
         let answer = committed(self.alloc, self.next, segments.len())?;

@@ -57,6 +57,8 @@ impl<O: Outside> IndexStore<O> {
         ensures quiet { OnOk result (O.faults self.new.1 ≡ O.faults self.old.1) }
         ensures cause { IfErr result (EventCause (Rose (O.faults self.old.1) (O.faults self.new.1)) (O.faults self.new.1 ≡ O.faults self.old.1) ⊥) }
         ensures clock { O.moment self.old.1 ≤ O.moment self.new.1 }
+        ensures refusals { O.refusals self.new.1 ≡ O.refusals self.old.1 }
+        ensures reading { self.new.0.reading ≡ self.old.0.reading }
     {
         let Some(segment) = self.live.get(&id).copied() else {
             let answer = self.refuse("unknown-segment")?;
@@ -92,6 +94,8 @@ impl<O: Outside> IndexStore<O> {
         ensures quiet { OnOk result (O.faults self.new.1 ≡ O.faults self.old.1) }
         ensures cause { IfErr result (EventCause (Rose (O.faults self.old.1) (O.faults self.new.1)) (O.faults self.new.1 ≡ O.faults self.old.1) ((bound : ℕ) → AtMost bound self.old.0 → 2 ^ 64 ≤ bound + length bytes.now)) }
         ensures clock { O.moment self.old.1 ≤ O.moment self.new.1 }
+        ensures refusals { O.refusals self.new.1 ≡ O.refusals self.old.1 }
+        ensures reading { self.new.0.reading ≡ self.old.0.reading }
     {
         let Some(segment) = self.live.get(&id).copied() else {
             let answer = self.refuse("unknown-segment")?;
@@ -127,6 +131,8 @@ impl<O: Outside> IndexStore<O> {
         ensures quiet { OnOk result (O.faults self.new.1 ≡ O.faults self.old.1) }
         ensures cause { IfErr result (EventCause (Rose (O.faults self.old.1) (O.faults self.new.1)) (O.faults self.new.1 ≡ O.faults self.old.1) ⊥) }
         ensures clock { O.moment self.old.1 ≤ O.moment self.new.1 }
+        ensures refusals { O.refusals self.new.1 ≡ O.refusals self.old.1 }
+        ensures reading { self.new.0.reading ≡ self.old.0.reading }
     {
         let Some(segment) = self.live.get(&id).copied() else {
             let answer = self.refuse("unknown-segment")?;

@@ -1,10 +1,10 @@
 //! The files of an index: a managed directory, and the writers of the files that are open.
-ghost use Rattle.std.specs.Prelude.{◌≡◌, ◌⊎◌, ◌≤◌, ◌<◌, ◌+◌, ◌^◌, ◌++◌, [], List, ℕ, true, false, length, Option, Some, None, IsSome, is_some, option_map, IfOk, IfErr, OnOk, OnErr, map, string_bytes};
-ghost use Rattle.std.specs.List.{list_all};
+ghost use Rattle.std.specs.Prelude.{◌≡◌, ◌⊎◌, ◌≤◌, ◌<◌, ◌+◌, ◌^◌, ◌++◌, [], List, ℕ, true, false, length, Option, Some, None, IsSome, is_some, cond, option_map, Contains, IfOk, IfErr, OnOk, OnErr, map, string_bytes};
+ghost use Rattle.std.specs.List.{list_all, AllByRecursion};
 ghost use Rattle.std.specs.Map.{remove_entry};
 ghost use Rattle.std.specs.BTreeMap.{is_at, insert_entry};
 ghost use Rattle.std.specs.BTreeSet.{insert_key};
-ghost use Rattle.tv_model.specs.Names.{byte_cmp, is_plain, is_file_name, list_name, meta_name};
+ghost use Rattle.tv_model.specs.Names.{byte_cmp, has, is_plain, is_file_name, list_name, meta_name};
 ghost use Rattle.tv_model.specs.Footer.{sealed};
 ghost use Rattle.tv_model.specs.Listing.{Lists};
 ghost use Rattle.tv_model.specs.Files.{Same, Sets, KeepsOthers, Rose};
@@ -12,14 +12,19 @@ ghost use Rattle.tv_model.specs.State.{at};
 ghost use Rattle.tv_model.specs.Lines.{has_no_feed};
 ghost use Rattle.tv_base.specs.Causes.{IsDevice};
 ghost use Rattle.tv_managed.specs.Managed.{KeepsOtherFiles, Makes};
+ghost use Rattle.tv_model.specs.Collections.{collectable};
+ghost use Rattle.tv_managed.specs.Collecting.{Tells, FailsAtMost};
 ghost use Rattle.tv_managed.specs.Writers.{IsSummed};
+ghost use Rattle.tv_replay.specs.ReadCauses.{ApplyCause};
+ghost use Rattle.tv_replay.specs.Bodies.{ReadsBody, HasNoBody};
 ghost use Rattle.tv_replay.specs.StoreCauses.{EventCause, MakesNoFile};
 ghost use Rattle.tv_replay.specs.Telling.{TellsLine, TellsNoLine};
 
 use std::alloc::Global;
 use std::collections::{BTreeMap, BTreeSet};
 use std::marker::Model;
-use tv_base::{IoFault, META_FILEPATH, OpenReadError, OpenWriteError, TantivyError};
+use std::mem;
+use tv_base::{FileSlice, IoFault, META_FILEPATH, OpenReadError, OpenWriteError, TantivyError};
 use tv_directory::{Directory, Outside};
 use tv_managed::{ManagedDirectory, ManagedWriter};
 use tv_model::{FileName, Memory};
@@ -29,6 +34,12 @@ use tv_model::{FileName, Memory};
 pub(crate) struct OpenFile<D: Directory> {
     writer: ManagedWriter<D>,
     len: u64,
+}
+
+/// What became of a collection: the names that are gone, and those whose delete was refused.
+pub(crate) struct Collected {
+    pub(crate) deleted: Vec<FileName>,
+    pub(crate) failed: Vec<FileName>,
 }
 
 /// A managed directory and its open files. To a contract it is the directory, the managed names, and
@@ -49,6 +60,28 @@ impl<O: Outside> Model for Files<O> {
     ghost view = { λ a. (a.directory.0, a.directory.1, map (λ e. (e.0, O.written e.1.writer.writer)) a.files.entries) };
 
     ghost invariant = { λ a. AllByRecursion (λ e. IsOpenFile (O.opened a.directory.0) (O.lives a.directory.0) O.name_of O.written e.0 e.1.writer.writer (IsSummed O.written e.1.writer) e.1.len) a.files.entries };
+}
+
+// Names of files, from their texts.
+fn file_names(alloc: Global, texts: Vec<String>) -> Result<Vec<FileName>, Memory>
+    requires { list_all is_plain (map string_bytes texts.items) ≡ true }
+    ensures { IfOk result (λ names. names.items ≡ map string_bytes texts.items) }
+{
+    let mut names = Vec::new(alloc);
+    for text in texts {
+        names.push(FileName::new(text))?;
+    }
+    Ok(names)
+}
+
+// Takes the entries of these names out of a map.
+fn remove_all<V: Drop>(map: &mut BTreeMap<FileName, V>, names: &[FileName])
+    ensures names { (n : List ℕ) → at map.new.entries n ≡ cond (has names.entry.now n) None (at map.old.entries n) }
+    ensures left { AllByRecursion (Contains map.old.entries) map.new.entries }
+{
+    for name in names {
+        let _entry = map.remove(name);
+    }
 }
 
 impl<O: Outside> Files<O> {
@@ -99,6 +132,7 @@ impl<O: Outside> Files<O> {
         ensures open_files { self.new.2 ≡ self.old.2 }
         ensures quiet { O.faults self.new.0 ≡ O.faults self.old.0 }
         ensures clock { O.moment self.old.0 ≤ O.moment self.new.0 }
+        ensures refusals { O.refusals self.new.0 ≡ O.refusals self.old.0 }
         ensures heard { O.heard self.new.0 ≡ O.heard self.old.0 }
         ensures room { O.room self.old.0 ≤ O.room self.new.0 }
     {
@@ -117,6 +151,7 @@ impl<O: Outside> Files<O> {
         ensures quiet { OnOk result (O.faults self.new.0 ≡ O.faults self.old.0) }
         ensures cause { IfErr result (λ fault. IsDevice fault × Rose (O.faults self.old.0) (O.faults self.new.0)) }
         ensures clock { O.moment self.old.0 ≤ O.moment self.new.0 }
+        ensures refusals { O.refusals self.new.0 ≡ O.refusals self.old.0 }
     {
         self.directory.tell(line)
     }
@@ -130,6 +165,7 @@ impl<O: Outside> Files<O> {
         ensures quiet { OnOk result (O.faults self.new.0 ≡ O.faults self.old.0) }
         ensures cause { IfErr result (EventCause (Rose (O.faults self.old.0) (O.faults self.new.0)) (O.faults self.new.0 ≡ O.faults self.old.0) ⊥) }
         ensures clock { O.moment self.old.0 ≤ O.moment self.new.0 }
+        ensures refusals { O.refusals self.new.0 ≡ O.refusals self.old.0 }
         ensures heard { O.heard self.new.0 ≡ O.heard self.old.0 }
         ensures room { O.room self.old.0 ≤ O.room self.new.0 }
     {
@@ -157,6 +193,7 @@ impl<O: Outside> Files<O> {
         ensures quiet { OnOk result (O.faults self.new.0 ≡ O.faults self.old.0) }
         ensures cause { IfErr result (EventCause (Rose (O.faults self.old.0) (O.faults self.new.0)) (O.faults self.new.0 ≡ O.faults self.old.0) ⊥) }
         ensures clock { O.moment self.old.0 ≤ O.moment self.new.0 }
+        ensures refusals { O.refusals self.new.0 ≡ O.refusals self.old.0 }
         ensures heard { O.heard self.new.0 ≡ O.heard self.old.0 }
         ensures room { O.room self.old.0 ≤ O.room self.new.0 }
     {
@@ -181,6 +218,7 @@ impl<O: Outside> Files<O> {
         ensures quiet { OnOk result (O.faults self.new.0 ≡ O.faults self.old.0) }
         ensures cause { IfErr result (EventCause (Rose (O.faults self.old.0) (O.faults self.new.0)) (O.faults self.new.0 ≡ O.faults self.old.0) ⊥) }
         ensures clock { O.moment self.old.0 ≤ O.moment self.new.0 }
+        ensures refusals { O.refusals self.new.0 ≡ O.refusals self.old.0 }
         ensures heard { O.heard self.new.0 ≡ O.heard self.old.0 }
         ensures room { O.room self.old.0 ≤ O.room self.new.0 }
     {
@@ -204,6 +242,7 @@ impl<O: Outside> Files<O> {
         ensures quiet { OnOk result (O.faults self.new.0 ≡ O.faults self.old.0) }
         ensures cause { IfErr result (EventCause (Rose (O.faults self.old.0) (O.faults self.new.0)) (O.faults self.new.0 ≡ O.faults self.old.0) ⊥) }
         ensures clock { O.moment self.old.0 ≤ O.moment self.new.0 }
+        ensures refusals { O.refusals self.new.0 ≡ O.refusals self.old.0 }
         ensures heard { O.heard self.new.0 ≡ O.heard self.old.0 }
         ensures room { O.room self.old.0 ≤ O.room self.new.0 }
     {
@@ -213,6 +252,63 @@ impl<O: Outside> Files<O> {
         let OpenFile { writer, len: _ } = file;
         self.directory.terminate(writer)?;
         Ok(())
+    }
+
+    /// Takes an open file as one that is written no more, and answers whether there is one.
+    pub(crate) fn abandon(&mut self, name: &FileName) -> bool
+        ensures found { result ≡ is_some (at self.old.2 name.now) }
+        ensures directory { self.new.0 ≡ self.old.0 }
+        ensures names { self.new.1 ≡ self.old.1 }
+        ensures open_files { self.new.2 ≡ remove_entry (is_at (byte_cmp name.now)) self.old.2 }
+        ensures closed { at self.new.2 name.now ≡ None }
+    {
+        self.files.remove(name).is_some()
+    }
+
+    /// The body of a sealed file.
+    pub(crate) fn open_read(&mut self, name: &FileName) -> Result<FileSlice, TantivyError>
+        ensures body { O.tells → IfOk result (λ body. ReadsBody (O.reads self.old.0) name.now body) }
+        ensures content { O.tells → Same (O.reads self.old.0) (O.reads self.new.0) }
+        ensures names { self.new.1 ≡ self.old.1 }
+        ensures open_files { self.new.2 ≡ self.old.2 }
+        ensures quiet { OnOk result (O.faults self.new.0 ≡ O.faults self.old.0) }
+        ensures cause { IfErr result (ApplyCause (Rose (O.faults self.old.0) (O.faults self.new.0)) (O.faults self.new.0 ≡ O.faults self.old.0) ⊥ (λ path. (path ≡ name.now) × (O.tells → HasNoBody (O.reads self.old.0) path)) (λ path. (path ≡ name.now) × (O.tells → O.reads self.old.0 path ≡ None))) }
+        ensures clock { O.moment self.old.0 ≤ O.moment self.new.0 }
+        ensures refusals { O.refusals self.new.0 ≡ O.refusals self.old.0 }
+        ensures heard { O.heard self.new.0 ≡ O.heard self.old.0 }
+        ensures room { O.room self.old.0 ≤ O.room self.new.0 }
+    {
+        let body = self.directory.open_read(name.as_str())?;
+        Ok(body)
+    }
+
+    /// Deletes the managed files that aren't among these. An open file that was deleted is open no more.
+    pub(crate) fn collect(
+        &mut self,
+        alloc: Global,
+        living: BTreeSet<String>,
+    ) -> Result<Collected, TantivyError>
+        ensures told { IfOk result (λ c. Tells (collectable (map string_bytes living.keys) self.old.1) self.old.1 self.new.1 c.deleted.items c.failed.items O.tells (O.reads self.old.0) (O.reads self.new.0)) }
+        ensures counted { IfOk result (λ c. FailsAtMost (length c.failed.items) (O.refusals self.old.0) (O.refusals self.new.0)) }
+        ensures list { O.tells → Lists (O.reads self.old.0 list_name) self.old.1 → OnOk result (Lists (O.reads self.new.0 list_name) self.new.1) }
+        ensures open_files { IfOk result (λ c. (n : List ℕ) → at self.new.2 n ≡ cond (has c.deleted.items n) None (at self.old.2 n)) }
+        ensures lens { (bound : ℕ) → AllByRecursion (λ e. length e.1 ≤ bound) self.old.2 → AllByRecursion (λ e. length e.1 ≤ bound) self.new.2 }
+        ensures quiet { OnOk result (O.faults self.new.0 ≡ O.faults self.old.0) }
+        ensures cause { IfErr result (EventCause (Rose (O.faults self.old.0) (O.faults self.new.0)) (O.faults self.new.0 ≡ O.faults self.old.0) ⊥) }
+        ensures clock { O.moment self.old.0 ≤ O.moment self.new.0 }
+        ensures heard { O.heard self.new.0 ≡ O.heard self.old.0 }
+        ensures room { O.room self.old.0 ≤ O.room self.new.0 }
+    {
+        // A contract learns from the managed names that they are plain.
+        let _names = self.directory.list_managed_files();
+        // No writer is kept beside an error, since nobody could tell which files are gone.
+        let mut files = mem::replace(&mut self.files, BTreeMap::new(alloc));
+        let result = self.directory.garbage_collect(move || living)?;
+        let deleted = file_names(alloc, result.deleted_files)?;
+        let failed = file_names(alloc, result.failed_to_delete_files)?;
+        remove_all(&mut files, deleted.as_slice());
+        self.files = files;
+        Ok(Collected { deleted, failed })
     }
 
     /// Makes these bytes the text of `meta.json`: what was written before is kept by then, and the
@@ -227,6 +323,7 @@ impl<O: Outside> Files<O> {
         ensures cause { IfErr result (EventCause (Rose (O.faults self.old.0) (O.faults self.new.0)) (O.faults self.new.0 ≡ O.faults self.old.0) ⊥) }
         ensures file { IfErr result MakesNoFile }
         ensures clock { O.moment self.old.0 ≤ O.moment self.new.0 }
+        ensures refusals { O.refusals self.new.0 ≡ O.refusals self.old.0 }
         ensures heard { O.heard self.new.0 ≡ O.heard self.old.0 }
         ensures room { O.room self.old.0 ≤ O.room self.new.0 }
     {

@@ -4,6 +4,7 @@
 
 mod answers;
 mod bench_place;
+mod collection_events;
 mod commit;
 mod commit_events;
 mod error_line;
@@ -15,12 +16,15 @@ mod next_event;
 mod opening;
 mod place;
 mod program;
+mod reader_events;
+mod reader_lines;
+mod readers;
 mod replaying;
 mod script;
+mod searcher_events;
 mod segment_events;
+mod snapshot;
 mod store;
-#[cfg(test)]
-mod tests;
 mod words;
 
 pub use bench_place::BenchPlace;
@@ -29,4 +33,4 @@ pub use program::run;
 pub use replaying::{Replayed, Tally, replay};
 pub use script::parse_event;
 pub use store::IndexStore;
-pub use tv_model::{Answer, Blob, Event, IdList, SegmentComponent, SegmentId, Text};
+pub use tv_model::{Answer, Blob, Event, IdList, ReloadPolicy, SegmentComponent, SegmentId, Text};

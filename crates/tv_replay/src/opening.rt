@@ -4,7 +4,7 @@ ghost use Rattle.tv_model.specs.Names.{is_file_name, list_name};
 ghost use Rattle.tv_model.specs.Files.{Same, Rose};
 ghost use Rattle.tv_model.specs.Lines.{opening_of};
 ghost use Rattle.tv_model.specs.Commits.{is_schema, default_settings, first_commit, text_schema};
-ghost use Rattle.tv_model.specs.State.{State};
+ghost use Rattle.tv_model.specs.State.{State, no_readers};
 ghost use Rattle.tv_model.specs.Index.{HasNoIndex, OpensTo};
 ghost use Rattle.tv_replay.specs.Kept.{Holds};
 ghost use Rattle.tv_replay.specs.StoreCauses.{EventCause, MakesNoFile, OpeningCause, IsRefusal};
@@ -12,9 +12,10 @@ ghost use Rattle.tv_replay.specs.Telling.{TellsLine, TellsNoLine};
 
 use crate::commit::Commit;
 use crate::files::Files;
+use crate::readers::Readers;
 use crate::store::IndexStore;
 use std::alloc::Global;
-use std::collections::BTreeMap;
+use std::collections::{BTreeMap, BTreeSet};
 use tv_base::{MANAGED_FILEPATH, META_FILEPATH, OpenReadError, TantivyError};
 use tv_directory::Outside;
 use tv_managed::{ManagedDirectory, Refused};
@@ -51,6 +52,7 @@ fn reads_file<O: Outside>(outside: &mut O, name: &str) -> Result<bool, TantivyEr
     ensures file { IfErr result MakesNoFile }
     ensures heard { O.heard outside.new ≡ O.heard outside.old }
     ensures clock { O.moment outside.old ≤ O.moment outside.new }
+    ensures refusals { O.refusals outside.new ≡ O.refusals outside.old }
 {
     match outside.exists(name) {
         Ok(found) => Ok(found),
@@ -74,6 +76,7 @@ pub(crate) fn check_empty<O: Outside>(
     ensures cause { IfErr result (OpeningCause O.tells schema.now (O.reads outside.old) (Rose (O.faults outside.old) (O.faults outside.new)) (O.faults outside.new ≡ O.faults outside.old)) }
     ensures heard { O.heard outside.new ≡ O.heard outside.old }
     ensures clock { O.moment outside.old ≤ O.moment outside.new }
+    ensures refusals { O.refusals outside.new ≡ O.refusals outside.old }
 {
     if !is_accepted(schema) {
         return Err(invalid_argument(alloc, "the schema is not of the stated form"));
@@ -96,7 +99,7 @@ impl<O: Outside> IndexStore<O> {
         schema: &[u8],
     ) -> Result<IndexStore<O>, Refused<O>>
         requires { O.tells → O.reads outside list_name ≡ None }
-        ensures ok { IfOk result (λ store. store ≡ (record { schema = schema.now; live = []; next = 1; commit = first_commit; managed = []; open_files = [] }, outside, false)) }
+        ensures ok { IfOk result (λ store. store ≡ (record { schema = schema.now; live = []; next = 1; commit = first_commit; managed = []; open_files = []; left = []; reading = no_readers }, outside, false)) }
         ensures err { IfErr result (λ refused. (refused.error ≡ TantivyError.Memory) × (refused.directory ≡ outside)) }
     {
         let schema = match Vec::from_slice(alloc, schema) {
@@ -116,6 +119,8 @@ impl<O: Outside> IndexStore<O> {
             live: BTreeMap::new(alloc),
             next: 1,
             commit: Commit::first(alloc),
+            left: BTreeSet::new(alloc),
+            readers: Readers::new(alloc),
             open: false,
         })
     }
@@ -131,7 +136,7 @@ impl<O: Outside> IndexStore<O> {
 
     // Writes the commit of an index that is new, and tells the opening line.
     pub(crate) fn create(&mut self) -> Result<(), TantivyError>
-        ensures holds { O.tells → (s : State) → (old : O) → Same (O.reads old) (O.reads self.old.1) → OpensTo default_settings self.old.0.schema (O.reads old) s → HasNoIndex (O.reads old) → (self.old.0 ≡ record { schema = self.old.0.schema; live = []; next = 1; commit = first_commit; managed = []; open_files = [] }) → OnOk result (Holds (O.reads self.new.1) self.new.0 s) }
+        ensures holds { O.tells → (s : State) → (old : O) → Same (O.reads old) (O.reads self.old.1) → OpensTo default_settings self.old.0.schema (O.reads old) s → HasNoIndex (O.reads old) → (self.old.0 ≡ record { schema = self.old.0.schema; live = []; next = 1; commit = first_commit; managed = []; open_files = []; left = []; reading = no_readers }) → OnOk result (Holds (O.reads self.new.1) self.new.0 s) }
         ensures told { O.tells_heard → OnOk result (TellsLine (O.heard self.old.1) (O.heard self.new.1) (O.moment self.old.1) (O.moment self.new.1) (opening_of self.old.0.commit)) }
         ensures part { O.tells_heard → OnErr result (TellsNoLine (O.heard self.old.1) (O.heard self.new.1)) }
         ensures open { OnOk result (self.new.2 ≡ true) }
@@ -142,6 +147,8 @@ impl<O: Outside> IndexStore<O> {
         ensures cause { IfErr result (EventCause (Rose (O.faults self.old.1) (O.faults self.new.1)) (O.faults self.new.1 ≡ O.faults self.old.1) ⊥) }
         ensures file { IfErr result MakesNoFile }
         ensures clock { O.moment self.old.1 ≤ O.moment self.new.1 }
+        ensures refusals { O.refusals self.new.1 ≡ O.refusals self.old.1 }
+        ensures reading { self.new.0.reading ≡ self.old.0.reading }
     {
         let text = self.commit.print(self.alloc, self.schema.as_slice())?;
         let line = self.opening_line()?;

@@ -5,7 +5,8 @@ ghost use Rattle.tv_replay.specs.Completeness.{IsReady};
 ghost use Rattle.tv_replay.specs.Kept.{AtMost};
 ghost use Rattle.tv_replay.specs.ScriptLines.{pending, TakesEvent};
 ghost use Rattle.tv_replay.specs.Replays.{Replays, ReplayCause, LineRefusal, IsTooMany, line_refusal, long_refusal};
-ghost use Rattle.tv_replay.specs.Applying.{Runs, RunCause, IsErrorOf};
+ghost use Rattle.tv_replay.specs.ReaderNumbers.{FewNumbers};
+ghost use Rattle.tv_replay.specs.Applying.{Runs, RunCause, BadSince, HoldsNone, IsErrorOf};
 ghost use Rattle.tv_replay.specs.StoreCauses.{IsRefusal};
 
 use crate::held::Held;
@@ -39,12 +40,12 @@ pub fn replay<O: Outside, R: Source>(
     script: &mut R,
 ) -> Replayed<O>
     // What was told and left at Ok.
-    ensures done { IfOk result.outcome (λ tally. Replays O.tells O.tells_heard schema.now (R.left script.old) (R.left script.new) (O.reads outside) (O.reads result.outside) (O.heard outside) (O.heard result.outside) tally.events) }
+    ensures done { IfOk result.outcome (λ tally. Replays O.tells O.tells_heard schema.now (R.left script.old) (R.left script.new) (O.reads outside) (O.reads result.outside) (O.heard outside) (O.heard result.outside) (O.refusals outside) (O.refusals result.outside) tally.events) }
     // No call was refused where it answers Ok.
     ensures quiet { OnOk result.outcome ((O.faults result.outside ≡ O.faults outside) × (R.faults script.new ≡ R.faults script.old)) }
     // Why it answers an error.
     ensures cause { IfErr result.outcome (ReplayCause O.tells schema.now (O.reads outside) (R.left script.old) (Rose (O.faults outside) (O.faults result.outside) ⊎ Rose (R.faults script.old) (R.faults script.new)) ((O.faults result.outside ≡ O.faults outside) × (R.faults script.new ≡ R.faults script.old))) }
-    // Where it is told a valid schema, a valid script and a sound start without an index, and no call is refused, it comes to its end, or wants memory.
+    // Where it is told a valid schema, a valid script and a sound start without an index, and no call but deletes is refused, it comes to its end, or wants memory.
     ensures complete { O.tells → IsReady schema.now (R.left script.old) (O.reads outside) → (Rose (O.faults outside) (O.faults result.outside) ⊎ Rose (R.faults script.old) (R.faults script.new) → ⊥) → IfErr result.outcome (λ error. error ≡ TantivyError.Memory) }
 {
     let mut store = match IndexStore::open(alloc, outside, schema) {
@@ -71,9 +72,10 @@ fn apply_all<O: Outside, R: Source>(
 ) -> Result<Tally, TantivyError>
     requires open { store.old.2 ≡ true }
     requires short { AtMost 0 store.old.0 }
-    ensures done { IfOk result (λ tally. Runs O.tells O.tells_heard (O.reads store.old.1) (O.reads store.new.1) store.old.0 store.new.0 (O.heard store.old.1) (O.heard store.new.1) (R.left script.old) (R.left script.new) tally.events) }
+    requires few { FewNumbers 0 store.old.0.reading }
+    ensures done { IfOk result (λ tally. Runs O.tells O.tells_heard (O.reads store.old.1) (O.reads store.new.1) store.old.0 store.new.0 (O.heard store.old.1) (O.heard store.new.1) (O.refusals store.old.1) (O.refusals store.new.1) (R.left script.old) (R.left script.new) tally.events) }
     ensures quiet { OnOk result ((O.faults store.new.1 ≡ O.faults store.old.1) × (R.faults script.new ≡ R.faults script.old)) }
-    ensures cause { IfErr result (RunCause (LineRefusal (R.left script.old)) (IsTooMany (R.left script.old)) (Rose (O.faults store.old.1) (O.faults store.new.1) ⊎ Rose (R.faults script.old) (R.faults script.new)) ((O.faults store.new.1 ≡ O.faults store.old.1) × (R.faults script.new ≡ R.faults script.old))) }
+    ensures cause { IfErr result (RunCause (LineRefusal (R.left script.old)) (IsTooMany (R.left script.old)) (Rose (O.faults store.old.1) (O.faults store.new.1) ⊎ Rose (R.faults script.old) (R.faults script.new)) ((O.faults store.new.1 ≡ O.faults store.old.1) × (R.faults script.new ≡ R.faults script.old)) (BadSince O.tells (O.reads store.old.1) store.old.0 (R.left script.old)) (λ path. HoldsNone O.tells (O.reads store.old.1) store.old.0)) }
 {
     let mut held = Held::new(alloc)?;
     for events in 0..u32::MAX {
@@ -93,7 +95,7 @@ fn end_of<R: Source>(alloc: Global, script: &mut R, held: &mut Held) -> Result<T
     ensures count { IfOk result (λ tally. tally.events ≡ u32.MAX) }
     ensures end { OnOk result ((rest : List ℕ) → pending held.old (R.left script.old) ≡ Some rest → TakesEvent rest None (pending held.new (R.left script.new))) }
     ensures quiet { OnOk result (R.faults script.new ≡ R.faults script.old) }
-    ensures cause { IfErr result (RunCause (λ text. ⊥) ((rest : List ℕ) → pending held.old (R.left script.old) ≡ Some rest → rest ≢ []) (Rose (R.faults script.old) (R.faults script.new)) (R.faults script.new ≡ R.faults script.old)) }
+    ensures cause { IfErr result (RunCause (λ text. ⊥) ((rest : List ℕ) → pending held.old (R.left script.old) ≡ Some rest → rest ≢ []) (Rose (R.faults script.old) (R.faults script.new)) (R.faults script.new ≡ R.faults script.old) (λ path. ⊥) (λ path. ⊥)) }
 {
     match next_event(alloc, script, held) {
         Ok(None) => Ok(Tally { events: u32::MAX }),

@@ -3,8 +3,9 @@ ghost use Rattle.std.specs.Prelude.{◌≡◌, ◌==◌, IfOk, IfSome, map, opti
 ghost use Rattle.std.specs.List.{slice_split};
 ghost use Rattle.tv_model.specs.declared.event.Event.{Event};
 ghost use Rattle.tv_model.specs.Script.{IsLine};
-ghost use Rattle.tv_replay.specs.Reading.{event_in, segment_in, open_in, write_in, seal_in, docs_in, ids_in, commit_in, managed_in};
+ghost use Rattle.tv_replay.specs.Reading.{event_in, segment_in, open_in, write_in, seal_in, docs_in, ids_in, commit_in, gc_in, managed_in};
 
+use crate::reader_lines::reader_event_of;
 use crate::words::{bytes_of, component_of, id_of, number_of};
 use std::alloc::{AllocError, Global};
 use tv_model::{Event, IdList, Memory, SegmentId};
@@ -108,6 +109,15 @@ fn commit_of(alloc: Global, args: &[&[u8]]) -> Result<Option<Event>, Memory>
     }
 }
 
+fn gc_of(args: &[&[u8]]) -> Option<Event>
+    ensures { result ≡ gc_in (map (λ w. w.now) args.now) }
+{
+    match args {
+        [] => Some(Event::Gc),
+        _ => None,
+    }
+}
+
 fn managed_of(args: &[&[u8]]) -> Option<Event>
     ensures { result ≡ managed_in (map (λ w. w.now) args.now) }
 {
@@ -138,10 +148,12 @@ fn event_of(alloc: Global, words: &[&[u8]]) -> Result<Option<Event>, Memory>
     } else if *word == b"commit".as_slice() {
         let found = commit_of(alloc, args)?;
         Ok(found)
+    } else if *word == b"gc".as_slice() {
+        Ok(gc_of(args))
     } else if *word == b"managed".as_slice() {
         Ok(managed_of(args))
     } else {
-        Ok(None)
+        Ok(reader_event_of(word, args))
     }
 }
 

@@ -55,6 +55,8 @@ impl<O: Outside> IndexStore<O> {
         ensures quiet { OnOk result (O.faults self.new.1 ≡ O.faults self.old.1) }
         ensures cause { IfErr result (EventCause (Rose (O.faults self.old.1) (O.faults self.new.1)) (O.faults self.new.1 ≡ O.faults self.old.1) ⊥) }
         ensures clock { O.moment self.old.1 ≤ O.moment self.new.1 }
+        ensures refusals { O.refusals self.new.1 ≡ O.refusals self.old.1 }
+        ensures reading { self.new.0.reading ≡ self.old.0.reading }
     {
         if self.is_in_use(id)? {
             let answer = self.refuse("id-in-use")?;
@@ -83,6 +85,8 @@ impl<O: Outside> IndexStore<O> {
         ensures quiet { OnOk result (O.faults self.new.1 ≡ O.faults self.old.1) }
         ensures cause { IfErr result (EventCause (Rose (O.faults self.old.1) (O.faults self.new.1)) (O.faults self.new.1 ≡ O.faults self.old.1) ⊥) }
         ensures clock { O.moment self.old.1 ≤ O.moment self.new.1 }
+        ensures refusals { O.refusals self.new.1 ≡ O.refusals self.old.1 }
+        ensures reading { self.new.0.reading ≡ self.old.0.reading }
     {
         let Some(segment) = self.live.get(&id).copied() else {
             let answer = self.refuse("unknown-segment")?;
@@ -101,7 +105,7 @@ impl<O: Outside> IndexStore<O> {
     }
 
     // The line with the managed names.
-    fn managed_names(&self) -> Result<Answer, Memory>
+    pub(crate) fn managed_names(&self) -> Result<Answer, Memory>
         ensures { IfOk result (λ answer. answer ≡ line (codes "managed") self.now.0.managed) }
     {
         let mut answer = Answer::new(self.alloc, "managed")?;
@@ -122,6 +126,8 @@ impl<O: Outside> IndexStore<O> {
         ensures quiet { OnOk result (O.faults self.new.1 ≡ O.faults self.old.1) }
         ensures cause { IfErr result (EventCause (Rose (O.faults self.old.1) (O.faults self.new.1)) (O.faults self.new.1 ≡ O.faults self.old.1) ⊥) }
         ensures clock { O.moment self.old.1 ≤ O.moment self.new.1 }
+        ensures refusals { O.refusals self.new.1 ≡ O.refusals self.old.1 }
+        ensures reading { self.new.0.reading ≡ self.old.0.reading }
     {
         let answer = self.managed_names()?;
         let ready = self.ready(answer)?;

@@ -8,7 +8,7 @@ use std::process::Abort;
 use std::test::Fail;
 use tv_replay::{Replayed, replay};
 
-const EXAMPLE: [Row; 17] = [
+pub(crate) const EXAMPLE: [Row; 17] = [
     ("segment A", "segment A"),
     ("open A idx", "opened A.idx"),
     ("write A idx 313233343536373839", "wrote A.idx 9"),

@@ -16,6 +16,9 @@ pub(crate) type Row = (&'static str, &'static str);
 pub(crate) const SCHEMA: &str =
     r#"[{"name":"text","type":"text","options":{"indexing":{"record":"position","fieldnorms":true,"tokenizer":"default"},"stored":false,"fast":false}}]"#;
 
+/// An id.
+pub(crate) const ID: &str = "0123456789abcdef0123456789abcdef";
+
 // The ids for which letters stand.
 const IDS: [(&str, &str); 3] = [
     ("A", "a5c4dfcbdfe645089129e308e26d5523"),

@@ -7,6 +7,14 @@ mod example;
 #[cfg(test)]
 mod fixtures;
 #[cfg(test)]
+mod lines;
+#[cfg(test)]
+mod pieces;
+#[cfg(test)]
+mod places;
+#[cfg(test)]
 mod refusals;
+#[cfg(test)]
+mod searchers;
 #[cfg(test)]
 mod store;

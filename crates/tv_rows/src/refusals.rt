@@ -20,7 +20,7 @@ const NO_EVENTS: [(&str, &str, &str); 6] = [
     ),
     ("managed\n", "", "managed meta.json\nerror line 2"),
     ("", "segment  B", "error line 1"),
-    ("", "gc", "error line 1"),
+    ("", "validate", "error line 1"),
 ];
 
 // A directory with a file of an index.

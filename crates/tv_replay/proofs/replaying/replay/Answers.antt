@@ -1,8 +1,10 @@
-use Rattle.std.proofs.Common.{◌≡◌, ◌⊎◌, Err, refl, ◌∙◌, inl}
+use Rattle.std.proofs.Common.{◌≡◌, ◌⊎◌, ℕ, Err, refl, ◌∙◌, inl, subst}
 use Rattle.std.proofs.lemmas.Result.{IfOk-weaker, IfErr-weaker}
 use Rattle.tv_model.specs.Files.{Rose}
+use Rattle.tv_replay.specs.Applying.{BadSince, HoldsNone}
 use Rattle.tv_replay.specs.declared.replaying.Tally.{Tally}
-use Rattle.tv_replay.proofs.Applying.{replays, opening_cause, run_cause, either_rose}
+use Rattle.tv_replay.specs.Replays.{Replays}
+use Rattle.tv_replay.proofs.Applying.{replays, opening_cause, run_cause, either_rose, bad_at_start, never_at_start}
 use Rattle.tv_replay.proofs.Complete.{comes_to_its_end}
 use Rattle.tv_replay.proofs.replaying.replay.Goals as goal
 
@@ -33,15 +35,27 @@ returns-clause-cause g c =
     (λ error cause.
     run_cause g.O.Directory.tells c.args.schema.now (g.O.Directory.reads c.args.outside) (g.R.Source.left c.args.script.now)
     (Rose (devices c.in-Ok.store.1) new ⊎ more) ((new ≡ devices c.in-Ok.store.1) × same) (Rose old new ⊎ more) ((new ≡ old) × same)
-    error cause opened.schema opened.none (either_rose old (devices c.in-Ok.store.1) new more opened.quiet) (λ quiet. (quiet.0 ∙ opened.quiet, quiet.1)))
+    (BadSince g.O.Directory.tells (g.O.Directory.reads c.in-Ok.store.1) c.in-Ok.store.0 (g.R.Source.left c.args.script.now)) (λ path. HoldsNone g.O.Directory.tells (g.O.Directory.reads c.in-Ok.store.1) c.in-Ok.store.0)
+    error cause opened.schema opened.none (either_rose old (devices c.in-Ok.store.1) new more opened.quiet) (λ quiet. (quiet.0 ∙ opened.quiet, quiet.1))
+    (bad_at_start g.O.Directory.tells c.args.schema.now (g.O.Directory.reads c.args.outside) (g.O.Directory.reads c.in-Ok.store.1) c.in-Ok.store.0 (g.R.Source.left c.args.script.now) opened.none opened.holds)
+    (λ path. never_at_start g.O.Directory.tells c.args.schema.now (g.O.Directory.reads c.args.outside) (g.O.Directory.reads c.in-Ok.store.1) c.in-Ok.store.0 opened.none opened.holds))
     c.apply_all-outcome.ensures.cause)
 
 pub returns-clause-done : goal.returns-clause-done
 returns-clause-done g c =
+    let D = g.O.Directory in
     let opened = c.in-Ok.ensures in
+    let outside = c.args.outside in
+    let store = c.in-Ok.store in
+    let now = c.apply_all-outcome.new.store in
+    let text = g.R.Source.left c.args.script.now in
+    let left = g.R.Source.left c.apply_all-outcome.new.script in
     rw c.into_outside.ensures
     (IfOk-weaker c.apply_all-outcome.result _ _
-    (λ tally runs. replays _ _ c.args.schema.now _ _ _ _ _ _ _ _ _ _ _ _ tally.events opened.schema opened.none opened.«open».1 opened.holds opened.told runs)
+    (λ tally runs.
+    subst (λ (n : ℕ). Replays D.tells g.O.Outside.tells_heard c.args.schema.now text left (D.reads outside) (D.reads now.1) (D.heard outside) (D.heard now.1) n (D.refusals now.1) tally.events) opened.refusals
+    (replays D.tells g.O.Outside.tells_heard c.args.schema.now (D.reads outside) (D.reads store.1) (D.reads now.1) store.0 now.0 (D.heard outside) (D.heard store.1) (D.heard now.1) (D.refusals store.1) (D.refusals now.1)
+    (D.moment outside) (D.moment store.1) text left tally.events opened.schema opened.none opened.«open».1 opened.holds opened.told runs))
     c.apply_all-outcome.ensures.done)
 
 pub returns-clause-complete : goal.returns-clause-complete

@@ -1,6 +1,4 @@
-use Rattle.std.proofs.Common.{◌≡◌, sym, ap, subst, ◌∙◌}
-use Rattle.tv_model.specs.Names.{list_name}
-use Rattle.tv_managed.specs.Managed.{Covers}
+use Rattle.std.proofs.Common.{◌≡◌, ap, subst}
 use Rattle.tv_managed.proofs.Saves.{lists_new, others_of_refused, still_covers}
 use Rattle.tv_managed.proofs.managed_directory.ManagedDirectory.open_write.Goals as goal
 

@@ -1,7 +1,7 @@
-use Rattle.std.proofs.Common.{◌≡◌, ℕ, List, true, false, refl, sym, ap, subst, ◌∙◌, map, string_bytes, inl, inr}
+use Rattle.std.proofs.Common.{◌≡◌, true, false, refl, sym, ap, subst, map, string_bytes}
 use Rattle.std.specs.BTreeSet.{insert_key}
 use Rattle.tv_model.specs.Names.{byte_cmp, has}
-use Rattle.tv_model.specs.Listing.{Lists, list_text}
+use Rattle.tv_model.specs.Listing.{Lists}
 use Rattle.tv_model.proofs.Entries.{insert_present}
 use Rattle.tv_managed.specs.Managed.{AreManaged}
 use Rattle.tv_managed.proofs.SetsOfTexts.{managed_inserted, inserted_is, removed_is, had_is, list_of}

@@ -1,5 +1,5 @@
-use Rattle.std.proofs.Common.{ℕ, List, [], ◌≡◌, sym, ap, subst, ◌∙◌}
-use Rattle.tv_model.specs.Files.{Reads, Same}
+use Rattle.std.proofs.Common.{sym, ap, subst, ◌∙◌}
+use Rattle.tv_model.specs.Files.{Same}
 use Rattle.tv_replay.specs.Kept.{Kept}
 use Rattle.tv_replay.proofs.Creation.{created, remade, list_made, printed_of}
 use Rattle.tv_replay.proofs.store.IndexStore.create.Goals as goal

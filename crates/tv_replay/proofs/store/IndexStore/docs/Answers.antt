@@ -33,7 +33,7 @@ returns-clause-step g c tells s holds =
     let reads = g.O.Directory.reads in
     let live : c.self.inside.live.entries ≡ c.args.self.now.0.live = ap (λ v. v.0.live) c.self.view_is in
     docs_said (reads c.args.self.now.1) (reads c.self-2.inside.files.0) c.args.self.now.0
-    (record { schema = c.self-2.inside.schema; live = c.self-2.inside.live.entries; next = c.self-2.inside.next; commit = c.self-2.inside.commit; managed = c.self-2.inside.files.1; open_files = c.self-2.inside.files.2 })
+    (record { schema = c.self-2.inside.schema; live = c.self-2.inside.live.entries; next = c.self-2.inside.next; commit = c.self-2.inside.commit; managed = c.self-2.inside.files.1; open_files = c.self-2.inside.files.2; left = c.self-2.inside.left.keys; reading = c.self-2.inside.readers })
     _ s c.args.id c.in_ok-answer-4.answer c.args.max_doc c.in-Some.segment
     (ap (λ (es : List (List ℕ × LiveSegment)). at es c.args.id) (sym live) ∙ sym (c.in-Some.ensures ∙ c.get.ensures.value))
     c.if-segment-ne0.false
@@ -41,7 +41,7 @@ returns-clause-step g c tells s holds =
     c.ranges.max_doc.fits
     (subst (λ d. Same (reads c.args.self.now.1) (reads d)) (sym (ap (λ v. v.1) c.self-2.view_is)) (c.ready.ensures.content tells))
     (ap (λ v. v.0) c.self-2.view_is ∙ c.ready.ensures.kept)
-    (ap (λ live. record { schema = c.self-2.inside.schema; live = live; next = c.self-2.inside.next; commit = c.self-2.inside.commit; managed = c.self-2.inside.files.1; open_files = c.self-2.inside.files.2 }) c.in_ok-insert.ensures.entries)
+    (ap (λ live. record { schema = c.self-2.inside.schema; live = live; next = c.self-2.inside.next; commit = c.self-2.inside.commit; managed = c.self-2.inside.files.1; open_files = c.self-2.inside.files.2; left = c.self-2.inside.left.keys; reading = c.self-2.inside.readers }) c.in_ok-insert.ensures.entries)
     (c.in_ok-answer-4.ensures.answer
     ∙ c.in_ok-answer-3.ensures
     ∙ ap (λ (n : ℕ). c.in_ok-id.field-0 ++ 32 ∷ decimal n) c.from.ensures

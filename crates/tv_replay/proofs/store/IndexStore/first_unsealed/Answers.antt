@@ -33,5 +33,6 @@ loop-name-preserved g c =
       heard = asked.heard ∙ so_far.heard;
       room = omega (arith, asked.room, so_far.room);
       quiet = asked.quiet ∙ so_far.quiet;
+      refusals = asked.refusals ∙ so_far.refusals;
       clock = omega (arith, asked.clock, so_far.clock);
     }

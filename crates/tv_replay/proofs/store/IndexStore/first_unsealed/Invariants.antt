@@ -17,5 +17,6 @@ invariant-loop-name g l = record {
   heard : g.O.Directory.heard l.self.1 ≡ g.O.Directory.heard l.initial.self.1;
   room : g.O.Directory.room l.initial.self.1 ≤ g.O.Directory.room l.self.1;
   quiet : g.O.Directory.faults l.self.1 ≡ g.O.Directory.faults l.initial.self.1;
+  refusals : g.O.Directory.refusals l.self.1 ≡ g.O.Directory.refusals l.initial.self.1;
   clock : g.O.Directory.moment l.initial.self.1 ≤ g.O.Directory.moment l.self.1;
 }

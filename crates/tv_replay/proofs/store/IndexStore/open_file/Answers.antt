@@ -21,7 +21,7 @@ returns-then-lacks_deletes-clause-step g c tells s h =
 pub returns-then-not-branch-clause-step : goal.returns-then-not-branch-clause-step
 returns-then-not-branch-clause-step g c tells s h =
     let reads = g.O.Directory.reads in
-    let kept : Kept = record { schema = c.self-3.inside.schema; live = c.self-3.inside.live.entries; next = c.self-3.inside.next; commit = c.self-3.inside.commit; managed = c.self-3.inside.files.1; open_files = c.self-3.inside.files.2 } in
+    let kept : Kept = record { schema = c.self-3.inside.schema; live = c.self-3.inside.live.entries; next = c.self-3.inside.next; commit = c.self-3.inside.commit; managed = c.self-3.inside.files.1; open_files = c.self-3.inside.files.2; left = c.self-3.inside.left.keys; reading = c.self-3.inside.readers } in
     let found = live_is (reads c.args.self.now.1) c.args.self.now.0 s c.self.inside.live.entries c.args.id (Some c.in-Some.segment) (sym c.in-Some.is ∙ c.copied.ensures ∙ c.get.ensures.value) (ap (λ v. v.0.live) c.self.view_is) h in
     let once = same_holds (reads c.args.self.now.1) (reads c.refuse-2.new.self.1) c.args.self.now.0 c.refuse-2.new.self.0 s (c.refuse-2.ensures.content tells) c.refuse-2.ensures.kept h in
     let twice = same_holds (reads c.refuse-2.new.self.1) (reads c.ready.new.self.1) c.refuse-2.new.self.0 c.ready.new.self.0 s (c.ready.ensures.content tells) c.ready.ensures.kept once in
@@ -33,7 +33,7 @@ returns-then-not-branch-clause-step g c tells s h =
 pub returns-clause-step : goal.returns-clause-step
 returns-clause-step g c tells s h =
     let reads = g.O.Directory.reads in
-    let kept : Kept = record { schema = c.self-3.inside.schema; live = c.self-3.inside.live.entries; next = c.self-3.inside.next; commit = c.self-3.inside.commit; managed = c.self-3.inside.files.1; open_files = c.self-3.inside.files.2 } in
+    let kept : Kept = record { schema = c.self-3.inside.schema; live = c.self-3.inside.live.entries; next = c.self-3.inside.next; commit = c.self-3.inside.commit; managed = c.self-3.inside.files.1; open_files = c.self-3.inside.files.2; left = c.self-3.inside.left.keys; reading = c.self-3.inside.readers } in
     let found = live_is (reads c.args.self.now.1) c.args.self.now.0 s c.self.inside.live.entries c.args.id (Some c.in-Some.segment) (sym c.in-Some.is ∙ c.copied.ensures ∙ c.get.ensures.value) (ap (λ v. v.0.live) c.self.view_is) h in
     let once = same_holds (reads c.args.self.now.1) (reads c.refuse-2.new.self.1) c.args.self.now.0 c.refuse-2.new.self.0 s (c.refuse-2.ensures.content tells) c.refuse-2.ensures.kept h in
     let twice = same_holds (reads c.refuse-2.new.self.1) (reads c.ready.new.self.1) c.refuse-2.new.self.0 c.ready.new.self.0 s (c.ready.ensures.content tells) c.ready.ensures.kept once in

@@ -31,7 +31,7 @@ pub returns-clause-step : goal.returns-clause-step
 returns-clause-step g c tells s h =
     let reads = g.O.Directory.reads in
     let name = c.in_ok-name.name in
-    let kept : Kept = record { schema = c.self-2.inside.schema; live = c.self-2.inside.live.entries; next = c.self-2.inside.next; commit = c.self-2.inside.commit; managed = c.self-2.inside.files.1; open_files = c.self-2.inside.files.2 } in
+    let kept : Kept = record { schema = c.self-2.inside.schema; live = c.self-2.inside.live.entries; next = c.self-2.inside.next; commit = c.self-2.inside.commit; managed = c.self-2.inside.files.1; open_files = c.self-2.inside.files.2; left = c.self-2.inside.left.keys; reading = c.self-2.inside.readers } in
     let now : c.self-2.inside.files.2 ≡ c.args.self.now.0.open_files = ap (λ v. v.0.open_files) c.self-2.view_is ∙ ap (λ (k : Kept). k.open_files) c.ready.ensures.kept in
     let same : c.self.inside.files.2 ≡ c.self-2.inside.files.2 = ap (λ v. v.0.open_files) c.self.view_is ∙ sym now in
     let has_len = sym c.in-Some-body_len.is ∙ c.body_len.ensures ∙ ap (λ es. option_map length (at es name)) same in

@@ -1,0 +1,309 @@
+-- How far the trying of some names has come.
+use Rattle.std.proofs.Common.{◌≡◌, ◌≢◌, ◌≤◌, ◌+◌, ℕ, Bool, true, false, ◌||◌, inl, inr, ⊎_elim, List, [], ◌∷◌, ◌++◌, length, None, refl, sym, ap, subst, ◌∙◌, arith, true≢false, append_assoc, length-append, append-nil}
+use Rattle.std.specs.List.{list_all}
+use Rattle.tv_model.specs.Names.{is, has, is_plain, list_name}
+use Rattle.tv_model.specs.Collections.{done_of, failed_of, without}
+use Rattle.tv_model.specs.Files.{Reads, Same, KeepsOthers, Rose}
+use Rattle.tv_model.proofs.Entries.{is_itself, is_text}
+use Rattle.tv_model.proofs.PlainNames.{both}
+use Rattle.tv_managed.specs.Collecting.{Leaves, Tells, FailsAtMost}
+use Rattle.tv_managed.proofs.Removals.{has_last, either_false, without_none, without_last, done_true, done_false, failed_true, failed_false, untried, not_first, has_without, has_between, has_fewer}
+
+-- some first names were tried, and these are left
+pub record Tried (names rest before now deleted failed : List (List ℕ)) (tells : Type 0) (old new : Reads) (count counted : ℕ) : Type 0 where
+  pub front : List (List ℕ)
+  pub outcomes : List Bool
+  pub split : names ≡ front ++ rest
+  pub each : length outcomes ≡ length front
+  pub plain : list_all is_plain rest ≡ true
+  pub managed : now ≡ without (done_of front outcomes) before
+  pub deleted_is : deleted ≡ done_of front outcomes
+  pub failed_is : failed ≡ failed_of front outcomes
+  pub gone : tells → (n : List ℕ) → has (done_of front outcomes) n ≡ true → new n ≡ None
+  pub others : tells → (n : List ℕ) → has (done_of front outcomes) n ≡ false → new n ≡ old n
+  pub away : (n : List ℕ) → has (done_of front outcomes) n ≡ true → n ≢ list_name
+  pub most : FailsAtMost (length failed) count counted
+  pub calm : failed ≡ [] → counted ≡ count
+  pub fits : count ≤ 18446744073709551615 → counted ≤ 18446744073709551615
+
+pub none_tried : (names rest before deleted failed : List (List ℕ)) (tells : Type 0) (old : Reads) (count : ℕ) → rest ≡ names → deleted ≡ [] → failed ≡ [] → list_all is_plain names ≡ true → Tried names rest before before deleted failed tells old old count count
+none_tried names rest before deleted failed tells old count all empty none plain = record {
+  front = [];
+  outcomes = [];
+  split = sym all;
+  each = refl;
+  plain = ap (list_all is_plain) all ∙ plain;
+  managed = sym (without_none before);
+  deleted_is = empty;
+  failed_is = none;
+  gone = λ t n h. absurd (true≢false (sym h));
+  others = λ t n h. refl;
+  away = λ n h. absurd (true≢false (sym h));
+  most = inl (omega (arith, ap length none));
+  calm = λ e. refl;
+  fits = λ f. f;
+}
+
+plain_isnt_list : (n : List ℕ) → is_plain n ≡ true → n ≢ list_name
+plain_isnt_list n h e = let k : is_plain list_name ≡ true = subst (λ (m : List ℕ). is_plain m ≡ true) e h in absurd (true≢false (sym k))
+
+-- whether a name is this one
+same_or : {P : Type 0} (name n : List ℕ) → (is name n ≡ true → n ≡ name → P) → (is name n ≡ false → n ≢ name → P) → P
+same_or {P} name n same other =
+    elim (is name n) as (λ b. is name n ≡ b → P) [
+      | true ↦ λ e. same e (sym (is_text name n e))
+      | false ↦ λ e. other e (λ k. true≢false (sym (is_itself name) ∙ ap (λ (m : List ℕ). is name m) (sym k) ∙ e))
+    ] refl
+
+first_true : (a b : Bool) → (a || b) ≡ true → b ≡ false → a ≡ true
+first_true true b h e = refl
+first_true false b h e = absurd (true≢false (sym h ∙ e))
+
+-- what is tried stays what it is where the lists and the count are equal to others
+pub tried_done : (names rest before now deleted failed others : List (List ℕ)) (tells : Type 0) (old new : Reads) (count counted : ℕ) (name : List ℕ) (now2 : List (List ℕ)) (new2 : Reads) (counted2 : ℕ) (deleted2 : List (List ℕ)) → Tried names rest before now deleted failed tells old new count counted
+    → rest ≡ name ∷ others → now2 ≡ without (name ∷ []) now → (tells → new2 name ≡ None) → (tells → KeepsOthers new new2 name) → counted2 ≡ counted → deleted2 ≡ deleted ++ name ∷ []
+    → Tried names others before now2 deleted2 failed tells old new2 count counted2
+tried_done names rest before now deleted failed others tells old new count counted name now2 new2 counted2 deleted2 t next cut absent keeps same said =
+    let done = done_of t.front t.outcomes in
+    let d : done_of (t.front ++ name ∷ []) (t.outcomes ++ true ∷ []) ≡ done ++ name ∷ [] = done_true t.front t.outcomes name t.each in
+    let f = failed_true t.front t.outcomes name t.each in
+    let plain = both (is_plain name) (list_all is_plain others) (subst (λ (l : List (List ℕ)). list_all is_plain l ≡ true) next t.plain) in
+    let had : (n : List ℕ) (b : Bool) → has (done_of (t.front ++ name ∷ []) (t.outcomes ++ true ∷ [])) n ≡ b → (has done n || is name n) ≡ b = λ n b h. sym (has_last done name n) ∙ ap (λ (l : List (List ℕ)). has l n) (sym d) ∙ h in
+    record {
+      front = t.front ++ name ∷ [];
+      outcomes = t.outcomes ++ true ∷ [];
+      split = t.split ∙ ap (λ (l : List (List ℕ)). t.front ++ l) next ∙ sym (append_assoc t.front (name ∷ []) others);
+      each = omega (arith, length-append t.outcomes (true ∷ []), length-append t.front (name ∷ []), t.each);
+      plain = plain.1;
+      managed = cut ∙ ap (without (name ∷ [])) t.managed ∙ sym (without_last done name before) ∙ ap (λ (l : List (List ℕ)). without l before) (sym d);
+      deleted_is = said ∙ ap (λ (l : List (List ℕ)). l ++ name ∷ []) t.deleted_is ∙ sym d;
+      failed_is = t.failed_is ∙ sym f;
+      gone = λ tell n h. same_or name n
+          (λ e same_name. ap new2 same_name ∙ absent tell)
+          (λ e other. keeps tell n other ∙ t.gone tell n (first_true (has done n) (is name n) (had n true h) e));
+      others = λ tell n h.
+          let p = either_false (has done n) (is name n) (had n false h) in
+          keeps tell n (λ same_name. true≢false (sym (is_itself name) ∙ ap (λ (m : List ℕ). is name m) (sym same_name) ∙ p.1)) ∙ t.others tell n p.0;
+      away = λ n h. same_or name n
+          (λ e same_name. subst (λ (m : List ℕ). m ≢ list_name) (sym same_name) (plain_isnt_list name plain.0))
+          (λ e other. t.away n (first_true (has done n) (is name n) (had n true h) e));
+      most = subst (FailsAtMost (length failed) count) (sym same) t.most;
+      calm = λ e. same ∙ t.calm e;
+      fits = λ e. subst (λ c. c ≤ 18446744073709551615) (sym same) (t.fits e);
+    }
+
+rises : (failed more count counted counted2 : ℕ) → more ≡ failed + 1 → FailsAtMost failed count counted → Rose counted counted2 → counted2 ≤ 18446744073709551615 → FailsAtMost more count counted2
+rises failed more count counted counted2 e most rose fits =
+    ⊎_elim
+    (λ up. ⊎_elim
+    (λ below. inl (omega (arith, e, up, below)))
+    (λ end. absurd (omega (arith, up, end, fits)))
+    most)
+    (λ end. inr end)
+    rose
+
+isnt_empty : (xs : List (List ℕ)) (x : List ℕ) → xs ++ x ∷ [] ≡ [] → ⊥
+isnt_empty [] x e = absurd cc
+isnt_empty (y ∷ xs) x e = absurd cc
+
+pub tried_failed : (names rest before now deleted failed others : List (List ℕ)) (tells : Type 0) (old new : Reads) (count counted : ℕ) (name : List ℕ) (now2 : List (List ℕ)) (new2 : Reads) (counted2 : ℕ) (failed2 : List (List ℕ)) → Tried names rest before now deleted failed tells old new count counted
+    → rest ≡ name ∷ others → now2 ≡ now → (tells → Same new new2) → Rose counted counted2 → counted2 ≤ 18446744073709551615 → failed2 ≡ failed ++ name ∷ []
+    → Tried names others before now2 deleted failed2 tells old new2 count counted2
+tried_failed names rest before now deleted failed others tells old new count counted name now2 new2 counted2 failed2 t next kept same rose fits said =
+    let d : done_of (t.front ++ name ∷ []) (t.outcomes ++ false ∷ []) ≡ done_of t.front t.outcomes = done_false t.front t.outcomes name t.each in
+    let f = failed_false t.front t.outcomes name t.each in
+    let had : (n : List ℕ) (b : Bool) → has (done_of (t.front ++ name ∷ []) (t.outcomes ++ false ∷ [])) n ≡ b → has (done_of t.front t.outcomes) n ≡ b = λ n b h. ap (λ (l : List (List ℕ)). has l n) (sym d) ∙ h in
+    record {
+      front = t.front ++ name ∷ [];
+      outcomes = t.outcomes ++ false ∷ [];
+      split = t.split ∙ ap (λ (l : List (List ℕ)). t.front ++ l) next ∙ sym (append_assoc t.front (name ∷ []) others);
+      each = omega (arith, length-append t.outcomes (false ∷ []), length-append t.front (name ∷ []), t.each);
+      plain = (both (is_plain name) (list_all is_plain others) (subst (λ (l : List (List ℕ)). list_all is_plain l ≡ true) next t.plain)).1;
+      managed = kept ∙ t.managed ∙ ap (λ (l : List (List ℕ)). without l before) (sym d);
+      deleted_is = t.deleted_is ∙ sym d;
+      failed_is = said ∙ ap (λ (l : List (List ℕ)). l ++ name ∷ []) t.failed_is ∙ sym f;
+      gone = λ tell n h. same tell n ∙ t.gone tell n (had n true h);
+      others = λ tell n h. same tell n ∙ t.others tell n (had n false h);
+      away = λ n h. t.away n (had n true h);
+      most = rises (length failed) (length failed2) count counted counted2 (ap length said ∙ length-append failed (name ∷ [])) t.most rose fits;
+      calm = λ e. absurd (isnt_empty failed name (sym said ∙ e));
+      fits = λ e. fits;
+    }
+
+-- nothing was done
+pub tried_same : (names rest before now deleted failed : List (List ℕ)) (tells : Type 0) (old new : Reads) (count counted : ℕ) (now2 : List (List ℕ)) (new2 : Reads) (counted2 : ℕ) → Tried names rest before now deleted failed tells old new count counted
+    → now2 ≡ now → (tells → Same new new2) → counted2 ≡ counted → Tried names rest before now2 deleted failed tells old new2 count counted2
+tried_same names rest before now deleted failed tells old new count counted now2 new2 counted2 t kept same quiet = record {
+  front = t.front;
+  outcomes = t.outcomes;
+  split = t.split;
+  each = t.each;
+  plain = t.plain;
+  managed = kept ∙ t.managed;
+  deleted_is = t.deleted_is;
+  failed_is = t.failed_is;
+  gone = λ tell n h. same tell n ∙ t.gone tell n h;
+  others = λ tell n h. same tell n ∙ t.others tell n h;
+  away = t.away;
+  most = subst (FailsAtMost (length failed) count) (sym quiet) t.most;
+  calm = λ e. quiet ∙ t.calm e;
+  fits = λ e. subst (λ c. c ≤ 18446744073709551615) (sym quiet) (t.fits e);
+}
+
+-- the first of the names that are left
+pub next_plain : (rest others : List (List ℕ)) (name : List ℕ) → list_all is_plain rest ≡ true → rest ≡ name ∷ others → is_plain name ≡ true
+next_plain rest others name h next = (both (is_plain name) (list_all is_plain others) (subst (λ (l : List (List ℕ)). list_all is_plain l ≡ true) next h)).0
+
+-- what was tried so far, whatever comes now
+pub leaves_of : (names rest before now deleted failed : List (List ℕ)) (tells : Type 0) (old new : Reads) (count counted : ℕ) → Tried names rest before now deleted failed tells old new count counted → Leaves names before now tells old new
+leaves_of names rest before now deleted failed tells old new count counted t =
+    let isnt_first : (n : List ℕ) → has names n ≡ false → has t.front n ≡ false = λ n h. not_first t.front rest n (ap (λ (l : List (List ℕ)). has l n) (sym t.split) ∙ h) in
+    record {
+      front = t.front;
+      rest = rest;
+      outcomes = t.outcomes;
+      split = t.split;
+      each = t.each;
+      managed = t.managed;
+      gone = t.gone;
+      others = λ tell n h isnt. t.others tell n h;
+      spared = λ tell n h isnt. t.others tell n (untried t.front t.outcomes n (isnt_first n h));
+      kept = λ n h. ap (λ (l : List (List ℕ)). has l n) t.managed ∙ has_without (done_of t.front t.outcomes) before n (untried t.front t.outcomes n (isnt_first n h));
+    }
+
+-- all were tried
+pub tells_of : (names rest before now deleted failed : List (List ℕ)) (tells : Type 0) (old new : Reads) (count counted : ℕ) → rest ≡ [] → Tried names rest before now deleted failed tells old new count counted → Tells names before now deleted failed tells old new
+tells_of names rest before now deleted failed tells old new count counted none t =
+    let all : names ≡ t.front = t.split ∙ ap (λ (l : List (List ℕ)). t.front ++ l) none ∙ append-nil t.front in
+    let had : (n : List ℕ) (b : Bool) → has deleted n ≡ b → has (done_of t.front t.outcomes) n ≡ b = λ n b h. ap (λ (l : List (List ℕ)). has l n) (sym t.deleted_is) ∙ h in
+    record {
+      outcomes = t.outcomes;
+      each = t.each ∙ ap length (sym all);
+      deleted_is = t.deleted_is ∙ ap (λ (l : List (List ℕ)). done_of l t.outcomes) (sym all);
+      failed_is = t.failed_is ∙ ap (λ (l : List (List ℕ)). failed_of l t.outcomes) (sym all);
+      managed = t.managed ∙ ap (λ (l : List (List ℕ)). without l before) (sym t.deleted_is);
+      gone = λ tell n h. t.gone tell n (had n true h);
+      others = λ tell n h isnt. t.others tell n (had n false h);
+    }
+
+-- the list isn't among the names that are done
+pub list_stays : (names rest before now deleted failed : List (List ℕ)) (tells : Type 0) (old new : Reads) (count counted : ℕ) → Tried names rest before now deleted failed tells old new count counted → tells → new list_name ≡ old list_name
+list_stays names rest before now deleted failed tells old new count counted t tell =
+    elim (has (done_of t.front t.outcomes) list_name) as (λ b. has (done_of t.front t.outcomes) list_name ≡ b → new list_name ≡ old list_name) [
+      | true ↦ λ e. absurd (t.away list_name e refl)
+      | false ↦ λ e. t.others tell list_name e
+    ] refl
+
+-- a writer of a name that isn't tried has another name than the next
+pub is_another : (names rest others before now deleted failed : List (List ℕ)) (tells : Type 0) (old new : Reads) (count counted : ℕ) (name n : List ℕ) → Tried names rest before now deleted failed tells old new count counted → rest ≡ name ∷ others → has names n ≡ false → n ≢ name
+is_another names rest others before now deleted failed tells old new count counted name n t next isnt same =
+    let is : has names name ≡ true = ap (λ (l : List (List ℕ)). has l name) (t.split ∙ ap (λ (l : List (List ℕ)). t.front ++ l) next) ∙ has_between t.front others name in
+    true≢false (sym is ∙ ap (has names) (sym same) ∙ isnt)
+
+-- nothing was tried
+pub left_alone : (names before after : List (List ℕ)) (tells : Type 0) (old new : Reads) → after ≡ before → (tells → Same old new) → Leaves names before after tells old new
+left_alone names before after tells old new kept same = record {
+  front = [];
+  rest = names;
+  outcomes = [];
+  split = refl;
+  each = refl;
+  managed = kept ∙ sym (without_none before);
+  gone = λ tell n h. absurd (true≢false (sym h));
+  others = λ tell n h isnt. same tell n;
+  spared = λ tell n h isnt. same tell n;
+  kept = λ n h. ap (λ (l : List (List ℕ)). has l n) kept;
+}
+
+-- what was left, seen from before a call that changed nothing
+pub left_at : (names names2 before before2 after : List (List ℕ)) (tells : Type 0) (old old2 new : Reads) → names2 ≡ names → before2 ≡ before → (tells → Same old2 old) → Leaves names before after tells old new → Leaves names2 before2 after tells old2 new
+left_at names names2 before before2 after tells old old2 new is was same l =
+    subst (λ (ns : List (List ℕ)). Leaves ns before2 after tells old2 new) (sym is) (subst (λ (b : List (List ℕ)). Leaves names b after tells old2 new) (sym was) (record {
+      front = l.front;
+      rest = l.rest;
+      outcomes = l.outcomes;
+      split = l.split;
+      each = l.each;
+      managed = l.managed;
+      gone = l.gone;
+      others = λ tell n h isnt. l.others tell n h isnt ∙ same tell n;
+      spared = λ tell n h isnt. l.spared tell n h isnt ∙ same tell n;
+      kept = l.kept;
+    }))
+
+pub told_at : (names names2 before before2 after deleted failed : List (List ℕ)) (tells : Type 0) (old old2 new : Reads) → names2 ≡ names → before2 ≡ before → (tells → Same old2 old) → Tells names before after deleted failed tells old new → Tells names2 before2 after deleted failed tells old2 new
+told_at names names2 before before2 after deleted failed tells old old2 new is was same l =
+    subst (λ (ns : List (List ℕ)). Tells ns before2 after deleted failed tells old2 new) (sym is) (subst (λ (b : List (List ℕ)). Tells names b after deleted failed tells old2 new) (sym was) (record {
+      outcomes = l.outcomes;
+      each = l.each;
+      deleted_is = l.deleted_is;
+      failed_is = l.failed_is;
+      managed = l.managed;
+      gone = l.gone;
+      others = λ tell n h isnt. l.others tell n h isnt ∙ same tell n;
+    }))
+
+done_among : (names : List (List ℕ)) (os : List Bool) (n : List ℕ) → has (done_of names os) n ≡ true → has names n ≡ true
+done_among names os n h =
+    elim (has names n) as (λ b. has names n ≡ b → b ≡ true) [
+      | true ↦ λ e. refl
+      | false ↦ λ e. absurd (true≢false (sym h ∙ untried names os n e))
+    ] refl
+
+-- a name among the first of some names is among them
+among_first : (front rest : List (List ℕ)) (n : List ℕ) → has front n ≡ true → has (front ++ rest) n ≡ true
+among_first front rest n h =
+    elim (has (front ++ rest) n) as (λ b. has (front ++ rest) n ≡ b → b ≡ true) [
+      | true ↦ λ e. refl
+      | false ↦ λ e. absurd (true≢false (sym h ∙ not_first front rest n e))
+    ] refl
+
+-- a name among some plain ones isn't that of the list
+pub among_plain : (names : List (List ℕ)) (n : List ℕ) → list_all is_plain names ≡ true → has names n ≡ true → n ≢ list_name
+among_plain [] n plain h = absurd (true≢false (sym h))
+among_plain (x ∷ names) n plain h =
+    let p = both (is_plain x) (list_all is_plain names) plain in
+    elim (is x n) as (λ b. is x n ≡ b → n ≢ list_name) [
+      | true ↦ λ e. subst (λ (m : List ℕ). m ≢ list_name) (is_text x n e) (plain_isnt_list x p.0)
+      | false ↦ λ e. among_plain names n p.1 (rw e at h)
+    ] refl
+
+-- after the list was saved too
+pub left_saved : (names before after after2 : List (List ℕ)) (tells : Type 0) (old new new2 : Reads) → list_all is_plain names ≡ true → after2 ≡ after → (tells → KeepsOthers new new2 list_name) → Leaves names before after tells old new → Leaves names before after2 tells old new2
+left_saved names before after after2 tells old new new2 plain kept keeps l = record {
+  front = l.front;
+  rest = l.rest;
+  outcomes = l.outcomes;
+  split = l.split;
+  each = l.each;
+  managed = kept ∙ l.managed;
+  gone = λ tell n h. keeps tell n (among_plain names n plain (ap (λ (ns : List (List ℕ)). has ns n) l.split ∙ among_first l.front l.rest n (done_among l.front l.outcomes n h))) ∙ l.gone tell n h;
+  others = λ tell n h isnt. keeps tell n isnt ∙ l.others tell n h isnt;
+  spared = λ tell n h isnt. keeps tell n isnt ∙ l.spared tell n h isnt;
+  kept = λ n h. ap (λ (ns : List (List ℕ)). has ns n) kept ∙ l.kept n h;
+}
+
+pub told_saved : (names before after after2 deleted failed : List (List ℕ)) (tells : Type 0) (old new new2 : Reads) → list_all is_plain names ≡ true → after2 ≡ after → (tells → KeepsOthers new new2 list_name) → Tells names before after deleted failed tells old new → Tells names before after2 deleted failed tells old new2
+told_saved names before after after2 deleted failed tells old new new2 plain kept keeps l = record {
+  outcomes = l.outcomes;
+  each = l.each;
+  deleted_is = l.deleted_is;
+  failed_is = l.failed_is;
+  managed = kept ∙ l.managed;
+  gone = λ tell n h. keeps tell n (among_plain names n plain (done_among names l.outcomes n (ap (λ (ns : List (List ℕ)). has ns n) (sym l.deleted_is) ∙ h))) ∙ l.gone tell n h;
+  others = λ tell n h isnt. keeps tell n isnt ∙ l.others tell n h isnt;
+}
+
+-- what is left of the managed names was there before
+pub left_fewer : (names before after : List (List ℕ)) (tells : Type 0) (old new : Reads) → Leaves names before after tells old new → (n : List ℕ) → has after n ≡ true → has before n ≡ true
+left_fewer names before after tells old new l n h = has_fewer (done_of l.front l.outcomes) before n (ap (λ (ns : List (List ℕ)). has ns n) (sym l.managed) ∙ h)
+
+-- where no name is deleted, the managed names stay
+pub none_deleted : (names before after deleted failed : List (List ℕ)) (tells : Type 0) (old new : Reads) → Tells names before after deleted failed tells old new → deleted ≡ [] → after ≡ before
+none_deleted names before after deleted failed tells old new l none = l.managed ∙ ap (λ (ns : List (List ℕ)). without ns before) none ∙ without_none before
+
+-- a name that isn't among some names and one more is neither among them nor that one
+pub not_last : (names more : List (List ℕ)) (name n : List ℕ) → more ≡ names ++ name ∷ [] → has more n ≡ false → (has names n ≡ false) × (n ≢ name)
+not_last names more name n e h =
+    let p = either_false (has names n) (is name n) (sym (has_last names name n) ∙ ap (λ (l : List (List ℕ)). has l n) (sym e) ∙ h) in
+    (p.0, λ same. true≢false (sym (is_itself name) ∙ ap (λ (m : List ℕ). is name m) (sym same) ∙ p.1))

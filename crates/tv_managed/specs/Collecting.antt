@@ -1,0 +1,57 @@
+-- What a collection does to a directory and its list.
+use Rattle.std.specs.Prelude.{ℕ, ◌≡◌, ◌≢◌, ◌≤◌, ◌+◌, ◌⊎◌, Bool, true, false, List, ◌++◌, String, None, length, map, string_bytes}
+use Rattle.tv_model.specs.Names.{has, list_name}
+use Rattle.tv_model.specs.Collections.{done_of, failed_of, without}
+use Rattle.tv_model.specs.Files.{Reads}
+use Rattle.tv_base.specs.Causes.{IsDevice}
+use Rattle.tv_base.specs.declared.error.TantivyError.{TantivyError}
+use Rattle.tv_base.specs.declared.error.TantivyError.TheVariants as errors
+
+-- texts, as names
+abbrev pub names_of : {X : Type 0} → List (String X) → List (List ℕ)
+names_of texts = map string_bytes texts
+
+-- What trying these names left, whatever was answered: some first ones were tried, and some of these are done, which don't read and aren't managed any more.
+-- All else is as it was.
+pub record Leaves (names before after : List (List ℕ)) (tells : Type 0) (old new : Reads) : Type 0 where
+  pub front : List (List ℕ)
+  pub rest : List (List ℕ)
+  pub outcomes : List Bool
+  pub split : names ≡ front ++ rest
+  pub each : length outcomes ≡ length front
+  -- the managed names
+  pub managed : after ≡ without (done_of front outcomes) before
+  -- a name that is done doesn't read
+  pub gone : tells → (n : List ℕ) → has (done_of front outcomes) n ≡ true → new n ≡ None
+  -- every other name but that of the list reads what it read
+  pub others : tells → (n : List ℕ) → has (done_of front outcomes) n ≡ false → n ≢ list_name → new n ≡ old n
+  -- a name that isn't among them reads what it read, and is managed where it was
+  pub spared : tells → (n : List ℕ) → has names n ≡ false → n ≢ list_name → new n ≡ old n
+  pub kept : (n : List ℕ) → has names n ≡ false → has after n ≡ has before n
+
+-- What trying these names gave where all were tried: each is told as done or as failed, in their order.
+pub record Tells (names before after deleted failed : List (List ℕ)) (tells : Type 0) (old new : Reads) : Type 0 where
+  pub outcomes : List Bool
+  pub each : length outcomes ≡ length names
+  pub deleted_is : deleted ≡ done_of names outcomes
+  pub failed_is : failed ≡ failed_of names outcomes
+  -- the managed names are those that were, without the deleted ones
+  pub managed : after ≡ without deleted before
+  -- a deleted name doesn't read
+  pub gone : tells → (n : List ℕ) → has deleted n ≡ true → new n ≡ None
+  -- every other name but that of the list reads what it read
+  pub others : tells → (n : List ℕ) → has deleted n ≡ false → n ≢ list_name → new n ≡ old n
+
+-- every writer of a name that wasn't tried lives as it did
+abbrev pub SparesWriters : {W : Type 0} → (names : List (List ℕ)) → (name_of : W → List ℕ) → (before after : W → Bool) → Type 0
+SparesWriters {W} names name_of before after = (w : W) → has names (name_of w) ≡ false → before w ≡ true → after w ≡ true
+
+-- no more names failed than the count of refused deletes rose, or the count stands at the end of its 64 bits
+abbrev pub FailsAtMost : (failed before now : ℕ) → Type 0
+FailsAtMost failed before now = (failed + before ≤ now) ⊎ (now ≡ 18446744073709551615)
+
+-- why a collection was given up: the device refused a call other than a delete, or memory was wanted
+abbrev pub CollectCause : (refused quiet : Type 0) → TantivyError → Type 0
+CollectCause refused quiet (errors.IoError fault) = IsDevice fault × refused
+CollectCause refused quiet errors.Memory = quiet
+CollectCause refused quiet _ = ⊥

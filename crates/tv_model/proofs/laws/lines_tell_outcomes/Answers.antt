@@ -1,0 +1,5 @@
+use Rattle.tv_model.proofs.Telling.{tells}
+use Rattle.tv_model.proofs.laws.lines_tell_outcomes.Goals as goal
+
+pub returns : goal.returns
+returns c = record { tells = tells }

@@ -1,0 +1,5 @@
+use Rattle.tv_model.proofs.Serving.{serves, serves_as_sealed}
+use Rattle.tv_model.proofs.laws.searchers_keep_their_commit.Goals as goal
+
+pub returns : goal.returns
+returns c = record { serves = serves; as_sealed = serves_as_sealed }

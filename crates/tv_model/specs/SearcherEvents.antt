@@ -1,0 +1,93 @@
+-- The events of searchers.
+use Rattle.std.specs.Prelude.{ℕ, ◌+◌, List, [], ◌∷◌, ◌++◌, map, codes, Option, Some, None}
+use Rattle.std.specs.List.{slice_get}
+use Rattle.std.specs.Fmt.{decimal}
+use Rattle.std.specs.Map.{remove_entry}
+use Rattle.std.specs.BTreeMap.{is_at, insert_entry}
+use Rattle.std.specs.Ordering.{nat_cmp}
+use Rattle.hex.specs.Hex.{encode_lower}
+use Rattle.tv_model.specs.declared.segment.LiveSegment.{LiveSegment}
+use Rattle.tv_model.specs.declared.segment.SegmentComponent.{SegmentComponent}
+use Rattle.tv_model.specs.declared.segment.SegmentComponent.TheVariants.{Postings, Positions, FastFields, FieldNorms, Terms, Store, Delete}
+use Rattle.tv_model.specs.Segments.{num_docs, extension}
+use Rattle.tv_model.specs.State.{State, Told, Snapshot, Reader, reader_at, searcher_at}
+use Rattle.tv_model.specs.Lines.{line, refuse}
+
+abbrev pub searcher_of : State → Option Reader → Told
+searcher_of s None = refuse s (codes "unknown-reader")
+searcher_of s (Some reader) = (
+  line (codes "searcher") (decimal s.reading.next_searcher ∷ decimal reader.shown.generation ∷ decimal reader.shown.commit.opstamp ∷ []),
+  record s {
+    reading = record s.reading {
+      searchers = insert_entry nat_cmp s.reading.searchers s.reading.next_searcher reader.shown;
+      next_searcher = s.reading.next_searcher + 1;
+    };
+  },
+)
+
+-- a new searcher, which shows for life what a reader shows now
+abbrev pub searcher_step : State → ℕ → Told
+searcher_step s number = searcher_of s (reader_at s number)
+
+-- a payload: `-` where there is none, else `+` and its bytes in lower-case digits
+abbrev pub payload_word : Option (List ℕ) → List ℕ
+payload_word None = codes "-"
+payload_word (Some text) = codes "+" ++ encode_lower text
+
+-- a segment, and how many living documents it has
+abbrev pub segment_word : List ℕ × LiveSegment → List ℕ
+segment_word e = encode_lower e.0 ++ 61 ∷ decimal (num_docs e.1)
+
+abbrev pub show_of : State → ℕ → Option Snapshot → Told
+show_of s number None = refuse s (codes "unknown-searcher")
+show_of s number (Some shown) =
+    (line (codes "show") (decimal number ∷ decimal shown.commit.opstamp ∷ payload_word shown.commit.payload ∷ map segment_word shown.commit.segments), s)
+
+-- the commit that a searcher shows
+abbrev pub show_step : State → ℕ → Told
+show_step s number = show_of s number (searcher_at s number)
+
+-- the place of a component in their order
+abbrev pub place_of : SegmentComponent → ℕ
+place_of Postings = 0
+place_of Positions = 1
+place_of FastFields = 2
+place_of FieldNorms = 3
+place_of Terms = 4
+place_of Store = 5
+place_of Delete = 6
+
+-- the body of a component of the segment at a place, where there is such a segment and it requires the component
+abbrev pub body_among : Option (List (List ℕ)) → SegmentComponent → Option (List ℕ)
+body_among None component = None
+body_among (Some bodies) component = slice_get bodies (place_of component)
+
+abbrev pub body_at : Snapshot → ℕ → SegmentComponent → Option (List ℕ)
+body_at shown ord component = body_among (slice_get shown.bodies ord) component
+
+-- bytes in lower-case digits, `-` where there are none
+abbrev pub bytes_word : List ℕ → List ℕ
+bytes_word [] = codes "-"
+bytes_word (b ∷ bytes) = encode_lower (b ∷ bytes)
+
+abbrev pub bytes_found : State → ℕ → ℕ → SegmentComponent → Option (List ℕ) → Told
+bytes_found s number ord component None = refuse s (codes "unknown-file")
+bytes_found s number ord component (Some body) =
+    (line (codes "bytes") (decimal number ∷ decimal ord ∷ extension component ∷ bytes_word body ∷ []), s)
+
+abbrev pub bytes_of : State → ℕ → ℕ → SegmentComponent → Option Snapshot → Told
+bytes_of s number ord component None = refuse s (codes "unknown-searcher")
+bytes_of s number ord component (Some shown) = bytes_found s number ord component (body_at shown ord component)
+
+-- the body of a file that a searcher shows
+abbrev pub bytes_step : State → ℕ → ℕ → SegmentComponent → Told
+bytes_step s number ord component = bytes_of s number ord component (searcher_at s number)
+
+abbrev pub release_searcher_of : State → ℕ → Option Snapshot → Told
+release_searcher_of s number None = refuse s (codes "unknown-searcher")
+release_searcher_of s number (Some shown) =
+    (codes "released", record s { reading = record s.reading { searchers = remove_entry (is_at (nat_cmp number)) s.reading.searchers } })
+
+-- a searcher ends
+abbrev pub release_searcher_step : State → ℕ → Told
+release_searcher_step s number = release_searcher_of s number (searcher_at s number)

@@ -1,0 +1,47 @@
+//! Laws of the machine. Each function does nothing: its contract is the law.
+ghost use Rattle.std.specs.Prelude.{◌≡◌, Bool, List, true, ℕ};
+ghost use Rattle.std.specs.List.{AllByRecursion};
+ghost use Rattle.std.specs.List.Sorted.{IsStrictlySortedBy};
+ghost use Rattle.tv_model.specs.Collecting.{Collects, CollectsIn};
+ghost use Rattle.tv_model.specs.Footer.{HasBody, body_of, sealed};
+ghost use Rattle.tv_model.specs.Index.{next_after};
+ghost use Rattle.tv_model.specs.Machine.{Turn, events_of};
+ghost use Rattle.tv_model.specs.Names.{byte_cmp};
+ghost use Rattle.tv_model.specs.Script.{Fits};
+ghost use Rattle.tv_model.specs.Serving.{Serves, ServesAsSealed};
+ghost use Rattle.tv_model.specs.SoundStates.{IsSoundState};
+ghost use Rattle.tv_model.specs.State.{State, no_readers};
+ghost use Rattle.tv_model.specs.Telling.{Determined, Tells, are_plain};
+
+/// In each run of an index that was just opened, a searcher shows one commit of the run for life,
+/// and a reader never shows an older commit than it showed before. From a sound state on, what is
+/// shown of a file is the body with which it was sealed.
+pub fn searchers_keep_their_commit()
+    ensures serves { (s : State) (turns : List Turn) → s.reading ≡ no_readers → s.next ≡ next_after s.commit.opstamp → Serves s turns }
+    ensures as_sealed { (s : State) (turns : List Turn) → IsSoundState s → AllByRecursion Fits (events_of turns) → ServesAsSealed s turns }
+{}
+
+/// A collection takes exactly the managed names that nothing needs. Each of them is told as done or
+/// as failed, and those that failed stay managed. So does each collection of a run.
+pub fn collections_take_what_nothing_needs()
+    ensures collects { (s : State) (outcomes : List Bool) → IsStrictlySortedBy byte_cmp s.managed → Collects s outcomes }
+    ensures in_runs { (s : State) (turns : List Turn) → IsStrictlySortedBy byte_cmp s.managed → CollectsIn s turns }
+{}
+
+/// The line of a collection tells which names were done and which failed, since no plain name has a
+/// space or is the word `failed`.
+pub fn lines_tell_outcomes()
+    ensures tells { (names : List (List ℕ)) → are_plain names ≡ true → Tells names }
+{}
+
+/// What a run tells, together with its events, determines the state that it comes to.
+pub fn reports_determine_runs()
+    ensures determined { (s : State) → are_plain s.managed ≡ true → Determined s }
+{}
+
+/// The body of a sealed file is that with which it was sealed, and a file that has a footer has one
+/// body.
+pub fn files_keep_their_body()
+    ensures sealed { (body : List ℕ) → body_of (sealed body) ≡ body }
+    ensures good { (bytes body : List ℕ) → HasBody bytes body → body_of bytes ≡ body }
+{}
