@@ -1,0 +1,10 @@
+pub mod Parts
+pub mod Reading
+pub mod Footing
+pub mod Opening
+pub mod FooterEnds
+pub mod FooterTrees
+pub mod FooterTexts
+pub mod Gathered
+pub mod Reported
+pub mod Summed

@@ -1,0 +1,355 @@
+-- How the list of a composite file and its bodies agree.
+use Rattle.std.proofs.Common.{◌≡◌, ◌≤◌, ◌<◌, ◌+◌, ◌-◌, ◌^◌, ℕ, suc, Bool, true, false, ◌||◌, List, [], ◌∷◌, ◌++◌, length, take, drop, get_or, slice_range, Option, Some, None, refl, sym, ap, subst, ◌∙◌, arith, append_assoc, append-nil, length-append, length-drop}
+use Rattle.std.proofs.lemmas.List.{drop_at, drop_more, take_at, length-take-le, drop_all}
+use Rattle.std.specs.List.{AllByRecursion, list_any}
+use Rattle.tv_model.specs.Footer.{four_bytes}
+use Rattle.tv_model.specs.VInt.{vint}
+use Rattle.tv_framing.specs.declared.address.FileAddr.{FileAddr}
+use Rattle.tv_framing.specs.declared.entries.Entry.{Entry}
+use Rattle.tv_framing.specs.declared.starts.Start.{Start}
+use Rattle.tv_framing.specs.Composite.{Part, AreDistinct, IsAddress, IsComposite, addresses, bodies, footing, is_at, listed}
+use Rattle.tv_framing.specs.Entries.{BeginsAtFirst, IsLayout, entries_text, entry_addresses, entry_text, gaps, starts_after}
+use Rattle.tv_framing.specs.Fitting.{EntryFits}
+use Rattle.tv_framing.specs.Starts.{Ascend, Fill, next_start, parts_of, start_addresses}
+use Rattle.tv_framing.proofs.Parts.{addresses_of, bodies_whole, distinct_push, turned}
+
+-- ---- the entries of some parts
+
+abbrev pub entries_of : ℕ → List Part → List Entry
+entries_of gap [] = []
+entries_of gap (part ∷ parts) = record { gap = gap; addr = part.addr } ∷ entries_of (length part.body) parts
+
+pub listed_entries : (gap : ℕ) (parts : List Part) → listed gap parts ≡ entries_text (entries_of gap parts)
+listed_entries gap [] = refl
+listed_entries gap (p ∷ ps) =
+    ap (λ (l : List ℕ). vint gap ++ (four_bytes p.addr.field ++ (vint p.addr.idx ++ l))) (listed_entries (length p.body) ps)
+    ∙ regrouped (vint gap) (four_bytes p.addr.field) (vint p.addr.idx) (entries_text (entries_of (length p.body) ps))
+  where
+    regrouped : (a b c d : List ℕ) → a ++ (b ++ (c ++ d)) ≡ (a ++ (b ++ c)) ++ d
+    regrouped a b c d = simp append_assoc
+
+pub count_entries : (gap : ℕ) (parts : List Part) → length (entries_of gap parts) ≡ length parts
+count_entries gap [] = refl
+count_entries gap (p ∷ ps) = ap suc (count_entries (length p.body) ps)
+
+pub addresses_entries : (gap : ℕ) (parts : List Part) → entry_addresses (entries_of gap parts) ≡ addresses parts
+addresses_entries gap [] = refl
+addresses_entries gap (p ∷ ps) = ap (λ (l : List FileAddr). p.addr ∷ l) (addresses_entries (length p.body) ps)
+
+pub gaps_entries : (gap : ℕ) (parts : List Part) → gaps (entries_of gap parts) ≤ gap + length (bodies parts)
+gaps_entries gap [] = omega arith
+gaps_entries gap (p ∷ ps) = omega (arith, gaps_entries (length p.body) ps, length-append p.body (bodies ps))
+
+pub fits_entries : (gap : ℕ) (parts : List Part) → gap < 2 ^ 64 → length (bodies parts) < 2 ^ 64 → AllByRecursion IsAddress (addresses parts) → AllByRecursion EntryFits (entries_of gap parts)
+fits_entries gap [] lt short h = tt
+fits_entries gap (p ∷ ps) lt short h =
+    let long = length-append p.body (bodies ps) in
+    ((lt, h.0), fits_entries (length p.body) ps (omega (arith, long, short)) (omega (arith, long, short)) h.1)
+
+first_entry : (parts : List Part) → BeginsAtFirst (entries_of 0 parts) (length (bodies parts))
+first_entry [] = refl
+first_entry (p ∷ ps) = refl
+
+pub layout_of : (parts : List Part) → AreDistinct (addresses parts) → IsLayout (entries_of 0 parts) (length (bodies parts))
+layout_of parts h = record {
+  first = first_entry parts;
+  within = omega (arith, gaps_entries 0 parts);
+  distinct = subst AreDistinct (sym (addresses_entries 0 parts)) h;
+}
+
+-- ---- the parts of some entries
+
+pub start_addresses_after : (o : ℕ) (es : List Entry) → start_addresses (starts_after o es) ≡ entry_addresses es
+start_addresses_after o [] = refl
+start_addresses_after o (e ∷ es) = ap (λ (l : List FileAddr). e.addr ∷ l) (start_addresses_after (o + e.gap) es)
+
+ascend_after : (o len : ℕ) (es : List Entry) → o + gaps es ≤ len → Ascend o (starts_after o es) len
+ascend_after o len [] h = omega (arith, h)
+ascend_after o len (e ∷ es) h = (omega arith, ascend_after (o + e.gap) len es (omega (arith, h)))
+
+pub fill_after : (len : ℕ) (es : List Entry) → IsLayout es len → Fill (starts_after 0 es) len
+fill_after len [] h = h.first
+fill_after len (e ∷ es) h =
+    let at : 0 + e.gap ≡ 0 = omega (arith, h.first) in
+    (at, subst (λ n. Ascend n (starts_after (0 + e.gap) es) len) at (ascend_after (0 + e.gap) len es (omega (arith, h.within))))
+
+entries_back : (bytes : List ℕ) (o : ℕ) (e : Entry) (es : List Entry) → o + (e.gap + gaps es) ≤ length bytes → entries_of e.gap (parts_of bytes (starts_after o (e ∷ es))) ≡ e ∷ es
+entries_back bytes o e [] h = refl
+entries_back bytes o e (f ∷ fs) h =
+    let from = o + e.gap in
+    let to = o + e.gap + f.gap in
+    let long : length (slice_range bytes (o + e.gap) (o + e.gap + f.gap)) ≡ f.gap = length-take-le (to - from) (drop from bytes) (omega (arith, length-drop from bytes, h)) ∙ omega arith in
+    ap (λ (l : List Entry). e ∷ l)
+    (ap (λ n. entries_of n (parts_of bytes (starts_after (o + e.gap) (f ∷ fs)))) long ∙ entries_back bytes (o + e.gap) f fs (omega (arith, h)))
+
+pub entries_whole : (bytes : List ℕ) (es : List Entry) → IsLayout es (length bytes) → entries_of 0 (parts_of bytes (starts_after 0 es)) ≡ es
+entries_whole bytes [] h = refl
+entries_whole bytes (e ∷ es) h =
+    ap (λ n. entries_of n (parts_of bytes (starts_after 0 (e ∷ es)))) (sym h.first) ∙ entries_back bytes 0 e es (omega (arith, h.within))
+
+fits_addresses : (es : List Entry) → AllByRecursion EntryFits es → AllByRecursion IsAddress (entry_addresses es)
+fits_addresses [] h = tt
+fits_addresses (e ∷ es) h = (h.0.1, fits_addresses es h.1)
+
+-- a file whose list has these entries is made of the parts that begin there
+pub composite_of : (bytes front foot : List ℕ) (es : List Entry) → bytes ≡ front ++ (foot ++ four_bytes (length foot)) → length foot < 2 ^ 32 → foot ≡ vint (length es) ++ entries_text es
+    → IsLayout es (length front) → AllByRecursion EntryFits es → IsComposite bytes (parts_of front (starts_after 0 es))
+composite_of bytes front foot es whole short list layout fits =
+    let parts = parts_of front (starts_after 0 es) in
+    let same : addresses (parts_of front (starts_after 0 es)) ≡ entry_addresses es = addresses_of front (starts_after 0 es) ∙ start_addresses_after 0 es in
+    let back = entries_whole front es layout in
+    let number : length (parts_of front (starts_after 0 es)) ≡ length es = sym (count_entries 0 parts) ∙ ap length back in
+    let listing : listed 0 (parts_of front (starts_after 0 es)) ≡ entries_text es = listed_entries 0 parts ∙ ap entries_text back in
+    let foot_is : foot ≡ footing (parts_of front (starts_after 0 es)) = list ∙ ap (λ n. vint n ++ entries_text es) (sym number) ∙ ap (λ (l : List ℕ). vint (length parts) ++ l) (sym listing) in
+    record {
+      each = subst (AllByRecursion IsAddress) (sym same) (fits_addresses es fits);
+      distinct = subst AreDistinct (sym same) layout.distinct;
+      short = subst (λ (l : List ℕ). length l < 2 ^ 32) foot_is short;
+      whole = whole ∙ ap (λ (l : List ℕ). front ++ (l ++ four_bytes (length l))) foot_is ∙ ap (λ (l : List ℕ). l ++ (footing parts ++ four_bytes (length (footing parts)))) (sym (bodies_whole front (starts_after 0 es) (fill_after (length front) es layout)));
+    }
+
+-- ---- reading entry by entry
+
+-- the entries go on behind those that were read
+pub record StillReads (entries done : List Entry) (left : List ℕ) : Type 0 where
+  pub rest : List Entry
+  pub whole : entries ≡ done ++ rest
+  pub text : left ≡ entries_text rest
+  pub fits : AllByRecursion EntryFits rest
+
+pub record Next (entries done : List Entry) (left : List ℕ) : Type 0 where
+  pub entry : Entry
+  pub more : List Entry
+  pub whole : entries ≡ done ++ entry ∷ more
+  pub text : left ≡ entry_text entry ++ entries_text more
+  pub fits : EntryFits entry
+  pub rest : AllByRecursion EntryFits more
+
+next_by : (entries done rest : List Entry) (left : List ℕ) → entries ≡ done ++ rest → left ≡ entries_text rest → AllByRecursion EntryFits rest → length done < length entries → Next entries done left
+next_by entries done [] left whole text fits lt = absurd (omega (arith, ap length whole, length-append done []))
+next_by entries done (e ∷ more) left whole text fits lt = record {
+  entry = e;
+  more = more;
+  whole = whole;
+  text = text;
+  fits = fits.0;
+  rest = fits.1;
+}
+
+pub next_of : (entries done : List Entry) (left : List ℕ) → StillReads entries done left → length done < length entries → Next entries done left
+next_of entries done left s lt = next_by entries done s.rest left s.whole s.text s.fits lt
+
+some_is : {x y : Entry} → ◌≡◌ {A = Option Entry} (Some x) (Some y) → x ≡ y
+some_is e = cc
+
+pub step_on : (entries done now : List Entry) (left after : List ℕ) (n : Next entries done left) (x : Entry) → ◌≡◌ {A = Option Entry} (Some x) (Some n.entry) → after ≡ entries_text n.more → now ≡ done ++ x ∷ [] → StillReads entries now after
+step_on entries done now left after n x is left_is now_is = record {
+  rest = n.more;
+  whole = n.whole ∙ ap (λ (e : Entry). done ++ e ∷ n.more) (sym (some_is is)) ∙ sym (append_assoc done (x ∷ []) n.more) ∙ ap (λ (l : List Entry). l ++ n.more) (sym now_is);
+  text = left_is;
+  fits = n.rest;
+}
+
+ended_by : (entries done rest : List Entry) → entries ≡ done ++ rest → length entries ≤ length done → rest ≡ []
+ended_by entries done [] whole le = refl
+ended_by entries done (e ∷ rest) whole le = absurd (omega (arith, ap length whole, length-append done (e ∷ rest)))
+
+-- all were read
+pub all_read : (entries done : List Entry) (left : List ℕ) → StillReads entries done left → length entries ≤ length done → (entries ≡ done) × (left ≡ [])
+all_read entries done left s le =
+    let none = ended_by entries done s.rest s.whole le in
+    (s.whole ∙ ap (λ (l : List Entry). done ++ l) none ∙ append-nil done, s.text ∙ ap entries_text none)
+
+pub fits_push : (es : List Entry) (e : Entry) → AllByRecursion EntryFits es → EntryFits e → AllByRecursion EntryFits (es ++ e ∷ [])
+fits_push [] e each h = (h, tt)
+fits_push (x ∷ xs) e each h = (each.0, fits_push xs e each.1 h)
+
+text_push : (es : List Entry) (e : Entry) → entries_text (es ++ e ∷ []) ≡ entries_text es ++ entry_text e
+text_push [] e = append-nil (entry_text e)
+text_push (x ∷ xs) e = ap (λ (l : List ℕ). entry_text x ++ l) (text_push xs e) ∙ sym (append_assoc (entry_text x) (entries_text xs) (entry_text e))
+
+pub read_more : (bytes front : List ℕ) (es now : List Entry) (e : Entry) (left after : List ℕ) → bytes ≡ front ++ (entries_text es ++ left) → left ≡ entry_text e ++ after → now ≡ es ++ e ∷ [] → bytes ≡ front ++ (entries_text now ++ after)
+read_more bytes front es now e left after whole is now_is =
+    whole
+    ∙ ap (λ (l : List ℕ). front ++ (entries_text es ++ l)) is
+    ∙ ap (λ (l : List ℕ). front ++ l) (sym (append_assoc (entries_text es) (entry_text e) after))
+    ∙ ap (λ (l : List ℕ). front ++ (l ++ after)) (sym (text_push es e))
+    ∙ ap (λ (l : List Entry). front ++ (entries_text l ++ after)) (sym now_is)
+
+-- so many entries were read behind their number
+pub record IsReading (bytes : List ℕ) (count i : ℕ) (done : List Entry) (left : List ℕ) : Type 0 where
+  pub number : length done ≡ i
+  pub within : i ≤ count
+  pub text : bytes ≡ vint count ++ (entries_text done ++ left)
+  pub each : AllByRecursion EntryFits done
+  pub goes_on : (entries : List Entry) → length entries < 2 ^ 64 → AllByRecursion EntryFits entries → bytes ≡ vint (length entries) ++ entries_text entries → (count ≡ length entries) × StillReads entries done left
+
+number_is : {m n : ℕ} → ◌≡◌ {A = Option ℕ} (Some m) (Some n) → m ≡ n
+number_is e = cc
+
+pub reads_first : (bytes left : List ℕ) (count : ℕ) → bytes ≡ vint count ++ left → ((n : ℕ) (rest : List ℕ) → n < 2 ^ 64 → bytes ≡ vint n ++ rest → (◌≡◌ {A = Option ℕ} (Some count) (Some n)) × (left ≡ rest)) → IsReading bytes count 0 [] left
+reads_first bytes left count is found = record {
+  number = refl;
+  within = omega arith;
+  text = is;
+  each = tt;
+  goes_on = λ entries short fits whole.
+      let f = found (length entries) (entries_text entries) short whole in
+      (number_is f.0, record { rest = entries; whole = refl; text = f.1; fits = fits });
+}
+
+entry_is : {x y : Entry} → ◌≡◌ {A = Option Entry} (Some x) (Some y) → x ≡ y
+entry_is e = cc
+
+next_in : (bytes : List ℕ) (count i : ℕ) (done : List Entry) (left : List ℕ) (r : IsReading bytes count i done left) → i < count → (entries : List Entry) → length entries < 2 ^ 64 → AllByRecursion EntryFits entries
+    → bytes ≡ vint (length entries) ++ entries_text entries → Next entries done left
+next_in bytes count i done left r lt entries short fits whole =
+    let g = r.goes_on entries short fits whole in
+    next_of entries done left g.1 (omega (arith, g.0, r.number, lt))
+
+pub reads_on : (bytes : List ℕ) (count i : ℕ) (done now : List Entry) (left after : List ℕ) (x : Entry) → IsReading bytes count i done left → i < count
+    → ((e : Entry) (rest : List ℕ) → EntryFits e → left ≡ entry_text e ++ rest → (◌≡◌ {A = Option Entry} (Some x) (Some e)) × (after ≡ rest))
+    → left ≡ entry_text x ++ after → EntryFits x → now ≡ done ++ x ∷ [] → IsReading bytes count (i + 1) now after
+reads_on bytes count i done now left after x r lt found is fits_x now_is = record {
+  number = omega (arith, ap length now_is, length-append done (x ∷ []), r.number);
+  within = omega (arith, lt);
+  text = read_more bytes (vint count) done now x left after r.text is now_is;
+  each = subst (AllByRecursion EntryFits) (sym now_is) (fits_push done x r.each fits_x);
+  goes_on = λ entries short fits whole.
+      let n = next_in bytes count i done left r lt entries short fits whole in
+      let f = found n.entry (entries_text n.more) n.fits n.text in
+      ((r.goes_on entries short fits whole).0, step_on entries done now left after n x f.0 f.1 now_is);
+}
+
+-- no entry comes next where the list would go on
+pub stops_short : (bytes : List ℕ) (count i : ℕ) (done : List Entry) (left after : List ℕ) → IsReading bytes count i done left → i < count
+    → ((e : Entry) (rest : List ℕ) → EntryFits e → left ≡ entry_text e ++ rest → (◌≡◌ {A = Option Entry} None (Some e)) × (after ≡ rest))
+    → (entries : List Entry) → length entries < 2 ^ 64 → AllByRecursion EntryFits entries → bytes ≡ vint (length entries) ++ entries_text entries → ⊥
+stops_short bytes count i done left after r lt found entries short fits whole =
+    let n = next_in bytes count i done left r lt entries short fits whole in
+    none_some (found n.entry (entries_text n.more) n.fits n.text).0
+  where
+    none_some : {y : Entry} → ◌≡◌ {A = Option Entry} None (Some y) → ⊥
+    none_some e = cc
+
+pub reads_all : (bytes : List ℕ) (count i : ℕ) (done : List Entry) (left : List ℕ) → IsReading bytes count i done left → count ≤ i → (entries : List Entry) → length entries < 2 ^ 64 → AllByRecursion EntryFits entries
+    → bytes ≡ vint (length entries) ++ entries_text entries → (entries ≡ done) × (left ≡ [])
+reads_all bytes count i done left r le entries short fits whole =
+    let g = r.goes_on entries short fits whole in
+    all_read entries done left g.1 (omega (arith, g.0, r.number, le))
+
+empty_of : (left : List ℕ) → length left ≡ 0 → left ≡ []
+empty_of [] h = refl
+empty_of (x ∷ xs) h = absurd (omega (arith, h))
+
+pub read_whole : (bytes : List ℕ) (count i : ℕ) (done : List Entry) (left : List ℕ) → IsReading bytes count i done left → count ≤ i → length left ≡ 0 → bytes ≡ vint (length done) ++ entries_text done
+read_whole bytes count i done left r le none =
+    let same : count ≡ length done = omega (arith, r.number, r.within, le) in
+    r.text ∙ ap (λ n. vint n ++ (entries_text done ++ left)) same ∙ ap (λ (l : List ℕ). vint (length done) ++ (entries_text done ++ l)) (empty_of left none)
+    ∙ ap (λ (l : List ℕ). vint (length done) ++ l) (append-nil (entries_text done))
+
+-- ---- adding up the gaps
+
+-- so many starts were made of the entries
+pub record IsSoFar (entries : List Entry) (i offset len : ℕ) (starts : List Start) : Type 0 where
+  pub within : offset ≤ len
+  pub sum : offset + gaps (drop i entries) ≡ gaps entries
+  pub made : starts ++ starts_after offset (drop i entries) ≡ starts_after 0 entries
+  pub distinct : AreDistinct (start_addresses starts)
+  pub named : start_addresses starts ++ entry_addresses (drop i entries) ≡ entry_addresses entries
+  pub first : BeginsAtFirst entries len
+
+pub at_front : (entries : List Entry) (i : ℕ) (e : Entry) → i < length entries → e ≡ get_or entries i e → drop i entries ≡ e ∷ drop (i + 1) entries
+at_front entries i e lt is = drop_more entries i e lt ∙ ap (λ (x : Entry). x ∷ drop (i + 1) entries) (sym is)
+
+addresses_push : (ss : List Start) (s : Start) → start_addresses (ss ++ s ∷ []) ≡ start_addresses ss ++ s.addr ∷ []
+addresses_push [] s = refl
+addresses_push (x ∷ xs) s = ap (λ (l : List FileAddr). x.addr ∷ l) (addresses_push xs s)
+
+pub so_far_more : (entries : List Entry) (i offset len : ℕ) (starts now : List Start) (e : Entry) → IsSoFar entries i offset len starts → drop i entries ≡ e ∷ drop (i + 1) entries → e.gap ≤ len - offset
+    → list_any (is_at e.addr) (start_addresses starts) ≡ false → now ≡ starts ++ record { addr = e.addr; offset = offset + e.gap } ∷ [] → IsSoFar entries (i + 1) (offset + e.gap) len now
+so_far_more entries i offset len starts now e s front le new is =
+    let start : Start = record { addr = e.addr; offset = offset + e.gap } in
+    let names : start_addresses now ≡ start_addresses starts ++ e.addr ∷ [] = ap start_addresses is ∙ addresses_push starts (record { addr = e.addr; offset = offset + e.gap }) in
+    record {
+      within = omega (arith, s.within, le);
+      sum = omega (arith, s.sum, ap gaps front);
+      made = ap (λ (l : List Start). l ++ starts_after (offset + e.gap) (drop (i + 1) entries)) is
+          ∙ append_assoc starts (record { addr = e.addr; offset = offset + e.gap } ∷ []) (starts_after (offset + e.gap) (drop (i + 1) entries))
+          ∙ ap (λ (l : List Entry). starts ++ starts_after offset l) (sym front) ∙ s.made;
+      distinct = subst AreDistinct (sym names) (distinct_push (start_addresses starts) e.addr s.distinct new);
+      named = ap (λ (l : List FileAddr). l ++ entry_addresses (drop (i + 1) entries)) names
+          ∙ append_assoc (start_addresses starts) (e.addr ∷ []) (entry_addresses (drop (i + 1) entries))
+          ∙ ap (λ (l : List Entry). start_addresses starts ++ entry_addresses l) (sym front) ∙ s.named;
+      first = s.first;
+    }
+
+pub too_far : (entries : List Entry) (i offset len : ℕ) (starts : List Start) (e : Entry) → IsSoFar entries i offset len starts → drop i entries ≡ e ∷ drop (i + 1) entries → len - offset < e.gap → IsLayout entries len → ⊥
+too_far entries i offset len starts e s front lt h = absurd (omega (arith, s.sum, s.within, lt, h.within, ap gaps front))
+
+or_left : (a b : Bool) → (a || b) ≡ false → a ≡ false
+or_left true b h = absurd (cc)
+or_left false b h = refl
+
+same_way : (a b : FileAddr) → is_at a b ≡ true → is_at b a ≡ true
+same_way a b e = turned b a ∙ e
+
+or_right : (a b : Bool) → (a || b) ≡ false → b ≡ false
+or_right true b h = absurd (cc)
+or_right false b h = h
+
+true_false : true ≡ false → ⊥
+true_false e = cc
+
+here : (xs : List FileAddr) (a : FileAddr) (rest : List FileAddr) (x : FileAddr) → is_at x a ≡ true → list_any (is_at x) (xs ++ a ∷ rest) ≡ false → ⊥
+here [] a rest x e h = true_false (sym e ∙ or_left (is_at x a) (list_any (is_at x) rest) h)
+here (y ∷ ys) a rest x e h = here ys a rest x e (or_right (is_at x y) _ h)
+
+twice_by : (x : FileAddr) (xs : List FileAddr) (a : FileAddr) (rest : List FileAddr) (b : Bool) → (list_any (is_at a) xs ≡ true → AreDistinct (xs ++ a ∷ rest) → ⊥)
+    → is_at a x ≡ b → (b || list_any (is_at a) xs) ≡ true → AreDistinct (x ∷ (xs ++ a ∷ rest)) → ⊥
+twice_by x xs a rest true later e is h = here xs a rest x (same_way a x e) h.0
+twice_by x xs a rest false later e is h = later is h.1
+
+-- an address that stands before stands twice
+twice : (front : List FileAddr) (a : FileAddr) (rest : List FileAddr) → list_any (is_at a) front ≡ true → AreDistinct (front ++ a ∷ rest) → ⊥
+twice [] a rest is h = true_false (sym is)
+twice (x ∷ xs) a rest is h = twice_by x xs a rest (is_at a x) (twice xs a rest) refl is h
+
+pub stands_twice : (entries : List Entry) (i offset len : ℕ) (starts : List Start) (e : Entry) → IsSoFar entries i offset len starts → drop i entries ≡ e ∷ drop (i + 1) entries → list_any (is_at e.addr) (start_addresses starts) ≡ true → IsLayout entries len → ⊥
+stands_twice entries i offset len starts e s front is h =
+    twice (start_addresses starts) e.addr (entry_addresses (drop (i + 1) entries)) is
+    (subst AreDistinct (sym (ap (λ (l : List Entry). start_addresses starts ++ entry_addresses l) (sym front) ∙ s.named)) h.distinct)
+
+pub all_made : (entries : List Entry) (i offset len : ℕ) (starts : List Start) → IsSoFar entries i offset len starts → length entries ≤ i → IsLayout entries len × (starts ≡ starts_after 0 entries)
+all_made entries i offset len starts s le =
+    let none : drop i entries ≡ [] = drop_all i entries le in
+    let named : start_addresses starts ≡ entry_addresses entries = sym (append-nil (start_addresses starts)) ∙ ap (λ (l : List Entry). start_addresses starts ++ entry_addresses l) (sym none) ∙ s.named in (
+      record {
+        first = s.first;
+        within = omega (arith, s.sum, s.within, ap gaps none);
+        distinct = subst AreDistinct named s.distinct;
+      },
+      sym (append-nil starts) ∙ ap (λ (l : List Entry). starts ++ starts_after offset l) (sym none) ∙ s.made,
+    )
+
+-- ---- the parts of a file are those that begin where the entries say
+
+parts_back : (bytes front : List ℕ) (o g : ℕ) (parts : List Part) → bytes ≡ front ++ bodies parts → o + g ≡ length front → parts_of bytes (starts_after o (entries_of g parts)) ≡ parts
+parts_back bytes front o g [] whole at = refl
+parts_back bytes front o g (p ∷ ps) whole at =
+    let ending : next_start (length bytes) (starts_after (o + g) (entries_of (length p.body) ps)) ≡ length front + length p.body = next_is bytes (o + g) p.body ps (omega (arith, ap length whole, length-append front (p.body ++ bodies ps), length-append p.body (bodies ps), at)) ∙ omega (arith, at) in
+    let rest : drop (o + g) bytes ≡ p.body ++ bodies ps = ap (drop (o + g)) whole ∙ drop_at front (p.body ++ bodies ps) (o + g) (sym at) in
+    let body : slice_range bytes (o + g) (next_start (length bytes) (starts_after (o + g) (entries_of (length p.body) ps))) ≡ p.body =
+    ap (λ n. take (n - (o + g)) (drop (o + g) bytes)) ending
+    ∙ ap (λ (l : List ℕ). take (length front + length p.body - (o + g)) l) rest
+    ∙ take_at p.body (bodies ps) (length front + length p.body - (o + g)) (omega (arith, at)) in
+    let again : bytes ≡ (front ++ p.body) ++ bodies ps = whole ∙ sym (append_assoc front p.body (bodies ps)) in
+    ap (λ (b : List ℕ). record { addr = p.addr; body = b } ∷ parts_of bytes (starts_after (o + g) (entries_of (length p.body) ps))) body
+    ∙ ap (λ (l : List Part). p ∷ l) (parts_back bytes (front ++ p.body) (o + g) (length p.body) ps again (omega (arith, length-append front p.body, at)))
+  where
+    next_is : (bytes : List ℕ) (o : ℕ) (body : List ℕ) (ps : List Part) → length bytes ≡ o + (length body + length (bodies ps)) → next_start (length bytes) (starts_after o (entries_of (length body) ps)) ≡ o + length body
+    next_is bytes o body [] h = omega (arith, h)
+    next_is bytes o body (q ∷ qs) h = refl
+
+pub parts_are : (bytes : List ℕ) (parts : List Part) → bytes ≡ bodies parts → parts_of bytes (starts_after 0 (entries_of 0 parts)) ≡ parts
+parts_are bytes parts whole = parts_back bytes [] 0 0 parts whole (omega arith)

@@ -1,0 +1,118 @@
+//! The footer of a file.
+ghost use Rattle.std.specs.Prelude.{◌≡◌, ◌≤◌, ◌<◌, ◌⊎◌, ◌++◌, List, ℕ, false, IfOk, IfErr, OnOk};
+ghost use Rattle.tv_model.specs.Files.{Rose};
+ghost use Rattle.tv_base.specs.Causes.{IoCause};
+ghost use Rattle.tv_framing.specs.Faults.{OfFault};
+ghost use Rattle.tv_framing.specs.declared.footer.Footer.{Footer};
+ghost use Rattle.tv_framing.specs.Footers.{IsFramed, Refuses, footer_text};
+
+use crate::faults::refusal;
+use crate::footer_end::{FOOTER_MAGIC_NUMBER, json_range};
+use crate::footer_json::{read_footer, write_json};
+use std::alloc::Global;
+use tv_base::{
+    FileSlice, INDEX_FORMAT_OLDEST_SUPPORTED_VERSION, INDEX_FORMAT_VERSION, Incompatibility,
+    IoError, IoKind, Memory, TerminatingWrite, Version, version,
+};
+
+/// What stands behind the body of each sealed file: the version of the library that wrote it, and the
+/// CRC-32 of the body.
+#[derive(Clone, Copy, Debug, PartialEq, Eq)]
+pub struct Footer {
+    pub version: Version,
+    pub crc: u32,
+}
+
+impl Footer {
+    /// The footer of this library for a body with this checksum.
+    pub fn new(crc: u32) -> Footer
+        ensures footer { result ≡ record { version = record { major = 0; minor = 26; patch = 2; index_format_version = 7 }; crc = crc } }
+    {
+        Footer {
+            version: version(),
+            crc,
+        }
+    }
+
+    /// The checksum of the body.
+    pub fn crc(&self) -> u32
+        ensures crc { result ≡ self.now.crc }
+    {
+        self.crc
+    }
+
+    /// Writes the footer behind what was written. Where memory is wanted, nothing is written.
+    pub fn append_footer<W: TerminatingWrite>(
+        &self,
+        alloc: Global,
+        write: &mut W,
+    ) -> Result<(), IoError>
+        requires going { W.ended write.old ≡ false }
+        ensures ok { OnOk result (W.taken write.new ≡ W.taken write.old ++ footer_text self.now) }
+        ensures memory { IfErr result (IoCause (Unit {0}) (W.taken write.new ≡ W.taken write.old)) }
+        ensures going { OnOk result (W.ended write.new ≡ false) }
+        ensures again { IfErr result (IoCause (Unit {0}) (W.ended write.new ≡ false)) }
+        ensures quiet { OnOk result (W.faults write.new ≡ W.faults write.old) }
+        ensures cause { IfErr result (IoCause (Rose (W.faults write.old) (W.faults write.new)) (W.faults write.new ≡ W.faults write.old)) }
+    {
+        let text = written(alloc, self)?;
+        write.write_all(text.as_slice())
+    }
+
+    /// The footer of a file, and the body before it, whatever the checksum is. The file is refused
+    /// where it ends in no footer, for the first reason that holds.
+    pub fn extract_footer(alloc: Global, file: FileSlice) -> Result<(Footer, FileSlice), IoError>
+        ensures ok { IfOk result (λ found. IsFramed file found.0 found.1) }
+        ensures err { IfErr result (OfFault (Refuses file)) }
+        ensures outside { IfErr result (OfFault (λ _. (footer : Footer) (body : List ℕ) → IsFramed file footer body → ⊥)) }
+    {
+        framed(alloc, file)
+    }
+
+    /// Whether files of this footer's version can be read. Takes no memory.
+    pub fn is_compatible(&self) -> Result<(), Incompatibility>
+        ensures ok { OnOk result ((4 ≤ self.now.version.index_format_version) × (self.now.version.index_format_version ≤ 7)) }
+        ensures err { IfErr result (λ e. e ≡ Incompatibility.IndexMismatch (record { major = 0; minor = 26; patch = 2; index_format_version = 7 }) self.now.version) }
+        ensures outside { IfErr result (λ _. (self.now.version.index_format_version < 4) ⊎ (7 < self.now.version.index_format_version)) }
+    {
+        let format = self.version.index_format_version;
+        if format < INDEX_FORMAT_OLDEST_SUPPORTED_VERSION || format > INDEX_FORMAT_VERSION {
+            return Err(Incompatibility::IndexMismatch {
+                library_version: version(),
+                index_version: self.version,
+            });
+        }
+        Ok(())
+    }
+}
+
+/// The bytes of the footer: its JSON, the length of that, and the magic number.
+pub(crate) fn written(alloc: Global, footer: &Footer) -> Result<Vec<u8>, Memory>
+    ensures { IfOk result (λ text. text.items ≡ footer_text footer.now) }
+{
+    let mut text = write_json(alloc, footer)?;
+    let Ok(len) = u32::try_from(text.len()) else {
+        return Err(Memory);
+    };
+    text.extend_from_slice(&len.to_le_bytes())?;
+    text.extend_from_slice(&FOOTER_MAGIC_NUMBER.to_le_bytes())?;
+    Ok(text)
+}
+
+// The footer of a file, and the body before it.
+fn framed(alloc: Global, file: FileSlice) -> Result<(Footer, FileSlice), IoError>
+    ensures ok { IfOk result (λ found. IsFramed file found.0 found.1) }
+    ensures err { IfErr result (OfFault (Refuses file)) }
+{
+    let bytes = file.read_bytes()?;
+    let range = json_range(alloc, bytes.as_slice())?;
+    let start = range.start;
+    match read_footer(alloc, &bytes.as_slice()[range])? {
+        Some(footer) => Ok((footer, file.slice_to(start)?)),
+        None => Err(refusal(
+            alloc,
+            IoKind::InvalidData,
+            "Footer is not of the stated form.",
+        )),
+    }
+}

@@ -1,0 +1,123 @@
+//! How much space the fields of a segment take.
+ghost use Rattle.std.specs.Prelude.{◌≡◌, [], IfOk, OnOk};
+ghost use Rattle.std.specs.Slice.Iter.{iter_rest};
+ghost use Rattle.tv_framing.specs.Usage.{capped};
+ghost use Rattle.tv_framing.specs.PerField.{AreByName, fields_sum};
+ghost use Rattle.tv_framing.specs.Places.{place_of, with_field};
+
+use crate::field_usage::FieldUsage;
+use std::alloc::Global;
+use std::cmp::Ordering;
+use std::marker::Model;
+use tv_base::{ByteCount, Memory};
+
+/// The usages of several fields, in name order.
+pub type FieldUsages<'a> = std::slice::Iter<'a, FieldUsage>;
+
+/// The space that fields take. To a contract it is the list of their usages, in name order.
+#[derive(Drop)]
+pub struct PerFieldSpaceUsage {
+    fields: Vec<FieldUsage>,
+}
+
+impl Model for PerFieldSpaceUsage {
+    ghost use Rattle.std.specs.Prelude.{List};
+    ghost use Rattle.tv_framing.specs.Fields.{FieldSpace};
+    ghost use Rattle.tv_framing.specs.PerField.{InNameOrder};
+
+    ghost Value = { List FieldSpace };
+
+    ghost view = { λ u. u.fields.items };
+
+    ghost invariant = { λ u. InNameOrder u.fields.items };
+}
+
+impl PerFieldSpaceUsage {
+    /// The usages of these fields. Those of one name make one usage together, part by part.
+    pub fn new(alloc: Global, fields: Vec<FieldUsage>) -> Result<PerFieldSpaceUsage, Memory>
+        ensures by_name { IfOk result (AreByName fields.items) }
+        ensures total { IfOk result (λ usage. capped (fields_sum usage) ≡ capped (fields_sum fields.items)) }
+    {
+        let mut usage = PerFieldSpaceUsage {
+            fields: Vec::new(alloc),
+        };
+        for field in fields {
+            usage.add(field)?;
+        }
+        Ok(usage)
+    }
+
+    // One usage more. It joins that of its name.
+    fn add(&mut self, field: FieldUsage) -> Result<(), Memory>
+        ensures ok { OnOk result (self.new ≡ with_field self.old field) }
+    {
+        match place_of(self.fields.as_slice(), field.field_name()) {
+            Ok(i) => {
+                let one = &mut self.fields[i];
+                one.join(&field)
+            }
+            Err(i) => {
+                self.fields.insert(i, field)?;
+                Ok(())
+            }
+        }
+    }
+
+    /// The usages, in name order.
+    pub fn fields(&self) -> FieldUsages<'_>
+        ensures fields { iter_rest result ≡ self.now }
+    {
+        self.fields.iter()
+    }
+
+    /// The sum of all fields, which stays at `u64::MAX`.
+    pub fn total(&self) -> ByteCount
+        ensures total { result.0 ≡ capped (fields_sum self.now) }
+    {
+        sum_of(self.fields.as_slice())
+    }
+
+    // The same usages again.
+    pub(crate) fn copied(&self) -> Result<PerFieldSpaceUsage, Memory>
+        ensures { IfOk result (λ u. u ≡ self.now) }
+    {
+        let fields = copies(*self.fields.allocator(), self.fields.as_slice())?;
+        Ok(PerFieldSpaceUsage { fields })
+    }
+}
+
+// The place of the usage of this name, or where it would stand.
+fn place_of(fields: &[FieldUsage], name: &str) -> Result<usize, usize>
+    ensures { result ≡ place_of name.now fields.now }
+{
+    for (i, field) in fields.iter().enumerate() {
+        match name.cmp(field.field_name()) {
+            Ordering::Less => return Err(i),
+            Ordering::Equal => return Ok(i),
+            Ordering::Greater => {}
+        }
+    }
+    Err(fields.len())
+}
+
+// The sum of these usages.
+fn sum_of(fields: &[FieldUsage]) -> ByteCount
+    ensures { result.0 ≡ capped (fields_sum fields.now) }
+{
+    let mut sum = ByteCount(0);
+    for field in fields {
+        sum = sum.plus(field.total());
+    }
+    sum
+}
+
+// The same usages again.
+fn copies(alloc: Global, fields: &[FieldUsage]) -> Result<Vec<FieldUsage>, Memory>
+    ensures { IfOk result (λ v. v.items ≡ fields.now) }
+{
+    let mut copies = Vec::new(alloc);
+    for field in fields {
+        copies.push(field.copied()?)?;
+    }
+    Ok(copies)
+}
