@@ -1,1 +1,5 @@
-pub mod BenchFiles
+pub mod StoredFiles
+pub mod LockNames
+pub mod CopiedFiles
+pub mod WatchLists
+pub mod PersistedFiles

@@ -1,4 +1,9 @@
 pub mod Watch
+pub mod WatchList
+pub mod Locks
 pub mod Telling
 pub mod Device
+pub mod StoredFiles
+pub mod Ram
+pub mod Persisting
 pub mod Bench

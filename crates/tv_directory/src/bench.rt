@@ -1,40 +1,34 @@
 //! A directory in memory, for tests.
-ghost use Rattle.std.specs.Prelude.{◌≡◌, [], List, ℕ, true, string_bytes, IfOk};
+ghost use Rattle.std.specs.Prelude.{◌≡◌, [], List, ℕ, true, false, string_bytes, IfOk};
 ghost use Rattle.std.specs.List.{AllByRecursion};
 ghost use Rattle.tv_model.specs.Names.{is_file_name};
 ghost use Rattle.tv_model.specs.Files.{Same};
-ghost use Rattle.tv_directory.specs.Bench.{named, last_of, device_in};
+ghost use Rattle.tv_base.specs.Causes.{OpenReadCause};
+ghost use Rattle.tv_directory.specs.Bench.{device_in, Untouched};
+ghost use Rattle.tv_directory.specs.Device.{after_fault};
+ghost use Rattle.tv_directory.specs.StoredFiles.{named, last_of};
 ghost use Rattle.tv_directory.specs.Telling.{bytes_heard};
 
 use crate::bench_clock::Clock;
 use crate::bench_device::Device;
-use crate::bench_files::Files;
 use crate::bench_told::Told;
 use crate::directory::Directory;
+use crate::files::Files;
+use crate::ram_directory::RamDirectory;
 use crate::watch::WatchCall;
 use std::alloc::Global;
-use std::marker::PhantomData;
-use tv_model::{FileName, Memory};
+use tv_base::OpenReadError;
+use tv_model::Memory;
 
 /// A directory in memory, which is also told lines. Its device refuses exactly the calls that
 /// `fail_at` lists. `C` is who may watch it.
 #[derive(Drop)]
-pub struct Bench<C: WatchCall> {
+pub struct Bench<C> {
     pub(crate) alloc: Global,
-    pub(crate) files: Files,
+    pub(crate) ram: RamDirectory<C>,
     pub(crate) told: Told,
     pub(crate) clock: Clock,
     pub(crate) device: Device,
-    watchers: PhantomData<C>,
-}
-
-/// What writes a file of a `Bench`.
-#[derive(Drop)]
-pub struct BenchWriter {
-    pub(crate) name: FileName,
-    // The number of the file that it was opened for.
-    pub(crate) number: u64,
-    pub(crate) bytes: Vec<u8>,
 }
 
 impl<C: WatchCall> Bench<C> {
@@ -47,15 +41,16 @@ impl<C: WatchCall> Bench<C> {
         ensures moment { IfOk result (λ bench. ⟦<Bench<C> as Directory>⟧.moment bench ≡ 0) }
         ensures faults { IfOk result (λ bench. ⟦<Bench<C> as Directory>⟧.faults bench ≡ 0) }
         ensures refusals { IfOk result (λ bench. ⟦<Bench<C> as Directory>⟧.refusals bench ≡ 0) }
+        ensures locks { IfOk result (λ bench. (n : List ℕ) → ⟦<Bench<C> as Directory>⟧.locks bench n ≡ false) }
+        ensures watched { IfOk result (λ bench. ⟦<Bench<C> as Directory>⟧.watched bench ≡ record { registered = []; notice = false }) }
         ensures device { IfOk result (λ bench. device_in bench ≡ record { fail_at = []; call = 0; faults = 0; refusals = 0 }) }
     {
         Ok(Bench {
             alloc,
-            files: Files::sealed(alloc, files)?,
+            ram: RamDirectory::with_files(alloc, Files::sealed(alloc, files)?),
             told: Told::new(alloc),
             clock: Clock::new(),
             device: Device::new(alloc),
-            watchers: PhantomData,
         })
     }
 
@@ -95,5 +90,19 @@ impl<C: WatchCall> Bench<C> {
         ensures { IfOk result (λ bytes. bytes.items ≡ bytes_heard (⟦<Bench<C> as Directory>⟧.heard self.now)) }
     {
         self.told.bytes()
+    }
+
+    // The refusal of a call that reads this name. It is counted once there is memory for its text.
+    pub(crate) fn refused_read(&mut self, name: &str) -> OpenReadError
+        ensures cause { OpenReadCause ⊥ (device_in self.new ≡ after_fault (device_in self.old)) (device_in self.new ≡ device_in self.old) result }
+        ensures others { Untouched self.old self.new }
+    {
+        let Ok(filepath) = String::from_str(self.alloc, name) else {
+            return OpenReadError::Memory;
+        };
+        OpenReadError::IoError {
+            io_error: self.device.fault(),
+            filepath,
+        }
     }
 }

@@ -1,43 +1,42 @@
 //! The calls of a directory in memory.
-ghost use Rattle.std.specs.Prelude.{◌≡◌, ◌≢◌, ◌≤◌, ◌<◌, ◌++◌, [], ◌∷◌, true, false, length, string_bytes, is_some, Some, None, IsSome, IfOk, IfErr, OnOk, OnErr};
+ghost use Rattle.std.specs.Prelude.{◌≡◌, ◌≢◌, ◌≤◌, ◌<◌, ◌++◌, ◌⊎◌, [], ◌∷◌, ℕ, true, false, length, string_bytes, is_some, Some, None, IsSome, IfOk, IfErr, OnOk, OnErr};
 ghost use Rattle.tv_model.specs.Names.{is_file_name};
 ghost use Rattle.tv_model.specs.Lines.{has_no_feed};
 ghost use Rattle.tv_model.specs.Files.{Same, Sets};
 ghost use Rattle.tv_base.specs.Causes.{IsDevice, IoCause, OpenReadCause, OpenWriteCause, DeleteCause};
 ghost use Rattle.tv_directory.specs.Device.{after_call, Passed, Faulted, Refused};
-ghost use Rattle.tv_directory.specs.Bench.{reads_in, moment_in, heard_in, room_in, device_in, opened_in, lives_in, Untouched, Timed};
-ghost use Rattle.tv_directory.specs.Watch.{IsNewWriter};
+ghost use Rattle.tv_directory.specs.Bench.{reads_in, moment_in, heard_in, room_in, device_in, opened_in, lives_in, locks_in, watched_in, Untouched, Timed};
+ghost use Rattle.tv_directory.specs.Locks.{FreesLock, LockCause, SameLocks, TakesLock};
+ghost use Rattle.tv_directory.specs.Watch.{IsNewWatcher, IsNewWriter, MayNote, delivered, noted, unsubscribed};
 
-use crate::bench::{Bench, BenchWriter};
-use crate::bench_files::Content;
+use crate::bench::Bench;
 use crate::directory::Directory;
+use crate::lock::{DirectoryLock, Lock};
 use crate::outside::Outside;
-use crate::watch::WatchCall;
-use std::alloc::Global;
+use crate::ram_calls::file_name;
+use crate::ram_directory::RamWriter;
+use crate::watch::{WatchCall, WatchHandle};
 use tv_base::{
-    DeleteError, FileSlice, IoError, IoFault, OpenReadError, OpenWriteError, OwnedBytes,
+    DeleteError, FileSlice, IoError, IoFault, LockError, OpenReadError, OpenWriteError, OwnedBytes,
 };
-use tv_model::{Blob, FileName, Memory};
-
-// A name with this text.
-fn file_name(alloc: Global, name: &str) -> Result<FileName, Memory>
-    requires { is_file_name name.now ≡ true }
-    ensures { IfOk result (λ made. made ≡ name.now) }
-{
-    let text = String::from_str(alloc, name)?;
-    Ok(FileName::new(text))
-}
+use tv_model::Memory;
 
 // Each call takes its number first. A refused one then changes nothing that reads; its clock moves
 // where a crash could leave what the call would have made.
 impl<C: WatchCall> Directory for Bench<C> {
-    type Writer = BenchWriter;
+    type Writer = RamWriter;
 
     type Callback = C;
 
     ghost tells = { Unit {0} };
 
     ghost reads = { reads_in };
+
+    ghost tells_locks = { Unit {0} };
+
+    ghost locks = { locks_in };
+
+    ghost watched = { watched_in C.calls };
 
     ghost moment = { moment_in };
 
@@ -64,15 +63,10 @@ impl<C: WatchCall> Directory for Bench<C> {
         ensures refused { IfErr result (OpenReadCause ⊥ (Faulted (device_in self.old) (device_in self.new)) (device_in self.new ≡ after_call (device_in self.old))) }
         ensures others { Untouched self.old self.new }
     {
-        let is_refused = self.device.refuses();
-        let name = file_name(self.alloc, name)?;
-        if is_refused {
-            return Err(OpenReadError::IoError {
-                io_error: self.device.fault(),
-                filepath: name.into_string(),
-            });
+        if self.device.refuses() {
+            return Err(self.refused_read(name));
         }
-        Ok(self.files.map.contains_key(&name))
+        self.ram.exists(name)
     }
 
     fn open_read(&mut self, name: &str) -> Result<FileSlice, OpenReadError>
@@ -82,11 +76,21 @@ impl<C: WatchCall> Directory for Bench<C> {
         ensures refused { IfErr result (OpenReadCause ((reads_in self.old name.now ≡ None) × Passed (device_in self.old) (device_in self.new)) (Faulted (device_in self.old) (device_in self.new)) (device_in self.new ≡ after_call (device_in self.old))) }
         ensures others { Untouched self.old self.new }
     {
-        let bytes = self.atomic_read(name)?;
-        Ok(FileSlice::new(OwnedBytes::new(bytes)?))
+        Ok(FileSlice::new(self.get_file_handle(name)?))
     }
 
-    fn open_write(&mut self, name: &str) -> Result<BenchWriter, OpenWriteError>
+    fn get_file_handle(&mut self, name: &str) -> Result<OwnedBytes, OpenReadError>
+        requires { is_file_name name.now ≡ true }
+        ensures bytes { IfOk result (λ bytes. reads_in self.old name.now ≡ Some bytes) }
+        ensures passed { OnOk result (Passed (device_in self.old) (device_in self.new)) }
+        ensures refused { IfErr result (OpenReadCause ((reads_in self.old name.now ≡ None) × Passed (device_in self.old) (device_in self.new)) (Faulted (device_in self.old) (device_in self.new)) (device_in self.new ≡ after_call (device_in self.old))) }
+        ensures others { Untouched self.old self.new }
+    {
+        let bytes = self.atomic_read(name)?;
+        Ok(OwnedBytes::new(bytes)?)
+    }
+
+    fn open_write(&mut self, name: &str) -> Result<RamWriter, OpenWriteError>
         requires { is_file_name name.now ≡ true }
         ensures writer { IfOk result (λ w. IsNewWriter (opened_in self.new) (lives_in self.new) (λ w. w.name) (λ w. w.bytes.items) name.now w) }
         ensures absent { OnOk result (reads_in self.old name.now ≡ None) }
@@ -96,36 +100,28 @@ impl<C: WatchCall> Directory for Bench<C> {
         ensures writers { (w : _) → opened_in self.old w ≡ true → opened_in self.new w ≡ true }
         ensures alive { (w : _) → lives_in self.old w ≡ true → lives_in self.new w ≡ true }
         ensures ended { (w : _) → opened_in self.old w ≡ true → lives_in self.old w ≡ false → lives_in self.new w ≡ false }
+        ensures locks { SameLocks (locks_in self.old) (locks_in self.new) }
+        ensures watched { watched_in C.calls self.new ≡ watched_in C.calls self.old }
         ensures clock { moment_in self.old ≤ moment_in self.new }
         ensures heard { heard_in self.new ≡ heard_in self.old }
         ensures room { room_in self.new ≡ room_in self.old }
     {
-        let is_refused = self.device.refuses();
-        let key = file_name(self.alloc, name)?;
-        let is_there = self.files.map.contains_key(&key);
-        if is_refused {
-            if !is_there {
+        if self.device.refuses() {
+            let name = file_name(self.alloc, name)?;
+            if !self.ram.files.has(&name) {
                 self.clock.tick();
             }
             return Err(OpenWriteError::IoError {
                 io_error: self.device.fault(),
-                filepath: key.into_string(),
+                filepath: name.into_string(),
             });
         }
-        if is_there {
-            return Err(OpenWriteError::FileAlreadyExists(key.into_string()));
-        }
-        let name = file_name(self.alloc, name)?;
-        let number = self.files.make(key, Content::Unsealed)?;
+        let writer = self.ram.open_write(name)?;
         self.clock.tick();
-        Ok(BenchWriter {
-            name,
-            number,
-            bytes: Vec::new(self.alloc),
-        })
+        Ok(writer)
     }
 
-    fn write(&mut self, writer: &mut BenchWriter, bytes: &[u8]) -> Result<(), IoError>
+    fn write(&mut self, writer: &mut RamWriter, bytes: &[u8]) -> Result<(), IoError>
         requires { opened_in self.old writer.old ≡ true }
         ensures ok { OnOk result (writer.new.bytes.items ≡ writer.old.bytes.items ++ bytes.now) }
         ensures err { OnErr result (writer.new.bytes.items ≡ writer.old.bytes.items) }
@@ -138,11 +134,39 @@ impl<C: WatchCall> Directory for Bench<C> {
         if self.device.refuses() {
             return Err(IoError::Fault(self.device.fault()));
         }
-        writer.bytes.extend_from_slice(bytes)?;
+        self.ram.write(writer, bytes)
+    }
+
+    fn flush(&mut self, writer: &mut RamWriter) -> Result<(), IoError>
+        requires { opened_in self.old writer.old ≡ true }
+        ensures ok { lives_in self.old writer.old ≡ true → OnOk result (Sets (reads_in self.old) (reads_in self.new) writer.old.name (Some writer.old.bytes.items)) }
+        ensures gone { lives_in self.old writer.old ≡ false → Untouched self.old self.new }
+        ensures passed { OnOk result (Passed (device_in self.old) (device_in self.new)) }
+        ensures refused { IfErr result (IoCause (Timed self.old self.new × Faulted (device_in self.old) (device_in self.new)) (Same (reads_in self.old) (reads_in self.new) × (device_in self.new ≡ after_call (device_in self.old)))) }
+        ensures writer { writer.new ≡ writer.old }
+        ensures writers { (w : _) → opened_in self.old w ≡ true → opened_in self.new w ≡ true }
+        ensures numbers { (w : _) → lives_in self.new w ≡ lives_in self.old w }
+        ensures locks { SameLocks (locks_in self.old) (locks_in self.new) }
+        ensures watched { watched_in C.calls self.new ≡ watched_in C.calls self.old }
+        ensures clock { moment_in self.old ≤ moment_in self.new }
+        ensures heard { heard_in self.new ≡ heard_in self.old }
+        ensures room { room_in self.new ≡ room_in self.old }
+    {
+        let lives = self.ram.files.is_made(&writer.name, writer.number);
+        if self.device.refuses() {
+            if lives {
+                self.clock.tick();
+            }
+            return Err(IoError::Fault(self.device.fault()));
+        }
+        self.ram.flush(writer)?;
+        if lives {
+            self.clock.tick();
+        }
         Ok(())
     }
 
-    fn terminate(&mut self, writer: BenchWriter) -> Result<(), IoError>
+    fn terminate(&mut self, writer: RamWriter) -> Result<(), IoError>
         requires { opened_in self.old writer ≡ true }
         ensures ok { lives_in self.old writer ≡ true → OnOk result (Sets (reads_in self.old) (reads_in self.new) writer.name (Some writer.bytes.items)) }
         ensures gone { lives_in self.old writer ≡ false → Untouched self.old self.new }
@@ -151,27 +175,21 @@ impl<C: WatchCall> Directory for Bench<C> {
         ensures writers { (w : _) → opened_in self.old w ≡ true → opened_in self.new w ≡ true }
         ensures alive { (w : _) → lives_in self.old w ≡ true → lives_in self.new w ≡ true }
         ensures ended { (w : _) → opened_in self.old w ≡ true → lives_in self.old w ≡ false → lives_in self.new w ≡ false }
+        ensures locks { SameLocks (locks_in self.old) (locks_in self.new) }
+        ensures watched { watched_in C.calls self.new ≡ watched_in C.calls self.old }
         ensures clock { moment_in self.old ≤ moment_in self.new }
         ensures heard { heard_in self.new ≡ heard_in self.old }
         ensures room { room_in self.new ≡ room_in self.old }
     {
-        let is_refused = self.device.refuses();
-        let BenchWriter {
-            name,
-            number,
-            bytes,
-        } = writer;
-        let lives = self.files.is_made(&name, number);
-        if is_refused {
+        let lives = self.ram.files.is_made(&writer.name, writer.number);
+        if self.device.refuses() {
             if lives {
                 self.clock.tick();
             }
             return Err(IoError::Fault(self.device.fault()));
         }
+        self.ram.terminate(writer)?;
         if lives {
-            // The name has its place, so this takes no memory.
-            self.files
-                .replace(name, number, Content::Sealed(Blob::new(bytes)))?;
             self.clock.tick();
         }
         Ok(())
@@ -184,18 +202,10 @@ impl<C: WatchCall> Directory for Bench<C> {
         ensures refused { IfErr result (OpenReadCause ((reads_in self.old name.now ≡ None) × Passed (device_in self.old) (device_in self.new)) (Faulted (device_in self.old) (device_in self.new)) (device_in self.new ≡ after_call (device_in self.old))) }
         ensures others { Untouched self.old self.new }
     {
-        let is_refused = self.device.refuses();
-        let name = file_name(self.alloc, name)?;
-        if is_refused {
-            return Err(OpenReadError::IoError {
-                io_error: self.device.fault(),
-                filepath: name.into_string(),
-            });
+        if self.device.refuses() {
+            return Err(self.refused_read(name));
         }
-        match self.files.read(self.alloc, &name)? {
-            Some(bytes) => Ok(bytes),
-            None => Err(OpenReadError::FileDoesNotExist(name.into_string())),
-        }
+        self.ram.atomic_read(name)
     }
 
     fn atomic_write(&mut self, name: &str, bytes: &[u8]) -> Result<(), IoError>
@@ -206,18 +216,18 @@ impl<C: WatchCall> Directory for Bench<C> {
         ensures writers { (w : _) → opened_in self.old w ≡ true → opened_in self.new w ≡ true }
         ensures alive { (w : _) → lives_in self.old w ≡ true → lives_in self.new w ≡ true }
         ensures ended { (w : _) → opened_in self.old w ≡ true → lives_in self.old w ≡ false → lives_in self.new w ≡ false }
+        ensures locks { SameLocks (locks_in self.old) (locks_in self.new) }
+        ensures watched { OnOk result (watched_in C.calls self.new ≡ noted name.now (watched_in C.calls self.old)) }
+        ensures unwatched { OnErr result (watched_in C.calls self.new ≡ watched_in C.calls self.old) }
         ensures clock { moment_in self.old ≤ moment_in self.new }
         ensures heard { heard_in self.new ≡ heard_in self.old }
         ensures room { room_in self.new ≡ room_in self.old }
     {
-        let is_refused = self.device.refuses();
-        let name = file_name(self.alloc, name)?;
-        let bytes = Vec::from_slice(self.alloc, bytes)?;
-        if is_refused {
+        if self.device.refuses() {
             self.clock.tick();
             return Err(IoError::Fault(self.device.fault()));
         }
-        self.files.write(name, Content::Sealed(Blob::new(bytes)))?;
+        self.ram.atomic_write(name, bytes)?;
         self.clock.tick();
         Ok(())
     }
@@ -235,23 +245,22 @@ impl<C: WatchCall> Directory for Bench<C> {
         ensures kept { OnErr result ((w : _) → lives_in self.old w ≡ true → lives_in self.new w ≡ true) }
         ensures lost { OnOk result ((w : _) → w.name ≡ name.now → lives_in self.new w ≡ false) }
         ensures ended { (w : _) → opened_in self.old w ≡ true → lives_in self.old w ≡ false → lives_in self.new w ≡ false }
+        ensures locks { SameLocks (locks_in self.old) (locks_in self.new) }
+        ensures watched { watched_in C.calls self.new ≡ watched_in C.calls self.old }
         ensures clock { moment_in self.old ≤ moment_in self.new }
         ensures heard { heard_in self.new ≡ heard_in self.old }
         ensures room { room_in self.new ≡ room_in self.old }
     {
-        let is_refused = self.device.refuses();
-        let Ok(name) = file_name(self.alloc, name) else {
-            return Err(DeleteError::Memory);
-        };
-        if is_refused {
+        if self.device.refuses() {
+            let Ok(name) = file_name(self.alloc, name) else {
+                return Err(DeleteError::Memory);
+            };
             return Err(DeleteError::IoError {
                 io_error: self.device.refusal(),
                 filepath: name.into_string(),
             });
         }
-        if !self.files.delete(&name) {
-            return Err(DeleteError::FileDoesNotExist(name.into_string()));
-        }
+        self.ram.delete(name)?;
         self.clock.tick();
         Ok(())
     }
@@ -267,6 +276,51 @@ impl<C: WatchCall> Directory for Bench<C> {
         }
         self.clock.settle();
         Ok(())
+    }
+
+    fn acquire_lock(&mut self, lock: &Lock) -> Result<DirectoryLock, LockError>
+        requires { is_file_name lock.now.filepath.now ≡ true }
+        ensures token { IfOk result (λ token. token ≡ lock.now.filepath.now) }
+        ensures taken { OnOk result (TakesLock (locks_in self.old) (locks_in self.new) lock.now.filepath.now) }
+        ensures passed { OnOk result (Passed (device_in self.old) (device_in self.new)) }
+        ensures refused { IfErr result (LockCause ((locks_in self.old lock.now.filepath.now ≡ true) × Passed (device_in self.old) (device_in self.new)) (Faulted (device_in self.old) (device_in self.new)) (device_in self.new ≡ after_call (device_in self.old))) }
+        ensures err { OnErr result (SameLocks (locks_in self.old) (locks_in self.new)) }
+        ensures others { self.new ≡ record self.old { device = self.new.device; ram = record self.old.ram { held = self.new.ram.held } } }
+    {
+        if self.device.refuses() {
+            return Err(LockError::IoError(self.device.fault()));
+        }
+        self.ram.acquire_lock(lock)
+    }
+
+    fn release(&mut self, lock: DirectoryLock)
+        ensures freed { FreesLock (locks_in self.old) (locks_in self.new) lock }
+        ensures others { self.new ≡ record self.old { ram = record self.old.ram { held = self.new.ram.held } } }
+    {
+        self.ram.release(lock);
+    }
+
+    fn watch(&mut self, callback: C) -> Result<WatchHandle, Memory>
+        ensures ok { IfOk result (λ handle. IsNewWatcher (watched_in C.calls self.old) (watched_in C.calls self.new) (C.calls callback) handle) }
+        ensures err { OnErr result (watched_in C.calls self.new ≡ watched_in C.calls self.old) }
+        ensures others { self.new ≡ record self.old { ram = record self.old.ram { watchers = self.new.ram.watchers } } }
+    {
+        self.ram.watch(callback)
+    }
+
+    fn unwatch(&mut self, handle: WatchHandle)
+        ensures left { watched_in C.calls self.new ≡ unsubscribed handle (watched_in C.calls self.old) }
+        ensures others { self.new ≡ record self.old { ram = record self.old.ram { watchers = self.new.ram.watchers } } }
+    {
+        self.ram.unwatch(handle);
+    }
+
+    fn deliver(&mut self) -> bool
+        ensures told { result ≡ (watched_in C.calls self.old).notice }
+        ensures called { watched_in C.calls self.new ≡ delivered (watched_in C.calls self.old) }
+        ensures others { self.new ≡ record self.old { ram = record self.old.ram { watchers = self.new.ram.watchers } } }
+    {
+        self.ram.deliver()
     }
 }
 
@@ -288,7 +342,7 @@ impl<C: WatchCall> Outside for Bench<C> {
         ensures told { OnOk result (heard_in self.new ≡ heard_in self.old ++ (moment_in self.old, line.now ++ 10 ∷ []) ∷ []) }
         ensures passed { OnOk result (Passed (device_in self.old) (device_in self.new)) }
         ensures refused { IfErr result (λ fault. IsDevice fault × Untouched self.old self.new × Faulted (device_in self.old) (device_in self.new)) }
-        ensures files { self.new.files ≡ self.old.files }
+        ensures files { self.new.ram ≡ self.old.ram }
         ensures clock { moment_in self.old ≤ moment_in self.new }
     {
         if self.device.refuses() {

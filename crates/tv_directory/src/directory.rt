@@ -1,12 +1,17 @@
 //! A directory as the layers above see it.
-ghost use Rattle.std.specs.Prelude.{◌≡◌, ◌≢◌, ◌≤◌, ◌++◌, [], List, ℕ, Bool, true, false, Option, Some, None, IsSome, is_some, IfOk, IfErr, OnOk, OnErr, string_bytes};
+ghost use Rattle.std.specs.Prelude.{◌≡◌, ◌≢◌, ◌≤◌, ◌++◌, ◌⊎◌, [], List, ℕ, Bool, true, false, Option, Some, None, IsSome, is_some, IfOk, IfErr, OnOk, OnErr, string_bytes};
 ghost use Rattle.tv_model.specs.Names.{is_file_name};
 ghost use Rattle.tv_model.specs.Files.{Reads, Same, Sets, MaySet, KeepsOthers, Heard, Rose};
 ghost use Rattle.tv_base.specs.Causes.{IsDevice, IoCause, OpenReadCause, OpenWriteCause, DeleteCause};
-ghost use Rattle.tv_directory.specs.Watch.{IsNewWriter};
+ghost use Rattle.tv_directory.specs.Locks.{Locks, SameLocks, TakesLock, FreesLock, LockCause};
+ghost use Rattle.tv_directory.specs.Watch.{IsNewWriter, IsNewWatcher, MayNote, WatchState, delivered, noted, unsubscribed};
 
-use crate::watch::WatchCall;
-use tv_base::{DeleteError, FileSlice, IoError, IoFault, OpenReadError, OpenWriteError};
+use crate::lock::{DirectoryLock, Lock};
+use crate::watch::{WatchCall, WatchHandle};
+use tv_base::{
+    DeleteError, FileSlice, IoError, IoFault, LockError, OpenReadError, OpenWriteError, OwnedBytes,
+};
+use tv_model::Memory;
 
 /// Files that are written once, under plain or dotted names.
 ///
@@ -24,6 +29,15 @@ pub trait Directory {
 
     /// The bytes that each name reads, where the content is told.
     ghost reads: { Self → Reads };
+
+    /// Whether the directory tells which locks are held.
+    ghost tells_locks: { Type 0 };
+
+    /// Whether the lock of each name is held, where that is told. A crash frees all.
+    ghost locks: { Self → Locks };
+
+    /// Who is registered to be called, and whether a notice stands for them.
+    ghost watched: { Self → WatchState };
 
     /// The clock, which doesn't go back.
     ghost moment: { Self → ℕ };
@@ -63,6 +77,8 @@ pub trait Directory {
         ensures writers { (w : _) → opened self.old w ≡ true → opened self.new w ≡ true }
         ensures alive { (w : _) → lives self.old w ≡ true → lives self.new w ≡ true }
         ensures ended { (w : _) → opened self.old w ≡ true → lives self.old w ≡ false → lives self.new w ≡ false }
+        ensures locks { tells_locks → SameLocks (locks self.old) (locks self.new) }
+        ensures watched { watched self.new ≡ watched self.old }
         ensures clock { moment self.old ≤ moment self.new }
         ensures heard { heard self.new ≡ heard self.old }
         ensures room { room self.old ≤ room self.new };
@@ -80,6 +96,26 @@ pub trait Directory {
         ensures writers { (w : _) → opened self.old w ≡ true → opened self.new w ≡ true }
         ensures alive { (w : _) → lives self.old w ≡ true → lives self.new w ≡ true }
         ensures ended { (w : _) → opened self.old w ≡ true → lives self.old w ≡ false → lives self.new w ≡ false }
+        ensures locks { tells_locks → SameLocks (locks self.old) (locks self.new) }
+        ensures watched { watched self.new ≡ watched self.old }
+        ensures clock { moment self.old ≤ moment self.new }
+        ensures heard { heard self.new ≡ heard self.old }
+        ensures room { room self.old ≤ room self.new };
+
+    /// The bytes that the name reads, as `open_read` gives them.
+    fn get_file_handle(&mut self, name: &str) -> Result<OwnedBytes, OpenReadError>
+        requires { is_file_name name.now ≡ true }
+        ensures bytes { tells → IfOk result (λ bytes. reads self.old name.now ≡ Some bytes) }
+        ensures absent { tells → IfErr result (OpenReadCause (reads self.old name.now ≡ None) (Unit {0}) (Unit {0})) }
+        ensures content { tells → Same (reads self.old) (reads self.new) }
+        ensures quiet { OnOk result (faults self.new ≡ faults self.old) }
+        ensures cause { IfErr result (OpenReadCause (faults self.new ≡ faults self.old) (Rose (faults self.old) (faults self.new)) (faults self.new ≡ faults self.old)) }
+        ensures refusals { refusals self.new ≡ refusals self.old }
+        ensures writers { (w : _) → opened self.old w ≡ true → opened self.new w ≡ true }
+        ensures alive { (w : _) → lives self.old w ≡ true → lives self.new w ≡ true }
+        ensures ended { (w : _) → opened self.old w ≡ true → lives self.old w ≡ false → lives self.new w ≡ false }
+        ensures locks { tells_locks → SameLocks (locks self.old) (locks self.new) }
+        ensures watched { watched self.new ≡ watched self.old }
         ensures clock { moment self.old ≤ moment self.new }
         ensures heard { heard self.new ≡ heard self.old }
         ensures room { room self.old ≤ room self.new };
@@ -97,6 +133,8 @@ pub trait Directory {
         ensures writers { (w : _) → opened self.old w ≡ true → opened self.new w ≡ true }
         ensures alive { (w : _) → lives self.old w ≡ true → lives self.new w ≡ true }
         ensures ended { (w : _) → opened self.old w ≡ true → lives self.old w ≡ false → lives self.new w ≡ false }
+        ensures locks { tells_locks → SameLocks (locks self.old) (locks self.new) }
+        ensures watched { watched self.new ≡ watched self.old }
         ensures clock { moment self.old ≤ moment self.new }
         ensures heard { heard self.new ≡ heard self.old }
         ensures room { room self.old ≤ room self.new };
@@ -118,6 +156,35 @@ pub trait Directory {
         ensures writers { (w : _) → opened self.old w ≡ true → opened self.new w ≡ true }
         ensures alive { (w : _) → lives self.old w ≡ true → lives self.new w ≡ true }
         ensures ended { (w : _) → opened self.old w ≡ true → lives self.old w ≡ false → lives self.new w ≡ false }
+        ensures locks { tells_locks → SameLocks (locks self.old) (locks self.new) }
+        ensures watched { watched self.new ≡ watched self.old }
+        ensures clock { moment self.old ≤ moment self.new }
+        ensures heard { heard self.new ≡ heard self.old }
+        ensures room { room self.old ≤ room self.new };
+
+    /// Lets the file read all that was written. Where the name was deleted since, nothing changes. After a
+    /// refused call the file may read any part of what was written.
+    fn flush(&mut self, writer: &mut Self::Writer) -> Result<(), IoError>
+        requires { opened self.old writer.old ≡ true }
+        ensures ok { tells → lives self.old writer.old ≡ true → OnOk result (Sets (reads self.old) (reads self.new) (name_of writer.old) (Some (written writer.old))) }
+        ensures content { tells → KeepsOthers (reads self.old) (reads self.new) (name_of writer.old) }
+        ensures there { tells → lives self.old writer.old ≡ true → IsSome (reads self.new (name_of writer.old)) }
+        ensures gone { tells → lives self.old writer.old ≡ false → Same (reads self.old) (reads self.new) }
+        ensures err { tells → IfErr result (IoCause (Unit {0}) (Same (reads self.old) (reads self.new))) }
+        ensures again { OnOk result (opened self.new writer.new ≡ true) }
+        ensures wanted { IfErr result (IoCause (Unit {0}) (opened self.new writer.new ≡ true)) }
+        ensures written { written writer.new ≡ written writer.old }
+        ensures name { name_of writer.new ≡ name_of writer.old }
+        ensures lives { lives self.old writer.old ≡ true → lives self.new writer.new ≡ true }
+        ensures lost { lives self.old writer.old ≡ false → lives self.new writer.new ≡ false }
+        ensures quiet { OnOk result (faults self.new ≡ faults self.old) }
+        ensures cause { IfErr result (IoCause (Rose (faults self.old) (faults self.new)) (faults self.new ≡ faults self.old)) }
+        ensures refusals { refusals self.new ≡ refusals self.old }
+        ensures writers { (w : _) → opened self.old w ≡ true → opened self.new w ≡ true }
+        ensures alive { (w : _) → lives self.old w ≡ true → lives self.new w ≡ true }
+        ensures ended { (w : _) → opened self.old w ≡ true → lives self.old w ≡ false → lives self.new w ≡ false }
+        ensures locks { tells_locks → SameLocks (locks self.old) (locks self.new) }
+        ensures watched { watched self.new ≡ watched self.old }
         ensures clock { moment self.old ≤ moment self.new }
         ensures heard { heard self.new ≡ heard self.old }
         ensures room { room self.old ≤ room self.new };
@@ -134,6 +201,8 @@ pub trait Directory {
         ensures writers { (w : _) → opened self.old w ≡ true → opened self.new w ≡ true }
         ensures alive { (w : _) → lives self.old w ≡ true → lives self.new w ≡ true }
         ensures ended { (w : _) → opened self.old w ≡ true → lives self.old w ≡ false → lives self.new w ≡ false }
+        ensures locks { tells_locks → SameLocks (locks self.old) (locks self.new) }
+        ensures watched { watched self.new ≡ watched self.old }
         ensures clock { moment self.old ≤ moment self.new }
         ensures heard { heard self.new ≡ heard self.old }
         ensures room { room self.old ≤ room self.new };
@@ -150,6 +219,8 @@ pub trait Directory {
         ensures writers { (w : _) → opened self.old w ≡ true → opened self.new w ≡ true }
         ensures alive { (w : _) → lives self.old w ≡ true → lives self.new w ≡ true }
         ensures ended { (w : _) → opened self.old w ≡ true → lives self.old w ≡ false → lives self.new w ≡ false }
+        ensures locks { tells_locks → SameLocks (locks self.old) (locks self.new) }
+        ensures watched { watched self.new ≡ watched self.old }
         ensures clock { moment self.old ≤ moment self.new }
         ensures heard { heard self.new ≡ heard self.old }
         ensures room { room self.old ≤ room self.new };
@@ -165,6 +236,9 @@ pub trait Directory {
         ensures writers { (w : _) → opened self.old w ≡ true → opened self.new w ≡ true }
         ensures alive { (w : _) → lives self.old w ≡ true → lives self.new w ≡ true }
         ensures ended { (w : _) → opened self.old w ≡ true → lives self.old w ≡ false → lives self.new w ≡ false }
+        ensures locks { tells_locks → SameLocks (locks self.old) (locks self.new) }
+        ensures watched { OnOk result (watched self.new ≡ noted name.now (watched self.old)) }
+        ensures unwatched { IfErr result (IoCause (MayNote name.now (watched self.old) (watched self.new)) (watched self.new ≡ watched self.old)) }
         ensures clock { moment self.old ≤ moment self.new }
         ensures heard { heard self.new ≡ heard self.old }
         ensures room { room self.old ≤ room self.new };
@@ -186,6 +260,8 @@ pub trait Directory {
         ensures kept { OnErr result ((w : _) → lives self.old w ≡ true → lives self.new w ≡ true) }
         ensures lost { OnOk result ((w : _) → name_of w ≡ name.now → lives self.new w ≡ false) }
         ensures ended { (w : _) → opened self.old w ≡ true → lives self.old w ≡ false → lives self.new w ≡ false }
+        ensures locks { tells_locks → SameLocks (locks self.old) (locks self.new) }
+        ensures watched { watched self.new ≡ watched self.old }
         ensures clock { moment self.old ≤ moment self.new }
         ensures heard { heard self.new ≡ heard self.old }
         ensures room { room self.old ≤ room self.new };
@@ -199,6 +275,87 @@ pub trait Directory {
         ensures writers { (w : _) → opened self.old w ≡ true → opened self.new w ≡ true }
         ensures alive { (w : _) → lives self.old w ≡ true → lives self.new w ≡ true }
         ensures ended { (w : _) → opened self.old w ≡ true → lives self.old w ≡ false → lives self.new w ≡ false }
+        ensures locks { tells_locks → SameLocks (locks self.old) (locks self.new) }
+        ensures watched { watched self.new ≡ watched self.old }
+        ensures clock { moment self.old ≤ moment self.new }
+        ensures heard { heard self.new ≡ heard self.old }
+        ensures room { room self.old ≤ room self.new };
+
+    /// Takes a lock. In memory `LockBusy` comes exactly where it is held. Over plain files a blocking
+    /// lock waits until it is free.
+    fn acquire_lock(&mut self, lock: &Lock) -> Result<DirectoryLock, LockError>
+        requires { is_file_name lock.now.filepath.now ≡ true }
+        ensures token { IfOk result (λ token. token ≡ lock.now.filepath.now) }
+        ensures taken { tells_locks → OnOk result (TakesLock (locks self.old) (locks self.new) lock.now.filepath.now) }
+        ensures busy { tells_locks → IfErr result (LockCause (locks self.old lock.now.filepath.now ≡ true) (Unit {0}) (Unit {0})) }
+        ensures err { tells_locks → OnErr result (SameLocks (locks self.old) (locks self.new)) }
+        ensures content { tells → Same (reads self.old) (reads self.new) }
+        ensures quiet { OnOk result (faults self.new ≡ faults self.old) }
+        ensures cause { IfErr result (LockCause ((tells_locks × (faults self.new ≡ faults self.old)) ⊎ Rose (faults self.old) (faults self.new)) (Rose (faults self.old) (faults self.new)) (faults self.new ≡ faults self.old)) }
+        ensures refusals { refusals self.new ≡ refusals self.old }
+        ensures writers { (w : _) → opened self.old w ≡ true → opened self.new w ≡ true }
+        ensures alive { (w : _) → lives self.old w ≡ true → lives self.new w ≡ true }
+        ensures ended { (w : _) → opened self.old w ≡ true → lives self.old w ≡ false → lives self.new w ≡ false }
+        ensures watched { watched self.new ≡ watched self.old }
+        ensures clock { moment self.old ≤ moment self.new }
+        ensures heard { heard self.new ≡ heard self.old }
+        ensures room { room self.old ≤ room self.new };
+
+    /// Frees the lock of this token's name. Takes no memory.
+    fn release(&mut self, lock: DirectoryLock)
+        ensures freed { tells_locks → FreesLock (locks self.old) (locks self.new) lock }
+        ensures content { tells → Same (reads self.old) (reads self.new) }
+        ensures faults { faults self.new ≡ faults self.old }
+        ensures refusals { refusals self.new ≡ refusals self.old }
+        ensures writers { (w : _) → opened self.old w ≡ true → opened self.new w ≡ true }
+        ensures alive { (w : _) → lives self.old w ≡ true → lives self.new w ≡ true }
+        ensures ended { (w : _) → opened self.old w ≡ true → lives self.old w ≡ false → lives self.new w ≡ false }
+        ensures watched { watched self.new ≡ watched self.old }
+        ensures clock { moment self.old ≤ moment self.new }
+        ensures heard { heard self.new ≡ heard self.old }
+        ensures room { room self.old ≤ room self.new };
+
+    /// Registers a callback, which each delivered notice calls.
+    fn watch(&mut self, callback: Self::Callback) -> Result<WatchHandle, Memory>
+        ensures ok { IfOk result (λ handle. IsNewWatcher (watched self.old) (watched self.new) (Self.Callback.calls callback) handle) }
+        ensures err { OnErr result (watched self.new ≡ watched self.old) }
+        ensures content { tells → Same (reads self.old) (reads self.new) }
+        ensures faults { faults self.new ≡ faults self.old }
+        ensures refusals { refusals self.new ≡ refusals self.old }
+        ensures writers { (w : _) → opened self.old w ≡ true → opened self.new w ≡ true }
+        ensures alive { (w : _) → lives self.old w ≡ true → lives self.new w ≡ true }
+        ensures ended { (w : _) → opened self.old w ≡ true → lives self.old w ≡ false → lives self.new w ≡ false }
+        ensures locks { tells_locks → SameLocks (locks self.old) (locks self.new) }
+        ensures clock { moment self.old ≤ moment self.new }
+        ensures heard { heard self.new ≡ heard self.old }
+        ensures room { room self.old ≤ room self.new };
+
+    /// Gives a handle back. With its last one the callback isn't registered any more. Takes no memory.
+    fn unwatch(&mut self, handle: WatchHandle)
+        ensures left { watched self.new ≡ unsubscribed handle (watched self.old) }
+        ensures content { tells → Same (reads self.old) (reads self.new) }
+        ensures faults { faults self.new ≡ faults self.old }
+        ensures refusals { refusals self.new ≡ refusals self.old }
+        ensures writers { (w : _) → opened self.old w ≡ true → opened self.new w ≡ true }
+        ensures alive { (w : _) → lives self.old w ≡ true → lives self.new w ≡ true }
+        ensures ended { (w : _) → opened self.old w ≡ true → lives self.old w ≡ false → lives self.new w ≡ false }
+        ensures locks { tells_locks → SameLocks (locks self.old) (locks self.new) }
+        ensures clock { moment self.old ≤ moment self.new }
+        ensures heard { heard self.new ≡ heard self.old }
+        ensures room { room self.old ≤ room self.new };
+
+    /// Whether a notice stood. If so each registered callback is called once, in the order in which they
+    /// were registered, and the notice ends. Takes no memory.
+    fn deliver(&mut self) -> bool
+        ensures told { result ≡ (watched self.old).notice }
+        ensures called { watched self.new ≡ delivered (watched self.old) }
+        ensures content { tells → Same (reads self.old) (reads self.new) }
+        ensures faults { faults self.new ≡ faults self.old }
+        ensures refusals { refusals self.new ≡ refusals self.old }
+        ensures writers { (w : _) → opened self.old w ≡ true → opened self.new w ≡ true }
+        ensures alive { (w : _) → lives self.old w ≡ true → lives self.new w ≡ true }
+        ensures ended { (w : _) → opened self.old w ≡ true → lives self.old w ≡ false → lives self.new w ≡ false }
+        ensures locks { tells_locks → SameLocks (locks self.old) (locks self.new) }
         ensures clock { moment self.old ≤ moment self.new }
         ensures heard { heard self.new ≡ heard self.old }
         ensures room { room self.old ≤ room self.new };

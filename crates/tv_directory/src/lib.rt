@@ -1,19 +1,31 @@
-//! Directories: what the layers above may do with one, and one in memory.
+//! Directories: what the layers above may do with one, and those in memory.
 #![tactic(auto)]
 
 mod bench;
 mod bench_clock;
 mod bench_device;
 mod bench_directory;
-mod bench_files;
 mod bench_told;
 mod directory;
+mod files;
+mod lock;
 mod outside;
+mod persist;
+mod ram_calls;
+mod ram_directory;
+#[cfg(test)]
+mod ram_tests;
 #[cfg(test)]
 mod tests;
 mod watch;
+mod watch_list;
+#[cfg(test)]
+mod watch_tests;
 
-pub use bench::{Bench, BenchWriter};
+pub use bench::Bench;
 pub use directory::Directory;
+pub use lock::{DirectoryLock, Lock, index_writer_lock, meta_lock};
 pub use outside::Outside;
-pub use watch::{NoWatch, WatchCall};
+pub use ram_directory::{RamDirectory, RamWriter};
+pub use watch::{NoWatch, WatchCall, WatchCallback, WatchHandle};
+pub use watch_list::{CallbackList, WatchCallbackList};

@@ -3,6 +3,7 @@ ghost use Rattle.std.specs.Prelude.{◌≡◌, ◌≤◌, ◌<◌, ◌++◌, [],
 ghost use Rattle.tv_model.specs.Files.{Same, Rose};
 ghost use Rattle.tv_model.specs.Lines.{has_no_feed};
 ghost use Rattle.tv_base.specs.Causes.{IsDevice};
+ghost use Rattle.tv_directory.specs.Locks.{SameLocks};
 ghost use Rattle.tv_directory.specs.Telling.{TellsPart};
 
 use crate::directory::Directory;
@@ -23,6 +24,8 @@ pub trait Outside: Directory {
         ensures writers { (w : _) → Self.opened self.old w ≡ true → Self.opened self.new w ≡ true }
         ensures alive { (w : _) → Self.lives self.old w ≡ true → Self.lives self.new w ≡ true }
         ensures ended { (w : _) → Self.opened self.old w ≡ true → Self.lives self.old w ≡ false → Self.lives self.new w ≡ false }
+        ensures locks { Self.tells_locks → SameLocks (Self.locks self.old) (Self.locks self.new) }
+        ensures watched { Self.watched self.new ≡ Self.watched self.old }
         ensures clock { Self.moment self.old ≤ Self.moment self.new }
         ensures heard { Self.heard self.new ≡ Self.heard self.old }
         ensures room { Self.room self.old ≤ Self.room self.new };
@@ -41,5 +44,7 @@ pub trait Outside: Directory {
         ensures writers { (w : _) → Self.opened self.old w ≡ true → Self.opened self.new w ≡ true }
         ensures alive { (w : _) → Self.lives self.old w ≡ true → Self.lives self.new w ≡ true }
         ensures ended { (w : _) → Self.opened self.old w ≡ true → Self.lives self.old w ≡ false → Self.lives self.new w ≡ false }
+        ensures locks { Self.tells_locks → SameLocks (Self.locks self.old) (Self.locks self.new) }
+        ensures watched { Self.watched self.new ≡ Self.watched self.old }
         ensures clock { Self.moment self.old ≤ Self.moment self.new };
 }

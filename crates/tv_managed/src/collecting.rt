@@ -6,6 +6,7 @@ ghost use Rattle.tv_model.specs.Listing.{Lists, list_text};
 ghost use Rattle.tv_model.specs.Collections.{collectable, without};
 ghost use Rattle.tv_model.specs.Files.{Same, Sets, MaySet, KeepsOthers, Rose};
 ghost use Rattle.tv_base.specs.Causes.{IoCause, DeleteCause};
+ghost use Rattle.tv_directory.specs.Locks.{SameLocks};
 ghost use Rattle.tv_managed.specs.Managed.{Covers};
 ghost use Rattle.tv_managed.specs.Collecting.{names_of, Leaves, Tells, SparesWriters, FailsAtMost, CollectCause};
 
@@ -44,6 +45,8 @@ impl<D: Directory> ManagedDirectory<D> {
         ensures kept { OnErr result ((w : _) → D.lives self.old.0 w ≡ true → D.lives self.new.0 w ≡ true) }
         ensures lost { OnOk result ((w : _) → D.name_of w ≡ name.now → D.lives self.new.0 w ≡ false) }
         ensures ended { (w : _) → D.opened self.old.0 w ≡ true → D.lives self.old.0 w ≡ false → D.lives self.new.0 w ≡ false }
+        ensures locks { D.tells_locks → SameLocks (D.locks self.old.0) (D.locks self.new.0) }
+        ensures watched { D.watched self.new.0 ≡ D.watched self.old.0 }
         ensures clock { D.moment self.old.0 ≤ D.moment self.new.0 }
         ensures heard { D.heard self.new.0 ≡ D.heard self.old.0 }
         ensures room { D.room self.old.0 ≤ D.room self.new.0 }
@@ -73,6 +76,8 @@ impl<D: Directory> ManagedDirectory<D> {
         ensures cause { IfErr result (CollectCause (Rose (D.faults self.old.0) (D.faults self.new.0)) (D.faults self.new.0 ≡ D.faults self.old.0)) }
         ensures writers { (w : _) → D.opened self.old.0 w ≡ true → D.opened self.new.0 w ≡ true }
         ensures ended { (w : _) → D.opened self.old.0 w ≡ true → D.lives self.old.0 w ≡ false → D.lives self.new.0 w ≡ false }
+        ensures locks { D.tells_locks → SameLocks (D.locks self.old.0) (D.locks self.new.0) }
+        ensures watched { D.watched self.new.0 ≡ D.watched self.old.0 }
         ensures clock { D.moment self.old.0 ≤ D.moment self.new.0 }
         ensures heard { D.heard self.new.0 ≡ D.heard self.old.0 }
         ensures room { D.room self.old.0 ≤ D.room self.new.0 }
@@ -99,6 +104,8 @@ impl<D: Directory> ManagedDirectory<D> {
         ensures cause { IfErr result (CollectCause (Rose (D.faults self.old.0) (D.faults self.new.0)) (D.faults self.new.0 ≡ D.faults self.old.0)) }
         ensures writers { (w : _) → D.opened self.old.0 w ≡ true → D.opened self.new.0 w ≡ true }
         ensures ended { (w : _) → D.opened self.old.0 w ≡ true → D.lives self.old.0 w ≡ false → D.lives self.new.0 w ≡ false }
+        ensures locks { D.tells_locks → SameLocks (D.locks self.old.0) (D.locks self.new.0) }
+        ensures watched { D.watched self.new.0 ≡ D.watched self.old.0 }
         ensures clock { D.moment self.old.0 ≤ D.moment self.new.0 }
         ensures heard { D.heard self.new.0 ≡ D.heard self.old.0 }
         ensures room { D.room self.old.0 ≤ D.room self.new.0 }
@@ -124,6 +131,8 @@ impl<D: Directory> ManagedDirectory<D> {
         ensures faults { D.faults self.new.0 ≡ D.faults self.old.0 }
         ensures writers { (w : _) → D.opened self.old.0 w ≡ true → D.opened self.new.0 w ≡ true }
         ensures ended { (w : _) → D.opened self.old.0 w ≡ true → D.lives self.old.0 w ≡ false → D.lives self.new.0 w ≡ false }
+        ensures locks { D.tells_locks → SameLocks (D.locks self.old.0) (D.locks self.new.0) }
+        ensures watched { D.watched self.new.0 ≡ D.watched self.old.0 }
         ensures clock { D.moment self.old.0 ≤ D.moment self.new.0 }
         ensures heard { D.heard self.new.0 ≡ D.heard self.old.0 }
         ensures room { D.room self.old.0 ≤ D.room self.new.0 }
@@ -161,6 +170,8 @@ impl<D: Directory> ManagedDirectory<D> {
         ensures kept { IfOk result (λ gone. gone ≡ false → (w : _) → D.lives self.old.0 w ≡ true → D.lives self.new.0 w ≡ true) }
         ensures writers { (w : _) → D.opened self.old.0 w ≡ true → D.opened self.new.0 w ≡ true }
         ensures ended { (w : _) → D.opened self.old.0 w ≡ true → D.lives self.old.0 w ≡ false → D.lives self.new.0 w ≡ false }
+        ensures locks { D.tells_locks → SameLocks (D.locks self.old.0) (D.locks self.new.0) }
+        ensures watched { D.watched self.new.0 ≡ D.watched self.old.0 }
         ensures clock { D.moment self.old.0 ≤ D.moment self.new.0 }
         ensures heard { D.heard self.new.0 ≡ D.heard self.old.0 }
         ensures room { D.room self.old.0 ≤ D.room self.new.0 }
@@ -204,6 +215,8 @@ impl<D: Directory> ManagedDirectory<D> {
         ensures writers { (w : _) → D.opened self.old.0 w ≡ true → D.opened self.new.0 w ≡ true }
         ensures alive { (w : _) → D.lives self.old.0 w ≡ true → D.lives self.new.0 w ≡ true }
         ensures ended { (w : _) → D.opened self.old.0 w ≡ true → D.lives self.old.0 w ≡ false → D.lives self.new.0 w ≡ false }
+        ensures locks { D.tells_locks → SameLocks (D.locks self.old.0) (D.locks self.new.0) }
+        ensures watched { D.watched self.new.0 ≡ D.watched self.old.0 }
         ensures clock { D.moment self.old.0 ≤ D.moment self.new.0 }
         ensures heard { D.heard self.new.0 ≡ D.heard self.old.0 }
         ensures room { D.room self.old.0 ≤ D.room self.new.0 }
@@ -227,6 +240,8 @@ impl<D: Directory> ManagedDirectory<D> {
         ensures writers { (w : _) → D.opened self.old.0 w ≡ true → D.opened self.new.0 w ≡ true }
         ensures alive { (w : _) → D.lives self.old.0 w ≡ true → D.lives self.new.0 w ≡ true }
         ensures ended { (w : _) → D.opened self.old.0 w ≡ true → D.lives self.old.0 w ≡ false → D.lives self.new.0 w ≡ false }
+        ensures locks { D.tells_locks → SameLocks (D.locks self.old.0) (D.locks self.new.0) }
+        ensures watched { D.watched self.new.0 ≡ D.watched self.old.0 }
         ensures clock { D.moment self.old.0 ≤ D.moment self.new.0 }
         ensures heard { D.heard self.new.0 ≡ D.heard self.old.0 }
         ensures room { D.room self.old.0 ≤ D.room self.new.0 }

@@ -6,6 +6,7 @@ mod footer;
 mod list;
 mod managed_directory;
 mod reading;
+mod sharing;
 mod telling;
 #[cfg(test)]
 mod tests;

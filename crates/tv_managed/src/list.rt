@@ -4,6 +4,7 @@ ghost use Rattle.tv_model.specs.Names.{list_name};
 ghost use Rattle.tv_model.specs.Listing.{list_text, quoted};
 ghost use Rattle.tv_model.specs.Files.{Sets, MaySet, Rose};
 ghost use Rattle.tv_base.specs.Causes.{IoCause};
+ghost use Rattle.tv_directory.specs.Locks.{SameLocks};
 
 use std::alloc::Global;
 use std::collections::BTreeSet;
@@ -53,6 +54,8 @@ pub(crate) fn save_list<D: Directory>(
     ensures writers { (w : _) → D.opened directory.old w ≡ true → D.opened directory.new w ≡ true }
     ensures alive { (w : _) → D.lives directory.old w ≡ true → D.lives directory.new w ≡ true }
     ensures ended { (w : _) → D.opened directory.old w ≡ true → D.lives directory.old w ≡ false → D.lives directory.new w ≡ false }
+    ensures locks { D.tells_locks → SameLocks (D.locks directory.old) (D.locks directory.new) }
+    ensures watched { D.watched directory.new ≡ D.watched directory.old }
     ensures clock { D.moment directory.old ≤ D.moment directory.new }
     ensures heard { D.heard directory.new ≡ D.heard directory.old }
     ensures room { D.room directory.old ≤ D.room directory.new }

@@ -7,7 +7,8 @@ ghost use Rattle.tv_model.specs.Footer.{sealed};
 ghost use Rattle.tv_model.specs.Listing.{Lists, list_text};
 ghost use Rattle.tv_model.specs.Files.{Same, Sets, MaySet, KeepsOthers, Rose};
 ghost use Rattle.tv_base.specs.Causes.{IsDevice, IoCause, OpenReadCause, OpenWriteCause};
-ghost use Rattle.tv_directory.specs.Watch.{IsNewWriter};
+ghost use Rattle.tv_directory.specs.Locks.{SameLocks};
+ghost use Rattle.tv_directory.specs.Watch.{IsNewWriter, MayNote, noted};
 ghost use Rattle.tv_managed.specs.Writers.{IsSummed};
 ghost use Rattle.tv_managed.specs.Managed.{registered, Covers, KeepsOtherFiles, Makes, ListsNew, MaySave, IsOnList};
 
@@ -104,6 +105,8 @@ impl<D: Directory> ManagedDirectory<D> {
         ensures writers { (w : _) → D.opened self.old.0 w ≡ true → D.opened self.new.0 w ≡ true }
         ensures alive { (w : _) → D.lives self.old.0 w ≡ true → D.lives self.new.0 w ≡ true }
         ensures ended { (w : _) → D.opened self.old.0 w ≡ true → D.lives self.old.0 w ≡ false → D.lives self.new.0 w ≡ false }
+        ensures locks { D.tells_locks → SameLocks (D.locks self.old.0) (D.locks self.new.0) }
+        ensures watched { D.watched self.new.0 ≡ D.watched self.old.0 }
         ensures clock { D.moment self.old.0 ≤ D.moment self.new.0 }
         ensures heard { D.heard self.new.0 ≡ D.heard self.old.0 }
         ensures room { D.room self.old.0 ≤ D.room self.new.0 }
@@ -136,6 +139,8 @@ impl<D: Directory> ManagedDirectory<D> {
         ensures writers { (w : _) → D.opened self.old.0 w ≡ true → D.opened self.new.0 w ≡ true }
         ensures alive { (w : _) → D.lives self.old.0 w ≡ true → D.lives self.new.0 w ≡ true }
         ensures ended { (w : _) → D.opened self.old.0 w ≡ true → D.lives self.old.0 w ≡ false → D.lives self.new.0 w ≡ false }
+        ensures locks { D.tells_locks → SameLocks (D.locks self.old.0) (D.locks self.new.0) }
+        ensures watched { D.watched self.new.0 ≡ D.watched self.old.0 }
         ensures clock { D.moment self.old.0 ≤ D.moment self.new.0 }
         ensures heard { D.heard self.new.0 ≡ D.heard self.old.0 }
         ensures room { D.room self.old.0 ≤ D.room self.new.0 }
@@ -163,6 +168,8 @@ impl<D: Directory> ManagedDirectory<D> {
         ensures writers { (w : _) → D.opened self.old.0 w ≡ true → D.opened self.new.0 w ≡ true }
         ensures alive { (w : _) → D.lives self.old.0 w ≡ true → D.lives self.new.0 w ≡ true }
         ensures ended { (w : _) → D.opened self.old.0 w ≡ true → D.lives self.old.0 w ≡ false → D.lives self.new.0 w ≡ false }
+        ensures locks { D.tells_locks → SameLocks (D.locks self.old.0) (D.locks self.new.0) }
+        ensures watched { D.watched self.new.0 ≡ D.watched self.old.0 }
         ensures clock { D.moment self.old.0 ≤ D.moment self.new.0 }
         ensures heard { D.heard self.new.0 ≡ D.heard self.old.0 }
         ensures room { D.room self.old.0 ≤ D.room self.new.0 }
@@ -191,6 +198,8 @@ impl<D: Directory> ManagedDirectory<D> {
         ensures writers { (w : _) → D.opened self.old.0 w ≡ true → D.opened self.new.0 w ≡ true }
         ensures alive { (w : _) → D.lives self.old.0 w ≡ true → D.lives self.new.0 w ≡ true }
         ensures ended { (w : _) → D.opened self.old.0 w ≡ true → D.lives self.old.0 w ≡ false → D.lives self.new.0 w ≡ false }
+        ensures locks { D.tells_locks → SameLocks (D.locks self.old.0) (D.locks self.new.0) }
+        ensures watched { D.watched self.new.0 ≡ D.watched self.old.0 }
         ensures clock { D.moment self.old.0 ≤ D.moment self.new.0 }
         ensures heard { D.heard self.new.0 ≡ D.heard self.old.0 }
         ensures room { D.room self.old.0 ≤ D.room self.new.0 }
@@ -221,6 +230,8 @@ impl<D: Directory> ManagedDirectory<D> {
         ensures writers { (w : _) → D.opened self.old.0 w ≡ true → D.opened self.new.0 w ≡ true }
         ensures alive { (w : _) → D.lives self.old.0 w ≡ true → D.lives self.new.0 w ≡ true }
         ensures ended { (w : _) → D.opened self.old.0 w ≡ true → D.lives self.old.0 w ≡ false → D.lives self.new.0 w ≡ false }
+        ensures locks { D.tells_locks → SameLocks (D.locks self.old.0) (D.locks self.new.0) }
+        ensures watched { D.watched self.new.0 ≡ D.watched self.old.0 }
         ensures clock { D.moment self.old.0 ≤ D.moment self.new.0 }
         ensures heard { D.heard self.new.0 ≡ D.heard self.old.0 }
         ensures room { D.room self.old.0 ≤ D.room self.new.0 }
@@ -255,6 +266,8 @@ impl<D: Directory> ManagedDirectory<D> {
         ensures writers { (w : _) → D.opened self.old.0 w ≡ true → D.opened self.new.0 w ≡ true }
         ensures alive { (w : _) → D.lives self.old.0 w ≡ true → D.lives self.new.0 w ≡ true }
         ensures ended { (w : _) → D.opened self.old.0 w ≡ true → D.lives self.old.0 w ≡ false → D.lives self.new.0 w ≡ false }
+        ensures locks { D.tells_locks → SameLocks (D.locks self.old.0) (D.locks self.new.0) }
+        ensures watched { D.watched self.new.0 ≡ D.watched self.old.0 }
         ensures clock { D.moment self.old.0 ≤ D.moment self.new.0 }
         ensures heard { D.heard self.new.0 ≡ D.heard self.old.0 }
         ensures room { D.room self.old.0 ≤ D.room self.new.0 }
@@ -262,6 +275,38 @@ impl<D: Directory> ManagedDirectory<D> {
         self.directory.write(&mut writer.writer, bytes)?;
         writer.checksum.update(bytes);
         Ok(())
+    }
+
+    /// Lets the file read all that was written, still without a footer. Where the name was deleted since,
+    /// nothing changes.
+    pub fn flush(&mut self, writer: &mut ManagedWriter<D>) -> Result<(), IoError>
+        requires { D.opened self.old.0 writer.old.writer ≡ true }
+        ensures ok { D.tells → D.lives self.old.0 writer.old.writer ≡ true → OnOk result (Sets (D.reads self.old.0) (D.reads self.new.0) (D.name_of writer.old.writer) (Some (D.written writer.old.writer))) }
+        ensures content { D.tells → KeepsOthers (D.reads self.old.0) (D.reads self.new.0) (D.name_of writer.old.writer) }
+        ensures there { D.tells → D.lives self.old.0 writer.old.writer ≡ true → IsSome (D.reads self.new.0 (D.name_of writer.old.writer)) }
+        ensures gone { D.tells → D.lives self.old.0 writer.old.writer ≡ false → Same (D.reads self.old.0) (D.reads self.new.0) }
+        ensures err { D.tells → IfErr result (IoCause (Unit {0}) (Same (D.reads self.old.0) (D.reads self.new.0))) }
+        ensures again { OnOk result (D.opened self.new.0 writer.new.writer ≡ true) }
+        ensures wanted { IfErr result (IoCause (Unit {0}) (D.opened self.new.0 writer.new.writer ≡ true)) }
+        ensures written { D.written writer.new.writer ≡ D.written writer.old.writer }
+        ensures summed { IsSummed D.written writer.old → IsSummed D.written writer.new }
+        ensures name { D.name_of writer.new.writer ≡ D.name_of writer.old.writer }
+        ensures lives { D.lives self.old.0 writer.old.writer ≡ true → D.lives self.new.0 writer.new.writer ≡ true }
+        ensures lost { D.lives self.old.0 writer.old.writer ≡ false → D.lives self.new.0 writer.new.writer ≡ false }
+        ensures names { self.new.1 ≡ self.old.1 }
+        ensures quiet { OnOk result (D.faults self.new.0 ≡ D.faults self.old.0) }
+        ensures cause { IfErr result (IoCause (Rose (D.faults self.old.0) (D.faults self.new.0)) (D.faults self.new.0 ≡ D.faults self.old.0)) }
+        ensures refusals { D.refusals self.new.0 ≡ D.refusals self.old.0 }
+        ensures writers { (w : _) → D.opened self.old.0 w ≡ true → D.opened self.new.0 w ≡ true }
+        ensures alive { (w : _) → D.lives self.old.0 w ≡ true → D.lives self.new.0 w ≡ true }
+        ensures ended { (w : _) → D.opened self.old.0 w ≡ true → D.lives self.old.0 w ≡ false → D.lives self.new.0 w ≡ false }
+        ensures locks { D.tells_locks → SameLocks (D.locks self.old.0) (D.locks self.new.0) }
+        ensures watched { D.watched self.new.0 ≡ D.watched self.old.0 }
+        ensures clock { D.moment self.old.0 ≤ D.moment self.new.0 }
+        ensures heard { D.heard self.new.0 ≡ D.heard self.old.0 }
+        ensures room { D.room self.old.0 ≤ D.room self.new.0 }
+    {
+        self.directory.flush(&mut writer.writer)
     }
 
     /// Adds the footer, and seals the file.
@@ -277,6 +322,8 @@ impl<D: Directory> ManagedDirectory<D> {
         ensures writers { (w : _) → D.opened self.old.0 w ≡ true → D.opened self.new.0 w ≡ true }
         ensures alive { (w : _) → D.lives self.old.0 w ≡ true → D.lives self.new.0 w ≡ true }
         ensures ended { (w : _) → D.opened self.old.0 w ≡ true → D.lives self.old.0 w ≡ false → D.lives self.new.0 w ≡ false }
+        ensures locks { D.tells_locks → SameLocks (D.locks self.old.0) (D.locks self.new.0) }
+        ensures watched { D.watched self.new.0 ≡ D.watched self.old.0 }
         ensures clock { D.moment self.old.0 ≤ D.moment self.new.0 }
         ensures heard { D.heard self.new.0 ≡ D.heard self.old.0 }
         ensures room { D.room self.old.0 ≤ D.room self.new.0 }
@@ -304,6 +351,8 @@ impl<D: Directory> ManagedDirectory<D> {
         ensures writers { (w : _) → D.opened self.old.0 w ≡ true → D.opened self.new.0 w ≡ true }
         ensures alive { (w : _) → D.lives self.old.0 w ≡ true → D.lives self.new.0 w ≡ true }
         ensures ended { (w : _) → D.opened self.old.0 w ≡ true → D.lives self.old.0 w ≡ false → D.lives self.new.0 w ≡ false }
+        ensures locks { D.tells_locks → SameLocks (D.locks self.old.0) (D.locks self.new.0) }
+        ensures watched { D.watched self.new.0 ≡ D.watched self.old.0 }
         ensures clock { D.moment self.old.0 ≤ D.moment self.new.0 }
         ensures heard { D.heard self.new.0 ≡ D.heard self.old.0 }
         ensures room { D.room self.old.0 ≤ D.room self.new.0 }
@@ -328,6 +377,9 @@ impl<D: Directory> ManagedDirectory<D> {
         ensures writers { (w : _) → D.opened self.old.0 w ≡ true → D.opened self.new.0 w ≡ true }
         ensures alive { (w : _) → D.lives self.old.0 w ≡ true → D.lives self.new.0 w ≡ true }
         ensures ended { (w : _) → D.opened self.old.0 w ≡ true → D.lives self.old.0 w ≡ false → D.lives self.new.0 w ≡ false }
+        ensures locks { D.tells_locks → SameLocks (D.locks self.old.0) (D.locks self.new.0) }
+        ensures watched { OnOk result (D.watched self.new.0 ≡ noted name.now (D.watched self.old.0)) }
+        ensures unwatched { OnErr result (MayNote name.now (D.watched self.old.0) (D.watched self.new.0)) }
         ensures clock { D.moment self.old.0 ≤ D.moment self.new.0 }
         ensures heard { D.heard self.new.0 ≡ D.heard self.old.0 }
         ensures room { D.room self.old.0 ≤ D.room self.new.0 }
@@ -349,6 +401,8 @@ impl<D: Directory> ManagedDirectory<D> {
         ensures writers { (w : _) → D.opened self.old.0 w ≡ true → D.opened self.new.0 w ≡ true }
         ensures alive { (w : _) → D.lives self.old.0 w ≡ true → D.lives self.new.0 w ≡ true }
         ensures ended { (w : _) → D.opened self.old.0 w ≡ true → D.lives self.old.0 w ≡ false → D.lives self.new.0 w ≡ false }
+        ensures locks { D.tells_locks → SameLocks (D.locks self.old.0) (D.locks self.new.0) }
+        ensures watched { D.watched self.new.0 ≡ D.watched self.old.0 }
         ensures clock { D.moment self.old.0 ≤ D.moment self.new.0 }
         ensures heard { D.heard self.new.0 ≡ D.heard self.old.0 }
         ensures room { D.room self.old.0 ≤ D.room self.new.0 }

@@ -3,6 +3,7 @@ ghost use Rattle.std.specs.Prelude.{◌≡◌, ◌≤◌, ◌+◌, true, false, 
 ghost use Rattle.tv_model.specs.Names.{is_file_name};
 ghost use Rattle.tv_model.specs.Files.{Same, Rose};
 ghost use Rattle.tv_model.specs.Footer.{HasBody};
+ghost use Rattle.tv_directory.specs.Locks.{SameLocks};
 ghost use Rattle.tv_managed.specs.Reading.{ReadsBody, HasNoFooter, ReadsNoFooter, OpenBodyCause, NamesFile, at_path};
 
 use crate::footer::body_len;
@@ -28,6 +29,8 @@ impl<D: Directory> ManagedDirectory<D> {
         ensures writers { (w : _) → D.opened self.old.0 w ≡ true → D.opened self.new.0 w ≡ true }
         ensures alive { (w : _) → D.lives self.old.0 w ≡ true → D.lives self.new.0 w ≡ true }
         ensures ended { (w : _) → D.opened self.old.0 w ≡ true → D.lives self.old.0 w ≡ false → D.lives self.new.0 w ≡ false }
+        ensures locks { D.tells_locks → SameLocks (D.locks self.old.0) (D.locks self.new.0) }
+        ensures watched { D.watched self.new.0 ≡ D.watched self.old.0 }
         ensures clock { D.moment self.old.0 ≤ D.moment self.new.0 }
         ensures heard { D.heard self.new.0 ≡ D.heard self.old.0 }
         ensures room { D.room self.old.0 ≤ D.room self.new.0 }

@@ -3,6 +3,7 @@ ghost use Rattle.std.specs.Prelude.{◌≡◌, ◌≤◌, ◌<◌, ◌++◌, [],
 ghost use Rattle.tv_model.specs.Files.{Same, Rose};
 ghost use Rattle.tv_model.specs.Lines.{has_no_feed};
 ghost use Rattle.tv_base.specs.Causes.{IsDevice};
+ghost use Rattle.tv_directory.specs.Locks.{SameLocks};
 ghost use Rattle.tv_directory.specs.Telling.{TellsPart};
 
 use crate::managed_directory::ManagedDirectory;
@@ -21,6 +22,8 @@ impl<O: Outside> ManagedDirectory<O> {
         ensures writers { (w : _) → O.opened self.old.0 w ≡ true → O.opened self.new.0 w ≡ true }
         ensures alive { (w : _) → O.lives self.old.0 w ≡ true → O.lives self.new.0 w ≡ true }
         ensures ended { (w : _) → O.opened self.old.0 w ≡ true → O.lives self.old.0 w ≡ false → O.lives self.new.0 w ≡ false }
+        ensures locks { O.tells_locks → SameLocks (O.locks self.old.0) (O.locks self.new.0) }
+        ensures watched { O.watched self.new.0 ≡ O.watched self.old.0 }
         ensures clock { O.moment self.old.0 ≤ O.moment self.new.0 }
         ensures heard { O.heard self.new.0 ≡ O.heard self.old.0 }
         ensures room { O.room self.old.0 ≤ O.room self.new.0 }
@@ -42,6 +45,8 @@ impl<O: Outside> ManagedDirectory<O> {
         ensures writers { (w : _) → O.opened self.old.0 w ≡ true → O.opened self.new.0 w ≡ true }
         ensures alive { (w : _) → O.lives self.old.0 w ≡ true → O.lives self.new.0 w ≡ true }
         ensures ended { (w : _) → O.opened self.old.0 w ≡ true → O.lives self.old.0 w ≡ false → O.lives self.new.0 w ≡ false }
+        ensures locks { O.tells_locks → SameLocks (O.locks self.old.0) (O.locks self.new.0) }
+        ensures watched { O.watched self.new.0 ≡ O.watched self.old.0 }
         ensures clock { O.moment self.old.0 ≤ O.moment self.new.0 }
     {
         self.directory.tell(line)

@@ -5,8 +5,8 @@ use crate::{GarbageCollectionResult, ManagedDirectory, Refused};
 use std::alloc::Global;
 use std::collections::BTreeSet;
 use std::test::Fail;
-use tv_base::{DeleteError, FileSlice, IoFault, IoKind, OpenReadError, TantivyError};
-use tv_directory::{Bench, Directory, NoWatch};
+use tv_base::{DeleteError, FileSlice, IoFault, IoKind, LockError, OpenReadError, TantivyError};
+use tv_directory::{Bench, Directory, NoWatch, meta_lock};
 
 type TestDirectory = ManagedDirectory<Bench<NoWatch>>;
 
@@ -255,5 +255,53 @@ fn bytes_without_a_footer_are_refused(rt: HostRuntime) -> Result<(), Fail> {
             None => panic!(rt; "it has no footer"),
         }
     }
+    Ok(())
+}
+
+// Flushes a file, and takes a lock twice: what the file reads, and whether the lock was busy then.
+fn flush_and_lock(managed: &mut TestDirectory) -> Result<(Vec<u8>, bool), Fail> {
+    let mut writer = managed.open_write("a.idx")?;
+    managed.write(&mut writer, b"12")?;
+    managed.flush(&mut writer)?;
+    let flushed = managed.atomic_read("a.idx")?;
+    let token = managed.acquire_lock(&meta_lock())?;
+    let busy = match managed.acquire_lock(&meta_lock()) {
+        Err(LockError::LockBusy) => true,
+        _ => false,
+    };
+    managed.release(token);
+    let _again = managed.acquire_lock(&meta_lock())?;
+    Ok((flushed, busy))
+}
+
+#[test]
+fn a_flushed_file_reads_and_a_lock_is_given_once(rt: HostRuntime) -> Result<(), Fail> {
+    let mut managed = empty(rt.alloc())?;
+    let answer = flush_and_lock(&mut managed);
+    let _bench = managed.into_directory();
+    let (flushed, busy) = answer?;
+    assert_eq!(rt; flushed.as_slice(), b"12".as_slice());
+    assert!(rt; busy);
+    Ok(())
+}
+
+// Whether a notice stood after a write of `meta.json`, and once it was delivered.
+fn notices(managed: &mut TestDirectory) -> Result<(bool, bool), Fail> {
+    let handle = managed.watch(NoWatch)?;
+    managed.atomic_write("meta.json", b"{}")?;
+    let first = managed.deliver();
+    let second = managed.deliver();
+    managed.unwatch(handle);
+    Ok((first, second))
+}
+
+#[test]
+fn a_new_commit_is_noticed_once(rt: HostRuntime) -> Result<(), Fail> {
+    let mut managed = empty(rt.alloc())?;
+    let answer = notices(&mut managed);
+    let _bench = managed.into_directory();
+    let (first, second) = answer?;
+    assert!(rt; first);
+    assert!(rt; !second);
     Ok(())
 }

@@ -2,7 +2,7 @@
 ghost use Rattle.std.specs.Prelude.{◌≡◌, ◌≤◌, ◌-◌, ◌++◌, [], ◌∷◌, ◌↔◌, List, ℕ, Some, None, IsSome, IsErr, option_map, length, IfOk, IfErr, OnOk};
 ghost use Rattle.tv_model.specs.State.{at};
 ghost use Rattle.tv_base.specs.Causes.{IsDevice, IoCause};
-ghost use Rattle.tv_directory.specs.Bench.{named};
+ghost use Rattle.tv_directory.specs.StoredFiles.{named};
 ghost use Rattle.tv_replay.specs.BenchPlace.{refused};
 
 use crate::place::Place;
@@ -29,7 +29,7 @@ pub struct BenchPlace<O: Outside + Drop> {
 
 impl<O: Outside + Drop> Model for BenchPlace<O> {
     ghost use Rattle.std.specs.Prelude.{◌≡◌, ◌≤◌, ◌↔◌, None, IsSome, option_map, string_bytes, vec_len, vec_capacity};
-    ghost use Rattle.tv_directory.specs.Bench.{named};
+    ghost use Rattle.tv_directory.specs.StoredFiles.{named};
     ghost use Rattle.tv_replay.specs.BenchPlace.{PlaceState};
 
     ghost Value = { PlaceState O };

@@ -1,5 +1,6 @@
 use Rattle.std.proofs.Common.{◌≡◌, ◌≤◌, true, false}
 use Rattle.std.specs.Vec.Iter.{into_iter_items}
+use Rattle.tv_directory.specs.Locks.{SameLocks}
 use Rattle.tv_managed.specs.Collecting.{names_of, SparesWriters}
 use Rattle.tv_managed.proofs.Tried.{Tried}
 use Rattle.tv_managed.proofs.managed_directory.ManagedDirectory.delete_each.Given as goal
@@ -17,6 +18,8 @@ invariant-loop-name g l =
       faults : D.faults l.self.0 ≡ D.faults l.fn.self.0;
       writers : (w : _) → D.opened l.fn.self.0 w ≡ true → D.opened l.self.0 w ≡ true;
       ended : (w : _) → D.opened l.fn.self.0 w ≡ true → D.lives l.fn.self.0 w ≡ false → D.lives l.self.0 w ≡ false;
+      locks : D.tells_locks → SameLocks (D.locks l.fn.self.0) (D.locks l.self.0);
+      watched : D.watched l.self.0 ≡ D.watched l.fn.self.0;
       clock : D.moment l.fn.self.0 ≤ D.moment l.self.0;
       heard : D.heard l.self.0 ≡ D.heard l.fn.self.0;
       room : D.room l.fn.self.0 ≤ D.room l.self.0;

@@ -1,0 +1,182 @@
+-- Entries of registered callbacks: their numbers, and what is seen of them.
+use Rattle.std.proofs.Common.{◌≡◌, ℕ, ◌-◌, Bool, true, false, cond, List, [], ◌∷◌, ◌++◌, Option, Some, None, find, map, refl, ap, ◌∙◌, eqb, arith}
+use Rattle.std.specs.Prelude.{option_map}
+use Rattle.std.specs.List.{AllByRecursion, AllZip, IsDistinct}
+use Rattle.std.proofs.lemmas.List.{map-append}
+use Rattle.tv_base.specs.declared.inventory.Entry.{Entry}
+use Rattle.tv_base.specs.Entries.{is_at, is_last, one_fewer, one_more, released}
+use Rattle.tv_base.specs.Places.{change_at, take_out}
+use Rattle.tv_base.specs.PlaceLaws.{passed}
+use Rattle.tv_base.specs.Visits.{IsVisited}
+use Rattle.tv_directory.specs.declared.watch_list.Watcher.{Watcher}
+use Rattle.tv_directory.specs.declared.watch_list.Watchers.{Watchers}
+use Rattle.tv_directory.specs.Watch.{called, called_once, delivered, has_number, is_last_of, subscribed, unsubscribed, without_handle}
+use Rattle.tv_directory.specs.WatchList.{AreApart, released_by, seen, state_of}
+
+-- what is done to a list, and what is then seen of it
+
+found_in : {X Y : Type 0} (p : Y → Bool) (g : X → Y) (xs : List X) → find p (map g xs) ≡ option_map g (find (λ x. p (g x)) xs)
+found_in p g [] = refl
+found_in p g (x ∷ xs) =
+    elim (p (g x)) as (λ b. cond b (Some (g x)) (find p (map g xs)) ≡ option_map g (cond b (Some x) (find (λ y. p (g y)) xs))) [
+      | true ↦ refl
+      | false ↦ found_in p g xs
+    ]
+
+changed_in : {X Y : Type 0} (p : Y → Bool) (g : X → Y) (f : X → X) (h : Y → Y) → ((x : X) → h (g x) ≡ g (f x)) → (xs : List X) → change_at p h (map g xs) ≡ map g (change_at (λ x. p (g x)) f xs)
+changed_in p g f h same [] = refl
+changed_in p g f h same (x ∷ xs) =
+    elim (p (g x)) as (λ b. cond b (h (g x) ∷ map g xs) (g x ∷ change_at p h (map g xs)) ≡ map g (cond b (f x ∷ xs) (x ∷ change_at (λ y. p (g y)) f xs))) [
+      | true ↦ ap (λ y. y ∷ map g xs) (same x)
+      | false ↦ ap (λ ys. g x ∷ ys) (changed_in p g f h same xs)
+    ]
+
+taken_in : {X Y : Type 0} (p : Y → Bool) (g : X → Y) (xs : List X) → take_out p (map g xs) ≡ map g (take_out (λ x. p (g x)) xs)
+taken_in p g [] = refl
+taken_in p g (x ∷ xs) =
+    elim (p (g x)) as (λ b. cond b (map g xs) (g x ∷ take_out p (map g xs)) ≡ map g (cond b xs (x ∷ take_out (λ y. p (g y)) xs))) [
+      | true ↦ refl
+      | false ↦ ap (λ ys. g x ∷ ys) (taken_in p g xs)
+    ]
+
+last_of_some : {C : Type 0} (calls_of : C → ℕ) (o : Option (Entry (Watcher C))) → is_last_of (option_map (seen calls_of) o) ≡ is_last o
+last_of_some calls_of None = refl
+last_of_some calls_of (Some e) = refl
+
+last_seen : {C : Type 0} (calls_of : C → ℕ) (n : ℕ) (es : List (Entry (Watcher C))) → is_last_of (find (has_number n) (map (seen calls_of) es)) ≡ is_last (find (is_at n) es)
+last_seen calls_of n es = ap is_last_of (found_in (has_number n) (seen calls_of) es) ∙ last_of_some calls_of (find (is_at n) es)
+
+less_seen : {C : Type 0} (calls_of : C → ℕ) (n : ℕ) (es : List (Entry (Watcher C))) → change_at (has_number n) (λ r. record r { count = r.count - 1 }) (map (seen calls_of) es) ≡ map (seen calls_of) (change_at (is_at n) one_fewer es)
+less_seen calls_of n es = changed_in (has_number n) (seen calls_of) one_fewer (λ r. record r { count = r.count - 1 }) (λ e. refl) es
+
+-- a handle that was given back
+released_seen : {C : Type 0} (calls_of : C → ℕ) (n : ℕ) (es : List (Entry (Watcher C))) → map (seen calls_of) (released n es) ≡ without_handle n (map (seen calls_of) es)
+released_seen calls_of n es =
+    rw (last_seen calls_of n es, taken_in (has_number n) (seen calls_of) es, less_seen calls_of n es)
+    (elim (is_last (find (is_at n) es)) as (λ b. map (seen calls_of) (cond b (take_out (is_at n) es) (change_at (is_at n) one_fewer es)) ≡ cond b (map (seen calls_of) (take_out (is_at n) es)) (map (seen calls_of) (change_at (is_at n) one_fewer es))) [
+      | true ↦ refl
+      | false ↦ refl
+    ])
+
+pub unwatched : {C : Type 0} (calls_of : C → ℕ) (w v : Watchers C) (handle : Option ℕ) → v.list ≡ released_by handle w.list → v.notice ≡ w.notice → state_of calls_of v ≡ unsubscribed handle (state_of calls_of w)
+unwatched calls_of w v None list notice = rw (list, notice) refl
+unwatched calls_of w v (Some n) list notice = rw (list, notice, released_seen calls_of n w.list) refl
+
+-- one more who registered
+pub watched : {C : Type 0} (calls_of : C → ℕ) (w v : Watchers C) (n : ℕ) (callback : C) → v.list ≡ w.list ++ record { number = n; count = 1; value = record { callback = callback } } ∷ [] → v.notice ≡ w.notice → state_of calls_of v ≡ subscribed n (calls_of callback) (state_of calls_of w)
+watched calls_of w v n callback list notice =
+    rw (list, notice, map-append (seen calls_of) w.list (record { number = n; count = 1; value = record { callback = callback } } ∷ [])) refl
+
+pub none_seen : {C : Type 0} (calls_of : C → ℕ) (n : ℕ) (es : List (Entry (Watcher C))) → find (is_at n) es ≡ None → find (has_number n) (map (seen calls_of) es) ≡ None
+none_seen calls_of n es none = found_in (has_number n) (seen calls_of) es ∙ ap (option_map (seen calls_of)) none
+
+-- visits that call are seen as calls
+pub seen_after : {C : Type 0} (calls_of : C → ℕ) (es fs : List (Entry (Watcher C))) → AllZip (IsVisited (λ a b. calls_of b.callback ≡ called (calls_of a.callback))) es fs → map (seen calls_of) fs ≡ map called_once (map (seen calls_of) es)
+seen_after calls_of [] [] so = refl
+seen_after calls_of [] (f ∷ fs) so = absurd so
+seen_after calls_of (e ∷ es) [] so = absurd so
+seen_after calls_of (e ∷ es) (f ∷ fs) so =
+    rw (so.0.same_number, so.0.same_count, so.0.value)
+    (ap (λ rs. called_once (seen calls_of e) ∷ rs) (seen_after calls_of es fs so.1))
+
+pub told : {C : Type 0} (calls_of : C → ℕ) (w v : Watchers C) → w.notice ≡ true → v.notice ≡ false → AllZip (IsVisited (λ a b. calls_of b.callback ≡ called (calls_of a.callback))) w.list v.list → state_of calls_of v ≡ delivered (state_of calls_of w)
+told calls_of w v stood ended so = rw (stood, ended, seen_after calls_of w.list v.list so) refl
+
+-- numbers, of which no two are the same
+
+not_first : {X : Type 0} (p : X → Bool) (x : X) (xs : List X) (b : Bool) → p x ≡ b → find p (x ∷ xs) ≡ None → p x ≡ false
+not_first p x xs true is none = cc
+not_first p x xs false is none = is
+
+others_more : {T : Type 0} (m : ℕ) (es : List (Entry T)) (e : Entry T) → eqb m e.number ≡ false → AllByRecursion (λ y. eqb m y ≡ false) (map (λ d. d.number) es) → AllByRecursion (λ y. eqb m y ≡ false) (map (λ d. d.number) (es ++ e ∷ []))
+others_more m [] e differs others = (differs, tt)
+others_more m (d ∷ es) e differs others = (others.0, others_more m es e differs others.1)
+
+others_fewer : {T : Type 0} (m : ℕ) (p : Entry T → Bool) (es : List (Entry T)) → AllByRecursion (λ y. eqb m y ≡ false) (map (λ d. d.number) es) → AllByRecursion (λ y. eqb m y ≡ false) (map (λ d. d.number) (take_out p es))
+others_fewer m p [] others = tt
+others_fewer m p (d ∷ es) others =
+    elim (p d) as (λ b. AllByRecursion (λ y. eqb m y ≡ false) (map (λ d. d.number) (cond b es (d ∷ take_out p es)))) [
+      | true ↦ others.1
+      | false ↦ (others.0, others_fewer m p es others.1)
+    ]
+
+none_of : {T : Type 0} (n : ℕ) (es : List (Entry T)) → AllByRecursion (λ y. eqb n y ≡ false) (map (λ d. d.number) es) → find (is_at n) es ≡ None
+none_of n [] others = refl
+none_of n (d ∷ es) others =
+    let differs : eqb d.number n ≡ false = grind (arith, others.0) in
+    rw differs (none_of n es others.1)
+
+-- nobody
+pub apart_none : {T : Type 0} (es : List (Entry T)) → es ≡ [] → AreApart es
+unfolding IsDistinct
+apart_none es is = rw is tt
+
+-- one more, with a number that nobody has
+pub apart_more : {T : Type 0} (n : ℕ) (es : List (Entry T)) (e : Entry T) → e.number ≡ n → find (is_at n) es ≡ None → AreApart es → AreApart (es ++ e ∷ [])
+unfolding IsDistinct
+apart_more n [] e is none apart = (tt, tt)
+apart_more n (d ∷ es) e is none apart =
+    let differs : eqb d.number n ≡ false = not_first (is_at n) d es (eqb d.number n) refl none in
+    (others_more d.number es e (rw is differs) apart.0, apart_more n es e is (passed (is_at n) d es differs none) apart.1)
+
+-- one fewer
+apart_fewer : {T : Type 0} (p : Entry T → Bool) (es : List (Entry T)) → AreApart es → AreApart (take_out p es)
+unfolding IsDistinct
+apart_fewer p [] apart = tt
+apart_fewer p (d ∷ es) apart =
+    elim (p d) as (λ b. AreApart (cond b es (d ∷ take_out p es))) [
+      | true ↦ apart.1
+      | false ↦ (others_fewer d.number p es apart.0, apart_fewer p es apart.1)
+    ]
+
+same_numbers : {T : Type 0} (p : Entry T → Bool) (f : Entry T → Entry T) → ((e : Entry T) → (f e).number ≡ e.number) → (es : List (Entry T)) → map (λ d. d.number) (change_at p f es) ≡ map (λ d. d.number) es
+same_numbers p f same [] = refl
+same_numbers {T} p f same (d ∷ es) =
+    elim (p d) as (λ b. map (λ d. d.number) (cond b (f d ∷ es) (d ∷ change_at p f es)) ≡ d.number ∷ map (λ d. d.number) es) [
+      | true ↦ ap (λ n. n ∷ map (λ (e : Entry T). e.number) es) (same d)
+      | false ↦ ap (λ ns. d.number ∷ ns) (same_numbers p f same es)
+    ]
+
+visited_numbers : {T : Type 0} (R : T → T → Type 0) (es fs : List (Entry T)) → AllZip (IsVisited R) es fs → map (λ d. d.number) fs ≡ map (λ d. d.number) es
+visited_numbers R [] [] so = refl
+visited_numbers R [] (f ∷ fs) so = absurd so
+visited_numbers R (e ∷ es) [] so = absurd so
+visited_numbers R (e ∷ es) (f ∷ fs) so = rw so.0.same_number (ap (λ ns. e.number ∷ ns) (visited_numbers R es fs so.1))
+
+pub apart_visited : {T : Type 0} (R : T → T → Type 0) (es fs : List (Entry T)) → AllZip (IsVisited R) es fs → AreApart es → AreApart fs
+apart_visited R es fs so apart = rw (visited_numbers R es fs so) apart
+
+pub apart_shared : {T : Type 0} (n : ℕ) (es : List (Entry T)) → AreApart es → AreApart (change_at (is_at n) one_more es)
+apart_shared n es apart = rw (same_numbers (is_at n) one_more (λ e. refl) es) apart
+
+pub apart_released : {T : Type 0} (n : ℕ) (es : List (Entry T)) → AreApart es → AreApart (released n es)
+apart_released n es apart =
+    elim (is_last (find (is_at n) es)) as (λ b. AreApart (cond b (take_out (is_at n) es) (change_at (is_at n) one_fewer es))) [
+      | true ↦ apart_fewer (is_at n) es apart
+      | false ↦ rw (same_numbers (is_at n) one_fewer (λ e. refl) es) apart
+    ]
+
+-- where the first of a number goes, none is left
+gone_by : {T : Type 0} (n : ℕ) (d : Entry T) (es : List (Entry T)) (b : Bool) → eqb d.number n ≡ b → AreApart (d ∷ es) → find (is_at n) (take_out (is_at n) es) ≡ None → find (is_at n) (cond b es (d ∷ take_out (is_at n) es)) ≡ None
+unfolding IsDistinct
+gone_by n d es true is apart rest =
+    let same : n ≡ d.number = grind (arith, is) in
+    rw same (none_of d.number es apart.0)
+gone_by n d es false is apart rest = rw is rest
+
+gone : {T : Type 0} (n : ℕ) (es : List (Entry T)) → AreApart es → find (is_at n) (take_out (is_at n) es) ≡ None
+unfolding IsDistinct
+gone n [] apart = refl
+gone n (d ∷ es) apart = gone_by n d es (eqb d.number n) refl apart (gone n es apart.1)
+
+pub last_gone : {T : Type 0} (n : ℕ) (es : List (Entry T)) → AreApart es → is_last (find (is_at n) es) ≡ true → find (is_at n) (released n es) ≡ None
+last_gone n es apart last = rw last (gone n es apart)
+
+-- who is gone isn't visited
+pub none_visited : {T : Type 0} (R : T → T → Type 0) (n : ℕ) (es fs : List (Entry T)) → AllZip (IsVisited R) es fs → find (is_at n) es ≡ None → find (is_at n) fs ≡ None
+none_visited R n [] [] so none = refl
+none_visited R n [] (f ∷ fs) so none = absurd so
+none_visited R n (e ∷ es) [] so none = absurd so
+none_visited R n (e ∷ es) (f ∷ fs) so none =
+    let differs : eqb e.number n ≡ false = not_first (is_at n) e es (eqb e.number n) refl none in
+    rw (so.0.same_number, differs) (none_visited R n es fs so.1 (passed (is_at n) e es differs none))

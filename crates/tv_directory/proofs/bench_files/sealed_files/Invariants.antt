@@ -1,9 +1,0 @@
-use Rattle.std.specs.Vec.Iter.{into_iter_items}
-use Rattle.tv_directory.proofs.BenchFiles.{PutsAll}
-use Rattle.tv_directory.proofs.bench_files.sealed_files.Given as goal
-
-abbrev pub invariant-loop-name : goal.invariant-loop-name
-invariant-loop-name l =
-    (goal.iterator-loop-name).can_next l.name-iterator ×
-    (goal.iterator-loop-name).is_finite l.name-iterator ×
-    PutsAll l.fn.files.items (into_iter_items l.name-iterator) l.map.entries

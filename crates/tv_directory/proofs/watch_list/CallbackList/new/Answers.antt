@@ -1,0 +1,5 @@
+use Rattle.tv_directory.proofs.WatchLists.{apart_none}
+use Rattle.tv_directory.proofs.watch_list.CallbackList.new.Goals as goal
+
+pub invariant_of-result : goal.invariant_of-result
+invariant_of-result g c = apart_none c.new.result c.new.ensures.empty

@@ -1,0 +1,44 @@
+-- The files of a directory in memory.
+use Rattle.std.specs.Prelude.{ℕ, ◌==◌, Bool, false, List, Option, Some, None, String, Vec, length, map, reverse, sum, is_some, option_map, string_bytes}
+use Rattle.tv_model.specs.State.{at}
+use Rattle.tv_model.specs.Files.{Reads}
+use Rattle.tv_directory.specs.declared.files.StoredFile.{StoredFile}
+use Rattle.tv_directory.specs.declared.files.Content.{Content}
+use Rattle.tv_directory.specs.declared.files.Content.TheVariants.{Unsealed, Sealed}
+
+-- what a file reads: of one that isn't sealed, what has reached it
+abbrev pub bytes_of : Content → List ℕ
+bytes_of (Unsealed bytes) = bytes
+bytes_of (Sealed bytes) = bytes
+
+-- what each name reads
+abbrev pub reads_of : List (List ℕ × StoredFile) → Reads
+reads_of files name = option_map (λ file. bytes_of file.content) (at files name)
+
+-- whether there is a file of this name
+abbrev pub is_there : List (List ℕ × StoredFile) → List ℕ → Bool
+is_there files name = is_some (at files name)
+
+-- the number under which the name's file was made
+abbrev pub number_at : List (List ℕ × StoredFile) → List ℕ → Option ℕ
+number_at files name = option_map (λ file. file.number) (at files name)
+
+abbrev pub is_number : ℕ → Option ℕ → Bool
+is_number number None = false
+is_number number (Some other) = other == number
+
+-- whether the name's file is the one that was made under this number
+abbrev pub is_made : List (List ℕ × StoredFile) → List ℕ → ℕ → Bool
+is_made files name number = is_number number (number_at files name)
+
+-- pairs of a text and some bytes, as names and what they shall read
+abbrev pub named : {X Y : Type 0} → List (String X × Vec ℕ Y) → List (List ℕ × List ℕ)
+named files = map (λ file. (string_bytes file.0, file.1.items)) files
+
+-- what each name reads where the last pair of a name counts
+abbrev pub last_of : List (List ℕ × List ℕ) → Reads
+last_of pairs name = at (reverse pairs) name
+
+-- the lengths of all files together
+abbrev pub total_len : List (List ℕ × StoredFile) → ℕ
+total_len files = sum (map (λ file. length (bytes_of file.1.content)) files)

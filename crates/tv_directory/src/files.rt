@@ -1,0 +1,241 @@
+//! The files of a directory in memory.
+ghost use Rattle.std.specs.Prelude.{◌≡◌, ◌≢◌, ◌+◌, ◌≤◌, [], List, ℕ, true, false, string_bytes, Some, None, IfOk, OnOk, OnErr, is_some, length, min, option_map};
+ghost use Rattle.std.specs.Bool.{OnFalse};
+ghost use Rattle.std.specs.List.{AllByRecursion};
+ghost use Rattle.tv_model.specs.Names.{is_file_name};
+ghost use Rattle.tv_model.specs.Files.{Same, Sets};
+ghost use Rattle.tv_directory.specs.Device.{last};
+ghost use Rattle.tv_directory.specs.StoredFiles.{bytes_of, reads_of, is_there, number_at, is_made, named, last_of, total_len};
+
+use std::alloc::Global;
+use std::collections::BTreeMap;
+use tv_model::{Blob, FileName, Memory};
+
+/// What a file holds: of one that isn't sealed, what was flushed.
+#[derive(Drop)]
+pub enum Content {
+    Unsealed(Blob),
+    Sealed(Blob),
+}
+
+impl Content {
+    /// The bytes that it reads.
+    pub fn as_slice(&self) -> &[u8]
+        ensures { result.now ≡ bytes_of self.now }
+    {
+        match self {
+            Content::Unsealed(bytes) | Content::Sealed(bytes) => bytes.as_slice(),
+        }
+    }
+
+    /// How many bytes it reads.
+    pub fn len(&self) -> u64
+        ensures { result ≡ length (bytes_of self.now) }
+    {
+        self.as_slice().len() as u64
+    }
+
+    /// The same content.
+    pub fn copied(&self, alloc: Global) -> Result<Content, Memory>
+        ensures { IfOk result (λ copy. bytes_of copy ≡ bytes_of self.now) }
+    {
+        let bytes = Vec::from_slice(alloc, self.as_slice())?;
+        match self {
+            Content::Unsealed(_) => Ok(Content::Unsealed(Blob::new(bytes))),
+            Content::Sealed(_) => Ok(Content::Sealed(Blob::new(bytes))),
+        }
+    }
+}
+
+/// A file, and the number under which it was made.
+#[derive(Drop)]
+pub struct StoredFile {
+    pub number: u64,
+    pub content: Content,
+}
+
+/// Files by their names. Each file that is made gets a number that none got before.
+#[derive(Drop)]
+pub struct Files {
+    pub map: BTreeMap<FileName, StoredFile>,
+    // The number of the next file that is made.
+    pub next: u64,
+}
+
+impl Files {
+    /// Sealed files of these names and bytes.
+    pub fn sealed(alloc: Global, files: Vec<(String, Vec<u8>)>) -> Result<Files, Memory>
+        requires { AllByRecursion (λ file. is_file_name (string_bytes file.0) ≡ true) files.items }
+        ensures { IfOk result (λ made. Same (last_of (named files.items)) (reads_of made.map.entries)) }
+    {
+        let map = sealed_files(alloc, files)?;
+        Ok(Files { map, next: 1 })
+    }
+
+    /// No files.
+    pub fn new(alloc: Global) -> Files
+        ensures { result.map.entries ≡ [] }
+    {
+        Files {
+            map: BTreeMap::new(alloc),
+            next: 1,
+        }
+    }
+
+    /// Whether the name has a file.
+    pub fn has(&self, name: &FileName) -> bool
+        ensures { result ≡ is_some (reads_of self.now.map.entries name.now) }
+    {
+        self.map.contains_key(name)
+    }
+
+    /// The number of the file that has this name.
+    pub fn number(&self, name: &FileName) -> Option<u64>
+        ensures { result ≡ number_at self.now.map.entries name.now }
+    {
+        match self.map.get(name) {
+            Some(file) => Some(file.number),
+            None => None,
+        }
+    }
+
+    /// Whether the file of this name is the one that was made under this number.
+    pub fn is_made(&self, name: &FileName, number: u64) -> bool
+        ensures { result ≡ is_made self.now.map.entries name.now number }
+    {
+        match self.number(name) {
+            Some(other) => other == number,
+            None => false,
+        }
+    }
+
+    /// A copy of what the name reads.
+    pub fn read(&self, alloc: Global, name: &FileName) -> Result<Option<Vec<u8>>, Memory>
+        ensures { IfOk result (λ found. option_map (λ bytes. bytes.items) found ≡ reads_of self.now.map.entries name.now) }
+    {
+        match self.map.get(name) {
+            Some(file) => Ok(Some(Vec::from_slice(alloc, file.content.as_slice())?)),
+            None => Ok(None),
+        }
+    }
+
+    /// Makes a file of a name that has none, and answers its number.
+    pub fn make(&mut self, name: FileName, content: Content) -> Result<u64, Memory>
+        ensures ok { OnOk result (Sets (reads_of self.old.map.entries) (reads_of self.new.map.entries) name (Some (bytes_of content))) }
+        ensures number { IfOk result (λ number. number ≡ self.old.next) }
+        ensures next { OnOk result (self.new.next ≡ self.old.next + 1) }
+        ensures made { OnOk result (is_made self.new.map.entries name self.old.next ≡ true) }
+        ensures kept { number_at self.old.map.entries name ≡ None → (n : List ℕ) (k : ℕ) → is_made self.old.map.entries n k ≡ true → is_made self.new.map.entries n k ≡ true }
+        ensures ended { (n : List ℕ) (k : ℕ) → k ≢ self.old.next → is_made self.old.map.entries n k ≡ false → is_made self.new.map.entries n k ≡ false }
+        ensures err { OnErr result ((self.new.map.entries ≡ self.old.map.entries) × (self.new.next ≡ self.old.next)) }
+    {
+        let number = self.next;
+        let next = number.checked_add(1).ok_or(Memory)?;
+        put(&mut self.map, name, StoredFile { number, content })?;
+        self.next = next;
+        Ok(number)
+    }
+
+    /// Gives the file of this name and number another content.
+    pub fn replace(&mut self, name: FileName, number: u64, content: Content) -> Result<(), Memory>
+        requires { number_at self.old.map.entries name ≡ Some number }
+        ensures ok { OnOk result (Sets (reads_of self.old.map.entries) (reads_of self.new.map.entries) name (Some (bytes_of content))) }
+        ensures numbers { (n : List ℕ) → number_at self.new.map.entries n ≡ number_at self.old.map.entries n }
+        ensures next { self.new.next ≡ self.old.next }
+        ensures err { OnErr result (self.new.map.entries ≡ self.old.map.entries) }
+    {
+        put(&mut self.map, name, StoredFile { number, content })?;
+        Ok(())
+    }
+
+    /// The same files, under no number of a writer's.
+    pub fn copied(&self, alloc: Global) -> Result<Files, Memory>
+        ensures { IfOk result (λ files. Same (reads_of self.now.map.entries) (reads_of files.map.entries)) }
+    {
+        let mut map = BTreeMap::new(alloc);
+        for (name, file) in &self.map {
+            let text = String::from_str(alloc, name.as_str())?;
+            let copy = StoredFile {
+                number: 0,
+                content: file.content.copied(alloc)?,
+            };
+            put(&mut map, FileName::new(text), copy)?;
+        }
+        Ok(Files { map, next: 1 })
+    }
+
+    /// The lengths of all files together, as far as 64 bits count.
+    pub fn total_len(&self) -> u64
+        ensures { result ≡ min (total_len self.now.map.entries) last }
+    {
+        let mut total: u64 = 0;
+        for (_name, file) in &self.map {
+            total = total.saturating_add(file.content.len());
+        }
+        total
+    }
+
+    /// Gives a name this content in one step. Its file keeps its number; a name that has none gets a
+    /// new file.
+    pub fn write(&mut self, name: FileName, content: Content) -> Result<(), Memory>
+        ensures ok { OnOk result (Sets (reads_of self.old.map.entries) (reads_of self.new.map.entries) name (Some (bytes_of content))) }
+        ensures next { self.old.next ≤ self.new.next }
+        ensures kept { (n : List ℕ) (k : ℕ) → is_made self.old.map.entries n k ≡ true → is_made self.new.map.entries n k ≡ true }
+        ensures ended { (n : List ℕ) (k : ℕ) → k ≢ self.old.next → is_made self.old.map.entries n k ≡ false → is_made self.new.map.entries n k ≡ false }
+        ensures err { OnErr result (self.new.map.entries ≡ self.old.map.entries) }
+    {
+        match self.number(&name) {
+            Some(number) => self.replace(name, number, content),
+            None => {
+                self.make(name, content)?;
+                Ok(())
+            }
+        }
+    }
+
+    /// Deletes the file of this name, and answers whether there was one.
+    pub fn delete(&mut self, name: &FileName) -> bool
+        ensures there { result ≡ is_there self.old.map.entries name.now }
+        ensures ok { Sets (reads_of self.old.map.entries) (reads_of self.new.map.entries) name.now None }
+        ensures number { number_at self.new.map.entries name.now ≡ None }
+        ensures numbers { (n : List ℕ) → n ≢ name.now → number_at self.new.map.entries n ≡ number_at self.old.map.entries n }
+        ensures next { self.new.next ≡ self.old.next }
+        ensures err { OnFalse result (self.new.map.entries ≡ self.old.map.entries) }
+    {
+        self.map.remove(name).is_some()
+    }
+}
+
+// Sealed files of these names and bytes, with the number 0.
+fn sealed_files(
+    alloc: Global,
+    files: Vec<(String, Vec<u8>)>,
+) -> Result<BTreeMap<FileName, StoredFile>, Memory>
+    requires { AllByRecursion (λ file. is_file_name (string_bytes file.0) ≡ true) files.items }
+    ensures { IfOk result (λ map. Same (last_of (named files.items)) (reads_of map.entries)) }
+{
+    let mut map = BTreeMap::new(alloc);
+    for (name, bytes) in files {
+        let file = StoredFile {
+            number: 0,
+            content: Content::Sealed(Blob::new(bytes)),
+        };
+        put(&mut map, FileName::new(name), file)?;
+    }
+    Ok(map)
+}
+
+// Gives a name this file.
+fn put(
+    files: &mut BTreeMap<FileName, StoredFile>,
+    name: FileName,
+    file: StoredFile,
+) -> Result<(), Memory>
+    ensures ok { OnOk result (Sets (reads_of files.old.entries) (reads_of files.new.entries) name (Some (bytes_of file.content))) }
+    ensures number { OnOk result (number_at files.new.entries name ≡ Some file.number) }
+    ensures numbers { OnOk result ((n : List ℕ) → n ≢ name → number_at files.new.entries n ≡ number_at files.old.entries n) }
+    ensures err { OnErr result (files.new.entries ≡ files.old.entries) }
+{
+    files.insert(name, file)?;
+    Ok(())
+}
