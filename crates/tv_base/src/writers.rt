@@ -20,6 +20,9 @@ pub trait TerminatingWrite {
     /// No further call may be made: the end was told, or a call was refused.
     ghost ended: { Self → Bool };
 
+    /// Whether what was taken is still told after the end.
+    ghost keeps: { Type 0 };
+
     /// Takes all of these bytes. Where memory is wanted, none of them is taken; how many a refused call
     /// has taken isn't said.
     fn write_all(&mut self, bytes: &[u8]) -> Result<(), IoError>
@@ -45,8 +48,8 @@ pub trait TerminatingWrite {
     fn terminate(&mut self) -> Result<(), IoError>
         requires going { ended self.old ≡ false }
         ensures ended { ended self.new ≡ true }
-        ensures ok { OnOk result (taken self.new ≡ taken self.old) }
-        ensures memory { IfErr result (IoCause (Unit {0}) (taken self.new ≡ taken self.old)) }
+        ensures ok { keeps → OnOk result (taken self.new ≡ taken self.old) }
+        ensures memory { keeps → IfErr result (IoCause (Unit {0}) (taken self.new ≡ taken self.old)) }
         ensures quiet { OnOk result (faults self.new ≡ faults self.old) }
         ensures cause { IfErr result (IoCause (Rose (faults self.old) (faults self.new)) (faults self.new ≡ faults self.old)) };
 }
@@ -101,6 +104,8 @@ impl<W: TerminatingWrite> TerminatingWrite for CountingWriter<W> {
 
     ghost ended = { λ c. W.ended c.writer };
 
+    ghost keeps = { W.keeps };
+
     fn write_all(&mut self, bytes: &[u8]) -> Result<(), IoError>
         requires going { W.ended self.old.writer ≡ false }
         ensures ok { OnOk result (W.taken self.new.writer ≡ W.taken self.old.writer ++ bytes.now) }
@@ -133,8 +138,8 @@ impl<W: TerminatingWrite> TerminatingWrite for CountingWriter<W> {
     fn terminate(&mut self) -> Result<(), IoError>
         requires going { W.ended self.old.writer ≡ false }
         ensures ended { W.ended self.new.writer ≡ true }
-        ensures ok { OnOk result (W.taken self.new.writer ≡ W.taken self.old.writer) }
-        ensures memory { IfErr result (IoCause (Unit {0}) (W.taken self.new.writer ≡ W.taken self.old.writer)) }
+        ensures ok { W.keeps → OnOk result (W.taken self.new.writer ≡ W.taken self.old.writer) }
+        ensures memory { W.keeps → IfErr result (IoCause (Unit {0}) (W.taken self.new.writer ≡ W.taken self.old.writer)) }
         ensures quiet { OnOk result (W.faults self.new.writer ≡ W.faults self.old.writer) }
         ensures cause { IfErr result (IoCause (Rose (W.faults self.old.writer) (W.faults self.new.writer)) (W.faults self.new.writer ≡ W.faults self.old.writer)) }
         ensures kept { self.new.written ≡ self.old.written }
@@ -176,6 +181,8 @@ mod tests {
         ghost faults = { λ p. p.faults };
 
         ghost ended = { λ p. p.ended };
+
+        ghost keeps = { Unit {0} };
 
         fn write_all(&mut self, bytes: &[u8]) -> Result<(), IoError> {
             if self.broken {

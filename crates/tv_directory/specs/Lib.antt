@@ -6,4 +6,5 @@ pub mod Device
 pub mod StoredFiles
 pub mod Ram
 pub mod Persisting
+pub mod DirWriters
 pub mod Bench

@@ -6,6 +6,9 @@ mod bench_clock;
 mod bench_device;
 mod bench_directory;
 mod bench_told;
+mod dir_writer;
+#[cfg(test)]
+mod dir_writer_tests;
 mod directory;
 mod files;
 mod lock;
@@ -23,6 +26,7 @@ mod watch_list;
 mod watch_tests;
 
 pub use bench::Bench;
+pub use dir_writer::DirWriter;
 pub use directory::Directory;
 pub use lock::{DirectoryLock, Lock, index_writer_lock, meta_lock};
 pub use outside::Outside;

@@ -2,7 +2,8 @@
 use Rattle.std.proofs.Common.{◌≡◌, ◌≢◌, ◌≤◌, ◌<◌, ◌+◌, ◌-◌, ◌^◌, ⊎_elim, inr, ℕ, List, ◌++◌, length, take, drop, slice_range, codes, Result, Ok, Err, refl, sym, ap, subst, ◌∙◌, arith, append_assoc, length-append, length-drop}
 use Rattle.std.specs.Prelude.{IfErr}
 use Rattle.std.proofs.lemmas.List.{drop_at, take_at, drop-drop, length-take-le, take-append-drop}
-use Rattle.tv_model.specs.Footer.{four_bytes, footer_magic, number_of}
+use Rattle.tv_model.specs.Footer.{four_bytes, footer_magic, number_of, stated}
+use Rattle.tv_model.proofs.Bodies.{four_spell}
 use Rattle.tv_base.specs.declared.io.IoFault.{IoFault}
 use Rattle.tv_base.specs.declared.io.IoError.{IoError}
 use Rattle.tv_base.specs.declared.io.IoError.TheVariants as io
@@ -10,10 +11,7 @@ use Rattle.tv_framing.specs.declared.footer.Footer.{Footer}
 use Rattle.tv_base.specs.declared.io.IoKind.TheVariants.{InvalidData}
 use Rattle.tv_framing.specs.Faults.{IsFault, OfFault}
 use Rattle.tv_framing.specs.FooterEnds.{HasEnd}
-use Rattle.tv_framing.specs.Footers.{HasOtherMagic, IsCutOff, IsFramed, IsNoFooter, IsTooSmall, Refuses, Spells, StatesTooMuch, last_four, stated, stated_json}
-
-four_spell : (n : ℕ) → n < 2 ^ 32 → number_of (four_bytes n) ≡ n
-four_spell n small = omega arith
+use Rattle.tv_framing.specs.Footers.{HasOtherMagic, IsCutOff, IsFramed, IsNoFooter, IsTooSmall, Refuses, Spells, StatesTooMuch, last_four, stated_json}
 
 -- the last eight bytes are these two numbers
 pub record Ends (bytes : List ℕ) (front json magic : ℕ) : Type 0 where

@@ -4,9 +4,10 @@ use Rattle.std.specs.Prelude.{IfNone, IfSome, IsUtf8}
 use Rattle.serde_json.specs.Data.{Data}
 use Rattle.serde_json.specs.Find.{get}
 use Rattle.serde_json.specs.Read.{read}
+use Rattle.tv_model.specs.FooterForm.{u32_at}
 use Rattle.tv_base.specs.declared.versions.Version.{Version}
 use Rattle.tv_framing.specs.declared.footer.Footer.{Footer}
-use Rattle.tv_framing.specs.Footers.{IsFooter, Spells, u32_at}
+use Rattle.tv_framing.specs.Footers.{IsFooter, Spells}
 use Rattle.tv_framing.specs.FooterTrees.{footer_of, version_of}
 
 and_then_some : {A B : Type 0} (f : A → Option B) (o : Option A) (y : B) → option_and_then f o ≡ Some y → (x : A) × (o ≡ Some x) × (f x ≡ Some y)

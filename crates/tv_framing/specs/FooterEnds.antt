@@ -1,7 +1,7 @@
 -- The end of a file that has a footer.
 use Rattle.std.specs.Prelude.{ℕ, ◌≡◌, ◌≤◌, ◌+◌, List, ◌++◌, length, take, slice_range}
-use Rattle.tv_model.specs.Footer.{four_bytes, footer_magic}
-use Rattle.tv_framing.specs.Footers.{last_four, stated, stated_json}
+use Rattle.tv_model.specs.Footer.{four_bytes, footer_magic, stated}
+use Rattle.tv_framing.specs.Footers.{last_four, stated_json}
 
 -- the JSON of the footer lies there, if it is one
 pub record HasEnd (bytes : List ℕ) (start end : ℕ) : Type 0 where

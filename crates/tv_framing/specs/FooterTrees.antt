@@ -2,9 +2,9 @@
 use Rattle.std.specs.Prelude.{codes, Option, option_map, option_and_then}
 use Rattle.serde_json.specs.Data.{Data}
 use Rattle.serde_json.specs.Find.{get}
+use Rattle.tv_model.specs.FooterForm.{u32_at}
 use Rattle.tv_base.specs.declared.versions.Version.{Version}
 use Rattle.tv_framing.specs.declared.footer.Footer.{Footer}
-use Rattle.tv_framing.specs.Footers.{u32_at}
 
 abbrev pub version_of : Data → Option Version
 version_of d =

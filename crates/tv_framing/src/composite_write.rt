@@ -109,7 +109,7 @@ impl<W: TerminatingWrite> CompositeWrite<W> {
     /// exactly where the list is longer than `u32::MAX` bytes.
     pub fn close(self) -> (W, Result<(), IoError>)
         requires going { W.ended self.writer ≡ false }
-        ensures ok { OnOk result.1 (W.taken result.0 ≡ self.before ++ composite self.parts) }
+        ensures ok { W.keeps → OnOk result.1 (W.taken result.0 ≡ self.before ++ composite self.parts) }
         ensures form { OnOk result.1 (IsComposite (composite self.parts) self.parts) }
         ensures ended { OnOk result.1 (W.ended result.0 ≡ true) }
         ensures quiet { OnOk result.1 (W.faults result.0 ≡ W.faults self.writer) }
@@ -134,7 +134,7 @@ fn finish<W: TerminatingWrite>(
 ) -> Result<(), IoError>
     requires going { W.ended writer.old ≡ false }
     requires ascend { Ascend 0 starts.now written }
-    ensures ok { OnOk result (W.taken writer.new ≡ W.taken writer.old ++ (footing_text starts.now ++ four_bytes (length (footing_text starts.now)))) }
+    ensures ok { W.keeps → OnOk result (W.taken writer.new ≡ W.taken writer.old ++ (footing_text starts.now ++ four_bytes (length (footing_text starts.now)))) }
     ensures short { OnOk result (length (footing_text starts.now) < 2 ^ 32) }
     ensures ended { OnOk result (W.ended writer.new ≡ true) }
     ensures quiet { OnOk result (W.faults writer.new ≡ W.faults writer.old) }

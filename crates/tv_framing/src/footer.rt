@@ -1,6 +1,7 @@
 //! The footer of a file.
 ghost use Rattle.std.specs.Prelude.{◌≡◌, ◌≤◌, ◌<◌, ◌⊎◌, ◌++◌, List, ℕ, false, IfOk, IfErr, OnOk};
 ghost use Rattle.tv_model.specs.Files.{Rose};
+ghost use Rattle.tv_model.specs.Footer.{footer};
 ghost use Rattle.tv_base.specs.Causes.{IoCause};
 ghost use Rattle.tv_framing.specs.Faults.{OfFault};
 ghost use Rattle.tv_framing.specs.declared.footer.Footer.{Footer};
@@ -41,6 +42,14 @@ impl Footer {
         self.crc
     }
 
+    /// The footer's bytes: its JSON, the length of that, and the magic number.
+    pub fn to_bytes(&self, alloc: Global) -> Result<Vec<u8>, Memory>
+        ensures bytes { IfOk result (λ bytes. bytes.items ≡ footer_text self.now) }
+        ensures own { (crc : ℕ) → self.now ≡ record { version = record { major = 0; minor = 26; patch = 2; index_format_version = 7 }; crc = crc } → IfOk result (λ bytes. bytes.items ≡ footer crc) }
+    {
+        written(alloc, self)
+    }
+
     /// Writes the footer behind what was written. Where memory is wanted, nothing is written.
     pub fn append_footer<W: TerminatingWrite>(
         &self,
@@ -55,8 +64,8 @@ impl Footer {
         ensures quiet { OnOk result (W.faults write.new ≡ W.faults write.old) }
         ensures cause { IfErr result (IoCause (Rose (W.faults write.old) (W.faults write.new)) (W.faults write.new ≡ W.faults write.old)) }
     {
-        let text = written(alloc, self)?;
-        write.write_all(text.as_slice())
+        let bytes = self.to_bytes(alloc)?;
+        write.write_all(bytes.as_slice())
     }
 
     /// The footer of a file, and the body before it, whatever the checksum is. The file is refused
@@ -86,17 +95,17 @@ impl Footer {
     }
 }
 
-/// The bytes of the footer: its JSON, the length of that, and the magic number.
-pub(crate) fn written(alloc: Global, footer: &Footer) -> Result<Vec<u8>, Memory>
-    ensures { IfOk result (λ text. text.items ≡ footer_text footer.now) }
+// The bytes of the footer.
+fn written(alloc: Global, footer: &Footer) -> Result<Vec<u8>, Memory>
+    ensures { IfOk result (λ bytes. bytes.items ≡ footer_text footer.now) }
 {
-    let mut text = write_json(alloc, footer)?;
-    let Ok(len) = u32::try_from(text.len()) else {
+    let mut bytes = write_json(alloc, footer)?;
+    let Ok(len) = u32::try_from(bytes.len()) else {
         return Err(Memory);
     };
-    text.extend_from_slice(&len.to_le_bytes())?;
-    text.extend_from_slice(&FOOTER_MAGIC_NUMBER.to_le_bytes())?;
-    Ok(text)
+    bytes.extend_from_slice(&len.to_le_bytes())?;
+    bytes.extend_from_slice(&FOOTER_MAGIC_NUMBER.to_le_bytes())?;
+    Ok(bytes)
 }
 
 // The footer of a file, and the body before it.

@@ -2,8 +2,9 @@
 ghost use Rattle.std.specs.Prelude.{◌≡◌, ◌++◌, IfOk, IfNone, IfSome, OnOk};
 ghost use Rattle.std.specs.Fmt.{decimal};
 ghost use Rattle.serde_json.specs.View.{view};
+ghost use Rattle.tv_model.specs.FooterForm.{u32_at};
 ghost use Rattle.tv_framing.specs.declared.footer.Footer.{Footer};
-ghost use Rattle.tv_framing.specs.Footers.{Spells, footer_json, u32_at};
+ghost use Rattle.tv_framing.specs.Footers.{Spells, footer_json};
 ghost use Rattle.tv_framing.specs.FooterTrees.{footer_of, version_of};
 
 use crate::footer::Footer;

@@ -5,7 +5,7 @@ ghost use Rattle.tv_model.specs.Footer.{footer};
 ghost use Rattle.tv_base.specs.Causes.{IoCause};
 ghost use Rattle.tv_framing.specs.Proxies.{SumsUp, body_taken, is_ended};
 
-use crate::footer::{Footer, written};
+use crate::footer::Footer;
 use std::alloc::Global;
 use std::marker::Model;
 use tv_base::{IoError, TerminatingWrite};
@@ -66,6 +66,8 @@ impl<W: TerminatingWrite, C: Checksum + Drop> TerminatingWrite for FooterProxy<W
 
     ghost ended = { is_ended W.ended };
 
+    ghost keeps = { W.keeps };
+
     fn write_all(&mut self, bytes: &[u8]) -> Result<(), IoError>
         requires going { is_ended W.ended self.old ≡ false }
         ensures ok { OnOk result (body_taken W.taken self.new ≡ body_taken W.taken self.old ++ bytes.now) }
@@ -102,17 +104,17 @@ impl<W: TerminatingWrite, C: Checksum + Drop> TerminatingWrite for FooterProxy<W
     fn terminate(&mut self) -> Result<(), IoError>
         requires going { is_ended W.ended self.old ≡ false }
         ensures ended { is_ended W.ended self.new ≡ true }
-        ensures ok { OnOk result (body_taken W.taken self.new ≡ body_taken W.taken self.old) }
-        ensures memory { IfErr result (IoCause (Unit {0}) (body_taken W.taken self.new ≡ body_taken W.taken self.old)) }
+        ensures ok { W.keeps → OnOk result (body_taken W.taken self.new ≡ body_taken W.taken self.old) }
+        ensures memory { W.keeps → IfErr result (IoCause (Unit {0}) (body_taken W.taken self.new ≡ body_taken W.taken self.old)) }
         ensures quiet { OnOk result (W.faults self.new.writer ≡ W.faults self.old.writer) }
         ensures cause { IfErr result (IoCause (Rose (W.faults self.old.writer) (W.faults self.new.writer)) (W.faults self.new.writer ≡ W.faults self.old.writer)) }
         ensures below { OnOk result (W.ended self.new.writer ≡ true) }
-        ensures sealed { (body : List ℕ) → SumsUp C.has_taken self.old.sum body → OnOk result (W.taken self.new.writer ≡ W.taken self.old.writer ++ footer (C.checksum body)) }
+        ensures sealed { W.keeps → (body : List ℕ) → SumsUp C.has_taken self.old.sum body → OnOk result (W.taken self.new.writer ≡ W.taken self.old.writer ++ footer (C.checksum body)) }
     {
         let Some(checksum) = self.checksum.take() else {
             unreachable!()
         };
-        let footer = written(self.alloc, &Footer::new(checksum.finish()))?;
+        let footer = Footer::new(checksum.finish()).to_bytes(self.alloc)?;
         self.writer.write_all(footer.as_slice())?;
         self.footer_len = footer.len();
         self.writer.terminate()

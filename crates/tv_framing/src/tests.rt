@@ -38,6 +38,8 @@ impl TerminatingWrite for Page {
 
     ghost ended = { λ p. p.ended };
 
+    ghost keeps = { Unit {0} };
+
     fn write_all(&mut self, bytes: &[u8]) -> Result<(), IoError> {
         self.bytes.extend_from_slice(bytes)?;
         Ok(())
@@ -68,6 +70,7 @@ fn a_footer_is_written_and_read(rt: HostRuntime) -> Result<(), Fail> {
     let mut want = json.as_bytes().to_vec(a)?;
     want.extend_from_slice(&[0x4f, 0, 0, 0, 0x39, 0x05, 0, 0])?;
     assert_eq!(rt; page.bytes.as_slice(), want.as_slice());
+    assert_eq!(rt; Footer::new(123).to_bytes(a)?.as_slice(), want.as_slice());
     let (footer, body) = Footer::extract_footer(a, file_of(a, page.bytes.as_slice())?)?;
     assert_eq!(rt; footer.crc(), 123);
     assert!(rt; footer == Footer::new(123));

@@ -1,9 +1,11 @@
 -- What a collection does to a directory and its list.
-use Rattle.std.specs.Prelude.{ℕ, ◌≡◌, ◌≢◌, ◌≤◌, ◌+◌, ◌⊎◌, Bool, true, false, List, ◌++◌, String, None, length, map, string_bytes}
+use Rattle.std.specs.Prelude.{ℕ, ◌≡◌, ◌≢◌, ◌≤◌, ◌+◌, ◌⊎◌, Bool, true, false, List, [], ◌++◌, Option, String, None, codes, length, map, string_bytes}
 use Rattle.tv_model.specs.Names.{has, list_name}
-use Rattle.tv_model.specs.Collections.{done_of, failed_of, without}
+use Rattle.tv_model.specs.Collections.{collectable, done_of, failed_of, without}
 use Rattle.tv_model.specs.Files.{Reads}
 use Rattle.tv_base.specs.Causes.{IsDevice}
+use Rattle.tv_base.specs.declared.open_errors.LockError.{LockError}
+use Rattle.tv_base.specs.declared.open_errors.LockError.TheVariants as lock
 use Rattle.tv_base.specs.declared.error.TantivyError.{TantivyError}
 use Rattle.tv_base.specs.declared.error.TantivyError.TheVariants as errors
 
@@ -50,8 +52,22 @@ SparesWriters {W} names name_of before after = (w : W) → has names (name_of w)
 abbrev pub FailsAtMost : (failed before now : ℕ) → Type 0
 FailsAtMost failed before now = (failed + before ≤ now) ⊎ (now ≡ 18446744073709551615)
 
--- why a collection was given up: the device refused a call other than a delete, or memory was wanted
-abbrev pub CollectCause : (refused quiet : Type 0) → TantivyError → Type 0
-CollectCause refused quiet (errors.IoError fault) = IsDevice fault × refused
-CollectCause refused quiet errors.Memory = quiet
-CollectCause refused quiet _ = ⊥
+-- the lock that is held while the living names are asked for
+abbrev pub meta_lock_name : List ℕ
+meta_lock_name = codes ".tantivy-meta.lock"
+
+-- names that may be tried: none, or the managed ones that aren't among those of a set that was answered
+abbrev pub Among : {S : Type 0} → (answered : S → Type 0) → (living : S → List (List ℕ)) → (managed names : List (List ℕ)) → Type 0
+Among {S} answered living managed names = (names ≡ []) ⊎ ((set : S) × answered set × (names ≡ collectable (living set) managed))
+
+-- Why a collection was given up: `busy` where the lock isn't given, `refused` where the device refused a call other than a delete, `quiet` where memory was wanted.
+abbrev pub LockWhy : (busy refused : Type 0) → LockError → Type 0
+LockWhy busy refused lock.LockBusy = busy
+LockWhy busy refused (lock.IoError fault) = IsDevice fault × refused
+LockWhy busy refused lock.Memory = ⊥
+
+abbrev pub CollectCause : (busy refused quiet : Type 0) → TantivyError → Type 0
+CollectCause busy refused quiet (errors.IoError fault) = IsDevice fault × refused
+CollectCause busy refused quiet (errors.LockFailure why text) = LockWhy busy refused why × (text ≡ None)
+CollectCause busy refused quiet errors.Memory = quiet
+CollectCause busy refused quiet _ = ⊥

@@ -1,35 +1,71 @@
--- How the body of a sealed file is read.
-use Rattle.std.specs.Prelude.{ℕ, ◌≡◌, ◌⊎◌, List, Option, Some, codes, String, string_bytes}
+-- How the body of a sealed file is read, and its checksum.
+use Rattle.std.specs.Prelude.{ℕ, ◌≡◌, ◌<◌, ◌⊎◌, ◌==◌, Bool, List, Option, Some, String, string_bytes}
 use Rattle.std.specs.Global.{Global}
-use Rattle.tv_model.specs.Footer.{HasBody}
+use Rattle.tv_model.specs.Checksum.{crc32}
+use Rattle.tv_model.specs.Footer.{HasBody, IsFramed}
+use Rattle.tv_model.specs.FooterForm.{FooterNumbers}
 use Rattle.tv_base.specs.Causes.{IsDevice}
 use Rattle.tv_base.specs.declared.io.IoFault.{IoFault}
-use Rattle.tv_base.specs.declared.io.IoKind.TheVariants.{InvalidData}
 use Rattle.tv_base.specs.declared.open_errors.OpenReadError.{OpenReadError}
 use Rattle.tv_base.specs.declared.open_errors.OpenReadError.TheVariants as read
+use Rattle.tv_base.specs.declared.versions.Incompatibility.{Incompatibility}
+use Rattle.tv_base.specs.declared.versions.Incompatibility.TheVariants.{IndexMismatch}
+use Rattle.tv_framing.specs.declared.footer.Footer.{Footer}
+use Rattle.tv_framing.specs.Footers as framing
+use Rattle.tv_framing.specs.Footers.{Refuses}
 
--- the name read some bytes, which are this body and a footer
+-- the name read some bytes, of which this is true
+abbrev pub ReadsSuch : Option (List ℕ) → (List ℕ → Type 0) → Type 0
+ReadsSuch was P = (bytes : List ℕ) × (was ≡ Some bytes) × P bytes
+
+-- the name read some bytes, which have this body and a good footer
 abbrev pub ReadsBody : Option (List ℕ) → List ℕ → Type 0
-ReadsBody was body = (bytes : List ℕ) × (was ≡ Some bytes) × HasBody bytes body
+ReadsBody was body = ReadsSuch was (λ bytes. HasBody bytes body)
 
--- the bytes end in no footer as it is written here
+-- the bytes end in no good footer
+abbrev pub HasNoBody : List ℕ → Type 0
+HasNoBody bytes = (body : List ℕ) → HasBody bytes body → ⊥
+
+-- the bytes end in no footer at all
 abbrev pub HasNoFooter : List ℕ → Type 0
-HasNoFooter bytes = (body : List ℕ) → HasBody bytes body → ⊥
+HasNoFooter bytes = (footer : FooterNumbers) (body : List ℕ) → IsFramed bytes footer body → ⊥
 
--- the name read some bytes without a footer
-abbrev pub ReadsNoFooter : Option (List ℕ) → Type 0
-ReadsNoFooter was = (bytes : List ℕ) × (was ≡ Some bytes) × HasNoFooter bytes
+-- the bytes end in a footer of a format that isn't read, and the error says which
+pub record HasOtherFormat (bytes : List ℕ) (why : Incompatibility) : Type 0 where
+  pub footer : Footer
+  pub body : List ℕ
+  pub framed : framing.IsFramed bytes footer body
+  pub format : (footer.version.index_format_version < 4) ⊎ (7 < footer.version.index_format_version)
+  pub is : why ≡ IndexMismatch (record { major = 0; minor = 26; patch = 2; index_format_version = 7 }) footer.version
 
--- the fault of bytes without a footer
-abbrev pub IsNoFooter : IoFault → Type 0
-IsNoFooter fault = (fault.kind ≡ InvalidData) × (string_bytes fault.text ≡ codes "Footer is not of the stated form.")
+-- the name read bytes that are refused with this fault, for the first reason that holds
+abbrev pub ReadsRefused : Option (List ℕ) → IoFault → Type 0
+ReadsRefused was fault = ReadsSuch was (λ bytes. Refuses bytes fault)
 
--- What is true of each answer of a call that reads a body: `absent` where there is no such file, `bad` where it has no footer, `refused` where the device refused the call, `quiet` where memory was wanted.
-abbrev pub OpenBodyCause : (absent bad refused quiet : Type 0) → OpenReadError → Type 0
-OpenBodyCause absent bad refused quiet (read.FileDoesNotExist path) = absent
-OpenBodyCause absent bad refused quiet (read.IoError fault path) = (IsDevice fault × refused) ⊎ (IsNoFooter fault × bad)
-OpenBodyCause absent bad refused quiet (read.IncompatibleIndex why) = ⊥
-OpenBodyCause absent bad refused quiet read.Memory = quiet
+-- the name read bytes of another format
+abbrev pub ReadsOther : Option (List ℕ) → Incompatibility → Type 0
+ReadsOther was why = ReadsSuch was (λ bytes. HasOtherFormat bytes why)
+
+-- some bytes are refused with this fault; some are of another format
+abbrev pub SomeRefused : IoFault → Type 0
+SomeRefused fault = (bytes : List ℕ) × Refuses bytes fault
+
+abbrev pub SomeOther : Incompatibility → Type 0
+SomeOther why = (bytes : List ℕ) × HasOtherFormat bytes why
+
+-- the bytes end in a footer, and this says whether the checksum in it is that of the body
+pub record TellsChecksum (bytes : List ℕ) (is_right : Bool) : Type 0 where
+  pub footer : FooterNumbers
+  pub body : List ℕ
+  pub framed : IsFramed bytes footer body
+  pub says : is_right ≡ (footer.crc == crc32 body)
+
+-- What is true of each answer of a call that reads a body: `absent` where there is no such file, `bad` of the fault where its bytes are refused, `other` of the reason where they are of another format, `refused` where the device refused the call, `quiet` where memory was wanted.
+abbrev pub OpenBodyCause : (absent : Type 0) → (bad : IoFault → Type 0) → (other : Incompatibility → Type 0) → (refused quiet : Type 0) → OpenReadError → Type 0
+OpenBodyCause absent bad other refused quiet (read.FileDoesNotExist path) = absent
+OpenBodyCause absent bad other refused quiet (read.IoError fault path) = (IsDevice fault × refused) ⊎ bad fault
+OpenBodyCause absent bad other refused quiet (read.IncompatibleIndex why) = other why
+OpenBodyCause absent bad other refused quiet read.Memory = quiet
 
 -- the file that is named in the error is this one
 abbrev pub NamesFile : List ℕ → OpenReadError → Type 0

@@ -1,5 +1,5 @@
 //! Deletes the managed files that nothing needs.
-ghost use Rattle.std.specs.Prelude.{◌≡◌, ◌≢◌, ◌≤◌, [], ◌∷◌, ℕ, List, true, false, length, Some, None, IsSome, IfOk, IfErr, OnOk, OnErr, if◌then◌else◌};
+ghost use Rattle.std.specs.Prelude.{◌≡◌, ◌≢◌, ◌≤◌, ◌⊎◌, [], ◌∷◌, ℕ, List, true, false, length, Some, None, IsSome, IfOk, IfErr, OnOk, OnErr, if◌then◌else◌};
 ghost use Rattle.std.specs.List.{list_all};
 ghost use Rattle.tv_model.specs.Names.{is_file_name, is_plain, list_name};
 ghost use Rattle.tv_model.specs.Listing.{Lists, list_text};
@@ -8,14 +8,14 @@ ghost use Rattle.tv_model.specs.Files.{Same, Sets, MaySet, KeepsOthers, Rose};
 ghost use Rattle.tv_base.specs.Causes.{IoCause, DeleteCause};
 ghost use Rattle.tv_directory.specs.Locks.{SameLocks};
 ghost use Rattle.tv_managed.specs.Managed.{Covers};
-ghost use Rattle.tv_managed.specs.Collecting.{names_of, Leaves, Tells, SparesWriters, FailsAtMost, CollectCause};
+ghost use Rattle.tv_managed.specs.Collecting.{Among, meta_lock_name, names_of, Leaves, Tells, SparesWriters, FailsAtMost, CollectCause};
 
 use crate::list::save_list;
 use crate::managed_directory::ManagedDirectory;
 use std::alloc::Global;
 use std::collections::BTreeSet;
 use tv_base::{DeleteError, IoError, TantivyError};
-use tv_directory::Directory;
+use tv_directory::{Directory, meta_lock};
 use tv_model::Memory;
 
 /// The names that a collection tried, in their order: those that are gone, and those whose delete the
@@ -54,18 +54,20 @@ impl<D: Directory> ManagedDirectory<D> {
         self.directory.delete(name)
     }
 
-    /// Deletes each managed file whose name isn't living, in the order of the names. A file that is
+    /// Deletes each managed file whose name isn't living, in the order of the names. The living names are
+    /// asked for while the meta lock is held, and the lock is free while files are deleted. A file that is
     /// absent counts as deleted. One whose delete is refused has failed: it stays managed, a writer of
-    /// it lives on, and the others are still tried. Where something was deleted, the shorter list is saved. After an error the
-    /// names that were deleted by then aren't managed any more.
+    /// it lives on, and the others are still tried. Where something was deleted, the shorter list is
+    /// saved. `LockFailure` comes where the lock isn't given, and then nothing changes. After another
+    /// error the names that were deleted by then aren't managed any more.
     pub fn garbage_collect<L: FnOnce() -> BTreeSet<String>>(
         &mut self,
         living: L,
     ) -> Result<GarbageCollectionResult, TantivyError>
         requires { L.IsAlwaysCallable living }
-        ensures told { (set : _) × L.post living set × IfOk result (λ r. Tells (collectable (names_of set.keys) self.old.1) self.old.1 self.new.1 (names_of r.deleted_files.items) (names_of r.failed_to_delete_files.items) D.tells (D.reads self.old.0) (D.reads self.new.0))
-            × Leaves (collectable (names_of set.keys) self.old.1) self.old.1 self.new.1 D.tells (D.reads self.old.0) (D.reads self.new.0)
-            × SparesWriters (collectable (names_of set.keys) self.old.1) D.name_of (D.lives self.old.0) (D.lives self.new.0) }
+        ensures told { IfOk result (λ r. (set : _) × L.post living set × Tells (collectable (names_of set.keys) self.old.1) self.old.1 self.new.1 (names_of r.deleted_files.items) (names_of r.failed_to_delete_files.items) D.tells (D.reads self.old.0) (D.reads self.new.0)) }
+        ensures left { (names : List (List ℕ)) × Among (L.post living) (λ set. names_of set.keys) self.old.1 names × Leaves names self.old.1 self.new.1 D.tells (D.reads self.old.0) (D.reads self.new.0)
+            × SparesWriters names D.name_of (D.lives self.old.0) (D.lives self.new.0) }
         ensures list { D.tells → Lists (D.reads self.old.0 list_name) self.old.1 → OnOk result (Lists (D.reads self.new.0 list_name) self.new.1) }
         ensures covers { D.tells → Covers (D.reads self.old.0 list_name) self.old.1 → Covers (D.reads self.new.0 list_name) self.new.1 }
         ensures kept { IfOk result (λ r. SparesWriters (names_of r.deleted_files.items) D.name_of (D.lives self.old.0) (D.lives self.new.0)) }
@@ -73,7 +75,9 @@ impl<D: Directory> ManagedDirectory<D> {
         ensures calm { IfOk result (λ r. names_of r.failed_to_delete_files.items ≡ [] → D.refusals self.new.0 ≡ D.refusals self.old.0) }
         ensures fits { D.refusals self.old.0 ≤ 18446744073709551615 → D.refusals self.new.0 ≤ 18446744073709551615 }
         ensures quiet { OnOk result (D.faults self.new.0 ≡ D.faults self.old.0) }
-        ensures cause { IfErr result (CollectCause (Rose (D.faults self.old.0) (D.faults self.new.0)) (D.faults self.new.0 ≡ D.faults self.old.0)) }
+        ensures free { D.tells_locks → OnOk result (D.locks self.old.0 meta_lock_name ≡ false) }
+        ensures busy { D.tells_locks → IfErr result (CollectCause (D.locks self.old.0 meta_lock_name ≡ true) (Unit {0}) (Unit {0})) }
+        ensures cause { IfErr result (CollectCause ((D.tells_locks × (D.faults self.new.0 ≡ D.faults self.old.0)) ⊎ Rose (D.faults self.old.0) (D.faults self.new.0)) (Rose (D.faults self.old.0) (D.faults self.new.0)) (D.faults self.new.0 ≡ D.faults self.old.0)) }
         ensures writers { (w : _) → D.opened self.old.0 w ≡ true → D.opened self.new.0 w ≡ true }
         ensures ended { (w : _) → D.opened self.old.0 w ≡ true → D.lives self.old.0 w ≡ false → D.lives self.new.0 w ≡ false }
         ensures locks { D.tells_locks → SameLocks (D.locks self.old.0) (D.locks self.new.0) }
@@ -82,8 +86,34 @@ impl<D: Directory> ManagedDirectory<D> {
         ensures heard { D.heard self.new.0 ≡ D.heard self.old.0 }
         ensures room { D.room self.old.0 ≤ D.room self.new.0 }
     {
-        let living = living();
+        let living = self.under_meta_lock(living)?;
         self.collect(&living)
+    }
+
+    // What a call answers that is made while the meta lock is held.
+    fn under_meta_lock<T, F: FnOnce() -> T>(&mut self, call: F) -> Result<T, TantivyError>
+        requires { F.IsAlwaysCallable call }
+        ensures answer { IfOk result (λ answer. F.post call answer) }
+        ensures content { D.tells → Same (D.reads self.old.0) (D.reads self.new.0) }
+        ensures names { self.new.1 ≡ self.old.1 }
+        ensures quiet { OnOk result (D.faults self.new.0 ≡ D.faults self.old.0) }
+        ensures free { D.tells_locks → OnOk result (D.locks self.old.0 meta_lock_name ≡ false) }
+        ensures busy { D.tells_locks → IfErr result (CollectCause (D.locks self.old.0 meta_lock_name ≡ true) (Unit {0}) (Unit {0})) }
+        ensures cause { IfErr result (CollectCause ((D.tells_locks × (D.faults self.new.0 ≡ D.faults self.old.0)) ⊎ Rose (D.faults self.old.0) (D.faults self.new.0)) (Rose (D.faults self.old.0) (D.faults self.new.0)) (D.faults self.new.0 ≡ D.faults self.old.0)) }
+        ensures refusals { D.refusals self.new.0 ≡ D.refusals self.old.0 }
+        ensures writers { (w : _) → D.opened self.old.0 w ≡ true → D.opened self.new.0 w ≡ true }
+        ensures alive { (w : _) → D.lives self.old.0 w ≡ true → D.lives self.new.0 w ≡ true }
+        ensures ended { (w : _) → D.opened self.old.0 w ≡ true → D.lives self.old.0 w ≡ false → D.lives self.new.0 w ≡ false }
+        ensures locks { D.tells_locks → SameLocks (D.locks self.old.0) (D.locks self.new.0) }
+        ensures watched { D.watched self.new.0 ≡ D.watched self.old.0 }
+        ensures clock { D.moment self.old.0 ≤ D.moment self.new.0 }
+        ensures heard { D.heard self.new.0 ≡ D.heard self.old.0 }
+        ensures room { D.room self.old.0 ≤ D.room self.new.0 }
+    {
+        let lock = self.acquire_lock(&meta_lock())?;
+        let answer = call();
+        self.release(lock);
+        Ok(answer)
     }
 
     // Deletes the managed names that aren't among these.
@@ -101,7 +131,7 @@ impl<D: Directory> ManagedDirectory<D> {
         ensures calm { IfOk result (λ r. names_of r.failed_to_delete_files.items ≡ [] → D.refusals self.new.0 ≡ D.refusals self.old.0) }
         ensures fits { D.refusals self.old.0 ≤ 18446744073709551615 → D.refusals self.new.0 ≤ 18446744073709551615 }
         ensures quiet { OnOk result (D.faults self.new.0 ≡ D.faults self.old.0) }
-        ensures cause { IfErr result (CollectCause (Rose (D.faults self.old.0) (D.faults self.new.0)) (D.faults self.new.0 ≡ D.faults self.old.0)) }
+        ensures cause { IfErr result (CollectCause ⊥ (Rose (D.faults self.old.0) (D.faults self.new.0)) (D.faults self.new.0 ≡ D.faults self.old.0)) }
         ensures writers { (w : _) → D.opened self.old.0 w ≡ true → D.opened self.new.0 w ≡ true }
         ensures ended { (w : _) → D.opened self.old.0 w ≡ true → D.lives self.old.0 w ≡ false → D.lives self.new.0 w ≡ false }
         ensures locks { D.tells_locks → SameLocks (D.locks self.old.0) (D.locks self.new.0) }

@@ -2,7 +2,6 @@
 #![tactic(auto)]
 
 mod collecting;
-mod footer;
 mod list;
 mod managed_directory;
 mod reading;

@@ -9,10 +9,10 @@ ghost use Rattle.tv_model.specs.Files.{Same, Sets, MaySet, KeepsOthers, Rose};
 ghost use Rattle.tv_base.specs.Causes.{IsDevice, IoCause, OpenReadCause, OpenWriteCause};
 ghost use Rattle.tv_directory.specs.Locks.{SameLocks};
 ghost use Rattle.tv_directory.specs.Watch.{IsNewWriter, MayNote, noted};
+ghost use Rattle.tv_managed.specs.Reading.{ReadsBody};
 ghost use Rattle.tv_managed.specs.Writers.{IsSummed};
 ghost use Rattle.tv_managed.specs.Managed.{registered, Covers, KeepsOtherFiles, Makes, ListsNew, MaySave, IsOnList};
 
-use crate::footer::footer;
 use crate::list::save_list;
 use crate::writer::ManagedWriter;
 use std::alloc::Global;
@@ -21,6 +21,7 @@ use std::marker::Model;
 use tv_base::{IoError, IoFault, OpenReadError, OpenWriteError, TantivyError};
 use tv_checksum::{Checksum, Crc32};
 use tv_directory::Directory;
+use tv_framing::Footer;
 
 /// A directory with the list of the files that it manages. To a contract it is the directory, and
 /// the managed names in their order.
@@ -259,6 +260,7 @@ impl<D: Directory> ManagedDirectory<D> {
         ensures lost { D.lives self.old.0 writer.old.writer ≡ false → D.lives self.new.0 writer.new.writer ≡ false }
         ensures content { D.tells → KeepsOthers (D.reads self.old.0) (D.reads self.new.0) (D.name_of writer.old.writer) }
         ensures there { D.tells → D.lives self.old.0 writer.old.writer ≡ true → IsSome (D.reads self.new.0 (D.name_of writer.old.writer)) }
+        ensures gone { D.tells → D.lives self.old.0 writer.old.writer ≡ false → Same (D.reads self.old.0) (D.reads self.new.0) }
         ensures names { self.new.1 ≡ self.old.1 }
         ensures quiet { OnOk result (D.faults self.new.0 ≡ D.faults self.old.0) }
         ensures cause { IfErr result (IoCause (Rose (D.faults self.old.0) (D.faults self.new.0)) (D.faults self.new.0 ≡ D.faults self.old.0)) }
@@ -309,12 +311,15 @@ impl<D: Directory> ManagedDirectory<D> {
         self.directory.flush(&mut writer.writer)
     }
 
-    /// Adds the footer, and seals the file.
+    /// Adds the footer, and seals the file. From then on the body is read back, unless the name was
+    /// deleted since the file was made.
     pub fn terminate(&mut self, writer: ManagedWriter<D>) -> Result<(), IoError>
         requires { D.opened self.old.0 writer.writer ≡ true }
         ensures ok { D.tells → D.lives self.old.0 writer.writer ≡ true → IsSummed D.written writer → OnOk result (Sets (D.reads self.old.0) (D.reads self.new.0) (D.name_of writer.writer) (Some (sealed (D.written writer.writer)))) }
+        ensures body { D.tells → D.lives self.old.0 writer.writer ≡ true → IsSummed D.written writer → OnOk result (ReadsBody (D.reads self.new.0 (D.name_of writer.writer)) (D.written writer.writer)) }
         ensures others { D.tells → KeepsOthers (D.reads self.old.0) (D.reads self.new.0) (D.name_of writer.writer) }
-        ensures gone { D.tells → D.lives self.old.0 writer.writer ≡ true → IsSome (D.reads self.old.0 (D.name_of writer.writer)) → IsSome (D.reads self.new.0 (D.name_of writer.writer)) }
+        ensures there { D.tells → D.lives self.old.0 writer.writer ≡ true → IsSome (D.reads self.old.0 (D.name_of writer.writer)) → IsSome (D.reads self.new.0 (D.name_of writer.writer)) }
+        ensures gone { D.tells → D.lives self.old.0 writer.writer ≡ false → Same (D.reads self.old.0) (D.reads self.new.0) }
         ensures names { self.new.1 ≡ self.old.1 }
         ensures quiet { OnOk result (D.faults self.new.0 ≡ D.faults self.old.0) }
         ensures cause { IfErr result (IoCause (Rose (D.faults self.old.0) (D.faults self.new.0)) (D.faults self.new.0 ≡ D.faults self.old.0)) }
@@ -332,7 +337,7 @@ impl<D: Directory> ManagedDirectory<D> {
             mut writer,
             checksum,
         } = writer;
-        let footer = footer(self.alloc, checksum.finish())?;
+        let footer = Footer::new(checksum.finish()).to_bytes(self.alloc)?;
         self.directory.write(&mut writer, footer.as_slice())?;
         self.directory.terminate(writer)?;
         Ok(())

@@ -5,7 +5,9 @@ use crate::{GarbageCollectionResult, ManagedDirectory, Refused};
 use std::alloc::Global;
 use std::collections::BTreeSet;
 use std::test::Fail;
-use tv_base::{DeleteError, FileSlice, IoFault, IoKind, LockError, OpenReadError, TantivyError};
+use tv_base::{
+    DeleteError, FileSlice, Incompatibility, IoKind, LockError, OpenReadError, TantivyError,
+};
 use tv_directory::{Bench, Directory, NoWatch, meta_lock};
 
 type TestDirectory = ManagedDirectory<Bench<NoWatch>>;
@@ -98,8 +100,8 @@ fn list_four(alloc: Global, managed: &mut TestDirectory, refused: &[u64]) -> Res
     Ok(())
 }
 
-// Lists four files and collects, which syncs (call 13), deletes (14 to 17), syncs, writes the list,
-// and syncs.
+// Lists four files and collects, which takes the meta lock (call 13), syncs, deletes (15 to 18), syncs,
+// writes the list, and syncs.
 fn collect(
     alloc: Global,
     managed: &mut TestDirectory,
@@ -149,7 +151,7 @@ fn a_collection_deletes_what_is_not_living(rt: HostRuntime) -> Result<(), Fail> 
 fn refused_deletes_stay_listed(rt: HostRuntime) -> Result<(), Fail> {
     let alloc = rt.alloc();
     let mut managed = empty(alloc)?;
-    let result = collect(alloc, &mut managed, &["d.idx"], &[14, 16]);
+    let result = collect(alloc, &mut managed, &["d.idx"], &[15, 17]);
     let mut bench = managed.into_directory();
     let GarbageCollectionResult {
         deleted_files,
@@ -173,7 +175,7 @@ fn refused_deletes_stay_listed(rt: HostRuntime) -> Result<(), Fail> {
 #[test]
 fn each_other_refused_call_ends_a_collection(rt: HostRuntime) -> Result<(), Fail> {
     let alloc = rt.alloc();
-    for (number, count) in [(13, 4), (18, 0), (19, 0), (20, 0)] {
+    for (number, count) in [(14, 4), (19, 0), (20, 0), (21, 0)] {
         let mut managed = empty(alloc)?;
         let kind = fault_of(alloc, &mut managed, number);
         let left = managed.list_managed_files().len();
@@ -190,7 +192,7 @@ fn a_collection_without_deletes_saves_nothing(rt: HostRuntime) -> Result<(), Fai
     let alloc = rt.alloc();
     let mut managed = empty(alloc)?;
     let living = ["a.idx", "b.idx", "c.idx", "d.idx"];
-    let result = collect(alloc, &mut managed, &living, &[14, 15, 16]);
+    let result = collect(alloc, &mut managed, &living, &[15, 16, 17]);
     let bench = managed.into_directory();
     assert!(rt; result?.deleted_files.as_slice().is_empty());
     assert_eq!(rt; bench.faults(), 0);
@@ -224,35 +226,179 @@ fn a_body_is_read_without_its_footer(rt: HostRuntime) -> Result<(), Fail> {
     Ok(())
 }
 
-// Why the body of a file of these bytes can't be read.
-fn refuse(managed: &mut TestDirectory, bytes: &[u8]) -> Result<Option<IoFault>, Fail> {
+// What a read of a file of these bytes answers.
+fn read(
+    managed: &mut TestDirectory,
+    bytes: &[u8],
+) -> Result<Result<FileSlice, OpenReadError>, Fail> {
     managed.atomic_write("a.idx", bytes)?;
-    match managed.open_read("a.idx") {
-        Err(OpenReadError::IoError { io_error, .. }) => Ok(Some(io_error)),
-        _ => Ok(None),
-    }
+    Ok(managed.open_read("a.idx"))
 }
+
+// Bytes that end in no footer, and the kind and the text of the fault.
+const REFUSED: [(&[u8], IoKind, &str); 8] = [
+    (
+        b"",
+        IoKind::UnexpectedEof,
+        "File corrupted. The file is smaller than 8 bytes (len=0).",
+    ),
+    (
+        b"123456789",
+        IoKind::InvalidData,
+        "Footer magic byte mismatch. File corrupted or index was created using old an tantivy version which is not supported anymore. Please use tantivy 0.15 or above to recreate the index.",
+    ),
+    (
+        b"{\"version\":{\"major\":0,\"minor\":26,\"patch\":2,\"index_format_version\":7},\"crc\":7}\x4d\x00\x00\x00\x39\x05\x00",
+        IoKind::InvalidData,
+        "Footer magic byte mismatch. File corrupted or index was created using old an tantivy version which is not supported anymore. Please use tantivy 0.15 or above to recreate the index.",
+    ),
+    (
+        b"\x51\xc3\x00\x00\x39\x05\x00\x00",
+        IoKind::InvalidData,
+        "Footer seems invalid as it suggests a footer len of 50001. File is corrupted, or the index was created with a different & old version of tantivy.",
+    ),
+    (
+        b"\x56\x00\x00\x00\x39\x05\x00\x00",
+        IoKind::UnexpectedEof,
+        "File corrupted. The file is smaller than it's footer bytes (len=94).",
+    ),
+    (
+        b"{\"version\":{\"major\":0,\"minor\":26,\"patch\":2,\"index_format_version\":7},\"crc\":7}\x4e\x00\x00\x00\x39\x05\x00\x00",
+        IoKind::UnexpectedEof,
+        "File corrupted. The file is smaller than it's footer bytes (len=86).",
+    ),
+    (
+        b"{\"version\":{\"major\":0,\"minor\":26,\"patch\":2,\"index_format_version\":7},\"crc\":07}\x4e\x00\x00\x00\x39\x05\x00\x00",
+        IoKind::InvalidData,
+        "Footer is not of the stated form.",
+    ),
+    (
+        b"{\"version\":{\"major\":0,\"minor\":26,\"patch\":2,\"index_format_version\":7},\"crc\":4294967296}\x56\x00\x00\x00\x39\x05\x00\x00",
+        IoKind::InvalidData,
+        "Footer is not of the stated form.",
+    ),
+];
 
 #[test]
 fn bytes_without_a_footer_are_refused(rt: HostRuntime) -> Result<(), Fail> {
-    for bytes in [
-        b"".as_slice(),
-        b"123456789",
-        b"\x56\x00\x00\x00\x39\x05\x00\x00",
-        b"{\"version\":{\"major\":0,\"minor\":26,\"patch\":2,\"index_format_version\":7},\"crc\":7}\x4d\x00\x00\x00\x39\x05\x00",
-        b"{\"version\":{\"major\":0,\"minor\":26,\"patch\":2,\"index_format_version\":7},\"crc\":7}\x4e\x00\x00\x00\x39\x05\x00\x00",
-        b"{\"version\":{\"major\":0,\"minor\":26,\"patch\":2,\"index_format_version\":7},\"crc\":07}\x4e\x00\x00\x00\x39\x05\x00\x00",
-        b"{\"version\":{\"major\":0,\"minor\":26,\"patch\":2,\"index_format_version\":7},\"crc\":4294967296}\x56\x00\x00\x00\x39\x05\x00\x00",
-    ] {
+    for (bytes, kind, text) in REFUSED {
         let mut managed = empty(rt.alloc())?;
-        let refused = refuse(&mut managed, bytes);
+        let answer = read(&mut managed, bytes);
+        let checked = managed.validate_checksum("a.idx");
         let _bench = managed.into_directory();
-        match refused? {
-            Some(fault) => {
-                assert_eq!(rt; fault.kind, IoKind::InvalidData);
-                assert_eq!(rt; fault.text.as_str(), "Footer is not of the stated form.");
+        for answer in [answer?.err(), checked.err()] {
+            match answer {
+                Some(OpenReadError::IoError { io_error, filepath }) => {
+                    assert_eq!(rt; io_error.kind, kind);
+                    assert_eq!(rt; io_error.text.as_str(), text);
+                    assert_eq!(rt; filepath.as_str(), "a.idx");
+                }
+                _ => panic!(rt; "it has no footer"),
             }
-            None => panic!(rt; "it has no footer"),
+        }
+    }
+    Ok(())
+}
+
+// Files with footers: one as it is written here, and then the oldest format and one in another spelling.
+const READ: [(&[u8], &[u8]); 3] = [
+    (SEALED, b"123456789"),
+    (
+        b"body{\"version\":{\"major\":0,\"minor\":26,\"patch\":2,\"index_format_version\":4},\"crc\":7}\x4d\x00\x00\x00\x39\x05\x00\x00",
+        b"body",
+    ),
+    (
+        b" { \"crc\":1, \"x\":[], \"crc\":0, \"version\":{\"patch\":1,\"minor\":2,\"major\":3,\"index_format_version\":5}}\x60\x00\x00\x00\x39\x05\x00\x00",
+        b"",
+    ),
+];
+
+#[test]
+fn footers_of_formats_4_to_7_are_taken(rt: HostRuntime) -> Result<(), Fail> {
+    for (bytes, body) in READ {
+        let mut managed = empty(rt.alloc())?;
+        let answer = read(&mut managed, bytes);
+        let handle = managed.get_file_handle("a.idx");
+        let _bench = managed.into_directory();
+        assert_eq!(rt; answer??.read_bytes()?.as_slice(), body);
+        assert_eq!(rt; handle?.as_slice(), body);
+    }
+    Ok(())
+}
+
+// Files whose formats aren't read, and these formats.
+const OTHER: [(&[u8], u32); 2] = [
+    (
+        b"body{\"version\":{\"major\":0,\"minor\":26,\"patch\":2,\"index_format_version\":3},\"crc\":7}\x4d\x00\x00\x00\x39\x05\x00\x00",
+        3,
+    ),
+    (
+        b"body{\"version\":{\"major\":0,\"minor\":26,\"patch\":2,\"index_format_version\":8},\"crc\":7}\x4d\x00\x00\x00\x39\x05\x00\x00",
+        8,
+    ),
+];
+
+#[test]
+fn footers_of_other_formats_are_incompatible(rt: HostRuntime) -> Result<(), Fail> {
+    for (bytes, format) in OTHER {
+        let mut managed = empty(rt.alloc())?;
+        let answer = read(&mut managed, bytes);
+        let handle = managed.get_file_handle("a.idx");
+        let _bench = managed.into_directory();
+        for answer in [answer?.err(), handle.err()] {
+            match answer {
+                Some(
+                    OpenReadError::IncompatibleIndex(
+                        Incompatibility::IndexMismatch {
+                            library_version,
+                            index_version,
+                        },
+                    ),
+                ) => {
+                    assert_eq!(rt; library_version.index_format_version, 7);
+                    assert_eq!(rt; index_version.index_format_version, format);
+                }
+                _ => panic!(rt; "it is of another format"),
+            }
+        }
+    }
+    Ok(())
+}
+
+// Files, and whether the checksum in their footer is that of their body.
+const CHECKED: [(&[u8], bool); 4] = [
+    (SEALED, true),
+    (
+        b"123456789{\"version\":{\"major\":0,\"minor\":26,\"patch\":2,\"index_format_version\":7},\"crc\":3421780263}\x56\x00\x00\x00\x39\x05\x00\x00",
+        false,
+    ),
+    (
+        b"123456789{\"version\":{\"major\":0,\"minor\":26,\"patch\":2,\"index_format_version\":8},\"crc\":3421780262}\x56\x00\x00\x00\x39\x05\x00\x00",
+        true,
+    ),
+    (
+        b"12345678{\"version\":{\"major\":0,\"minor\":26,\"patch\":2,\"index_format_version\":3},\"crc\":3421780262}\x56\x00\x00\x00\x39\x05\x00\x00",
+        false,
+    ),
+];
+
+// Whether a file of these bytes has the checksum of its body.
+fn check(managed: &mut TestDirectory, bytes: &[u8]) -> Result<bool, Fail> {
+    managed.atomic_write("a.idx", bytes)?;
+    Ok(managed.validate_checksum("a.idx")?)
+}
+
+#[test]
+fn checksums_are_compared_in_any_format(rt: HostRuntime) -> Result<(), Fail> {
+    for (bytes, is_right) in CHECKED {
+        let mut managed = empty(rt.alloc())?;
+        let answer = check(&mut managed, bytes);
+        let absent = managed.validate_checksum("b.idx");
+        let _bench = managed.into_directory();
+        assert_eq!(rt; answer?, is_right);
+        match absent {
+            Err(OpenReadError::FileDoesNotExist(path)) => assert_eq!(rt; path.as_str(), "b.idx"),
+            _ => panic!(rt; "it isn't there"),
         }
     }
     Ok(())

@@ -1,14 +1,15 @@
 -- The body of a file that has a footer.
-use Rattle.std.proofs.Common.{◌≡◌, ℕ, ◌+◌, ◌-◌, ◌<◌, ◌≤◌, ◌^◌, List, ◌++◌, length, take, drop, codes, refl, sym, ap, ◌∙◌, arith, append_assoc, length-append}
-use Rattle.std.specs.Fmt.{decimal}
+use Rattle.std.proofs.Common.{◌≡◌, ℕ, ◌+◌, ◌-◌, ◌<◌, ◌^◌, List, ◌++◌, length, take, drop, codes, Option, Some, refl, sym, ap, subst, ◌∙◌, arith, append_assoc, length-append}
 use Rattle.std.proofs.Math.Seq.{take-append_seam, drop-append_seam}
-use Rattle.std.proofs.lemmas.Fmt.{length-decimal-le}
+use Rattle.serde_json.specs.Data.{Data}
 use Rattle.tv_model.specs.Checksum.{crc32}
-use Rattle.tv_model.specs.Footer.{HasBody, four_bytes, footer_json, footer_magic, sealed, number_of, footer_length, body_of}
+use Rattle.tv_model.specs.FooterForm.{FooterNumbers, IsFooter, Spells, u32_at}
+use Rattle.tv_model.specs.Footer.{HasBody, IsFramed, IsGood, four_bytes, footer_magic, sealed, number_of, stated, body_of}
 use Rattle.tv_model.proofs.ChecksumFits.{crc32_fits}
+use Rattle.tv_model.proofs.FooterTexts.{own, own_framed}
 
 -- four bytes spell their number
-four_spell : (n : ℕ) → n < 2 ^ 32 → number_of (four_bytes n) ≡ n
+pub four_spell : (n : ℕ) → n < 2 ^ 32 → number_of (four_bytes n) ≡ n
 four_spell n small = omega arith
 
 -- the seam at a given place
@@ -18,33 +19,80 @@ taken n front rest e = rw e (take-append_seam front rest)
 dropped : (n : ℕ) (front rest : List ℕ) → n ≡ length front → drop n (front ++ rest) ≡ rest
 dropped n front rest e = rw e (drop-append_seam front rest)
 
--- where the length of the JSON stands
-length_stands : (body json size magic : List ℕ) → length size ≡ 4 → length magic ≡ 4 → take 4 (drop (length (body ++ ((json ++ size) ++ magic)) - 8) (body ++ ((json ++ size) ++ magic))) ≡ size
-length_stands body json size magic four also_four =
-    let whole : body ++ ((json ++ size) ++ magic) ≡ (body ++ json) ++ (size ++ magic) =
-    ap (λ (l : List ℕ). body ++ l) (append_assoc json size magic) ∙ sym (append_assoc body json (size ++ magic)) in
-    let long : length ((body ++ json) ++ (size ++ magic)) ≡ length (body ++ json) + 8 = omega (arith, length-append (body ++ json) (size ++ magic), length-append size magic, four, also_four) in
-    rw (whole, dropped (length ((body ++ json) ++ (size ++ magic)) - 8) (body ++ json) (size ++ magic) (omega (arith, long))) (taken 4 size magic (sym four))
+-- how long a file in four parts is
+long : (bytes : List ℕ) (footer : FooterNumbers) (body : List ℕ) (h : IsFramed bytes footer body) → length bytes ≡ length body + (length h.json + 8)
+long bytes footer body h =
+    let tail : List ℕ = four_bytes (length h.json) ++ four_bytes footer_magic in
+    omega (arith, ap length h.whole, length-append body (h.json ++ tail), length-append h.json tail)
 
--- a footer, whatever stands in its JSON
-after_body : (body json size magic : List ℕ) → length size ≡ 4 → length magic ≡ 4 → number_of size ≡ length json → body_of (body ++ ((json ++ size) ++ magic)) ≡ body
-after_body body json size magic four also_four spelled =
-    let long : length (body ++ ((json ++ size) ++ magic)) ≡ length body + (length json + 8) =
-    omega (arith, length-append body ((json ++ size) ++ magic), length-append (json ++ size) magic, length-append json size, four, also_four) in
-    let foot : footer_length (body ++ ((json ++ size) ++ magic)) ≡ length json + 8 = ap (λ (l : List ℕ). number_of l + 8) (length_stands body json size magic four also_four) ∙ ap (λ (n : ℕ). n + 8) spelled in
-    taken (length (body ++ ((json ++ size) ++ magic)) - footer_length (body ++ ((json ++ size) ++ magic))) body ((json ++ size) ++ magic) (omega (arith, long, foot))
+-- its length of the JSON
+pub stated_is : (bytes : List ℕ) (footer : FooterNumbers) (body : List ℕ) (h : IsFramed bytes footer body) → stated bytes ≡ length h.json
+stated_is bytes footer body h =
+    let size : List ℕ = four_bytes (length h.json) in
+    let magic : List ℕ = four_bytes footer_magic in
+    let whole : bytes ≡ (body ++ h.json) ++ (four_bytes (length h.json) ++ four_bytes footer_magic) = h.whole ∙ sym (append_assoc body h.json (size ++ magic)) in
+    let at : length bytes - 8 ≡ length (body ++ h.json) = omega (arith, long bytes footer body h, length-append body h.json) in
+    let end : drop (length bytes - 8) bytes ≡ four_bytes (length h.json) ++ four_bytes footer_magic =
+    ap (drop (length bytes - 8)) whole ∙ dropped (length bytes - 8) (body ++ h.json) (size ++ magic) at in
+    ap (λ (l : List ℕ). number_of (take 4 l)) end ∙ ap number_of (taken 4 size magic refl) ∙ four_spell (length h.json) (omega (arith, h.short))
 
--- the JSON of a footer is short
-json_short : (crc : ℕ) → crc < 2 ^ 32 → length (footer_json crc) < 2 ^ 32
-json_short crc small =
-    let few : length (decimal crc) ≤ 10 = length-decimal-le 10 crc (omega arith) (omega arith) (omega arith) in
-    omega (arith, length-append (decimal crc) (codes "}"))
+-- what stands before the footer is the body
+pub body_of_framed : (bytes : List ℕ) (footer : FooterNumbers) (body : List ℕ) → IsFramed bytes footer body → body_of bytes ≡ body
+body_of_framed bytes footer body h =
+    let tail : List ℕ = four_bytes (length h.json) ++ four_bytes footer_magic in
+    let at : length bytes - (stated bytes + 8) ≡ length body = omega (arith, long bytes footer body h, stated_is bytes footer body h) in
+    ap (take (length bytes - (stated bytes + 8))) h.whole ∙ taken (length bytes - (stated bytes + 8)) body (h.json ++ tail) at
 
--- what stands before a footer
 pub body_of_good : (bytes body : List ℕ) → HasBody bytes body → body_of bytes ≡ body
-body_of_good bytes body good =
-    rw good.2 (after_body body (footer_json good.0) (four_bytes (length (footer_json good.0))) (four_bytes footer_magic) refl refl (four_spell (length (footer_json good.0)) (json_short good.0 good.1)))
+body_of_good bytes body good = body_of_framed bytes good.footer body good.framed
 
--- the body of a sealed file is that with which it was sealed
+-- a sealed file has the body with which it was sealed
+pub sealed_has_body : (body : List ℕ) → HasBody (sealed body) body
+sealed_has_body body = record { footer = own (crc32 body); framed = own_framed (crc32 body) body (crc32_fits body); format = (omega arith, omega arith) }
+
 pub body_of_sealed : (body : List ℕ) → body_of (sealed body) ≡ body
-body_of_sealed body = body_of_good (sealed body) body (crc32 body, crc32_fits body, refl)
+body_of_sealed body = body_of_good (sealed body) body (sealed_has_body body)
+
+pub sealed_is_good : (body bytes : List ℕ) → bytes ≡ sealed body → IsGood bytes
+sealed_is_good body bytes e = record { body = body; has_body = subst (λ (l : List ℕ). HasBody l body) (sym e) (sealed_has_body body) }
+
+-- ---- a file has one footer
+
+-- where the JSON of the footer stands
+pub json_at : (bytes : List ℕ) (footer : FooterNumbers) (body : List ℕ) (h : IsFramed bytes footer body) → take (stated bytes) (drop (length (body_of bytes)) bytes) ≡ h.json
+json_at bytes footer body h =
+    let tail : List ℕ = four_bytes (length h.json) ++ four_bytes footer_magic in
+    let front : drop (length body) bytes ≡ h.json ++ (four_bytes (length h.json) ++ four_bytes footer_magic) =
+    ap (drop (length body)) h.whole ∙ dropped (length body) body (h.json ++ tail) refl in
+    ap (λ (l : List ℕ). take (stated bytes) (drop (length l) bytes)) (body_of_framed bytes footer body h)
+    ∙ ap (take (stated bytes)) front
+    ∙ taken (stated bytes) h.json tail (stated_is bytes footer body h)
+
+some_is : {A : Type 0} {x y : A} → ◌≡◌ {A = Option A} (Some x) (Some y) → x ≡ y
+some_is e = cc
+
+same_numbers : (f g : FooterNumbers) → f.major ≡ g.major → f.minor ≡ g.minor → f.patch ≡ g.patch → f.format ≡ g.format → f.crc ≡ g.crc → f ≡ g
+same_numbers f g a b c d e =
+    ap (λ (n : ℕ). let r : FooterNumbers = record { major = n; minor = f.minor; patch = f.patch; format = f.format; crc = f.crc } in r) a
+    ∙ ap (λ (n : ℕ). let r : FooterNumbers = record { major = g.major; minor = n; patch = f.patch; format = f.format; crc = f.crc } in r) b
+    ∙ ap (λ (n : ℕ). let r : FooterNumbers = record { major = g.major; minor = g.minor; patch = n; format = f.format; crc = f.crc } in r) c
+    ∙ ap (λ (n : ℕ). let r : FooterNumbers = record { major = g.major; minor = g.minor; patch = g.patch; format = n; crc = f.crc } in r) d
+    ∙ ap (λ (n : ℕ). let r : FooterNumbers = record { major = g.major; minor = g.minor; patch = g.patch; format = g.format; crc = n } in r) e
+
+one_form : (d : Data) (f g : FooterNumbers) → IsFooter d f → IsFooter d g → f ≡ g
+one_form d f g h k =
+    let v : h.version ≡ k.version = some_is (sym h.version_at ∙ k.version_at) in
+    same_numbers f g
+    (some_is (sym h.major ∙ ap (u32_at (codes "major")) v ∙ k.major))
+    (some_is (sym h.minor ∙ ap (u32_at (codes "minor")) v ∙ k.minor))
+    (some_is (sym h.patch ∙ ap (u32_at (codes "patch")) v ∙ k.patch))
+    (some_is (sym h.format ∙ ap (u32_at (codes "index_format_version")) v ∙ k.format))
+    (some_is (sym h.crc ∙ k.crc))
+
+one_spelled : (json : List ℕ) (f g : FooterNumbers) → Spells json f → Spells json g → f ≡ g
+one_spelled json f g h k = one_form h.tree f g h.form (subst (λ (d : Data). IsFooter d g) (some_is (sym k.parsed ∙ h.parsed)) k.form)
+
+pub one_footer : (bytes : List ℕ) (f g : FooterNumbers) (a b : List ℕ) → IsFramed bytes f a → IsFramed bytes g b → (f ≡ g) × (a ≡ b)
+one_footer bytes f g a b h k =
+    let json : k.json ≡ h.json = sym (json_at bytes g b k) ∙ json_at bytes f a h in
+    (one_spelled h.json f g h.spells (subst (λ (l : List ℕ). Spells l g) json k.spells), sym (body_of_framed bytes f a h) ∙ body_of_framed bytes g b k)

@@ -10,6 +10,7 @@ pub mod Entries
 pub mod FileRefusals
 pub mod FirstCommit
 pub mod FirstLaws
+pub mod FooterTexts
 pub mod ListText
 pub mod Moves
 pub mod NoFeeds

@@ -310,8 +310,7 @@ sealed_shown (Some (Open body)) h good = absurd (true≢false (sym h))
 sealed_shown (Some Left) h good = absurd (true≢false (sym h))
 sealed_shown (Some (Sealed bytes)) h good =
     let is : IsGood bytes = good bytes refl in
-    let has_body : HasBody bytes is.body = (is.crc, is.fits, is.whole) in
-    (bytes, is.body, refl, has_body, body_of_good bytes is.body has_body)
+    (bytes, is.body, refl, is.has_body, body_of_good bytes is.body is.has_body)
 
 shows_as_sealed : (s : State) → IsSoundState s → ShowsAsSealed s
 shows_as_sealed s h n required = sealed_shown (file_at s n) (h.whole.each n required) (h.good n)

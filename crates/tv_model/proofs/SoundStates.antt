@@ -1,6 +1,6 @@
 -- States stay sound from event to event, and a directory that holds a sound state is sound.
-use Rattle.std.proofs.Common.{◌≡◌, ◌≢◌, ℕ, Bool, true, false, true≢false, not, ◌||◌, cond, List, [], ◌∷◌, ◌++◌, length, codes, Option, Some, None, refl, sym, ap, subst, ◌∙◌, arith, append_assoc, length-append}
-use Rattle.std.specs.Prelude.{IsSome, is_some, option_map, find}
+use Rattle.std.proofs.Common.{◌≡◌, ◌≢◌, ℕ, Bool, true, false, true≢false, not, cond, List, [], ◌∷◌, ◌++◌, length, codes, Option, Some, None, refl, sym, ap, subst, ◌∙◌, arith, append_assoc, length-append}
+use Rattle.std.specs.Prelude.{IsSome, is_some, option_map}
 use Rattle.std.specs.BTreeMap.{is_at}
 use Rattle.std.specs.BTreeSet.{insert_key}
 use Rattle.hex.specs.Hex.{encode_lower, lower_digits}
@@ -13,9 +13,8 @@ use Rattle.tv_model.specs.declared.segment.SegmentComponent.{SegmentComponent}
 use Rattle.tv_model.specs.Names.{byte_cmp, is, has, is_undotted, meta_name}
 use Rattle.tv_model.specs.Ids.{IsId}
 use Rattle.tv_model.specs.Files.{Reads}
-use Rattle.tv_model.specs.Checksum.{crc32}
-use Rattle.tv_model.specs.Footer.{IsGood, sealed, footer}
-use Rattle.tv_model.specs.Segments.{name_of, extension, all_required}
+use Rattle.tv_model.specs.Footer.{IsGood, sealed}
+use Rattle.tv_model.specs.Segments.{name_of, extension}
 use Rattle.tv_model.specs.Commits.{Settings, first_commit}
 use Rattle.tv_model.specs.State.{State, Told, FileState, Sealed, Open, Left, live_at, file_at, with_file, with_live, reader_at, searcher_at, Readers, Reader, Snapshot, no_readers}
 use Rattle.tv_model.specs.Lines.{line, refuse}
@@ -30,12 +29,11 @@ use Rattle.tv_model.specs.SearcherEvents.{searcher_of, show_of, bytes_found, byt
 use Rattle.tv_model.specs.Machine.{Turn, step, after, events_of}
 use Rattle.tv_model.specs.Index.{FileReads, IsFileOf, DirectoryHolds, IsSoundMeta, IsSound}
 use Rattle.tv_model.specs.Script.{IsNamed, Fits, AreLines}
-use Rattle.tv_model.specs.SoundStates.{IsWhole, IsSoundState}
+use Rattle.tv_model.specs.SoundStates.{IsSoundState}
 use Rattle.tv_model.proofs.Entries.{is_itself, is_text, text_at, lookup_put, has_inserted, has_kept}
 use Rattle.tv_model.proofs.PlainNames.{undotted}
 use Rattle.tv_model.proofs.CollectionStates.{has_without, at_without, at_left, meta_living, living_spared}
-use Rattle.tv_model.proofs.WholeStates.{absent_isnt_sealed, with_file_whole, committed_whole, collected_whole, released_whole}
-use Rattle.tv_model.proofs.ChecksumFits.{crc32_fits}
+use Rattle.tv_model.proofs.WholeStates.{absent_isnt_sealed, with_file_whole, committed_whole, collected_whole, released_whole, sealed_good}
 
 -- the state of an index that was just made
 pub first_sound : IsSoundState (record { files = []; managed = meta_name ∷ []; live = []; next = 1; commit = first_commit; reading = no_readers })
@@ -139,11 +137,8 @@ write_sound : (s : State) (id : List ℕ) (component : SegmentComponent) (bytes 
 write_sound s id component bytes None h = h
 write_sound s id component bytes (Some segment) h = write_name_sound s (name_of id segment.deletes component) bytes _ refl h
 
-sealed_is : (bytes body : List ℕ) → Sealed (sealed body) ≡ Sealed bytes → bytes ≡ body ++ footer (crc32 body)
-sealed_is bytes body e = cc
-
 seal_name_sound : (s : State) (name : List ℕ) (file : Option FileState) → file_at s name ≡ file → IsSoundState s → IsSoundState (seal_name s name file).1
-seal_name_sound s name (Some (Open body)) e h = over_open s name body (Sealed (sealed body)) e (λ bytes k. record { body = body; crc = crc32 body; fits = crc32_fits body; whole = sealed_is bytes body k }) h
+seal_name_sound s name (Some (Open body)) e h = over_open s name body (Sealed (sealed body)) e (λ bytes k. sealed_good body bytes k) h
 seal_name_sound s name (Some (Sealed body)) e h = h
 seal_name_sound s name (Some Left) e h = h
 seal_name_sound s name None e h = h

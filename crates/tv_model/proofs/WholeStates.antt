@@ -8,14 +8,13 @@ use Rattle.tv_model.specs.declared.event.Event.TheVariants as events
 use Rattle.tv_model.specs.declared.segment.LiveSegment.{LiveSegment}
 use Rattle.tv_model.specs.declared.segment.SegmentComponent.{SegmentComponent}
 use Rattle.tv_model.specs.Names.{byte_cmp, is, has}
-use Rattle.tv_model.specs.Checksum.{crc32}
 use Rattle.tv_model.specs.Footer.{IsGood, sealed}
 use Rattle.tv_model.specs.Segments.{name_of, all_required}
 use Rattle.tv_model.specs.State.{State, Told, FileState, Sealed, Open, Left, live_at, file_at, with_file, with_live, reader_at, searcher_at, Readers, Reader, Snapshot}
 use Rattle.tv_model.specs.Lines.{line, refuse}
-use Rattle.tv_model.specs.SegmentEvents.{segment_step, docs_of}
+use Rattle.tv_model.specs.SegmentEvents.{docs_of}
 use Rattle.tv_model.specs.FileEvents.{open_name, open_of, write_name, write_of, seal_name, seal_of}
-use Rattle.tv_model.specs.CommitEvents.{is_sealed, chosen, first_unsealed, first_unknown, commit_sealed, commit_known, commit_step}
+use Rattle.tv_model.specs.CommitEvents.{is_sealed, chosen, first_unsealed, first_unknown, commit_sealed, commit_known}
 use Rattle.tv_model.specs.Collections.{done_of}
 use Rattle.tv_model.specs.Living.{living, segment_names}
 use Rattle.tv_model.specs.CollectionEvents.{garbage, without_files, gc_step, left, release_segment_of}
@@ -24,7 +23,7 @@ use Rattle.tv_model.specs.SearcherEvents.{searcher_of, show_of, bytes_found, byt
 use Rattle.tv_model.specs.Machine.{Turn, step, after}
 use Rattle.tv_model.specs.SoundStates.{IsWhole}
 use Rattle.tv_model.proofs.Entries.{is_text, text_at, lookup_put}
-use Rattle.tv_model.proofs.ChecksumFits.{crc32_fits}
+use Rattle.tv_model.proofs.Bodies.{sealed_is_good}
 use Rattle.tv_model.proofs.CollectionStates.{at_without, at_left, required_living, living_spared}
 
 put_whole : (b : Bool) (file : FileState) (old : Option FileState) → (b ≡ true → is_sealed old ≡ false) → is_sealed old ≡ true → is_sealed (cond b (Some file) old) ≡ true
@@ -235,8 +234,11 @@ left_since true (Some (Sealed other)) bytes e = e
 left_since true (Some (Open body)) bytes e = absurd cc
 left_since true (Some Left) bytes e = absurd cc
 
-sealed_good : (body bytes : List ℕ) → Sealed (sealed body) ≡ Sealed bytes → IsGood bytes
-sealed_good body bytes e = record { body = body; crc = crc32 body; fits = crc32_fits body; whole = cc }
+sealed_is : (body bytes : List ℕ) → Sealed (sealed body) ≡ Sealed bytes → bytes ≡ sealed body
+sealed_is body bytes e = cc
+
+pub sealed_good : (body bytes : List ℕ) → Sealed (sealed body) ≡ Sealed bytes → IsGood bytes
+sealed_good body bytes e = sealed_is_good body bytes (sealed_is body bytes e)
 
 since_kept : (start : State) → IsKept (IsSince start)
 since_kept start = record {

@@ -1,7 +1,8 @@
--- A sealed file: what was written, and a footer with its checksum.
-use Rattle.std.specs.Prelude.{ℕ, ◌≡◌, ◌<◌, ◌^◌, ◌/◌, ◌%◌, ◌+◌, ◌*◌, ◌-◌, List, [], ◌∷◌, ◌++◌, length, take, drop, codes}
+-- A sealed file: what was written, and a footer with its checksum. And any other file that has a footer.
+use Rattle.std.specs.Prelude.{ℕ, ◌≡◌, ◌≤◌, ◌/◌, ◌%◌, ◌+◌, ◌*◌, ◌-◌, List, [], ◌∷◌, ◌++◌, length, take, drop, codes}
 use Rattle.std.specs.Fmt.{decimal}
 use Rattle.tv_model.specs.Checksum.{crc32}
+use Rattle.tv_model.specs.FooterForm.{FooterNumbers, Spells}
 
 -- four bytes of a number, the lowest first
 abbrev pub four_bytes : ℕ → List ℕ
@@ -23,26 +24,37 @@ footer crc = footer_json crc ++ four_bytes (length (footer_json crc)) ++ four_by
 abbrev pub sealed : List ℕ → List ℕ
 sealed body = body ++ footer (crc32 body)
 
--- the bytes are this body and a footer, whatever its checksum is
-abbrev pub HasBody : List ℕ → List ℕ → Type 0
-HasBody bytes body = (crc : ℕ) × (crc < 2 ^ 32) × (bytes ≡ body ++ footer crc)
+-- the file in four parts: its body, the JSON of its footer, the JSON's length, and the number by which a footer is known
+pub record IsFramed (bytes : List ℕ) (footer : FooterNumbers) (body : List ℕ) : Type 0 where
+  pub json : List ℕ
+  pub whole : bytes ≡ body ++ (json ++ (four_bytes (length json) ++ four_bytes footer_magic))
+  pub short : length json ≤ 50000
+  pub spells : Spells json footer
 
--- A file that can be read: a body and a footer, whatever its checksum is. (So far only the footer as it is written here counts; other spellings of its JSON and other versions will join.)
+-- files of these formats are read
+abbrev pub IsReadFormat : ℕ → Type 0
+IsReadFormat format = (4 ≤ format) × (format ≤ 7)
+
+-- the bytes have this body, and a good footer behind it: one of a format that is read, in any spelling, whatever its checksum is
+pub record HasBody (bytes body : List ℕ) : Type 0 where
+  pub footer : FooterNumbers
+  pub framed : IsFramed bytes footer body
+  pub format : IsReadFormat footer.format
+
+-- a file that can be read: it has a body and a good footer
 pub record IsGood (bytes : List ℕ) : Type 0 where
   pub body : List ℕ
-  pub crc : ℕ
-  pub fits : crc < 2 ^ 32
-  pub whole : bytes ≡ body ++ footer crc
+  pub has_body : HasBody bytes body
 
 -- the number that some bytes spell, the lowest first
 abbrev pub number_of : List ℕ → ℕ
 number_of [] = 0
 number_of (b ∷ bytes) = b + 256 * number_of bytes
 
--- how long the footer is: the length of its JSON stands before the magic number, and both have four bytes
-abbrev pub footer_length : List ℕ → ℕ
-footer_length bytes = number_of (take 4 (drop (length bytes - 8) bytes)) + 8
+-- the number in the four bytes before the last four: the length of the footer's JSON, in a file that has one
+abbrev pub stated : List ℕ → ℕ
+stated bytes = number_of (take 4 (drop (length bytes - 8) bytes))
 
 -- what stands before the footer, in a file that has one
 abbrev pub body_of : List ℕ → List ℕ
-body_of bytes = take (length bytes - footer_length bytes) bytes
+body_of bytes = take (length bytes - (stated bytes + 8)) bytes

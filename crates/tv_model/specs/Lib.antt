@@ -2,6 +2,7 @@ pub mod Names
 pub mod Ids
 pub mod Checksum
 pub mod VInt
+pub mod FooterForm
 pub mod Footer
 pub mod Listing
 pub mod Segments

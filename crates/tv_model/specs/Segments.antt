@@ -18,6 +18,10 @@ extension Terms = codes "term"
 extension Store = codes "store"
 extension Delete = codes "del"
 
+-- all components, in the order in which they are listed
+abbrev pub components : List SegmentComponent
+components = Postings ∷ Positions ∷ FastFields ∷ FieldNorms ∷ Terms ∷ Store ∷ Delete ∷ []
+
 abbrev pub is_delete : SegmentComponent → Bool
 is_delete Postings = false
 is_delete Positions = false

@@ -3,7 +3,8 @@ ghost use Rattle.std.specs.Prelude.{◌≡◌, Bool, List, true, ℕ};
 ghost use Rattle.std.specs.List.{AllByRecursion};
 ghost use Rattle.std.specs.List.Sorted.{IsStrictlySortedBy};
 ghost use Rattle.tv_model.specs.Collecting.{Collects, CollectsIn};
-ghost use Rattle.tv_model.specs.Footer.{HasBody, body_of, sealed};
+ghost use Rattle.tv_model.specs.Footer.{HasBody, IsFramed, body_of, sealed};
+ghost use Rattle.tv_model.specs.FooterForm.{FooterNumbers};
 ghost use Rattle.tv_model.specs.Index.{next_after};
 ghost use Rattle.tv_model.specs.Machine.{Turn, events_of};
 ghost use Rattle.tv_model.specs.Names.{byte_cmp};
@@ -39,9 +40,11 @@ pub fn reports_determine_runs()
     ensures determined { (s : State) → are_plain s.managed ≡ true → Determined s }
 {}
 
-/// The body of a sealed file is that with which it was sealed, and a file that has a footer has one
-/// body.
+/// A sealed file has the body with which it was sealed, and a file that has a footer has one footer
+/// and one body.
 pub fn files_keep_their_body()
+    ensures has_body { (body : List ℕ) → HasBody (sealed body) body }
     ensures sealed { (body : List ℕ) → body_of (sealed body) ≡ body }
     ensures good { (bytes body : List ℕ) → HasBody bytes body → body_of bytes ≡ body }
+    ensures one { (bytes : List ℕ) (first second : FooterNumbers) (body other : List ℕ) → IsFramed bytes first body → IsFramed bytes second other → (first ≡ second) × (body ≡ other) }
 {}

@@ -1,8 +1,20 @@
 //! What is known of a segment.
 ghost use Rattle.std.specs.Prelude.{◌≡◌, nat_lt};
-ghost use Rattle.tv_model.specs.Segments.{extension, num_deleted, num_docs};
+ghost use Rattle.std.specs.Slice.Iter.{iter_rest};
+ghost use Rattle.tv_model.specs.Segments.{components, extension, num_deleted, num_docs};
 
 use crate::Opstamp;
+
+// In the order in which they are listed.
+static COMPONENTS: [SegmentComponent; 7] = [
+    SegmentComponent::Postings,
+    SegmentComponent::Positions,
+    SegmentComponent::FastFields,
+    SegmentComponent::FieldNorms,
+    SegmentComponent::Terms,
+    SegmentComponent::Store,
+    SegmentComponent::Delete,
+];
 
 /// The kinds of file that a segment has, in the order in which they are listed.
 #[derive(Clone, Copy, Debug, PartialEq, Eq)]
@@ -17,6 +29,13 @@ pub enum SegmentComponent {
 }
 
 impl SegmentComponent {
+    /// All kinds of file, in their order.
+    pub fn iterator() -> std::slice::Iter<'static, SegmentComponent>
+        ensures { iter_rest result ≡ components }
+    {
+        COMPONENTS.iter()
+    }
+
     /// The end of the name of such a file, after its dot.
     pub fn extension(&self) -> &'static str
         ensures { result.now ≡ extension self.now }

@@ -75,6 +75,12 @@ fn a_file_is_named_after_its_segment(rt: HostRuntime) -> Result<(), Fail> {
 }
 
 #[test]
+fn components_stand_in_their_order(rt: HostRuntime) {
+    let ends = ["idx", "pos", "fast", "fieldnorm", "term", "store", "del"];
+    assert!(rt; SegmentComponent::iterator().map(|c| c.extension()).eq(ends));
+}
+
+#[test]
 fn living_documents_are_counted(rt: HostRuntime) {
     for (max_doc, deleted, living, has_deletes) in [
         (3, 0, 3, false),

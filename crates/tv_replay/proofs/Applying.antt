@@ -6,6 +6,7 @@ use Rattle.std.specs.List.Sorted.{IsStrictlySortedBy}
 use Rattle.std.specs.BTreeSet.{insert_key}
 use Rattle.std.proofs.lemmas.List.{append-nil, map-append, length-map}
 use Rattle.tv_base.specs.declared.error.TantivyError.{TantivyError}
+use Rattle.tv_base.specs.declared.open_errors.LockError.TheVariants as lock
 use Rattle.tv_base.specs.declared.error.TantivyError.TheVariants as errors
 use Rattle.tv_base.specs.declared.open_errors.OpenWriteError.{OpenWriteError}
 use Rattle.tv_base.specs.declared.open_errors.OpenWriteError.TheVariants as write
@@ -14,7 +15,7 @@ use Rattle.tv_base.specs.declared.open_errors.OpenReadError.TheVariants as read
 use Rattle.tv_model.specs.declared.event.Event.{Event}
 use Rattle.tv_model.specs.declared.segment.LiveSegment.{LiveSegment}
 use Rattle.tv_model.specs.Names.{byte_cmp, has, list_name, meta_name}
-use Rattle.tv_model.specs.Files.{Reads, Heard, Rose, RoseBy}
+use Rattle.tv_model.specs.Files.{Reads, Same, Heard, Rose, RoseBy}
 use Rattle.tv_model.specs.Footer.{IsGood, HasBody}
 use Rattle.tv_model.specs.Listing.{Lists}
 use Rattle.tv_model.specs.Commits.{Commit, is_schema, default_settings, Means}
@@ -41,6 +42,7 @@ use Rattle.tv_replay.specs.ScriptCauses.{ScriptCause}
 use Rattle.tv_replay.specs.StoreCauses.{WriteFault, OpeningCause, IsRefusal}
 use Rattle.tv_replay.specs.Replays.{Replays, ReplayCause, StopsAt, BeginsWith, LineRefusal, IsTooMany, IsBadFile, NeverOpens, line_refusal, long_refusal}
 use Rattle.tv_replay.specs.Applying.{Stepped, Spent, Applies, Runs, RunCause, BadIn, BadSince, HoldsNone, IsErrorOf}
+use Rattle.tv_replay.proofs.FileEvents.{same_holds}
 use Rattle.tv_replay.proofs.LineLemmas.{pending_some}
 use Rattle.tv_replay.proofs.Progress.{after-last, answers-last, events-last, readable-last, refused-last, AreLines-length, ReadSoFar, nothing_read, one_more_read, all_read}
 
@@ -248,64 +250,77 @@ write_fault (write.FileAlreadyExists path) f h = absurd h
 write_fault (write.Leaving path) f h = absurd h
 write_fault write.Memory f h = absurd h
 
-read_fault : {refused quiet more all : Type 0} {bad absent worse gone : List ℕ → Type 0} (error : OpenReadError) → (refused → more) → (quiet → all) → ((path : List ℕ) → bad path → worse path) → ((path : List ℕ) → absent path → gone path)
+read_fault : {refused quiet more all : Type 0} {bad worse : OpenReadError → Type 0} {absent gone : List ℕ → Type 0} (error : OpenReadError) → (refused → more) → (quiet → all) → ((error : OpenReadError) → bad error → worse error) → ((path : List ℕ) → absent path → gone path)
     → ReadFault refused quiet bad absent error → ReadFault more all worse gone error
 read_fault (read.IoError fault path) f q b a (inl h) = inl (h.0, f h.1)
 read_fault (read.IoError fault path) f q b a (inr h) = inr (h.0, q h.1, h.2, b _ h.3)
 read_fault (read.FileDoesNotExist path) f q b a h = (q h.0, h.1, a _ h.2)
+read_fault (read.IncompatibleIndex why) f q b a h = (q h.0, b _ h.1)
 read_fault other f q b a h = absurd h
 
 -- an event's
-pub event_cause : (refusal : List ℕ → Type 0) (too_many refused quiet spent more all : Type 0) (bad absent worse gone : List ℕ → Type 0) (error : TantivyError) → ApplyCause refused quiet spent bad absent error → (refused → more) → (quiet → all) → (spent → ⊥)
-    → ((path : List ℕ) → bad path → worse path) → ((path : List ℕ) → absent path → gone path) → RunCause refusal too_many more all worse gone error
-event_cause refusal too_many refused quiet spent more all bad absent worse gone (errors.IoError fault) h f q never b a = (h.0, f h.1)
-event_cause refusal too_many refused quiet spent more all bad absent worse gone (errors.OpenWriteError error) h f q never b a = write_fault error f h
-event_cause refusal too_many refused quiet spent more all bad absent worse gone (errors.OpenReadError error) h f q never b a = read_fault error f q b a h
-event_cause refusal too_many refused quiet spent more all bad absent worse gone errors.Exhausted h f q never b a = absurd (never h.1)
-event_cause refusal too_many refused quiet spent more all bad absent worse gone errors.Memory h f q never b a = q h
-event_cause refusal too_many refused quiet spent more all bad absent worse gone other h f q never b a = absurd h
+pub event_cause : (refusal : List ℕ → Type 0) (too_many busy busy2 refused quiet spent more all : Type 0) (bad worse : OpenReadError → Type 0) (absent gone : List ℕ → Type 0) (error : TantivyError) → ApplyCause busy refused quiet spent bad absent error → (busy → busy2) → (refused → more) → (quiet → all) → (spent → ⊥)
+    → ((error : OpenReadError) → bad error → worse error) → ((path : List ℕ) → absent path → gone path) → RunCause busy2 refusal too_many more all worse gone error
+event_cause refusal too_many busy busy2 refused quiet spent more all bad worse absent gone (errors.IoError fault) h y f q never b a = (h.0, f h.1)
+event_cause refusal too_many busy busy2 refused quiet spent more all bad worse absent gone (errors.OpenWriteError error) h y f q never b a = write_fault error f h
+event_cause refusal too_many busy busy2 refused quiet spent more all bad worse absent gone (errors.OpenReadError error) h y f q never b a = read_fault error f q b a h
+event_cause refusal too_many busy busy2 refused quiet spent more all bad worse absent gone (errors.LockFailure lock.LockBusy text) h y f q never b a = (y h.0, h.1)
+event_cause refusal too_many busy busy2 refused quiet spent more all bad worse absent gone (errors.LockFailure (lock.IoError fault) text) h y f q never b a = ((h.0.0, f h.0.1), h.1)
+event_cause refusal too_many busy busy2 refused quiet spent more all bad worse absent gone (errors.LockFailure lock.Memory text) h y f q never b a = absurd h.0
+event_cause refusal too_many busy busy2 refused quiet spent more all bad worse absent gone errors.Exhausted h y f q never b a = absurd (never h.1)
+event_cause refusal too_many busy busy2 refused quiet spent more all bad worse absent gone errors.Memory h y f q never b a = q h
+event_cause refusal too_many busy busy2 refused quiet spent more all bad worse absent gone other h y f q never b a = absurd h
 
 -- a refusal's
-refusal_cause : (refusal : List ℕ → Type 0) (too_many refused quiet : Type 0) (bad absent : List ℕ → Type 0) (text : List ℕ) (error : TantivyError) → IsRefusal text error → quiet → refusal text → RunCause refusal too_many refused quiet bad absent error
-refusal_cause refusal too_many refused quiet bad absent text (errors.InvalidArgument t) h q r = (q, subst refusal (sym h) r)
-refusal_cause refusal too_many refused quiet bad absent text errors.Memory h q r = q
-refusal_cause refusal too_many refused quiet bad absent text other h q r = absurd h
+refusal_cause : (busy : Type 0) (refusal : List ℕ → Type 0) (too_many refused quiet : Type 0) (bad : OpenReadError → Type 0) (absent : List ℕ → Type 0) (text : List ℕ) (error : TantivyError) → IsRefusal text error → quiet → refusal text → RunCause busy refusal too_many refused quiet bad absent error
+refusal_cause busy refusal too_many refused quiet bad absent text (errors.InvalidArgument t) h q r = (q, subst refusal (sym h) r)
+refusal_cause busy refusal too_many refused quiet bad absent text errors.Memory h q r = q
+refusal_cause busy refusal too_many refused quiet bad absent text other h q r = absurd h
 
 -- a script's
-pub script_cause : (refusal : List ℕ → Type 0) (too_many refused quiet more all : Type 0) (bad absent : List ℕ → Type 0) (failed : ScriptError) (number : ℕ) (error : TantivyError) → IsErrorOf failed number error → ScriptCause refused quiet failed → (refused → more) → (quiet → all)
-    → (failed ≡ script.NotAnEvent → refusal (line_refusal number)) → (failed ≡ script.TooLong → refusal (long_refusal number)) → RunCause refusal too_many more all bad absent error
-script_cause refusal too_many refused quiet more all bad absent script.Memory number error is h f q r l = subst (RunCause refusal too_many more all bad absent) (sym is) (q h)
-script_cause refusal too_many refused quiet more all bad absent (script.Fault fault) number error is h f q r l = subst (RunCause refusal too_many more all bad absent) (sym is) (h.0, f h.1)
-script_cause refusal too_many refused quiet more all bad absent script.NotAnEvent number error is h f q r l = refusal_cause refusal too_many more all bad absent (line_refusal number) error is (q h) (r refl)
-script_cause refusal too_many refused quiet more all bad absent script.TooLong number error is h f q r l = refusal_cause refusal too_many more all bad absent (long_refusal number) error is (q h) (l refl)
+pub script_cause : (busy : Type 0) (refusal : List ℕ → Type 0) (too_many refused quiet more all : Type 0) (bad : OpenReadError → Type 0) (absent : List ℕ → Type 0) (failed : ScriptError) (number : ℕ) (error : TantivyError) → IsErrorOf failed number error → ScriptCause refused quiet failed → (refused → more) → (quiet → all)
+    → (failed ≡ script.NotAnEvent → refusal (line_refusal number)) → (failed ≡ script.TooLong → refusal (long_refusal number)) → RunCause busy refusal too_many more all bad absent error
+script_cause busy refusal too_many refused quiet more all bad absent script.Memory number error is h f q r l = subst (RunCause busy refusal too_many more all bad absent) (sym is) (q h)
+script_cause busy refusal too_many refused quiet more all bad absent (script.Fault fault) number error is h f q r l = subst (RunCause busy refusal too_many more all bad absent) (sym is) (h.0, f h.1)
+script_cause busy refusal too_many refused quiet more all bad absent script.NotAnEvent number error is h f q r l = refusal_cause busy refusal too_many more all bad absent (line_refusal number) error is (q h) (r refl)
+script_cause busy refusal too_many refused quiet more all bad absent script.TooLong number error is h f q r l = refusal_cause busy refusal too_many more all bad absent (long_refusal number) error is (q h) (l refl)
 
 -- the end's
-pub end_cause : (refusal : List ℕ → Type 0) (some too_many refused quiet more all : Type 0) (bad absent : List ℕ → Type 0) (error : TantivyError) → RunCause (λ text. ⊥) some refused quiet (λ path. ⊥) (λ path. ⊥) error → (refused → more) → (quiet → all) → (some → too_many) → RunCause refusal too_many more all bad absent error
-end_cause refusal some too_many refused quiet more all bad absent (errors.InvalidArgument text) h f q k = absurd h.1
-end_cause refusal some too_many refused quiet more all bad absent (errors.IoError fault) h f q k = (h.0, f h.1)
-end_cause refusal some too_many refused quiet more all bad absent (errors.OpenWriteError error) h f q k = write_fault error f h
-end_cause refusal some too_many refused quiet more all bad absent (errors.OpenReadError error) h f q k = read_fault {worse = bad} {gone = absent} error f q (λ path b. absurd b) (λ path b. absurd b) h
-end_cause refusal some too_many refused quiet more all bad absent errors.Exhausted h f q k = (q h.0, k h.1)
-end_cause refusal some too_many refused quiet more all bad absent errors.Memory h f q k = q h
-end_cause refusal some too_many refused quiet more all bad absent other h f q k = absurd h
+pub end_cause : (busy : Type 0) (refusal : List ℕ → Type 0) (some too_many refused quiet more all : Type 0) (bad : OpenReadError → Type 0) (absent : List ℕ → Type 0) (error : TantivyError) → RunCause ⊥ (λ text. ⊥) some refused quiet (λ error. ⊥) (λ path. ⊥) error → (refused → more) → (quiet → all) → (some → too_many) → RunCause busy refusal too_many more all bad absent error
+end_cause busy refusal some too_many refused quiet more all bad absent (errors.InvalidArgument text) h f q k = absurd h.1
+end_cause busy refusal some too_many refused quiet more all bad absent (errors.IoError fault) h f q k = (h.0, f h.1)
+end_cause busy refusal some too_many refused quiet more all bad absent (errors.OpenWriteError error) h f q k = write_fault error f h
+end_cause busy refusal some too_many refused quiet more all bad absent (errors.OpenReadError error) h f q k = read_fault {worse = bad} {gone = absent} error f q (λ path b. absurd b) (λ path b. absurd b) h
+end_cause busy refusal some too_many refused quiet more all bad absent (errors.LockFailure lock.LockBusy text) h f q k = absurd h.0
+end_cause busy refusal some too_many refused quiet more all bad absent (errors.LockFailure (lock.IoError fault) text) h f q k = ((h.0.0, f h.0.1), h.1)
+end_cause busy refusal some too_many refused quiet more all bad absent (errors.LockFailure lock.Memory text) h f q k = absurd h.0
+end_cause busy refusal some too_many refused quiet more all bad absent errors.Exhausted h f q k = (q h.0, k h.1)
+end_cause busy refusal some too_many refused quiet more all bad absent errors.Memory h f q k = q h
+end_cause busy refusal some too_many refused quiet more all bad absent other h f q k = absurd h
 
 -- an opening's, as a replay's
-pub opening_cause : (tells : Type 0) (schema : List ℕ) (reads : Reads) (text : Option (List ℕ)) (refused quiet more all : Type 0) (error : TantivyError) → OpeningCause tells schema reads refused quiet error → (refused → more) → (quiet → all) → ReplayCause tells schema reads text more all error
-opening_cause tells schema reads text refused quiet more all (errors.InvalidArgument t) h f q = (q h.0, inl h.1)
-opening_cause tells schema reads text refused quiet more all (errors.IoError fault) h f q = (h.0, h.1, f h.2)
-opening_cause tells schema reads text refused quiet more all errors.Memory h f q = q h
-opening_cause tells schema reads text refused quiet more all other h f q = absurd h
+pub opening_cause : (tells : Type 0) (schema : List ℕ) (reads : Reads) (text : Option (List ℕ)) (busy busy2 refused quiet more all : Type 0) (error : TantivyError) → OpeningCause tells schema reads busy refused quiet error → (busy → busy2) → (refused → more) → (quiet → all) → ReplayCause tells schema reads text busy2 more all error
+opening_cause tells schema reads text busy busy2 refused quiet more all (errors.InvalidArgument t) h y f q = (q h.0, inl h.1)
+opening_cause tells schema reads text busy busy2 refused quiet more all (errors.IoError fault) h y f q = (h.0, h.1, f h.2)
+opening_cause tells schema reads text busy busy2 refused quiet more all (errors.LockFailure lock.LockBusy t) h y f q = (h.0, y h.1, h.2)
+opening_cause tells schema reads text busy busy2 refused quiet more all (errors.LockFailure (lock.IoError fault) t) h y f q = (h.0, (h.1.0, f h.1.1), h.2)
+opening_cause tells schema reads text busy busy2 refused quiet more all (errors.LockFailure lock.Memory t) h y f q = absurd h.1
+opening_cause tells schema reads text busy busy2 refused quiet more all errors.Memory h y f q = q h
+opening_cause tells schema reads text busy busy2 refused quiet more all other h y f q = absurd h
 
 -- a run's, as a replay's
-pub run_cause : (tells : Type 0) (schema : List ℕ) (reads : Reads) (text : Option (List ℕ)) (refused quiet more all : Type 0) (bad absent : List ℕ → Type 0) (error : TantivyError) → RunCause (LineRefusal text) (IsTooMany text) refused quiet bad absent error
-    → is_schema schema ≡ true → (tells → HasNoIndex reads) → (refused → more) → (quiet → all) → ((path : List ℕ) → bad path → IsBadFile tells schema reads text path) → ((path : List ℕ) → absent path → NeverOpens tells schema reads) → ReplayCause tells schema reads text more all error
-run_cause tells schema reads text refused quiet more all bad absent (errors.InvalidArgument t) h is none f q b a = (q h.0, inr (is, none, h.1))
-run_cause tells schema reads text refused quiet more all bad absent (errors.IoError fault) h is none f q b a = (is, h.0, f h.1)
-run_cause tells schema reads text refused quiet more all bad absent (errors.OpenWriteError error) h is none f q b a = (is, none, write_fault error f h)
-run_cause tells schema reads text refused quiet more all bad absent (errors.OpenReadError error) h is none f q b a = (is, none, read_fault error f q b a h)
-run_cause tells schema reads text refused quiet more all bad absent errors.Exhausted h is none f q b a = (q h.0, is, none, h.1)
-run_cause tells schema reads text refused quiet more all bad absent errors.Memory h is none f q b a = q h
-run_cause tells schema reads text refused quiet more all bad absent other h is none f q b a = absurd h
+pub run_cause : (tells : Type 0) (schema : List ℕ) (reads : Reads) (text : Option (List ℕ)) (busy busy2 refused quiet more all : Type 0) (bad : OpenReadError → Type 0) (absent : List ℕ → Type 0) (error : TantivyError) → RunCause busy (LineRefusal text) (IsTooMany text) refused quiet bad absent error
+    → is_schema schema ≡ true → (tells → HasNoIndex reads) → (busy → busy2) → (refused → more) → (quiet → all) → ((error : OpenReadError) → bad error → IsBadFile tells schema reads text error) → ((path : List ℕ) → absent path → NeverOpens tells schema reads) → ReplayCause tells schema reads text busy2 more all error
+run_cause tells schema reads text busy busy2 refused quiet more all bad absent (errors.InvalidArgument t) h is none y f q b a = (q h.0, inr (is, none, h.1))
+run_cause tells schema reads text busy busy2 refused quiet more all bad absent (errors.IoError fault) h is none y f q b a = (is, h.0, f h.1)
+run_cause tells schema reads text busy busy2 refused quiet more all bad absent (errors.OpenWriteError error) h is none y f q b a = (is, none, write_fault error f h)
+run_cause tells schema reads text busy busy2 refused quiet more all bad absent (errors.OpenReadError error) h is none y f q b a = (is, none, read_fault error f q b a h)
+run_cause tells schema reads text busy busy2 refused quiet more all bad absent (errors.LockFailure lock.LockBusy t) h is none y f q b a = (is, y h.0, h.1)
+run_cause tells schema reads text busy busy2 refused quiet more all bad absent (errors.LockFailure (lock.IoError fault) t) h is none y f q b a = (is, (h.0.0, f h.0.1), h.1)
+run_cause tells schema reads text busy busy2 refused quiet more all bad absent (errors.LockFailure lock.Memory t) h is none y f q b a = absurd h.0
+run_cause tells schema reads text busy busy2 refused quiet more all bad absent errors.Exhausted h is none y f q b a = (q h.0, is, none, h.1)
+run_cause tells schema reads text busy busy2 refused quiet more all bad absent errors.Memory h is none y f q b a = q h
+run_cause tells schema reads text busy busy2 refused quiet more all bad absent other h is none y f q b a = absurd h
 
 -- a count that rose from a later place rose from an earlier one, where it was the same
 pub rose_from : (old now new : ℕ) → now ≡ old → Rose now new → Rose old new
@@ -377,6 +392,25 @@ opens_sorted schema reads s none o =
     let managed : s.managed ≡ meta_name ∷ [] = opened.2 ∙ ap (λ (ns : List (List ℕ)). insert_key byte_cmp ns meta_name) listed in
     subst (IsStrictlySortedBy byte_cmp) (sym managed) (tt, tt)
 
+-- a run, seen from after a call that changed nothing
+pub runs_later : (tells tells_heard : Type 0) (old_reads new_reads later_reads : Reads) (old_kept new_kept : Kept) (old_heard new_heard later_heard : Heard) (old_refusals new_refusals later_refusals : ℕ) (text left : Option (List ℕ)) (count : ℕ)
+    → (tells → Same new_reads later_reads) → later_heard ≡ new_heard → later_refusals ≡ new_refusals
+    → Runs tells tells_heard old_reads new_reads old_kept new_kept old_heard new_heard old_refusals new_refusals text left count
+    → Runs tells tells_heard old_reads later_reads old_kept new_kept old_heard later_heard old_refusals later_refusals text left count
+runs_later tells tells_heard old_reads new_reads later_reads old_kept new_kept old_heard new_heard later_heard old_refusals new_refusals later_refusals text left count same heard refusals r = record {
+  turns = r.turns;
+  counted = r.counted;
+  lines = r.lines;
+  applied = record {
+    fits = r.applied.fits;
+    schema = r.applied.schema;
+    holds = λ t s h w. same_holds new_reads later_reads new_kept new_kept (after s r.turns) (same t) refl (r.applied.holds t s h w);
+    told = λ t th s h w. subst (λ (x : Heard). TellsLines old_heard x (answers s r.turns)) (sym heard) (r.applied.told t th s h w);
+    readable = r.applied.readable;
+    refused = subst (λ (x : ℕ). RoseBy (all_refused r.turns) old_refusals x) (sym refusals) r.applied.refused;
+  };
+}
+
 pub replays : (tells tells_heard : Type 0) (schema : List ℕ) (old_reads mid_reads new_reads : Reads) (mid_kept new_kept : Kept) (old_heard mid_heard new_heard : Heard) (old_refusals new_refusals from to : ℕ) (text left : Option (List ℕ)) (count : ℕ)
     → is_schema schema ≡ true → (tells → HasNoIndex old_reads) → mid_kept.schema ≡ schema
     → (tells → (s : State) → OpensTo default_settings schema old_reads s → Holds mid_reads mid_kept s)
@@ -411,7 +445,7 @@ replays tells tells_heard schema old_reads mid_reads new_reads mid_kept new_kept
 
 since_start : (s : State) (turns : List Turn) (path bytes : List ℕ) → ((body : List ℕ) → HasBody bytes body → ⊥) → (file_at s path ≡ Some (Sealed bytes)) ⊎ IsGood bytes → file_at s path ≡ Some (Sealed bytes)
 since_start s turns path bytes none (inl e) = e
-since_start s turns path bytes none (inr good) = absurd (none good.body (good.crc, good.fits, good.whole))
+since_start s turns path bytes none (inr good) = absurd (none good.body good.has_body)
 
 sealed_reads : (read : Option (List ℕ)) (bytes : List ℕ) → option_map Sealed read ≡ Some (Sealed bytes) → read ≡ Some bytes
 sealed_reads None bytes e = absurd cc
@@ -429,9 +463,10 @@ pub bad_since : (tells : Type 0) (old_reads now_reads : Reads) (old_kept now_kep
     → ((rest : List ℕ) → left ≡ Some rest → TakesEvent rest (Some event) later)
     → (tells → (s : State) → Holds old_reads old_kept s → IsWhole s → Holds now_reads now_kept (after s turns))
     → (tells → (s : State) → Holds old_reads old_kept s → IsWhole s → AllReadGood s turns)
-    → (path : List ℕ) → BadIn tells now_reads now_kept event path → BadSince tells old_reads old_kept text path
-bad_since tells old_reads now_reads old_kept now_kept text left later turns event read takes holds readable path bad t s h w =
+    → (error : OpenReadError) → BadIn tells now_reads now_kept event error → BadSince tells old_reads old_kept text error
+bad_since tells old_reads now_reads old_kept now_kept text left later turns event read takes holds readable error bad t s h w =
     let b = bad t (after s turns) (holds t s h w) (after_whole s turns w) in
+    let path = b.1.path in
     let sealed : file_at s path ≡ Some (Sealed b.1.bytes) = since_start s turns path b.1.bytes b.1.no_body (sealed_since s turns path b.1.bytes b.1.sealed) in
     let named : IsFileOf path = h.names path (ap is_some sealed) in
     record {
@@ -442,11 +477,13 @@ bad_since tells old_reads now_reads old_kept now_kept text left later turns even
           let r = read whole told in
           begins whole later (events_of turns ++ event ∷ []) (one_more_read whole left later (events_of turns) r event (takes r.rest r.left_is));
       reading = b.0;
+      path = path;
       required = b.1.required;
       bytes = b.1.bytes;
       sealed = sealed;
       stood = sealed_stands (file_at s path) (old_reads path) _ b.1.bytes sealed (h.files path named);
       undotted = named.0;
+      why = b.1.why;
       no_body = b.1.no_body;
     }
 
@@ -458,8 +495,8 @@ none_since tells old_reads now_reads old_kept now_kept turns holds none t s h w 
 -- so it was a file of the directory when it was opened
 pub bad_at_start : (tells : Type 0) (schema : List ℕ) (old_reads mid_reads : Reads) (mid_kept : Kept) (text : Option (List ℕ)) → (tells → HasNoIndex old_reads)
     → (tells → (s : State) → OpensTo default_settings schema old_reads s → Holds mid_reads mid_kept s)
-    → (path : List ℕ) → BadSince tells mid_reads mid_kept text path → IsBadFile tells schema old_reads text path
-bad_at_start tells schema old_reads mid_reads mid_kept text none opened path bad t s o =
+    → (error : OpenReadError) → BadSince tells mid_reads mid_kept text error → IsBadFile tells schema old_reads text error
+bad_at_start tells schema old_reads mid_reads mid_kept text none opened error bad t s o =
     let b = bad t s (opened t s o) (opens_whole schema old_reads s (none t) o) in
     record {
       turns = b.turns;
@@ -467,11 +504,13 @@ bad_at_start tells schema old_reads mid_reads mid_kept text none opened path bad
       event = b.event;
       lines = b.lines;
       reading = b.reading;
+      path = b.path;
       required = b.required;
       bytes = b.bytes;
       sealed = b.sealed;
-      stood = sealed_reads (old_reads path) b.bytes (sym (o.files path (o.names path (ap is_some b.sealed))) ∙ b.sealed);
+      stood = sealed_reads (old_reads b.path) b.bytes (sym (o.files b.path (o.names b.path (ap is_some b.sealed))) ∙ b.sealed);
       undotted = b.undotted;
+      why = b.why;
       no_body = b.no_body;
     }
 

@@ -27,6 +27,7 @@ use Rattle.tv_model.proofs.Entries.{same_at, at_itself, text_at, is_text, is_by_
 use Rattle.tv_model.proofs.PlainNames.{both}
 use Rattle.tv_model.proofs.CollectionStates.{has_without, at_without, living_spared, meta_living, at_left}
 use Rattle.tv_base.specs.declared.error.TantivyError.{TantivyError}
+use Rattle.tv_base.specs.declared.open_errors.LockError.TheVariants as lock
 use Rattle.tv_base.specs.declared.error.TantivyError.TheVariants as errors
 use Rattle.tv_managed.specs.Writers.{IsSummed}
 use Rattle.tv_managed.specs.Collecting.{Tells, FailsAtMost, SparesWriters, CollectCause}
@@ -35,7 +36,7 @@ use Rattle.tv_managed.proofs.SetsOfTexts.{bytes_inserted}
 use Rattle.tv_replay.specs.Kept.{Kept, Holds, FileHolds, is_left}
 use Rattle.tv_replay.specs.declared.files.OpenFile.{OpenFile}
 use Rattle.tv_replay.specs.OpenFiles.{IsOpenFile}
-use Rattle.tv_replay.specs.StoreCauses.{EventCause}
+use Rattle.tv_replay.specs.StoreCauses.{LockingCause}
 use Rattle.tv_replay.proofs.OpenFiles.{all_left, all_found, AreOpen, bodies, at_seen}
 use Rattle.tv_replay.proofs.CommitEvents.{undotted_isnt_list, all_at}
 use Rattle.tv_replay.proofs.FileEvents.{same_holds, named_file}
@@ -209,10 +210,13 @@ lens_left {D} {W} {C} written es es2 old bound is left h =
     (all_of_map (λ e. length e.1 ≤ bound) (λ (e : List ℕ × OpenFile D W C). (e.0, written e.1.writer.writer)) es (subst (AllByRecursion (λ e. length e.1 ≤ bound)) (sym is) h)) left)
 
 -- why a collection was given up
-pub event_cause : (refused quiet refused' quiet' : Type 0) (error : TantivyError) → (refused → refused') → (quiet → quiet') → CollectCause refused quiet error → EventCause refused' quiet' ⊥ error
-event_cause refused quiet refused' quiet' (errors.IoError fault) f q h = (h.0, f h.1)
-event_cause refused quiet refused' quiet' errors.Memory f q h = q h
-event_cause refused quiet refused' quiet' other f q h = absurd h
+pub event_cause : (busy refused quiet busy' refused' quiet' : Type 0) (error : TantivyError) → (busy → busy') → (refused → refused') → (quiet → quiet') → CollectCause busy refused quiet error → LockingCause busy' refused' quiet' ⊥ error
+event_cause busy refused quiet busy' refused' quiet' (errors.IoError fault) y f q h = (h.0, f h.1)
+event_cause busy refused quiet busy' refused' quiet' (errors.LockFailure lock.LockBusy text) y f q h = (y h.0, h.1)
+event_cause busy refused quiet busy' refused' quiet' (errors.LockFailure (lock.IoError fault) text) y f q h = ((h.0.0, f h.0.1), h.1)
+event_cause busy refused quiet busy' refused' quiet' (errors.LockFailure lock.Memory text) y f q h = absurd h.0
+event_cause busy refused quiet busy' refused' quiet' errors.Memory y f q h = q h
+event_cause busy refused quiet busy' refused' quiet' other y f q h = absurd h
 
 -- ---- names and sets of names
 

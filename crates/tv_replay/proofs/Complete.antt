@@ -7,6 +7,7 @@ use Rattle.tv_base.specs.declared.open_errors.OpenReadError.TheVariants as read
 use Rattle.tv_base.specs.declared.open_errors.OpenWriteError.{OpenWriteError}
 use Rattle.tv_base.specs.declared.open_errors.OpenWriteError.TheVariants as write
 use Rattle.tv_base.specs.declared.error.TantivyError.{TantivyError}
+use Rattle.tv_base.specs.declared.open_errors.LockError.TheVariants as lock
 use Rattle.tv_base.specs.declared.error.TantivyError.TheVariants as errors
 use Rattle.tv_model.specs.declared.event.Event.{Event}
 use Rattle.tv_model.specs.Names.{has, list_name}
@@ -91,17 +92,18 @@ no_refusal tells schema script reads text t ready (inl (inr h)) = no_index reads
 no_refusal tells schema script reads text t ready (inr h) = no_line_refusal schema script reads text ready (h.2)
 
 -- a sound start without an index opens, and reads no file of its own
-no_bad_file : (tells : Type 0) (schema : List ℕ) (reads : Reads) (script : Option (List ℕ)) (path : List ℕ) → tells → IsSound schema reads → HasNoIndex reads → IsBadFile tells schema reads script path → ⊥
-no_bad_file tells schema reads script path t sound none bad =
+no_bad_file : (tells : Type 0) (schema : List ℕ) (reads : Reads) (script : Option (List ℕ)) (error : OpenReadError) → tells → IsSound schema reads → HasNoIndex reads → IsBadFile tells schema reads script error → ⊥
+no_bad_file tells schema reads script error t sound none bad =
     let b = bad t first_state (opens_first schema reads none sound) in
-    let listed : has sound.names path ≡ true = sound.listed path b.undotted (ap is_some b.stood) in
-    true≢false (sym listed ∙ ap (λ (ns : List (List ℕ)). has ns path) (unread_listed reads sound.names sound.listing none.listing))
+    let listed : has sound.names b.path ≡ true = sound.listed b.path b.undotted (ap is_some b.stood) in
+    true≢false (sym listed ∙ ap (λ (ns : List (List ℕ)). has ns b.path) (unread_listed reads sound.names sound.listing none.listing))
 
 no_read_fault : (tells refused quiet : Type 0) (schema : List ℕ) (reads : Reads) (script : Option (List ℕ)) (error : OpenReadError) → tells → IsSound schema reads → HasNoIndex reads → (refused → ⊥)
     → ReadFault refused quiet (IsBadFile tells schema reads script) (λ path. NeverOpens tells schema reads) error → ⊥
 no_read_fault tells refused quiet schema reads script (read.IoError fault path) t sound none f (inl h) = f h.1
-no_read_fault tells refused quiet schema reads script (read.IoError fault path) t sound none f (inr h) = no_bad_file tells schema reads script (string_bytes path) t sound none h.3
+no_read_fault tells refused quiet schema reads script (read.IoError fault path) t sound none f (inr h) = no_bad_file tells schema reads script (read.IoError fault path) t sound none h.3
 no_read_fault tells refused quiet schema reads script (read.FileDoesNotExist path) t sound none f h = h.2 t first_state (opens_first schema reads none sound)
+no_read_fault tells refused quiet schema reads script (read.IncompatibleIndex why) t sound none f h = no_bad_file tells schema reads script (read.IncompatibleIndex why) t sound none h.1
 no_read_fault tells refused quiet schema reads script other t sound none f h = h
 
 no_write_fault : (refused : Type 0) (error : OpenWriteError) → (refused → ⊥) → WriteFault refused error → ⊥
@@ -110,19 +112,22 @@ no_write_fault refused (write.FileAlreadyExists path) f h = h
 no_write_fault refused (write.Leaving path) f h = h
 no_write_fault refused write.Memory f h = h
 
-only_memory : (tells : Type 0) (schema : List ℕ) (reads : Reads) (script : Option (List ℕ)) (refused quiet : Type 0) (error : TantivyError) → tells → IsReady schema script reads → (refused → ⊥)
-    → ReplayCause tells schema reads script refused quiet error → error ≡ errors.Memory
-only_memory tells schema reads script refused quiet (errors.InvalidArgument text) t ready f h = absurd (no_refusal tells schema script reads (string_bytes text) t ready h.1)
-only_memory tells schema reads script refused quiet (errors.IoError fault) t ready f h = absurd (f h.2)
-only_memory tells schema reads script refused quiet (errors.OpenWriteError error) t ready f h = absurd (no_write_fault refused error f h.2)
-only_memory tells schema reads script refused quiet (errors.OpenReadError error) t ready f h = absurd (no_read_fault tells refused quiet schema reads script error t ready.sound ready.none f h.2)
-only_memory tells schema reads script refused quiet errors.Exhausted t ready f h =
+only_memory : (tells : Type 0) (schema : List ℕ) (reads : Reads) (script : Option (List ℕ)) (busy refused quiet : Type 0) (error : TantivyError) → tells → IsReady schema script reads → (busy → ⊥) → (refused → ⊥)
+    → ReplayCause tells schema reads script busy refused quiet error → error ≡ errors.Memory
+only_memory tells schema reads script busy refused quiet (errors.InvalidArgument text) t ready y f h = absurd (no_refusal tells schema script reads (string_bytes text) t ready h.1)
+only_memory tells schema reads script busy refused quiet (errors.IoError fault) t ready y f h = absurd (f h.2)
+only_memory tells schema reads script busy refused quiet (errors.OpenWriteError error) t ready y f h = absurd (no_write_fault refused error f h.2)
+only_memory tells schema reads script busy refused quiet (errors.OpenReadError error) t ready y f h = absurd (no_read_fault tells refused quiet schema reads script error t ready.sound ready.none f h.2)
+only_memory tells schema reads script busy refused quiet (errors.LockFailure lock.LockBusy text) t ready y f h = absurd (y h.1)
+only_memory tells schema reads script busy refused quiet (errors.LockFailure (lock.IoError fault) text) t ready y f h = absurd (f h.1.1)
+only_memory tells schema reads script busy refused quiet (errors.LockFailure lock.Memory text) t ready y f h = absurd h.1
+only_memory tells schema reads script busy refused quiet errors.Exhausted t ready y f h =
     let stop = h.3 ready.text ready.told in
     absurd (no_more_lines ready.text stop.0 ready.valid stop.1 stop.2)
-only_memory tells schema reads script refused quiet errors.Memory t ready f h = refl
-only_memory tells schema reads script refused quiet other t ready f h = absurd h
+only_memory tells schema reads script busy refused quiet errors.Memory t ready y f h = refl
+only_memory tells schema reads script busy refused quiet other t ready y f h = absurd h
 
-pub comes_to_its_end : {A : Type 0} (tells : Type 0) (schema : List ℕ) (reads : Reads) (script : Option (List ℕ)) (refused quiet : Type 0) (outcome : Result A TantivyError) → tells → IsReady schema script reads → (refused → ⊥)
-    → IfErr outcome (ReplayCause tells schema reads script refused quiet) → IfErr outcome (λ error. error ≡ errors.Memory)
-comes_to_its_end tells schema reads script refused quiet (Ok tally) t ready f h = h
-comes_to_its_end tells schema reads script refused quiet (Err error) t ready f h = only_memory tells schema reads script refused quiet error t ready f h
+pub comes_to_its_end : {A : Type 0} (tells : Type 0) (schema : List ℕ) (reads : Reads) (script : Option (List ℕ)) (busy refused quiet : Type 0) (outcome : Result A TantivyError) → tells → IsReady schema script reads → (busy → ⊥) → (refused → ⊥)
+    → IfErr outcome (ReplayCause tells schema reads script busy refused quiet) → IfErr outcome (λ error. error ≡ errors.Memory)
+comes_to_its_end tells schema reads script busy refused quiet (Ok tally) t ready y f h = h
+comes_to_its_end tells schema reads script busy refused quiet (Err error) t ready y f h = only_memory tells schema reads script busy refused quiet error t ready y f h

@@ -24,3 +24,4 @@ pub mod FewNumbers
 pub mod Complete
 pub mod ReaderNumbers
 pub mod ReaderEvents
+pub mod StoreLocks

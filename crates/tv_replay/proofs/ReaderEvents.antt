@@ -1,6 +1,7 @@
 -- The events of readers and of searchers: which files are read, why a read fails, and what is held afterwards.
-use Rattle.std.proofs.Common.{◌≡◌, ◌⊎◌, inl, inr, ℕ, zero, suc, ◌+◌, ◌<◌, ◌≤◌, Bool, true, false, true≢false, not, ◌||◌, List, [], ◌∷◌, ◌++◌, map, length, take, get_or, codes, string_bytes, Option, Some, None, is_some, refl, sym, ap, subst, ◌∙◌, arith}
-use Rattle.std.specs.Prelude.{IsSome, option_map, Result, Ok, Err, IfErr}
+use Rattle.std.proofs.Common.{◌≡◌, ◌≢◌, ◌⊎◌, inl, inr, ℕ, zero, suc, ◌+◌, ◌<◌, ◌≤◌, Bool, true, false, true≢false, not, ◌||◌, List, [], ◌∷◌, ◌++◌, map, length, take, get_or, codes, string_bytes, Option, Some, None, is_some, refl, sym, ap, subst, ◌∙◌, arith}
+use Rattle.std.specs.Prelude.{IsSome, option_map, String, Result, Ok, Err, IfErr}
+use Rattle.std.specs.Global.{Global}
 use Rattle.std.specs.Result.{IsErrAnd}
 use Rattle.std.specs.Fmt.{decimal}
 use Rattle.std.specs.List.{AllByRecursion}
@@ -27,21 +28,22 @@ use Rattle.tv_model.specs.ReaderEvents.{body_in, snapshot_in, reader_step, reloa
 use Rattle.tv_model.specs.SearcherEvents.{searcher_of, searcher_step, show_of, show_step, bytes_of, bytes_step, bytes_found, body_at, release_searcher_of, release_searcher_step}
 use Rattle.tv_model.proofs.Entries.{is_itself, is_text}
 use Rattle.tv_model.proofs.Bodies.{body_of_good}
-use Rattle.tv_base.specs.Causes.{IsDevice}
 use Rattle.tv_base.specs.Errors.{of_open_read}
 use Rattle.tv_base.specs.declared.io.IoFault.{IoFault}
 use Rattle.tv_base.specs.declared.io.IoKind.{IoKind}
-use Rattle.tv_base.specs.declared.io.IoKind.TheVariants.{Device, InvalidData}
+use Rattle.tv_base.specs.declared.io.IoKind.TheVariants.{Device, InvalidData, UnexpectedEof}
 use Rattle.tv_base.specs.declared.open_errors.OpenReadError.{OpenReadError}
 use Rattle.tv_base.specs.declared.open_errors.OpenReadError.TheVariants as read
 use Rattle.tv_base.specs.declared.open_errors.OpenWriteError.{OpenWriteError}
 use Rattle.tv_base.specs.declared.open_errors.OpenWriteError.TheVariants as write
 use Rattle.tv_base.specs.declared.error.TantivyError.{TantivyError}
+use Rattle.tv_base.specs.declared.open_errors.LockError.TheVariants as lock
 use Rattle.tv_base.specs.declared.error.TantivyError.TheVariants as errors
-use Rattle.tv_managed.specs.Reading.{ReadsNoFooter, IsNoFooter, OpenBodyCause, NamesFile}
-use Rattle.tv_replay.specs.StoreCauses.{WriteFault}
+use Rattle.tv_framing.specs.Footers.{Refuses}
+use Rattle.tv_managed.specs.Reading.{HasNoBody, NamesFile, OpenBodyCause, ReadsOther, ReadsRefused, ReadsSuch, SomeOther, SomeRefused}
+use Rattle.tv_replay.specs.StoreCauses.{IsBusy, WriteFault}
 use Rattle.tv_replay.specs.ReadCauses.{Reading, ReadFault, ApplyCause}
-use Rattle.tv_replay.specs.Bodies.{ReadsBody, HasNoBody, AreBodies, AreSealed, ReadsSegment, FailsAt}
+use Rattle.tv_replay.specs.Bodies.{ReadsBody, RefusesAt, RefusesFile, AreBodies, AreSealed, ReadsSegment, FailsAt}
 use Rattle.tv_replay.specs.Kept.{Kept, FileHolds, Holds}
 use Rattle.tv_replay.specs.Applying.{LacksIn, BadIn, HoldsNone}
 use Rattle.tv_replay.specs.SearcherLines.{show_line, bytes_line, searcher_line, body_told, bytes_told}
@@ -51,29 +53,49 @@ use Rattle.tv_replay.proofs.CommitEvents.{all_at, required_are_files, still_hold
 
 -- ---- why the body of a file isn't read
 
-bad_kind : (kind : IoKind) → kind ≡ InvalidData → kind ≡ Device → ⊥
-bad_kind kind e d = let same : InvalidData ≡ Device = sym e ∙ d in cc
+-- a file whose bytes are refused
+not_at_end : (kind : IoKind) → kind ≡ UnexpectedEof → kind ≢ Device
+not_at_end kind e d = let same : UnexpectedEof ≡ Device = sym e ∙ d in cc
 
-no_footer : (fault : IoFault) (bad : Type 0) → fault.kind ≡ InvalidData → (IsDevice fault × Unit {0}) ⊎ (IsNoFooter fault × bad) → bad
-no_footer fault bad e (inl device) = absurd (bad_kind fault.kind e device.0)
-no_footer fault bad e (inr h) = h.1
+not_of_data : (kind : IoKind) → kind ≡ InvalidData → kind ≢ Device
+not_of_data kind e d = let same : InvalidData ≡ Device = sym e ∙ d in cc
+
+not_of_device : (bytes : List ℕ) (fault : IoFault) → Refuses bytes fault → fault.kind ≢ Device
+not_of_device bytes fault (inl h) = not_at_end fault.kind h.is.0
+not_of_device bytes fault (inr (inl h)) = not_of_data fault.kind h.is.0
+not_of_device bytes fault (inr (inr (inl h))) = not_of_data fault.kind h.is.0
+not_of_device bytes fault (inr (inr (inr (inl h)))) = not_at_end fault.kind h.is.0
+not_of_device bytes fault (inr (inr (inr (inr h)))) = not_of_data fault.kind h.is.0
+
+refused_at : (reads : Reads) (name : List ℕ) (error : OpenReadError) (bytes other : List ℕ) → reads name ≡ Some bytes → reads name ≡ Some other → RefusesFile bytes name error → HasNoBody other → RefusesAt reads name error
+refused_at reads name error bytes other is is_other why none =
+    let both : Some bytes ≡ Some other = sym is ∙ is_other in
+    let same : other ≡ bytes = cc in
+    record { bytes = bytes; there = is; why = why; no_body = subst HasNoBody same none }
+
+fault_at : (reads : Reads) (name : List ℕ) (fault : IoFault) (path : String Global) → string_bytes path ≡ name → fault.kind ≢ Device
+    → OpenBodyCause (reads name ≡ None) (ReadsRefused (reads name)) (ReadsOther (reads name)) (Unit {0}) (Unit {0}) (read.IoError fault path)
+    → OpenBodyCause (Unit {0}) (λ _. ReadsSuch (reads name) HasNoBody) (λ _. ReadsSuch (reads name) HasNoBody) (Unit {0}) (Unit {0}) (read.IoError fault path)
+    → RefusesAt reads name (read.IoError fault path)
+fault_at reads name fault path is_name other (inl device) o = absurd (other device.0)
+fault_at reads name fault path is_name other (inr h) (inl device) = absurd (other device.0)
+fault_at reads name fault path is_name other (inr h) (inr o) = refused_at reads name (read.IoError fault path) h.0 o.0 h.1 o.1 (is_name, h.2) o.2
 
 -- by what the managed directory says of it
 body_cause : (tells : Type 0) (reads : Reads) (name : List ℕ) (refused quiet : Type 0) (error : OpenReadError)
-    → is_file_name name ≡ true → OpenBodyCause quiet quiet refused quiet error → NamesFile name error
-    → (tells → OpenBodyCause (reads name ≡ None) (ReadsNoFooter (reads name)) (Unit {0}) (Unit {0}) error)
-    → ApplyCause refused quiet ⊥ (λ path. (path ≡ name) × (tells → HasNoBody reads path)) (λ path. (path ≡ name) × (tells → reads path ≡ None)) (of_open_read error)
-body_cause tells reads name refused quiet (read.FileDoesNotExist path) fits cause is_name err =
+    → is_file_name name ≡ true → OpenBodyCause quiet (λ fault. SomeRefused fault × quiet) (λ why. SomeOther why × quiet) refused quiet error → NamesFile name error
+    → (tells → OpenBodyCause (reads name ≡ None) (ReadsRefused (reads name)) (ReadsOther (reads name)) (Unit {0}) (Unit {0}) error)
+    → (tells → OpenBodyCause (Unit {0}) (λ _. ReadsSuch (reads name) HasNoBody) (λ _. ReadsSuch (reads name) HasNoBody) (Unit {0}) (Unit {0}) error)
+    → ApplyCause ⊥ refused quiet ⊥ (λ error. tells → RefusesAt reads name error) (λ path. (path ≡ name) × (tells → reads path ≡ None)) (of_open_read error)
+body_cause tells reads name refused quiet (read.FileDoesNotExist path) fits cause is_name err outside =
     (cause, subst (λ (p : List ℕ). is_file_name p ≡ true) (sym is_name) fits, (is_name, λ t. subst (λ (p : List ℕ). reads p ≡ None) (sym is_name) (err t)))
-body_cause tells reads name refused quiet (read.IoError fault path) fits (inl device) is_name err = inl device
-body_cause tells reads name refused quiet (read.IoError fault path) fits (inr h) is_name err = inr (
-  h.0.0,
-  h.1,
-  subst (λ (p : List ℕ). is_file_name p ≡ true) (sym is_name) fits,
-  (is_name, λ t. subst (λ (p : List ℕ). HasNoBody reads p) (sym is_name) (no_footer fault (ReadsNoFooter (reads name)) h.0.0 (err t))),
-)
-body_cause tells reads name refused quiet (read.IncompatibleIndex why) fits cause is_name err = absurd cause
-body_cause tells reads name refused quiet read.Memory fits cause is_name err = cause
+body_cause tells reads name refused quiet (read.IoError fault path) fits (inl device) is_name err outside = inl device
+body_cause tells reads name refused quiet (read.IoError fault path) fits (inr (some, still)) is_name err outside =
+    let other = not_of_device some.0 fault some.1 in
+    inr (other, still, subst (λ (p : List ℕ). is_file_name p ≡ true) (sym is_name) fits, λ t. fault_at reads name fault path is_name other (err t) (outside t))
+body_cause tells reads name refused quiet (read.IncompatibleIndex why) fits (some, still) is_name err outside =
+    (still, λ t. refused_at reads name (read.IncompatibleIndex why) (err t).0 (outside t).0 (err t).1 (outside t).1 (err t).2 (outside t).2)
+body_cause tells reads name refused quiet read.Memory fits cause is_name err outside = cause
 
 -- an error that was made of another
 pub failed_as : {A : Type 0} (result : Result A TantivyError) (given : TantivyError) (P : TantivyError → Type 0) → IsErrAnd result (λ e. e ≡ given) → P given → IfErr result P
@@ -83,13 +105,14 @@ failed_as (Err e) given P h p = subst P (sym h) p
 -- seen from the directory's value
 pub body_fails : {D : Type 0} (tells : Type 0) (reads : D → Reads) (faults : D → ℕ) (inside value after : D) (name given : List ℕ) (error : OpenReadError)
     → inside ≡ value → given ≡ name → is_file_name given ≡ true
-    → OpenBodyCause (faults after ≡ faults inside) (faults after ≡ faults inside) (Rose (faults inside) (faults after)) (faults after ≡ faults inside) error → NamesFile given error
-    → (tells → OpenBodyCause (reads inside given ≡ None) (ReadsNoFooter (reads inside given)) (Unit {0}) (Unit {0}) error)
-    → ApplyCause (Rose (faults value) (faults after)) (faults after ≡ faults value) ⊥ (λ path. (path ≡ name) × (tells → HasNoBody (reads value) path)) (λ path. (path ≡ name) × (tells → reads value path ≡ None)) (of_open_read error)
-body_fails {D} tells reads faults inside value after name given error is_value text fits cause is_name err =
-    subst (λ (n : List ℕ). ApplyCause (Rose (faults value) (faults after)) (faults after ≡ faults value) ⊥ (λ path. (path ≡ n) × (tells → HasNoBody (reads value) path)) (λ path. (path ≡ n) × (tells → reads value path ≡ None)) (of_open_read error)) text
-    (subst (λ (d : D). ApplyCause (Rose (faults d) (faults after)) (faults after ≡ faults d) ⊥ (λ path. (path ≡ given) × (tells → HasNoBody (reads d) path)) (λ path. (path ≡ given) × (tells → reads d path ≡ None)) (of_open_read error)) is_value
-    (body_cause tells (reads inside) given (Rose (faults inside) (faults after)) (faults after ≡ faults inside) error fits cause is_name err))
+    → OpenBodyCause (faults after ≡ faults inside) (λ fault. SomeRefused fault × (faults after ≡ faults inside)) (λ why. SomeOther why × (faults after ≡ faults inside)) (Rose (faults inside) (faults after)) (faults after ≡ faults inside) error → NamesFile given error
+    → (tells → OpenBodyCause (reads inside given ≡ None) (ReadsRefused (reads inside given)) (ReadsOther (reads inside given)) (Unit {0}) (Unit {0}) error)
+    → (tells → OpenBodyCause (Unit {0}) (λ _. ReadsSuch (reads inside given) HasNoBody) (λ _. ReadsSuch (reads inside given) HasNoBody) (Unit {0}) (Unit {0}) error)
+    → ApplyCause ⊥ (Rose (faults value) (faults after)) (faults after ≡ faults value) ⊥ (λ error. tells → RefusesAt (reads value) name error) (λ path. (path ≡ name) × (tells → reads value path ≡ None)) (of_open_read error)
+body_fails {D} tells reads faults inside value after name given error is_value text fits cause is_name err outside =
+    subst (λ (n : List ℕ). ApplyCause ⊥ (Rose (faults value) (faults after)) (faults after ≡ faults value) ⊥ (λ error. tells → RefusesAt (reads value) n error) (λ path. (path ≡ n) × (tells → reads value path ≡ None)) (of_open_read error)) text
+    (subst (λ (d : D). ApplyCause ⊥ (Rose (faults d) (faults after)) (faults after ≡ faults d) ⊥ (λ error. tells → RefusesAt (reads d) given error) (λ path. (path ≡ given) × (tells → reads d path ≡ None)) (of_open_read error)) is_value
+    (body_cause tells (reads inside) given (Rose (faults inside) (faults after)) (faults after ≡ faults inside) error fits cause is_name err outside))
 
 -- the body of a file that is read
 pub body_read : {D : Type 0} (reads : D → Reads) (inside value : D) (name given body : List ℕ) → inside ≡ value → given ≡ name → ReadsBody (reads inside) given body → ReadsBody (reads value) name body
@@ -99,24 +122,28 @@ write_weaker : (refused more : Type 0) (error : OpenWriteError) → (refused →
 write_weaker refused more (write.IoError fault path) f h = (h.0, f h.1)
 write_weaker refused more other f h = absurd h
 
-read_weaker : (refused quiet refused2 quiet2 : Type 0) (bad absent bad2 absent2 : List ℕ → Type 0) (error : OpenReadError)
-    → (refused → refused2) → (quiet → quiet2) → ((path : List ℕ) → bad path → bad2 path) → ((path : List ℕ) → absent path → absent2 path)
+read_weaker : (refused quiet refused2 quiet2 : Type 0) (bad bad2 : OpenReadError → Type 0) (absent absent2 : List ℕ → Type 0) (error : OpenReadError)
+    → (refused → refused2) → (quiet → quiet2) → ((error : OpenReadError) → bad error → bad2 error) → ((path : List ℕ) → absent path → absent2 path)
     → ReadFault refused quiet bad absent error → ReadFault refused2 quiet2 bad2 absent2 error
-read_weaker refused quiet refused2 quiet2 bad absent bad2 absent2 (read.IoError fault path) f g b a (inl h) = inl (h.0, f h.1)
-read_weaker refused quiet refused2 quiet2 bad absent bad2 absent2 (read.IoError fault path) f g b a (inr h) = inr (h.0, g h.1, h.2, b (string_bytes path) h.3)
-read_weaker refused quiet refused2 quiet2 bad absent bad2 absent2 (read.FileDoesNotExist path) f g b a h = (g h.0, h.1, a (string_bytes path) h.2)
-read_weaker refused quiet refused2 quiet2 bad absent bad2 absent2 other f g b a h = absurd h
+read_weaker refused quiet refused2 quiet2 bad bad2 absent absent2 (read.IoError fault path) f g b a (inl h) = inl (h.0, f h.1)
+read_weaker refused quiet refused2 quiet2 bad bad2 absent absent2 (read.IoError fault path) f g b a (inr h) = inr (h.0, g h.1, h.2, b (read.IoError fault path) h.3)
+read_weaker refused quiet refused2 quiet2 bad bad2 absent absent2 (read.FileDoesNotExist path) f g b a h = (g h.0, h.1, a (string_bytes path) h.2)
+read_weaker refused quiet refused2 quiet2 bad bad2 absent absent2 (read.IncompatibleIndex why) f g b a h = (g h.0, b (read.IncompatibleIndex why) h.1)
+read_weaker refused quiet refused2 quiet2 bad bad2 absent absent2 other f g b a h = absurd h
 
 -- a cause that says more
-cause_weaker : (refused quiet spent refused2 quiet2 spent2 : Type 0) (bad absent bad2 absent2 : List ℕ → Type 0) (error : TantivyError)
-    → (refused → refused2) → (quiet → quiet2) → (spent → spent2) → ((path : List ℕ) → bad path → bad2 path) → ((path : List ℕ) → absent path → absent2 path)
-    → ApplyCause refused quiet spent bad absent error → ApplyCause refused2 quiet2 spent2 bad2 absent2 error
-cause_weaker refused quiet spent refused2 quiet2 spent2 bad absent bad2 absent2 (errors.IoError fault) f g k b a h = (h.0, f h.1)
-cause_weaker refused quiet spent refused2 quiet2 spent2 bad absent bad2 absent2 (errors.OpenWriteError error) f g k b a h = write_weaker refused refused2 error f h
-cause_weaker refused quiet spent refused2 quiet2 spent2 bad absent bad2 absent2 (errors.OpenReadError error) f g k b a h = read_weaker refused quiet refused2 quiet2 bad absent bad2 absent2 error f g b a h
-cause_weaker refused quiet spent refused2 quiet2 spent2 bad absent bad2 absent2 errors.Exhausted f g k b a h = (g h.0, k h.1)
-cause_weaker refused quiet spent refused2 quiet2 spent2 bad absent bad2 absent2 errors.Memory f g k b a h = g h
-cause_weaker refused quiet spent refused2 quiet2 spent2 bad absent bad2 absent2 other f g k b a h = absurd h
+cause_weaker : (busy refused quiet spent busy2 refused2 quiet2 spent2 : Type 0) (bad bad2 : OpenReadError → Type 0) (absent absent2 : List ℕ → Type 0) (error : TantivyError)
+    → (busy → busy2) → (refused → refused2) → (quiet → quiet2) → (spent → spent2) → ((error : OpenReadError) → bad error → bad2 error) → ((path : List ℕ) → absent path → absent2 path)
+    → ApplyCause busy refused quiet spent bad absent error → ApplyCause busy2 refused2 quiet2 spent2 bad2 absent2 error
+cause_weaker busy refused quiet spent busy2 refused2 quiet2 spent2 bad bad2 absent absent2 (errors.IoError fault) y f g k b a h = (h.0, f h.1)
+cause_weaker busy refused quiet spent busy2 refused2 quiet2 spent2 bad bad2 absent absent2 (errors.OpenWriteError error) y f g k b a h = write_weaker refused refused2 error f h
+cause_weaker busy refused quiet spent busy2 refused2 quiet2 spent2 bad bad2 absent absent2 (errors.OpenReadError error) y f g k b a h = read_weaker refused quiet refused2 quiet2 bad bad2 absent absent2 error f g b a h
+cause_weaker busy refused quiet spent busy2 refused2 quiet2 spent2 bad bad2 absent absent2 (errors.LockFailure lock.LockBusy text) y f g k b a h = (y h.0, h.1)
+cause_weaker busy refused quiet spent busy2 refused2 quiet2 spent2 bad bad2 absent absent2 (errors.LockFailure (lock.IoError fault) text) y f g k b a h = ((h.0.0, f h.0.1), h.1)
+cause_weaker busy refused quiet spent busy2 refused2 quiet2 spent2 bad bad2 absent absent2 (errors.LockFailure lock.Memory text) y f g k b a h = absurd h.0
+cause_weaker busy refused quiet spent busy2 refused2 quiet2 spent2 bad bad2 absent absent2 errors.Exhausted y f g k b a h = (g h.0, k h.1)
+cause_weaker busy refused quiet spent busy2 refused2 quiet2 spent2 bad bad2 absent absent2 errors.Memory y f g k b a h = g h
+cause_weaker busy refused quiet spent busy2 refused2 quiet2 spent2 bad bad2 absent absent2 other y f g k b a h = absurd h
 
 -- ---- names of a list
 
@@ -183,7 +210,7 @@ sealed_is_there reads kept s n held h e =
     sealed_reads (file_at s n) (at kept.open_files n) h (subst (λ (r : Option (List ℕ)). FileHolds (file_at s n) r (at kept.open_files n)) e (sealed_holds reads kept s n held h))
 
 good_file : (s : State) (n bytes body : List ℕ) → file_at s n ≡ Some (Sealed bytes) → HasBody bytes body → IsGoodFile s n
-good_file s n bytes body file has_body = (bytes, file, record { body = body; crc = has_body.0; fits = has_body.1; whole = has_body.2 })
+good_file s n bytes body file has_body = (bytes, file, record { body = body; has_body = has_body })
 
 -- ---- the bodies of some files
 
@@ -204,21 +231,21 @@ bodies_more reads kept s names i name body bodies more within at_i sealed held r
       good = all_pushed (IsGoodFile s) (take i names) name so_far.good (good_file s name reads_body.0 body file reads_body.2);
     })
 
-no_body_before : (first now : Reads) (path : List ℕ) → Same first now → HasNoBody now path → HasNoBody first path
-no_body_before first now path same h = (h.0, sym (same path) ∙ h.1, h.2)
+refused_before : (first now : Reads) (path : List ℕ) (error : OpenReadError) → Same first now → RefusesAt now path error → RefusesAt first path error
+refused_before first now path error same h = record { bytes = h.bytes; there = sym (same path) ∙ h.there; why = h.why; no_body = h.no_body }
 
 -- one of them isn't read
 pub fails_here : (tells : Type 0) (first now : Reads) (names : List (List ℕ)) (i : ℕ) (name : List ℕ) (start before after : ℕ) (error : TantivyError)
     → (tells → Same first now) → before ≡ start → i < length names → name ≡ get_or names i name
-    → ApplyCause (Rose before after) (after ≡ before) ⊥ (λ path. (path ≡ name) × (tells → HasNoBody now path)) (λ path. (path ≡ name) × (tells → now path ≡ None)) error
+    → ApplyCause ⊥ (Rose before after) (after ≡ before) ⊥ (λ error. tells → RefusesAt now name error) (λ path. (path ≡ name) × (tells → now path ≡ None)) error
     → FailsAt tells first names (Rose start after) (after ≡ start) error
 fails_here tells first now names i name start before after error same quiet within at_i h =
     let there : has names name ≡ true = has_at names i name within at_i in
-    cause_weaker (Rose before after) (after ≡ before) ⊥ (Rose start after) (after ≡ start) ⊥
-    (λ path. (path ≡ name) × (tells → HasNoBody now path)) (λ path. (path ≡ name) × (tells → now path ≡ None))
-    (λ path. (has names path ≡ true) × (tells → HasNoBody first path)) (λ path. (has names path ≡ true) × (tells → first path ≡ None)) error
-    (λ rose. subst (λ (x : ℕ). Rose x after) quiet rose) (λ still. still ∙ quiet) (λ never. never)
-    (λ path b. (subst (λ (p : List ℕ). has names p ≡ true) (sym b.0) there, λ t. no_body_before first now path (same t) (b.1 t)))
+    cause_weaker ⊥ (Rose before after) (after ≡ before) ⊥ ⊥ (Rose start after) (after ≡ start) ⊥
+    (λ error. tells → RefusesAt now name error) (λ error. (path : List ℕ) × (has names path ≡ true) × (tells → RefusesAt first path error))
+    (λ path. (path ≡ name) × (tells → now path ≡ None)) (λ path. (has names path ≡ true) × (tells → first path ≡ None)) error
+    (λ never. never) (λ rose. subst (λ (x : ℕ). Rose x after) quiet rose) (λ still. still ∙ quiet) (λ never. never)
+    (λ error b. (name, there, λ t. refused_before first now name error (same t) (b t)))
     (λ path a. (subst (λ (p : List ℕ). has names p ≡ true) (sym a.0) there, λ t. sym (same t path) ∙ a.1 t)) h
 
 -- ---- the segments of a commit
@@ -301,37 +328,63 @@ all_read s segments shown bodies i generation opstamp payload are opstamp_is pay
 pub snapshot_fails : (tells : Type 0) (first now : Reads) (kept : Kept) (segments : List (List ℕ × LiveSegment)) (i : ℕ) (entry : List ℕ × LiveSegment) (start before after : ℕ) (error : TantivyError)
     → (tells → Same first now) → before ≡ start → segments ≡ kept.commit.segments → i < length segments → entry ≡ get_or segments i entry
     → FailsAt tells now (required_names entry.0 entry.1) (Rose before after) (after ≡ before) error
-    → ApplyCause (Rose start after) (after ≡ start) ⊥ (LacksIn tells first kept) (λ path. HoldsNone tells first kept) error
+    → ApplyCause ⊥ (Rose start after) (after ≡ start) ⊥ (LacksIn tells first kept) (λ path. HoldsNone tells first kept) error
 snapshot_fails tells first now kept segments i entry start before after error same quiet are within at_i h =
     let required : (s : State) (path : List ℕ) → Holds first kept s → has (required_names entry.0 entry.1) path ≡ true → has (all_required s.commit.segments) path ≡ true =
     λ s path held among.
     subst (λ (es : List (List ℕ × LiveSegment)). has (all_required es) path ≡ true) (are ∙ ap (λ k. k.segments) held.commit) (has_required segments i entry path within at_i among) in
     let sealed : (s : State) (path : List ℕ) → Holds first kept s → IsWhole s → has (required_names entry.0 entry.1) path ≡ true → is_sealed (file_at s path) ≡ true =
     λ s path held whole among. whole.each path (required s path held among) in
-    cause_weaker (Rose before after) (after ≡ before) ⊥ (Rose start after) (after ≡ start) ⊥
-    (λ path. (has (required_names entry.0 entry.1) path ≡ true) × (tells → HasNoBody now path)) (λ path. (has (required_names entry.0 entry.1) path ≡ true) × (tells → now path ≡ None))
-    (LacksIn tells first kept) (λ path. HoldsNone tells first kept) error
-    (λ rose. subst (λ (x : ℕ). Rose x after) quiet rose) (λ still. still ∙ quiet) (λ never. never)
-    (λ path b t s held whole.
-    let no : HasNoBody first path = no_body_before first now path (same t) (b.1 t) in
+    cause_weaker ⊥ (Rose before after) (after ≡ before) ⊥ ⊥ (Rose start after) (after ≡ start) ⊥
+    (λ error. (path : List ℕ) × (has (required_names entry.0 entry.1) path ≡ true) × (tells → RefusesAt now path error)) (LacksIn tells first kept)
+    (λ path. (has (required_names entry.0 entry.1) path ≡ true) × (tells → now path ≡ None)) (λ path. HoldsNone tells first kept) error
+    (λ never. never) (λ rose. subst (λ (x : ℕ). Rose x after) quiet rose) (λ still. still ∙ quiet) (λ never. never)
+    (λ error b t s held whole.
+    let no : RefusesAt first b.0 error = refused_before first now b.0 error (same t) (b.2 t) in
     record {
-      required = required s path held b.0;
-      bytes = no.0;
-      sealed = read_is_sealed first kept s path no.0 held (sealed s path held whole b.0) no.1;
-      no_body = no.2;
+      path = b.0;
+      required = required s b.0 held b.1;
+      bytes = no.bytes;
+      sealed = read_is_sealed first kept s b.0 no.bytes held (sealed s b.0 held whole b.1) no.there;
+      why = no.why;
+      no_body = no.no_body;
     })
     (λ path a t s held whole. sealed_is_there first kept s path held (sealed s path held whole a.0) (sym (same t path) ∙ a.1 t)) h
 
+-- a read of the commit's files that failed, seen from before a call that changed nothing and after another one
+pub read_later : (tells : Type 0) (first now : Reads) (kept later : Kept) (busy : Type 0) (start before after end : ℕ) (error : TantivyError)
+    → (tells → Same first now) → later ≡ kept → before ≡ start → end ≡ after
+    → ApplyCause ⊥ (Rose before after) (after ≡ before) ⊥ (LacksIn tells now later) (λ path. HoldsNone tells now later) error
+    → ApplyCause busy (Rose start end) (end ≡ start) ⊥ (LacksIn tells first kept) (λ path. HoldsNone tells first kept) error
+read_later tells first now kept later busy start before after end error same kept_is quiet last h =
+    cause_weaker ⊥ (Rose before after) (after ≡ before) ⊥ busy (Rose start end) (end ≡ start) ⊥
+    (LacksIn tells now later) (LacksIn tells first kept) (λ path. HoldsNone tells now later) (λ path. HoldsNone tells first kept) error
+    (λ never. absurd never) (λ rose. subst (λ (x : ℕ). Rose start x) (sym last) (subst (λ (x : ℕ). Rose x after) quiet rose)) (λ still. last ∙ still ∙ quiet) (λ never. never)
+    (λ error b t s held whole. b t s (still_holds first now kept later s (same t) kept_is held) whole)
+    (λ path a t s held whole. a t s (still_holds first now kept later s (same t) kept_is held) whole) h
+
+still_or : (P Q R : Type 0) → P ⊎ Q → (Q → R) → P ⊎ R
+still_or P Q R (inl p) f = inl p
+still_or P Q R (inr q) f = inr (f q)
+
+-- a lock that isn't given, seen from before a call that changed nothing
+pub busy_before : (tells_locks : Type 0) (held held2 : Bool) (start before : ℕ) {after : ℕ} → (tells_locks → held ≡ held2) → before ≡ start
+    → IsBusy tells_locks (held ≡ true) (Rose before after) → IsBusy tells_locks (held2 ≡ true) (Rose start after)
+busy_before tells_locks held held2 start before {after} same quiet h = record {
+  told = λ t. sym (same t) ∙ h.told t;
+  untold = still_or tells_locks (Rose before after) (Rose start after) h.untold (λ rose. subst (λ (x : ℕ). Rose x after) quiet rose);
+}
+
 -- the same at an event that reads, seen from before a call that changed nothing
-pub later_fails : (tells : Type 0) (first now : Reads) (kept later : Kept) (event : Event) (reading : (s : State) → Holds first kept s → Reading s event) (more : Type 0) (start before after : ℕ) (error : TantivyError)
-    → (tells → Same first now) → later ≡ kept → before ≡ start
-    → ApplyCause (Rose before after) (after ≡ before) ⊥ (LacksIn tells now later) (λ path. HoldsNone tells now later) error
-    → ApplyCause (Rose start after) (after ≡ start) more (BadIn tells first kept event) (λ path. HoldsNone tells first kept) error
-later_fails tells first now kept later event reading more start before after error same kept_is quiet h =
-    cause_weaker (Rose before after) (after ≡ before) ⊥ (Rose start after) (after ≡ start) more
-    (LacksIn tells now later) (λ path. HoldsNone tells now later) (BadIn tells first kept event) (λ path. HoldsNone tells first kept) error
-    (λ rose. subst (λ (x : ℕ). Rose x after) quiet rose) (λ still. still ∙ quiet) (λ never. absurd never)
-    (λ path b t s held whole. (reading s held, b t s (still_holds first now kept later s (same t) kept_is held) whole))
+pub later_fails : (tells : Type 0) (first now : Reads) (kept later : Kept) (event : Event) (reading : (s : State) → Holds first kept s → Reading s event) (more busy busy2 : Type 0) (start before after : ℕ) (error : TantivyError)
+    → (busy → busy2) → (tells → Same first now) → later ≡ kept → before ≡ start
+    → ApplyCause busy (Rose before after) (after ≡ before) ⊥ (LacksIn tells now later) (λ path. HoldsNone tells now later) error
+    → ApplyCause busy2 (Rose start after) (after ≡ start) more (BadIn tells first kept event) (λ path. HoldsNone tells first kept) error
+later_fails tells first now kept later event reading more busy busy2 start before after error locks same kept_is quiet h =
+    cause_weaker busy (Rose before after) (after ≡ before) ⊥ busy2 (Rose start after) (after ≡ start) more
+    (LacksIn tells now later) (BadIn tells first kept event) (λ path. HoldsNone tells now later) (λ path. HoldsNone tells first kept) error
+    locks (λ rose. subst (λ (x : ℕ). Rose x after) quiet rose) (λ still. still ∙ quiet) (λ never. absurd never)
+    (λ error b t s held whole. (reading s held, b t s (still_holds first now kept later s (same t) kept_is held) whole))
     (λ path a t s held whole. a t s (still_holds first now kept later s (same t) kept_is held) whole) h
 
 -- ---- what is held

@@ -5,6 +5,7 @@ use Rattle.std.specs.Cmp.Lexicographic.{pointwise, same_text}
 use Rattle.std.specs.List.{starts_with}
 use Rattle.std.specs.Fmt.{decimal, digits, digits_onto, digit_glyph}
 use Rattle.std.proofs.lemmas.Bool.{ne_eqb}
+use Rattle.tv_directory.specs.Locks.{Locks}
 use Rattle.tv_model.specs.Files.{Reads, Heard, Rose}
 use Rattle.tv_model.specs.Lines.{has_no_feed}
 use Rattle.tv_model.proofs.NoFeeds.{no_feed_append, no_feed_name}
@@ -14,13 +15,17 @@ use Rattle.tv_base.specs.declared.io.IoError.{IoError}
 use Rattle.tv_base.specs.declared.io.IoError.TheVariants as io
 use Rattle.tv_base.specs.declared.io.IoKind.{IoKind}
 use Rattle.tv_base.specs.declared.io.IoKind.TheVariants.{Device, UnexpectedEof, InvalidData}
+use Rattle.tv_base.specs.declared.versions.Incompatibility.{Incompatibility}
+use Rattle.tv_base.specs.declared.versions.Incompatibility.TheVariants.{CompressionMismatch, IndexMismatch}
+use Rattle.tv_base.specs.declared.open_errors.LockError.{LockError}
+use Rattle.tv_base.specs.declared.open_errors.LockError.TheVariants as lock
 use Rattle.tv_base.specs.declared.open_errors.OpenReadError.{OpenReadError}
 use Rattle.tv_base.specs.declared.open_errors.OpenReadError.TheVariants as read
 use Rattle.tv_base.specs.declared.open_errors.OpenDirectoryError.{OpenDirectoryError}
 use Rattle.tv_base.specs.declared.open_errors.OpenDirectoryError.TheVariants as directory
 use Rattle.tv_base.specs.declared.error.TantivyError.{TantivyError}
 use Rattle.tv_base.specs.declared.error.TantivyError.TheVariants as errors
-use Rattle.tv_replay.specs.ErrorLines.{argument_line, fault_line, read_line, error_line}
+use Rattle.tv_replay.specs.ErrorLines.{argument_line, fault_line, format_line, lock_line, read_line, error_line}
 use Rattle.tv_replay.specs.ReadCauses.{ReadFault}
 use Rattle.tv_replay.specs.Places.{LendCause, SaysPart}
 use Rattle.tv_replay.specs.Replays.{ReplayCause, LineRefusal, IsBadFile, NeverOpens, line_refusal, long_refusal}
@@ -73,18 +78,29 @@ fault_no_feed InvalidData path h = no_feed_append (codes "error footer ") path r
 device_no_feed : (kind : IoKind) (path : List ℕ) → kind ≡ Device → has_no_feed (fault_line kind path) ≡ true
 device_no_feed kind path is = rw is refl
 
-read_no_feed : (refused quiet : Type 0) (bad absent : List ℕ → Type 0) (error : OpenReadError) → ReadFault refused quiet bad absent error → has_no_feed (read_line error) ≡ true
+format_no_feed : (why : Incompatibility) → has_no_feed (format_line why) ≡ true
+format_no_feed (IndexMismatch library index) = no_feed_append (codes "error format ") (decimal index.index_format_version) refl (decimal_no_feed index.index_format_version)
+format_no_feed (CompressionMismatch library index) = refl
+
+read_no_feed : (refused quiet : Type 0) (bad : OpenReadError → Type 0) (absent : List ℕ → Type 0) (error : OpenReadError) → ReadFault refused quiet bad absent error → has_no_feed (read_line error) ≡ true
 read_no_feed refused quiet bad absent (read.IoError fault path) (inl h) = device_no_feed fault.kind (string_bytes path) h.0
 read_no_feed refused quiet bad absent (read.IoError fault path) (inr h) = fault_no_feed fault.kind (string_bytes path) (no_feed_name (string_bytes path) h.2)
 read_no_feed refused quiet bad absent (read.FileDoesNotExist path) h = no_feed_append (codes "error missing ") (string_bytes path) refl (no_feed_name (string_bytes path) h.1)
+read_no_feed refused quiet bad absent (read.IncompatibleIndex why) h = format_no_feed why
 read_no_feed refused quiet bad absent other h = absurd h
 
+lock_no_feed : (why : LockError) → has_no_feed (lock_line why) ≡ true
+lock_no_feed lock.LockBusy = refl
+lock_no_feed (lock.IoError fault) = refl
+lock_no_feed lock.Memory = refl
+
 -- no line feed stands in the line of an error that a replay answers
-pub error_no_feed : (tells : Type 0) (schema : List ℕ) (reads : Reads) (script : _) (refused quiet : Type 0) (error : TantivyError) → ReplayCause tells schema reads script refused quiet error → has_no_feed (error_line error) ≡ true
-error_no_feed tells schema reads script refused quiet (errors.InvalidArgument text) (_, inl opening) = argument_no_feed (string_bytes text) (opening_no_feed tells schema reads (string_bytes text) opening)
-error_no_feed tells schema reads script refused quiet (errors.InvalidArgument text) (_, inr (_, _, line)) = argument_no_feed (string_bytes text) (line_no_feed script (string_bytes text) line)
-error_no_feed tells schema reads script refused quiet (errors.OpenReadError error) (_, _, fault) = read_no_feed refused quiet (IsBadFile tells schema reads script) (λ path. NeverOpens tells schema reads) error fault
-error_no_feed tells schema reads script refused quiet other h = refl
+pub error_no_feed : (tells : Type 0) (schema : List ℕ) (reads : Reads) (script : _) (busy refused quiet : Type 0) (error : TantivyError) → ReplayCause tells schema reads script busy refused quiet error → has_no_feed (error_line error) ≡ true
+error_no_feed tells schema reads script busy refused quiet (errors.InvalidArgument text) (_, inl opening) = argument_no_feed (string_bytes text) (opening_no_feed tells schema reads (string_bytes text) opening)
+error_no_feed tells schema reads script busy refused quiet (errors.InvalidArgument text) (_, inr (_, _, line)) = argument_no_feed (string_bytes text) (line_no_feed script (string_bytes text) line)
+error_no_feed tells schema reads script busy refused quiet (errors.OpenReadError error) (_, _, fault) = read_no_feed refused quiet (IsBadFile tells schema reads script) (λ path. NeverOpens tells schema reads) error fault
+error_no_feed tells schema reads script busy refused quiet (errors.LockFailure why text) h = lock_no_feed why
+error_no_feed tells schema reads script busy refused quiet other h = refl
 
 -- why a schema wasn't had: a device refused it, or memory was wanted
 pub schema_cause : (refused quiet : Type 0) (error : IoError) → IoCause refused quiet error → refused ⊎ (quiet × (of_io error ≡ errors.Memory))
@@ -156,12 +172,12 @@ wants told tells_said memory before between now faults start count faults_now sa
     inl (subst (λ (n : ℕ). OnlySays told tells_said before now n faults_now said_before said_now line) (quiet ∙ same) (says_since folders silent only))
 
 -- a report, told of from an earlier moment at which nothing more had been said and refused
-pub reports_since : {O : Type 0} {tells tells_heard : Type 0} {reads : O → Reads} {heard : O → Heard} {faults refusals moment : O → ℕ} {told tells_said : Type 0} {stopped : O} {kept_now : Option O} {start count faults_now : ℕ} {said_before said_between said_now line : List ℕ}
-    → count ≡ start → said_between ≡ said_before → Reports tells tells_heard reads heard faults refusals moment told tells_said stopped kept_now count faults_now said_between said_now line
-    → Reports tells tells_heard reads heard faults refusals moment told tells_said stopped kept_now start faults_now said_before said_now line
-reports_since {O} {tells} {tells_heard} {reads} {heard} {faults} {refusals} {moment} {told} {tells_said} {stopped} {kept_now} {start} {count} {faults_now} {said_before} {said_between} {said_now} {line} same silent r =
-    subst (λ (s : List ℕ). Reports tells tells_heard reads heard faults refusals moment told tells_said stopped kept_now start faults_now s said_now line) silent
-    (subst (λ (n : ℕ). Reports tells tells_heard reads heard faults refusals moment told tells_said stopped kept_now n faults_now said_between said_now line) same r)
+pub reports_since : {O : Type 0} {tells tells_heard tells_locks : Type 0} {reads : O → Reads} {heard : O → Heard} {locks : O → Locks} {faults refusals moment : O → ℕ} {told tells_said : Type 0} {stopped : O} {kept_now : Option O} {start count faults_now : ℕ} {said_before said_between said_now line : List ℕ}
+    → count ≡ start → said_between ≡ said_before → Reports tells tells_heard tells_locks reads heard locks faults refusals moment told tells_said stopped kept_now count faults_now said_between said_now line
+    → Reports tells tells_heard tells_locks reads heard locks faults refusals moment told tells_said stopped kept_now start faults_now said_before said_now line
+reports_since {O} {tells} {tells_heard} {tells_locks} {reads} {heard} {locks} {faults} {refusals} {moment} {told} {tells_said} {stopped} {kept_now} {start} {count} {faults_now} {said_before} {said_between} {said_now} {line} same silent r =
+    subst (λ (s : List ℕ). Reports tells tells_heard tells_locks reads heard locks faults refusals moment told tells_said stopped kept_now start faults_now s said_now line) silent
+    (subst (λ (n : ℕ). Reports tells tells_heard tells_locks reads heard locks faults refusals moment told tells_said stopped kept_now n faults_now said_between said_now line) same r)
 
 pub not_done : (n : ℕ) → (n ≡ 1) ⊎ (n ≡ 3) → n ≡ 0 → ⊥
 not_done n (inl one) none = omega arith

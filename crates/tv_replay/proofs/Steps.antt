@@ -3,6 +3,7 @@ use Rattle.std.proofs.Common.{ℕ, ◌≡◌, ◌+◌, ◌≤◌, Bool, true, fa
 use Rattle.std.specs.Prelude.{is_some, IfOk, OnOk}
 use Rattle.std.specs.List.{AllByRecursion}
 use Rattle.tv_model.specs.declared.event.Event.{Event}
+use Rattle.tv_base.specs.declared.open_errors.OpenReadError.{OpenReadError}
 use Rattle.tv_base.specs.declared.error.TantivyError.{TantivyError}
 use Rattle.tv_base.specs.declared.error.TantivyError.TheVariants as errors
 use Rattle.tv_replay.specs.Kept.{Kept, Holds, AtMost}
@@ -17,34 +18,48 @@ use Rattle.tv_model.specs.Machine.{step, refused_in}
 use Rattle.tv_model.specs.SoundStates.{IsWhole}
 use Rattle.tv_model.specs.Readable.{ReadsGood}
 use Rattle.tv_model.specs.Commits.{is_schema, first_commit}
-use Rattle.tv_replay.specs.StoreCauses.{EventCause, OpeningCause, MakesNoFile}
+use Rattle.tv_replay.specs.StoreCauses.{EventCause, LockingCause, OpeningCause, MakesNoFile}
 
 -- ---- what an event did, by what its method says
 
 -- a cause of an event that reads no commit's files
-plain_cause : (refused quiet spent more : Type 0) (bad absent : List ℕ → Type 0) (error : TantivyError) → EventCause refused quiet spent error → (spent → more) → ApplyCause refused quiet more bad absent error
-plain_cause refused quiet spent more bad absent (errors.IoError fault) h f = h
-plain_cause refused quiet spent more bad absent (errors.OpenWriteError error) h f = h
-plain_cause refused quiet spent more bad absent errors.Exhausted h f = (h.0, f h.1)
-plain_cause refused quiet spent more bad absent errors.Memory h f = h
-plain_cause refused quiet spent more bad absent other h f = absurd h
+plain_cause : (busy refused quiet spent more : Type 0) (bad : OpenReadError → Type 0) (absent : List ℕ → Type 0) (error : TantivyError) → EventCause refused quiet spent error → (spent → more) → ApplyCause busy refused quiet more bad absent error
+plain_cause busy refused quiet spent more bad absent (errors.IoError fault) h f = h
+plain_cause busy refused quiet spent more bad absent (errors.OpenWriteError error) h f = h
+plain_cause busy refused quiet spent more bad absent errors.Exhausted h f = (h.0, f h.1)
+plain_cause busy refused quiet spent more bad absent errors.Memory h f = h
+plain_cause busy refused quiet spent more bad absent other h f = absurd h
 
-pub cause_in : (A refused quiet spent more : Type 0) (bad absent : List ℕ → Type 0) (result : Result A TantivyError) → IfErr result (λ error. EventCause refused quiet spent error) → (spent → more) → IfErr result (λ error. ApplyCause refused quiet more bad absent error)
-cause_in A refused quiet spent more bad absent (Ok answer) h f = h
-cause_in A refused quiet spent more bad absent (Err error) h f = plain_cause refused quiet spent more bad absent error h f
+pub cause_in : (A busy refused quiet spent more : Type 0) (bad : OpenReadError → Type 0) (absent : List ℕ → Type 0) (result : Result A TantivyError) → IfErr result (λ error. EventCause refused quiet spent error) → (spent → more) → IfErr result (λ error. ApplyCause busy refused quiet more bad absent error)
+cause_in A busy refused quiet spent more bad absent (Ok answer) h f = h
+cause_in A busy refused quiet spent more bad absent (Err error) h f = plain_cause busy refused quiet spent more bad absent error h f
 
 -- and of one that does
-pub read_cause : (refused quiet spent more : Type 0) (bad absent : List ℕ → Type 0) (error : TantivyError) → ApplyCause refused quiet spent bad absent error → (spent → more) → ApplyCause refused quiet more bad absent error
-read_cause refused quiet spent more bad absent (errors.IoError fault) h f = h
-read_cause refused quiet spent more bad absent (errors.OpenWriteError error) h f = h
-read_cause refused quiet spent more bad absent (errors.OpenReadError error) h f = h
-read_cause refused quiet spent more bad absent errors.Exhausted h f = (h.0, f h.1)
-read_cause refused quiet spent more bad absent errors.Memory h f = h
-read_cause refused quiet spent more bad absent other h f = absurd h
+pub read_cause : (busy refused quiet spent more : Type 0) (bad : OpenReadError → Type 0) (absent : List ℕ → Type 0) (error : TantivyError) → ApplyCause busy refused quiet spent bad absent error → (spent → more) → ApplyCause busy refused quiet more bad absent error
+read_cause busy refused quiet spent more bad absent (errors.IoError fault) h f = h
+read_cause busy refused quiet spent more bad absent (errors.OpenWriteError error) h f = h
+read_cause busy refused quiet spent more bad absent (errors.OpenReadError error) h f = h
+read_cause busy refused quiet spent more bad absent (errors.LockFailure why text) h f = h
+read_cause busy refused quiet spent more bad absent errors.Exhausted h f = (h.0, f h.1)
+read_cause busy refused quiet spent more bad absent errors.Memory h f = h
+read_cause busy refused quiet spent more bad absent other h f = absurd h
 
-pub read_cause_in : (A refused quiet spent more : Type 0) (bad absent : List ℕ → Type 0) (result : Result A TantivyError) → IfErr result (λ error. ApplyCause refused quiet spent bad absent error) → (spent → more) → IfErr result (λ error. ApplyCause refused quiet more bad absent error)
-read_cause_in A refused quiet spent more bad absent (Ok answer) h f = h
-read_cause_in A refused quiet spent more bad absent (Err error) h f = read_cause refused quiet spent more bad absent error h f
+pub read_cause_in : (A busy refused quiet spent more : Type 0) (bad : OpenReadError → Type 0) (absent : List ℕ → Type 0) (result : Result A TantivyError) → IfErr result (λ error. ApplyCause busy refused quiet spent bad absent error) → (spent → more) → IfErr result (λ error. ApplyCause busy refused quiet more bad absent error)
+read_cause_in A busy refused quiet spent more bad absent (Ok answer) h f = h
+read_cause_in A busy refused quiet spent more bad absent (Err error) h f = read_cause busy refused quiet spent more bad absent error h f
+
+-- and of one that takes a lock
+locking_cause : (busy refused quiet spent more : Type 0) (bad : OpenReadError → Type 0) (absent : List ℕ → Type 0) (error : TantivyError) → LockingCause busy refused quiet spent error → (spent → more) → ApplyCause busy refused quiet more bad absent error
+locking_cause busy refused quiet spent more bad absent (errors.IoError fault) h f = h
+locking_cause busy refused quiet spent more bad absent (errors.OpenWriteError error) h f = h
+locking_cause busy refused quiet spent more bad absent (errors.LockFailure why text) h f = h
+locking_cause busy refused quiet spent more bad absent errors.Exhausted h f = (h.0, f h.1)
+locking_cause busy refused quiet spent more bad absent errors.Memory h f = h
+locking_cause busy refused quiet spent more bad absent other h f = absurd h
+
+pub locking_cause_in : (A busy refused quiet spent more : Type 0) (bad : OpenReadError → Type 0) (absent : List ℕ → Type 0) (result : Result A TantivyError) → IfErr result (λ error. LockingCause busy refused quiet spent error) → (spent → more) → IfErr result (λ error. ApplyCause busy refused quiet more bad absent error)
+locking_cause_in A busy refused quiet spent more bad absent (Ok answer) h f = h
+locking_cause_in A busy refused quiet spent more bad absent (Err error) h f = locking_cause busy refused quiet spent more bad absent error h f
 
 -- an event that deletes nothing and reads no commit's files
 pub stepped : {E : Type 0} (tells : Type 0) (old_reads new_reads : Reads) (old_kept new_kept : Kept) (old_refusals new_refusals : ℕ) (event : Event) (told : State → Told) (result : Result (List ℕ) E)
@@ -123,14 +138,14 @@ pub same_lens : (bound : ℕ) (kept : Kept) (files : List (List ℕ × List ℕ)
 same_lens bound kept files same h = subst (λ (es : List (List ℕ × List ℕ)). AllByRecursion (λ e. length e.1 ≤ bound) es) (sym same) h
 
 -- what is asked of an opening
-pub opening_of : (tells : Type 0) (schema : List ℕ) (reads : Reads) (refused quiet more all : Type 0) (error : TantivyError)
+pub opening_of : (tells : Type 0) (schema : List ℕ) (reads : Reads) (busy refused quiet more all : Type 0) (error : TantivyError)
     → EventCause refused quiet ⊥ error → MakesNoFile error → is_schema schema ≡ true → (refused → more) → (quiet → all)
-    → OpeningCause tells schema reads more all error
-opening_of tells schema reads refused quiet more all (errors.IoError fault) h plain accepted f q = (accepted, h.0, f h.1)
-opening_of tells schema reads refused quiet more all (errors.OpenWriteError error) h plain accepted f q = absurd plain
-opening_of tells schema reads refused quiet more all errors.Exhausted h plain accepted f q = absurd h.1
-opening_of tells schema reads refused quiet more all errors.Memory h plain accepted f q = q h
-opening_of tells schema reads refused quiet more all other h plain accepted f q = absurd h
+    → OpeningCause tells schema reads busy more all error
+opening_of tells schema reads busy refused quiet more all (errors.IoError fault) h plain accepted f q = (accepted, h.0, f h.1)
+opening_of tells schema reads busy refused quiet more all (errors.OpenWriteError error) h plain accepted f q = absurd plain
+opening_of tells schema reads busy refused quiet more all errors.Exhausted h plain accepted f q = absurd h.1
+opening_of tells schema reads busy refused quiet more all errors.Memory h plain accepted f q = q h
+opening_of tells schema reads busy refused quiet more all other h plain accepted f q = absurd h
 
 -- a file that wasn't found doesn't read
 pub not_there : (read : Option (List ℕ)) (found : Bool) → found ≡ is_some read → found ≡ false → read ≡ None

@@ -1,7 +1,8 @@
 -- The events of a script, applied to a store that is open.
-use Rattle.std.specs.Prelude.{ℕ, ◌≡◌, ◌≤◌, ◌+◌, ◌^◌, ◌⊎◌, Bool, true, List, [], length, Option, Some, string_bytes}
+use Rattle.std.specs.Prelude.{ℕ, ◌≡◌, ◌≤◌, ◌+◌, ◌^◌, ◌⊎◌, Bool, true, List, [], length, Option, Some, None, string_bytes}
 use Rattle.std.specs.List.{AllByRecursion}
 use Rattle.tv_base.specs.Causes.{IsDevice}
+use Rattle.tv_base.specs.declared.open_errors.OpenReadError.{OpenReadError}
 use Rattle.tv_base.specs.declared.error.TantivyError.{TantivyError}
 use Rattle.tv_base.specs.declared.error.TantivyError.TheVariants as errors
 use Rattle.tv_model.specs.Names.{has}
@@ -19,8 +20,9 @@ use Rattle.tv_replay.specs.declared.next_event.ScriptError.TheVariants as script
 use Rattle.tv_replay.specs.Kept.{Kept, Holds, AtMost}
 use Rattle.tv_replay.specs.ReaderNumbers.{FewNumbers}
 use Rattle.tv_replay.specs.ScriptLines.{written_by}
+use Rattle.tv_replay.specs.Bodies.{RefusesFile}
 use Rattle.tv_replay.specs.Replays.{MeetsBadFile, line_refusal, long_refusal}
-use Rattle.tv_replay.specs.StoreCauses.{WriteFault, IsRefusal}
+use Rattle.tv_replay.specs.StoreCauses.{WriteFault, LockFault, IsRefusal}
 use Rattle.tv_replay.specs.ReadCauses.{Reading, ReadFault}
 use Rattle.tv_replay.specs.Telling.{TellsLines}
 
@@ -53,41 +55,44 @@ abbrev pub Spent : Kept → Event → Type 0
 Spent kept event =
     ((bound : ℕ) → AtMost bound kept → 2 ^ 64 ≤ bound + written_by event) ⊎ ((bound : ℕ) → FewNumbers bound kept.reading → 2 ^ 64 ≤ bound + written_by event)
 
--- a file that the current commit requires has no footer
-pub record LacksFooter (s : State) (path : List ℕ) : Type 0 where
+-- a file that the current commit requires is refused with this error
+pub record RefusesRequired (s : State) (error : OpenReadError) : Type 0 where
+  pub path : List ℕ
   -- the commit requires it
   pub required : has (all_required s.commit.segments) path ≡ true
   -- it is sealed, with these bytes
   pub bytes : List ℕ
   pub sealed : file_at s path ≡ Some (Sealed bytes)
-  -- which don't end in a footer
+  -- which are refused
+  pub why : RefusesFile bytes path error
   pub no_body : (body : List ℕ) → HasBody bytes body → ⊥
 
--- where the content is told, this is such a file of each state that is held
-abbrev pub LacksIn : (tells : Type 0) → Reads → Kept → List ℕ → Type 0
-LacksIn tells reads kept path = tells → (s : State) → Holds reads kept s → IsWhole s → LacksFooter s path
+-- where the content is told, each state that is held has such a file
+abbrev pub LacksIn : (tells : Type 0) → Reads → Kept → OpenReadError → Type 0
+LacksIn tells reads kept error = tells → (s : State) → Holds reads kept s → IsWhole s → RefusesRequired s error
 
 -- and the event reads the commit's files
-abbrev pub BadIn : (tells : Type 0) → Reads → Kept → Event → List ℕ → Type 0
-BadIn tells reads kept event path = tells → (s : State) → Holds reads kept s → IsWhole s → Reading s event × LacksFooter s path
+abbrev pub BadIn : (tells : Type 0) → Reads → Kept → Event → OpenReadError → Type 0
+BadIn tells reads kept event error = tells → (s : State) → Holds reads kept s → IsWhole s → Reading s event × RefusesRequired s error
 
--- where the content is told, the run from each state from which it began meets this file, which has no footer
-abbrev pub BadSince : (tells : Type 0) → Reads → Kept → (script : Option (List ℕ)) → List ℕ → Type 0
-BadSince tells reads kept script path = tells → (s : State) → Holds reads kept s → IsWhole s → MeetsBadFile script reads s path
+-- where the content is told, the run from each state from which it began meets a file that is refused with this error
+abbrev pub BadSince : (tells : Type 0) → Reads → Kept → (script : Option (List ℕ)) → OpenReadError → Type 0
+BadSince tells reads kept script error = tells → (s : State) → Holds reads kept s → IsWhole s → MeetsBadFile script reads s error
 
 -- where the content is told, there is no such state
 abbrev pub HoldsNone : (tells : Type 0) → Reads → Kept → Type 0
 HoldsNone tells reads kept = tells → (s : State) → Holds reads kept s → IsWhole s → ⊥
 
--- why a run stops: `refusal` of the text that says which line is no event's, `too_many` where there is a line too many, `bad` where an event meets a file without a footer, `absent` where it isn't there
-abbrev pub RunCause : (refusal : List ℕ → Type 0) → (too_many refused quiet : Type 0) → (bad absent : List ℕ → Type 0) → TantivyError → Type 0
-RunCause refusal too_many refused quiet bad absent (errors.InvalidArgument text) = quiet × refusal (string_bytes text)
-RunCause refusal too_many refused quiet bad absent (errors.IoError fault) = IsDevice fault × refused
-RunCause refusal too_many refused quiet bad absent (errors.OpenWriteError error) = WriteFault refused error
-RunCause refusal too_many refused quiet bad absent (errors.OpenReadError error) = ReadFault refused quiet bad absent error
-RunCause refusal too_many refused quiet bad absent errors.Exhausted = quiet × too_many
-RunCause refusal too_many refused quiet bad absent errors.Memory = quiet
-RunCause refusal too_many refused quiet bad absent other = ⊥
+-- why a run stops: `busy` where a lock isn't given, `refusal` of the text that says which line is no event's, `too_many` where there is a line too many, `bad` where an event meets a file that is refused, `absent` where it isn't there
+abbrev pub RunCause : (busy : Type 0) (refusal : List ℕ → Type 0) → (too_many refused quiet : Type 0) → (bad : OpenReadError → Type 0) (absent : List ℕ → Type 0) → TantivyError → Type 0
+RunCause busy refusal too_many refused quiet bad absent (errors.LockFailure why text) = LockFault busy refused why × (text ≡ None)
+RunCause busy refusal too_many refused quiet bad absent (errors.InvalidArgument text) = quiet × refusal (string_bytes text)
+RunCause busy refusal too_many refused quiet bad absent (errors.IoError fault) = IsDevice fault × refused
+RunCause busy refusal too_many refused quiet bad absent (errors.OpenWriteError error) = WriteFault refused error
+RunCause busy refusal too_many refused quiet bad absent (errors.OpenReadError error) = ReadFault refused quiet bad absent error
+RunCause busy refusal too_many refused quiet bad absent errors.Exhausted = quiet × too_many
+RunCause busy refusal too_many refused quiet bad absent errors.Memory = quiet
+RunCause busy refusal too_many refused quiet bad absent other = ⊥
 
 -- the error that a line of this number makes, or want of memory for its text
 abbrev pub IsErrorOf : ScriptError → ℕ → TantivyError → Type 0

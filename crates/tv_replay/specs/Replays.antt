@@ -1,5 +1,5 @@
 -- A script replayed over a directory.
-use Rattle.std.specs.Prelude.{ℕ, ◌≡◌, ◌≢◌, ◌⊎◌, ◌+◌, true, List, [], ◌∷◌, ◌++◌, length, codes, Option, Some, string_bytes}
+use Rattle.std.specs.Prelude.{ℕ, ◌≡◌, ◌≢◌, ◌⊎◌, ◌+◌, true, List, [], ◌∷◌, ◌++◌, length, codes, Option, Some, None, string_bytes}
 use Rattle.std.specs.Fmt.{decimal}
 use Rattle.tv_model.specs.declared.event.Event.{Event}
 use Rattle.tv_model.specs.Names.{has, is_undotted}
@@ -15,11 +15,13 @@ use Rattle.tv_model.specs.Collecting.{CollectsIn}
 use Rattle.tv_model.specs.Script.{lines_of, AreLines}
 use Rattle.tv_model.specs.Index.{DirectoryHolds, IsSound, OpensTo, HasNoIndex, first_state}
 use Rattle.tv_base.specs.Causes.{IsDevice}
+use Rattle.tv_base.specs.declared.open_errors.OpenReadError.{OpenReadError}
 use Rattle.tv_base.specs.declared.error.TantivyError.{TantivyError}
 use Rattle.tv_base.specs.declared.error.TantivyError.TheVariants as errors
 use Rattle.tv_replay.specs.ScriptLines.{IsNoEvent, IsTooLong}
+use Rattle.tv_replay.specs.Bodies.{RefusesFile}
 use Rattle.tv_replay.specs.ReadCauses.{Reading, ReadFault}
-use Rattle.tv_replay.specs.StoreCauses.{OpeningRefusal, WriteFault}
+use Rattle.tv_replay.specs.StoreCauses.{OpeningRefusal, LockFault, WriteFault}
 use Rattle.tv_replay.specs.Telling.{TellsLines}
 
 -- A replay that answered Ok: the script is the lines of some events; from each state to which the directory opened, the report of the machine's run on these
@@ -76,8 +78,8 @@ pub record BeginsWith (script : List ℕ) (events : List Event) : Type 0 where
   pub each : AreLines texts events
   pub split : lines_of script ≡ texts ++ lines_of rest
 
--- From a state over what a directory reads, a run meets a file without a footer.
-pub record MeetsBadFile (script : Option (List ℕ)) (reads : Reads) (s : State) (path : List ℕ) : Type 0 where
+-- From a state over what a directory reads, a run meets a file that is refused with this error.
+pub record MeetsBadFile (script : Option (List ℕ)) (reads : Reads) (s : State) (error : OpenReadError) : Type 0 where
   -- what was done before
   pub turns : List Turn
   -- each event before that reads a commit's files could do so
@@ -89,6 +91,7 @@ pub record MeetsBadFile (script : Option (List ℕ)) (reads : Reads) (s : State)
   -- the event reads the files that the current commit requires
   pub reading : Reading (after s turns) event
   -- this file is one of them
+  pub path : List ℕ
   pub required : has (all_required (after s turns).commit.segments) path ≡ true
   -- it was sealed at the start, with these bytes
   pub bytes : List ℕ
@@ -97,25 +100,27 @@ pub record MeetsBadFile (script : Option (List ℕ)) (reads : Reads) (s : State)
   pub stood : reads path ≡ Some bytes
   -- its name has no dot in front
   pub undotted : is_undotted path ≡ true
-  -- and the bytes don't end in a footer
+  -- and the bytes are refused: they end in no footer, or in one of a format that isn't read
+  pub why : RefusesFile bytes path error
   pub no_body : (body : List ℕ) → HasBody bytes body → ⊥
 
--- where the content is told, a run from each state to which the directory opens meets this file, which has no footer
-abbrev pub IsBadFile : (tells : Type 0) → (schema : List ℕ) → Reads → (script : Option (List ℕ)) → List ℕ → Type 0
-IsBadFile tells schema reads script path = tells → (s : State) → OpensTo default_settings schema reads s → MeetsBadFile script reads s path
+-- where the content is told, a run from each state to which the directory opens meets a file that is refused with this error
+abbrev pub IsBadFile : (tells : Type 0) → (schema : List ℕ) → Reads → (script : Option (List ℕ)) → OpenReadError → Type 0
+IsBadFile tells schema reads script error = tells → (s : State) → OpensTo default_settings schema reads s → MeetsBadFile script reads s error
 
 -- where the content is told, the directory opens to no state
 abbrev pub NeverOpens : (tells : Type 0) → (schema : List ℕ) → Reads → Type 0
 NeverOpens tells schema reads = tells → (s : State) → OpensTo default_settings schema reads s → ⊥
 
--- why a replay answers an error: `refused` where a device refused a call, `quiet` where none did
-abbrev pub ReplayCause : (tells : Type 0) → (schema : List ℕ) → Reads → (script : Option (List ℕ)) → (refused quiet : Type 0) → TantivyError → Type 0
-ReplayCause tells schema reads script refused quiet (errors.InvalidArgument text) =
+-- why a replay answers an error: `busy` where a lock isn't given, `refused` where a device refused a call, `quiet` where none did
+abbrev pub ReplayCause : (tells : Type 0) → (schema : List ℕ) → Reads → (script : Option (List ℕ)) → (busy refused quiet : Type 0) → TantivyError → Type 0
+ReplayCause tells schema reads script busy refused quiet (errors.InvalidArgument text) =
     quiet × (OpeningRefusal tells schema reads (string_bytes text) ⊎ ((is_schema schema ≡ true) × (tells → HasNoIndex reads) × LineRefusal script (string_bytes text)))
-ReplayCause tells schema reads script refused quiet (errors.IoError fault) = (is_schema schema ≡ true) × IsDevice fault × refused
-ReplayCause tells schema reads script refused quiet (errors.OpenWriteError error) = (is_schema schema ≡ true) × (tells → HasNoIndex reads) × WriteFault refused error
-ReplayCause tells schema reads script refused quiet (errors.OpenReadError error) =
+ReplayCause tells schema reads script busy refused quiet (errors.LockFailure why text) = (is_schema schema ≡ true) × LockFault busy refused why × (text ≡ None)
+ReplayCause tells schema reads script busy refused quiet (errors.IoError fault) = (is_schema schema ≡ true) × IsDevice fault × refused
+ReplayCause tells schema reads script busy refused quiet (errors.OpenWriteError error) = (is_schema schema ≡ true) × (tells → HasNoIndex reads) × WriteFault refused error
+ReplayCause tells schema reads script busy refused quiet (errors.OpenReadError error) =
     (is_schema schema ≡ true) × (tells → HasNoIndex reads) × ReadFault refused quiet (IsBadFile tells schema reads script) (λ path. NeverOpens tells schema reads) error
-ReplayCause tells schema reads script refused quiet errors.Exhausted = quiet × (is_schema schema ≡ true) × (tells → HasNoIndex reads) × IsTooMany script
-ReplayCause tells schema reads script refused quiet errors.Memory = quiet
-ReplayCause tells schema reads script refused quiet other = ⊥
+ReplayCause tells schema reads script busy refused quiet errors.Exhausted = quiet × (is_schema schema ≡ true) × (tells → HasNoIndex reads) × IsTooMany script
+ReplayCause tells schema reads script busy refused quiet errors.Memory = quiet
+ReplayCause tells schema reads script busy refused quiet other = ⊥

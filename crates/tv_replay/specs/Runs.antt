@@ -1,7 +1,10 @@
 -- What a run of the program does.
-use Rattle.std.specs.Prelude.{ℕ, ◌≡◌, ◌≢◌, ◌⊎◌, List, [], ◌∷◌, ◌++◌, Option, Some, IsSome, codes}
+use Rattle.std.specs.Prelude.{ℕ, ◌≡◌, ◌≢◌, ◌⊎◌, true, List, [], ◌∷◌, ◌++◌, Option, Some, IsSome, codes}
 use Rattle.tv_model.specs.Files.{Reads, Heard, Rose, Same}
 use Rattle.tv_directory.specs.Telling.{TellsPart}
+use Rattle.tv_directory.specs.Locks.{Locks, SameLocks}
+use Rattle.tv_managed.specs.Collecting.{meta_lock_name}
+use Rattle.tv_replay.specs.StoreCauses.{IsBusy, writer_lock_name}
 use Rattle.tv_base.specs.declared.error.TantivyError.{TantivyError}
 use Rattle.tv_base.specs.declared.error.TantivyError.TheVariants as errors
 use Rattle.tv_replay.specs.ErrorLines.{error_line}
@@ -44,7 +47,7 @@ pub record Refuses {O : Type 0} (told tells_said : Type 0) (kept_before kept_now
   pub refused : Rose faults count
   pub only : OnlySays told tells_said kept_before kept_now count faults_now said_before said_now line
 
-module _ {O : Type 0} (tells tells_heard : Type 0) (reads : O → Reads) (heard : O → Heard) (faults refusals moment : O → ℕ) (told tells_said : Type 0) where
+module _ {O : Type 0} (tells tells_heard tells_locks : Type 0) (reads : O → Reads) (heard : O → Heard) (locks : O → Locks) (faults refusals moment : O → ℕ) (told tells_said : Type 0) where
   -- The whole script was replayed over the directory that was lent for the folder, which was given back, and no call was refused.
   pub record Succeeds (kept_before kept_now : Option O) (schema_there script left : Option (List ℕ)) (script_faults script_faults_now : ℕ) : Type 0 where
     pub before : O
@@ -56,12 +59,15 @@ module _ {O : Type 0} (tells tells_heard : Type 0) (reads : O → Reads) (heard 
     pub schema_is : told → schema_there ≡ Some schema
     pub replays : Replays tells tells_heard schema script left (reads before) (reads now) (heard before) (heard now) (refusals before) (refusals now) count
     pub quiet : (faults now ≡ faults before) × (script_faults_now ≡ script_faults)
+    -- the same locks are held as before
+    pub same_locks : tells_locks → SameLocks (locks before) (locks now)
 
   -- The directory was given back, and reads what it read when the replay stopped. A line was told to it, and nothing was said; or no more than a part of the line was told, and the line was said.
   pub record Reports (stopped : O) (kept_now : Option O) (place_faults place_faults_now : ℕ) (said_before said_now line : List ℕ) : Type 0 where
     pub now : O
     pub given_back : told → kept_now ≡ Some now
     pub content : tells → Same (reads stopped) (reads now)
+    pub still_locks : tells_locks → SameLocks (locks stopped) (locks now)
     pub reported :
         ((tells_heard → TellsLine (heard stopped) (heard now) (moment stopped) (moment now) line) × (place_faults_now ≡ place_faults) × (said_now ≡ said_before))
         ⊎ ((tells_heard → (told_at : ℕ) × TellsPart (heard stopped) (heard now) told_at line) × SaysLine tells_said place_faults place_faults_now said_before said_now line)
@@ -73,7 +79,8 @@ module _ {O : Type 0} (tells tells_heard : Type 0) (reads : O → Reads) (heard 
     pub schema : List ℕ
     pub lent : told → kept_before ≡ Some before
     pub schema_is : told → schema_there ≡ Some schema
-    pub cause : ReplayCause tells schema (reads before) script (Rose (faults before) (faults stopped) ⊎ Rose script_faults script_faults_now) ((faults stopped ≡ faults before) × (script_faults_now ≡ script_faults)) error
+    pub same_locks : tells_locks → SameLocks (locks before) (locks stopped)
+    pub cause : ReplayCause tells schema (reads before) script (IsBusy tells_locks ((locks before writer_lock_name ≡ true) ⊎ (locks before meta_lock_name ≡ true)) (Rose (faults before) (faults stopped))) (Rose (faults before) (faults stopped) ⊎ Rose script_faults script_faults_now) ((faults stopped ≡ faults before) × (script_faults_now ≡ script_faults)) error
     pub reports : Reports stopped kept_now place_faults place_faults_now said_before said_now line
 
   -- What stands after a run over a folder, with the schema of a path, that ended with this status.

@@ -1,11 +1,13 @@
 -- Why a store answers an error.
-use Rattle.std.specs.Prelude.{◌≡◌, ◌⊎◌, ℕ, List, true, false, codes, IsSome, string_bytes}
+use Rattle.std.specs.Prelude.{◌≡◌, ◌⊎◌, ℕ, List, None, true, false, codes, IsSome, string_bytes}
 use Rattle.tv_model.specs.Names.{list_name, meta_name}
 use Rattle.tv_model.specs.Files.{Reads}
 use Rattle.tv_model.specs.Commits.{is_schema}
 use Rattle.tv_base.specs.Causes.{IsDevice}
 use Rattle.tv_base.specs.declared.open_errors.OpenWriteError.TheVariants as write
 use Rattle.tv_base.specs.declared.open_errors.OpenWriteError.{OpenWriteError}
+use Rattle.tv_base.specs.declared.open_errors.LockError.{LockError}
+use Rattle.tv_base.specs.declared.open_errors.LockError.TheVariants as lock
 use Rattle.tv_base.specs.declared.error.TantivyError.{TantivyError}
 use Rattle.tv_base.specs.declared.error.TantivyError.TheVariants as errors
 
@@ -20,6 +22,26 @@ EventCause refused quiet spent (errors.OpenWriteError error) = WriteFault refuse
 EventCause refused quiet spent errors.Exhausted = quiet × spent
 EventCause refused quiet spent errors.Memory = quiet
 EventCause refused quiet spent other = ⊥
+
+-- the lock of the one who writes the index
+abbrev pub writer_lock_name : List ℕ
+writer_lock_name = codes ".tantivy-writer.lock"
+
+-- Why a lock isn't given: where locks are told, only where it is held; and where they aren't told, only where a call was refused.
+pub record IsBusy (tells_locks held refused : Type 0) : Type 0 where
+  pub told : tells_locks → held
+  pub untold : tells_locks ⊎ refused
+
+-- a lock is held, or the device refused the call that takes it
+abbrev pub LockFault : (busy refused : Type 0) → LockError → Type 0
+LockFault busy refused lock.LockBusy = busy
+LockFault busy refused (lock.IoError fault) = IsDevice fault × refused
+LockFault busy refused lock.Memory = ⊥
+
+-- an event that takes a lock fails as others do, or because the lock isn't given
+abbrev pub LockingCause : (busy refused quiet spent : Type 0) → TantivyError → Type 0
+LockingCause busy refused quiet spent (errors.LockFailure why text) = LockFault busy refused why × (text ≡ None)
+LockingCause busy refused quiet spent other = EventCause refused quiet spent other
 
 -- it isn't the error of a file that was to be made
 abbrev pub MakesNoFile : TantivyError → Type 0
@@ -49,9 +71,10 @@ IsRefusal text (errors.InvalidArgument t) = string_bytes t ≡ text
 IsRefusal text errors.Memory = Unit {0}
 IsRefusal text other = ⊥
 
--- why an opening fails
-abbrev pub OpeningCause : (tells : Type 0) → (schema : List ℕ) → Reads → (refused quiet : Type 0) → TantivyError → Type 0
-OpeningCause tells schema reads refused quiet (errors.InvalidArgument text) = quiet × OpeningRefusal tells schema reads (string_bytes text)
-OpeningCause tells schema reads refused quiet (errors.IoError fault) = (is_schema schema ≡ true) × IsDevice fault × refused
-OpeningCause tells schema reads refused quiet errors.Memory = quiet
-OpeningCause tells schema reads refused quiet other = ⊥
+-- why an opening fails: `busy` where the writer lock isn't given
+abbrev pub OpeningCause : (tells : Type 0) → (schema : List ℕ) → Reads → (busy refused quiet : Type 0) → TantivyError → Type 0
+OpeningCause tells schema reads busy refused quiet (errors.InvalidArgument text) = quiet × OpeningRefusal tells schema reads (string_bytes text)
+OpeningCause tells schema reads busy refused quiet (errors.LockFailure why text) = (is_schema schema ≡ true) × LockFault busy refused why × (text ≡ None)
+OpeningCause tells schema reads busy refused quiet (errors.IoError fault) = (is_schema schema ≡ true) × IsDevice fault × refused
+OpeningCause tells schema reads busy refused quiet errors.Memory = quiet
+OpeningCause tells schema reads busy refused quiet other = ⊥

@@ -2,8 +2,9 @@
 ghost use Rattle.std.specs.Prelude.{◌≡◌, ◌≤◌, ◌<◌, [], ◌∷◌, true, length, codes, IfOk, OnOk};
 ghost use Rattle.tv_model.specs.Files.{Same};
 ghost use Rattle.tv_model.specs.Lines.{line, has_no_feed};
+ghost use Rattle.tv_directory.specs.Locks.{SameLocks};
 
-use crate::store::IndexStore;
+use crate::store::Store;
 use std::alloc::Global;
 use tv_directory::Outside;
 use tv_model::{Answer, Memory};
@@ -16,7 +17,7 @@ pub(crate) fn refused(alloc: Global, word: &str) -> Result<Answer, Memory>
     Answer::new(alloc, "refused")?.word(word.as_bytes())
 }
 
-impl<O: Outside> IndexStore<O> {
+impl<O: Outside> Store<O> {
     // An answer in room that is made for it.
     pub(crate) fn ready(&mut self, answer: Answer) -> Result<Answer, Memory>
         ensures answer { IfOk result (λ ready. ready ≡ answer) }
@@ -26,6 +27,7 @@ impl<O: Outside> IndexStore<O> {
         ensures content { O.tells → Same (O.reads self.old.1) (O.reads self.new.1) }
         ensures quiet { O.faults self.new.1 ≡ O.faults self.old.1 }
         ensures heard { O.heard self.new.1 ≡ O.heard self.old.1 }
+        ensures locks { O.tells_locks → SameLocks (O.locks self.old.1) (O.locks self.new.1) }
         ensures clock { O.moment self.old.1 ≤ O.moment self.new.1 }
         ensures refusals { O.refusals self.new.1 ≡ O.refusals self.old.1 }
         ensures reading { self.new.0.reading ≡ self.old.0.reading }
@@ -45,6 +47,7 @@ impl<O: Outside> IndexStore<O> {
         ensures content { O.tells → Same (O.reads self.old.1) (O.reads self.new.1) }
         ensures quiet { O.faults self.new.1 ≡ O.faults self.old.1 }
         ensures heard { O.heard self.new.1 ≡ O.heard self.old.1 }
+        ensures locks { O.tells_locks → SameLocks (O.locks self.old.1) (O.locks self.new.1) }
         ensures clock { O.moment self.old.1 ≤ O.moment self.new.1 }
         ensures refusals { O.refusals self.new.1 ≡ O.refusals self.old.1 }
         ensures reading { self.new.0.reading ≡ self.old.0.reading }

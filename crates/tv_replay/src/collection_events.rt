@@ -1,5 +1,5 @@
 //! The event that collects files, and the one that ends a segment.
-ghost use Rattle.std.specs.Prelude.{◌≡◌, ◌≤◌, ◌<◌, ◌++◌, ◌∷◌, [], ℕ, Bool, not, length, cond, is_some, IfOk, IfErr, OnOk, List, map, string_bytes, ◌&&◌, ◌||◌, None};
+ghost use Rattle.std.specs.Prelude.{◌≡◌, ◌≤◌, ◌<◌, ◌++◌, ◌∷◌, [], ℕ, Bool, true, false, not, length, cond, is_some, IfOk, IfErr, OnOk, List, map, string_bytes, ◌&&◌, ◌||◌, None};
 ghost use Rattle.std.specs.List.{flat_map};
 ghost use Rattle.tv_model.specs.Names.{has, meta_name};
 ghost use Rattle.tv_model.specs.Files.{Rose, RoseBy, Same};
@@ -8,13 +8,15 @@ ghost use Rattle.tv_model.specs.Living.{segment_names};
 ghost use Rattle.tv_model.specs.State.{State, at};
 ghost use Rattle.tv_model.specs.CollectionEvents.{gc_step, collected_line, release_segment_step};
 ghost use Rattle.tv_model.specs.Lines.{line};
+ghost use Rattle.tv_directory.specs.Locks.{SameLocks};
+ghost use Rattle.tv_managed.specs.Collecting.{meta_lock_name};
 ghost use Rattle.tv_replay.specs.Kept.{Holds, AtMost};
-ghost use Rattle.tv_replay.specs.StoreCauses.{EventCause};
+ghost use Rattle.tv_replay.specs.StoreCauses.{EventCause, IsBusy, LockingCause};
 
 use crate::commit::listed;
 use crate::commit_events::push_name;
 use crate::files::Collected;
-use crate::store::IndexStore;
+use crate::store::Store;
 use std::alloc::Global;
 use std::collections::BTreeSet;
 use tv_base::{META_FILEPATH, TantivyError};
@@ -122,7 +124,7 @@ fn remove_all(set: &mut BTreeSet<FileName>, names: &[FileName])
     }
 }
 
-impl<O: Outside> IndexStore<O> {
+impl<O: Outside> Store<O> {
     // The names that are needed.
     fn living(&self) -> Result<BTreeSet<String>, Memory>
         ensures { IfOk result (λ set. (n : List ℕ) → has (map string_bytes set.keys) n ≡ has (meta_name ∷ flat_map segment_names (self.now.0.commit.segments ++ self.now.0.live)) n) }
@@ -141,6 +143,7 @@ impl<O: Outside> IndexStore<O> {
         ensures content { O.tells → Same (O.reads self.old.1) (O.reads self.new.1) }
         ensures quiet { O.faults self.new.1 ≡ O.faults self.old.1 }
         ensures heard { O.heard self.new.1 ≡ O.heard self.old.1 }
+        ensures locks { O.tells_locks → SameLocks (O.locks self.old.1) (O.locks self.new.1) }
         ensures clock { O.moment self.old.1 ≤ O.moment self.new.1 }
         ensures refusals { O.refusals self.new.1 ≡ O.refusals self.old.1 }
     {
@@ -159,7 +162,9 @@ impl<O: Outside> IndexStore<O> {
         ensures schema { self.new.0.schema ≡ self.old.0.schema }
         ensures lens { (bound : ℕ) → AtMost bound self.old.0 → AtMost bound self.new.0 }
         ensures quiet { OnOk result (O.faults self.new.1 ≡ O.faults self.old.1) }
-        ensures cause { IfErr result (EventCause (Rose (O.faults self.old.1) (O.faults self.new.1)) (O.faults self.new.1 ≡ O.faults self.old.1) ⊥) }
+        ensures free { O.tells_locks → OnOk result (O.locks self.old.1 meta_lock_name ≡ false) }
+        ensures cause { IfErr result (LockingCause (IsBusy O.tells_locks (O.locks self.old.1 meta_lock_name ≡ true) (Rose (O.faults self.old.1) (O.faults self.new.1))) (Rose (O.faults self.old.1) (O.faults self.new.1)) (O.faults self.new.1 ≡ O.faults self.old.1) ⊥) }
+        ensures locks { O.tells_locks → SameLocks (O.locks self.old.1) (O.locks self.new.1) }
         ensures clock { O.moment self.old.1 ≤ O.moment self.new.1 }
         ensures reading { self.new.0.reading ≡ self.old.0.reading }
     {
@@ -199,6 +204,7 @@ impl<O: Outside> IndexStore<O> {
         ensures lens { (bound : ℕ) → AtMost bound self.old.0 → AtMost bound self.new.0 }
         ensures quiet { OnOk result (O.faults self.new.1 ≡ O.faults self.old.1) }
         ensures cause { IfErr result (EventCause (Rose (O.faults self.old.1) (O.faults self.new.1)) (O.faults self.new.1 ≡ O.faults self.old.1) ⊥) }
+        ensures locks { O.tells_locks → SameLocks (O.locks self.old.1) (O.locks self.new.1) }
         ensures clock { O.moment self.old.1 ≤ O.moment self.new.1 }
         ensures refusals { O.refusals self.new.1 ≡ O.refusals self.old.1 }
         ensures reading { self.new.0.reading ≡ self.old.0.reading }

@@ -15,13 +15,14 @@ ghost use Rattle.tv_model.specs.CommitEvents.{commit_step, commit_sealed, first_
 ghost use Rattle.tv_model.specs.Commits.{IsSegment, IsCommit};
 ghost use Rattle.tv_model.specs.Index.{IsFileOf};
 ghost use Rattle.tv_managed.specs.Managed.{KeepsOtherFiles};
+ghost use Rattle.tv_directory.specs.Locks.{SameLocks};
 ghost use Rattle.tv_replay.specs.Choosing.{with_living};
 ghost use Rattle.tv_replay.specs.Kept.{Holds, AtMost};
 ghost use Rattle.tv_replay.specs.StoreCauses.{EventCause};
 
 use crate::answers::refused;
 use crate::commit::Commit;
-use crate::store::IndexStore;
+use crate::store::Store;
 use std::alloc::Global;
 use std::collections::BTreeMap;
 use tv_base::TantivyError;
@@ -199,7 +200,7 @@ fn new_commit(
     Ok(Commit::new(opstamp, payload, segments))
 }
 
-impl<O: Outside> IndexStore<O> {
+impl<O: Outside> Store<O> {
     // Whether a file isn't sealed.
     fn is_unsealed(&mut self, name: &FileName) -> Result<bool, TantivyError>
         ensures found { O.tells → (s : State) → Holds (O.reads self.old.1) self.old.0 s → IsFileOf name.now → IfOk result (λ found. found ≡ not (is_sealed (file_at s name.now))) }
@@ -210,6 +211,7 @@ impl<O: Outside> IndexStore<O> {
         ensures room { O.room self.old.1 ≤ O.room self.new.1 }
         ensures quiet { OnOk result (O.faults self.new.1 ≡ O.faults self.old.1) }
         ensures cause { IfErr result (EventCause (Rose (O.faults self.old.1) (O.faults self.new.1)) (O.faults self.new.1 ≡ O.faults self.old.1) ⊥) }
+        ensures locks { O.tells_locks → SameLocks (O.locks self.old.1) (O.locks self.new.1) }
         ensures clock { O.moment self.old.1 ≤ O.moment self.new.1 }
         ensures refusals { O.refusals self.new.1 ≡ O.refusals self.old.1 }
         ensures reading { self.new.0.reading ≡ self.old.0.reading }
@@ -234,6 +236,7 @@ impl<O: Outside> IndexStore<O> {
         ensures room { O.room self.old.1 ≤ O.room self.new.1 }
         ensures quiet { OnOk result (O.faults self.new.1 ≡ O.faults self.old.1) }
         ensures cause { IfErr result (EventCause (Rose (O.faults self.old.1) (O.faults self.new.1)) (O.faults self.new.1 ≡ O.faults self.old.1) ⊥) }
+        ensures locks { O.tells_locks → SameLocks (O.locks self.old.1) (O.locks self.new.1) }
         ensures clock { O.moment self.old.1 ≤ O.moment self.new.1 }
         ensures refusals { O.refusals self.new.1 ≡ O.refusals self.old.1 }
         ensures reading { self.new.0.reading ≡ self.old.0.reading }
@@ -255,6 +258,7 @@ impl<O: Outside> IndexStore<O> {
         ensures content { O.tells → Same (O.reads self.old.1) (O.reads self.new.1) }
         ensures quiet { O.faults self.new.1 ≡ O.faults self.old.1 }
         ensures heard { O.heard self.new.1 ≡ O.heard self.old.1 }
+        ensures locks { O.tells_locks → SameLocks (O.locks self.old.1) (O.locks self.new.1) }
         ensures clock { O.moment self.old.1 ≤ O.moment self.new.1 }
         ensures refusals { O.refusals self.new.1 ≡ O.refusals self.old.1 }
         ensures reading { self.new.0.reading ≡ self.old.0.reading }
@@ -273,6 +277,7 @@ impl<O: Outside> IndexStore<O> {
         ensures content { O.tells → Same (O.reads self.old.1) (O.reads self.new.1) }
         ensures quiet { O.faults self.new.1 ≡ O.faults self.old.1 }
         ensures heard { O.heard self.new.1 ≡ O.heard self.old.1 }
+        ensures locks { O.tells_locks → SameLocks (O.locks self.old.1) (O.locks self.new.1) }
         ensures clock { O.moment self.old.1 ≤ O.moment self.new.1 }
         ensures refusals { O.refusals self.new.1 ≡ O.refusals self.old.1 }
         ensures reading { self.new.0.reading ≡ self.old.0.reading }
@@ -291,6 +296,7 @@ impl<O: Outside> IndexStore<O> {
         ensures content { O.tells → Same (O.reads self.old.1) (O.reads self.new.1) }
         ensures quiet { O.faults self.new.1 ≡ O.faults self.old.1 }
         ensures heard { O.heard self.new.1 ≡ O.heard self.old.1 }
+        ensures locks { O.tells_locks → SameLocks (O.locks self.old.1) (O.locks self.new.1) }
         ensures clock { O.moment self.old.1 ≤ O.moment self.new.1 }
         ensures refusals { O.refusals self.new.1 ≡ O.refusals self.old.1 }
         ensures reading { self.new.0.reading ≡ self.old.0.reading }
@@ -314,6 +320,7 @@ impl<O: Outside> IndexStore<O> {
         ensures room { O.room self.old.1 ≤ O.room self.new.1 }
         ensures quiet { OnOk result (O.faults self.new.1 ≡ O.faults self.old.1) }
         ensures cause { IfErr result (EventCause (Rose (O.faults self.old.1) (O.faults self.new.1)) (O.faults self.new.1 ≡ O.faults self.old.1) ⊥) }
+        ensures locks { O.tells_locks → SameLocks (O.locks self.old.1) (O.locks self.new.1) }
         ensures clock { O.moment self.old.1 ≤ O.moment self.new.1 }
         ensures refusals { O.refusals self.new.1 ≡ O.refusals self.old.1 }
         ensures reading { self.new.0.reading ≡ self.old.0.reading }
@@ -338,6 +345,7 @@ impl<O: Outside> IndexStore<O> {
         ensures lens { (bound : ℕ) → AtMost bound self.old.0 → AtMost bound self.new.0 }
         ensures quiet { OnOk result (O.faults self.new.1 ≡ O.faults self.old.1) }
         ensures cause { IfErr result (EventCause (Rose (O.faults self.old.1) (O.faults self.new.1)) (O.faults self.new.1 ≡ O.faults self.old.1) ⊥) }
+        ensures locks { O.tells_locks → SameLocks (O.locks self.old.1) (O.locks self.new.1) }
         ensures clock { O.moment self.old.1 ≤ O.moment self.new.1 }
         ensures refusals { O.refusals self.new.1 ≡ O.refusals self.old.1 }
         ensures reading { self.new.0.reading ≡ self.old.0.reading }
@@ -371,6 +379,7 @@ impl<O: Outside> IndexStore<O> {
         ensures lens { (bound : ℕ) → AtMost bound self.old.0 → AtMost bound self.new.0 }
         ensures quiet { OnOk result (O.faults self.new.1 ≡ O.faults self.old.1) }
         ensures cause { IfErr result (EventCause (Rose (O.faults self.old.1) (O.faults self.new.1)) (O.faults self.new.1 ≡ O.faults self.old.1) ⊥) }
+        ensures locks { O.tells_locks → SameLocks (O.locks self.old.1) (O.locks self.new.1) }
         ensures clock { O.moment self.old.1 ≤ O.moment self.new.1 }
         ensures refusals { O.refusals self.new.1 ≡ O.refusals self.old.1 }
         ensures reading { self.new.0.reading ≡ self.old.0.reading }

@@ -1,9 +1,9 @@
 //! The line that a run tells or says of an error.
 ghost use Rattle.std.specs.Prelude.{◌≡◌, ◌++◌, IfOk};
-ghost use Rattle.tv_replay.specs.ErrorLines.{argument_line, read_line, error_line};
+ghost use Rattle.tv_replay.specs.ErrorLines.{argument_line, format_line, lock_line, read_line, error_line};
 
 use std::alloc::Global;
-use tv_base::{IoKind, OpenReadError, TantivyError};
+use tv_base::{Incompatibility, IoKind, LockError, OpenReadError, TantivyError};
 use tv_model::Memory;
 
 // A line of this text.
@@ -35,6 +35,23 @@ fn line_of(alloc: Global, text: &str, name: &str) -> Result<Vec<u8>, Memory>
     Ok(line)
 }
 
+// The line of a file of another format.
+fn format_line(alloc: Global, why: &Incompatibility) -> Result<Vec<u8>, Memory>
+    ensures { IfOk result (λ line. line.items ≡ format_line why.now) }
+{
+    match why {
+        Incompatibility::IndexMismatch { index_version, .. } => {
+            let mut digits = itoa::Buffer::new();
+            line_of(
+                alloc,
+                "error format ",
+                digits.format(index_version.index_format_version),
+            )
+        }
+        Incompatibility::CompressionMismatch { .. } => line(alloc, "error"),
+    }
+}
+
 // The line of a file that can't be read.
 fn read_line(alloc: Global, error: &OpenReadError) -> Result<Vec<u8>, Memory>
     ensures { IfOk result (λ line. line.items ≡ read_line error.now) }
@@ -46,7 +63,19 @@ fn read_line(alloc: Global, error: &OpenReadError) -> Result<Vec<u8>, Memory>
             IoKind::InvalidData => line_of(alloc, "error footer ", filepath.as_str()),
         },
         OpenReadError::FileDoesNotExist(path) => line_of(alloc, "error missing ", path.as_str()),
-        _ => line(alloc, "error"),
+        OpenReadError::IncompatibleIndex(why) => format_line(alloc, why),
+        OpenReadError::Memory => line(alloc, "error"),
+    }
+}
+
+// The line of a lock that isn't given.
+fn lock_line(alloc: Global, why: &LockError) -> Result<Vec<u8>, Memory>
+    ensures { IfOk result (λ line. line.items ≡ lock_line why.now) }
+{
+    match why {
+        LockError::LockBusy => line(alloc, "error lock"),
+        LockError::IoError(_) => line(alloc, "error io"),
+        LockError::Memory => line(alloc, "error memory"),
     }
 }
 
@@ -55,9 +84,8 @@ pub(crate) fn error_line(alloc: Global, error: &TantivyError) -> Result<Vec<u8>,
     ensures { IfOk result (λ line. line.items ≡ error_line error.now) }
 {
     match error {
-        TantivyError::IoError(_)
-        | TantivyError::OpenWriteError(_)
-        | TantivyError::LockFailure(_, _) => line(alloc, "error io"),
+        TantivyError::IoError(_) | TantivyError::OpenWriteError(_) => line(alloc, "error io"),
+        TantivyError::LockFailure(why, _) => lock_line(alloc, why),
         TantivyError::OpenReadError(error) => read_line(alloc, error),
         TantivyError::OpenDirectoryError(_) => line(alloc, "error folder"),
         TantivyError::InvalidArgument(text) => argument_line(alloc, text.as_str()),

@@ -13,19 +13,22 @@ ghost use Rattle.tv_model.specs.Lines.{has_no_feed};
 ghost use Rattle.tv_base.specs.Causes.{IsDevice};
 ghost use Rattle.tv_managed.specs.Managed.{KeepsOtherFiles, Makes};
 ghost use Rattle.tv_model.specs.Collections.{collectable};
-ghost use Rattle.tv_managed.specs.Collecting.{Tells, FailsAtMost};
+ghost use Rattle.tv_managed.specs.Collecting.{meta_lock_name, Tells, FailsAtMost};
 ghost use Rattle.tv_managed.specs.Writers.{IsSummed};
+ghost use Rattle.tv_directory.specs.Locks.{FreesLock, LockCause, SameLocks, TakesLock};
 ghost use Rattle.tv_replay.specs.ReadCauses.{ApplyCause};
-ghost use Rattle.tv_replay.specs.Bodies.{ReadsBody, HasNoBody};
-ghost use Rattle.tv_replay.specs.StoreCauses.{EventCause, MakesNoFile};
+ghost use Rattle.tv_replay.specs.Bodies.{ReadsBody, RefusesAt};
+ghost use Rattle.tv_replay.specs.StoreCauses.{EventCause, IsBusy, LockingCause, MakesNoFile};
 ghost use Rattle.tv_replay.specs.Telling.{TellsLine, TellsNoLine};
 
 use std::alloc::Global;
 use std::collections::{BTreeMap, BTreeSet};
 use std::marker::Model;
 use std::mem;
-use tv_base::{FileSlice, IoFault, META_FILEPATH, OpenReadError, OpenWriteError, TantivyError};
-use tv_directory::{Directory, Outside};
+use tv_base::{
+    FileSlice, IoFault, LockError, META_FILEPATH, OpenReadError, OpenWriteError, TantivyError,
+};
+use tv_directory::{Directory, DirectoryLock, Lock, Outside};
 use tv_managed::{ManagedDirectory, ManagedWriter};
 use tv_model::{FileName, Memory};
 
@@ -131,6 +134,7 @@ impl<O: Outside> Files<O> {
         ensures names { self.new.1 ≡ self.old.1 }
         ensures open_files { self.new.2 ≡ self.old.2 }
         ensures quiet { O.faults self.new.0 ≡ O.faults self.old.0 }
+        ensures locks { O.tells_locks → SameLocks (O.locks self.old.0) (O.locks self.new.0) }
         ensures clock { O.moment self.old.0 ≤ O.moment self.new.0 }
         ensures refusals { O.refusals self.new.0 ≡ O.refusals self.old.0 }
         ensures heard { O.heard self.new.0 ≡ O.heard self.old.0 }
@@ -150,10 +154,46 @@ impl<O: Outside> Files<O> {
         ensures open_files { self.new.2 ≡ self.old.2 }
         ensures quiet { OnOk result (O.faults self.new.0 ≡ O.faults self.old.0) }
         ensures cause { IfErr result (λ fault. IsDevice fault × Rose (O.faults self.old.0) (O.faults self.new.0)) }
+        ensures locks { O.tells_locks → SameLocks (O.locks self.old.0) (O.locks self.new.0) }
         ensures clock { O.moment self.old.0 ≤ O.moment self.new.0 }
         ensures refusals { O.refusals self.new.0 ≡ O.refusals self.old.0 }
     {
         self.directory.tell(line)
+    }
+
+    /// Takes a lock.
+    pub(crate) fn acquire_lock(&mut self, lock: &Lock) -> Result<DirectoryLock, LockError>
+        requires { is_file_name lock.now.filepath.now ≡ true }
+        ensures token { IfOk result (λ token. token ≡ lock.now.filepath.now) }
+        ensures taken { O.tells_locks → OnOk result (TakesLock (O.locks self.old.0) (O.locks self.new.0) lock.now.filepath.now) }
+        ensures busy { O.tells_locks → IfErr result (LockCause (O.locks self.old.0 lock.now.filepath.now ≡ true) (Unit {0}) (Unit {0})) }
+        ensures err { O.tells_locks → OnErr result (SameLocks (O.locks self.old.0) (O.locks self.new.0)) }
+        ensures content { O.tells → Same (O.reads self.old.0) (O.reads self.new.0) }
+        ensures names { self.new.1 ≡ self.old.1 }
+        ensures open_files { self.new.2 ≡ self.old.2 }
+        ensures quiet { OnOk result (O.faults self.new.0 ≡ O.faults self.old.0) }
+        ensures cause { IfErr result (LockCause ((O.tells_locks × (O.faults self.new.0 ≡ O.faults self.old.0)) ⊎ Rose (O.faults self.old.0) (O.faults self.new.0)) (Rose (O.faults self.old.0) (O.faults self.new.0)) (O.faults self.new.0 ≡ O.faults self.old.0)) }
+        ensures refusals { O.refusals self.new.0 ≡ O.refusals self.old.0 }
+        ensures clock { O.moment self.old.0 ≤ O.moment self.new.0 }
+        ensures heard { O.heard self.new.0 ≡ O.heard self.old.0 }
+        ensures room { O.room self.old.0 ≤ O.room self.new.0 }
+    {
+        self.directory.acquire_lock(lock)
+    }
+
+    /// Frees a lock. Takes no memory.
+    pub(crate) fn release(&mut self, lock: DirectoryLock)
+        ensures freed { O.tells_locks → FreesLock (O.locks self.old.0) (O.locks self.new.0) lock }
+        ensures content { O.tells → Same (O.reads self.old.0) (O.reads self.new.0) }
+        ensures names { self.new.1 ≡ self.old.1 }
+        ensures open_files { self.new.2 ≡ self.old.2 }
+        ensures faults { O.faults self.new.0 ≡ O.faults self.old.0 }
+        ensures refusals { O.refusals self.new.0 ≡ O.refusals self.old.0 }
+        ensures clock { O.moment self.old.0 ≤ O.moment self.new.0 }
+        ensures heard { O.heard self.new.0 ≡ O.heard self.old.0 }
+        ensures room { O.room self.old.0 ≤ O.room self.new.0 }
+    {
+        self.directory.release(lock);
     }
 
     /// Whether a file is there and isn't open.
@@ -164,6 +204,7 @@ impl<O: Outside> Files<O> {
         ensures open_files { self.new.2 ≡ self.old.2 }
         ensures quiet { OnOk result (O.faults self.new.0 ≡ O.faults self.old.0) }
         ensures cause { IfErr result (EventCause (Rose (O.faults self.old.0) (O.faults self.new.0)) (O.faults self.new.0 ≡ O.faults self.old.0) ⊥) }
+        ensures locks { O.tells_locks → SameLocks (O.locks self.old.0) (O.locks self.new.0) }
         ensures clock { O.moment self.old.0 ≤ O.moment self.new.0 }
         ensures refusals { O.refusals self.new.0 ≡ O.refusals self.old.0 }
         ensures heard { O.heard self.new.0 ≡ O.heard self.old.0 }
@@ -192,6 +233,7 @@ impl<O: Outside> Files<O> {
         ensures lens { OnErr result (self.new.2 ≡ self.old.2) }
         ensures quiet { OnOk result (O.faults self.new.0 ≡ O.faults self.old.0) }
         ensures cause { IfErr result (EventCause (Rose (O.faults self.old.0) (O.faults self.new.0)) (O.faults self.new.0 ≡ O.faults self.old.0) ⊥) }
+        ensures locks { O.tells_locks → SameLocks (O.locks self.old.0) (O.locks self.new.0) }
         ensures clock { O.moment self.old.0 ≤ O.moment self.new.0 }
         ensures refusals { O.refusals self.new.0 ≡ O.refusals self.old.0 }
         ensures heard { O.heard self.new.0 ≡ O.heard self.old.0 }
@@ -217,6 +259,7 @@ impl<O: Outside> Files<O> {
         ensures lens { OnErr result (self.new.2 ≡ remove_entry (is_at (byte_cmp name)) self.old.2) }
         ensures quiet { OnOk result (O.faults self.new.0 ≡ O.faults self.old.0) }
         ensures cause { IfErr result (EventCause (Rose (O.faults self.old.0) (O.faults self.new.0)) (O.faults self.new.0 ≡ O.faults self.old.0) ⊥) }
+        ensures locks { O.tells_locks → SameLocks (O.locks self.old.0) (O.locks self.new.0) }
         ensures clock { O.moment self.old.0 ≤ O.moment self.new.0 }
         ensures refusals { O.refusals self.new.0 ≡ O.refusals self.old.0 }
         ensures heard { O.heard self.new.0 ≡ O.heard self.old.0 }
@@ -241,6 +284,7 @@ impl<O: Outside> Files<O> {
         ensures names { self.new.1 ≡ self.old.1 }
         ensures quiet { OnOk result (O.faults self.new.0 ≡ O.faults self.old.0) }
         ensures cause { IfErr result (EventCause (Rose (O.faults self.old.0) (O.faults self.new.0)) (O.faults self.new.0 ≡ O.faults self.old.0) ⊥) }
+        ensures locks { O.tells_locks → SameLocks (O.locks self.old.0) (O.locks self.new.0) }
         ensures clock { O.moment self.old.0 ≤ O.moment self.new.0 }
         ensures refusals { O.refusals self.new.0 ≡ O.refusals self.old.0 }
         ensures heard { O.heard self.new.0 ≡ O.heard self.old.0 }
@@ -272,7 +316,8 @@ impl<O: Outside> Files<O> {
         ensures names { self.new.1 ≡ self.old.1 }
         ensures open_files { self.new.2 ≡ self.old.2 }
         ensures quiet { OnOk result (O.faults self.new.0 ≡ O.faults self.old.0) }
-        ensures cause { IfErr result (ApplyCause (Rose (O.faults self.old.0) (O.faults self.new.0)) (O.faults self.new.0 ≡ O.faults self.old.0) ⊥ (λ path. (path ≡ name.now) × (O.tells → HasNoBody (O.reads self.old.0) path)) (λ path. (path ≡ name.now) × (O.tells → O.reads self.old.0 path ≡ None))) }
+        ensures cause { IfErr result (ApplyCause ⊥ (Rose (O.faults self.old.0) (O.faults self.new.0)) (O.faults self.new.0 ≡ O.faults self.old.0) ⊥ (λ error. O.tells → RefusesAt (O.reads self.old.0) name.now error) (λ path. (path ≡ name.now) × (O.tells → O.reads self.old.0 path ≡ None))) }
+        ensures locks { O.tells_locks → SameLocks (O.locks self.old.0) (O.locks self.new.0) }
         ensures clock { O.moment self.old.0 ≤ O.moment self.new.0 }
         ensures refusals { O.refusals self.new.0 ≡ O.refusals self.old.0 }
         ensures heard { O.heard self.new.0 ≡ O.heard self.old.0 }
@@ -294,7 +339,9 @@ impl<O: Outside> Files<O> {
         ensures open_files { IfOk result (λ c. (n : List ℕ) → at self.new.2 n ≡ cond (has c.deleted.items n) None (at self.old.2 n)) }
         ensures lens { (bound : ℕ) → AllByRecursion (λ e. length e.1 ≤ bound) self.old.2 → AllByRecursion (λ e. length e.1 ≤ bound) self.new.2 }
         ensures quiet { OnOk result (O.faults self.new.0 ≡ O.faults self.old.0) }
-        ensures cause { IfErr result (EventCause (Rose (O.faults self.old.0) (O.faults self.new.0)) (O.faults self.new.0 ≡ O.faults self.old.0) ⊥) }
+        ensures free { O.tells_locks → OnOk result (O.locks self.old.0 meta_lock_name ≡ false) }
+        ensures cause { IfErr result (LockingCause (IsBusy O.tells_locks (O.locks self.old.0 meta_lock_name ≡ true) (Rose (O.faults self.old.0) (O.faults self.new.0))) (Rose (O.faults self.old.0) (O.faults self.new.0)) (O.faults self.new.0 ≡ O.faults self.old.0) ⊥) }
+        ensures locks { O.tells_locks → SameLocks (O.locks self.old.0) (O.locks self.new.0) }
         ensures clock { O.moment self.old.0 ≤ O.moment self.new.0 }
         ensures heard { O.heard self.new.0 ≡ O.heard self.old.0 }
         ensures room { O.room self.old.0 ≤ O.room self.new.0 }
@@ -322,6 +369,7 @@ impl<O: Outside> Files<O> {
         ensures quiet { OnOk result (O.faults self.new.0 ≡ O.faults self.old.0) }
         ensures cause { IfErr result (EventCause (Rose (O.faults self.old.0) (O.faults self.new.0)) (O.faults self.new.0 ≡ O.faults self.old.0) ⊥) }
         ensures file { IfErr result MakesNoFile }
+        ensures locks { O.tells_locks → SameLocks (O.locks self.old.0) (O.locks self.new.0) }
         ensures clock { O.moment self.old.0 ≤ O.moment self.new.0 }
         ensures refusals { O.refusals self.new.0 ≡ O.refusals self.old.0 }
         ensures heard { O.heard self.new.0 ≡ O.heard self.old.0 }

@@ -11,6 +11,7 @@ mod error_line;
 mod file_events;
 mod files;
 mod held;
+mod index_store;
 mod lines;
 mod next_event;
 mod opening;
@@ -28,9 +29,9 @@ mod store;
 mod words;
 
 pub use bench_place::BenchPlace;
+pub use index_store::IndexStore;
 pub use place::Place;
 pub use program::run;
 pub use replaying::{Replayed, Tally, replay};
 pub use script::parse_event;
-pub use store::IndexStore;
 pub use tv_model::{Answer, Blob, Event, IdList, ReloadPolicy, SegmentComponent, SegmentId, Text};

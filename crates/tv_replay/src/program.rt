@@ -4,6 +4,7 @@ ghost use Rattle.tv_base.specs.declared.error.TantivyError.TheVariants as errors
 ghost use Rattle.tv_model.specs.Files.{Same};
 ghost use Rattle.tv_model.specs.Lines.{has_no_feed};
 ghost use Rattle.tv_directory.specs.Telling.{TellsPart};
+ghost use Rattle.tv_directory.specs.Locks.{SameLocks};
 ghost use Rattle.tv_replay.specs.ErrorLines.{error_line};
 ghost use Rattle.tv_replay.specs.Runs.{replay_words, usage_line, memory_line, OnlySays, Ends, Reports};
 ghost use Rattle.tv_replay.specs.Telling.{TellsLine};
@@ -41,7 +42,7 @@ pub fn run<P: Place, R: Source>(
     ensures usage_line { result ≡ 2 → OnlySays P.tells P.tells_said (P.kept place.old) (P.kept place.new) (P.faults place.old) (P.faults place.new) (P.said place.old) (P.said place.new) usage_line }
     // What was replayed, told and said.
     ensures ends { (folder path : List ℕ) → map string_bytes words.now ≡ replay_words folder path
-        → Ends P.Out.tells P.Out.tells_heard P.Out.reads P.Out.heard P.Out.faults P.Out.refusals P.Out.moment P.tells P.tells_said (P.kept place.old) (P.kept place.new) folder (P.schemas place.old path) (R.left script.old) (R.left script.new) (R.faults script.old) (R.faults script.new) (P.faults place.old) (P.faults place.new) (P.said place.old) (P.said place.new) result }
+        → Ends P.Out.tells P.Out.tells_heard P.Out.tells_locks P.Out.reads P.Out.heard P.Out.locks P.Out.faults P.Out.refusals P.Out.moment P.tells P.tells_said (P.kept place.old) (P.kept place.new) folder (P.schemas place.old path) (R.left script.old) (R.left script.new) (R.faults script.old) (R.faults script.new) (P.faults place.old) (P.faults place.new) (P.said place.old) (P.said place.new) result }
     // After the whole script nothing was said, and the place refused no call.
     ensures nothing_said { result ≡ 0 → P.said place.new ≡ P.said place.old }
     ensures quiet { result ≡ 0 → P.faults place.new ≡ P.faults place.old }
@@ -70,7 +71,7 @@ fn run_replay<P: Place, R: Source>(
     requires folder { P.is_folder_path folder.now }
     requires path { P.is_schema_path path.now }
     ensures free { P.lent place.new ≡ None }
-    ensures ends { Ends P.Out.tells P.Out.tells_heard P.Out.reads P.Out.heard P.Out.faults P.Out.refusals P.Out.moment P.tells P.tells_said (P.kept place.old) (P.kept place.new) folder.now (P.schemas place.old path.now) (R.left script.old) (R.left script.new) (R.faults script.old) (R.faults script.new) (P.faults place.old) (P.faults place.new) (P.said place.old) (P.said place.new) result }
+    ensures ends { Ends P.Out.tells P.Out.tells_heard P.Out.tells_locks P.Out.reads P.Out.heard P.Out.locks P.Out.faults P.Out.refusals P.Out.moment P.tells P.tells_said (P.kept place.old) (P.kept place.new) folder.now (P.schemas place.old path.now) (R.left script.old) (R.left script.new) (R.faults script.old) (R.faults script.new) (P.faults place.old) (P.faults place.new) (P.said place.old) (P.said place.new) result }
     ensures nothing_said { result ≡ 0 → P.said place.new ≡ P.said place.old }
     ensures quiet { result ≡ 0 → P.faults place.new ≡ P.faults place.old }
 {
@@ -141,8 +142,8 @@ fn give_back_after<P: Place>(
     requires lent { IsSome (P.lent place.old) }
     requires feed { has_no_feed (error_line error) ≡ true }
     ensures free { P.lent place.new ≡ None }
-    ensures other { (folder : List ℕ) → P.lent place.old ≡ Some folder → result ≡ 1 → (error ≢ errors.Memory) × Reports P.Out.tells P.Out.tells_heard P.Out.reads P.Out.heard P.Out.faults P.Out.refusals P.Out.moment P.tells P.tells_said outside (P.kept place.new folder) (P.faults place.old) (P.faults place.new) (P.said place.old) (P.said place.new) (error_line error) }
-    ensures memory { (folder : List ℕ) → P.lent place.old ≡ Some folder → result ≡ 3 → Reports P.Out.tells P.Out.tells_heard P.Out.reads P.Out.heard P.Out.faults P.Out.refusals P.Out.moment P.tells P.tells_said outside (P.kept place.new folder) (P.faults place.old) (P.faults place.new) (P.said place.old) (P.said place.new) memory_line }
+    ensures other { (folder : List ℕ) → P.lent place.old ≡ Some folder → result ≡ 1 → (error ≢ errors.Memory) × Reports P.Out.tells P.Out.tells_heard P.Out.tells_locks P.Out.reads P.Out.heard P.Out.locks P.Out.faults P.Out.refusals P.Out.moment P.tells P.tells_said outside (P.kept place.new folder) (P.faults place.old) (P.faults place.new) (P.said place.old) (P.said place.new) (error_line error) }
+    ensures memory { (folder : List ℕ) → P.lent place.old ≡ Some folder → result ≡ 3 → Reports P.Out.tells P.Out.tells_heard P.Out.tells_locks P.Out.reads P.Out.heard P.Out.locks P.Out.faults P.Out.refusals P.Out.moment P.tells P.tells_said outside (P.kept place.new folder) (P.faults place.old) (P.faults place.new) (P.said place.old) (P.said place.new) memory_line }
     ensures statuses { (result ≡ 1) ⊎ (result ≡ 3) }
 {
     match error_line(alloc, &error) {
@@ -163,7 +164,7 @@ fn report<P: Place>(place: &mut P, outside: P::Out, line: &[u8])
     requires lent { IsSome (P.lent place.old) }
     requires feed { has_no_feed line.now ≡ true }
     ensures free { P.lent place.new ≡ None }
-    ensures reports { (folder : List ℕ) → P.lent place.old ≡ Some folder → Reports P.Out.tells P.Out.tells_heard P.Out.reads P.Out.heard P.Out.faults P.Out.refusals P.Out.moment P.tells P.tells_said outside (P.kept place.new folder) (P.faults place.old) (P.faults place.new) (P.said place.old) (P.said place.new) line.now }
+    ensures reports { (folder : List ℕ) → P.lent place.old ≡ Some folder → Reports P.Out.tells P.Out.tells_heard P.Out.tells_locks P.Out.reads P.Out.heard P.Out.locks P.Out.faults P.Out.refusals P.Out.moment P.tells P.tells_said outside (P.kept place.new folder) (P.faults place.old) (P.faults place.new) (P.said place.old) (P.said place.new) line.now }
 {
     let mut outside = outside;
     let told = tell_line(&mut outside, line);
@@ -180,6 +181,7 @@ fn tell_line<O: Outside>(outside: &mut O, line: &[u8]) -> bool
     ensures told { O.tells_heard → result ≡ true → TellsLine (O.heard outside.old) (O.heard outside.new) (O.moment outside.old) (O.moment outside.new) line.now }
     ensures part { O.tells_heard → result ≡ false → (told_at : ℕ) × TellsPart (O.heard outside.old) (O.heard outside.new) told_at line.now }
     ensures content { O.tells → Same (O.reads outside.old) (O.reads outside.new) }
+    ensures locks { O.tells_locks → SameLocks (O.locks outside.old) (O.locks outside.new) }
 {
     match outside.ready(line.len()) {
         Ok(()) => outside.tell(line).is_ok(),

@@ -1,27 +1,29 @@
 //! The events of readers.
-ghost use Rattle.std.specs.Prelude.{◌≡◌, ◌≤◌, ◌<◌, ◌+◌, ◌^◌, ℕ, length, None, IsSome, IfOk, IfErr, OnOk};
+ghost use Rattle.std.specs.Prelude.{◌≡◌, ◌≤◌, ◌<◌, ◌+◌, ◌^◌, ℕ, true, false, length, None, IsSome, IfOk, IfErr, OnOk};
 ghost use Rattle.tv_model.specs.Files.{Rose, Same};
 ghost use Rattle.tv_model.specs.Segments.{required_names};
-ghost use Rattle.tv_model.specs.State.{State, reader_at};
+ghost use Rattle.tv_model.specs.State.{State, at_number, reader_at};
 ghost use Rattle.tv_model.specs.declared.event.Event.TheVariants as events;
 ghost use Rattle.tv_model.specs.SoundStates.{IsWhole};
 ghost use Rattle.tv_model.specs.Readable.{CanRead};
 ghost use Rattle.tv_model.specs.ReaderEvents.{snapshot_in, reader_step, reload_step, release_reader_step};
-ghost use Rattle.tv_replay.specs.Bodies.{ReadsBody, HasNoBody, AreBodies, AreSealed, ReadsSegment, FailsAt};
+ghost use Rattle.tv_directory.specs.Locks.{SameLocks};
+ghost use Rattle.tv_managed.specs.Collecting.{meta_lock_name};
+ghost use Rattle.tv_replay.specs.Bodies.{ReadsBody, RefusesAt, AreBodies, AreSealed, ReadsSegment, FailsAt};
 ghost use Rattle.tv_replay.specs.Kept.{Holds, AtMost};
 ghost use Rattle.tv_replay.specs.ReaderNumbers.{FewNumbers};
 ghost use Rattle.tv_replay.specs.Applying.{LacksIn, BadIn, HoldsNone};
 ghost use Rattle.tv_replay.specs.ReadCauses.{ApplyCause};
-ghost use Rattle.tv_replay.specs.StoreCauses.{EventCause};
+ghost use Rattle.tv_replay.specs.StoreCauses.{EventCause, IsBusy};
 
 use crate::commit_events::required_of;
 use crate::snapshot::{SegmentReader, Snapshot};
-use crate::store::IndexStore;
+use crate::store::Store;
 use tv_base::{FileSlice, TantivyError};
-use tv_directory::Outside;
+use tv_directory::{Outside, meta_lock};
 use tv_model::{Answer, FileName, LiveSegment, ReloadPolicy, SegmentId};
 
-impl<O: Outside> IndexStore<O> {
+impl<O: Outside> Store<O> {
     // The body of a sealed file.
     fn read_body(&mut self, name: &FileName) -> Result<FileSlice, TantivyError>
         ensures body { O.tells → IfOk result (λ body. ReadsBody (O.reads self.old.1) name.now body) }
@@ -31,7 +33,8 @@ impl<O: Outside> IndexStore<O> {
         ensures heard { O.heard self.new.1 ≡ O.heard self.old.1 }
         ensures room { O.room self.old.1 ≤ O.room self.new.1 }
         ensures quiet { OnOk result (O.faults self.new.1 ≡ O.faults self.old.1) }
-        ensures cause { IfErr result (ApplyCause (Rose (O.faults self.old.1) (O.faults self.new.1)) (O.faults self.new.1 ≡ O.faults self.old.1) ⊥ (λ path. (path ≡ name.now) × (O.tells → HasNoBody (O.reads self.old.1) path)) (λ path. (path ≡ name.now) × (O.tells → O.reads self.old.1 path ≡ None))) }
+        ensures cause { IfErr result (ApplyCause ⊥ (Rose (O.faults self.old.1) (O.faults self.new.1)) (O.faults self.new.1 ≡ O.faults self.old.1) ⊥ (λ error. O.tells → RefusesAt (O.reads self.old.1) name.now error) (λ path. (path ≡ name.now) × (O.tells → O.reads self.old.1 path ≡ None))) }
+        ensures locks { O.tells_locks → SameLocks (O.locks self.old.1) (O.locks self.new.1) }
         ensures clock { O.moment self.old.1 ≤ O.moment self.new.1 }
         ensures refusals { O.refusals self.new.1 ≡ O.refusals self.old.1 }
     {
@@ -49,6 +52,7 @@ impl<O: Outside> IndexStore<O> {
         ensures room { O.room self.old.1 ≤ O.room self.new.1 }
         ensures quiet { OnOk result (O.faults self.new.1 ≡ O.faults self.old.1) }
         ensures cause { IfErr result (FailsAt O.tells (O.reads self.old.1) names.entry.now (Rose (O.faults self.old.1) (O.faults self.new.1)) (O.faults self.new.1 ≡ O.faults self.old.1)) }
+        ensures locks { O.tells_locks → SameLocks (O.locks self.old.1) (O.locks self.new.1) }
         ensures clock { O.moment self.old.1 ≤ O.moment self.new.1 }
         ensures refusals { O.refusals self.new.1 ≡ O.refusals self.old.1 }
     {
@@ -74,6 +78,7 @@ impl<O: Outside> IndexStore<O> {
         ensures room { O.room self.old.1 ≤ O.room self.new.1 }
         ensures quiet { OnOk result (O.faults self.new.1 ≡ O.faults self.old.1) }
         ensures cause { IfErr result (FailsAt O.tells (O.reads self.old.1) (required_names id segment) (Rose (O.faults self.old.1) (O.faults self.new.1)) (O.faults self.new.1 ≡ O.faults self.old.1)) }
+        ensures locks { O.tells_locks → SameLocks (O.locks self.old.1) (O.locks self.new.1) }
         ensures clock { O.moment self.old.1 ≤ O.moment self.new.1 }
         ensures refusals { O.refusals self.new.1 ≡ O.refusals self.old.1 }
     {
@@ -82,8 +87,8 @@ impl<O: Outside> IndexStore<O> {
         Ok(SegmentReader::new(id, segment, bodies))
     }
 
-    // The current commit with the bodies of its files, under this number.
-    fn snapshot(&mut self, generation: u64) -> Result<Snapshot, TantivyError>
+    // The current commit with the bodies of its files, under this number, as they read now.
+    fn read_snapshot(&mut self, generation: u64) -> Result<Snapshot, TantivyError>
         ensures shown { O.tells → (s : State) → Holds (O.reads self.old.1) self.old.0 s → IsWhole s → IfOk result (λ shown. (shown ≡ snapshot_in s generation) × CanRead s) }
         ensures content { O.tells → Same (O.reads self.old.1) (O.reads self.new.1) }
         ensures kept { self.new.0 ≡ self.old.0 }
@@ -91,7 +96,8 @@ impl<O: Outside> IndexStore<O> {
         ensures heard { O.heard self.new.1 ≡ O.heard self.old.1 }
         ensures room { O.room self.old.1 ≤ O.room self.new.1 }
         ensures quiet { OnOk result (O.faults self.new.1 ≡ O.faults self.old.1) }
-        ensures cause { IfErr result (ApplyCause (Rose (O.faults self.old.1) (O.faults self.new.1)) (O.faults self.new.1 ≡ O.faults self.old.1) ⊥ (LacksIn O.tells (O.reads self.old.1) self.old.0) (λ path. HoldsNone O.tells (O.reads self.old.1) self.old.0)) }
+        ensures cause { IfErr result (ApplyCause ⊥ (Rose (O.faults self.old.1) (O.faults self.new.1)) (O.faults self.new.1 ≡ O.faults self.old.1) ⊥ (LacksIn O.tells (O.reads self.old.1) self.old.0) (λ path. HoldsNone O.tells (O.reads self.old.1) self.old.0)) }
+        ensures locks { O.tells_locks → SameLocks (O.locks self.old.1) (O.locks self.new.1) }
         ensures clock { O.moment self.old.1 ≤ O.moment self.new.1 }
         ensures refusals { O.refusals self.new.1 ≡ O.refusals self.old.1 }
     {
@@ -106,6 +112,28 @@ impl<O: Outside> IndexStore<O> {
         Ok(Snapshot::new(generation, self.commit.opstamp(), payload, readers))
     }
 
+    // The current commit with the bodies of its files, under this number. They are read
+    // while the meta lock is held.
+    fn snapshot(&mut self, generation: u64) -> Result<Snapshot, TantivyError>
+        ensures shown { O.tells → (s : State) → Holds (O.reads self.old.1) self.old.0 s → IsWhole s → IfOk result (λ shown. (shown ≡ snapshot_in s generation) × CanRead s) }
+        ensures content { O.tells → Same (O.reads self.old.1) (O.reads self.new.1) }
+        ensures kept { self.new.0 ≡ self.old.0 }
+        ensures open { self.new.2 ≡ self.old.2 }
+        ensures heard { O.heard self.new.1 ≡ O.heard self.old.1 }
+        ensures room { O.room self.old.1 ≤ O.room self.new.1 }
+        ensures quiet { OnOk result (O.faults self.new.1 ≡ O.faults self.old.1) }
+        ensures free { O.tells_locks → OnOk result (O.locks self.old.1 meta_lock_name ≡ false) }
+        ensures cause { IfErr result (ApplyCause (IsBusy O.tells_locks (O.locks self.old.1 meta_lock_name ≡ true) (Rose (O.faults self.old.1) (O.faults self.new.1))) (Rose (O.faults self.old.1) (O.faults self.new.1)) (O.faults self.new.1 ≡ O.faults self.old.1) ⊥ (LacksIn O.tells (O.reads self.old.1) self.old.0) (λ path. HoldsNone O.tells (O.reads self.old.1) self.old.0)) }
+        ensures locks { O.tells_locks → SameLocks (O.locks self.old.1) (O.locks self.new.1) }
+        ensures clock { O.moment self.old.1 ≤ O.moment self.new.1 }
+        ensures refusals { O.refusals self.new.1 ≡ O.refusals self.old.1 }
+    {
+        let lock = self.files.acquire_lock(&meta_lock())?;
+        let shown = self.read_snapshot(generation);
+        self.files.release(lock);
+        shown
+    }
+
     // A new reader, which shows the current commit.
     pub(crate) fn reader(&mut self, policy: ReloadPolicy) -> Result<Answer, TantivyError>
         ensures step { O.tells → (s : State) → Holds (O.reads self.old.1) self.old.0 s → IsWhole s → IfOk result (λ answer. (answer ≡ (reader_step s policy).0) × Holds (O.reads self.new.1) self.new.0 (reader_step s policy).1 × CanRead s) }
@@ -116,7 +144,9 @@ impl<O: Outside> IndexStore<O> {
         ensures lens { (bound : ℕ) → AtMost bound self.old.0 → AtMost bound self.new.0 }
         ensures numbers { (bound : ℕ) → FewNumbers bound self.old.0.reading → OnOk result (FewNumbers (bound + 1) self.new.0.reading) }
         ensures quiet { OnOk result (O.faults self.new.1 ≡ O.faults self.old.1) }
-        ensures cause { IfErr result (ApplyCause (Rose (O.faults self.old.1) (O.faults self.new.1)) (O.faults self.new.1 ≡ O.faults self.old.1) ((bound : ℕ) → FewNumbers bound self.old.0.reading → 2 ^ 64 ≤ bound + 1) (BadIn O.tells (O.reads self.old.1) self.old.0 (events.Reader policy)) (λ path. HoldsNone O.tells (O.reads self.old.1) self.old.0)) }
+        ensures free { O.tells_locks → OnOk result (O.locks self.old.1 meta_lock_name ≡ false) }
+        ensures cause { IfErr result (ApplyCause (IsBusy O.tells_locks (O.locks self.old.1 meta_lock_name ≡ true) (Rose (O.faults self.old.1) (O.faults self.new.1))) (Rose (O.faults self.old.1) (O.faults self.new.1)) (O.faults self.new.1 ≡ O.faults self.old.1) ((bound : ℕ) → FewNumbers bound self.old.0.reading → 2 ^ 64 ≤ bound + 1) (BadIn O.tells (O.reads self.old.1) self.old.0 (events.Reader policy)) (λ path. HoldsNone O.tells (O.reads self.old.1) self.old.0)) }
+        ensures locks { O.tells_locks → SameLocks (O.locks self.old.1) (O.locks self.new.1) }
         ensures clock { O.moment self.old.1 ≤ O.moment self.new.1 }
         ensures refusals { O.refusals self.new.1 ≡ O.refusals self.old.1 }
     {
@@ -144,7 +174,9 @@ impl<O: Outside> IndexStore<O> {
         ensures lens { (bound : ℕ) → AtMost bound self.old.0 → AtMost bound self.new.0 }
         ensures numbers { (bound : ℕ) → FewNumbers bound self.old.0.reading → OnOk result (FewNumbers (bound + 1) self.new.0.reading) }
         ensures quiet { OnOk result (O.faults self.new.1 ≡ O.faults self.old.1) }
-        ensures cause { IfErr result (ApplyCause (Rose (O.faults self.old.1) (O.faults self.new.1)) (O.faults self.new.1 ≡ O.faults self.old.1) ((bound : ℕ) → FewNumbers bound self.old.0.reading → 2 ^ 64 ≤ bound + 1) (BadIn O.tells (O.reads self.old.1) self.old.0 (events.Reload number)) (λ path. HoldsNone O.tells (O.reads self.old.1) self.old.0)) }
+        ensures free { O.tells_locks → IsSome (at_number self.old.0.reading.readers number) → OnOk result (O.locks self.old.1 meta_lock_name ≡ false) }
+        ensures cause { IfErr result (ApplyCause (IsBusy O.tells_locks (O.locks self.old.1 meta_lock_name ≡ true) (Rose (O.faults self.old.1) (O.faults self.new.1))) (Rose (O.faults self.old.1) (O.faults self.new.1)) (O.faults self.new.1 ≡ O.faults self.old.1) ((bound : ℕ) → FewNumbers bound self.old.0.reading → 2 ^ 64 ≤ bound + 1) (BadIn O.tells (O.reads self.old.1) self.old.0 (events.Reload number)) (λ path. HoldsNone O.tells (O.reads self.old.1) self.old.0)) }
+        ensures locks { O.tells_locks → SameLocks (O.locks self.old.1) (O.locks self.new.1) }
         ensures clock { O.moment self.old.1 ≤ O.moment self.new.1 }
         ensures refusals { O.refusals self.new.1 ≡ O.refusals self.old.1 }
     {
@@ -176,6 +208,7 @@ impl<O: Outside> IndexStore<O> {
         ensures numbers { (bound : ℕ) → FewNumbers bound self.old.0.reading → OnOk result (FewNumbers bound self.new.0.reading) }
         ensures quiet { OnOk result (O.faults self.new.1 ≡ O.faults self.old.1) }
         ensures cause { IfErr result (EventCause (Rose (O.faults self.old.1) (O.faults self.new.1)) (O.faults self.new.1 ≡ O.faults self.old.1) ⊥) }
+        ensures locks { O.tells_locks → SameLocks (O.locks self.old.1) (O.locks self.new.1) }
         ensures clock { O.moment self.old.1 ≤ O.moment self.new.1 }
         ensures refusals { O.refusals self.new.1 ≡ O.refusals self.old.1 }
     {

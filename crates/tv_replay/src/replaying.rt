@@ -1,17 +1,19 @@
 //! A script replayed over a directory.
-ghost use Rattle.std.specs.Prelude.{◌≡◌, ◌≢◌, ◌⊎◌, ℕ, List, [], Some, None, true, IfOk, IfErr, OnOk, string_bytes};
+ghost use Rattle.std.specs.Prelude.{◌≡◌, ◌≢◌, ◌⊎◌, ℕ, List, [], Some, None, true, false, IfOk, IfErr, OnOk, string_bytes};
 ghost use Rattle.tv_model.specs.Files.{Rose};
-ghost use Rattle.tv_replay.specs.Completeness.{IsReady};
+ghost use Rattle.tv_directory.specs.Locks.{SameLocks};
+ghost use Rattle.tv_replay.specs.Completeness.{AreFree, IsReady};
 ghost use Rattle.tv_replay.specs.Kept.{AtMost};
 ghost use Rattle.tv_replay.specs.ScriptLines.{pending, TakesEvent};
 ghost use Rattle.tv_replay.specs.Replays.{Replays, ReplayCause, LineRefusal, IsTooMany, line_refusal, long_refusal};
 ghost use Rattle.tv_replay.specs.ReaderNumbers.{FewNumbers};
 ghost use Rattle.tv_replay.specs.Applying.{Runs, RunCause, BadSince, HoldsNone, IsErrorOf};
-ghost use Rattle.tv_replay.specs.StoreCauses.{IsRefusal};
+ghost use Rattle.tv_replay.specs.StoreCauses.{IsBusy, IsRefusal, writer_lock_name};
+ghost use Rattle.tv_managed.specs.Collecting.{meta_lock_name};
 
 use crate::held::Held;
+use crate::index_store::IndexStore;
 use crate::next_event::{ScriptError, next_event};
-use crate::store::IndexStore;
 use std::alloc::{AllocError, Global};
 use tv_base::{Source, TantivyError};
 use tv_directory::Outside;
@@ -44,9 +46,13 @@ pub fn replay<O: Outside, R: Source>(
     // No call was refused where it answers Ok.
     ensures quiet { OnOk result.outcome ((O.faults result.outside ≡ O.faults outside) × (R.faults script.new ≡ R.faults script.old)) }
     // Why it answers an error.
-    ensures cause { IfErr result.outcome (ReplayCause O.tells schema.now (O.reads outside) (R.left script.old) (Rose (O.faults outside) (O.faults result.outside) ⊎ Rose (R.faults script.old) (R.faults script.new)) ((O.faults result.outside ≡ O.faults outside) × (R.faults script.new ≡ R.faults script.old))) }
-    // Where it is told a valid schema, a valid script and a sound start without an index, and no call but deletes is refused, it comes to its end, or wants memory.
-    ensures complete { O.tells → IsReady schema.now (R.left script.old) (O.reads outside) → (Rose (O.faults outside) (O.faults result.outside) ⊎ Rose (R.faults script.old) (R.faults script.new) → ⊥) → IfErr result.outcome (λ error. error ≡ TantivyError.Memory) }
+    ensures cause { IfErr result.outcome (ReplayCause O.tells schema.now (O.reads outside) (R.left script.old) (IsBusy O.tells_locks ((O.locks outside writer_lock_name ≡ true) ⊎ (O.locks outside meta_lock_name ≡ true)) (Rose (O.faults outside) (O.faults result.outside))) (Rose (O.faults outside) (O.faults result.outside) ⊎ Rose (R.faults script.old) (R.faults script.new)) ((O.faults result.outside ≡ O.faults outside) × (R.faults script.new ≡ R.faults script.old))) }
+    // The lock of the writer was free where it answers Ok.
+    ensures free { O.tells_locks → OnOk result.outcome (O.locks outside writer_lock_name ≡ false) }
+    // The same locks are held as before.
+    ensures locks { O.tells_locks → SameLocks (O.locks outside) (O.locks result.outside) }
+    // Where it is told a valid schema, a valid script and a sound start without an index, no lock is held, and no call but deletes is refused, it comes to its end, or wants memory.
+    ensures complete { O.tells → O.tells_locks → AreFree (O.locks outside) → IsReady schema.now (R.left script.old) (O.reads outside) → (Rose (O.faults outside) (O.faults result.outside) ⊎ Rose (R.faults script.old) (R.faults script.new) → ⊥) → IfErr result.outcome (λ error. error ≡ TantivyError.Memory) }
 {
     let mut store = match IndexStore::open(alloc, outside, schema) {
         Ok(store) => store,
@@ -75,7 +81,8 @@ fn apply_all<O: Outside, R: Source>(
     requires few { FewNumbers 0 store.old.0.reading }
     ensures done { IfOk result (λ tally. Runs O.tells O.tells_heard (O.reads store.old.1) (O.reads store.new.1) store.old.0 store.new.0 (O.heard store.old.1) (O.heard store.new.1) (O.refusals store.old.1) (O.refusals store.new.1) (R.left script.old) (R.left script.new) tally.events) }
     ensures quiet { OnOk result ((O.faults store.new.1 ≡ O.faults store.old.1) × (R.faults script.new ≡ R.faults script.old)) }
-    ensures cause { IfErr result (RunCause (LineRefusal (R.left script.old)) (IsTooMany (R.left script.old)) (Rose (O.faults store.old.1) (O.faults store.new.1) ⊎ Rose (R.faults script.old) (R.faults script.new)) ((O.faults store.new.1 ≡ O.faults store.old.1) × (R.faults script.new ≡ R.faults script.old)) (BadSince O.tells (O.reads store.old.1) store.old.0 (R.left script.old)) (λ path. HoldsNone O.tells (O.reads store.old.1) store.old.0)) }
+    ensures locks { O.tells_locks → SameLocks (O.locks store.old.1) (O.locks store.new.1) }
+    ensures cause { IfErr result (RunCause (IsBusy O.tells_locks (O.locks store.old.1 meta_lock_name ≡ true) (Rose (O.faults store.old.1) (O.faults store.new.1))) (LineRefusal (R.left script.old)) (IsTooMany (R.left script.old)) (Rose (O.faults store.old.1) (O.faults store.new.1) ⊎ Rose (R.faults script.old) (R.faults script.new)) ((O.faults store.new.1 ≡ O.faults store.old.1) × (R.faults script.new ≡ R.faults script.old)) (BadSince O.tells (O.reads store.old.1) store.old.0 (R.left script.old)) (λ path. HoldsNone O.tells (O.reads store.old.1) store.old.0)) }
 {
     let mut held = Held::new(alloc)?;
     for events in 0..u32::MAX {
@@ -95,7 +102,7 @@ fn end_of<R: Source>(alloc: Global, script: &mut R, held: &mut Held) -> Result<T
     ensures count { IfOk result (λ tally. tally.events ≡ u32.MAX) }
     ensures end { OnOk result ((rest : List ℕ) → pending held.old (R.left script.old) ≡ Some rest → TakesEvent rest None (pending held.new (R.left script.new))) }
     ensures quiet { OnOk result (R.faults script.new ≡ R.faults script.old) }
-    ensures cause { IfErr result (RunCause (λ text. ⊥) ((rest : List ℕ) → pending held.old (R.left script.old) ≡ Some rest → rest ≢ []) (Rose (R.faults script.old) (R.faults script.new)) (R.faults script.new ≡ R.faults script.old) (λ path. ⊥) (λ path. ⊥)) }
+    ensures cause { IfErr result (RunCause ⊥ (λ text. ⊥) ((rest : List ℕ) → pending held.old (R.left script.old) ≡ Some rest → rest ≢ []) (Rose (R.faults script.old) (R.faults script.new)) (R.faults script.new ≡ R.faults script.old) (λ error. ⊥) (λ path. ⊥)) }
 {
     match next_event(alloc, script, held) {
         Ok(None) => Ok(Tally { events: u32::MAX }),

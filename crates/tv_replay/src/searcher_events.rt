@@ -3,17 +3,18 @@ ghost use Rattle.std.specs.Prelude.{◌≡◌, ◌≤◌, ◌<◌, ◌+◌, ◌^
 ghost use Rattle.tv_model.specs.Files.{Rose};
 ghost use Rattle.tv_model.specs.State.{State};
 ghost use Rattle.tv_model.specs.SearcherEvents.{searcher_step, show_step, bytes_step, release_searcher_step};
+ghost use Rattle.tv_directory.specs.Locks.{SameLocks};
 ghost use Rattle.tv_replay.specs.Kept.{Holds, AtMost};
 ghost use Rattle.tv_replay.specs.ReaderNumbers.{FewNumbers};
 ghost use Rattle.tv_replay.specs.StoreCauses.{EventCause};
 
 use crate::readers::BodyAnswer;
-use crate::store::IndexStore;
+use crate::store::Store;
 use tv_base::TantivyError;
 use tv_directory::Outside;
 use tv_model::{Answer, SegmentComponent};
 
-impl<O: Outside> IndexStore<O> {
+impl<O: Outside> Store<O> {
     // A new searcher, which shows for life what a reader shows now.
     pub(crate) fn searcher(&mut self, number: u64) -> Result<Answer, TantivyError>
         ensures step { O.tells → (s : State) → Holds (O.reads self.old.1) self.old.0 s → IfOk result (λ answer. (answer ≡ (searcher_step s number).0) × Holds (O.reads self.new.1) self.new.0 (searcher_step s number).1) }
@@ -25,6 +26,7 @@ impl<O: Outside> IndexStore<O> {
         ensures numbers { (bound : ℕ) → FewNumbers bound self.old.0.reading → OnOk result (FewNumbers (bound + 1) self.new.0.reading) }
         ensures quiet { OnOk result (O.faults self.new.1 ≡ O.faults self.old.1) }
         ensures cause { IfErr result (EventCause (Rose (O.faults self.old.1) (O.faults self.new.1)) (O.faults self.new.1 ≡ O.faults self.old.1) ((bound : ℕ) → FewNumbers bound self.old.0.reading → 2 ^ 64 ≤ bound + 1)) }
+        ensures locks { O.tells_locks → SameLocks (O.locks self.old.1) (O.locks self.new.1) }
         ensures clock { O.moment self.old.1 ≤ O.moment self.new.1 }
         ensures refusals { O.refusals self.new.1 ≡ O.refusals self.old.1 }
     {
@@ -50,6 +52,7 @@ impl<O: Outside> IndexStore<O> {
         ensures lens { (bound : ℕ) → AtMost bound self.old.0 → AtMost bound self.new.0 }
         ensures quiet { OnOk result (O.faults self.new.1 ≡ O.faults self.old.1) }
         ensures cause { IfErr result (EventCause (Rose (O.faults self.old.1) (O.faults self.new.1)) (O.faults self.new.1 ≡ O.faults self.old.1) ⊥) }
+        ensures locks { O.tells_locks → SameLocks (O.locks self.old.1) (O.locks self.new.1) }
         ensures clock { O.moment self.old.1 ≤ O.moment self.new.1 }
         ensures refusals { O.refusals self.new.1 ≡ O.refusals self.old.1 }
         ensures reading { self.new.0.reading ≡ self.old.0.reading }
@@ -77,6 +80,7 @@ impl<O: Outside> IndexStore<O> {
         ensures lens { (bound : ℕ) → AtMost bound self.old.0 → AtMost bound self.new.0 }
         ensures quiet { OnOk result (O.faults self.new.1 ≡ O.faults self.old.1) }
         ensures cause { IfErr result (EventCause (Rose (O.faults self.old.1) (O.faults self.new.1)) (O.faults self.new.1 ≡ O.faults self.old.1) ⊥) }
+        ensures locks { O.tells_locks → SameLocks (O.locks self.old.1) (O.locks self.new.1) }
         ensures clock { O.moment self.old.1 ≤ O.moment self.new.1 }
         ensures refusals { O.refusals self.new.1 ≡ O.refusals self.old.1 }
         ensures reading { self.new.0.reading ≡ self.old.0.reading }
@@ -100,6 +104,7 @@ impl<O: Outside> IndexStore<O> {
         ensures numbers { (bound : ℕ) → FewNumbers bound self.old.0.reading → OnOk result (FewNumbers bound self.new.0.reading) }
         ensures quiet { OnOk result (O.faults self.new.1 ≡ O.faults self.old.1) }
         ensures cause { IfErr result (EventCause (Rose (O.faults self.old.1) (O.faults self.new.1)) (O.faults self.new.1 ≡ O.faults self.old.1) ⊥) }
+        ensures locks { O.tells_locks → SameLocks (O.locks self.old.1) (O.locks self.new.1) }
         ensures clock { O.moment self.old.1 ≤ O.moment self.new.1 }
         ensures refusals { O.refusals self.new.1 ≡ O.refusals self.old.1 }
     {

@@ -4,12 +4,13 @@ ghost use Rattle.hex.specs.Hex.{encode_lower};
 ghost use Rattle.tv_model.specs.Lines.{line};
 ghost use Rattle.tv_model.specs.Files.{Rose};
 ghost use Rattle.tv_model.specs.State.{State, at};
+ghost use Rattle.tv_directory.specs.Locks.{SameLocks};
 ghost use Rattle.tv_replay.specs.Kept.{Holds, AtMost};
 ghost use Rattle.tv_replay.specs.StoreCauses.{EventCause};
 ghost use Rattle.tv_model.specs.SegmentEvents.{segment_step, docs_step, is_named};
 ghost use Rattle.tv_model.specs.ReportEvents.{managed_step};
 
-use crate::store::IndexStore;
+use crate::store::Store;
 use std::collections::BTreeSet;
 use tv_base::TantivyError;
 use tv_directory::Outside;
@@ -28,7 +29,7 @@ fn is_named(names: &BTreeSet<String>, id: SegmentId, digits: String) -> bool
     }
 }
 
-impl<O: Outside> IndexStore<O> {
+impl<O: Outside> Store<O> {
     // Whether the id is that of a live segment, of one of the commit, or begins a managed name.
     fn is_in_use(&self, id: SegmentId) -> Result<bool, Memory>
         ensures { IfOk result (λ used. used ≡ (is_some (at self.now.0.live id) || is_some (at self.now.0.commit.segments id) || is_named self.now.0.managed id)) }
@@ -54,6 +55,7 @@ impl<O: Outside> IndexStore<O> {
         ensures lens { (bound : ℕ) → AtMost bound self.old.0 → AtMost bound self.new.0 }
         ensures quiet { OnOk result (O.faults self.new.1 ≡ O.faults self.old.1) }
         ensures cause { IfErr result (EventCause (Rose (O.faults self.old.1) (O.faults self.new.1)) (O.faults self.new.1 ≡ O.faults self.old.1) ⊥) }
+        ensures locks { O.tells_locks → SameLocks (O.locks self.old.1) (O.locks self.new.1) }
         ensures clock { O.moment self.old.1 ≤ O.moment self.new.1 }
         ensures refusals { O.refusals self.new.1 ≡ O.refusals self.old.1 }
         ensures reading { self.new.0.reading ≡ self.old.0.reading }
@@ -84,6 +86,7 @@ impl<O: Outside> IndexStore<O> {
         ensures lens { (bound : ℕ) → AtMost bound self.old.0 → AtMost bound self.new.0 }
         ensures quiet { OnOk result (O.faults self.new.1 ≡ O.faults self.old.1) }
         ensures cause { IfErr result (EventCause (Rose (O.faults self.old.1) (O.faults self.new.1)) (O.faults self.new.1 ≡ O.faults self.old.1) ⊥) }
+        ensures locks { O.tells_locks → SameLocks (O.locks self.old.1) (O.locks self.new.1) }
         ensures clock { O.moment self.old.1 ≤ O.moment self.new.1 }
         ensures refusals { O.refusals self.new.1 ≡ O.refusals self.old.1 }
         ensures reading { self.new.0.reading ≡ self.old.0.reading }
@@ -125,6 +128,7 @@ impl<O: Outside> IndexStore<O> {
         ensures lens { (bound : ℕ) → AtMost bound self.old.0 → AtMost bound self.new.0 }
         ensures quiet { OnOk result (O.faults self.new.1 ≡ O.faults self.old.1) }
         ensures cause { IfErr result (EventCause (Rose (O.faults self.old.1) (O.faults self.new.1)) (O.faults self.new.1 ≡ O.faults self.old.1) ⊥) }
+        ensures locks { O.tells_locks → SameLocks (O.locks self.old.1) (O.locks self.new.1) }
         ensures clock { O.moment self.old.1 ≤ O.moment self.new.1 }
         ensures refusals { O.refusals self.new.1 ≡ O.refusals self.old.1 }
         ensures reading { self.new.0.reading ≡ self.old.0.reading }

@@ -1,16 +1,18 @@
-//! An index that is open: what is kept of it in memory, and its files.
+//! What is kept in memory of an index that is open, and its files.
 ghost use Rattle.std.specs.Prelude.{◌≡◌, ◌≤◌, ◌<◌, ◌+◌, ◌^◌, ◌++◌, [], ◌∷◌, ℕ, true, false, length, IfOk, IfErr, OnOk, OnErr, is_ok, IsTrue, ◌↔◌};
 ghost use Rattle.tv_model.specs.Files.{Rose};
 ghost use Rattle.tv_model.specs.Lines.{opening_of};
 ghost use Rattle.tv_model.specs.Commits.{is_schema, default_settings};
 ghost use Rattle.tv_model.specs.State.{State, no_readers};
 ghost use Rattle.tv_model.specs.Index.{HasNoIndex, OpensTo};
+ghost use Rattle.tv_directory.specs.Locks.{SameLocks};
+ghost use Rattle.tv_managed.specs.Collecting.{meta_lock_name};
 ghost use Rattle.tv_replay.specs.Kept.{Holds, AtMost};
 ghost use Rattle.tv_replay.specs.ScriptLines.{written_by};
 ghost use Rattle.tv_replay.specs.ReaderNumbers.{FewNumbers};
 ghost use Rattle.tv_replay.specs.Applying.{Stepped, Spent, BadIn, HoldsNone};
-ghost use Rattle.tv_replay.specs.ReadCauses.{ApplyCause};
-ghost use Rattle.tv_replay.specs.StoreCauses.{OpeningCause};
+ghost use Rattle.tv_replay.specs.ReadCauses.{ApplyCause, TakesMetaLock};
+ghost use Rattle.tv_replay.specs.StoreCauses.{IsBusy, OpeningCause};
 ghost use Rattle.tv_replay.specs.Telling.{TellsLine, TellsNoLine};
 
 use crate::commit::Commit;
@@ -25,9 +27,9 @@ use tv_directory::Outside;
 use tv_managed::Refused;
 use tv_model::{Answer, Blob, Event, FileName, LiveSegment, Opstamp, SegmentId};
 
-/// An index over a directory. One event after the other is applied to it, and the line of each is
-/// told. To a contract it is what is kept in memory, the directory, and whether it is open.
-pub struct IndexStore<O: Outside> {
+/// An index over a directory, whose locks are somebody else's. To a contract it is what is kept in
+/// memory, the directory, and whether it is open.
+pub(crate) struct Store<O: Outside> {
     pub(crate) alloc: Global,
     pub(crate) schema: Blob,
     pub(crate) files: Files<O>,
@@ -40,7 +42,7 @@ pub struct IndexStore<O: Outside> {
     pub(crate) open: bool,
 }
 
-impl<O: Outside> Model for IndexStore<O> {
+impl<O: Outside> Model for Store<O> {
     ghost use Rattle.std.specs.Prelude.{Bool};
     ghost use Rattle.tv_replay.specs.Kept.{Kept};
 
@@ -49,22 +51,30 @@ impl<O: Outside> Model for IndexStore<O> {
     ghost view = { λ a. (record { schema = a.schema; live = a.live.entries; next = a.next; commit = a.commit; managed = a.files.1; open_files = a.files.2; left = a.left.keys; reading = a.readers }, a.files.0, a.open) };
 }
 
-impl<O: Outside> IndexStore<O> {
-    /// Makes an index with this schema in a directory where none stands, and tells the opening line.
-    /// A refusal gives the directory back.
-    pub fn open(alloc: Global, outside: O, schema: &[u8]) -> Result<IndexStore<O>, Refused<O>>
-        ensures open { IfOk result (λ store. (store.2 ≡ true) × (store.0.schema ≡ schema.now)) }
-        ensures schema { OnOk result (is_schema schema.now ≡ true) }
+impl<O: Outside> Store<O> {
+    /// Makes an index with this schema in a directory where none stands. Its opening line is yet to be
+    /// told, in room that was made for it. A refusal gives the directory back.
+    pub(crate) fn make(
+        alloc: Global,
+        outside: O,
+        schema: &[u8],
+    ) -> Result<(Store<O>, Answer), Refused<O>>
+        ensures schema { IfOk result (λ made. made.0.0.schema ≡ schema.now) }
+        ensures accepted { OnOk result (is_schema schema.now ≡ true) }
         ensures none { O.tells → OnOk result (HasNoIndex (O.reads outside)) }
-        ensures holds { O.tells → (s : State) → OpensTo default_settings schema.now (O.reads outside) s → IfOk result (λ store. Holds (O.reads store.1) store.0 s) }
-        ensures told { O.tells_heard → IfOk result (λ store. TellsLine (O.heard outside) (O.heard store.1) (O.moment outside) (O.moment store.1) (opening_of store.0.commit)) }
-        ensures part { O.tells_heard → IfErr result (λ refused. TellsNoLine (O.heard outside) (O.heard refused.directory)) }
-        ensures lens { IfOk result (λ store. AtMost 0 store.0) }
-        ensures numbers { IfOk result (λ store. store.0.reading ≡ no_readers) }
-        ensures refusals { IfOk result (λ store. O.refusals store.1 ≡ O.refusals outside) }
-        ensures quiet { IfOk result (λ store. O.faults store.1 ≡ O.faults outside) }
-        ensures cause { IfErr result (λ refused. OpeningCause O.tells schema.now (O.reads outside) (Rose (O.faults outside) (O.faults refused.directory)) (O.faults refused.directory ≡ O.faults outside) refused.error) }
-        ensures clock { IfOk result (λ store. O.moment outside ≤ O.moment store.1) }
+        ensures holds { O.tells → (s : State) → OpensTo default_settings schema.now (O.reads outside) s → IfOk result (λ made. Holds (O.reads made.0.1) made.0.0 s) }
+        ensures line { IfOk result (λ made. made.1 ≡ opening_of made.0.0.commit) }
+        ensures room { IfOk result (λ made. length made.1 < O.room made.0.1) }
+        ensures heard { IfOk result (λ made. O.heard made.0.1 ≡ O.heard outside) }
+        ensures silent { IfErr result (λ refused. O.heard refused.directory ≡ O.heard outside) }
+        ensures lens { IfOk result (λ made. AtMost 0 made.0.0) }
+        ensures numbers { IfOk result (λ made. made.0.0.reading ≡ no_readers) }
+        ensures refusals { IfOk result (λ made. O.refusals made.0.1 ≡ O.refusals outside) }
+        ensures quiet { IfOk result (λ made. O.faults made.0.1 ≡ O.faults outside) }
+        ensures cause { IfErr result (λ refused. OpeningCause O.tells schema.now (O.reads outside) ⊥ (Rose (O.faults outside) (O.faults refused.directory)) (O.faults refused.directory ≡ O.faults outside) refused.error) }
+        ensures locks { O.tells_locks → IfOk result (λ made. SameLocks (O.locks outside) (O.locks made.0.1)) }
+        ensures free { O.tells_locks → IfErr result (λ refused. SameLocks (O.locks outside) (O.locks refused.directory)) }
+        ensures clock { IfOk result (λ made. O.moment outside ≤ O.moment made.0.1) }
     {
         let mut outside = outside;
         if let Err(error) = check_empty(alloc, &mut outside, schema) {
@@ -73,9 +83,9 @@ impl<O: Outside> IndexStore<O> {
                 directory: outside,
             });
         }
-        let mut store = IndexStore::wrap(alloc, outside, schema)?;
+        let mut store = Store::wrap(alloc, outside, schema)?;
         match store.create() {
-            Ok(()) => Ok(store),
+            Ok(line) => Ok((store, line)),
             Err(error) => Err(Refused {
                 error,
                 directory: store.into_outside(),
@@ -84,7 +94,7 @@ impl<O: Outside> IndexStore<O> {
     }
 
     /// Makes one step of the machine, and tells its line. After an error the store isn't open.
-    pub fn apply(&mut self, event: &Event) -> Result<Answer, TantivyError>
+    pub(crate) fn apply(&mut self, event: &Event) -> Result<Answer, TantivyError>
         requires { self.old.2 ≡ true }
         ensures step { IfOk result (Stepped O.tells (O.reads self.old.1) (O.reads self.new.1) self.old.0 self.new.0 (O.refusals self.old.1) (O.refusals self.new.1) event.now) }
         ensures told { O.tells_heard → IfOk result (λ answer. TellsLine (O.heard self.old.1) (O.heard self.new.1) (O.moment self.old.1) (O.moment self.new.1) answer) }
@@ -94,7 +104,9 @@ impl<O: Outside> IndexStore<O> {
         ensures lens { (bound : ℕ) → AtMost bound self.old.0 → AtMost (bound + written_by event.now) self.new.0 }
         ensures quiet { OnOk result (O.faults self.new.1 ≡ O.faults self.old.1) }
         ensures numbers { (bound : ℕ) → FewNumbers bound self.old.0.reading → OnOk result (FewNumbers (bound + written_by event.now) self.new.0.reading) }
-        ensures cause { IfErr result (ApplyCause (Rose (O.faults self.old.1) (O.faults self.new.1)) (O.faults self.new.1 ≡ O.faults self.old.1) (Spent self.old.0 event.now) (BadIn O.tells (O.reads self.old.1) self.old.0 event.now) (λ path. HoldsNone O.tells (O.reads self.old.1) self.old.0)) }
+        ensures free { O.tells_locks → TakesMetaLock self.old.0 event.now → OnOk result (O.locks self.old.1 meta_lock_name ≡ false) }
+        ensures cause { IfErr result (ApplyCause (IsBusy O.tells_locks (O.locks self.old.1 meta_lock_name ≡ true) (Rose (O.faults self.old.1) (O.faults self.new.1))) (Rose (O.faults self.old.1) (O.faults self.new.1)) (O.faults self.new.1 ≡ O.faults self.old.1) (Spent self.old.0 event.now) (BadIn O.tells (O.reads self.old.1) self.old.0 event.now) (λ path. HoldsNone O.tells (O.reads self.old.1) self.old.0)) }
+        ensures locks { O.tells_locks → SameLocks (O.locks self.old.1) (O.locks self.new.1) }
         ensures clock { O.moment self.old.1 ≤ O.moment self.new.1 }
     {
         self.open = false;
@@ -105,17 +117,17 @@ impl<O: Outside> IndexStore<O> {
     }
 
     /// Whether the next event may be applied: false after an error. Takes no memory.
-    pub fn is_open(&self) -> bool
+    pub(crate) fn is_open(&self) -> bool
         ensures { result ≡ self.now.2 }
     {
         self.open
     }
 
     /// The directory. Takes no memory.
-    pub fn into_outside(self) -> O
+    pub(crate) fn into_outside(self) -> O
         ensures { result ≡ self.1 }
     {
-        let IndexStore {
+        let Store {
             alloc: _,
             schema: _,
             files,
@@ -139,7 +151,9 @@ impl<O: Outside> IndexStore<O> {
         ensures lens { (bound : ℕ) → AtMost bound self.old.0 → AtMost (bound + written_by event.now) self.new.0 }
         ensures quiet { OnOk result (O.faults self.new.1 ≡ O.faults self.old.1) }
         ensures numbers { (bound : ℕ) → FewNumbers bound self.old.0.reading → OnOk result (FewNumbers (bound + written_by event.now) self.new.0.reading) }
-        ensures cause { IfErr result (ApplyCause (Rose (O.faults self.old.1) (O.faults self.new.1)) (O.faults self.new.1 ≡ O.faults self.old.1) (Spent self.old.0 event.now) (BadIn O.tells (O.reads self.old.1) self.old.0 event.now) (λ path. HoldsNone O.tells (O.reads self.old.1) self.old.0)) }
+        ensures free { O.tells_locks → TakesMetaLock self.old.0 event.now → OnOk result (O.locks self.old.1 meta_lock_name ≡ false) }
+        ensures cause { IfErr result (ApplyCause (IsBusy O.tells_locks (O.locks self.old.1 meta_lock_name ≡ true) (Rose (O.faults self.old.1) (O.faults self.new.1))) (Rose (O.faults self.old.1) (O.faults self.new.1)) (O.faults self.new.1 ≡ O.faults self.old.1) (Spent self.old.0 event.now) (BadIn O.tells (O.reads self.old.1) self.old.0 event.now) (λ path. HoldsNone O.tells (O.reads self.old.1) self.old.0)) }
+        ensures locks { O.tells_locks → SameLocks (O.locks self.old.1) (O.locks self.new.1) }
         ensures clock { O.moment self.old.1 ≤ O.moment self.new.1 }
     {
         match event {

@@ -7,7 +7,11 @@ mod example;
 #[cfg(test)]
 mod fixtures;
 #[cfg(test)]
+mod footers;
+#[cfg(test)]
 mod lines;
+#[cfg(test)]
+mod locks;
 #[cfg(test)]
 mod pieces;
 #[cfg(test)]

@@ -4,7 +4,7 @@ use crate::fixtures::{Row, SCHEMA, empty_bench, heard, report_of, script_of, sou
 use std::alloc::Global;
 use std::process::Abort;
 use std::test::Fail;
-use tv_base::TantivyError;
+use tv_base::{LockError, TantivyError};
 use tv_replay::{Replayed, replay};
 
 // After the example: a searcher, and a commit without its segment.
@@ -121,7 +121,9 @@ fn a_name_whose_delete_is_refused_stays_managed(rt: HostRuntime) -> Result<(), F
 fn is_fault(error: &TantivyError) -> bool {
     matches!(
         error,
-        TantivyError::IoError(_) | TantivyError::OpenWriteError(_)
+        TantivyError::IoError(_)
+            | TantivyError::OpenWriteError(_)
+            | TantivyError::LockFailure(LockError::IoError(_), None)
     )
 }
 

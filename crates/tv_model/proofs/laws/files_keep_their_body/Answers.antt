@@ -1,5 +1,10 @@
-use Rattle.tv_model.proofs.Bodies.{body_of_sealed, body_of_good}
+use Rattle.tv_model.proofs.Bodies.{body_of_good, body_of_sealed, one_footer, sealed_has_body}
 use Rattle.tv_model.proofs.laws.files_keep_their_body.Goals as goal
 
 pub returns : goal.returns
-returns c = record { sealed = body_of_sealed; good = body_of_good }
+returns c = record {
+  has_body = sealed_has_body;
+  sealed = body_of_sealed;
+  good = body_of_good;
+  one = λ bytes first second body other h k. one_footer bytes first second body other h k;
+}

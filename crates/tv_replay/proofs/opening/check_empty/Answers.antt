@@ -11,7 +11,7 @@ returns-in_err-reads_file-clause-cause g c =
     let start = faults c.args.outside.now in
     let before = c.in_ok-sync_directory.ensures.quiet in
     let e = err_from_is_err_and c.from_residual-in_err-reads_file.result c.from_residual-in_err-reads_file.ensures.1 in
-    rw (e.1, e.2) (opening_of g.O.Directory.tells c.args.schema.now (g.O.Directory.reads c.args.outside.now)
+    rw (e.1, e.2) (opening_of g.O.Directory.tells c.args.schema.now (g.O.Directory.reads c.args.outside.now) ⊥
     (Rose (faults c.sync_directory.new.self) (faults c.reads_file.new.outside)) (faults c.reads_file.new.outside ≡ faults c.sync_directory.new.self)
     (Rose start (faults c.reads_file.new.outside)) (faults c.reads_file.new.outside ≡ start)
     c.in_err-reads_file.field-0.0 c.in_err-reads_file.ensures.cause c.in_err-reads_file.ensures.file (sym c.is_accepted.ensures ∙ c.if-not-is_accepted.false)
@@ -23,7 +23,7 @@ returns-in_err-reads_file-2-clause-cause g c =
     let start = faults c.args.outside.now in
     let before = c.in_ok-reads_file.ensures.quiet ∙ c.in_ok-sync_directory.ensures.quiet in
     let e = err_from_is_err_and c.from_residual-in_err-reads_file-2.result c.from_residual-in_err-reads_file-2.ensures.1 in
-    rw (e.1, e.2) (opening_of g.O.Directory.tells c.args.schema.now (g.O.Directory.reads c.args.outside.now)
+    rw (e.1, e.2) (opening_of g.O.Directory.tells c.args.schema.now (g.O.Directory.reads c.args.outside.now) ⊥
     (Rose (faults c.reads_file.new.outside) (faults c.reads_file-2.new.outside)) (faults c.reads_file-2.new.outside ≡ faults c.reads_file.new.outside)
     (Rose start (faults c.reads_file-2.new.outside)) (faults c.reads_file-2.new.outside ≡ start)
     c.in_err-reads_file-2.field-0.0 c.in_err-reads_file-2.ensures.cause c.in_err-reads_file-2.ensures.file (sym c.is_accepted.ensures ∙ c.if-not-is_accepted.false)

@@ -45,7 +45,7 @@ pub give_back_after-requires-clause-feed : goal.give_back_after-requires-clause-
 give_back_after-requires-clause-feed g c =
     let refused : Type 0 = Rose (g.P.Out.Directory.faults c.in-Ok-lend.outside) (g.P.Out.Directory.faults c.replay-outside.result.outside) ⊎ Rose (g.R.Source.faults c.args.script.now) (g.R.Source.faults c.replay-outside.new.script) in
     let quiet : Type 0 = (g.P.Out.Directory.faults c.replay-outside.result.outside ≡ g.P.Out.Directory.faults c.in-Ok-lend.outside) × (g.R.Source.faults c.replay-outside.new.script ≡ g.R.Source.faults c.args.script.now) in
-    error_no_feed g.P.Out.Directory.tells c.as_slice.result.now (g.P.Out.Directory.reads c.in-Ok-lend.outside) (g.R.Source.left c.args.script.now) refused quiet c.in-Err-outcome.error (rw c.in-Err-outcome.is at c.replay-outside.ensures.cause)
+    error_no_feed g.P.Out.Directory.tells c.as_slice.result.now (g.P.Out.Directory.reads c.in-Ok-lend.outside) (g.R.Source.left c.args.script.now) _ refused quiet c.in-Err-outcome.error (rw c.in-Err-outcome.is at c.replay-outside.ensures.cause)
 
 pub returns-in-Ok-outcome-clause-ends : goal.returns-in-Ok-outcome-clause-ends
 returns-in-Ok-outcome-clause-ends g c = record {
@@ -59,6 +59,7 @@ returns-in-Ok-outcome-clause-ends g c = record {
     schema_is = λ told. c.in-Ok.ensures.bytes told ∙ ap Some (sym c.as_slice.ensures.value);
     replays = rw c.in-Ok-outcome.is at c.replay-outside.ensures.done;
     quiet = rw c.in-Ok-outcome.is at c.replay-outside.ensures.quiet;
+    same_locks = c.replay-outside.ensures.locks;
   };
   failed = λ one. absurd cc;
   memory = λ three. absurd cc;
@@ -79,6 +80,7 @@ returns-clause-ends g c = record {
           schema = c.as_slice.result.now;
           lent = λ told. sym (c.in-Ok.ensures.folders told c.args.folder.now) ∙ c.in-Ok-lend.ensures.given told;
           schema_is = λ told. c.in-Ok.ensures.bytes told ∙ ap Some (sym c.as_slice.ensures.value);
+          same_locks = c.replay-outside.ensures.locks;
           cause = rw c.in-Err-outcome.is at c.replay-outside.ensures.cause;
           reports = reports_since (c.in-Ok-lend.ensures.quiet ∙ c.in-Ok.ensures.quiet) (c.in-Ok-lend.ensures.said ∙ c.in-Ok.ensures.said) reported.1;
         },
@@ -92,6 +94,7 @@ returns-clause-ends g c = record {
           schema = c.as_slice.result.now;
           lent = λ told. sym (c.in-Ok.ensures.folders told c.args.folder.now) ∙ c.in-Ok-lend.ensures.given told;
           schema_is = λ told. c.in-Ok.ensures.bytes told ∙ ap Some (sym c.as_slice.ensures.value);
+          same_locks = c.replay-outside.ensures.locks;
           cause = rw c.in-Err-outcome.is at c.replay-outside.ensures.cause;
           reports = reports_since (c.in-Ok-lend.ensures.quiet ∙ c.in-Ok.ensures.quiet) (c.in-Ok-lend.ensures.said ∙ c.in-Ok.ensures.said) (c.give_back_after.ensures.memory c.args.folder.now c.in-Ok-lend.ensures.lent three);
         },

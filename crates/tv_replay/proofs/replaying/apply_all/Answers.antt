@@ -7,6 +7,8 @@ use Rattle.tv_replay.specs.ScriptLines.{pending, written_by}
 use Rattle.tv_replay.specs.Replays.{LineRefusal, IsTooMany}
 use Rattle.tv_replay.specs.Applying.{Spent, BadIn, BadSince, HoldsNone}
 use Rattle.tv_replay.proofs.FewNumbers.{one_more_number}
+use Rattle.tv_managed.specs.Collecting.{meta_lock_name}
+use Rattle.tv_replay.proofs.ReaderEvents.{busy_before}
 use Rattle.tv_replay.proofs.Applying.{starts, goes_on, ends, stops_at_line, stops_at_long, stops_at_last, one_more_line, never_spent, event_cause, script_cause, end_cause, rose_from, bad_since, none_since}
 use Rattle.tv_replay.proofs.replaying.apply_all.Goals as goal
 
@@ -17,6 +19,7 @@ loop-events-init g c = record {
   short = c.requires.short;
   few = c.requires.few;
   outside_quiet = refl;
+  locks = λ told n. refl;
   script_quiet = refl;
 }
 
@@ -31,7 +34,7 @@ returns-in-Err-clause-cause g c =
     let reads = g.R.Source.faults in
     let text = g.R.Source.left c.args.script.now in
     let before = c.loop-events.invariant.script_quiet in
-    script_cause (LineRefusal text) (IsTooMany text) (Rose (reads c.loop-events.script) (reads c.next_event.new.source)) (reads c.next_event.new.source ≡ reads c.loop-events.script)
+    script_cause _ (LineRefusal text) (IsTooMany text) (Rose (reads c.loop-events.script) (reads c.next_event.new.source)) (reads c.next_event.new.source ≡ reads c.loop-events.script)
     (Rose (devices c.args.store.now.1) (devices c.loop-events.store.1) ⊎ Rose (reads c.args.script.now) (reads c.next_event.new.source))
     ((devices c.loop-events.store.1 ≡ devices c.args.store.now.1) × (reads c.next_event.new.source ≡ reads c.args.script.now))
     (BadSince g.O.Directory.tells (g.O.Directory.reads c.args.store.now.1) c.args.store.now.0 text) (λ path. HoldsNone g.O.Directory.tells (g.O.Directory.reads c.args.store.now.1) c.args.store.now.0)
@@ -54,12 +57,12 @@ returns-in_err-_answer-clause-cause g c =
     let holds = applied.holds in
     let bad = BadIn g.O.Directory.tells (g.O.Directory.reads c.loop-events.store.1) c.loop-events.store.0 c.in-Ok-Some.event in
     let none = λ (path : List ℕ). HoldsNone g.O.Directory.tells (g.O.Directory.reads c.loop-events.store.1) c.loop-events.store.0 in
-    rw (e.1, e.2) (event_cause (LineRefusal text) (IsTooMany text) (Rose (devices c.loop-events.store.1) (devices c.apply.new.self.1)) (devices c.apply.new.self.1 ≡ devices c.loop-events.store.1)
+    rw (e.1, e.2) (event_cause (LineRefusal text) (IsTooMany text) _ _ (Rose (devices c.loop-events.store.1) (devices c.apply.new.self.1)) (devices c.apply.new.self.1 ≡ devices c.loop-events.store.1)
     (Spent c.loop-events.store.0 c.in-Ok-Some.event)
     (Rose (devices c.args.store.now.1) (devices c.apply.new.self.1) ⊎ Rose (reads c.args.script.now) (reads c.next_event.new.source))
     ((devices c.apply.new.self.1 ≡ devices c.args.store.now.1) × (reads c.next_event.new.source ≡ reads c.args.script.now))
-    bad none (BadSince g.O.Directory.tells (g.O.Directory.reads c.args.store.now.1) c.args.store.now.0 text) (λ path. HoldsNone g.O.Directory.tells (g.O.Directory.reads c.args.store.now.1) c.args.store.now.0)
-    c.in_err-_answer.field-0.0 c.in_err-_answer.ensures.cause
+    bad (BadSince g.O.Directory.tells (g.O.Directory.reads c.args.store.now.1) c.args.store.now.0 text) none (λ path. HoldsNone g.O.Directory.tells (g.O.Directory.reads c.args.store.now.1) c.args.store.now.0)
+    c.in_err-_answer.field-0.0 c.in_err-_answer.ensures.cause (busy_before _ _ _ _ _ (λ told. c.loop-events.invariant.locks told meta_lock_name) before)
     (λ rose. inl (rose_from _ _ _ before rose)) (λ quiet. (quiet ∙ before, c.in-Ok-Some.ensures.quiet ∙ c.loop-events.invariant.script_quiet))
     (never_spent c.loop-events.store.0 c.in-Ok-Some.event c.loop-events.events few small c.loop-events.invariant.short c.loop-events.invariant.few)
     (λ path b. bad_since _ _ _ _ _ _ _ _ c.loop-events.invariant.run.turns c.in-Ok-Some.event c.loop-events.invariant.run.read taken holds applied.readable path b) (λ path b. none_since _ _ _ _ _ c.loop-events.invariant.run.turns holds b))
@@ -76,6 +79,7 @@ loop-events-preserved g c =
       short = one_more_line c.apply.new.self.0 c.loop-events.events (written_by c.in-Ok-Some.event) small (applied.lens (c.loop-events.events * line_limit) c.loop-events.invariant.short);
       few = one_more_number c.apply.new.self.0.reading c.loop-events.events (written_by c.in-Ok-Some.event) small (applied.numbers (c.loop-events.events * line_limit) c.loop-events.invariant.few);
       outside_quiet = applied.quiet ∙ c.loop-events.invariant.outside_quiet;
+      locks = λ told n. applied.locks told n ∙ c.loop-events.invariant.locks told n;
       script_quiet = c.in-Ok-Some.ensures.quiet ∙ c.loop-events.invariant.script_quiet;
     }
 
@@ -87,7 +91,7 @@ returns-in_err-tally-clause-cause g c =
     let before = c.loop-events.invariant.script_quiet in
     let all : c.loop-events.events ≡ 4294967295 = omega (arith, c.loop-events-test.false, c.loop-events.auto.events-end) in
     let e = err_from_is_err_and c.from_residual-in_err-tally.result c.from_residual-in_err-tally.ensures.1 in
-    rw (e.1, e.2) (end_cause (LineRefusal text) ((rest : List ℕ) → pending c.loop-events.held (g.R.Source.left c.loop-events.script) ≡ Some rest → rest ≢ []) (IsTooMany text)
+    rw (e.1, e.2) (end_cause _ (LineRefusal text) ((rest : List ℕ) → pending c.loop-events.held (g.R.Source.left c.loop-events.script) ≡ Some rest → rest ≢ []) (IsTooMany text)
     (Rose (reads c.loop-events.script) (reads c.end_of.new.script)) (reads c.end_of.new.script ≡ reads c.loop-events.script)
     (Rose (devices c.args.store.now.1) (devices c.loop-events.store.1) ⊎ Rose (reads c.args.script.now) (reads c.end_of.new.script))
     ((devices c.loop-events.store.1 ≡ devices c.args.store.now.1) × (reads c.end_of.new.script ≡ reads c.args.script.now))

@@ -1,5 +1,6 @@
 use Rattle.std.proofs.Common.{◌≡◌, ◌*◌, true}
 use Rattle.tv_model.specs.Script.{line_limit}
+use Rattle.tv_directory.specs.Locks.{SameLocks}
 use Rattle.tv_replay.specs.Kept.{AtMost}
 use Rattle.tv_replay.specs.ReaderNumbers.{FewNumbers}
 use Rattle.tv_replay.specs.ScriptLines.{pending}
@@ -17,5 +18,6 @@ invariant-loop-events g l =
       short : AtMost (l.events * line_limit) l.store.0;
       few : FewNumbers (l.events * line_limit) l.store.0.reading;
       outside_quiet : g.O.Directory.faults l.store.1 ≡ g.O.Directory.faults l.fn.store.1;
+      locks : g.O.Directory.tells_locks → SameLocks (g.O.Directory.locks l.fn.store.1) (g.O.Directory.locks l.store.1);
       script_quiet : g.R.Source.faults l.script ≡ g.R.Source.faults l.fn.script;
     }

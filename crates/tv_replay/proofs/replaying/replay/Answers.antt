@@ -4,8 +4,9 @@ use Rattle.tv_model.specs.Files.{Rose}
 use Rattle.tv_replay.specs.Applying.{BadSince, HoldsNone}
 use Rattle.tv_replay.specs.declared.replaying.Tally.{Tally}
 use Rattle.tv_replay.specs.Replays.{Replays}
-use Rattle.tv_replay.proofs.Applying.{replays, opening_cause, run_cause, either_rose, bad_at_start, never_at_start}
+use Rattle.tv_replay.proofs.Applying.{replays, runs_later, opening_cause, run_cause, either_rose, bad_at_start, never_at_start}
 use Rattle.tv_replay.proofs.Complete.{comes_to_its_end}
+use Rattle.tv_replay.proofs.StoreLocks.{busy_since_opening, not_busy}
 use Rattle.tv_replay.proofs.replaying.replay.Goals as goal
 
 pub returns-in-Err-clause-cause : goal.returns-in-Err-clause-cause
@@ -13,13 +14,13 @@ returns-in-Err-clause-cause g c =
     let devices = g.O.Directory.faults in
     let reads = g.R.Source.faults c.args.script.now in
     let back = c.in-Err.field-0.directory in
-    opening_cause g.O.Directory.tells c.args.schema.now (g.O.Directory.reads c.args.outside) (g.R.Source.left c.args.script.now)
+    opening_cause g.O.Directory.tells c.args.schema.now (g.O.Directory.reads c.args.outside) (g.R.Source.left c.args.script.now) _ _
     (Rose (devices c.args.outside) (devices back)) (devices back ≡ devices c.args.outside) (Rose (devices c.args.outside) (devices back) ⊎ Rose reads reads) ((devices back ≡ devices c.args.outside) × (reads ≡ reads))
-    c.in-Err.field-0.error c.in-Err.ensures.cause (λ rose. inl rose) (λ quiet. (quiet, refl))
+    c.in-Err.field-0.error c.in-Err.ensures.cause (λ b. record { told = λ t. inl (b.told t); untold = b.untold }) (λ rose. inl rose) (λ quiet. (quiet, refl))
 
 pub returns-in-Err-clause-complete : goal.returns-in-Err-clause-complete
-returns-in-Err-clause-complete g c t ready none =
-    comes_to_its_end {A = Tally} g.O.Directory.tells c.args.schema.now (g.O.Directory.reads c.args.outside) (g.R.Source.left c.args.script.now) _ _ (Err c.in-Err.field-0.error) t ready none (returns-in-Err-clause-cause g c)
+returns-in-Err-clause-complete g c t locked free ready none =
+    comes_to_its_end {A = Tally} g.O.Directory.tells c.args.schema.now (g.O.Directory.reads c.args.outside) (g.R.Source.left c.args.script.now) _ _ _ (Err c.in-Err.field-0.error) t ready (λ b. not_busy (g.O.Directory.locks c.args.outside) free (b.told locked)) none (returns-in-Err-clause-cause g c)
 
 pub returns-clause-cause : goal.returns-clause-cause
 returns-clause-cause g c =
@@ -30,13 +31,13 @@ returns-clause-cause g c =
     let new = devices c.apply_all-outcome.new.store.1 in
     let more = Rose (reads c.args.script.now) (reads c.apply_all-outcome.new.script) in
     let same = reads c.apply_all-outcome.new.script ≡ reads c.args.script.now in
-    rw c.into_outside.ensures
+    rw c.into_outside.ensures.faults
     (IfErr-weaker c.apply_all-outcome.result _ _
     (λ error cause.
-    run_cause g.O.Directory.tells c.args.schema.now (g.O.Directory.reads c.args.outside) (g.R.Source.left c.args.script.now)
+    run_cause g.O.Directory.tells c.args.schema.now (g.O.Directory.reads c.args.outside) (g.R.Source.left c.args.script.now) _ _
     (Rose (devices c.in-Ok.store.1) new ⊎ more) ((new ≡ devices c.in-Ok.store.1) × same) (Rose old new ⊎ more) ((new ≡ old) × same)
     (BadSince g.O.Directory.tells (g.O.Directory.reads c.in-Ok.store.1) c.in-Ok.store.0 (g.R.Source.left c.args.script.now)) (λ path. HoldsNone g.O.Directory.tells (g.O.Directory.reads c.in-Ok.store.1) c.in-Ok.store.0)
-    error cause opened.schema opened.none (either_rose old (devices c.in-Ok.store.1) new more opened.quiet) (λ quiet. (quiet.0 ∙ opened.quiet, quiet.1))
+    error cause opened.schema opened.none (busy_since_opening _ (g.O.Directory.locks c.args.outside) (g.O.Directory.locks c.in-Ok.store.1) old (devices c.in-Ok.store.1) new opened.locked opened.quiet) (either_rose old (devices c.in-Ok.store.1) new more opened.quiet) (λ quiet. (quiet.0 ∙ opened.quiet, quiet.1))
     (bad_at_start g.O.Directory.tells c.args.schema.now (g.O.Directory.reads c.args.outside) (g.O.Directory.reads c.in-Ok.store.1) c.in-Ok.store.0 (g.R.Source.left c.args.script.now) opened.none opened.holds)
     (λ path. never_at_start g.O.Directory.tells c.args.schema.now (g.O.Directory.reads c.args.outside) (g.O.Directory.reads c.in-Ok.store.1) c.in-Ok.store.0 opened.none opened.holds))
     c.apply_all-outcome.ensures.cause)
@@ -50,14 +51,16 @@ returns-clause-done g c =
     let now = c.apply_all-outcome.new.store in
     let text = g.R.Source.left c.args.script.now in
     let left = g.R.Source.left c.apply_all-outcome.new.script in
-    rw c.into_outside.ensures
-    (IfOk-weaker c.apply_all-outcome.result _ _
+    let back = c.into_outside.result in
+    let freed = c.into_outside.ensures in
+    IfOk-weaker c.apply_all-outcome.result _ _
     (λ tally runs.
-    subst (λ (n : ℕ). Replays D.tells g.O.Outside.tells_heard c.args.schema.now text left (D.reads outside) (D.reads now.1) (D.heard outside) (D.heard now.1) n (D.refusals now.1) tally.events) opened.refusals
-    (replays D.tells g.O.Outside.tells_heard c.args.schema.now (D.reads outside) (D.reads store.1) (D.reads now.1) store.0 now.0 (D.heard outside) (D.heard store.1) (D.heard now.1) (D.refusals store.1) (D.refusals now.1)
-    (D.moment outside) (D.moment store.1) text left tally.events opened.schema opened.none opened.«open».1 opened.holds opened.told runs))
-    c.apply_all-outcome.ensures.done)
+    subst (λ (n : ℕ). Replays D.tells g.O.Outside.tells_heard c.args.schema.now text left (D.reads outside) (D.reads back) (D.heard outside) (D.heard back) n (D.refusals back) tally.events) opened.refusals
+    (replays D.tells g.O.Outside.tells_heard c.args.schema.now (D.reads outside) (D.reads store.1) (D.reads back) store.0 now.0 (D.heard outside) (D.heard store.1) (D.heard back) (D.refusals store.1) (D.refusals back)
+    (D.moment outside) (D.moment store.1) text left tally.events opened.schema opened.none opened.«open».1 opened.holds opened.told
+    (runs_later D.tells g.O.Outside.tells_heard (D.reads store.1) (D.reads now.1) (D.reads back) store.0 now.0 (D.heard store.1) (D.heard now.1) (D.heard back) (D.refusals store.1) (D.refusals now.1) (D.refusals back) text left tally.events freed.content freed.heard freed.refusals runs)))
+    c.apply_all-outcome.ensures.done
 
 pub returns-clause-complete : goal.returns-clause-complete
-returns-clause-complete g c t ready none =
-    comes_to_its_end g.O.Directory.tells c.args.schema.now (g.O.Directory.reads c.args.outside) (g.R.Source.left c.args.script.now) _ _ c.apply_all-outcome.result t ready none (returns-clause-cause g c)
+returns-clause-complete g c t locked free ready none =
+    comes_to_its_end g.O.Directory.tells c.args.schema.now (g.O.Directory.reads c.args.outside) (g.R.Source.left c.args.script.now) _ _ _ c.apply_all-outcome.result t ready (λ b. not_busy (g.O.Directory.locks c.args.outside) free (b.told locked)) none (returns-clause-cause g c)

@@ -9,8 +9,8 @@ use Rattle.tv_framing.proofs.Parts.{closed, closed_form, footing_last, on_ok, sa
 use Rattle.tv_framing.proofs.composite_write.CompositeWrite.close.Goals as goal
 
 pub returns-clause-ok : goal.returns-clause-ok
-returns-clause-ok g c =
-    on_ok c.finish-answer.result c.finish-answer.ensures.ok
+returns-clause-ok g c keeps =
+    on_ok c.finish-answer.result (c.finish-answer.ensures.ok keeps)
     (λ is. closed c.self.inside.starts.items c.self.inside.written (g.W.TerminatingWrite.taken c.self.inside.writer) (g.W.TerminatingWrite.taken c.finish-answer.new.writer) c.self.invariant (subst (λ l. g.W.TerminatingWrite.taken c.finish-answer.new.writer ≡ g.W.TerminatingWrite.taken c.self.inside.writer ++ (footing_text l ++ four_bytes (length (footing_text l)))) c.as_slice.ensures.value is)
     ∙ ap (λ v. v.before ++ composite v.parts) c.self.view_is)
 
