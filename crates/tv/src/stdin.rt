@@ -1,5 +1,5 @@
 //! Standard input as the source of a script.
-ghost use Rattle.std.specs.Prelude.{◌≡◌, ◌≤◌, None, length, IfSome};
+ghost use Rattle.std.specs.Prelude.{◌≤◌, None, length, IfSome};
 
 use std::alloc::Global;
 use std::io;

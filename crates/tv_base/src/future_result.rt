@@ -142,19 +142,19 @@ mod tests {
     use std::test::Fail;
     use std::thread;
 
-    // One look at a future: whether it is pending.
+    // One look at a future.
     #[derive(Drop)]
     struct Look(FutureResult<u8>);
 
     impl Future for Look {
-        type Output = bool;
+        type Output = Poll<Answer<u8>>;
 
         ghost use Rattle.std.specs.Prelude.{◌≡◌, false};
 
         ghost can_poll = { λ l. l.0.answered ≡ false };
 
-        fn poll(&mut self, cx: &mut Context<'_>) -> Poll<bool> {
-            Poll::Ready(self.0.poll(cx).is_pending())
+        fn poll(&mut self, cx: &mut Context<'_>) -> Poll<Poll<Answer<u8>>> {
+            Poll::Ready(self.0.poll(cx))
         }
     }
 
@@ -203,9 +203,28 @@ mod tests {
     #[test]
     fn one_is_polled_before_the_send(rt: HostRuntime) -> Result<(), Fail> {
         let (future, sender) = FutureResult::<u8>::create(rt.alloc(), "failed")?;
-        let pending = block_on(&rt, Look(future))?;
-        assert!(rt; pending);
+        assert_eq!(rt; block_on(&rt, Look(future))?, Poll::Pending);
         drop(sender);
+        Ok(())
+    }
+
+    #[test]
+    fn finished_ones_are_polled(rt: HostRuntime) -> Result<(), Fail> {
+        let future = FutureResult::done(Ok(2));
+        assert_eq!(rt; block_on(&rt, Look(future))?, Poll::Ready(Ok(2)));
+        let (future, sender) = FutureResult::create(rt.alloc(), "failed")?;
+        assert!(rt; sender.send(Ok(3)).is_ok());
+        assert_eq!(rt; block_on(&rt, Look(future))?, Poll::Ready(Ok(3)));
+        Ok(())
+    }
+
+    #[test]
+    fn one_is_polled_whose_sender_is_gone(rt: HostRuntime) -> Result<(), Fail> {
+        let a = rt.alloc();
+        let (future, sender) = FutureResult::create(a, "failed")?;
+        drop(sender);
+        let failed = TantivyError::SystemError(String::from_str(a, "failed")?);
+        assert_eq!(rt; block_on(&rt, Look(future))?, Poll::Ready(Err(failed)));
         Ok(())
     }
 

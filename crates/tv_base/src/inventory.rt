@@ -122,7 +122,7 @@ impl<T: Drop> Inventory<T> {
         ensures full { IsErr result ↔ IsSomeAnd (find (is_at t.now) self.old) (λ e. e.count ≡ 18446744073709551615) }
     {
         let number = t.number;
-        let Some(i) = place(&self.entries, number) else {
+        let Some(i) = place_of(&self.entries, number) else {
             return Ok(Ticket { number });
         };
         let entry = &mut self.entries[i];
@@ -139,7 +139,7 @@ impl<T: Drop> Inventory<T> {
         ensures value { IfSome (find (is_at t.now) self.now) (λ e. result.now ≡ e.value) }
     {
         let number = t.number;
-        let Some(i) = place(&self.entries, number) else {
+        let Some(i) = place_of(&self.entries, number) else {
             unreachable!()
         };
         &self.entries[i].value
@@ -151,7 +151,7 @@ impl<T: Drop> Inventory<T> {
         ensures released { self.new ≡ released t self.old }
     {
         let number = t.number;
-        let Some(i) = place(&self.entries, number) else {
+        let Some(i) = place_of(&self.entries, number) else {
             return;
         };
         if self.entries[i].count < 2 {
@@ -183,18 +183,18 @@ impl<T: Visit> Inventory<T> {
     }
 }
 
-// The first index of a number.
-fn spot<T>(entries: &Vec<Entry<T>>, number: u64) -> Option<usize>
+// The index of the first entry of a number.
+fn position_of<T>(entries: &Vec<Entry<T>>, number: u64) -> Option<usize>
     ensures { result ≡ position (is_at number) entries.now.items }
 {
     entries.iter().position(|e| e.number == number)
 }
 
-// The place of the entry of a number.
-fn place<T>(entries: &Vec<Entry<T>>, number: u64) -> Option<usize>
+// The same index, and what stands there.
+fn place_of<T>(entries: &Vec<Entry<T>>, number: u64) -> Option<usize>
     ensures { MatchOption result (IsAbsent (is_at number) entries.now.items) (λ i. IsPlace (is_at number) entries.now.items i) }
 {
-    spot(entries, number)
+    position_of(entries, number)
 }
 
 // Visits one value.

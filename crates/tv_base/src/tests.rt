@@ -1,3 +1,4 @@
+//! Texts of the errors, conversions between them, plain names, and a text read in pieces.
 use crate::{
     DataCorruption, DeleteError, Exhausted, Incompatibility, IoError, IoFault, IoKind, LockError,
     Memory, OpenDirectoryError, OpenReadError, OpenWriteError, Source, TantivyError, TextSource,

@@ -31,6 +31,7 @@ pub trait TerminatingWrite {
         ensures memory { IfErr result (IoCause (Unit {0}) (taken self.new ≡ taken self.old)) }
         ensures going { OnOk result (ended self.new ≡ false) }
         ensures again { IfErr result (IoCause (Unit {0}) (ended self.new ≡ false)) }
+        ensures over { IfErr result (IoCause (ended self.new ≡ true) (Unit {0})) }
         ensures quiet { OnOk result (faults self.new ≡ faults self.old) }
         ensures cause { IfErr result (IoCause (Rose (faults self.old) (faults self.new)) (faults self.new ≡ faults self.old)) };
 
@@ -41,6 +42,7 @@ pub trait TerminatingWrite {
         ensures memory { IfErr result (IoCause (Unit {0}) (taken self.new ≡ taken self.old)) }
         ensures going { OnOk result (ended self.new ≡ false) }
         ensures again { IfErr result (IoCause (Unit {0}) (ended self.new ≡ false)) }
+        ensures over { IfErr result (IoCause (ended self.new ≡ true) (Unit {0})) }
         ensures quiet { OnOk result (faults self.new ≡ faults self.old) }
         ensures cause { IfErr result (IoCause (Rose (faults self.old) (faults self.new)) (faults self.new ≡ faults self.old)) };
 
@@ -112,6 +114,7 @@ impl<W: TerminatingWrite> TerminatingWrite for CountingWriter<W> {
         ensures memory { IfErr result (IoCause (Unit {0}) (W.taken self.new.writer ≡ W.taken self.old.writer)) }
         ensures going { OnOk result (W.ended self.new.writer ≡ false) }
         ensures again { IfErr result (IoCause (Unit {0}) (W.ended self.new.writer ≡ false)) }
+        ensures over { IfErr result (IoCause (W.ended self.new.writer ≡ true) (Unit {0})) }
         ensures quiet { OnOk result (W.faults self.new.writer ≡ W.faults self.old.writer) }
         ensures cause { IfErr result (IoCause (Rose (W.faults self.old.writer) (W.faults self.new.writer)) (W.faults self.new.writer ≡ W.faults self.old.writer)) }
         ensures counted { OnOk result (self.new.written ≡ min (self.old.written + length bytes.now) 18446744073709551615) }
@@ -128,6 +131,7 @@ impl<W: TerminatingWrite> TerminatingWrite for CountingWriter<W> {
         ensures memory { IfErr result (IoCause (Unit {0}) (W.taken self.new.writer ≡ W.taken self.old.writer)) }
         ensures going { OnOk result (W.ended self.new.writer ≡ false) }
         ensures again { IfErr result (IoCause (Unit {0}) (W.ended self.new.writer ≡ false)) }
+        ensures over { IfErr result (IoCause (W.ended self.new.writer ≡ true) (Unit {0})) }
         ensures quiet { OnOk result (W.faults self.new.writer ≡ W.faults self.old.writer) }
         ensures cause { IfErr result (IoCause (Rose (W.faults self.old.writer) (W.faults self.new.writer)) (W.faults self.new.writer ≡ W.faults self.old.writer)) }
         ensures kept { self.new.written ≡ self.old.written }

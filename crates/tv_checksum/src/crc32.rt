@@ -1,6 +1,6 @@
 //! CRC-32, bit by bit.
 ghost use Rattle.std.specs.Prelude.{◌≡◌, ◌≤◌, fold};
-ghost use Rattle.tv_model.specs.Checksum.{bits, shift_in, register_after, crc32};
+ghost use Rattle.tv_model.specs.Checksum.{bits, shift_in, crc32};
 
 use crate::Checksum;
 

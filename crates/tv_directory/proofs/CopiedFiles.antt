@@ -1,7 +1,7 @@
 -- Files that are copied one after the other.
 use Rattle.std.proofs.Common.{◌≡◌, ◌≢◌, ℕ, suc, Bool, false, cond, List, [], ◌∷◌, Option, Some, None, All, refl, sym, ap, subst, ◌∙◌, is_some, option_map, arith}
 use Rattle.tv_model.specs.State.{at}
-use Rattle.tv_model.specs.Files.{Same, Sets}
+use Rattle.tv_model.specs.Files.{Sets}
 use Rattle.tv_directory.specs.StoredFiles.{bytes_of, reads_of}
 use Rattle.tv_directory.specs.declared.files.StoredFile.{StoredFile}
 use Rattle.tv_directory.proofs.StoredFiles.{isnt_at, same_or}
@@ -36,6 +36,3 @@ copies_one all rest others old new e bytes so_far first set is =
           (λ same. ap (reads_of new) same ∙ set.changed ∙ ap Some is ∙ sym (ap (option_map (λ file. bytes_of file.content)) (among 0 e (grind arith))) ∙ ap (reads_of all) (sym same))
           (λ other. set.others n other ∙ so_far.others n (ap (λ (l : List (List ℕ × StoredFile)). is_some (at l n)) first ∙ not_first e others n other none));
     }
-
-pub copies_all : (all rest copy : List (List ℕ × StoredFile)) → CopiesRest all rest copy → rest ≡ [] → Same (reads_of all) (reads_of copy)
-copies_all all rest copy so_far none n = so_far.others n (ap (λ (l : List (List ℕ × StoredFile)). is_some (at l n)) none)

@@ -14,13 +14,6 @@ pub record PersistsRest (all rest : List (List ℕ × List ℕ)) (old new : Read
   pub split : all ≡ before ++ rest
   pub persisted : Persists before old new
 
-pub rest_first : (all rest : List (List ℕ × List ℕ)) (old : Reads) → rest ≡ all → PersistsRest all rest old old
-rest_first all rest old is = record {
-  before = [];
-  split = sym is;
-  persisted = record { absent = λ n some. absurd (cc); written = λ n bytes some. absurd (cc); others = λ n none. refl };
-}
-
 some_isnt_none : {X : Type 0} (o : Option X) → IsSome o → o ≡ None → ⊥
 some_isnt_none None some none = absurd cc
 some_isnt_none (Some x) some none = absurd cc

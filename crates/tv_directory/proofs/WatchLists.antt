@@ -10,7 +10,7 @@ use Rattle.tv_base.specs.PlaceLaws.{passed}
 use Rattle.tv_base.specs.Visits.{IsVisited}
 use Rattle.tv_directory.specs.declared.watch_list.Watcher.{Watcher}
 use Rattle.tv_directory.specs.declared.watch_list.Watchers.{Watchers}
-use Rattle.tv_directory.specs.Watch.{called, called_once, delivered, has_number, is_last_of, subscribed, unsubscribed, without_handle}
+use Rattle.tv_directory.specs.Watch.{called, called_once, has_number, is_last_of, subscribed, unsubscribed, without_handle}
 use Rattle.tv_directory.specs.WatchList.{AreApart, released_by, seen, state_of}
 
 -- what is done to a list, and what is then seen of it
@@ -78,9 +78,6 @@ seen_after calls_of (e ∷ es) [] so = absurd so
 seen_after calls_of (e ∷ es) (f ∷ fs) so =
     rw (so.0.same_number, so.0.same_count, so.0.value)
     (ap (λ rs. called_once (seen calls_of e) ∷ rs) (seen_after calls_of es fs so.1))
-
-pub told : {C : Type 0} (calls_of : C → ℕ) (w v : Watchers C) → w.notice ≡ true → v.notice ≡ false → AllZip (IsVisited (λ a b. calls_of b.callback ≡ called (calls_of a.callback))) w.list v.list → state_of calls_of v ≡ delivered (state_of calls_of w)
-told calls_of w v stood ended so = rw (stood, ended, seen_after calls_of w.list v.list so) refl
 
 -- numbers, of which no two are the same
 

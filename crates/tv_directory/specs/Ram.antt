@@ -1,5 +1,5 @@
 -- A directory in memory.
-use Rattle.std.specs.Prelude.{ℕ, ◌≡◌, Bool, nat_lt}
+use Rattle.std.specs.Prelude.{ℕ, ◌≡◌, ◌-◌, Bool, nat_lt}
 use Rattle.tv_model.specs.Files.{Reads}
 use Rattle.tv_directory.specs.Locks.{Locks, held_in}
 use Rattle.tv_directory.specs.StoredFiles.{reads_of, is_made}
@@ -12,9 +12,9 @@ use Rattle.tv_directory.specs.declared.ram_directory.RamWriter.{RamWriter}
 abbrev pub ram_reads : {C : Type 0} → RamDirectory C → Reads
 ram_reads ram = reads_of ram.files.map.entries
 
--- a writer got its number here, which no later writer gets
+-- a writer got its number here, which no later writer gets: the numbers begin with 1
 abbrev pub ram_opened : {C : Type 0} → RamDirectory C → RamWriter → Bool
-ram_opened ram w = nat_lt w.number ram.files.next
+ram_opened ram w = nat_lt (w.number - 1) ram.files.last
 
 -- the file that the writer made still has its name
 abbrev pub ram_lives : {C : Type 0} → RamDirectory C → RamWriter → Bool

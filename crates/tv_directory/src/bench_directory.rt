@@ -1,5 +1,5 @@
 //! The calls of a directory in memory.
-ghost use Rattle.std.specs.Prelude.{◌≡◌, ◌≢◌, ◌≤◌, ◌<◌, ◌++◌, ◌⊎◌, [], ◌∷◌, ℕ, true, false, length, string_bytes, is_some, Some, None, IsSome, IfOk, IfErr, OnOk, OnErr};
+ghost use Rattle.std.specs.Prelude.{◌≡◌, ◌≢◌, ◌≤◌, ◌<◌, ◌++◌, [], ◌∷◌, true, false, length, string_bytes, is_some, Some, None, IsSome, IfOk, IfErr, OnOk, OnErr};
 ghost use Rattle.tv_model.specs.Names.{is_file_name};
 ghost use Rattle.tv_model.specs.Lines.{has_no_feed};
 ghost use Rattle.tv_model.specs.Files.{Same, Sets};
@@ -7,7 +7,7 @@ ghost use Rattle.tv_base.specs.Causes.{IsDevice, IoCause, OpenReadCause, OpenWri
 ghost use Rattle.tv_directory.specs.Device.{after_call, Passed, Faulted, Refused};
 ghost use Rattle.tv_directory.specs.Bench.{reads_in, moment_in, heard_in, room_in, device_in, opened_in, lives_in, locks_in, watched_in, Untouched, Timed};
 ghost use Rattle.tv_directory.specs.Locks.{FreesLock, LockCause, SameLocks, TakesLock};
-ghost use Rattle.tv_directory.specs.Watch.{IsNewWatcher, IsNewWriter, MayNote, delivered, noted, unsubscribed};
+ghost use Rattle.tv_directory.specs.Watch.{IsNewWatcher, IsNewWriter, delivered, noted, unsubscribed};
 
 use crate::bench::Bench;
 use crate::directory::Directory;

@@ -74,7 +74,7 @@ impl<D: Directory> TerminatingWrite for DirWriter<'_, D> {
         ensures refusals { D.refusals self.new.directory.now ≡ D.refusals self.old.directory.now }
         ensures writers { (w : _) → D.opened self.old.directory.now w ≡ true → D.opened self.new.directory.now w ≡ true }
         ensures alive { (w : _) → D.lives self.old.directory.now w ≡ true → D.lives self.new.directory.now w ≡ true }
-        ensures lost { (w : _) → D.opened self.old.directory.now w ≡ true → D.lives self.old.directory.now w ≡ false → D.lives self.new.directory.now w ≡ false }
+        ensures others_ended { (w : _) → D.opened self.old.directory.now w ≡ true → D.lives self.old.directory.now w ≡ false → D.lives self.new.directory.now w ≡ false }
         ensures locks { D.tells_locks → SameLocks (D.locks self.old.directory.now) (D.locks self.new.directory.now) }
         ensures watched { D.watched self.new.directory.now ≡ D.watched self.old.directory.now }
         ensures clock { D.moment self.old.directory.now ≤ D.moment self.new.directory.now }
@@ -112,7 +112,7 @@ impl<D: Directory> TerminatingWrite for DirWriter<'_, D> {
         ensures refusals { D.refusals self.new.directory.now ≡ D.refusals self.old.directory.now }
         ensures writers { (w : _) → D.opened self.old.directory.now w ≡ true → D.opened self.new.directory.now w ≡ true }
         ensures alive { (w : _) → D.lives self.old.directory.now w ≡ true → D.lives self.new.directory.now w ≡ true }
-        ensures lost { (w : _) → D.opened self.old.directory.now w ≡ true → D.lives self.old.directory.now w ≡ false → D.lives self.new.directory.now w ≡ false }
+        ensures others_ended { (w : _) → D.opened self.old.directory.now w ≡ true → D.lives self.old.directory.now w ≡ false → D.lives self.new.directory.now w ≡ false }
         ensures locks { D.tells_locks → SameLocks (D.locks self.old.directory.now) (D.locks self.new.directory.now) }
         ensures watched { D.watched self.new.directory.now ≡ D.watched self.old.directory.now }
         ensures clock { D.moment self.old.directory.now ≤ D.moment self.new.directory.now }
@@ -144,7 +144,7 @@ impl<D: Directory> TerminatingWrite for DirWriter<'_, D> {
         ensures refusals { D.refusals self.new.directory.now ≡ D.refusals self.old.directory.now }
         ensures writers { (w : _) → D.opened self.old.directory.now w ≡ true → D.opened self.new.directory.now w ≡ true }
         ensures alive { (w : _) → D.lives self.old.directory.now w ≡ true → D.lives self.new.directory.now w ≡ true }
-        ensures lost { (w : _) → D.opened self.old.directory.now w ≡ true → D.lives self.old.directory.now w ≡ false → D.lives self.new.directory.now w ≡ false }
+        ensures others_ended { (w : _) → D.opened self.old.directory.now w ≡ true → D.lives self.old.directory.now w ≡ false → D.lives self.new.directory.now w ≡ false }
         ensures locks { D.tells_locks → SameLocks (D.locks self.old.directory.now) (D.locks self.new.directory.now) }
         ensures watched { D.watched self.new.directory.now ≡ D.watched self.old.directory.now }
         ensures clock { D.moment self.old.directory.now ≤ D.moment self.new.directory.now }

@@ -1,5 +1,5 @@
 //! A directory as the layers above see it.
-ghost use Rattle.std.specs.Prelude.{◌≡◌, ◌≢◌, ◌≤◌, ◌++◌, ◌⊎◌, [], List, ℕ, Bool, true, false, Option, Some, None, IsSome, is_some, IfOk, IfErr, OnOk, OnErr, string_bytes};
+ghost use Rattle.std.specs.Prelude.{◌≡◌, ◌≢◌, ◌≤◌, ◌++◌, ◌⊎◌, [], List, ℕ, Bool, true, false, Some, None, IsSome, is_some, IfOk, IfErr, OnOk, OnErr, string_bytes};
 ghost use Rattle.tv_model.specs.Names.{is_file_name};
 ghost use Rattle.tv_model.specs.Files.{Reads, Same, Sets, MaySet, KeepsOthers, Heard, Rose};
 ghost use Rattle.tv_base.specs.Causes.{IsDevice, IoCause, OpenReadCause, OpenWriteCause, DeleteCause};
@@ -54,7 +54,8 @@ pub trait Directory {
     /// How many deletes the device has refused.
     ghost refusals: { Self → ℕ };
 
-    /// This writer was opened here, and no call on it was refused. No call takes that away.
+    /// This writer may be handed in here. That is so once it is opened, and after each call on it that
+    /// answers no fault. No other call takes that away.
     ghost opened: { Self → Self.Writer → Bool };
 
     /// The writer's name wasn't deleted since it was opened.
@@ -139,7 +140,7 @@ pub trait Directory {
         ensures heard { heard self.new ≡ heard self.old }
         ensures room { room self.old ≤ room self.new };
 
-    /// Appends the bytes. A file that isn't sealed may read any part of what was written.
+    /// Appends the bytes. Which bytes the file reads until it is flushed or sealed isn't said.
     fn write(&mut self, writer: &mut Self::Writer, bytes: &[u8]) -> Result<(), IoError>
         requires { opened self.old writer.old ≡ true }
         ensures ok { OnOk result ((written writer.new ≡ written writer.old ++ bytes.now) × (opened self.new writer.new ≡ true)) }
@@ -162,8 +163,8 @@ pub trait Directory {
         ensures heard { heard self.new ≡ heard self.old }
         ensures room { room self.old ≤ room self.new };
 
-    /// Lets the file read all that was written. Where the name was deleted since, nothing changes. After a
-    /// refused call the file may read any part of what was written.
+    /// Lets the file read all that was written. Where the name was deleted since, nothing changes. Which
+    /// bytes the file reads after a refused call isn't said.
     fn flush(&mut self, writer: &mut Self::Writer) -> Result<(), IoError>
         requires { opened self.old writer.old ≡ true }
         ensures ok { tells → lives self.old writer.old ≡ true → OnOk result (Sets (reads self.old) (reads self.new) (name_of writer.old) (Some (written writer.old))) }

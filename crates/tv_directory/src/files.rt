@@ -54,12 +54,12 @@ pub struct StoredFile {
     pub content: Content,
 }
 
-/// Files by their names. Each file that is made gets a number that none got before.
+/// Files by their names. Each file that is made gets a number that none got before: 1, 2, and so on.
 #[derive(Drop)]
 pub struct Files {
     pub map: BTreeMap<FileName, StoredFile>,
-    // The number of the next file that is made.
-    pub next: u64,
+    // The number of the file that was made last.
+    pub last: u64,
 }
 
 impl Files {
@@ -69,16 +69,17 @@ impl Files {
         ensures { IfOk result (λ made. Same (last_of (named files.items)) (reads_of made.map.entries)) }
     {
         let map = sealed_files(alloc, files)?;
-        Ok(Files { map, next: 1 })
+        Ok(Files { map, last: 0 })
     }
 
     /// No files.
     pub fn new(alloc: Global) -> Files
-        ensures { result.map.entries ≡ [] }
+        ensures empty { result.map.entries ≡ [] }
+        ensures unmade { result.last ≡ 0 }
     {
         Files {
             map: BTreeMap::new(alloc),
-            next: 1,
+            last: 0,
         }
     }
 
@@ -122,17 +123,16 @@ impl Files {
     /// Makes a file of a name that has none, and answers its number.
     pub fn make(&mut self, name: FileName, content: Content) -> Result<u64, Memory>
         ensures ok { OnOk result (Sets (reads_of self.old.map.entries) (reads_of self.new.map.entries) name (Some (bytes_of content))) }
-        ensures number { IfOk result (λ number. number ≡ self.old.next) }
-        ensures next { OnOk result (self.new.next ≡ self.old.next + 1) }
-        ensures made { OnOk result (is_made self.new.map.entries name self.old.next ≡ true) }
+        ensures number { IfOk result (λ number. number ≡ self.old.last + 1) }
+        ensures last { OnOk result (self.new.last ≡ self.old.last + 1) }
+        ensures made { OnOk result (is_made self.new.map.entries name (self.old.last + 1) ≡ true) }
         ensures kept { number_at self.old.map.entries name ≡ None → (n : List ℕ) (k : ℕ) → is_made self.old.map.entries n k ≡ true → is_made self.new.map.entries n k ≡ true }
-        ensures ended { (n : List ℕ) (k : ℕ) → k ≢ self.old.next → is_made self.old.map.entries n k ≡ false → is_made self.new.map.entries n k ≡ false }
-        ensures err { OnErr result ((self.new.map.entries ≡ self.old.map.entries) × (self.new.next ≡ self.old.next)) }
+        ensures ended { (n : List ℕ) (k : ℕ) → k ≢ self.old.last + 1 → is_made self.old.map.entries n k ≡ false → is_made self.new.map.entries n k ≡ false }
+        ensures err { OnErr result ((self.new.map.entries ≡ self.old.map.entries) × (self.new.last ≡ self.old.last)) }
     {
-        let number = self.next;
-        let next = number.checked_add(1).ok_or(Memory)?;
+        let number = self.last.checked_add(1).ok_or(Memory)?;
         put(&mut self.map, name, StoredFile { number, content })?;
-        self.next = next;
+        self.last = number;
         Ok(number)
     }
 
@@ -141,7 +141,7 @@ impl Files {
         requires { number_at self.old.map.entries name ≡ Some number }
         ensures ok { OnOk result (Sets (reads_of self.old.map.entries) (reads_of self.new.map.entries) name (Some (bytes_of content))) }
         ensures numbers { (n : List ℕ) → number_at self.new.map.entries n ≡ number_at self.old.map.entries n }
-        ensures next { self.new.next ≡ self.old.next }
+        ensures last { self.new.last ≡ self.old.last }
         ensures err { OnErr result (self.new.map.entries ≡ self.old.map.entries) }
     {
         put(&mut self.map, name, StoredFile { number, content })?;
@@ -150,7 +150,8 @@ impl Files {
 
     /// The same files, under no number of a writer's.
     pub fn copied(&self, alloc: Global) -> Result<Files, Memory>
-        ensures { IfOk result (λ files. Same (reads_of self.now.map.entries) (reads_of files.map.entries)) }
+        ensures files { IfOk result (λ files. Same (reads_of self.now.map.entries) (reads_of files.map.entries)) }
+        ensures unmade { IfOk result (λ files. files.last ≡ 0) }
     {
         let mut map = BTreeMap::new(alloc);
         for (name, file) in &self.map {
@@ -161,7 +162,7 @@ impl Files {
             };
             put(&mut map, FileName::new(text), copy)?;
         }
-        Ok(Files { map, next: 1 })
+        Ok(Files { map, last: 0 })
     }
 
     /// The lengths of all files together, as far as 64 bits count.
@@ -179,9 +180,9 @@ impl Files {
     /// new file.
     pub fn write(&mut self, name: FileName, content: Content) -> Result<(), Memory>
         ensures ok { OnOk result (Sets (reads_of self.old.map.entries) (reads_of self.new.map.entries) name (Some (bytes_of content))) }
-        ensures next { self.old.next ≤ self.new.next }
+        ensures last { self.old.last ≤ self.new.last }
         ensures kept { (n : List ℕ) (k : ℕ) → is_made self.old.map.entries n k ≡ true → is_made self.new.map.entries n k ≡ true }
-        ensures ended { (n : List ℕ) (k : ℕ) → k ≢ self.old.next → is_made self.old.map.entries n k ≡ false → is_made self.new.map.entries n k ≡ false }
+        ensures ended { (n : List ℕ) (k : ℕ) → k ≢ self.old.last + 1 → is_made self.old.map.entries n k ≡ false → is_made self.new.map.entries n k ≡ false }
         ensures err { OnErr result (self.new.map.entries ≡ self.old.map.entries) }
     {
         match self.number(&name) {
@@ -199,7 +200,7 @@ impl Files {
         ensures ok { Sets (reads_of self.old.map.entries) (reads_of self.new.map.entries) name.now None }
         ensures number { number_at self.new.map.entries name.now ≡ None }
         ensures numbers { (n : List ℕ) → n ≢ name.now → number_at self.new.map.entries n ≡ number_at self.old.map.entries n }
-        ensures next { self.new.next ≡ self.old.next }
+        ensures last { self.new.last ≡ self.old.last }
         ensures err { OnFalse result (self.new.map.entries ≡ self.old.map.entries) }
     {
         self.map.remove(name).is_some()

@@ -1,5 +1,5 @@
 //! A directory whose owner is also told lines.
-ghost use Rattle.std.specs.Prelude.{◌≡◌, ◌≤◌, ◌<◌, ◌++◌, [], ◌∷◌, List, ℕ, true, false, length, OnOk, OnErr, IfErr};
+ghost use Rattle.std.specs.Prelude.{◌≡◌, ◌≤◌, ◌<◌, ◌++◌, [], ◌∷◌, true, false, length, OnOk, OnErr, IfErr};
 ghost use Rattle.tv_model.specs.Files.{Same, Rose};
 ghost use Rattle.tv_model.specs.Lines.{has_no_feed};
 ghost use Rattle.tv_base.specs.Causes.{IsDevice};

@@ -1,7 +1,6 @@
 //! Writing a directory's files to another one.
 ghost use Rattle.std.specs.Prelude.{◌≡◌, ◌≤◌, None, Some, true, false, IfErr, OnOk};
-ghost use Rattle.tv_base.specs.Causes.{IoCause};
-ghost use Rattle.tv_model.specs.Files.{KeepsOthers, Rose, Same, Sets};
+ghost use Rattle.tv_model.specs.Files.{Rose, Sets};
 ghost use Rattle.tv_model.specs.Names.{is_file_name};
 ghost use Rattle.tv_directory.specs.Locks.{SameLocks};
 ghost use Rattle.tv_directory.specs.Persisting.{IsThere, MayRead, PersistCause, StopsAt, Persists, contents};
@@ -21,6 +20,7 @@ impl<C> RamDirectory<C> {
         ensures refusals { D.refusals dest.new ≡ D.refusals dest.old }
         ensures writers { (w : _) → D.opened dest.old w ≡ true → D.opened dest.new w ≡ true }
         ensures alive { (w : _) → D.lives dest.old w ≡ true → D.lives dest.new w ≡ true }
+        ensures ended { (w : _) → D.opened dest.old w ≡ true → D.lives dest.old w ≡ false → D.lives dest.new w ≡ false }
         ensures locks { D.tells_locks → SameLocks (D.locks dest.old) (D.locks dest.new) }
         ensures watched { D.watched dest.new ≡ D.watched dest.old }
         ensures clock { D.moment dest.old ≤ D.moment dest.new }
@@ -45,6 +45,7 @@ fn persist_file<D: Directory>(dest: &mut D, name: &str, bytes: &[u8]) -> Result<
     ensures refusals { D.refusals dest.new ≡ D.refusals dest.old }
     ensures writers { (w : _) → D.opened dest.old w ≡ true → D.opened dest.new w ≡ true }
     ensures alive { (w : _) → D.lives dest.old w ≡ true → D.lives dest.new w ≡ true }
+    ensures ended { (w : _) → D.opened dest.old w ≡ true → D.lives dest.old w ≡ false → D.lives dest.new w ≡ false }
     ensures locks { D.tells_locks → SameLocks (D.locks dest.old) (D.locks dest.new) }
     ensures watched { D.watched dest.new ≡ D.watched dest.old }
     ensures clock { D.moment dest.old ≤ D.moment dest.new }

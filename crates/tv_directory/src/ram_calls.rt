@@ -1,7 +1,7 @@
 //! The calls of a directory in memory.
-ghost use Rattle.std.specs.Prelude.{◌≡◌, ◌≢◌, ◌≤◌, ◌++◌, [], ℕ, true, false, is_some, Some, None, IsSome, IfOk, IfErr, OnOk, OnErr};
+ghost use Rattle.std.specs.Prelude.{◌≡◌, ◌≢◌, ◌++◌, [], true, false, is_some, Some, None, IsSome, IfOk, IfErr, OnOk, OnErr};
 ghost use Rattle.tv_model.specs.Names.{is_file_name};
-ghost use Rattle.tv_model.specs.Files.{Same, Sets, Heard};
+ghost use Rattle.tv_model.specs.Files.{Same, Sets};
 ghost use Rattle.tv_base.specs.Causes.{IoCause, OpenReadCause, OpenWriteCause, DeleteCause};
 ghost use Rattle.tv_directory.specs.Locks.{FreesLock, LockCause, SameLocks, TakesLock};
 ghost use Rattle.tv_directory.specs.Ram.{OnlyFiles, ram_reads, ram_opened, ram_lives, ram_locks, ram_watched};

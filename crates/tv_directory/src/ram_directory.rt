@@ -3,7 +3,7 @@ ghost use Rattle.std.specs.Prelude.{◌≡◌, [], List, ℕ, None, true, false,
 ghost use Rattle.tv_model.specs.Names.{is_file_name};
 ghost use Rattle.tv_directory.specs.Locks.{SameLocks, TakesLock};
 ghost use Rattle.tv_directory.specs.Device.{last};
-ghost use Rattle.tv_directory.specs.Ram.{ram_locks, ram_reads, ram_watched};
+ghost use Rattle.tv_directory.specs.Ram.{ram_locks, ram_opened, ram_reads, ram_watched};
 ghost use Rattle.tv_directory.specs.StoredFiles.{total_len};
 ghost use Rattle.tv_model.specs.Files.{Same};
 
@@ -36,9 +36,10 @@ pub struct RamWriter {
 }
 
 impl<C: WatchCall> RamDirectory<C> {
-    /// A directory without files. Takes no memory.
+    /// A directory without files, in which no writer was opened. Takes no memory.
     pub fn create(alloc: Global) -> RamDirectory<C>
         ensures files { (n : List ℕ) → ram_reads result n ≡ None }
+        ensures unopened { (w : _) → ram_opened result w ≡ false }
         ensures free { (n : List ℕ) → ram_locks result n ≡ false }
         ensures watched { ram_watched C.calls result ≡ record { registered = []; notice = false } }
     {
@@ -49,6 +50,7 @@ impl<C: WatchCall> RamDirectory<C> {
     /// writer was opened there.
     pub fn deep_clone(&self) -> Result<RamDirectory<C>, Memory>
         ensures files { IfOk result (λ copy. Same (ram_reads self.now) (ram_reads copy)) }
+        ensures unopened { IfOk result (λ copy. (w : _) → ram_opened copy w ≡ false) }
         ensures free { IfOk result (λ copy. (n : List ℕ) → ram_locks copy n ≡ false) }
         ensures watched { IfOk result (λ copy. ram_watched C.calls copy ≡ record { registered = []; notice = false }) }
     {

@@ -1,4 +1,5 @@
-//! What no clause says of the watchers: that they are called, and register where there is memory.
+//! What no clause says of the watchers: that they are called, in which order, and that they register
+//! where there is memory.
 use crate::watch_list::Watchers;
 use crate::{Directory, RamDirectory, WatchCall, WatchCallback, WatchCallbackList, WatchHandle};
 use std::alloc::AllocError;
@@ -29,6 +30,35 @@ impl WatchCall for Adds {
 
     fn call(&mut self) {
         self.sum.fetch_add(self.by, Ordering::SeqCst);
+        self.calls = self.calls.saturating_add(1);
+    }
+}
+
+// Writes a digit behind the others at each call.
+#[derive(Drop)]
+struct Writes {
+    number: Arc<AtomicU64>,
+    digit: u64,
+    calls: u64,
+}
+
+impl Writes {
+    fn new(number: &Arc<AtomicU64>, digit: u64) -> Result<Writes, AllocError> {
+        Ok(Writes {
+            number: Arc::try_clone(number)?,
+            digit,
+            calls: 0,
+        })
+    }
+}
+
+impl WatchCall for Writes {
+    ghost calls = { λ w. w.calls };
+
+    fn call(&mut self) {
+        let number = self.number.load(Ordering::SeqCst);
+        let longer = number.saturating_mul(10).saturating_add(self.digit);
+        self.number.store(longer, Ordering::SeqCst);
         self.calls = self.calls.saturating_add(1);
     }
 }
@@ -127,5 +157,39 @@ fn a_directory_calls_its_boxes(rt: HostRuntime) -> Result<(), Fail> {
     ram.atomic_write("meta.json", b"{}")?;
     assert!(rt; ram.deliver());
     assert_eq!(rt; sum.load(Ordering::SeqCst), 1);
+    Ok(())
+}
+
+#[test]
+fn all_are_called_in_the_order_of_their_registration(rt: HostRuntime) -> Result<(), Fail> {
+    let alloc = rt.alloc();
+    let number = Arc::new(alloc, AtomicU64::new(0))?;
+    let mut list = WatchCallbackList::new(alloc);
+    let two = Writes::new(&number, 2)?;
+    let one = Writes::new(&number, 1)?;
+    let three = Writes::new(&number, 3)?;
+    let four = Writes::new(&number, 4)?;
+    let _first = list.subscribe(WatchCallback::new(Box::new(alloc, two)?))?;
+    let second = list.subscribe(WatchCallback::new(Box::new(alloc, one)?))?;
+    let _third = list.subscribe(WatchCallback::new(Box::new(alloc, three)?))?;
+    assert_eq!(rt; after_broadcast(&mut list, &number), 213);
+    list.release(second);
+    let _fourth = list.subscribe(WatchCallback::new(Box::new(alloc, four)?))?;
+    assert_eq!(rt; after_broadcast(&mut list, &number), 213_234);
+    Ok(())
+}
+
+#[test]
+fn a_notice_reaches_the_first_registered_first(rt: HostRuntime) -> Result<(), Fail> {
+    let alloc = rt.alloc();
+    let number = Arc::new(alloc, AtomicU64::new(0))?;
+    let mut watchers = Watchers::new(alloc);
+    let two = Writes::new(&number, 2)?;
+    let one = Writes::new(&number, 1)?;
+    watchers.watch(WatchCallback::new(Box::new(alloc, two)?))?;
+    watchers.watch(WatchCallback::new(Box::new(alloc, one)?))?;
+    watchers.note();
+    assert!(rt; watchers.deliver());
+    assert_eq!(rt; number.load(Ordering::SeqCst), 21);
     Ok(())
 }

@@ -67,17 +67,11 @@ footer_back d footer h =
     (and_then_is version_of (get (codes "version") d) h.version (Some footer.version) h.version_at (version_back h.version footer.version h.major h.minor h.patch h.format))
     (ap (λ (o : Option ℕ). option_map (λ n. record { version = footer.version; crc = n }) o) h.crc)
 
-some_is : {y z : Footer} → ◌≡◌ {A = Option Footer} (Some y) (Some z) → y ≡ z
-some_is e = cc
-
 none_some : {y : Footer} → ◌≡◌ {A = Option Footer} None (Some y) → ⊥
 none_some e = cc
 
 tree_is : {d e : Data} → ◌≡◌ {A = Option Data} (Some d) (Some e) → d ≡ e
 tree_is e = cc
-
-no_tree : {d : Data} → ◌≡◌ {A = Option Data} None (Some d) → ⊥
-no_tree e = cc
 
 pub read_some : (json : List ℕ) (d : Data) (o : Option Footer) → IsUtf8 json × (read json ≡ Some d) → o ≡ footer_of d → IfSome o (Spells json)
 read_some json d None h is = tt
@@ -87,6 +81,3 @@ pub read_none : (json : List ℕ) (d : Data) (o : Option Footer) → read json �
 read_none json d (Some footer) h is = tt
 read_none json d None h is =
     λ footer s. none_some (is ∙ ap footer_of (tree_is (sym h ∙ s.parsed)) ∙ footer_back s.tree footer s.form)
-
-pub no_text : (json : List ℕ) → (IsUtf8 json → read json ≡ None) → (footer : Footer) → Spells json footer → ⊥
-no_text json h footer s = no_tree (sym (h s.text) ∙ s.parsed)

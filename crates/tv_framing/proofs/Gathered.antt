@@ -174,14 +174,6 @@ abbrev pub shifted : ℕ → Result ℕ ℕ → Result ℕ ℕ
 shifted k (Ok i) = Ok (k + i)
 shifted k (Err i) = Err (k + i)
 
-pub shifted_later : (k : ℕ) (r : Result ℕ ℕ) → shifted k (later r) ≡ shifted (k + 1) r
-shifted_later k (Ok i) = ap (λ (n : ℕ). Ok n) (omega arith)
-shifted_later k (Err i) = ap (λ (n : ℕ). Err n) (omega arith)
-
-pub same_place : (r : Result ℕ ℕ) → shifted 0 r ≡ r
-same_place (Ok i) = ap (λ (n : ℕ). Ok n) (omega arith)
-same_place (Err i) = ap (λ (n : ℕ). Err n) (omega arith)
-
 below_length_by : (g : FieldSpace) (gs : List FieldSpace) (n : List ℕ) (c : Ordering) → ((j : ℕ) → place_of n gs ≡ Ok j → j < length gs) → (i : ℕ) → match_ordering c (Err 0) (Ok 0) (later (place_of n gs)) ≡ Ok i → i < length (g ∷ gs)
 below_length_by g gs n Less ih i e = absurd (cc)
 below_length_by g gs n Equal ih i e = omega (arith, ok_is e)

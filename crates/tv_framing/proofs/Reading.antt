@@ -1,6 +1,6 @@
 -- How the list of a composite file and its bodies agree.
 use Rattle.std.proofs.Common.{◌≡◌, ◌≤◌, ◌<◌, ◌+◌, ◌-◌, ◌^◌, ℕ, suc, Bool, true, false, ◌||◌, List, [], ◌∷◌, ◌++◌, length, take, drop, get_or, slice_range, Option, Some, None, refl, sym, ap, subst, ◌∙◌, arith, append_assoc, append-nil, length-append, length-drop}
-use Rattle.std.proofs.lemmas.List.{drop_at, drop_more, take_at, length-take-le, drop_all}
+use Rattle.std.proofs.lemmas.List.{drop_at, drop_more, take_at, length-take-le}
 use Rattle.std.specs.List.{AllByRecursion, list_any}
 use Rattle.tv_model.specs.Footer.{four_bytes}
 use Rattle.tv_model.specs.VInt.{vint}
@@ -150,16 +150,6 @@ step_on entries done now left after n x is left_is now_is = record {
   fits = n.rest;
 }
 
-ended_by : (entries done rest : List Entry) → entries ≡ done ++ rest → length entries ≤ length done → rest ≡ []
-ended_by entries done [] whole le = refl
-ended_by entries done (e ∷ rest) whole le = absurd (omega (arith, ap length whole, length-append done (e ∷ rest)))
-
--- all were read
-pub all_read : (entries done : List Entry) (left : List ℕ) → StillReads entries done left → length entries ≤ length done → (entries ≡ done) × (left ≡ [])
-all_read entries done left s le =
-    let none = ended_by entries done s.rest s.whole le in
-    (s.whole ∙ ap (λ (l : List Entry). done ++ l) none ∙ append-nil done, s.text ∙ ap entries_text none)
-
 pub fits_push : (es : List Entry) (e : Entry) → AllByRecursion EntryFits es → EntryFits e → AllByRecursion EntryFits (es ++ e ∷ [])
 fits_push [] e each h = (h, tt)
 fits_push (x ∷ xs) e each h = (each.0, fits_push xs e each.1 h)
@@ -183,23 +173,6 @@ pub record IsReading (bytes : List ℕ) (count i : ℕ) (done : List Entry) (lef
   pub text : bytes ≡ vint count ++ (entries_text done ++ left)
   pub each : AllByRecursion EntryFits done
   pub goes_on : (entries : List Entry) → length entries < 2 ^ 64 → AllByRecursion EntryFits entries → bytes ≡ vint (length entries) ++ entries_text entries → (count ≡ length entries) × StillReads entries done left
-
-number_is : {m n : ℕ} → ◌≡◌ {A = Option ℕ} (Some m) (Some n) → m ≡ n
-number_is e = cc
-
-pub reads_first : (bytes left : List ℕ) (count : ℕ) → bytes ≡ vint count ++ left → ((n : ℕ) (rest : List ℕ) → n < 2 ^ 64 → bytes ≡ vint n ++ rest → (◌≡◌ {A = Option ℕ} (Some count) (Some n)) × (left ≡ rest)) → IsReading bytes count 0 [] left
-reads_first bytes left count is found = record {
-  number = refl;
-  within = omega arith;
-  text = is;
-  each = tt;
-  goes_on = λ entries short fits whole.
-      let f = found (length entries) (entries_text entries) short whole in
-      (number_is f.0, record { rest = entries; whole = refl; text = f.1; fits = fits });
-}
-
-entry_is : {x y : Entry} → ◌≡◌ {A = Option Entry} (Some x) (Some y) → x ≡ y
-entry_is e = cc
 
 next_in : (bytes : List ℕ) (count i : ℕ) (done : List Entry) (left : List ℕ) (r : IsReading bytes count i done left) → i < count → (entries : List Entry) → length entries < 2 ^ 64 → AllByRecursion EntryFits entries
     → bytes ≡ vint (length entries) ++ entries_text entries → Next entries done left
@@ -231,22 +204,6 @@ stops_short bytes count i done left after r lt found entries short fits whole =
   where
     none_some : {y : Entry} → ◌≡◌ {A = Option Entry} None (Some y) → ⊥
     none_some e = cc
-
-pub reads_all : (bytes : List ℕ) (count i : ℕ) (done : List Entry) (left : List ℕ) → IsReading bytes count i done left → count ≤ i → (entries : List Entry) → length entries < 2 ^ 64 → AllByRecursion EntryFits entries
-    → bytes ≡ vint (length entries) ++ entries_text entries → (entries ≡ done) × (left ≡ [])
-reads_all bytes count i done left r le entries short fits whole =
-    let g = r.goes_on entries short fits whole in
-    all_read entries done left g.1 (omega (arith, g.0, r.number, le))
-
-empty_of : (left : List ℕ) → length left ≡ 0 → left ≡ []
-empty_of [] h = refl
-empty_of (x ∷ xs) h = absurd (omega (arith, h))
-
-pub read_whole : (bytes : List ℕ) (count i : ℕ) (done : List Entry) (left : List ℕ) → IsReading bytes count i done left → count ≤ i → length left ≡ 0 → bytes ≡ vint (length done) ++ entries_text done
-read_whole bytes count i done left r le none =
-    let same : count ≡ length done = omega (arith, r.number, r.within, le) in
-    r.text ∙ ap (λ n. vint n ++ (entries_text done ++ left)) same ∙ ap (λ (l : List ℕ). vint (length done) ++ (entries_text done ++ l)) (empty_of left none)
-    ∙ ap (λ (l : List ℕ). vint (length done) ++ l) (append-nil (entries_text done))
 
 -- ---- adding up the gaps
 
@@ -284,9 +241,6 @@ so_far_more entries i offset len starts now e s front le new is =
       first = s.first;
     }
 
-pub too_far : (entries : List Entry) (i offset len : ℕ) (starts : List Start) (e : Entry) → IsSoFar entries i offset len starts → drop i entries ≡ e ∷ drop (i + 1) entries → len - offset < e.gap → IsLayout entries len → ⊥
-too_far entries i offset len starts e s front lt h = absurd (omega (arith, s.sum, s.within, lt, h.within, ap gaps front))
-
 or_left : (a b : Bool) → (a || b) ≡ false → a ≡ false
 or_left true b h = absurd (cc)
 or_left false b h = refl
@@ -319,18 +273,6 @@ pub stands_twice : (entries : List Entry) (i offset len : ℕ) (starts : List St
 stands_twice entries i offset len starts e s front is h =
     twice (start_addresses starts) e.addr (entry_addresses (drop (i + 1) entries)) is
     (subst AreDistinct (sym (ap (λ (l : List Entry). start_addresses starts ++ entry_addresses l) (sym front) ∙ s.named)) h.distinct)
-
-pub all_made : (entries : List Entry) (i offset len : ℕ) (starts : List Start) → IsSoFar entries i offset len starts → length entries ≤ i → IsLayout entries len × (starts ≡ starts_after 0 entries)
-all_made entries i offset len starts s le =
-    let none : drop i entries ≡ [] = drop_all i entries le in
-    let named : start_addresses starts ≡ entry_addresses entries = sym (append-nil (start_addresses starts)) ∙ ap (λ (l : List Entry). start_addresses starts ++ entry_addresses l) (sym none) ∙ s.named in (
-      record {
-        first = s.first;
-        within = omega (arith, s.sum, s.within, ap gaps none);
-        distinct = subst AreDistinct named s.distinct;
-      },
-      sym (append-nil starts) ∙ ap (λ (l : List Entry). starts ++ starts_after offset l) (sym none) ∙ s.made,
-    )
 
 -- ---- the parts of a file are those that begin where the entries say
 

@@ -1,6 +1,6 @@
 -- Facts on reports of a composite file.
-use Rattle.std.proofs.Common.{◌≡◌, ◌≤◌, ◌<◌, ◌+◌, ◌-◌, ◌&&◌, ℕ, zero, suc, Bool, true, false, Option, None, Some, List, [], ◌∷◌, ◌++◌, length, drop, get_or, nat_le, nat_lt, replicate, slice_range, sum_by, refl, sym, ap, ◌∙◌, arith, append_assoc, append-nil, length-drop}
-use Rattle.std.proofs.lemmas.List.{length-take-le, drop_all, length-replicate, length-append}
+use Rattle.std.proofs.Common.{◌≡◌, ◌<◌, ◌+◌, ◌-◌, ◌&&◌, ℕ, zero, suc, Bool, true, false, Option, None, Some, List, [], ◌∷◌, ◌++◌, length, drop, get_or, nat_le, nat_lt, replicate, slice_range, sum_by, refl, sym, ap, ◌∙◌, arith, append_assoc, length-drop}
+use Rattle.std.proofs.lemmas.List.{length-take-le, length-replicate, length-append}
 use Rattle.std.proofs.lemmas.List.Folds.{sum_by-replicate}
 use Rattle.std.proofs.lemmas.List.Sums.{sum_by-cons, sum_by-set}
 use Rattle.std.specs.List.{list_all}
@@ -39,20 +39,6 @@ both_true : (a b : Bool) → (a && b) ≡ true → (a ≡ true) × (b ≡ true)
 both_true true b h = (refl, h)
 both_true false b h = absurd (cc)
 
-below_at : (a n : ℕ) → nat_lt a n ≡ true → a < n
-below_at a n h = grind (arith, h)
-
-small_at : (a n : ℕ) → nat_le a n ≡ true → a ≤ n
-small_at a n h = grind (arith, h)
-
-pub named_at : (names : List (List ℕ)) (starts : List Start) (n i end : ℕ) (done : List FieldSpace) (s : Start) → IsReporting names starts n i end done → drop i starts ≡ s ∷ drop (i + 1) starts → s.addr.field < n
-named_at names starts n i end done s r front =
-    below_at s.addr.field n (both_true (nat_lt s.addr.field n) (list_all (λ (a : FileAddr). nat_lt a.field n) (start_addresses (drop (i + 1) starts))) (ap (λ (l : List Start). list_all (λ (a : FileAddr). nat_lt a.field n) (start_addresses l)) (sym front) ∙ r.below)).0
-
-pub index_at : (names : List (List ℕ)) (starts : List Start) (n i end : ℕ) (done : List FieldSpace) (s : Start) → IsReporting names starts n i end done → drop i starts ≡ s ∷ drop (i + 1) starts → s.addr.idx ≤ 65535
-index_at names starts n i end done s r front =
-    small_at s.addr.idx 65535 (both_true (nat_le s.addr.idx 65535) (list_all (λ (a : FileAddr). nat_le a.idx 65535) (start_addresses (drop (i + 1) starts))) (ap (λ (l : List Start). list_all (λ (a : FileAddr). nat_le a.idx 65535) (start_addresses l)) (sym front) ∙ r.small)).0
-
 pub reports_on : (names : List (List ℕ)) (starts : List Start) (n i end to : ℕ) (done now : List FieldSpace) (s : Start) (f : FieldSpace) → IsReporting names starts n i end done → drop i starts ≡ s ∷ drop (i + 1) starts → to ≡ next_start end (drop (i + 1) starts)
     → f ≡ record { name = get_or names s.addr.field []; parts = with_part s.addr.idx (record { 0 = to - s.offset }) []; column = None } → now ≡ done ++ f ∷ [] → IsReporting names starts n (i + 1) end now
 reports_on names starts n i end to done now s f r front to_is f_is now_is =
@@ -75,10 +61,6 @@ reports_on names starts n i end to done now s f r front to_is f_is now_is =
           ∙ ap (λ (l : List Start). done ++ usages names (parts_of bytes l)) (sym front)
           ∙ r.made bytes e;
     }
-
-pub reports_all : (names : List (List ℕ)) (starts : List Start) (n i end : ℕ) (done : List FieldSpace) → IsReporting names starts n i end done → length starts ≤ i → (bytes : List ℕ) → length bytes ≡ end → done ≡ usages names (parts_of bytes starts)
-reports_all names starts n i end done r le bytes e =
-    sym (append-nil done) ∙ ap (λ (l : List Start). done ++ usages names (parts_of bytes l)) (sym (drop_all i starts le)) ∙ r.made bytes e
 
 -- ---- the total
 

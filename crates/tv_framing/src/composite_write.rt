@@ -1,5 +1,5 @@
 //! Writes a composite file.
-ghost use Rattle.std.specs.Prelude.{◌≡◌, ◌≢◌, ◌<◌, ◌≤◌, ◌+◌, ◌^◌, ◌++◌, [], ◌∷◌, true, false, length, OnOk, OnErr, IfErr, MatchResult};
+ghost use Rattle.std.specs.Prelude.{◌≡◌, ◌≢◌, ◌<◌, ◌≤◌, ◌+◌, ◌^◌, ◌++◌, [], ◌∷◌, true, false, length, OnOk, OnErr, IfErr};
 ghost use Rattle.tv_model.specs.Files.{Rose};
 ghost use Rattle.tv_base.specs.Causes.{IoCause};
 ghost use Rattle.tv_framing.specs.Composite.{IsComposite, bodies, composite, footing, grown, has_address};
@@ -87,6 +87,7 @@ impl<W: TerminatingWrite> CompositeWrite<W> {
         ensures memory { IfErr result (IoCause (Unit {0}) ((self.new.parts ≡ self.old.parts) × (self.new.before ≡ self.old.before))) }
         ensures going { OnOk result (W.ended self.new.writer ≡ false) }
         ensures again { IfErr result (IoCause (Unit {0}) (W.ended self.new.writer ≡ false)) }
+        ensures over { IfErr result (IoCause (W.ended self.new.writer ≡ true) (Unit {0})) }
         ensures quiet { OnOk result (W.faults self.new.writer ≡ W.faults self.old.writer) }
         ensures cause { IfErr result (IoCause (Rose (W.faults self.old.writer) (W.faults self.new.writer)) (W.faults self.new.writer ≡ W.faults self.old.writer)) }
     {

@@ -32,6 +32,7 @@ pub(crate) fn numbered(
     }
 }
 
+// The text with the number in its middle.
 fn numbered_text(alloc: Global, before: &str, number: usize, after: &str) -> Result<String, Memory>
     ensures { IfOk result (λ text. string_bytes text ≡ before.now ++ (decimal number ++ after.now)) }
 {

@@ -1,5 +1,5 @@
 //! How much space a field takes.
-ghost use Rattle.std.specs.Prelude.{◌≡◌, ◌≢◌, ◌≤◌, [], None, Some, IfOk, OnOk, OnErr, get_or, string_bytes, option_and_then, option_copied, option_map, sum_by};
+ghost use Rattle.std.specs.Prelude.{◌≡◌, ◌≤◌, [], None, Some, IfOk, OnOk, OnErr, get_or, string_bytes, option_and_then, option_copied, option_map, sum_by};
 ghost use Rattle.tv_framing.specs.Usage.{bytes_of, capped};
 ghost use Rattle.tv_framing.specs.PerField.{joined, joined_columns, joined_parts};
 ghost use Rattle.tv_framing.specs.Fields.{column_bytes, field_sum, with_part};
@@ -171,6 +171,7 @@ fn part_at(parts: &[Option<ByteCount>], i: usize) -> Option<ByteCount>
     if i < parts.len() { parts[i] } else { None }
 }
 
+// Both together, or the one that is there.
 fn joined_columns(
     one: Option<ColumnSpaceUsage>,
     other: Option<ColumnSpaceUsage>,

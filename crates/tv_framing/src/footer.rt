@@ -1,7 +1,7 @@
 //! The footer of a file.
-ghost use Rattle.std.specs.Prelude.{◌≡◌, ◌≤◌, ◌<◌, ◌⊎◌, ◌++◌, List, ℕ, false, IfOk, IfErr, OnOk};
+ghost use Rattle.std.specs.Prelude.{◌≡◌, ◌++◌, List, ℕ, false, IfOk, IfErr, OnOk};
 ghost use Rattle.tv_model.specs.Files.{Rose};
-ghost use Rattle.tv_model.specs.Footer.{footer};
+ghost use Rattle.tv_model.specs.Footer.{IsOtherFormat, IsReadFormat, footer};
 ghost use Rattle.tv_base.specs.Causes.{IoCause};
 ghost use Rattle.tv_framing.specs.Faults.{OfFault};
 ghost use Rattle.tv_framing.specs.declared.footer.Footer.{Footer};
@@ -47,7 +47,13 @@ impl Footer {
         ensures bytes { IfOk result (λ bytes. bytes.items ≡ footer_text self.now) }
         ensures own { (crc : ℕ) → self.now ≡ record { version = record { major = 0; minor = 26; patch = 2; index_format_version = 7 }; crc = crc } → IfOk result (λ bytes. bytes.items ≡ footer crc) }
     {
-        written(alloc, self)
+        let mut bytes = write_json(alloc, self)?;
+        let Ok(len) = u32::try_from(bytes.len()) else {
+            return Err(Memory);
+        };
+        bytes.extend_from_slice(&len.to_le_bytes())?;
+        bytes.extend_from_slice(&FOOTER_MAGIC_NUMBER.to_le_bytes())?;
+        Ok(bytes)
     }
 
     /// Writes the footer behind what was written. Where memory is wanted, nothing is written.
@@ -80,9 +86,9 @@ impl Footer {
 
     /// Whether files of this footer's version can be read. Takes no memory.
     pub fn is_compatible(&self) -> Result<(), Incompatibility>
-        ensures ok { OnOk result ((4 ≤ self.now.version.index_format_version) × (self.now.version.index_format_version ≤ 7)) }
+        ensures ok { OnOk result (IsReadFormat self.now.version.index_format_version) }
         ensures err { IfErr result (λ e. e ≡ Incompatibility.IndexMismatch (record { major = 0; minor = 26; patch = 2; index_format_version = 7 }) self.now.version) }
-        ensures outside { IfErr result (λ _. (self.now.version.index_format_version < 4) ⊎ (7 < self.now.version.index_format_version)) }
+        ensures outside { IfErr result (λ _. IsOtherFormat self.now.version.index_format_version) }
     {
         let format = self.version.index_format_version;
         if format < INDEX_FORMAT_OLDEST_SUPPORTED_VERSION || format > INDEX_FORMAT_VERSION {
@@ -93,19 +99,6 @@ impl Footer {
         }
         Ok(())
     }
-}
-
-// The bytes of the footer.
-fn written(alloc: Global, footer: &Footer) -> Result<Vec<u8>, Memory>
-    ensures { IfOk result (λ bytes. bytes.items ≡ footer_text footer.now) }
-{
-    let mut bytes = write_json(alloc, footer)?;
-    let Ok(len) = u32::try_from(bytes.len()) else {
-        return Err(Memory);
-    };
-    bytes.extend_from_slice(&len.to_le_bytes())?;
-    bytes.extend_from_slice(&FOOTER_MAGIC_NUMBER.to_le_bytes())?;
-    Ok(bytes)
 }
 
 // The footer of a file, and the body before it.

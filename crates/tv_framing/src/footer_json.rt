@@ -29,6 +29,7 @@ pub(crate) fn read_footer(alloc: Global, bytes: &[u8]) -> Result<Option<Footer>,
     }
 }
 
+// The footer that a tree holds, if it has its fields.
 fn footer_of(tree: &Value) -> Option<Footer>
     ensures { result ≡ footer_of (view tree.now) }
 {
@@ -38,6 +39,7 @@ fn footer_of(tree: &Value) -> Option<Footer>
     })
 }
 
+// The version that a tree holds, if it has its fields.
 fn version_of(tree: &Value) -> Option<Version>
     ensures { result ≡ version_of (view tree.now) }
 {

@@ -1,5 +1,5 @@
 //! Writes a file that ends with a footer.
-ghost use Rattle.std.specs.Prelude.{◌≡◌, ◌++◌, [], List, ℕ, false, true, None, IfErr, OnOk};
+ghost use Rattle.std.specs.Prelude.{◌≡◌, ◌++◌, [], List, ℕ, false, true, IfErr, OnOk};
 ghost use Rattle.tv_model.specs.Files.{Rose};
 ghost use Rattle.tv_model.specs.Footer.{footer};
 ghost use Rattle.tv_base.specs.Causes.{IoCause};
@@ -74,10 +74,12 @@ impl<W: TerminatingWrite, C: Checksum + Drop> TerminatingWrite for FooterProxy<W
         ensures memory { IfErr result (IoCause (Unit {0}) (body_taken W.taken self.new ≡ body_taken W.taken self.old)) }
         ensures going { OnOk result (is_ended W.ended self.new ≡ false) }
         ensures again { IfErr result (IoCause (Unit {0}) (is_ended W.ended self.new ≡ false)) }
+        ensures over { IfErr result (IoCause (is_ended W.ended self.new ≡ true) (Unit {0})) }
         ensures quiet { OnOk result (W.faults self.new.writer ≡ W.faults self.old.writer) }
         ensures cause { IfErr result (IoCause (Rose (W.faults self.old.writer) (W.faults self.new.writer)) (W.faults self.new.writer ≡ W.faults self.old.writer)) }
         ensures below { OnOk result (W.taken self.new.writer ≡ W.taken self.old.writer ++ bytes.now) }
         ensures sum { (body : List ℕ) → SumsUp C.has_taken self.old.sum body → OnOk result (SumsUp C.has_taken self.new.sum (body ++ bytes.now)) }
+        ensures unsummed { IfErr result (IoCause (Unit {0}) (self.new.sum ≡ self.old.sum)) }
     {
         let Some(checksum) = &mut self.checksum else {
             unreachable!()
@@ -93,6 +95,7 @@ impl<W: TerminatingWrite, C: Checksum + Drop> TerminatingWrite for FooterProxy<W
         ensures memory { IfErr result (IoCause (Unit {0}) (body_taken W.taken self.new ≡ body_taken W.taken self.old)) }
         ensures going { OnOk result (is_ended W.ended self.new ≡ false) }
         ensures again { IfErr result (IoCause (Unit {0}) (is_ended W.ended self.new ≡ false)) }
+        ensures over { IfErr result (IoCause (is_ended W.ended self.new ≡ true) (Unit {0})) }
         ensures quiet { OnOk result (W.faults self.new.writer ≡ W.faults self.old.writer) }
         ensures cause { IfErr result (IoCause (Rose (W.faults self.old.writer) (W.faults self.new.writer)) (W.faults self.new.writer ≡ W.faults self.old.writer)) }
         ensures sum { self.new.sum ≡ self.old.sum }

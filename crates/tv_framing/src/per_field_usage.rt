@@ -1,5 +1,5 @@
 //! How much space the fields of a segment take.
-ghost use Rattle.std.specs.Prelude.{◌≡◌, [], IfOk, OnOk};
+ghost use Rattle.std.specs.Prelude.{◌≡◌, IfOk, OnOk};
 ghost use Rattle.std.specs.Slice.Iter.{iter_rest};
 ghost use Rattle.tv_framing.specs.Usage.{capped};
 ghost use Rattle.tv_framing.specs.PerField.{AreByName, fields_sum};

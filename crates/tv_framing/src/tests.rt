@@ -1,3 +1,5 @@
+//! What no clause says of the formats: the bytes and texts of footers, of composite files and of
+//! refusals, reports of space, and that all calls succeed where there is memory.
 ghost use Rattle.std.specs.Prelude.{◌≡◌, ◌≤◌, ◌+◌, ◌<◌, ◌^◌, ◌++◌, ◌∷◌, [], false, length, OnOk};
 ghost use Rattle.tv_framing.specs.Composite.{bodies, has_address};
 

@@ -1,19 +1,16 @@
 -- What is read at the end of a file, and why it isn't.
-use Rattle.std.proofs.Common.{◌≡◌, ◌<◌, ◌⊎◌, ℕ, List, Option, Some, Result, Ok, Err, ⊎_elim, inl, inr, String, Global, string_bytes, sym, ap, subst, ◌∙◌, arith}
+use Rattle.std.proofs.Common.{◌≡◌, ℕ, List, Option, Some, Result, Ok, Err, ⊎_elim, inl, inr, sym, ap, subst, ◌∙◌}
 use Rattle.std.specs.Prelude.{IfErr}
 use Rattle.std.specs.Result.{IsErrAnd}
 use Rattle.tv_model.specs.Files.{KeepsOthers, Reads, Sets}
-use Rattle.tv_model.specs.Footer.{HasBody, IsFramed, sealed}
+use Rattle.tv_model.specs.Footer.{HasBody, IsFramed, IsOtherFormat, IsReadFormat, sealed}
 use Rattle.tv_model.specs.FooterForm.{FooterNumbers}
 use Rattle.tv_model.proofs.Bodies.{body_of_good, one_footer, sealed_has_body}
-use Rattle.tv_base.specs.Causes.{OpenReadCause}
-use Rattle.tv_base.specs.declared.io.IoFault.{IoFault}
 use Rattle.tv_base.specs.declared.open_errors.OpenReadError.{OpenReadError}
 use Rattle.tv_base.specs.declared.open_errors.OpenReadError.TheVariants as read
-use Rattle.tv_base.specs.declared.versions.Incompatibility.{Incompatibility}
 use Rattle.tv_framing.specs.declared.footer.Footer.{Footer}
 use Rattle.tv_framing.specs.Footers as framing
-use Rattle.tv_managed.specs.Reading.{HasNoBody, HasNoFooter, NamesFile, OpenBodyCause, ReadsBody, ReadsSuch, at_path}
+use Rattle.tv_managed.specs.Reading.{HasNoBody, HasNoFooter, OpenBodyCause, ReadsBody, ReadsSuch}
 
 some_is : {A : Type 0} {x y : A} → ◌≡◌ {A = Option A} (Some x) (Some y) → x ≡ y
 some_is e = cc
@@ -23,10 +20,9 @@ pub no_body : (bytes : List ℕ) → HasNoFooter bytes → HasNoBody bytes
 no_body bytes none body h = none h.footer body h.framed
 
 -- what the name read is of no format that is read, so it has no body
-pub other_format : (bytes : List ℕ) (footer : FooterNumbers) (body : List ℕ) → IsFramed bytes footer body → (footer.format < 4) ⊎ (7 < footer.format) → HasNoBody bytes
+pub other_format : (bytes : List ℕ) (footer : FooterNumbers) (body : List ℕ) → IsFramed bytes footer body → IsOtherFormat footer.format → HasNoBody bytes
 other_format bytes footer body h other found good =
-    let same : footer.format ≡ good.footer.format = ap (λ (f : FooterNumbers). f.format) (one_footer bytes footer good.footer body found h good.framed).0 in
-    ⊎_elim (λ lt. absurd (omega (arith, lt, same, good.format.0))) (λ lt. absurd (omega (arith, lt, same, good.format.1))) other
+    other (subst (λ (f : FooterNumbers). IsReadFormat f.format) (sym (one_footer bytes footer good.footer body found h good.framed).0) good.format)
 
 -- the cause of an error where less is known of it
 pub less_known : (was : Option (List ℕ)) (error : OpenReadError) → OpenBodyCause (Unit {0}) (λ _. ReadsSuch was HasNoFooter) (λ _. ⊥) (Unit {0}) (Unit {0}) error
@@ -35,19 +31,6 @@ less_known was (read.FileDoesNotExist path) h = h
 less_known was (read.IoError fault path) h = ⊎_elim (λ d. inl d) (λ bad. inr (bad.0, bad.1, no_body bad.0 bad.2)) h
 less_known was (read.IncompatibleIndex why) h = absurd h
 less_known was read.Memory h = h
-
--- an error of the directory, as one that names the file
-pub cause_at : (a r q : Type 0) (b : IoFault → Type 0) (o : Incompatibility → Type 0) (error : OpenReadError) (path : String Global) → OpenReadCause a r q error → OpenBodyCause a b o r q (at_path error path)
-cause_at a r q b o (read.FileDoesNotExist other) path h = h
-cause_at a r q b o (read.IoError fault other) path h = inl h
-cause_at a r q b o (read.IncompatibleIndex why) path h = absurd h
-cause_at a r q b o read.Memory path h = h
-
-pub names_at : (name : List ℕ) (error : OpenReadError) (path : String Global) → string_bytes path ≡ name → NamesFile name (at_path error path)
-names_at name (read.FileDoesNotExist other) path e = e
-names_at name (read.IoError fault other) path e = e
-names_at name (read.IncompatibleIndex why) path e = tt
-names_at name read.Memory path e = tt
 
 -- no footer by its struct is none by its numbers
 pub numbered : (bytes : List ℕ) → ((footer : Footer) (body : List ℕ) → framing.IsFramed bytes footer body → ⊥) → HasNoFooter bytes

@@ -6,8 +6,7 @@ use Rattle.tv_model.specs.Names.{byte_cmp, is, has, is_undotted, list_name}
 use Rattle.tv_model.specs.Files.{Reads, Same, MaySet, KeepsOthers}
 use Rattle.tv_model.specs.Listing.{Lists, IsListOf, list_text}
 use Rattle.tv_model.proofs.Entries.{is_itself, is_text, has_inserted, has_kept}
-use Rattle.tv_base.specs.Causes.{IoCause, OpenWriteCause}
-use Rattle.tv_base.specs.declared.io.IoError.{IoError}
+use Rattle.tv_base.specs.Causes.{OpenWriteCause}
 use Rattle.tv_base.specs.declared.io.IoError.TheVariants as io
 use Rattle.tv_base.specs.declared.open_errors.OpenWriteError.{OpenWriteError}
 use Rattle.tv_base.specs.declared.open_errors.OpenWriteError.TheVariants as write
@@ -69,10 +68,6 @@ others_of_refused old new name value A (write.FileAlreadyExists path) h = λ n n
 others_of_refused old new name value A (write.Leaving path) h = absurd h
 others_of_refused old new name value A (write.IoError fault path) h = h.1.others
 others_of_refused old new name value A write.Memory h = λ n ne. h n
-
-pub others_of_refused_write : (old new : Reads) (name : List ℕ) (value : Option (List ℕ)) (e : IoError) → IoCause (MaySet old new name value) (Same old new) e → KeepsOthers old new name
-others_of_refused_write old new name value (io.Fault fault) h = h.1.others
-others_of_refused_write old new name value io.Memory h = λ n ne. h n
 
 -- a call that changes nothing
 pub still_covers : {D : Type 0} (reads : D → Reads) (old new : D) (before after : List (List ℕ)) → Same (reads old) (reads new) → after ≡ before → Covers (reads old list_name) before → Covers (reads new list_name) after

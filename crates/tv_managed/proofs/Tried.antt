@@ -6,7 +6,7 @@ use Rattle.tv_model.specs.Collections.{done_of, failed_of, without}
 use Rattle.tv_model.specs.Files.{Reads, Same, KeepsOthers, Rose}
 use Rattle.tv_model.proofs.Entries.{is_itself, is_text}
 use Rattle.tv_model.proofs.PlainNames.{both}
-use Rattle.tv_managed.specs.Collecting.{Leaves, Tells, FailsAtMost}
+use Rattle.tv_managed.specs.Collecting.{Leaves, Tries, FailsAtMost}
 use Rattle.tv_managed.proofs.Removals.{has_last, either_false, without_none, without_last, done_true, done_false, failed_true, failed_false, untried, not_first, has_without, has_between, has_fewer}
 
 -- some first names were tried, and these are left
@@ -172,8 +172,8 @@ leaves_of names rest before now deleted failed tells old new count counted t =
     }
 
 -- all were tried
-pub tells_of : (names rest before now deleted failed : List (List ℕ)) (tells : Type 0) (old new : Reads) (count counted : ℕ) → rest ≡ [] → Tried names rest before now deleted failed tells old new count counted → Tells names before now deleted failed tells old new
-tells_of names rest before now deleted failed tells old new count counted none t =
+pub tries_of : (names rest before now deleted failed : List (List ℕ)) (tells : Type 0) (old new : Reads) (count counted : ℕ) → rest ≡ [] → Tried names rest before now deleted failed tells old new count counted → Tries names before now deleted failed tells old new
+tries_of names rest before now deleted failed tells old new count counted none t =
     let all : names ≡ t.front = t.split ∙ ap (λ (l : List (List ℕ)). t.front ++ l) none ∙ append-nil t.front in
     let had : (n : List ℕ) (b : Bool) → has deleted n ≡ b → has (done_of t.front t.outcomes) n ≡ b = λ n b h. ap (λ (l : List (List ℕ)). has l n) (sym t.deleted_is) ∙ h in
     record {
@@ -231,9 +231,9 @@ left_at names names2 before before2 after tells old old2 new is was same l =
       kept = l.kept;
     }))
 
-pub told_at : (names names2 before before2 after deleted failed : List (List ℕ)) (tells : Type 0) (old old2 new : Reads) → names2 ≡ names → before2 ≡ before → (tells → Same old2 old) → Tells names before after deleted failed tells old new → Tells names2 before2 after deleted failed tells old2 new
+pub told_at : (names names2 before before2 after deleted failed : List (List ℕ)) (tells : Type 0) (old old2 new : Reads) → names2 ≡ names → before2 ≡ before → (tells → Same old2 old) → Tries names before after deleted failed tells old new → Tries names2 before2 after deleted failed tells old2 new
 told_at names names2 before before2 after deleted failed tells old old2 new is was same l =
-    subst (λ (ns : List (List ℕ)). Tells ns before2 after deleted failed tells old2 new) (sym is) (subst (λ (b : List (List ℕ)). Tells names b after deleted failed tells old2 new) (sym was) (record {
+    subst (λ (ns : List (List ℕ)). Tries ns before2 after deleted failed tells old2 new) (sym is) (subst (λ (b : List (List ℕ)). Tries names b after deleted failed tells old2 new) (sym was) (record {
       outcomes = l.outcomes;
       each = l.each;
       deleted_is = l.deleted_is;
@@ -283,7 +283,7 @@ left_saved names before after after2 tells old new new2 plain kept keeps l = rec
   kept = λ n h. ap (λ (ns : List (List ℕ)). has ns n) kept ∙ l.kept n h;
 }
 
-pub told_saved : (names before after after2 deleted failed : List (List ℕ)) (tells : Type 0) (old new new2 : Reads) → list_all is_plain names ≡ true → after2 ≡ after → (tells → KeepsOthers new new2 list_name) → Tells names before after deleted failed tells old new → Tells names before after2 deleted failed tells old new2
+pub told_saved : (names before after after2 deleted failed : List (List ℕ)) (tells : Type 0) (old new new2 : Reads) → list_all is_plain names ≡ true → after2 ≡ after → (tells → KeepsOthers new new2 list_name) → Tries names before after deleted failed tells old new → Tries names before after2 deleted failed tells old new2
 told_saved names before after after2 deleted failed tells old new new2 plain kept keeps l = record {
   outcomes = l.outcomes;
   each = l.each;
@@ -299,7 +299,7 @@ pub left_fewer : (names before after : List (List ℕ)) (tells : Type 0) (old ne
 left_fewer names before after tells old new l n h = has_fewer (done_of l.front l.outcomes) before n (ap (λ (ns : List (List ℕ)). has ns n) (sym l.managed) ∙ h)
 
 -- where no name is deleted, the managed names stay
-pub none_deleted : (names before after deleted failed : List (List ℕ)) (tells : Type 0) (old new : Reads) → Tells names before after deleted failed tells old new → deleted ≡ [] → after ≡ before
+pub none_deleted : (names before after deleted failed : List (List ℕ)) (tells : Type 0) (old new : Reads) → Tries names before after deleted failed tells old new → deleted ≡ [] → after ≡ before
 none_deleted names before after deleted failed tells old new l none = l.managed ∙ ap (λ (ns : List (List ℕ)). without ns before) none ∙ without_none before
 
 -- a name that isn't among some names and one more is neither among them nor that one

@@ -1,13 +1,12 @@
 -- What a collection does to a directory and its list.
-use Rattle.std.specs.Prelude.{ℕ, ◌≡◌, ◌≢◌, ◌≤◌, ◌+◌, ◌⊎◌, Bool, true, false, List, [], ◌++◌, Option, String, None, codes, length, map, string_bytes}
+use Rattle.std.specs.Prelude.{ℕ, ◌≡◌, ◌≢◌, ◌≤◌, ◌+◌, ◌⊎◌, Bool, true, false, List, [], ◌++◌, String, None, codes, length, map, string_bytes}
 use Rattle.tv_model.specs.Names.{has, list_name}
 use Rattle.tv_model.specs.Collections.{collectable, done_of, failed_of, without}
 use Rattle.tv_model.specs.Files.{Reads}
 use Rattle.tv_base.specs.Causes.{IsDevice}
-use Rattle.tv_base.specs.declared.open_errors.LockError.{LockError}
-use Rattle.tv_base.specs.declared.open_errors.LockError.TheVariants as lock
 use Rattle.tv_base.specs.declared.error.TantivyError.{TantivyError}
 use Rattle.tv_base.specs.declared.error.TantivyError.TheVariants as errors
+use Rattle.tv_directory.specs.Locks.{LockCause}
 
 -- texts, as names
 abbrev pub names_of : {X : Type 0} → List (String X) → List (List ℕ)
@@ -32,7 +31,7 @@ pub record Leaves (names before after : List (List ℕ)) (tells : Type 0) (old n
   pub kept : (n : List ℕ) → has names n ≡ false → has after n ≡ has before n
 
 -- What trying these names gave where all were tried: each is told as done or as failed, in their order.
-pub record Tells (names before after deleted failed : List (List ℕ)) (tells : Type 0) (old new : Reads) : Type 0 where
+pub record Tries (names before after deleted failed : List (List ℕ)) (tells : Type 0) (old new : Reads) : Type 0 where
   pub outcomes : List Bool
   pub each : length outcomes ≡ length names
   pub deleted_is : deleted ≡ done_of names outcomes
@@ -60,14 +59,14 @@ meta_lock_name = codes ".tantivy-meta.lock"
 abbrev pub Among : {S : Type 0} → (answered : S → Type 0) → (living : S → List (List ℕ)) → (managed names : List (List ℕ)) → Type 0
 Among {S} answered living managed names = (names ≡ []) ⊎ ((set : S) × answered set × (names ≡ collectable (living set) managed))
 
--- Why a collection was given up: `busy` where the lock isn't given, `refused` where the device refused a call other than a delete, `quiet` where memory was wanted.
-abbrev pub LockWhy : (busy refused : Type 0) → LockError → Type 0
-LockWhy busy refused lock.LockBusy = busy
-LockWhy busy refused (lock.IoError fault) = IsDevice fault × refused
-LockWhy busy refused lock.Memory = ⊥
+-- whether the error is that a lock wasn't given
+abbrev pub is_lock_failure : TantivyError → Bool
+is_lock_failure (errors.LockFailure why text) = true
+is_lock_failure _ = false
 
+-- Why a collection was given up: `busy` where the lock isn't given, `refused` where the device refused a call other than a delete, `quiet` where memory was wanted.
 abbrev pub CollectCause : (busy refused quiet : Type 0) → TantivyError → Type 0
 CollectCause busy refused quiet (errors.IoError fault) = IsDevice fault × refused
-CollectCause busy refused quiet (errors.LockFailure why text) = LockWhy busy refused why × (text ≡ None)
+CollectCause busy refused quiet (errors.LockFailure why text) = LockCause busy refused ⊥ why × (text ≡ None)
 CollectCause busy refused quiet errors.Memory = quiet
 CollectCause busy refused quiet _ = ⊥

@@ -1,8 +1,8 @@
 -- How the body of a sealed file is read, and its checksum.
-use Rattle.std.specs.Prelude.{ℕ, ◌≡◌, ◌<◌, ◌⊎◌, ◌==◌, Bool, List, Option, Some, String, string_bytes}
+use Rattle.std.specs.Prelude.{ℕ, ◌≡◌, ◌⊎◌, ◌==◌, Bool, List, Option, Some, String, string_bytes}
 use Rattle.std.specs.Global.{Global}
 use Rattle.tv_model.specs.Checksum.{crc32}
-use Rattle.tv_model.specs.Footer.{HasBody, IsFramed}
+use Rattle.tv_model.specs.Footer.{HasBody, IsFramed, IsOtherFormat}
 use Rattle.tv_model.specs.FooterForm.{FooterNumbers}
 use Rattle.tv_base.specs.Causes.{IsDevice}
 use Rattle.tv_base.specs.declared.io.IoFault.{IoFault}
@@ -35,7 +35,7 @@ pub record HasOtherFormat (bytes : List ℕ) (why : Incompatibility) : Type 0 wh
   pub footer : Footer
   pub body : List ℕ
   pub framed : framing.IsFramed bytes footer body
-  pub format : (footer.version.index_format_version < 4) ⊎ (7 < footer.version.index_format_version)
+  pub format : IsOtherFormat footer.version.index_format_version
   pub is : why ≡ IndexMismatch (record { major = 0; minor = 26; patch = 2; index_format_version = 7 }) footer.version
 
 -- the name read bytes that are refused with this fault, for the first reason that holds

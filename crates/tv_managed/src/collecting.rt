@@ -1,14 +1,14 @@
 //! Deletes the managed files that nothing needs.
-ghost use Rattle.std.specs.Prelude.{◌≡◌, ◌≢◌, ◌≤◌, ◌⊎◌, [], ◌∷◌, ℕ, List, true, false, length, Some, None, IsSome, IfOk, IfErr, OnOk, OnErr, if◌then◌else◌};
+ghost use Rattle.std.specs.Prelude.{◌≡◌, ◌≢◌, ◌≤◌, ◌⊎◌, [], ◌∷◌, ℕ, List, true, false, length, None, IsSome, IfOk, IfErr, OnOk, OnErr, if◌then◌else◌};
 ghost use Rattle.std.specs.List.{list_all};
 ghost use Rattle.tv_model.specs.Names.{is_file_name, is_plain, list_name};
-ghost use Rattle.tv_model.specs.Listing.{Lists, list_text};
+ghost use Rattle.tv_model.specs.Listing.{Lists};
 ghost use Rattle.tv_model.specs.Collections.{collectable, without};
-ghost use Rattle.tv_model.specs.Files.{Same, Sets, MaySet, KeepsOthers, Rose};
+ghost use Rattle.tv_model.specs.Files.{Same, Sets, KeepsOthers, Rose};
 ghost use Rattle.tv_base.specs.Causes.{IoCause, DeleteCause};
 ghost use Rattle.tv_directory.specs.Locks.{SameLocks};
 ghost use Rattle.tv_managed.specs.Managed.{Covers};
-ghost use Rattle.tv_managed.specs.Collecting.{Among, meta_lock_name, names_of, Leaves, Tells, SparesWriters, FailsAtMost, CollectCause};
+ghost use Rattle.tv_managed.specs.Collecting.{Among, meta_lock_name, names_of, Leaves, Tries, SparesWriters, FailsAtMost, CollectCause, is_lock_failure};
 
 use crate::list::save_list;
 use crate::managed_directory::ManagedDirectory;
@@ -58,14 +58,14 @@ impl<D: Directory> ManagedDirectory<D> {
     /// asked for while the meta lock is held, and the lock is free while files are deleted. A file that is
     /// absent counts as deleted. One whose delete is refused has failed: it stays managed, a writer of
     /// it lives on, and the others are still tried. Where something was deleted, the shorter list is
-    /// saved. `LockFailure` comes where the lock isn't given, and then nothing changes. After another
-    /// error the names that were deleted by then aren't managed any more.
+    /// saved. `LockFailure` comes where the lock isn't given, and then the managed names stay, and so do
+    /// the files. After another error the names that were deleted by then aren't managed any more.
     pub fn garbage_collect<L: FnOnce() -> BTreeSet<String>>(
         &mut self,
         living: L,
     ) -> Result<GarbageCollectionResult, TantivyError>
         requires { L.IsAlwaysCallable living }
-        ensures told { IfOk result (λ r. (set : _) × L.post living set × Tells (collectable (names_of set.keys) self.old.1) self.old.1 self.new.1 (names_of r.deleted_files.items) (names_of r.failed_to_delete_files.items) D.tells (D.reads self.old.0) (D.reads self.new.0)) }
+        ensures told { IfOk result (λ r. (set : _) × L.post living set × Tries (collectable (names_of set.keys) self.old.1) self.old.1 self.new.1 (names_of r.deleted_files.items) (names_of r.failed_to_delete_files.items) D.tells (D.reads self.old.0) (D.reads self.new.0)) }
         ensures left { (names : List (List ℕ)) × Among (L.post living) (λ set. names_of set.keys) self.old.1 names × Leaves names self.old.1 self.new.1 D.tells (D.reads self.old.0) (D.reads self.new.0)
             × SparesWriters names D.name_of (D.lives self.old.0) (D.lives self.new.0) }
         ensures list { D.tells → Lists (D.reads self.old.0 list_name) self.old.1 → OnOk result (Lists (D.reads self.new.0 list_name) self.new.1) }
@@ -74,6 +74,7 @@ impl<D: Directory> ManagedDirectory<D> {
         ensures counted { IfOk result (λ r. FailsAtMost (length (names_of r.failed_to_delete_files.items)) (D.refusals self.old.0) (D.refusals self.new.0)) }
         ensures calm { IfOk result (λ r. names_of r.failed_to_delete_files.items ≡ [] → D.refusals self.new.0 ≡ D.refusals self.old.0) }
         ensures fits { D.refusals self.old.0 ≤ 18446744073709551615 → D.refusals self.new.0 ≤ 18446744073709551615 }
+        ensures unchanged { IfErr result (λ e. is_lock_failure e ≡ true → (self.new.1 ≡ self.old.1) × (D.tells → Same (D.reads self.old.0) (D.reads self.new.0))) }
         ensures quiet { OnOk result (D.faults self.new.0 ≡ D.faults self.old.0) }
         ensures free { D.tells_locks → OnOk result (D.locks self.old.0 meta_lock_name ≡ false) }
         ensures busy { D.tells_locks → IfErr result (CollectCause (D.locks self.old.0 meta_lock_name ≡ true) (Unit {0}) (Unit {0})) }
@@ -121,7 +122,7 @@ impl<D: Directory> ManagedDirectory<D> {
         &mut self,
         living: &BTreeSet<String>,
     ) -> Result<GarbageCollectionResult, TantivyError>
-        ensures told { IfOk result (λ r. Tells (collectable (names_of living.now.keys) self.old.1) self.old.1 self.new.1 (names_of r.deleted_files.items) (names_of r.failed_to_delete_files.items) D.tells (D.reads self.old.0) (D.reads self.new.0)) }
+        ensures told { IfOk result (λ r. Tries (collectable (names_of living.now.keys) self.old.1) self.old.1 self.new.1 (names_of r.deleted_files.items) (names_of r.failed_to_delete_files.items) D.tells (D.reads self.old.0) (D.reads self.new.0)) }
         ensures left { Leaves (collectable (names_of living.now.keys) self.old.1) self.old.1 self.new.1 D.tells (D.reads self.old.0) (D.reads self.new.0) }
         ensures alive { SparesWriters (collectable (names_of living.now.keys) self.old.1) D.name_of (D.lives self.old.0) (D.lives self.new.0) }
         ensures list { D.tells → Lists (D.reads self.old.0 list_name) self.old.1 → OnOk result (Lists (D.reads self.new.0 list_name) self.new.1) }
@@ -132,6 +133,7 @@ impl<D: Directory> ManagedDirectory<D> {
         ensures fits { D.refusals self.old.0 ≤ 18446744073709551615 → D.refusals self.new.0 ≤ 18446744073709551615 }
         ensures quiet { OnOk result (D.faults self.new.0 ≡ D.faults self.old.0) }
         ensures cause { IfErr result (CollectCause ⊥ (Rose (D.faults self.old.0) (D.faults self.new.0)) (D.faults self.new.0 ≡ D.faults self.old.0)) }
+        ensures unlocked { IfErr result (λ e. is_lock_failure e ≡ false) }
         ensures writers { (w : _) → D.opened self.old.0 w ≡ true → D.opened self.new.0 w ≡ true }
         ensures ended { (w : _) → D.opened self.old.0 w ≡ true → D.lives self.old.0 w ≡ false → D.lives self.new.0 w ≡ false }
         ensures locks { D.tells_locks → SameLocks (D.locks self.old.0) (D.locks self.new.0) }
@@ -150,7 +152,7 @@ impl<D: Directory> ManagedDirectory<D> {
     // Tries each of these names.
     fn delete_each(&mut self, names: Vec<String>) -> Result<GarbageCollectionResult, Memory>
         requires { list_all is_plain (names_of names.items) ≡ true }
-        ensures told { IfOk result (λ r. Tells (names_of names.items) self.old.1 self.new.1 (names_of r.deleted_files.items) (names_of r.failed_to_delete_files.items) D.tells (D.reads self.old.0) (D.reads self.new.0)) }
+        ensures told { IfOk result (λ r. Tries (names_of names.items) self.old.1 self.new.1 (names_of r.deleted_files.items) (names_of r.failed_to_delete_files.items) D.tells (D.reads self.old.0) (D.reads self.new.0)) }
         ensures left { Leaves (names_of names.items) self.old.1 self.new.1 D.tells (D.reads self.old.0) (D.reads self.new.0) }
         ensures list { D.tells → D.reads self.new.0 list_name ≡ D.reads self.old.0 list_name }
         ensures alive { SparesWriters (names_of names.items) D.name_of (D.lives self.old.0) (D.lives self.new.0) }

@@ -1,11 +1,11 @@
 //! A directory that writes down the name of each file before it makes the file.
-ghost use Rattle.std.specs.Prelude.{◌≡◌, ◌≢◌, ◌⊎◌, ◌≤◌, ◌<◌, ◌+◌, ◌^◌, ◌++◌, [], ℕ, List, true, false, length, Option, Some, None, IsSome, is_some, IfOk, IfErr, OnOk, OnErr, IsOkAnd, map, string_bytes};
+ghost use Rattle.std.specs.Prelude.{◌≡◌, ◌≢◌, ◌⊎◌, ◌≤◌, ◌<◌, ◌+◌, ◌^◌, ◌++◌, [], true, false, length, Some, None, IsSome, is_some, IfOk, IfErr, OnOk, OnErr, IsOkAnd, map, string_bytes};
 ghost use Rattle.std.specs.List.{list_all};
 ghost use Rattle.std.specs.BTreeSet.{insert_key};
 ghost use Rattle.tv_model.specs.Names.{byte_cmp, is_file_name, is_plain, is_undotted, list_name};
 ghost use Rattle.tv_model.specs.Footer.{sealed};
-ghost use Rattle.tv_model.specs.Listing.{Lists, list_text};
-ghost use Rattle.tv_model.specs.Files.{Same, Sets, MaySet, KeepsOthers, Rose};
+ghost use Rattle.tv_model.specs.Listing.{Lists};
+ghost use Rattle.tv_model.specs.Files.{Same, Sets, KeepsOthers, Rose};
 ghost use Rattle.tv_base.specs.Causes.{IsDevice, IoCause, OpenReadCause, OpenWriteCause};
 ghost use Rattle.tv_directory.specs.Locks.{SameLocks};
 ghost use Rattle.tv_directory.specs.Watch.{IsNewWriter, MayNote, noted};
@@ -255,6 +255,7 @@ impl<D: Directory> ManagedDirectory<D> {
         ensures ok { OnOk result ((D.written writer.new.writer ≡ D.written writer.old.writer ++ bytes.now) × (D.opened self.new.0 writer.new.writer ≡ true)) }
         ensures err { IfErr result (IoCause (Unit {0}) ((D.written writer.new.writer ≡ D.written writer.old.writer) × (D.opened self.new.0 writer.new.writer ≡ true))) }
         ensures summed { OnOk result (IsSummed D.written writer.old → IsSummed D.written writer.new) }
+        ensures still_summed { IfErr result (IoCause (Unit {0}) (IsSummed D.written writer.old → IsSummed D.written writer.new)) }
         ensures name { D.name_of writer.new.writer ≡ D.name_of writer.old.writer }
         ensures lives { D.lives self.old.0 writer.old.writer ≡ true → D.lives self.new.0 writer.new.writer ≡ true }
         ensures lost { D.lives self.old.0 writer.old.writer ≡ false → D.lives self.new.0 writer.new.writer ≡ false }
@@ -371,7 +372,7 @@ impl<D: Directory> ManagedDirectory<D> {
         requires other { name.now ≢ list_name }
         ensures names { OnOk result (self.new.1 ≡ registered self.old.1 name.now) }
         ensures ok { D.tells → OnOk result (D.reads self.new.0 name.now ≡ Some bytes.now) }
-        ensures err { D.tells → OnErr result ((D.reads self.new.0 name.now ≡ Some bytes.now) ⊎ (D.reads self.new.0 name.now ≡ D.reads self.old.0 name.now)) }
+        ensures err { D.tells → IfErr result (IoCause ((D.reads self.new.0 name.now ≡ Some bytes.now) ⊎ (D.reads self.new.0 name.now ≡ D.reads self.old.0 name.now)) (D.reads self.new.0 name.now ≡ D.reads self.old.0 name.now)) }
         ensures others { D.tells → KeepsOtherFiles (D.reads self.old.0) (D.reads self.new.0) name.now }
         ensures list { D.tells → Lists (D.reads self.old.0 list_name) self.old.1 → OnOk result (Lists (D.reads self.new.0 list_name) self.new.1) }
         ensures covers { D.tells → Covers (D.reads self.old.0 list_name) self.old.1 → Covers (D.reads self.new.0 list_name) self.new.1 }

@@ -1,5 +1,5 @@
-//! One file, from its registration to its sealed bytes.
-ghost use Rattle.std.specs.Prelude.{◌≡◌, [], IfOk};
+//! What no clause says of a managed directory: that its calls succeed where there is memory, from a
+//! file's registration to its collection, and what a run answers whose calls are refused.
 
 use crate::{GarbageCollectionResult, ManagedDirectory, Refused};
 use std::alloc::Global;

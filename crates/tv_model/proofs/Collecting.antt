@@ -1,11 +1,11 @@
 -- A searcher over files that were collected since, computed.
-use Rattle.std.proofs.Common.{◌≡◌, List, [], ◌∷◌, None, refl, codes}
+use Rattle.std.proofs.Common.{◌≡◌, [], ◌∷◌, None, refl, codes}
 use Rattle.std.specs.Fmt.{digits}
 use Rattle.hex.specs.Hex.{encode_with}
 use Rattle.tv_model.specs.declared.event.Event.TheVariants as events
 use Rattle.tv_model.specs.declared.reload_policy.ReloadPolicy.TheVariants.{Manual}
 use Rattle.tv_model.specs.declared.segment.SegmentComponent.TheVariants.{Postings, Positions}
-use Rattle.tv_model.specs.Machine.{Turn, answers, after}
+use Rattle.tv_model.specs.Machine.{answers, after}
 use Rattle.tv_model.proofs.Samples.{id_a, first_state, first_script, unrefused}
 
 -- the files of a commit are collected, and its searcher shows them still

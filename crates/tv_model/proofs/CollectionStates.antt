@@ -1,23 +1,21 @@
 -- What a collection takes and spares, and what a file is after its segment was released.
 use Rattle.std.proofs.Common.{◌≡◌, ℕ, Bool, true, false, true≢false, not, ◌&&◌, ◌||◌, cond, List, [], ◌∷◌, ◌++◌, map, filter, Option, Some, None, refl, sym, ap, ◌∙◌}
 use Rattle.std.specs.Prelude.{option_map}
-use Rattle.std.specs.List.{flat_map, list_any}
-use Rattle.std.specs.Map.{lookup}
+use Rattle.std.specs.List.{flat_map}
 use Rattle.std.specs.BTreeMap.{is_at}
 use Rattle.std.proofs.lemmas.List.Folds.{list_any-append}
 use Rattle.std.proofs.lemmas.Map.Entries.{lookup-filter-keys}
 use Rattle.std.proofs.lemmas.Map.Views.{any-filter_same}
 use Rattle.tv_model.specs.declared.segment.DeleteMeta.{DeleteMeta}
 use Rattle.tv_model.specs.declared.segment.LiveSegment.{LiveSegment}
-use Rattle.tv_model.specs.declared.segment.SegmentComponent.{SegmentComponent}
 use Rattle.tv_model.specs.declared.segment.SegmentComponent.TheVariants.{Postings, Positions, FastFields, FieldNorms, Terms, Store, Delete}
 use Rattle.tv_model.specs.Names.{byte_cmp, is, has, meta_name}
-use Rattle.tv_model.specs.Segments.{name_of, required_names, required_components, all_required}
-use Rattle.tv_model.specs.Collections.{done_of, failed_of, collectable, without}
+use Rattle.tv_model.specs.Segments.{name_of, required_names, all_required}
+use Rattle.tv_model.specs.Collections.{done_of, collectable, without}
 use Rattle.tv_model.specs.Living.{all_components, segment_names, living}
 use Rattle.tv_model.specs.State.{State, FileState, at}
 use Rattle.tv_model.specs.CollectionEvents.{garbage, left, with_left}
-use Rattle.tv_model.proofs.Entries.{is_itself, is_text, text_at}
+use Rattle.tv_model.proofs.Entries.{is_text, text_at}
 
 -- texts that are the same are among some others alike
 same_has : (names : List (List ℕ)) (n m : List ℕ) → is m n ≡ true → not (has names m) ≡ not (has names n)

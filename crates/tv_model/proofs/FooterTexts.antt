@@ -1,7 +1,7 @@
 -- A footer as it is written is read back.
-use Rattle.std.proofs.Common.{◌≡◌, ◌≤◌, ◌<◌, ◌+◌, ◌^◌, ℕ, List, [], ◌++◌, length, Some, option_and_then, codes, refl, sym, ap, subst, ◌∙◌, arith, append_assoc, append-nil, length-append}
+use Rattle.std.proofs.Common.{◌≡◌, ◌≤◌, ◌<◌, ◌+◌, ◌^◌, ℕ, List, [], ◌++◌, length, Some, option_and_then, codes, refl, sym, ap, ◌∙◌, arith, append_assoc, append-nil, length-append}
 use Rattle.std.specs.Prelude.{IsUtf8}
-use Rattle.std.specs.Fmt.{decimal, digits}
+use Rattle.std.specs.Fmt.{decimal}
 use Rattle.std.proofs.lemmas.Bool.{lt-ltb}
 use Rattle.std.proofs.lemmas.Fmt.{IsAscii-decimal, length-decimal-le}
 use Rattle.std.proofs.lemmas.Str.{IsUtf8-append, IsUtf8-from_ascii}
@@ -118,10 +118,6 @@ json_short f h =
 abbrev pub own : ℕ → FooterNumbers
 own crc = record { major = 0; minor = 26; patch = 2; format = 7; crc = crc }
 
-pub own_json : (crc : ℕ) → written_json (own crc) ≡ footer_json crc
-unfolding digits
-own_json crc = refl
-
 pub own_fits : (crc : ℕ) → crc < 2 ^ 32 → FooterFits (own crc)
 own_fits crc h = record { major = omega arith; minor = omega arith; patch = omega arith; format = omega arith; crc = h }
 
@@ -130,6 +126,6 @@ own_framed crc body h =
     record {
       json = footer_json crc;
       whole = ap (λ (l : List ℕ). body ++ l) (append_assoc (footer_json crc) (four_bytes (length (footer_json crc))) (four_bytes footer_magic));
-      short = subst (λ (l : List ℕ). length l ≤ 50000) (own_json crc) (json_short (own crc) (own_fits crc h));
-      spells = subst (λ (l : List ℕ). Spells l (own crc)) (own_json crc) (spells_itself (own crc) (own_fits crc h));
+      short = json_short (own crc) (own_fits crc h);
+      spells = spells_itself (own crc) (own_fits crc h);
     }

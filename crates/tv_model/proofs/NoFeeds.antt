@@ -1,5 +1,5 @@
 -- No line feed stands in the words of answers.
-use Rattle.std.proofs.Common.{◌≡◌, ℕ, zero, suc, ◌<◌, ◌^◌, ◌/◌, ◌%◌, ◌==◌, Bool, true, false, not, ◌&&◌, ◌||◌, nat_lt, nat_le, length, codes, List, [], ◌∷◌, ◌++◌, refl, sym, ap, ◌∙◌, arith}
+use Rattle.std.proofs.Common.{◌≡◌, ℕ, zero, suc, ◌<◌, ◌^◌, ◌/◌, ◌%◌, ◌==◌, Bool, true, false, not, ◌&&◌, ◌||◌, nat_lt, nat_le, length, codes, List, [], ◌∷◌, ◌++◌, refl, arith}
 use Rattle.std.specs.Prelude.{slice_index}
 use Rattle.std.specs.List.{list_all}
 use Rattle.std.specs.Fmt.{decimal}
@@ -16,10 +16,6 @@ use Rattle.tv_model.proofs.PlainNames.{both}
 pub no_feed_append : (xs ys : List ℕ) → has_no_feed xs ≡ true → has_no_feed ys ≡ true → has_no_feed (xs ++ ys) ≡ true
 no_feed_append [] ys h k = k
 no_feed_append (x ∷ xs) ys h k = let t = both (not (x == 10)) (has_no_feed xs) h in rw t.0 (no_feed_append xs ys t.1 k)
-
--- a line and one more word
-pub no_feed_word : (line word : List ℕ) → has_no_feed line ≡ true → has_no_feed word ≡ true → has_no_feed ((line ++ 32 ∷ []) ++ word) ≡ true
-no_feed_word line word h k = no_feed_append (line ++ 32 ∷ []) word (no_feed_append line (32 ∷ []) h refl) k
 
 at_any : (xs : List ℕ) (k : ℕ) → has_no_feed xs ≡ true → not (slice_index xs k == 10) ≡ true
 at_any [] k h = refl

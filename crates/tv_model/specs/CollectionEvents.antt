@@ -1,5 +1,5 @@
 -- The event that collects files, and the one that ends a segment.
-use Rattle.std.specs.Prelude.{ℕ, List, [], ◌∷◌, ◌++◌, map, filter, not, codes, Option, Some, None, Bool, if◌then◌else◌}
+use Rattle.std.specs.Prelude.{ℕ, List, ◌∷◌, ◌++◌, map, filter, not, codes, Option, Some, None, Bool, if◌then◌else◌}
 use Rattle.std.specs.Map.{remove_entry}
 use Rattle.std.specs.BTreeMap.{is_at}
 use Rattle.tv_model.specs.declared.segment.LiveSegment.{LiveSegment}

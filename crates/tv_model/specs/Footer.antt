@@ -1,16 +1,15 @@
 -- A sealed file: what was written, and a footer with its checksum. And any other file that has a footer.
-use Rattle.std.specs.Prelude.{ℕ, ◌≡◌, ◌≤◌, ◌/◌, ◌%◌, ◌+◌, ◌*◌, ◌-◌, List, [], ◌∷◌, ◌++◌, length, take, drop, codes}
-use Rattle.std.specs.Fmt.{decimal}
+use Rattle.std.specs.Prelude.{ℕ, ◌≡◌, ◌≤◌, ◌/◌, ◌%◌, ◌+◌, ◌*◌, ◌-◌, List, [], ◌∷◌, ◌++◌, length, take, drop}
 use Rattle.tv_model.specs.Checksum.{crc32}
-use Rattle.tv_model.specs.FooterForm.{FooterNumbers, Spells}
+use Rattle.tv_model.specs.FooterForm.{FooterNumbers, Spells, written_json}
 
 -- four bytes of a number, the lowest first
 abbrev pub four_bytes : ℕ → List ℕ
 four_bytes n = n % 256 ∷ n / 256 % 256 ∷ n / 65536 % 256 ∷ n / 16777216 % 256 ∷ []
 
--- the JSON of the footer: the version of the writer, and the checksum of the body
+-- the JSON of the footer: the version of this library, and the checksum of the body
 abbrev pub footer_json : ℕ → List ℕ
-footer_json crc = codes "{\"version\":{\"major\":0,\"minor\":26,\"patch\":2,\"index_format_version\":7},\"crc\":" ++ decimal crc ++ codes "}"
+footer_json crc = written_json (record { major = 0; minor = 26; patch = 2; format = 7; crc = crc })
 
 -- the number by which a footer is known
 abbrev pub footer_magic : ℕ
@@ -34,6 +33,10 @@ pub record IsFramed (bytes : List ℕ) (footer : FooterNumbers) (body : List ℕ
 -- files of these formats are read
 abbrev pub IsReadFormat : ℕ → Type 0
 IsReadFormat format = (4 ≤ format) × (format ≤ 7)
+
+-- files of this format aren't read
+abbrev pub IsOtherFormat : ℕ → Type 0
+IsOtherFormat format = IsReadFormat format → ⊥
 
 -- the bytes have this body, and a good footer behind it: one of a format that is read, in any spelling, whatever its checksum is
 pub record HasBody (bytes body : List ℕ) : Type 0 where

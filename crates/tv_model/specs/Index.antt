@@ -1,5 +1,5 @@
 -- An index in a directory.
-use Rattle.std.specs.Prelude.{ℕ, ◌≡◌, ◌≢◌, ◌+◌, ◌==◌, Bool, true, List, [], ◌∷◌, Option, Some, None, IsSome, is_some, option_map, if◌then◌else◌}
+use Rattle.std.specs.Prelude.{ℕ, ◌≡◌, ◌≢◌, ◌+◌, ◌==◌, true, List, [], ◌∷◌, Option, Some, None, IsSome, is_some, option_map, if◌then◌else◌}
 use Rattle.std.specs.BTreeSet.{insert_key}
 use Rattle.tv_model.specs.Names.{byte_cmp, has, is_undotted, list_name, meta_name}
 use Rattle.tv_model.specs.Files.{Reads}

@@ -1,5 +1,5 @@
 -- The machine: one step, and a run of steps.
-use Rattle.std.specs.Prelude.{ℕ, ◌+◌, Bool, not, List, [], ◌∷◌, map, filter, length, sum}
+use Rattle.std.specs.Prelude.{ℕ, ◌+◌, Bool, not, List, [], ◌∷◌, map, filter, length}
 use Rattle.tv_model.specs.declared.event.Event.{Event}
 use Rattle.tv_model.specs.declared.event.Event.TheVariants as events
 use Rattle.tv_model.specs.State.{State, Told}

@@ -13,10 +13,14 @@ use Rattle.tv_model.specs.Segments.{num_docs, extension}
 use Rattle.tv_model.specs.State.{State, Told, Snapshot, Reader, reader_at, searcher_at}
 use Rattle.tv_model.specs.Lines.{line, refuse}
 
+-- the searcher that gets this number shows what the reader shows
+abbrev pub searcher_line : ℕ → Reader → List ℕ
+searcher_line number reader = line (codes "searcher") (decimal number ∷ decimal reader.shown.generation ∷ decimal reader.shown.commit.opstamp ∷ [])
+
 abbrev pub searcher_of : State → Option Reader → Told
 searcher_of s None = refuse s (codes "unknown-reader")
 searcher_of s (Some reader) = (
-  line (codes "searcher") (decimal s.reading.next_searcher ∷ decimal reader.shown.generation ∷ decimal reader.shown.commit.opstamp ∷ []),
+  searcher_line s.reading.next_searcher reader,
   record s {
     reading = record s.reading {
       searchers = insert_entry nat_cmp s.reading.searchers s.reading.next_searcher reader.shown;
@@ -38,10 +42,14 @@ payload_word (Some text) = codes "+" ++ encode_lower text
 abbrev pub segment_word : List ℕ × LiveSegment → List ℕ
 segment_word e = encode_lower e.0 ++ 61 ∷ decimal (num_docs e.1)
 
+-- the commit that the searcher of this number shows
+abbrev pub show_line : ℕ → Snapshot → List ℕ
+show_line number shown =
+    line (codes "show") (decimal number ∷ decimal shown.commit.opstamp ∷ payload_word shown.commit.payload ∷ map segment_word shown.commit.segments)
+
 abbrev pub show_of : State → ℕ → Option Snapshot → Told
 show_of s number None = refuse s (codes "unknown-searcher")
-show_of s number (Some shown) =
-    (line (codes "show") (decimal number ∷ decimal shown.commit.opstamp ∷ payload_word shown.commit.payload ∷ map segment_word shown.commit.segments), s)
+show_of s number (Some shown) = (show_line number shown, s)
 
 -- the commit that a searcher shows
 abbrev pub show_step : State → ℕ → Told
@@ -70,10 +78,13 @@ abbrev pub bytes_word : List ℕ → List ℕ
 bytes_word [] = codes "-"
 bytes_word (b ∷ bytes) = encode_lower (b ∷ bytes)
 
+-- a body that the searcher of this number shows
+abbrev pub bytes_line : ℕ → ℕ → SegmentComponent → List ℕ → List ℕ
+bytes_line number ord component body = line (codes "bytes") (decimal number ∷ decimal ord ∷ extension component ∷ bytes_word body ∷ [])
+
 abbrev pub bytes_found : State → ℕ → ℕ → SegmentComponent → Option (List ℕ) → Told
 bytes_found s number ord component None = refuse s (codes "unknown-file")
-bytes_found s number ord component (Some body) =
-    (line (codes "bytes") (decimal number ∷ decimal ord ∷ extension component ∷ bytes_word body ∷ []), s)
+bytes_found s number ord component (Some body) = (bytes_line number ord component body, s)
 
 abbrev pub bytes_of : State → ℕ → ℕ → SegmentComponent → Option Snapshot → Told
 bytes_of s number ord component None = refuse s (codes "unknown-searcher")

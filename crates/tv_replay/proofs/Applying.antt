@@ -16,7 +16,8 @@ use Rattle.tv_model.specs.declared.event.Event.{Event}
 use Rattle.tv_model.specs.declared.segment.LiveSegment.{LiveSegment}
 use Rattle.tv_model.specs.Names.{byte_cmp, has, list_name, meta_name}
 use Rattle.tv_model.specs.Files.{Reads, Same, Heard, Rose, RoseBy}
-use Rattle.tv_model.specs.Footer.{IsGood, HasBody}
+use Rattle.tv_model.specs.Footer.{IsGood}
+use Rattle.tv_managed.specs.Reading.{HasNoBody}
 use Rattle.tv_model.specs.Listing.{Lists}
 use Rattle.tv_model.specs.Commits.{Commit, is_schema, default_settings, Means}
 use Rattle.tv_model.specs.Segments.{all_required}
@@ -33,16 +34,16 @@ use Rattle.tv_model.proofs.Serving.{serves, serves_as_sealed}
 use Rattle.tv_model.proofs.Collects.{collects_in}
 use Rattle.tv_replay.specs.declared.next_event.ScriptError.{ScriptError}
 use Rattle.tv_replay.specs.declared.next_event.ScriptError.TheVariants as script
-use Rattle.tv_replay.specs.Kept.{Kept, FileHolds, Holds, AtMost}
-use Rattle.tv_replay.specs.Telling.{TellsLine, TellsLines}
-use Rattle.tv_replay.specs.ScriptLines.{pending, TakesEvent, IsNoEvent, IsTooLong, written_by}
-use Rattle.tv_replay.specs.ReaderNumbers.{FewNumbers}
-use Rattle.tv_replay.specs.ReadCauses.{ReadFault, ApplyCause}
+use Rattle.tv_store.specs.Kept.{Kept, FileHolds, Holds, AtMost}
+use Rattle.tv_store.specs.Telling.{TellsLine, TellsLines}
+use Rattle.tv_replay.specs.ScriptLines.{pending, TakesEvent, IsNoEvent, IsTooLong}
+use Rattle.tv_store.specs.ReaderNumbers.{FewNumbers}
+use Rattle.tv_store.specs.ReadCauses.{ReadFault, ApplyCause}
 use Rattle.tv_replay.specs.ScriptCauses.{ScriptCause}
-use Rattle.tv_replay.specs.StoreCauses.{WriteFault, OpeningCause, IsRefusal}
+use Rattle.tv_store.specs.StoreCauses.{WriteFault, OpeningCause, IsRefusal}
 use Rattle.tv_replay.specs.Replays.{Replays, ReplayCause, StopsAt, BeginsWith, LineRefusal, IsTooMany, IsBadFile, NeverOpens, line_refusal, long_refusal}
-use Rattle.tv_replay.specs.Applying.{Stepped, Spent, Applies, Runs, RunCause, BadIn, BadSince, HoldsNone, IsErrorOf}
-use Rattle.tv_replay.proofs.FileEvents.{same_holds}
+use Rattle.tv_store.specs.Applying.{Stepped, Spent, BadIn, HoldsNone, written_by}
+use Rattle.tv_replay.specs.Applying.{Applies, Runs, RunCause, BadSince, IsErrorOf}
 use Rattle.tv_replay.proofs.LineLemmas.{pending_some}
 use Rattle.tv_replay.proofs.Progress.{after-last, answers-last, events-last, readable-last, refused-last, AreLines-length, ReadSoFar, nothing_read, one_more_read, all_read}
 
@@ -61,7 +62,7 @@ tells_more before now later from to line lines ts t =
     }
 
 -- one line before some lines
-tells_first : (before now later : Heard) (from to : ℕ) (line : List ℕ) (lines : List (List ℕ)) → TellsLine before now from to line → TellsLines now later lines → TellsLines before later (line ∷ lines)
+pub tells_first : (before now later : Heard) (from to : ℕ) (line : List ℕ) (lines : List (List ℕ)) → TellsLine before now from to line → TellsLines now later lines → TellsLines before later (line ∷ lines)
 tells_first before now later from to line lines t ts =
     let piece : ℕ × List ℕ = (t.moment, line ++ 10 ∷ []) in
     record {
@@ -82,13 +83,8 @@ turns_sound s (t ∷ turns) all h = turns_sound (step s t.0 t.1).1 turns all.1 (
 
 -- ---- how long files are
 
-longer : (small large : ℕ) (files : List (List ℕ × List ℕ)) → small ≤ large → AllByRecursion (λ e. length e.1 ≤ small) files → AllByRecursion (λ e. length e.1 ≤ large) files
-longer small large [] le all = tt
-longer small large (e ∷ files) le all = (omega (arith, all.0), longer small large files le all.1)
-
--- an event adds no more than a line
-pub one_more_line : (kept : Kept) (count written : ℕ) → written ≤ line_limit → AtMost (count * line_limit + written) kept → AtMost ((count + 1) * line_limit) kept
-one_more_line kept count written small all = longer (count * line_limit + written) ((count + 1) * line_limit) kept.open_files (omega arith) all
+pub one_more_line : (count : ℕ) → count * line_limit + line_limit ≡ (count + 1) * line_limit
+one_more_line count = omega arith
 
 -- files stay far shorter than 64 bits of bytes, and numbers far below
 pub never_spent : (kept : Kept) (event : Event) (count : ℕ) → count < 2 ^ 32 → written_by event ≤ line_limit → AtMost (count * line_limit) kept → FewNumbers (count * line_limit) kept.reading → Spent kept event → ⊥
@@ -394,17 +390,17 @@ opens_sorted schema reads s none o =
 
 -- a run, seen from after a call that changed nothing
 pub runs_later : (tells tells_heard : Type 0) (old_reads new_reads later_reads : Reads) (old_kept new_kept : Kept) (old_heard new_heard later_heard : Heard) (old_refusals new_refusals later_refusals : ℕ) (text left : Option (List ℕ)) (count : ℕ)
-    → (tells → Same new_reads later_reads) → later_heard ≡ new_heard → later_refusals ≡ new_refusals
+    → (tells → (s : State) → Holds new_reads new_kept s → Holds later_reads new_kept s) → later_heard ≡ new_heard → later_refusals ≡ new_refusals
     → Runs tells tells_heard old_reads new_reads old_kept new_kept old_heard new_heard old_refusals new_refusals text left count
     → Runs tells tells_heard old_reads later_reads old_kept new_kept old_heard later_heard old_refusals later_refusals text left count
-runs_later tells tells_heard old_reads new_reads later_reads old_kept new_kept old_heard new_heard later_heard old_refusals new_refusals later_refusals text left count same heard refusals r = record {
+runs_later tells tells_heard old_reads new_reads later_reads old_kept new_kept old_heard new_heard later_heard old_refusals new_refusals later_refusals text left count holds heard refusals r = record {
   turns = r.turns;
   counted = r.counted;
   lines = r.lines;
   applied = record {
     fits = r.applied.fits;
     schema = r.applied.schema;
-    holds = λ t s h w. same_holds new_reads later_reads new_kept new_kept (after s r.turns) (same t) refl (r.applied.holds t s h w);
+    holds = λ t s h w. holds t (after s r.turns) (r.applied.holds t s h w);
     told = λ t th s h w. subst (λ (x : Heard). TellsLines old_heard x (answers s r.turns)) (sym heard) (r.applied.told t th s h w);
     readable = r.applied.readable;
     refused = subst (λ (x : ℕ). RoseBy (all_refused r.turns) old_refusals x) (sym refusals) r.applied.refused;
@@ -443,7 +439,7 @@ replays tells tells_heard schema old_reads mid_reads new_reads mid_kept new_kept
           (turns_sound first_state r.turns r.applied.fits first_sound);
     }
 
-since_start : (s : State) (turns : List Turn) (path bytes : List ℕ) → ((body : List ℕ) → HasBody bytes body → ⊥) → (file_at s path ≡ Some (Sealed bytes)) ⊎ IsGood bytes → file_at s path ≡ Some (Sealed bytes)
+since_start : (s : State) (turns : List Turn) (path bytes : List ℕ) → HasNoBody bytes → (file_at s path ≡ Some (Sealed bytes)) ⊎ IsGood bytes → file_at s path ≡ Some (Sealed bytes)
 since_start s turns path bytes none (inl e) = e
 since_start s turns path bytes none (inr good) = absurd (none good.body good.has_body)
 
@@ -454,7 +450,7 @@ sealed_reads (Some other) bytes e = cc
 sealed_stands : (file : Option FileState) (read written : Option (List ℕ)) (bytes : List ℕ) → file ≡ Some (Sealed bytes) → FileHolds file read written → read ≡ Some bytes
 sealed_stands file read written bytes e h = (subst (λ (f : Option FileState). FileHolds f read written) e h).0
 
-begins : (script : List ℕ) (left : Option (List ℕ)) (events : List Event) → ReadSoFar script left events → BeginsWith script events
+pub begins : (script : List ℕ) (left : Option (List ℕ)) (events : List Event) → ReadSoFar script left events → BeginsWith script events
 begins script left events r = record { texts = r.texts; rest = r.rest; each = r.each; split = r.split }
 
 -- an event met the file after these turns, which stood so at the start of the run

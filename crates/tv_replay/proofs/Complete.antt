@@ -17,8 +17,8 @@ use Rattle.tv_model.specs.Commits.{is_schema}
 use Rattle.tv_model.specs.Index.{IsSound, HasNoIndex, first_state}
 use Rattle.tv_model.specs.Script.{line_limit, lines_of, IsLine, AreLines}
 use Rattle.tv_replay.specs.ScriptLines.{IsNoEvent, IsTooLong}
-use Rattle.tv_replay.specs.StoreCauses.{WriteFault, HasIndex, OpeningRefusal}
-use Rattle.tv_replay.specs.ReadCauses.{ReadFault}
+use Rattle.tv_store.specs.StoreCauses.{WriteFault, HasIndex, OpeningRefusal}
+use Rattle.tv_store.specs.ReadCauses.{ReadFault}
 use Rattle.tv_replay.specs.Replays.{ReplayCause, StopsAt, LineRefusal, IsBadFile, NeverOpens}
 use Rattle.tv_replay.specs.Completeness.{IsScript, IsReady}
 use Rattle.tv_replay.proofs.Progress.{AreLines-length}

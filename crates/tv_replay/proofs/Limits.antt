@@ -7,7 +7,7 @@ use Rattle.tv_model.specs.declared.event.Event.{Event}
 use Rattle.tv_model.specs.declared.event.Event.TheVariants as events
 use Rattle.tv_model.specs.Segments.{extension}
 use Rattle.tv_model.specs.Script.{line_limit, IsLine}
-use Rattle.tv_replay.specs.ScriptLines.{written_by}
+use Rattle.tv_store.specs.Applying.{written_by}
 
 -- the last of four words is within their line
 last_within : (a b c d : List ℕ) → length d ≤ length (join_with_byte 32 (a ∷ b ∷ c ∷ d ∷ []))

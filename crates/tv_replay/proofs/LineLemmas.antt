@@ -19,15 +19,6 @@ pending_some held script (Some rest) e = (rest, refl, sym (some_is e))
 pub pending_is : (held rest : List ℕ) (left : Option (List ℕ)) → left ≡ Some rest → pending held left ≡ Some (held ++ rest)
 pending_is held rest left e = rw e refl
 
-pub refilled : (held : List ℕ) (before after : Option (List ℕ)) → Reads held before after → Keeps (pending [] before) (pending held after)
-refilled held before after reads script told =
-    let p = pending_some [] script before told in
-    let r = reads p.0 p.1 in
-    pending_is held r.0 after r.1 ∙ ap (λ (x : List ℕ). Some x) (sym (p.2 ∙ r.2))
-
-pub ended : (before : Option (List ℕ)) → IsAtEnd before → IsAtEnd (pending [] before)
-ended before end script told = let p = pending_some [] script before told in p.2 ∙ end p.0 p.1
-
 -- ---- line feeds
 
 isnt : (b : Bool) → not b ≡ true → b ≡ false

@@ -72,28 +72,8 @@ one_more_read script left later events r e t =
       each = AreLines-last r.texts events t.0 e r.each t.4;
     }
 
--- no event was found, so nothing was left before, and nothing is left
-pub none_left : (rest : List ℕ) (found : Option Event) (later : Option (List ℕ)) → TakesEvent rest found later → ((e : Event) → found ≡ Some e → ⊥) → (rest ≡ []) × (later ≡ Some [])
-none_left rest None later t none = t
-none_left rest (Some e) later t none = absurd (none e refl)
-
 -- where nothing is left, the lines are all lines
 pub all_read : (script : List ℕ) (left : Option (List ℕ)) (events : List Event) (r : ReadSoFar script left events) → r.rest ≡ [] → AreLines (lines_of script) events
 all_read script left events r none =
     let whole : r.texts ≡ lines_of script = sym (r.split ∙ ap (λ (xs : List ℕ). r.texts ++ lines_of xs) none ∙ append-nil r.texts) in
     subst (λ (ls : List (List ℕ)). AreLines ls events) whole r.each
-
--- the lines of a script are those that were read and those that are left
-pub lines_read : (script : List ℕ) (left : Option (List ℕ)) (events : List Event) (r : ReadSoFar script left events) → length (lines_of script) ≡ length events + length (lines_of r.rest)
-lines_read script left events r =
-    let len : length (lines_of script) ≡ length r.texts + length (lines_of r.rest) = ap length r.split ∙ length-append r.texts (lines_of r.rest) in
-    omega (arith, AreLines-length r.texts events r.each)
-
--- one more line stands after those that were read
-pub more_lines : (script : List ℕ) (left : Option (List ℕ)) (events : List Event) (r : ReadSoFar script left events) (line : List ℕ) (others : List (List ℕ)) → lines_of r.rest ≡ line ∷ others → length events + 1 ≤ length (lines_of script)
-more_lines script left events r line others is =
-    let one : length (lines_of r.rest) ≡ length (line ∷ others) = ap length is in
-    omega (arith, lines_read script left events r)
-
-pub more_events : (script : List ℕ) (left later : Option (List ℕ)) (events : List Event) (r : ReadSoFar script left events) (e : Event) → TakesEvent r.rest (Some e) later → length events + 1 ≤ length (lines_of script)
-more_events script left later events r e t = more_lines script left events r t.0 (lines_of t.1) t.3

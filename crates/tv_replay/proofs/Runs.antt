@@ -26,11 +26,11 @@ use Rattle.tv_base.specs.declared.open_errors.OpenDirectoryError.TheVariants as 
 use Rattle.tv_base.specs.declared.error.TantivyError.{TantivyError}
 use Rattle.tv_base.specs.declared.error.TantivyError.TheVariants as errors
 use Rattle.tv_replay.specs.ErrorLines.{argument_line, fault_line, format_line, lock_line, read_line, error_line}
-use Rattle.tv_replay.specs.ReadCauses.{ReadFault}
+use Rattle.tv_store.specs.ReadCauses.{ReadFault}
 use Rattle.tv_replay.specs.Places.{LendCause, SaysPart}
 use Rattle.tv_replay.specs.Replays.{ReplayCause, LineRefusal, IsBadFile, NeverOpens, line_refusal, long_refusal}
 use Rattle.tv_replay.specs.Runs.{schema_line, folder_line, replay_words, SaysLine, OnlySays, Refuses, Reports}
-use Rattle.tv_replay.specs.StoreCauses.{OpeningRefusal}
+use Rattle.tv_store.specs.StoreCauses.{OpeningRefusal}
 
 -- a digit is no line feed
 glyph_no_feed : (d : ℕ) → not (digit_glyph false d == 10) ≡ true

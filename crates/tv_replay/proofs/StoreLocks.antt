@@ -1,45 +1,30 @@
--- Locks that a store takes, and those that it meets.
-use Rattle.std.proofs.Common.{◌≡◌, ◌≢◌, ◌⊎◌, inl, inr, ℕ, true, false, true≢false, List, refl, sym, ap, subst, ◌∙◌}
+-- Locks that a replay meets.
+use Rattle.std.proofs.Common.{◌≡◌, ◌≢◌, ◌⊎◌, inl, inr, ℕ, List, Option, true, false, true≢false, sym, subst, ◌∙◌}
+use Rattle.std.proofs.Math.Logic.{⊎_map}
 use Rattle.tv_model.specs.Files.{Rose}
-use Rattle.std.specs.BTreeMap.{is_at}
-use Rattle.tv_model.specs.Names.{byte_cmp}
-use Rattle.tv_model.proofs.Entries.{at_itself, text_at}
-use Rattle.tv_directory.specs.Locks.{FreesLock, Locks, SameLocks, TakesLock}
+use Rattle.tv_directory.specs.Locks.{Locks, TakesLock}
 use Rattle.tv_managed.specs.Collecting.{meta_lock_name}
-use Rattle.tv_replay.specs.StoreCauses.{IsBusy, writer_lock_name}
+use Rattle.tv_store.specs.StoreCauses.{IsBusy, writer_lock_name}
 use Rattle.tv_replay.specs.Completeness.{AreFree}
+use Rattle.tv_replay.specs.Replays.{IsMet, MeetsLock}
 
 names_differ : meta_lock_name ≢ writer_lock_name
 names_differ e = absurd cc
 
-or_later : (P Q R : Type 0) → P ⊎ Q → (Q → R) → P ⊎ R
-or_later P Q R (inl p) f = inl p
-or_later P Q R (inr q) f = inr (f q)
-
--- the lock of those who read, seen from before the opening
-pub busy_since_opening : (tells_locks : Type 0) (start opened : Locks) (old now new : ℕ) → (tells_locks → TakesLock start opened writer_lock_name) → now ≡ old
-    → IsBusy tells_locks (opened meta_lock_name ≡ true) (Rose now new) → IsBusy tells_locks ((start writer_lock_name ≡ true) ⊎ (start meta_lock_name ≡ true)) (Rose old new)
-busy_since_opening tells_locks start opened old now new took quiet b = record {
-  told = λ t. inr (sym ((took t).others meta_lock_name names_differ) ∙ b.told t);
-  untold = or_later tells_locks (Rose now new) (Rose old new) b.untold (λ rose. subst (λ (x : ℕ). Rose x new) quiet rose);
+-- a lock that isn't given, seen from an earlier place, since which the count of refused calls stood still
+pub busy_since : (tells_locks held earlier : Type 0) (old now : ℕ) {new : ℕ} → (tells_locks → held → earlier) → now ≡ old → IsBusy tells_locks held (Rose now new) → IsBusy tells_locks earlier (Rose old new)
+busy_since tells_locks held earlier old now {new} was quiet b = record {
+  told = λ t. was t (b.told t);
+  untold = ⊎_map (λ t. t) (λ rose. subst (λ (x : ℕ). Rose x new) quiet rose) b.untold;
 }
 
--- where no lock is held none is busy
-pub not_busy : (start : Locks) → AreFree start → (start writer_lock_name ≡ true) ⊎ (start meta_lock_name ≡ true) → ⊥
-not_busy start free (inl held) = true≢false (sym held ∙ free writer_lock_name)
-not_busy start free (inr held) = true≢false (sym held ∙ free meta_lock_name)
+-- the lock of those who read, seen from before the opening
+pub met_since_opening : (tells_locks : Type 0) (script : Option (List ℕ)) (start opened : Locks) (old now new : ℕ) → (tells_locks → TakesLock start opened writer_lock_name) → now ≡ old
+    → MeetsLock script × IsBusy tells_locks (opened meta_lock_name ≡ true) (Rose now new) → IsMet tells_locks script start (Rose old new)
+met_since_opening tells_locks script start opened old now new took quiet b =
+    inr (b.0, busy_since tells_locks (opened meta_lock_name ≡ true) (start meta_lock_name ≡ true) old now (λ t held. sym ((took t).others meta_lock_name names_differ) ∙ held) quiet b.1)
 
--- whether a name is this one
-same_or : {P : Type 0} (name n : List ℕ) → (n ≡ name → P) → (n ≢ name → P) → P
-same_or {P} name n same other =
-    elim (is_at (byte_cmp name) n) as (λ b. is_at (byte_cmp name) n ≡ b → P) [
-      | true ↦ λ e. same (sym (text_at name n e))
-      | false ↦ λ e. other (λ is. true≢false (sym (at_itself name) ∙ ap (λ (k : List ℕ). is_at (byte_cmp name) k) (sym is) ∙ e))
-    ] refl
-
--- a lock that was taken and freed again
-pub freed_again : (start made taken back : Locks) (name : List ℕ) → SameLocks start made → TakesLock made taken name → FreesLock taken back name → SameLocks start back
-freed_again start made taken back name same took freed n =
-    same_or name n
-    (λ is. ap back is ∙ freed.is_free ∙ sym took.was_free ∙ same name ∙ ap start (sym is))
-    (λ other. freed.others n other ∙ took.others n other ∙ same n)
+-- where no lock is held none is met
+pub none_met : (tells_locks : Type 0) (script : Option (List ℕ)) (start : Locks) (refused : Type 0) → tells_locks → AreFree start → IsMet tells_locks script start refused → ⊥
+none_met tells_locks script start refused t free (inl b) = true≢false (sym (b.told t) ∙ free writer_lock_name)
+none_met tells_locks script start refused t free (inr b) = true≢false (sym (b.1.told t) ∙ free meta_lock_name)

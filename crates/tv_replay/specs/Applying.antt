@@ -1,37 +1,24 @@
--- The events of a script, applied to a store that is open.
-use Rattle.std.specs.Prelude.{ℕ, ◌≡◌, ◌≤◌, ◌+◌, ◌^◌, ◌⊎◌, Bool, true, List, [], length, Option, Some, None, string_bytes}
+-- The events of a script, applied to a store that is open, one after the other.
+use Rattle.std.specs.Prelude.{ℕ, ◌≡◌, List, [], length, Option, Some, None, string_bytes}
 use Rattle.std.specs.List.{AllByRecursion}
 use Rattle.tv_base.specs.Causes.{IsDevice}
 use Rattle.tv_base.specs.declared.open_errors.OpenReadError.{OpenReadError}
 use Rattle.tv_base.specs.declared.error.TantivyError.{TantivyError}
 use Rattle.tv_base.specs.declared.error.TantivyError.TheVariants as errors
-use Rattle.tv_model.specs.Names.{has}
 use Rattle.tv_model.specs.Files.{Reads, Heard, RoseBy}
-use Rattle.tv_model.specs.Footer.{HasBody}
-use Rattle.tv_model.specs.Segments.{all_required}
-use Rattle.tv_model.specs.State.{State, Sealed, file_at}
-use Rattle.tv_model.specs.declared.event.Event.{Event}
+use Rattle.tv_model.specs.State.{State}
 use Rattle.tv_model.specs.SoundStates.{IsWhole}
-use Rattle.tv_model.specs.Machine.{Turn, step, answers, after, events_of, refused_in, all_refused}
-use Rattle.tv_model.specs.Readable.{ReadsGood, AllReadGood}
+use Rattle.tv_model.specs.Machine.{Turn, answers, after, events_of, all_refused}
+use Rattle.tv_model.specs.Readable.{AllReadGood}
 use Rattle.tv_model.specs.Script.{lines_of, Fits, AreLines}
 use Rattle.tv_replay.specs.declared.next_event.ScriptError.{ScriptError}
 use Rattle.tv_replay.specs.declared.next_event.ScriptError.TheVariants as script
-use Rattle.tv_replay.specs.Kept.{Kept, Holds, AtMost}
-use Rattle.tv_replay.specs.ReaderNumbers.{FewNumbers}
-use Rattle.tv_replay.specs.ScriptLines.{written_by}
-use Rattle.tv_replay.specs.Bodies.{RefusesFile}
+use Rattle.tv_directory.specs.Locks.{LockCause}
+use Rattle.tv_store.specs.Kept.{Kept, Holds}
 use Rattle.tv_replay.specs.Replays.{MeetsBadFile, line_refusal, long_refusal}
-use Rattle.tv_replay.specs.StoreCauses.{WriteFault, LockFault, IsRefusal}
-use Rattle.tv_replay.specs.ReadCauses.{Reading, ReadFault}
-use Rattle.tv_replay.specs.Telling.{TellsLines}
-
--- One event was applied, with some outcomes of its deletes: from each state that was held before, the state after its step is held now, and this is the step's
--- answer; where it reads a commit's files it could do so; and no more deletes were refused than their count rose.
-abbrev pub Stepped : (tells : Type 0) (old_reads new_reads : Reads) (old_kept new_kept : Kept) (old_refusals new_refusals : ℕ) (event : Event) (answer : List ℕ) → Type 0
-Stepped tells old_reads new_reads old_kept new_kept old_refusals new_refusals event answer =
-    (outcomes : List Bool) × RoseBy (refused_in outcomes) old_refusals new_refusals
-    × (tells → (s : State) → Holds old_reads old_kept s → IsWhole s → (answer ≡ (step s event outcomes).0) × Holds new_reads new_kept (step s event outcomes).1 × ReadsGood s event)
+use Rattle.tv_store.specs.StoreCauses.{WriteFault, IsRefusal}
+use Rattle.tv_store.specs.ReadCauses.{ReadFault}
+use Rattle.tv_store.specs.Telling.{TellsLines}
 
 -- These events were applied: from each state that was held before, the state after them is held now, and their answers were told; those that read a commit's
 -- files could do so; and no more deletes were refused than their count rose.
@@ -50,42 +37,13 @@ pub record Runs (tells tells_heard : Type 0) (old_reads new_reads : Reads) (old_
   pub lines : (whole : List ℕ) → text ≡ Some whole → AreLines (lines_of whole) (events_of turns) × (left ≡ Some [])
   pub applied : Applies tells tells_heard old_reads new_reads old_kept new_kept old_heard new_heard old_refusals new_refusals turns
 
--- what an event adds would pass 64 bits: the bytes of a file, or a number of readers, searchers or snapshots
-abbrev pub Spent : Kept → Event → Type 0
-Spent kept event =
-    ((bound : ℕ) → AtMost bound kept → 2 ^ 64 ≤ bound + written_by event) ⊎ ((bound : ℕ) → FewNumbers bound kept.reading → 2 ^ 64 ≤ bound + written_by event)
-
--- a file that the current commit requires is refused with this error
-pub record RefusesRequired (s : State) (error : OpenReadError) : Type 0 where
-  pub path : List ℕ
-  -- the commit requires it
-  pub required : has (all_required s.commit.segments) path ≡ true
-  -- it is sealed, with these bytes
-  pub bytes : List ℕ
-  pub sealed : file_at s path ≡ Some (Sealed bytes)
-  -- which are refused
-  pub why : RefusesFile bytes path error
-  pub no_body : (body : List ℕ) → HasBody bytes body → ⊥
-
--- where the content is told, each state that is held has such a file
-abbrev pub LacksIn : (tells : Type 0) → Reads → Kept → OpenReadError → Type 0
-LacksIn tells reads kept error = tells → (s : State) → Holds reads kept s → IsWhole s → RefusesRequired s error
-
--- and the event reads the commit's files
-abbrev pub BadIn : (tells : Type 0) → Reads → Kept → Event → OpenReadError → Type 0
-BadIn tells reads kept event error = tells → (s : State) → Holds reads kept s → IsWhole s → Reading s event × RefusesRequired s error
-
 -- where the content is told, the run from each state from which it began meets a file that is refused with this error
 abbrev pub BadSince : (tells : Type 0) → Reads → Kept → (script : Option (List ℕ)) → OpenReadError → Type 0
 BadSince tells reads kept script error = tells → (s : State) → Holds reads kept s → IsWhole s → MeetsBadFile script reads s error
 
--- where the content is told, there is no such state
-abbrev pub HoldsNone : (tells : Type 0) → Reads → Kept → Type 0
-HoldsNone tells reads kept = tells → (s : State) → Holds reads kept s → IsWhole s → ⊥
-
 -- why a run stops: `busy` where a lock isn't given, `refusal` of the text that says which line is no event's, `too_many` where there is a line too many, `bad` where an event meets a file that is refused, `absent` where it isn't there
 abbrev pub RunCause : (busy : Type 0) (refusal : List ℕ → Type 0) → (too_many refused quiet : Type 0) → (bad : OpenReadError → Type 0) (absent : List ℕ → Type 0) → TantivyError → Type 0
-RunCause busy refusal too_many refused quiet bad absent (errors.LockFailure why text) = LockFault busy refused why × (text ≡ None)
+RunCause busy refusal too_many refused quiet bad absent (errors.LockFailure why text) = LockCause busy refused ⊥ why × (text ≡ None)
 RunCause busy refusal too_many refused quiet bad absent (errors.InvalidArgument text) = quiet × refusal (string_bytes text)
 RunCause busy refusal too_many refused quiet bad absent (errors.IoError fault) = IsDevice fault × refused
 RunCause busy refusal too_many refused quiet bad absent (errors.OpenWriteError error) = WriteFault refused error

@@ -3,14 +3,15 @@ use Rattle.std.specs.Prelude.{ℕ, ◌≡◌, ◌≢◌, ◌⊎◌, true, List, 
 use Rattle.tv_model.specs.Files.{Reads, Heard, Rose, Same}
 use Rattle.tv_directory.specs.Telling.{TellsPart}
 use Rattle.tv_directory.specs.Locks.{Locks, SameLocks}
-use Rattle.tv_managed.specs.Collecting.{meta_lock_name}
-use Rattle.tv_replay.specs.StoreCauses.{IsBusy, writer_lock_name}
+use Rattle.tv_model.specs.Commits.{default_settings}
+use Rattle.tv_model.specs.State.{State}
+use Rattle.tv_model.specs.Index.{OpensTo}
 use Rattle.tv_base.specs.declared.error.TantivyError.{TantivyError}
 use Rattle.tv_base.specs.declared.error.TantivyError.TheVariants as errors
 use Rattle.tv_replay.specs.ErrorLines.{error_line}
 use Rattle.tv_replay.specs.Places.{SaysPart}
-use Rattle.tv_replay.specs.Replays.{Replays, ReplayCause}
-use Rattle.tv_replay.specs.Telling.{TellsLine}
+use Rattle.tv_replay.specs.Replays.{Replays, ReplayCause, IsMet, LeavesAt}
+use Rattle.tv_store.specs.Telling.{TellsLine}
 
 -- the words that replay a script over a folder, with the schema of a path
 abbrev pub replay_words : List ℕ → List ℕ → List (List ℕ)
@@ -80,7 +81,9 @@ module _ {O : Type 0} (tells tells_heard tells_locks : Type 0) (reads : O → Re
     pub lent : told → kept_before ≡ Some before
     pub schema_is : told → schema_there ≡ Some schema
     pub same_locks : tells_locks → SameLocks (locks before) (locks stopped)
-    pub cause : ReplayCause tells schema (reads before) script (IsBusy tells_locks ((locks before writer_lock_name ≡ true) ⊎ (locks before meta_lock_name ≡ true)) (Rose (faults before) (faults stopped))) (Rose (faults before) (faults stopped) ⊎ Rose script_faults script_faults_now) ((faults stopped ≡ faults before) × (script_faults_now ≡ script_faults)) error
+    pub cause : ReplayCause tells schema (reads before) script (IsMet tells_locks script (locks before) (Rose (faults before) (faults stopped))) (Rose (faults before) (faults stopped) ⊎ Rose script_faults script_faults_now) ((faults stopped ≡ faults before) × (script_faults_now ≡ script_faults)) error
+    -- what was told until then, and which commit stands
+    pub leaves : tells → (s : State) → OpensTo default_settings schema (reads before) s → LeavesAt tells_heard schema script s (reads before) (reads stopped) (heard before) (heard stopped) error
     pub reports : Reports stopped kept_now place_faults place_faults_now said_before said_now line
 
   -- What stands after a run over a folder, with the schema of a path, that ended with this status.

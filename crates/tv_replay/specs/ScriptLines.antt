@@ -1,7 +1,6 @@
 -- A script that comes in pieces, and what is taken from its front.
 use Rattle.std.specs.Prelude.{ℕ, ◌≡◌, ◌<◌, ◌≤◌, Bool, true, false, List, [], ◌∷◌, ◌++◌, length, Option, Some, None, option_map}
 use Rattle.tv_model.specs.declared.event.Event.{Event}
-use Rattle.tv_model.specs.declared.event.Event.TheVariants as events
 use Rattle.tv_model.specs.Lines.{has_no_feed}
 use Rattle.tv_model.specs.Script.{line_limit, lines_of, IsLine}
 
@@ -41,11 +40,3 @@ TakesEvent script None left = (script ≡ []) × (left ≡ Some [])
 abbrev pub IsNoEvent : List ℕ → Type 0
 IsNoEvent script =
     (text : List ℕ) × (texts : List (List ℕ)) × (lines_of script ≡ text ∷ texts) × (length text ≤ line_limit) × ((event : Event) → IsLine text event → ⊥)
-
--- how many bytes an event adds to a file, or how many numbers of readers, searchers and snapshots it takes
-abbrev pub written_by : Event → ℕ
-written_by (events.Write id component bytes) = length bytes
-written_by (events.Reader policy) = 1
-written_by (events.Reload number) = 1
-written_by (events.Searcher number) = 1
-written_by other = 0

@@ -1,5 +1,5 @@
 //! Bytes of a script that were read and are not yet taken.
-ghost use Rattle.std.specs.Prelude.{◌≡◌, ◌<◌, [], ◌++◌, ◌≢◌, ◌≤◌, ℕ, length, slice_index, take, IfOk, OnOk, IfErr, IsTrue, ◌↔◌};
+ghost use Rattle.std.specs.Prelude.{◌≡◌, ◌<◌, [], ◌≢◌, ◌≤◌, ℕ, length, slice_index, take, IfOk, OnOk, IfErr, IsTrue, ◌↔◌};
 ghost use Rattle.tv_model.specs.Files.{Rose};
 ghost use Rattle.tv_model.specs.Script.{line_limit};
 ghost use Rattle.tv_base.specs.Causes.{IsDevice};

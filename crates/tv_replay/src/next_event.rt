@@ -2,7 +2,8 @@
 ghost use Rattle.std.specs.Prelude.{◌≡◌, ◌≤◌, List, ℕ, Some, IfOk, OnOk, IfErr, IfSome, IsErrOf};
 ghost use Rattle.tv_model.specs.Files.{Rose};
 ghost use Rattle.tv_model.specs.Script.{line_limit, Fits};
-ghost use Rattle.tv_replay.specs.ScriptLines.{pending, TakesEvent, IsNoEvent, IsTooLong, written_by};
+ghost use Rattle.tv_store.specs.Applying.{written_by};
+ghost use Rattle.tv_replay.specs.ScriptLines.{pending, TakesEvent, IsNoEvent, IsTooLong};
 ghost use Rattle.tv_replay.specs.ScriptCauses.{ScriptCause};
 
 use crate::held::Held;

@@ -7,7 +7,7 @@ ghost use Rattle.tv_directory.specs.Telling.{TellsPart};
 ghost use Rattle.tv_directory.specs.Locks.{SameLocks};
 ghost use Rattle.tv_replay.specs.ErrorLines.{error_line};
 ghost use Rattle.tv_replay.specs.Runs.{replay_words, usage_line, memory_line, OnlySays, Ends, Reports};
-ghost use Rattle.tv_replay.specs.Telling.{TellsLine};
+ghost use Rattle.tv_store.specs.Telling.{TellsLine};
 
 use crate::error_line::error_line;
 use crate::place::Place;

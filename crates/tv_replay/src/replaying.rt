@@ -1,23 +1,30 @@
 //! A script replayed over a directory.
 ghost use Rattle.std.specs.Prelude.{◌≡◌, ◌≢◌, ◌⊎◌, ℕ, List, [], Some, None, true, false, IfOk, IfErr, OnOk, string_bytes};
+ghost use Rattle.tv_model.specs.Names.{meta_name};
 ghost use Rattle.tv_model.specs.Files.{Rose};
+ghost use Rattle.tv_model.specs.Commits.{default_settings};
+ghost use Rattle.tv_model.specs.State.{State};
+ghost use Rattle.tv_model.specs.Index.{OpensTo};
+ghost use Rattle.tv_model.specs.Machine.{answers};
+ghost use Rattle.tv_model.specs.SoundStates.{IsWhole};
 ghost use Rattle.tv_directory.specs.Locks.{SameLocks};
 ghost use Rattle.tv_replay.specs.Completeness.{AreFree, IsReady};
-ghost use Rattle.tv_replay.specs.Kept.{AtMost};
+ghost use Rattle.tv_store.specs.Kept.{AtMost, Holds};
 ghost use Rattle.tv_replay.specs.ScriptLines.{pending, TakesEvent};
-ghost use Rattle.tv_replay.specs.Replays.{Replays, ReplayCause, LineRefusal, IsTooMany, line_refusal, long_refusal};
-ghost use Rattle.tv_replay.specs.ReaderNumbers.{FewNumbers};
-ghost use Rattle.tv_replay.specs.Applying.{Runs, RunCause, BadSince, HoldsNone, IsErrorOf};
-ghost use Rattle.tv_replay.specs.StoreCauses.{IsBusy, IsRefusal, writer_lock_name};
+ghost use Rattle.tv_replay.specs.Replays.{Replays, ReplayCause, LeavesAt, LeavesRun, LineRefusal, IsMet, IsTooMany, MeetsLock, line_refusal, long_refusal};
+ghost use Rattle.tv_store.specs.ReaderNumbers.{FewNumbers};
+ghost use Rattle.tv_store.specs.Applying.{HoldsNone};
+ghost use Rattle.tv_replay.specs.Applying.{Runs, RunCause, BadSince, IsErrorOf};
+ghost use Rattle.tv_store.specs.StoreCauses.{IsBusy, IsRefusal, writer_lock_name};
 ghost use Rattle.tv_managed.specs.Collecting.{meta_lock_name};
 
 use crate::held::Held;
-use crate::index_store::IndexStore;
 use crate::next_event::{ScriptError, next_event};
 use std::alloc::{AllocError, Global};
 use tv_base::{Source, TantivyError};
 use tv_directory::Outside;
 use tv_managed::Refused;
+use tv_store::IndexStore;
 
 /// What a replay did: how many lines its script had.
 #[derive(Clone, Copy, Debug, PartialEq, Eq)]
@@ -46,7 +53,9 @@ pub fn replay<O: Outside, R: Source>(
     // No call was refused where it answers Ok.
     ensures quiet { OnOk result.outcome ((O.faults result.outside ≡ O.faults outside) × (R.faults script.new ≡ R.faults script.old)) }
     // Why it answers an error.
-    ensures cause { IfErr result.outcome (ReplayCause O.tells schema.now (O.reads outside) (R.left script.old) (IsBusy O.tells_locks ((O.locks outside writer_lock_name ≡ true) ⊎ (O.locks outside meta_lock_name ≡ true)) (Rose (O.faults outside) (O.faults result.outside))) (Rose (O.faults outside) (O.faults result.outside) ⊎ Rose (R.faults script.old) (R.faults script.new)) ((O.faults result.outside ≡ O.faults outside) × (R.faults script.new ≡ R.faults script.old))) }
+    ensures cause { IfErr result.outcome (ReplayCause O.tells schema.now (O.reads outside) (R.left script.old) (IsMet O.tells_locks (R.left script.old) (O.locks outside) (Rose (O.faults outside) (O.faults result.outside))) (Rose (O.faults outside) (O.faults result.outside) ⊎ Rose (R.faults script.old) (R.faults script.new)) ((O.faults result.outside ≡ O.faults outside) × (R.faults script.new ≡ R.faults script.old))) }
+    // What was told until an error, and which commit stands.
+    ensures leaves { O.tells → (s : State) → OpensTo default_settings schema.now (O.reads outside) s → IfErr result.outcome (LeavesAt O.tells_heard schema.now (R.left script.old) s (O.reads outside) (O.reads result.outside) (O.heard outside) (O.heard result.outside)) }
     // The lock of the writer was free where it answers Ok.
     ensures free { O.tells_locks → OnOk result.outcome (O.locks outside writer_lock_name ≡ false) }
     // The same locks are held as before.
@@ -82,7 +91,8 @@ fn apply_all<O: Outside, R: Source>(
     ensures done { IfOk result (λ tally. Runs O.tells O.tells_heard (O.reads store.old.1) (O.reads store.new.1) store.old.0 store.new.0 (O.heard store.old.1) (O.heard store.new.1) (O.refusals store.old.1) (O.refusals store.new.1) (R.left script.old) (R.left script.new) tally.events) }
     ensures quiet { OnOk result ((O.faults store.new.1 ≡ O.faults store.old.1) × (R.faults script.new ≡ R.faults script.old)) }
     ensures locks { O.tells_locks → SameLocks (O.locks store.old.1) (O.locks store.new.1) }
-    ensures cause { IfErr result (RunCause (IsBusy O.tells_locks (O.locks store.old.1 meta_lock_name ≡ true) (Rose (O.faults store.old.1) (O.faults store.new.1))) (LineRefusal (R.left script.old)) (IsTooMany (R.left script.old)) (Rose (O.faults store.old.1) (O.faults store.new.1) ⊎ Rose (R.faults script.old) (R.faults script.new)) ((O.faults store.new.1 ≡ O.faults store.old.1) × (R.faults script.new ≡ R.faults script.old)) (BadSince O.tells (O.reads store.old.1) store.old.0 (R.left script.old)) (λ path. HoldsNone O.tells (O.reads store.old.1) store.old.0)) }
+    ensures leaves { O.tells → (s : State) → Holds (O.reads store.old.1) store.old.0 s → IsWhole s → IfErr result (LeavesRun O.tells_heard store.old.0.schema (R.left script.old) answers s (O.heard store.old.1) (O.heard store.new.1) (O.reads store.new.1 meta_name)) }
+    ensures cause { IfErr result (RunCause (MeetsLock (R.left script.old) × IsBusy O.tells_locks (O.locks store.old.1 meta_lock_name ≡ true) (Rose (O.faults store.old.1) (O.faults store.new.1))) (LineRefusal (R.left script.old)) (IsTooMany (R.left script.old)) (Rose (O.faults store.old.1) (O.faults store.new.1) ⊎ Rose (R.faults script.old) (R.faults script.new)) ((O.faults store.new.1 ≡ O.faults store.old.1) × (R.faults script.new ≡ R.faults script.old)) (BadSince O.tells (O.reads store.old.1) store.old.0 (R.left script.old)) (λ path. HoldsNone O.tells (O.reads store.old.1) store.old.0)) }
 {
     let mut held = Held::new(alloc)?;
     for events in 0..u32::MAX {
@@ -97,8 +107,12 @@ fn apply_all<O: Outside, R: Source>(
     Ok(tally)
 }
 
-// What stands after the last line that is taken: the end, or a line too many.
-fn end_of<R: Source>(alloc: Global, script: &mut R, held: &mut Held) -> Result<Tally, TantivyError>
+/// What stands after the last line that is taken: the end, or a line too many.
+pub(crate) fn end_of<R: Source>(
+    alloc: Global,
+    script: &mut R,
+    held: &mut Held,
+) -> Result<Tally, TantivyError>
     ensures count { IfOk result (λ tally. tally.events ≡ u32.MAX) }
     ensures end { OnOk result ((rest : List ℕ) → pending held.old (R.left script.old) ≡ Some rest → TakesEvent rest None (pending held.new (R.left script.new))) }
     ensures quiet { OnOk result (R.faults script.new ≡ R.faults script.old) }

@@ -13,6 +13,8 @@ mod lines;
 #[cfg(test)]
 mod locks;
 #[cfg(test)]
+mod openings;
+#[cfg(test)]
 mod pieces;
 #[cfg(test)]
 mod places;

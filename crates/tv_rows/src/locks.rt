@@ -133,10 +133,11 @@ fn no_lock_is_held_after_a_refused_opening(rt: HostRuntime) -> Result<(), Fail> 
     let alloc = rt.alloc();
     // The calls of an opening: a sync, two looks, the list and its sync, the sync, the write and the
     // sync of the commit, the lock, and the line.
-    for call in 0..12 {
+    for call in 0..10 {
         let mut bench = empty_bench(alloc)?;
         bench.fail_at(Vec::from_slice(alloc, &[call])?);
-        let (_, met, locks) = replayed(alloc, bench, "")?;
+        let (told, met, locks) = replayed(alloc, bench, "")?;
+        assert!(rt; told.as_str() != "open 0 0\n", "at call {call}");
         assert!(rt; !met, "at call {call}");
         assert_eq!(rt; locks, (false, false), "at call {call}");
     }

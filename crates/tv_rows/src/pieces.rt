@@ -1,5 +1,5 @@
 //! Scripts that come in pieces, and reads that are refused.
-ghost use Rattle.std.specs.Prelude.{ℕ, List, Option, None};
+ghost use Rattle.std.specs.Prelude.{ℕ, Option, None};
 
 use crate::fixtures::{ID, SCHEMA, empty_bench, heard};
 use crate::lines::long_line;

@@ -1,4 +1,4 @@
-use Rattle.std.proofs.Common.{◌≡◌, ◌++◌, ◌∷◌, [], ◌∙◌, ap, sym, subst, length, refl, arith}
+use Rattle.std.proofs.Common.{◌++◌, ◌∷◌, [], ◌∙◌, ap, length, refl, arith}
 use Rattle.tv_framing.specs.Composite.{bodies, grown}
 use Rattle.tv_framing.proofs.Parts.{bodies_push, grown_push, on_ok}
 use Rattle.tv_framing.proofs.tests.put.Goals as goal

@@ -1,6 +1,5 @@
-use Rattle.std.proofs.Common.{◌≡◌, true, sym, ◌∙◌, ap, string_bytes}
+use Rattle.std.proofs.Common.{◌≡◌, true, string_bytes}
 use Rattle.tv_model.specs.Names.{is_plain}
-use Rattle.tv_model.specs.Segments.{name_of}
 use Rattle.tv_model.proofs.PlainNames.{plain_is_file_name, delete_plain, other_plain}
 use Rattle.tv_model.proofs.file_name.segment_file_name.Goals as goal
 

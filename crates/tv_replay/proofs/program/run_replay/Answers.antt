@@ -82,6 +82,7 @@ returns-clause-ends g c = record {
           schema_is = λ told. c.in-Ok.ensures.bytes told ∙ ap Some (sym c.as_slice.ensures.value);
           same_locks = c.replay-outside.ensures.locks;
           cause = rw c.in-Err-outcome.is at c.replay-outside.ensures.cause;
+          leaves = rw c.in-Err-outcome.is at c.replay-outside.ensures.leaves;
           reports = reports_since (c.in-Ok-lend.ensures.quiet ∙ c.in-Ok.ensures.quiet) (c.in-Ok-lend.ensures.said ∙ c.in-Ok.ensures.said) reported.1;
         },
       ));
@@ -96,6 +97,7 @@ returns-clause-ends g c = record {
           schema_is = λ told. c.in-Ok.ensures.bytes told ∙ ap Some (sym c.as_slice.ensures.value);
           same_locks = c.replay-outside.ensures.locks;
           cause = rw c.in-Err-outcome.is at c.replay-outside.ensures.cause;
+          leaves = rw c.in-Err-outcome.is at c.replay-outside.ensures.leaves;
           reports = reports_since (c.in-Ok-lend.ensures.quiet ∙ c.in-Ok.ensures.quiet) (c.in-Ok-lend.ensures.said ∙ c.in-Ok.ensures.said) (c.give_back_after.ensures.memory c.args.folder.now c.in-Ok-lend.ensures.lent three);
         },
       ));

@@ -1,14 +1,17 @@
-use Rattle.std.proofs.Common.{◌≡◌, ◌≢◌, ◌⊎◌, ◌<◌, ◌+◌, ◌*◌, ◌^◌, ℕ, List, [], Some, Err, refl, ap, ◌∙◌, inl, inr, arith}
+use Rattle.std.proofs.Common.{◌≡◌, ◌≢◌, ◌⊎◌, ◌<◌, ◌+◌, ◌*◌, ◌^◌, ℕ, List, [], Some, Err, refl, sym, ap, subst, ◌∙◌, inl, inr, arith}
 use Rattle.std.proofs.lemmas.Result.{err_from_is_err_and}
 use Rattle.tv_model.specs.Files.{Rose}
 use Rattle.tv_model.specs.Script.{line_limit}
 use Rattle.tv_replay.specs.declared.next_event.ScriptError.{ScriptError}
-use Rattle.tv_replay.specs.ScriptLines.{pending, written_by}
+use Rattle.tv_replay.specs.ScriptLines.{pending}
 use Rattle.tv_replay.specs.Replays.{LineRefusal, IsTooMany}
-use Rattle.tv_replay.specs.Applying.{Spent, BadIn, BadSince, HoldsNone}
-use Rattle.tv_replay.proofs.FewNumbers.{one_more_number}
+use Rattle.tv_store.specs.Kept.{AtMost}
+use Rattle.tv_store.specs.ReaderNumbers.{FewNumbers}
+use Rattle.tv_store.specs.Applying.{Spent, BadIn, HoldsNone}
+use Rattle.tv_replay.specs.Applying.{BadSince}
 use Rattle.tv_managed.specs.Collecting.{meta_lock_name}
-use Rattle.tv_replay.proofs.ReaderEvents.{busy_before}
+use Rattle.tv_replay.proofs.StoreLocks.{busy_since}
+use Rattle.tv_replay.proofs.Stopping.{stops_first, stops_between, stops_in, meets_lock}
 use Rattle.tv_replay.proofs.Applying.{starts, goes_on, ends, stops_at_line, stops_at_long, stops_at_last, one_more_line, never_spent, event_cause, script_cause, end_cause, rose_from, bad_since, none_since}
 use Rattle.tv_replay.proofs.replaying.apply_all.Goals as goal
 
@@ -62,7 +65,11 @@ returns-in_err-_answer-clause-cause g c =
     (Rose (devices c.args.store.now.1) (devices c.apply.new.self.1) ⊎ Rose (reads c.args.script.now) (reads c.next_event.new.source))
     ((devices c.apply.new.self.1 ≡ devices c.args.store.now.1) × (reads c.next_event.new.source ≡ reads c.args.script.now))
     bad (BadSince g.O.Directory.tells (g.O.Directory.reads c.args.store.now.1) c.args.store.now.0 text) none (λ path. HoldsNone g.O.Directory.tells (g.O.Directory.reads c.args.store.now.1) c.args.store.now.0)
-    c.in_err-_answer.field-0.0 c.in_err-_answer.ensures.cause (busy_before _ _ _ _ _ (λ told. c.loop-events.invariant.locks told meta_lock_name) before)
+    c.in_err-_answer.field-0.0 c.in_err-_answer.ensures.cause
+    (λ b. (
+      meets_lock _ _ _ c.loop-events.store.0 c.loop-events.invariant.run.turns c.in-Ok-Some.event c.loop-events.invariant.run.read taken b.0,
+      busy_since _ _ _ _ _ (λ told held. sym (c.loop-events.invariant.locks told meta_lock_name) ∙ held) before b.1,
+    ))
     (λ rose. inl (rose_from _ _ _ before rose)) (λ quiet. (quiet ∙ before, c.in-Ok-Some.ensures.quiet ∙ c.loop-events.invariant.script_quiet))
     (never_spent c.loop-events.store.0 c.in-Ok-Some.event c.loop-events.events few small c.loop-events.invariant.short c.loop-events.invariant.few)
     (λ path b. bad_since _ _ _ _ _ _ _ _ c.loop-events.invariant.run.turns c.in-Ok-Some.event c.loop-events.invariant.run.read taken holds applied.readable path b) (λ path b. none_since _ _ _ _ _ c.loop-events.invariant.run.turns holds b))
@@ -76,8 +83,8 @@ loop-events-preserved g c =
     record {
       run = goes_on _ _ _ _ _ _ _ _ _ _ _ _ _ _ _ _ _ c.loop-events.events c.in-Ok-Some.event c.in_ok-_answer._answer _ _ c.loop-events.invariant.run taken fits applied.schema applied.step applied.told;
       is_open = applied.«open»;
-      short = one_more_line c.apply.new.self.0 c.loop-events.events (written_by c.in-Ok-Some.event) small (applied.lens (c.loop-events.events * line_limit) c.loop-events.invariant.short);
-      few = one_more_number c.apply.new.self.0.reading c.loop-events.events (written_by c.in-Ok-Some.event) small (applied.numbers (c.loop-events.events * line_limit) c.loop-events.invariant.few);
+      short = subst (λ (bound : ℕ). AtMost bound c.apply.new.self.0) (one_more_line c.loop-events.events) (applied.lens (c.loop-events.events * line_limit) line_limit small c.loop-events.invariant.short);
+      few = subst (λ (bound : ℕ). FewNumbers bound c.apply.new.self.0.reading) (one_more_line c.loop-events.events) (applied.numbers (c.loop-events.events * line_limit) line_limit small c.loop-events.invariant.few);
       outside_quiet = applied.quiet ∙ c.loop-events.invariant.outside_quiet;
       locks = λ told n. applied.locks told n ∙ c.loop-events.invariant.locks told n;
       script_quiet = c.in-Ok-Some.ensures.quiet ∙ c.loop-events.invariant.script_quiet;
@@ -104,3 +111,23 @@ pub returns-clause-done : goal.returns-clause-done
 returns-clause-done g c =
     let all : c.in_ok-tally.tally.events ≡ c.loop-events.events = omega (arith, c.loop-events-test.false, c.loop-events.auto.events-end, c.in_ok-tally.ensures.count) in
     ends _ _ _ _ _ _ _ _ _ _ _ _ c.end_of.new.held (g.R.Source.left c.end_of.new.script) _ _ c.loop-events.invariant.run c.in_ok-tally.ensures.end all
+
+pub returns-in_err-held-clause-leaves : goal.returns-in_err-held-clause-leaves
+returns-in_err-held-clause-leaves g c told s h w =
+    let e = err_from_is_err_and c.from_residual.result c.from_residual.ensures.1 in
+    rw (e.1, e.2) (stops_first g.O.Outside.tells_heard (g.R.Source.left c.args.script.now) s (g.O.Directory.reads c.args.store.now.1) c.args.store.now.0 (g.O.Directory.heard c.args.store.now.1) _ h)
+
+pub returns-in-Err-clause-leaves : goal.returns-in-Err-clause-leaves
+returns-in-Err-clause-leaves g c told s h w = stops_between _ _ _ _ _ _ _ _ _ _ _ _ _ _ c.loop-events.invariant.run told s h w
+
+pub returns-in_err-_answer-clause-leaves : goal.returns-in_err-_answer-clause-leaves
+returns-in_err-_answer-clause-leaves g c told s h w =
+    let taken = rw c.in-Ok-Some.field-0-is at c.in-Ok-Some.ensures.event in
+    let e = err_from_is_err_and c.from_residual-in_err-_answer.result c.from_residual-in_err-_answer.ensures.1 in
+    let failed = c.in_err-_answer.ensures in
+    rw (e.1, e.2) (stops_in _ _ _ _ _ _ _ _ _ _ _ _ _ _ _ c.in-Ok-Some.event _ c.in_err-_answer.field-0.0 c.loop-events.invariant.run taken failed.part failed.meta failed.memory told s h w)
+
+pub returns-in_err-tally-clause-leaves : goal.returns-in_err-tally-clause-leaves
+returns-in_err-tally-clause-leaves g c told s h w =
+    let e = err_from_is_err_and c.from_residual-in_err-tally.result c.from_residual-in_err-tally.ensures.1 in
+    rw (e.1, e.2) (stops_between _ _ _ _ _ _ _ _ _ _ _ _ _ _ c.loop-events.invariant.run told s h w)

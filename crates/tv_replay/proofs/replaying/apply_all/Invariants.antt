@@ -1,8 +1,8 @@
 use Rattle.std.proofs.Common.{◌≡◌, ◌*◌, true}
 use Rattle.tv_model.specs.Script.{line_limit}
 use Rattle.tv_directory.specs.Locks.{SameLocks}
-use Rattle.tv_replay.specs.Kept.{AtMost}
-use Rattle.tv_replay.specs.ReaderNumbers.{FewNumbers}
+use Rattle.tv_store.specs.Kept.{AtMost}
+use Rattle.tv_store.specs.ReaderNumbers.{FewNumbers}
 use Rattle.tv_replay.specs.ScriptLines.{pending}
 use Rattle.tv_replay.proofs.Applying.{Progress}
 use Rattle.tv_replay.proofs.replaying.apply_all.Given as goal

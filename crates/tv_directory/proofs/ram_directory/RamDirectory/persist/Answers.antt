@@ -22,6 +22,7 @@ loop-name-preserved g c =
       refusals = done.refusals ∙ inv.refusals;
       writers = λ w o. done.writers w (inv.writers w o);
       alive = λ w l. done.alive w (inv.alive w l);
+      ended = λ w o l. done.ended w (inv.writers w o) (inv.ended w o l);
       locks = λ told n. done.locks told n ∙ inv.locks told n;
       watched = done.watched ∙ inv.watched;
       clock = omega (arith, done.clock, inv.clock);

@@ -1,4 +1,4 @@
-use Rattle.std.proofs.Common.{◌≡◌, ◌≤◌, true}
+use Rattle.std.proofs.Common.{◌≡◌, ◌≤◌, true, false}
 use Rattle.tv_directory.specs.Locks.{SameLocks}
 use Rattle.tv_directory.specs.Persisting.{contents}
 use Rattle.tv_directory.proofs.PersistedFiles.{PersistsRest}
@@ -13,6 +13,7 @@ invariant-loop-name g l =
       refusals : D.refusals l.dest ≡ D.refusals l.fn.dest;
       writers : (w : _) → D.opened l.fn.dest w ≡ true → D.opened l.dest w ≡ true;
       alive : (w : _) → D.lives l.fn.dest w ≡ true → D.lives l.dest w ≡ true;
+      ended : (w : _) → D.opened l.fn.dest w ≡ true → D.lives l.fn.dest w ≡ false → D.lives l.dest w ≡ false;
       locks : D.tells_locks → SameLocks (D.locks l.fn.dest) (D.locks l.dest);
       watched : D.watched l.dest ≡ D.watched l.fn.dest;
       clock : D.moment l.fn.dest ≤ D.moment l.dest;

@@ -5,7 +5,7 @@ use Rattle.std.proofs.lemmas.List.{nil_from_length}
 use Rattle.tv_model.specs.Collections.{without}
 use Rattle.tv_managed.specs.Collecting.{names_of}
 use Rattle.tv_managed.proofs.Removals.{names_last}
-use Rattle.tv_managed.proofs.Tried.{none_tried, tried_done, tried_failed, tried_same, next_plain, leaves_of, tells_of, list_stays, is_another, not_last}
+use Rattle.tv_managed.proofs.Tried.{none_tried, tried_done, tried_failed, tried_same, next_plain, leaves_of, tries_of, list_stays, is_another, not_last}
 use Rattle.tv_managed.proofs.managed_directory.ManagedDirectory.delete_each.Goals as goal
 
 pub loop-name-init : goal.loop-name-init
@@ -308,7 +308,7 @@ returns-clause-told g c =
     let ok = c.loop-name.name-iterator.rest.ok in
     let zero = c.in-None.ensures.steps.0 in
     let none : into_iter_items c.loop-name.name-iterator ≡ [] = nil_from_length (into_iter_items c.loop-name.name-iterator) (omega arith) in
-    tells_of _ (names_of (into_iter_items c.loop-name.name-iterator)) _ _ _ _ _ _ _ _ _ (ap (λ (l : List (String Global)). names_of l) none) c.loop-name.invariant.tried
+    tries_of _ (names_of (into_iter_items c.loop-name.name-iterator)) _ _ _ _ _ _ _ _ _ (ap (λ (l : List (String Global)). names_of l) none) c.loop-name.invariant.tried
 
 pub returns-clause-left : goal.returns-clause-left
 returns-clause-left g c =

@@ -1,0 +1,25 @@
+-- A state that is held is held still where nothing changes.
+use Rattle.std.proofs.Common.{◌≡◌, ℕ, List, Option, sym, subst, ◌∙◌}
+use Rattle.tv_model.specs.Names.{list_name, meta_name}
+use Rattle.tv_model.specs.Files.{Reads, Same}
+use Rattle.tv_model.specs.Listing.{Lists}
+use Rattle.tv_model.specs.State.{State, at, file_at}
+use Rattle.tv_store.specs.Kept.{Kept, FileHolds, Holds}
+
+-- where the same is read and kept, the same state is held
+pub same_holds : (old new : Reads) (was now : Kept) (s : State) → Same old new → now ≡ was → Holds old was s → Holds new now s
+same_holds old new was now s same is h =
+    subst (λ (kept : Kept). Holds new kept s) (sym is) (record {
+      live = h.live;
+      next = h.next;
+      commit = h.commit;
+      managed = h.managed;
+      segments = h.segments;
+      names = h.names;
+      files = λ n file. subst (λ (read : Option (List ℕ)). FileHolds (file_at s n) read (at was.open_files n)) (sym (same n)) (h.files n file);
+      left = h.left;
+      reading = h.reading;
+      meta = (h.meta.0, same meta_name ∙ h.meta.1, h.meta.2);
+      listing = subst (λ (read : Option (List ℕ)). Lists read s.managed) (sym (same list_name)) h.listing;
+      listed = h.listed;
+    })

@@ -1,0 +1,14 @@
+pub mod Printing
+pub mod CollectionEvents
+pub mod OpenFiles
+pub mod Holding
+pub mod SegmentEvents
+pub mod FileEvents
+pub mod Chosen
+pub mod CommitEvents
+pub mod Creation
+pub mod Steps
+pub mod FewNumbers
+pub mod ReaderNumbers
+pub mod ReaderEvents
+pub mod StoreLocks

@@ -1,0 +1,256 @@
+-- The entries of open files, and what of them stays true.
+use Rattle.std.proofs.Common.{◌≡◌, ◌⊎◌, inl, inr, ℕ, Bool, true, false, true≢false, cond, ◌&&◌, nat_le, List, [], ◌∷◌, map, Option, Some, None, option_map, is_some, length, ◌++◌, ◌+◌, ◌<◌, length-append, refl, sym, ap, subst, ◌∙◌, Ok, Err}
+use Rattle.std.specs.Prelude.{IsSome, OnErr, Result}
+use Rattle.std.specs.Ordering.{is_eq, match_ordering}
+use Rattle.std.specs.declared.cmp.Ordering.{Ordering}
+use Rattle.std.specs.declared.cmp.Ordering.TheVariants.{Less, Equal, Greater}
+use Rattle.std.specs.List.{AllByRecursion, list_all}
+use Rattle.std.specs.Map.{remove_entry}
+use Rattle.std.specs.BTreeMap.{is_at, insert_entry}
+use Rattle.std.specs.BTreeSet.{insert_key}
+use Rattle.tv_model.specs.Names.{byte_cmp, is_name_byte, is_undotted, is_plain}
+use Rattle.tv_model.specs.State.{at}
+use Rattle.tv_model.specs.Files.{Reads, KeepsOthers, Sets}
+use Rattle.tv_model.specs.Footer.{sealed}
+use Rattle.tv_model.proofs.Entries.{text_at}
+use Rattle.tv_model.proofs.PlainNames.{both}
+use Rattle.tv_directory.specs.Watch.{IsNewWriter}
+use Rattle.tv_managed.specs.Managed.{registered}
+use Rattle.tv_managed.specs.Writers.{IsSummed}
+use Rattle.tv_store.specs.declared.files.OpenFile.{OpenFile}
+use Rattle.tv_store.specs.OpenFiles.{IsOpenFile}
+
+found : {X Y : Type 0} (f : X → Y) (b : Bool) (x : X) (rest : Option X) (seen : Option Y) → seen ≡ option_map f rest → cond b (Some (f x)) seen ≡ option_map f (cond b (Some x) rest)
+found f true x rest seen e = refl
+found f false x rest seen e = e
+
+-- what stands at a name, seen through a function
+pub at_seen : {X Y : Type 0} (f : X → Y) (es : List (List ℕ × X)) (n : List ℕ) → at (map (λ e. (e.0, f e.1)) es) n ≡ option_map f (at es n)
+at_seen f [] n = refl
+at_seen f (e ∷ es) n = found f (is_at (byte_cmp n) e.0) e.1 (at es n) _ (at_seen f es n)
+
+placed : {X Y : Type 0} (f : X → Y) (r : Ordering) (n : List ℕ) (v : X) (e : List ℕ × X) (es rest : List (List ℕ × X)) (seen : List (List ℕ × Y)) → map (λ e. (e.0, f e.1)) rest ≡ seen
+    → map (λ e. (e.0, f e.1)) (match_ordering r ((n, v) ∷ e ∷ es) ((e.0, v) ∷ es) (e ∷ rest))
+    ≡ match_ordering r ((n, f v) ∷ (e.0, f e.1) ∷ map (λ e. (e.0, f e.1)) es) ((e.0, f v) ∷ map (λ e. (e.0, f e.1)) es) ((e.0, f e.1) ∷ seen)
+placed f Less n v e es rest seen h = refl
+placed f Equal n v e es rest seen h = refl
+placed {X} {Y} f Greater n v e es rest seen h = ap (λ (t : List (List ℕ × Y)). (e.0, f e.1) ∷ t) h
+
+-- an entry that is put, seen through a function
+pub put_seen : {X Y : Type 0} (f : X → Y) (es : List (List ℕ × X)) (n : List ℕ) (v : X) → map (λ e. (e.0, f e.1)) (insert_entry byte_cmp es n v) ≡ insert_entry byte_cmp (map (λ e. (e.0, f e.1)) es) n (f v)
+put_seen f [] n v = refl
+put_seen f (e ∷ es) n v = placed f (byte_cmp n e.0) n v e es (insert_entry byte_cmp es n v) _ (put_seen f es n v)
+
+cut : {X Y : Type 0} (f : X → Y) (b : Bool) (e : List ℕ × X) (es rest : List (List ℕ × X)) (seen : List (List ℕ × Y)) → map (λ e. (e.0, f e.1)) rest ≡ seen
+    → map (λ e. (e.0, f e.1)) (cond b es (e ∷ rest)) ≡ cond b (map (λ e. (e.0, f e.1)) es) ((e.0, f e.1) ∷ seen)
+cut f true e es rest seen h = refl
+cut {X} {Y} f false e es rest seen h = ap (λ (t : List (List ℕ × Y)). (e.0, f e.1) ∷ t) h
+
+-- entries of which one was taken out, seen through a function
+pub cut_seen : {X Y : Type 0} (f : X → Y) (es : List (List ℕ × X)) (test : List ℕ → Bool) → map (λ e. (e.0, f e.1)) (remove_entry test es) ≡ remove_entry test (map (λ e. (e.0, f e.1)) es)
+cut_seen f [] test = refl
+cut_seen f (e ∷ es) test = cut f (test e.0) e es (remove_entry test es) _ (cut_seen f es test)
+
+-- what is true of each entry, and of one that is put
+pub all_put : {X : Type 0} (P : List ℕ × X → Type 0) (es : List (List ℕ × X)) (n : List ℕ) (v : X) → P (n, v) → AllByRecursion P es → AllByRecursion P (insert_entry byte_cmp es n v)
+all_put P [] n v here h = (here, tt)
+all_put {X} P (e ∷ es) n v here h =
+    elim (byte_cmp n e.0) as (λ r. byte_cmp n e.0 ≡ r → AllByRecursion P (match_ordering r ((n, v) ∷ e ∷ es) ((e.0, v) ∷ es) (e ∷ insert_entry byte_cmp es n v))) [
+      | Less ↦ λ r. (here, h)
+      | Equal ↦ λ r. (subst (λ (k : List ℕ). P (k, v)) (text_at n e.0 (ap is_eq r)) here, h.1)
+      | Greater ↦ λ r. (h.0, all_put P es n v here h.1)
+    ] refl
+
+left : {X : Type 0} (P : List ℕ × X → Type 0) (b : Bool) (e : List ℕ × X) (es rest : List (List ℕ × X)) → P e → AllByRecursion P es → AllByRecursion P rest → AllByRecursion P (cond b es (e ∷ rest))
+left P true e es rest here h more = h
+left P false e es rest here h more = (here, more)
+
+-- what is true of each entry is true of those that are left
+pub all_left : {X : Type 0} (P : List ℕ × X → Type 0) (es : List (List ℕ × X)) (test : List ℕ → Bool) → AllByRecursion P es → AllByRecursion P (remove_entry test es)
+all_left P [] test h = tt
+all_left P (e ∷ es) test h = left P (test e.0) e es (remove_entry test es) h.0 h.1 (all_left P es test h.1)
+
+-- what is true of each entry is true of the one that is found
+pub all_found : {X : Type 0} (P : List ℕ × X → Type 0) (es : List (List ℕ × X)) (n : List ℕ) (v : X) → AllByRecursion P es → at es n ≡ Some v → P (n, v)
+all_found P [] n v h e = absurd cc
+all_found {X} P (x ∷ es) n v h e =
+    elim (is_at (byte_cmp n) x.0) as (λ b. is_at (byte_cmp n) x.0 ≡ b → cond b (Some x.1) (at es n) ≡ Some v → P (n, v)) [
+      | true ↦ λ is same.
+          let value : x.1 ≡ v = cc in
+          subst (λ (k : List ℕ). P (k, v)) (sym (text_at n x.0 is)) (subst (λ (w : X). P (x.0, w)) value h.0)
+      | false ↦ λ is same. all_found P es n v h.1 same
+    ] refl e
+
+-- these files are open
+abbrev pub AreOpen : {D W C : Type 0} → (opened lives : W → Bool) → (name_of written : W → List ℕ) → List (List ℕ × OpenFile D W C) → Type 0
+AreOpen opened lives name_of written es = AllByRecursion (λ e. IsOpenFile opened lives name_of written e.0 e.1.writer.writer (IsSummed written e.1.writer) e.1.len) es
+
+-- open files stay open where the directory's writers do
+pub still_open : {S D W C : Type 0} (opened lives : S → W → Bool) (name_of written : W → List ℕ) (old new : S) (es : List (List ℕ × OpenFile D W C))
+    → ((w : W) → opened old w ≡ true → opened new w ≡ true) → ((w : W) → lives old w ≡ true → lives new w ≡ true)
+    → AreOpen (opened old) (lives old) name_of written es → AreOpen (opened new) (lives new) name_of written es
+still_open opened lives name_of written old new [] writers alive h = tt
+still_open opened lives name_of written old new (e ∷ es) writers alive h = (
+  record { opened_is = writers _ h.0.opened_is; lives_is = alive _ h.0.lives_is; name_is = h.0.name_is; len_is = h.0.len_is; summed_is = h.0.summed_is },
+  still_open opened lives name_of written old new es writers alive h.1,
+)
+
+-- one more open file
+pub put_open : {D W C : Type 0} (opened lives : W → Bool) (name_of written : W → List ℕ) (es new : List (List ℕ × OpenFile D W C)) (n : List ℕ) (file : OpenFile D W C) → new ≡ insert_entry byte_cmp es n file
+    → IsOpenFile opened lives name_of written n file.writer.writer (IsSummed written file.writer) file.len → AreOpen opened lives name_of written es → AreOpen opened lives name_of written new
+put_open opened lives name_of written es new n file put here h =
+    subst (λ fs. AreOpen opened lives name_of written fs) (sym put)
+    (all_put (λ e. IsOpenFile opened lives name_of written e.0 e.1.writer.writer (IsSummed written e.1.writer) e.1.len) es n file here h)
+
+-- one less
+pub left_open : {D W C : Type 0} (opened lives : W → Bool) (name_of written : W → List ℕ) (es new : List (List ℕ × OpenFile D W C)) (test : List ℕ → Bool) → new ≡ remove_entry test es
+    → AreOpen opened lives name_of written es → AreOpen opened lives name_of written new
+left_open opened lives name_of written es new test cut h =
+    subst (λ fs. AreOpen opened lives name_of written fs) (sym cut)
+    (all_left (λ e. IsOpenFile opened lives name_of written e.0 e.1.writer.writer (IsSummed written e.1.writer) e.1.len) es test h)
+
+-- a file that is found is open
+pub found_open : {D W C : Type 0} (opened lives : W → Bool) (name_of written : W → List ℕ) (es : List (List ℕ × OpenFile D W C)) (n : List ℕ) (file : OpenFile D W C)
+    → Some file ≡ at es n → AreOpen opened lives name_of written es → IsOpenFile opened lives name_of written n file.writer.writer (IsSummed written file.writer) file.len
+found_open opened lives name_of written es n file it h =
+    all_found (λ e. IsOpenFile opened lives name_of written e.0 e.1.writer.writer (IsSummed written e.1.writer) e.1.len) es n file h (sym it)
+
+-- what was written to open files
+abbrev pub bodies : {D W C : Type 0} → (W → List ℕ) → List (List ℕ × OpenFile D W C) → List (List ℕ × List ℕ)
+bodies written es = map (λ e. (e.0, written e.1.writer.writer)) es
+
+-- what was written to an open file, if there is one under a name
+pub body_at : {D W C : Type 0} (written : W → List ℕ) (es : List (List ℕ × OpenFile D W C)) (old : List (List ℕ × List ℕ)) (n : List ℕ) (found : Option (OpenFile D W C))
+    → bodies written es ≡ old → found ≡ at es n → at old n ≡ option_map (λ file. written file.writer.writer) found
+body_at {D} {W} {C} written es old n found is it =
+    ap (λ (bs : List (List ℕ × List ℕ)). at bs n) (sym is) ∙ at_seen (λ (file : OpenFile D W C). written file.writer.writer) es n ∙ ap (λ (o : Option (OpenFile D W C)). option_map (λ file. written file.writer.writer) o) (sym it)
+
+-- what was written to an open file that is found
+pub body_is : {D W C : Type 0} (written : W → List ℕ) (es : List (List ℕ × OpenFile D W C)) (old : List (List ℕ × List ℕ)) (n : List ℕ) (file : OpenFile D W C)
+    → bodies written es ≡ old → Some file ≡ at es n → at old n ≡ Some (written file.writer.writer)
+body_is written es old n file is it = body_at written es old n (Some file) is it
+
+same_body : (o : Option (List ℕ)) (xs ys : List ℕ) → o ≡ Some xs → o ≡ Some ys → ys ≡ xs
+same_body o xs ys e f = let k : Some ys ≡ Some xs = sym f ∙ e in cc
+
+-- and nothing else was written to it
+pub same_body_is : {D W C : Type 0} (written : W → List ℕ) (es : List (List ℕ × OpenFile D W C)) (old : List (List ℕ × List ℕ)) (n : List ℕ) (file : OpenFile D W C) (body : List ℕ)
+    → bodies written es ≡ old → Some file ≡ at es n → at old n ≡ Some body → body ≡ written file.writer.writer
+same_body_is written es old n file body is it here = same_body (at old n) (written file.writer.writer) body (body_is written es old n file is it) here
+
+-- no file is open under a name
+pub isnt_open : {D W C : Type 0} (written : W → List ℕ) (es : List (List ℕ × OpenFile D W C)) (old : List (List ℕ × List ℕ)) (n : List ℕ) → bodies written es ≡ old → None ≡ at es n → at old n ≡ None
+isnt_open written es old n is it = body_at written es old n None is it
+
+absent : {X : Type 0} (o : Option X) → o ≡ None → IsSome o → ⊥
+absent o e h = let k = subst IsSome e h in absurd (true≢false (sym k))
+
+-- one that is open is found
+pub must_be_open : {D W C : Type 0} (written : W → List ℕ) (es : List (List ℕ × OpenFile D W C)) (old : List (List ℕ × List ℕ)) (n : List ℕ) (found : Option (OpenFile D W C)) → bodies written es ≡ old → found ≡ at es n → found ≡ None → IsSome (at old n) → ⊥
+must_be_open written es old n found is it none some = absent (at old n) (isnt_open written es old n is (sym none ∙ it)) some
+
+tested : {X Y : Type 0} (f : X → Y) (o : Option X) → is_some (option_map f o) ≡ is_some o
+tested f None = refl
+tested f (Some x) = refl
+
+-- whether a file is open under a name
+pub is_open : {D W C : Type 0} (written : W → List ℕ) (es : List (List ℕ × OpenFile D W C)) (old : List (List ℕ × List ℕ)) (n : List ℕ) (b : Bool) → bodies written es ≡ old → b ≡ is_some (at es n) → is_some (at old n) ≡ b
+is_open {D} {W} {C} written es old n b is e =
+    ap is_some (body_at written es old n (at es n) is refl) ∙ tested (λ (file : OpenFile D W C). written file.writer.writer) (at es n) ∙ sym e
+
+-- what was written, after a file was opened
+pub bodies_put : {D W C : Type 0} (written : W → List ℕ) (es new : List (List ℕ × OpenFile D W C)) (old : List (List ℕ × List ℕ)) (n : List ℕ) (file : OpenFile D W C) (body : List ℕ)
+    → new ≡ insert_entry byte_cmp es n file → bodies written es ≡ old → written file.writer.writer ≡ body → bodies written new ≡ insert_entry byte_cmp old n body
+bodies_put {D} {W} {C} written es new old n file body put is here =
+    ap (λ (fs : List (List ℕ × OpenFile D W C)). bodies written fs) put ∙ put_seen (λ (file : OpenFile D W C). written file.writer.writer) es n file
+    ∙ ap (λ (bs : List (List ℕ × List ℕ)). insert_entry byte_cmp bs n (written file.writer.writer)) is ∙ ap (λ (b : List ℕ). insert_entry byte_cmp old n b) here
+
+-- and after one was taken out
+pub bodies_left : {D W C : Type 0} (written : W → List ℕ) (es new : List (List ℕ × OpenFile D W C)) (old : List (List ℕ × List ℕ)) (test : List ℕ → Bool)
+    → new ≡ remove_entry test es → bodies written es ≡ old → bodies written new ≡ remove_entry test old
+bodies_left {D} {W} {C} written es new old test cut is =
+    ap (λ (fs : List (List ℕ × OpenFile D W C)). bodies written fs) cut ∙ cut_seen (λ (file : OpenFile D W C). written file.writer.writer) es test ∙ ap (λ (bs : List (List ℕ × List ℕ)). remove_entry test bs) is
+
+read_absent : {X : Type 0} (o : Option X) → is_some o ≡ false → o ≡ None
+read_absent None e = refl
+read_absent (Some x) e = absurd (true≢false e)
+
+-- whether a file is sealed, by what the directory answers where it isn't open
+pub sealed_answer : {S : Type 0} (reads : S → Reads) (inside old : S) (asked name : List ℕ) (found : Bool) (o : Option (List ℕ)) → inside ≡ old → asked ≡ name → found ≡ is_some (reads inside asked) → is_some o ≡ false
+    → (found ≡ true → IsSome (reads old name) × (o ≡ None)) × (found ≡ false → (reads old name ≡ None) ⊎ IsSome o)
+sealed_answer {S} reads inside old asked name found o same text answer none =
+    let it : found ≡ is_some (reads old name) = answer ∙ ap (λ (s : S). is_some (reads s asked)) same ∙ ap (λ (n : List ℕ). is_some (reads old n)) text in
+    (λ e. (sym it ∙ e, read_absent o none), λ e. inl (read_absent (reads old name) (sym it ∙ e)))
+
+-- an open file isn't sealed
+pub open_answer : (before : Option (List ℕ)) (o : Option (List ℕ)) → is_some o ≡ true → (false ≡ true → IsSome before × (o ≡ None)) × (false ≡ false → (before ≡ None) ⊎ IsSome o)
+open_answer before o h = (λ e. absurd (true≢false (sym e)), λ e. inr h)
+
+-- a claim about an error holds of what holds anyway
+pub on_err : {A E : Type 0} (r : Result A E) (P : Type 0) → P → OnErr r P
+on_err (Ok x) P h = tt
+on_err (Err e) P h = h
+
+fourth : (a b c d e : Bool) → (a && b && c && d && e) ≡ true → d ≡ true
+fourth a b c d e h = (both (a && b && c) d (both (a && b && c && d) e h).0).1
+
+-- a plain name is on the list
+pub plain_registered : (names names' after : List (List ℕ)) (asked name : List ℕ) → after ≡ registered names asked → names ≡ names' → asked ≡ name → is_plain name ≡ true → after ≡ insert_key byte_cmp names' name
+plain_registered names names' after asked name is same text plain =
+    let undotted : is_undotted name ≡ true = fourth (nat_le 1 (length name)) (nat_le (length name) 255) (list_all is_name_byte name) (is_undotted name) _ plain in
+    is ∙ ap (λ (ns : List (List ℕ)). registered ns asked) same ∙ ap (λ (n : List ℕ). registered names' n) text ∙ ap (λ (b : Bool). cond b (insert_key byte_cmp names' name) names') undotted
+
+-- the files after a call changed only the writer's
+pub others_kept : {S : Type 0} (reads : S → Reads) (inside old new : S) (written_to name : List ℕ) → inside ≡ old → written_to ≡ name → KeepsOthers (reads inside) (reads new) written_to → KeepsOthers (reads old) (reads new) name
+others_kept {S} reads inside old new written_to name same is h = subst (λ (n : List ℕ). KeepsOthers (reads old) (reads new) n) is (subst (λ (s : S). KeepsOthers (reads s) (reads new) written_to) same h)
+
+-- a file that was sealed
+pub sealed_is : {S : Type 0} (reads : S → Reads) (inside old new : S) (sealed_to name bytes body : List ℕ) → inside ≡ old → sealed_to ≡ name → body ≡ bytes
+    → Sets (reads inside) (reads new) sealed_to (Some (sealed bytes)) → Sets (reads old) (reads new) name (Some (sealed body))
+sealed_is {S} reads inside old new sealed_to name bytes body same is text h =
+    subst (λ (b : List ℕ). Sets (reads old) (reads new) name (Some (sealed b))) (sym text)
+    (subst (λ (n : List ℕ). Sets (reads old) (reads new) n (Some (sealed bytes))) is (subst (λ (s : S). Sets (reads s) (reads new) sealed_to (Some (sealed bytes))) same h))
+
+-- the length of what was written
+pub length_is : (o : Option (List ℕ)) (body : List ℕ) (len : ℕ) → o ≡ Some body → len ≡ length body → Some len ≡ option_map length o
+length_is o body len it e = ap (λ (n : ℕ). Some n) e ∙ ap (λ (p : Option (List ℕ)). option_map length p) (sym it)
+
+-- no file is open, so it has no length
+pub length_isnt : (o : Option (List ℕ)) → o ≡ None → None ≡ option_map length o
+length_isnt o e = ap (λ (p : Option (List ℕ)). option_map length p) (sym e)
+
+-- entries that stay as they are
+pub same_open : {D W C : Type 0} (opened lives : W → Bool) (name_of written : W → List ℕ) (es new : List (List ℕ × OpenFile D W C)) → new ≡ es
+    → AreOpen opened lives name_of written es → AreOpen opened lives name_of written new
+same_open opened lives name_of written es new same h = subst (λ fs. AreOpen opened lives name_of written fs) (sym same) h
+
+-- a file that was just opened
+pub new_open : {W : Type 0} (opened lives : W → Bool) (name_of written : W → List ℕ) (asked name : List ℕ) (w : W) (summed : Type 0) → asked ≡ name → IsNewWriter opened lives name_of written asked w → summed
+    → IsOpenFile opened lives name_of written name w summed 0
+new_open opened lives name_of written asked name w summed same h sum =
+    record { opened_is = h.opened_is; lives_is = h.lives_is; name_is = h.name_is ∙ same; len_is = ap length (sym h.empty); summed_is = sum }
+
+-- a file to which bytes were added
+pub written_open : {S W : Type 0} (opened lives : S → W → Bool) (name_of written : W → List ℕ) (old new : S) (name : List ℕ) (w more : W) (summed after : Type 0) (len : ℕ) (bytes : List ℕ)
+    → written more ≡ written w ++ bytes → opened new more ≡ true → (lives old w ≡ true → lives new more ≡ true) → name_of more ≡ name_of w → (summed → after)
+    → IsOpenFile (opened old) (lives old) name_of written name w summed len → IsOpenFile (opened new) (lives new) name_of written name more after (len + length bytes)
+written_open opened lives name_of written old new name w more summed after len bytes added is_opened alive same sum h =
+    record {
+      opened_is = is_opened;
+      lives_is = alive h.lives_is;
+      name_is = same ∙ h.name_is;
+      summed_is = sum h.summed_is;
+      len_is = ap (λ n. n + length bytes) h.len_is ∙ sym (ap length added ∙ length-append (written w) bytes);
+    }
+
+-- a length that is kept
+pub longer_fits : (len n m : ℕ) → len ≡ n → n + m < 18446744073709551616 → len + m < 18446744073709551616
+longer_fits len n m e h = rw e h
+
+-- what a name reads
+pub there_is : (reads : Reads) (written_to name : List ℕ) → written_to ≡ name → IsSome (reads written_to) → IsSome (reads name)
+there_is reads written_to name e h = subst (λ n. IsSome (reads n)) e h
+
+-- what was written, with more behind it
+pub more_is : (now was body bytes : List ℕ) → now ≡ was ++ bytes → body ≡ was → now ≡ body ++ bytes
+more_is now was body bytes e f = e ∙ ap (λ (b : List ℕ). b ++ bytes) (sym f)

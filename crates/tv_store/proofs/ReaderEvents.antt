@@ -1,0 +1,578 @@
+-- The events of readers and of searchers: which files are read, why a read fails, and what is held afterwards.
+use Rattle.std.proofs.Common.{◌≡◌, ◌≢◌, inl, inr, ℕ, zero, suc, ◌+◌, ◌<◌, ◌≤◌, Bool, true, false, true≢false, not, ◌||◌, List, [], ◌∷◌, ◌++◌, map, length, take, get_or, codes, string_bytes, Option, Some, None, is_some, refl, sym, ap, subst, ◌∙◌, arith}
+use Rattle.std.proofs.Math.Logic.{⊎_map}
+use Rattle.std.specs.Prelude.{IsSome, option_map, String, Result, Ok, Err, IfErr}
+use Rattle.std.specs.Global.{Global}
+use Rattle.std.specs.Result.{IsErrAnd}
+use Rattle.std.specs.Fmt.{decimal}
+use Rattle.std.specs.List.{AllByRecursion}
+use Rattle.std.specs.Map.{remove_entry}
+use Rattle.std.specs.BTreeMap.{is_at, insert_entry}
+use Rattle.std.specs.Ordering.{nat_cmp}
+use Rattle.std.proofs.lemmas.List.{take_more, take_all, map_push}
+use Rattle.std.proofs.lemmas.List.Folds.{list_any-append}
+use Rattle.tv_model.specs.declared.reload_policy.ReloadPolicy.{ReloadPolicy}
+use Rattle.tv_model.specs.declared.event.Event.{Event}
+use Rattle.tv_model.specs.declared.segment.LiveSegment.{LiveSegment}
+use Rattle.tv_model.specs.declared.segment.SegmentComponent.{SegmentComponent}
+use Rattle.tv_model.specs.Names.{is, has, is_file_name}
+use Rattle.tv_model.specs.Files.{Reads, Same, Rose}
+use Rattle.tv_model.specs.Footer.{HasBody}
+use Rattle.tv_model.specs.Segments.{required_names, all_required}
+use Rattle.tv_model.specs.Commits.{IsSegment}
+use Rattle.tv_model.specs.State.{State, FileState, Sealed, Open, Left, Readers, Reader, Snapshot, at, file_at, at_number, reader_at, searcher_at}
+use Rattle.tv_model.specs.Lines.{line}
+use Rattle.tv_model.specs.CommitEvents.{is_sealed}
+use Rattle.tv_model.specs.SoundStates.{IsWhole}
+use Rattle.tv_model.specs.Readable.{IsGoodFile, CanRead}
+use Rattle.tv_model.specs.ReaderEvents.{body_in, snapshot_in, reader_step, reload_of, reload_step, release_reader_of, release_reader_step}
+use Rattle.tv_model.specs.SearcherEvents.{searcher_of, searcher_step, show_of, show_step, bytes_of, bytes_step, bytes_found, body_at, release_searcher_of, release_searcher_step, show_line, bytes_line, searcher_line}
+use Rattle.tv_model.proofs.Entries.{is_itself, is_text}
+use Rattle.tv_model.proofs.Bodies.{body_of_good}
+use Rattle.tv_base.specs.Errors.{of_open_read}
+use Rattle.tv_base.specs.declared.io.IoFault.{IoFault}
+use Rattle.tv_base.specs.declared.io.IoKind.{IoKind}
+use Rattle.tv_base.specs.declared.io.IoKind.TheVariants.{Device, InvalidData, UnexpectedEof}
+use Rattle.tv_base.specs.declared.open_errors.OpenReadError.{OpenReadError}
+use Rattle.tv_base.specs.declared.open_errors.OpenReadError.TheVariants as read
+use Rattle.tv_base.specs.declared.open_errors.OpenWriteError.{OpenWriteError}
+use Rattle.tv_base.specs.declared.open_errors.OpenWriteError.TheVariants as write
+use Rattle.tv_base.specs.declared.error.TantivyError.{TantivyError}
+use Rattle.tv_base.specs.declared.open_errors.LockError.TheVariants as lock
+use Rattle.tv_base.specs.declared.error.TantivyError.TheVariants as errors
+use Rattle.tv_framing.specs.Footers.{Refuses}
+use Rattle.tv_managed.specs.Reading.{HasNoBody, NamesFile, ReadsBody, OpenBodyCause, ReadsOther, ReadsRefused, ReadsSuch, SomeOther, SomeRefused}
+use Rattle.tv_store.specs.StoreCauses.{IsBusy, WriteFault}
+use Rattle.tv_store.specs.ReadCauses.{Reading, ReadFault, ApplyCause}
+use Rattle.tv_store.specs.Bodies.{RefusesAt, RefusesFile, AreBodies, AreSealed, ReadsSegment, FailsAt}
+use Rattle.tv_store.specs.Kept.{Kept, FileHolds, Holds}
+use Rattle.tv_store.specs.Applying.{LacksIn, BadIn, HoldsNone}
+use Rattle.tv_store.specs.SearcherLines.{body_told, bytes_told}
+use Rattle.tv_store.specs.declared.readers.BodyAnswer.{BodyAnswer}
+use Rattle.tv_store.specs.declared.readers.BodyAnswer.TheVariants.{NoSearcher, NoFile, Line}
+use Rattle.tv_store.proofs.Holding.{same_holds}
+use Rattle.tv_store.proofs.CommitEvents.{all_at, required_are_files}
+
+-- ---- why the body of a file isn't read
+
+-- a file whose bytes are refused
+not_at_end : (kind : IoKind) → kind ≡ UnexpectedEof → kind ≢ Device
+not_at_end kind e d = let same : UnexpectedEof ≡ Device = sym e ∙ d in cc
+
+not_of_data : (kind : IoKind) → kind ≡ InvalidData → kind ≢ Device
+not_of_data kind e d = let same : InvalidData ≡ Device = sym e ∙ d in cc
+
+not_of_device : (bytes : List ℕ) (fault : IoFault) → Refuses bytes fault → fault.kind ≢ Device
+not_of_device bytes fault (inl h) = not_at_end fault.kind h.is.0
+not_of_device bytes fault (inr (inl h)) = not_of_data fault.kind h.is.0
+not_of_device bytes fault (inr (inr (inl h))) = not_of_data fault.kind h.is.0
+not_of_device bytes fault (inr (inr (inr (inl h)))) = not_at_end fault.kind h.is.0
+not_of_device bytes fault (inr (inr (inr (inr h)))) = not_of_data fault.kind h.is.0
+
+refused_at : (reads : Reads) (name : List ℕ) (error : OpenReadError) (bytes other : List ℕ) → reads name ≡ Some bytes → reads name ≡ Some other → RefusesFile bytes name error → HasNoBody other → RefusesAt reads name error
+refused_at reads name error bytes other is is_other why none =
+    let both : Some bytes ≡ Some other = sym is ∙ is_other in
+    let same : other ≡ bytes = cc in
+    record { bytes = bytes; there = is; why = why; no_body = subst HasNoBody same none }
+
+fault_at : (reads : Reads) (name : List ℕ) (fault : IoFault) (path : String Global) → string_bytes path ≡ name → fault.kind ≢ Device
+    → OpenBodyCause (reads name ≡ None) (ReadsRefused (reads name)) (ReadsOther (reads name)) (Unit {0}) (Unit {0}) (read.IoError fault path)
+    → OpenBodyCause (Unit {0}) (λ _. ReadsSuch (reads name) HasNoBody) (λ _. ReadsSuch (reads name) HasNoBody) (Unit {0}) (Unit {0}) (read.IoError fault path)
+    → RefusesAt reads name (read.IoError fault path)
+fault_at reads name fault path is_name other (inl device) o = absurd (other device.0)
+fault_at reads name fault path is_name other (inr h) (inl device) = absurd (other device.0)
+fault_at reads name fault path is_name other (inr h) (inr o) = refused_at reads name (read.IoError fault path) h.0 o.0 h.1 o.1 (is_name, h.2) o.2
+
+-- by what the managed directory says of it
+body_cause : (tells : Type 0) (reads : Reads) (name : List ℕ) (refused quiet : Type 0) (error : OpenReadError)
+    → is_file_name name ≡ true → OpenBodyCause quiet (λ fault. SomeRefused fault × quiet) (λ why. SomeOther why × quiet) refused quiet error → NamesFile name error
+    → (tells → OpenBodyCause (reads name ≡ None) (ReadsRefused (reads name)) (ReadsOther (reads name)) (Unit {0}) (Unit {0}) error)
+    → (tells → OpenBodyCause (Unit {0}) (λ _. ReadsSuch (reads name) HasNoBody) (λ _. ReadsSuch (reads name) HasNoBody) (Unit {0}) (Unit {0}) error)
+    → ApplyCause ⊥ refused quiet ⊥ (λ error. tells → RefusesAt reads name error) (λ path. (path ≡ name) × (tells → reads path ≡ None)) (of_open_read error)
+body_cause tells reads name refused quiet (read.FileDoesNotExist path) fits cause is_name err outside =
+    (cause, subst (λ (p : List ℕ). is_file_name p ≡ true) (sym is_name) fits, (is_name, λ t. subst (λ (p : List ℕ). reads p ≡ None) (sym is_name) (err t)))
+body_cause tells reads name refused quiet (read.IoError fault path) fits (inl device) is_name err outside = inl device
+body_cause tells reads name refused quiet (read.IoError fault path) fits (inr (some, still)) is_name err outside =
+    let other = not_of_device some.0 fault some.1 in
+    inr (other, still, subst (λ (p : List ℕ). is_file_name p ≡ true) (sym is_name) fits, λ t. fault_at reads name fault path is_name other (err t) (outside t))
+body_cause tells reads name refused quiet (read.IncompatibleIndex why) fits (some, still) is_name err outside =
+    (still, λ t. refused_at reads name (read.IncompatibleIndex why) (err t).0 (outside t).0 (err t).1 (outside t).1 (err t).2 (outside t).2)
+body_cause tells reads name refused quiet read.Memory fits cause is_name err outside = cause
+
+-- an error that was made of another
+pub failed_as : {A : Type 0} (result : Result A TantivyError) (given : TantivyError) (P : TantivyError → Type 0) → IsErrAnd result (λ e. e ≡ given) → P given → IfErr result P
+failed_as (Ok a) given P h p = tt
+failed_as (Err e) given P h p = subst P (sym h) p
+
+-- seen from the directory's value
+pub body_fails : {D : Type 0} (tells : Type 0) (reads : D → Reads) (faults : D → ℕ) (inside value after : D) (name given : List ℕ) (error : OpenReadError)
+    → inside ≡ value → given ≡ name → is_file_name given ≡ true
+    → OpenBodyCause (faults after ≡ faults inside) (λ fault. SomeRefused fault × (faults after ≡ faults inside)) (λ why. SomeOther why × (faults after ≡ faults inside)) (Rose (faults inside) (faults after)) (faults after ≡ faults inside) error → NamesFile given error
+    → (tells → OpenBodyCause (reads inside given ≡ None) (ReadsRefused (reads inside given)) (ReadsOther (reads inside given)) (Unit {0}) (Unit {0}) error)
+    → (tells → OpenBodyCause (Unit {0}) (λ _. ReadsSuch (reads inside given) HasNoBody) (λ _. ReadsSuch (reads inside given) HasNoBody) (Unit {0}) (Unit {0}) error)
+    → ApplyCause ⊥ (Rose (faults value) (faults after)) (faults after ≡ faults value) ⊥ (λ error. tells → RefusesAt (reads value) name error) (λ path. (path ≡ name) × (tells → reads value path ≡ None)) (of_open_read error)
+body_fails {D} tells reads faults inside value after name given error is_value text fits cause is_name err outside =
+    subst (λ (n : List ℕ). ApplyCause ⊥ (Rose (faults value) (faults after)) (faults after ≡ faults value) ⊥ (λ error. tells → RefusesAt (reads value) n error) (λ path. (path ≡ n) × (tells → reads value path ≡ None)) (of_open_read error)) text
+    (subst (λ (d : D). ApplyCause ⊥ (Rose (faults d) (faults after)) (faults after ≡ faults d) ⊥ (λ error. tells → RefusesAt (reads d) given error) (λ path. (path ≡ given) × (tells → reads d path ≡ None)) (of_open_read error)) is_value
+    (body_cause tells (reads inside) given (Rose (faults inside) (faults after)) (faults after ≡ faults inside) error fits cause is_name err outside))
+
+-- the body of a file that is read
+pub body_read : {D : Type 0} (reads : D → Reads) (inside value : D) (name given body : List ℕ) → inside ≡ value → given ≡ name → ReadsBody (reads inside given) body → ReadsBody (reads value name) body
+body_read {D} reads inside value name given body is_value text h = (h.0, ap (λ (d : D). reads d name) (sym is_value) ∙ ap (reads inside) (sym text) ∙ h.1, h.2)
+
+write_weaker : (refused more : Type 0) (error : OpenWriteError) → (refused → more) → WriteFault refused error → WriteFault more error
+write_weaker refused more (write.IoError fault path) f h = (h.0, f h.1)
+write_weaker refused more other f h = absurd h
+
+read_weaker : (refused quiet refused2 quiet2 : Type 0) (bad bad2 : OpenReadError → Type 0) (absent absent2 : List ℕ → Type 0) (error : OpenReadError)
+    → (refused → refused2) → (quiet → quiet2) → ((error : OpenReadError) → bad error → bad2 error) → ((path : List ℕ) → absent path → absent2 path)
+    → ReadFault refused quiet bad absent error → ReadFault refused2 quiet2 bad2 absent2 error
+read_weaker refused quiet refused2 quiet2 bad bad2 absent absent2 (read.IoError fault path) f g b a (inl h) = inl (h.0, f h.1)
+read_weaker refused quiet refused2 quiet2 bad bad2 absent absent2 (read.IoError fault path) f g b a (inr h) = inr (h.0, g h.1, h.2, b (read.IoError fault path) h.3)
+read_weaker refused quiet refused2 quiet2 bad bad2 absent absent2 (read.FileDoesNotExist path) f g b a h = (g h.0, h.1, a (string_bytes path) h.2)
+read_weaker refused quiet refused2 quiet2 bad bad2 absent absent2 (read.IncompatibleIndex why) f g b a h = (g h.0, b (read.IncompatibleIndex why) h.1)
+read_weaker refused quiet refused2 quiet2 bad bad2 absent absent2 other f g b a h = absurd h
+
+-- a cause that says more
+cause_weaker : (busy refused quiet spent busy2 refused2 quiet2 spent2 : Type 0) (bad bad2 : OpenReadError → Type 0) (absent absent2 : List ℕ → Type 0) (error : TantivyError)
+    → (busy → busy2) → (refused → refused2) → (quiet → quiet2) → (spent → spent2) → ((error : OpenReadError) → bad error → bad2 error) → ((path : List ℕ) → absent path → absent2 path)
+    → ApplyCause busy refused quiet spent bad absent error → ApplyCause busy2 refused2 quiet2 spent2 bad2 absent2 error
+cause_weaker busy refused quiet spent busy2 refused2 quiet2 spent2 bad bad2 absent absent2 (errors.IoError fault) y f g k b a h = (h.0, f h.1)
+cause_weaker busy refused quiet spent busy2 refused2 quiet2 spent2 bad bad2 absent absent2 (errors.OpenWriteError error) y f g k b a h = write_weaker refused refused2 error f h
+cause_weaker busy refused quiet spent busy2 refused2 quiet2 spent2 bad bad2 absent absent2 (errors.OpenReadError error) y f g k b a h = read_weaker refused quiet refused2 quiet2 bad bad2 absent absent2 error f g b a h
+cause_weaker busy refused quiet spent busy2 refused2 quiet2 spent2 bad bad2 absent absent2 (errors.LockFailure lock.LockBusy text) y f g k b a h = (y h.0, h.1)
+cause_weaker busy refused quiet spent busy2 refused2 quiet2 spent2 bad bad2 absent absent2 (errors.LockFailure (lock.IoError fault) text) y f g k b a h = ((h.0.0, f h.0.1), h.1)
+cause_weaker busy refused quiet spent busy2 refused2 quiet2 spent2 bad bad2 absent absent2 (errors.LockFailure lock.Memory text) y f g k b a h = absurd h.0
+cause_weaker busy refused quiet spent busy2 refused2 quiet2 spent2 bad bad2 absent absent2 errors.Exhausted y f g k b a h = (g h.0, k h.1)
+cause_weaker busy refused quiet spent busy2 refused2 quiet2 spent2 bad bad2 absent absent2 errors.Memory y f g k b a h = g h
+cause_weaker busy refused quiet spent busy2 refused2 quiet2 spent2 bad bad2 absent absent2 other y f g k b a h = absurd h
+
+-- ---- names of a list
+
+has_joined : (xs ys : List (List ℕ)) (n : List ℕ) → has (xs ++ ys) n ≡ (has xs n || has ys n)
+has_joined xs ys n = list_any-append (λ m. is m n) xs ys
+
+in_first : (a b : Bool) → a ≡ true → (a || b) ≡ true
+in_first true b h = refl
+in_first false b h = absurd (true≢false (sym h))
+
+in_second : (a b : Bool) → b ≡ true → (a || b) ≡ true
+in_second true b h = refl
+in_second false b h = h
+
+in_one : {P : Type 0} (a b : Bool) → (a ≡ true → P) → (b ≡ true → P) → (a || b) ≡ true → P
+in_one true b f g h = f refl
+in_one false b f g h = g h
+
+-- a name that stands in a list
+has_at : (names : List (List ℕ)) (i : ℕ) (name : List ℕ) → i < length names → name ≡ get_or names i name → has names name ≡ true
+has_at [] i name within at_i = absurd (omega arith)
+has_at (x ∷ xs) zero name within at_i = in_first (is x name) (has xs name) (subst (λ (m : List ℕ). is m name ≡ true) at_i (is_itself name))
+has_at (x ∷ xs) (suc i) name within at_i = in_second (is x name) (has xs name) (has_at xs i name (omega arith) at_i)
+
+-- what is true of some names and of one more
+all_pushed : (P : List ℕ → Type 0) (names : List (List ℕ)) (name : List ℕ) → ((n : List ℕ) → has names n ≡ true → P n) → P name → (n : List ℕ) → has (names ++ name ∷ []) n ≡ true → P n
+all_pushed P names name h p n among =
+    in_one {P = P n} (has names n) (has (name ∷ []) n) (h n)
+    (in_one {P = P n} (is name n) false (λ same. subst P (is_text name n same) p) (λ never. absurd (true≢false (sym never))))
+    (sym (has_joined names (name ∷ []) n) ∙ among)
+
+-- ---- sealed files
+
+sealed_is_some : (file : Option FileState) → is_sealed file ≡ true → is_some file ≡ true
+sealed_is_some None h = absurd (true≢false (sym h))
+sealed_is_some (Some file) h = refl
+
+-- the bytes of a sealed file are those that its name reads
+sealed_bytes : (file : Option FileState) (bytes : List ℕ) (written : Option (List ℕ)) → is_sealed file ≡ true → FileHolds file (Some bytes) written → file ≡ Some (Sealed bytes)
+sealed_bytes None bytes written h holds = absurd (true≢false (sym h))
+sealed_bytes (Some (Open body)) bytes written h holds = absurd (true≢false (sym h))
+sealed_bytes (Some Left) bytes written h holds = absurd (true≢false (sym h))
+sealed_bytes (Some (Sealed other)) bytes written h holds =
+    let same : Some bytes ≡ Some other = holds.0 in
+    let one : bytes ≡ other = cc in
+    ap (λ (b : List ℕ). Some (Sealed b)) (sym one)
+
+-- it is there
+sealed_reads : (file : Option FileState) (written : Option (List ℕ)) → is_sealed file ≡ true → FileHolds file None written → ⊥
+sealed_reads None written h holds = true≢false (sym h)
+sealed_reads (Some (Open body)) written h holds = true≢false (sym h)
+sealed_reads (Some Left) written h holds = true≢false (sym h)
+sealed_reads (Some (Sealed other)) written h holds = let never : None ≡ Some other = holds.0 in cc
+
+sealed_holds : (reads : Reads) (kept : Kept) (s : State) (n : List ℕ) → Holds reads kept s → is_sealed (file_at s n) ≡ true → FileHolds (file_at s n) (reads n) (at kept.open_files n)
+sealed_holds reads kept s n held h = held.files n (held.names n (sealed_is_some (file_at s n) h))
+
+read_is_sealed : (reads : Reads) (kept : Kept) (s : State) (n bytes : List ℕ) → Holds reads kept s → is_sealed (file_at s n) ≡ true → reads n ≡ Some bytes → file_at s n ≡ Some (Sealed bytes)
+read_is_sealed reads kept s n bytes held h e =
+    sealed_bytes (file_at s n) bytes (at kept.open_files n) h (subst (λ (r : Option (List ℕ)). FileHolds (file_at s n) r (at kept.open_files n)) e (sealed_holds reads kept s n held h))
+
+sealed_is_there : (reads : Reads) (kept : Kept) (s : State) (n : List ℕ) → Holds reads kept s → is_sealed (file_at s n) ≡ true → reads n ≡ None → ⊥
+sealed_is_there reads kept s n held h e =
+    sealed_reads (file_at s n) (at kept.open_files n) h (subst (λ (r : Option (List ℕ)). FileHolds (file_at s n) r (at kept.open_files n)) e (sealed_holds reads kept s n held h))
+
+good_file : (s : State) (n bytes body : List ℕ) → file_at s n ≡ Some (Sealed bytes) → HasBody bytes body → IsGoodFile s n
+good_file s n bytes body file has_body = (bytes, file, record { body = body; has_body = has_body })
+
+-- ---- the bodies of some files
+
+-- one more was read
+pub bodies_more : (reads : Reads) (kept : Kept) (s : State) (names : List (List ℕ)) (i : ℕ) (name body : List ℕ) (bodies more : List (List ℕ))
+    → i < length names → name ≡ get_or names i name → AreSealed s names → Holds reads kept s → ReadsBody (reads name) body → more ≡ bodies ++ body ∷ []
+    → AreBodies s (take i names) bodies → AreBodies s (take (i + 1) names) more
+bodies_more reads kept s names i name body bodies more within at_i sealed held reads_body put so_far =
+    let file : file_at s name ≡ Some (Sealed reads_body.0) = read_is_sealed reads kept s name reads_body.0 held (sealed.sealed name (has_at names i name within at_i)) reads_body.1 in
+    let shown : body_in (file_at s name) ≡ body = ap body_in file ∙ body_of_good reads_body.0 body reads_body.2 in
+    let front : take (i + 1) names ≡ take i names ++ name ∷ [] = take_more names i name within ∙ ap (λ (n : List ℕ). take i names ++ n ∷ []) (sym at_i) in
+    subst (λ (ns : List (List ℕ)). AreBodies s ns more) (sym front) (record {
+      each =
+          put
+          ∙ ap (λ (bs : List (List ℕ)). bs ++ body ∷ []) so_far.each
+          ∙ ap (λ (b : List ℕ). map (λ n. body_in (file_at s n)) (take i names) ++ b ∷ []) (sym shown)
+          ∙ sym (map_push (λ n. body_in (file_at s n)) (take i names) name);
+      good = all_pushed (IsGoodFile s) (take i names) name so_far.good (good_file s name reads_body.0 body file reads_body.2);
+    })
+
+refused_before : (first now : Reads) (path : List ℕ) (error : OpenReadError) → Same first now → RefusesAt now path error → RefusesAt first path error
+refused_before first now path error same h = record { bytes = h.bytes; there = sym (same path) ∙ h.there; why = h.why; no_body = h.no_body }
+
+-- one of them isn't read
+pub fails_here : (tells : Type 0) (first now : Reads) (names : List (List ℕ)) (i : ℕ) (name : List ℕ) (start before after : ℕ) (error : TantivyError)
+    → (tells → Same first now) → before ≡ start → i < length names → name ≡ get_or names i name
+    → ApplyCause ⊥ (Rose before after) (after ≡ before) ⊥ (λ error. tells → RefusesAt now name error) (λ path. (path ≡ name) × (tells → now path ≡ None)) error
+    → FailsAt tells first names (Rose start after) (after ≡ start) error
+fails_here tells first now names i name start before after error same quiet within at_i h =
+    let there : has names name ≡ true = has_at names i name within at_i in
+    cause_weaker ⊥ (Rose before after) (after ≡ before) ⊥ ⊥ (Rose start after) (after ≡ start) ⊥
+    (λ error. tells → RefusesAt now name error) (λ error. (path : List ℕ) × (has names path ≡ true) × (tells → RefusesAt first path error))
+    (λ path. (path ≡ name) × (tells → now path ≡ None)) (λ path. (has names path ≡ true) × (tells → first path ≡ None)) error
+    (λ never. never) (λ rose. subst (λ (x : ℕ). Rose x after) quiet rose) (λ still. still ∙ quiet) (λ never. never)
+    (λ error b. (name, there, λ t. refused_before first now name error (same t) (b t)))
+    (λ path a. (subst (λ (p : List ℕ). has names p ≡ true) (sym a.0) there, λ t. sym (same t path) ∙ a.1 t)) h
+
+-- ---- the segments of a commit
+
+-- what a segment requires is among what its commit does
+has_required : (segments : List (List ℕ × LiveSegment)) (i : ℕ) (entry : List ℕ × LiveSegment) (n : List ℕ)
+    → i < length segments → entry ≡ get_or segments i entry → has (required_names entry.0 entry.1) n ≡ true → has (all_required segments) n ≡ true
+has_required [] i entry n within at_i h = absurd (omega arith)
+has_required (e ∷ es) zero entry n within at_i h =
+    has_joined (required_names e.0 e.1) (all_required es) n
+    ∙ in_first _ _ (subst (λ (x : List ℕ × LiveSegment). has (required_names x.0 x.1) n ≡ true) at_i h)
+has_required (e ∷ es) (suc i) entry n within at_i h =
+    has_joined (required_names e.0 e.1) (all_required es) n ∙ in_second _ _ (has_required es i entry n (omega arith) at_i h)
+
+-- the files of a segment of the commit are sealed
+pub segment_is_sealed : (reads : Reads) (kept : Kept) (s : State) (segments : List (List ℕ × LiveSegment)) (i : ℕ) (entry : List ℕ × LiveSegment)
+    → segments ≡ s.commit.segments → i < length segments → entry ≡ get_or segments i entry → IsWhole s → Holds reads kept s → AreSealed s (required_names entry.0 entry.1)
+segment_is_sealed reads kept s segments i entry are within at_i whole held =
+    let segment : IsSegment entry = all_at IsSegment segments i entry (subst (AllByRecursion IsSegment) (sym are) held.meta.2.is_commit.segments) within at_i in
+    record {
+      files = required_are_files entry.0 entry.1 segment.id;
+      sealed = λ n h. whole.each n (subst (λ (es : List (List ℕ × LiveSegment)). has (all_required es) n ≡ true) are (has_required segments i entry n within at_i h));
+    }
+
+-- some segments were read, with the bodies of their files
+pub record AreRead (s : State) (segments shown : List (List ℕ × LiveSegment)) (bodies : List (List (List ℕ))) : Type 0 where
+  pub are : shown ≡ segments
+  pub each : bodies ≡ map (λ e. map (λ name. body_in (file_at s name)) (required_names e.0 e.1)) segments
+  pub good : (n : List ℕ) → has (all_required segments) n ≡ true → IsGoodFile s n
+
+required_pushed : (P : List ℕ → Type 0) (segments : List (List ℕ × LiveSegment)) (entry : List ℕ × LiveSegment)
+    → ((n : List ℕ) → has (all_required segments) n ≡ true → P n) → ((n : List ℕ) → has (required_names entry.0 entry.1) n ≡ true → P n)
+    → (n : List ℕ) → has (all_required (segments ++ entry ∷ [])) n ≡ true → P n
+required_pushed P [] entry h p n among =
+    in_one {P = P n} (has (required_names entry.0 entry.1) n) false (p n) (λ never. absurd (true≢false (sym never))) (sym (has_joined (required_names entry.0 entry.1) [] n) ∙ among)
+required_pushed P (e ∷ es) entry h p n among =
+    in_one {P = P n} (has (required_names e.0 e.1) n) (has (all_required (es ++ entry ∷ [])) n)
+    (λ k. h n (has_joined (required_names e.0 e.1) (all_required es) n ∙ in_first _ _ k))
+    (required_pushed P es entry (λ m k. h m (has_joined (required_names e.0 e.1) (all_required es) m ∙ in_second _ _ k)) p n)
+    (sym (has_joined (required_names e.0 e.1) (all_required (es ++ entry ∷ [])) n) ∙ among)
+
+-- one more was
+pub read_more : (s : State) (segments : List (List ℕ × LiveSegment)) (i : ℕ) (entry : List ℕ × LiveSegment) (read_id : List ℕ) (read_segment : LiveSegment) (bodies : List (List ℕ))
+    (shown shown_more : List (List ℕ × LiveSegment)) (all all_more : List (List (List ℕ)))
+    → i < length segments → entry ≡ get_or segments i entry → ReadsSegment s entry.0 entry.1 read_id read_segment bodies
+    → shown_more ≡ shown ++ (read_id, read_segment) ∷ [] → all_more ≡ all ++ bodies ∷ []
+    → AreRead s (take i segments) shown all → AreRead s (take (i + 1) segments) shown_more all_more
+read_more s segments i entry read_id read_segment bodies shown shown_more all all_more within at_i reads_segment put put_bodies so_far =
+    let front : take (i + 1) segments ≡ take i segments ++ entry ∷ [] = take_more segments i entry within ∙ ap (λ (e : List ℕ × LiveSegment). take i segments ++ e ∷ []) (sym at_i) in
+    let is_entry : (read_id, read_segment) ≡ entry =
+    ap (λ (id : List ℕ). (id, read_segment)) reads_segment.id_is ∙ ap (λ (segment : LiveSegment). (entry.0, segment)) reads_segment.segment_is in
+    subst (λ (es : List (List ℕ × LiveSegment)). AreRead s es shown_more all_more) (sym front) (record {
+      are =
+          put
+          ∙ ap (λ (es : List (List ℕ × LiveSegment)). es ++ (read_id, read_segment) ∷ []) so_far.are
+          ∙ ap (λ (e : List ℕ × LiveSegment). take i segments ++ e ∷ []) is_entry;
+      each =
+          put_bodies
+          ∙ ap (λ (bs : List (List (List ℕ))). bs ++ bodies ∷ []) so_far.each
+          ∙ ap (λ (b : List (List ℕ)). map (λ e. map (λ name. body_in (file_at s name)) (required_names e.0 e.1)) (take i segments) ++ b ∷ []) reads_segment.bodies_are.each
+          ∙ sym (map_push (λ e. map (λ name. body_in (file_at s name)) (required_names e.0 e.1)) (take i segments) entry);
+      good = required_pushed (IsGoodFile s) (take i segments) entry so_far.good reads_segment.bodies_are.good;
+    })
+
+-- all were: this is what is shown
+pub all_read : (s : State) (segments shown : List (List ℕ × LiveSegment)) (bodies : List (List (List ℕ))) (i generation opstamp : ℕ) (payload : Option (List ℕ))
+    → segments ≡ s.commit.segments → opstamp ≡ s.commit.opstamp → payload ≡ s.commit.payload → length segments ≤ i → AreRead s (take i segments) shown bodies
+    → (record { generation = generation; commit = record { opstamp = opstamp; payload = payload; segments = shown }; bodies = bodies } ≡ snapshot_in s generation) × CanRead s
+all_read s segments shown bodies i generation opstamp payload are opstamp_is payload_is h so_far =
+    let whole : AreRead s s.commit.segments shown bodies =
+    subst (λ (es : List (List ℕ × LiveSegment)). AreRead s es shown bodies) (take_all i segments h ∙ are) so_far in (
+      ap (λ (o : ℕ). record { generation = generation; commit = record { opstamp = o; payload = payload; segments = shown }; bodies = bodies }) opstamp_is
+          ∙ ap (λ (p : Option (List ℕ)). record { generation = generation; commit = record { opstamp = s.commit.opstamp; payload = p; segments = shown }; bodies = bodies }) payload_is
+          ∙ ap (λ (es : List (List ℕ × LiveSegment)). record { generation = generation; commit = record { opstamp = s.commit.opstamp; payload = s.commit.payload; segments = es }; bodies = bodies }) whole.are
+          ∙ ap (λ (bs : List (List (List ℕ))). record { generation = generation; commit = s.commit; bodies = bs }) whole.each,
+      record { each = whole.good },
+    )
+
+-- a file of the commit isn't read
+pub snapshot_fails : (tells : Type 0) (first now : Reads) (kept : Kept) (segments : List (List ℕ × LiveSegment)) (i : ℕ) (entry : List ℕ × LiveSegment) (start before after : ℕ) (error : TantivyError)
+    → (tells → Same first now) → before ≡ start → segments ≡ kept.commit.segments → i < length segments → entry ≡ get_or segments i entry
+    → FailsAt tells now (required_names entry.0 entry.1) (Rose before after) (after ≡ before) error
+    → ApplyCause ⊥ (Rose start after) (after ≡ start) ⊥ (LacksIn tells first kept) (λ path. HoldsNone tells first kept) error
+snapshot_fails tells first now kept segments i entry start before after error same quiet are within at_i h =
+    let required : (s : State) (path : List ℕ) → Holds first kept s → has (required_names entry.0 entry.1) path ≡ true → has (all_required s.commit.segments) path ≡ true =
+    λ s path held among.
+    subst (λ (es : List (List ℕ × LiveSegment)). has (all_required es) path ≡ true) (are ∙ ap (λ k. k.segments) held.commit) (has_required segments i entry path within at_i among) in
+    let sealed : (s : State) (path : List ℕ) → Holds first kept s → IsWhole s → has (required_names entry.0 entry.1) path ≡ true → is_sealed (file_at s path) ≡ true =
+    λ s path held whole among. whole.each path (required s path held among) in
+    cause_weaker ⊥ (Rose before after) (after ≡ before) ⊥ ⊥ (Rose start after) (after ≡ start) ⊥
+    (λ error. (path : List ℕ) × (has (required_names entry.0 entry.1) path ≡ true) × (tells → RefusesAt now path error)) (LacksIn tells first kept)
+    (λ path. (has (required_names entry.0 entry.1) path ≡ true) × (tells → now path ≡ None)) (λ path. HoldsNone tells first kept) error
+    (λ never. never) (λ rose. subst (λ (x : ℕ). Rose x after) quiet rose) (λ still. still ∙ quiet) (λ never. never)
+    (λ error b t s held whole.
+    let no : RefusesAt first b.0 error = refused_before first now b.0 error (same t) (b.2 t) in
+    record {
+      path = b.0;
+      required = required s b.0 held b.1;
+      bytes = no.bytes;
+      sealed = read_is_sealed first kept s b.0 no.bytes held (sealed s b.0 held whole b.1) no.there;
+      why = no.why;
+      no_body = no.no_body;
+    })
+    (λ path a t s held whole. sealed_is_there first kept s path held (sealed s path held whole a.0) (sym (same t path) ∙ a.1 t)) h
+
+-- a read of the commit's files that failed, seen from before a call that changed nothing and after another one
+pub read_later : (tells : Type 0) (first now : Reads) (kept later : Kept) (busy : Type 0) (start before after end : ℕ) (error : TantivyError)
+    → (tells → Same first now) → later ≡ kept → before ≡ start → end ≡ after
+    → ApplyCause ⊥ (Rose before after) (after ≡ before) ⊥ (LacksIn tells now later) (λ path. HoldsNone tells now later) error
+    → ApplyCause busy (Rose start end) (end ≡ start) ⊥ (LacksIn tells first kept) (λ path. HoldsNone tells first kept) error
+read_later tells first now kept later busy start before after end error same kept_is quiet last h =
+    cause_weaker ⊥ (Rose before after) (after ≡ before) ⊥ busy (Rose start end) (end ≡ start) ⊥
+    (LacksIn tells now later) (LacksIn tells first kept) (λ path. HoldsNone tells now later) (λ path. HoldsNone tells first kept) error
+    (λ never. absurd never) (λ rose. subst (λ (x : ℕ). Rose start x) (sym last) (subst (λ (x : ℕ). Rose x after) quiet rose)) (λ still. last ∙ still ∙ quiet) (λ never. never)
+    (λ error b t s held whole. b t s (same_holds first now kept later s (same t) kept_is held) whole)
+    (λ path a t s held whole. a t s (same_holds first now kept later s (same t) kept_is held) whole) h
+
+-- a lock that isn't given, seen from before a call that changed nothing
+pub busy_before : (tells_locks : Type 0) (held held2 : Bool) (start before : ℕ) {after : ℕ} → (tells_locks → held ≡ held2) → before ≡ start
+    → IsBusy tells_locks (held ≡ true) (Rose before after) → IsBusy tells_locks (held2 ≡ true) (Rose start after)
+busy_before tells_locks held held2 start before {after} same quiet h = record {
+  told = λ t. sym (same t) ∙ h.told t;
+  untold = ⊎_map (λ t. t) (λ rose. subst (λ (x : ℕ). Rose x after) quiet rose) h.untold;
+}
+
+-- the same at an event that reads, seen from before a call that changed nothing
+pub later_fails : (tells : Type 0) (first now : Reads) (kept later : Kept) (event : Event) (reading : (s : State) → Holds first kept s → Reading s event) (more busy busy2 : Type 0) (start before after : ℕ) (error : TantivyError)
+    → (busy → busy2) → (tells → Same first now) → later ≡ kept → before ≡ start
+    → ApplyCause busy (Rose before after) (after ≡ before) ⊥ (LacksIn tells now later) (λ path. HoldsNone tells now later) error
+    → ApplyCause busy2 (Rose start after) (after ≡ start) more (BadIn tells first kept event) (λ path. HoldsNone tells first kept) error
+later_fails tells first now kept later event reading more busy busy2 start before after error locks same kept_is quiet h =
+    cause_weaker busy (Rose before after) (after ≡ before) ⊥ busy2 (Rose start after) (after ≡ start) more
+    (LacksIn tells now later) (BadIn tells first kept event) (λ path. HoldsNone tells now later) (λ path. HoldsNone tells first kept) error
+    locks (λ rose. subst (λ (x : ℕ). Rose x after) quiet rose) (λ still. still ∙ quiet) (λ never. absurd never)
+    (λ error b t s held whole. (reading s held, b t s (same_holds first now kept later s (same t) kept_is held) whole))
+    (λ path a t s held whole. a t s (same_holds first now kept later s (same t) kept_is held) whole) h
+
+-- ---- what is held
+
+-- only who reads changed
+reading_holds : (reads : Reads) (kept : Kept) (s : State) (now : Readers) → Holds reads kept s → Holds reads (record kept { reading = now }) (record s { reading = now })
+reading_holds reads kept s now h = record {
+  live = h.live;
+  next = h.next;
+  commit = h.commit;
+  managed = h.managed;
+  segments = h.segments;
+  names = h.names;
+  files = h.files;
+  left = h.left;
+  reading = refl;
+  meta = h.meta;
+  listing = h.listing;
+  listed = h.listed;
+}
+
+-- a step that changes only who reads
+changes_readers : (reads : Reads) (kept : Kept) (s : State) (now then : Readers) → now ≡ then → Holds reads kept s → Holds reads (record kept { reading = now }) (record s { reading = then })
+changes_readers reads kept s now then e h = subst (λ (r : Readers). Holds reads (record kept { reading = now }) (record s { reading = r })) e (reading_holds reads kept s now h)
+
+-- ---- the steps
+
+pub mapped : {A B : Type 0} (f : A → B) (o : Option A) (b : B) → Some b ≡ option_map f o → (x : A) × (o ≡ Some x) × (b ≡ f x)
+mapped f None b e = absurd cc
+mapped f (Some x) b e = let same : b ≡ f x = cc in (x, refl, same)
+
+pub not_mapped : {A B : Type 0} (f : A → B) (o : Option A) → None ≡ option_map f o → o ≡ None
+not_mapped f None e = refl
+not_mapped f (Some x) e = absurd cc
+
+pub isnt_there : {A : Type 0} (o : Option A) → o ≡ None → IsSome o → ⊥
+isnt_there o e h = true≢false (sym h ∙ ap is_some e)
+
+-- by a test
+pub has_one : {A : Type 0} (o : Option A) (b : Bool) → b ≡ is_some o → b ≡ true → (x : A) × (o ≡ Some x)
+has_one None b e t = absurd (true≢false (sym t ∙ e))
+has_one (Some x) b e t = (x, refl)
+
+pub has_none : {A : Type 0} (o : Option A) (b : Bool) → b ≡ is_some o → b ≡ false → o ≡ None
+has_none None b e f = refl
+has_none (Some x) b e f = absurd (true≢false (sym e ∙ f))
+
+pub tested_one : {A B : Type 0} (f : A → B) (o : Option A) (n : Option B) (b : Bool) → n ≡ option_map f o → is_some n ≡ not b → b ≡ false → (x : A) × (o ≡ Some x)
+tested_one f None n b e t is_false = absurd (true≢false (sym (ap not is_false) ∙ sym t ∙ ap is_some e))
+tested_one f (Some x) n b e t is_false = (x, refl)
+
+pub tested_none : {A B : Type 0} (f : A → B) (o : Option A) (n : Option B) (b : Bool) → n ≡ option_map f o → is_some n ≡ not b → b ≡ true → o ≡ None
+tested_none f None n b e t is_true = refl
+tested_none f (Some x) n b e t is_true = absurd (true≢false (sym (ap is_some e) ∙ t ∙ ap not is_true))
+
+-- an answer of three words
+pub three_words : (text one two three first second third fourth answer : List ℕ) → first ≡ text → second ≡ first ++ 32 ∷ one → third ≡ second ++ 32 ∷ two → fourth ≡ third ++ 32 ∷ three → answer ≡ fourth → answer ≡ line text (one ∷ two ∷ three ∷ [])
+three_words text one two three first second third fourth answer a b c d e =
+    e
+    ∙ d
+    ∙ ap (λ (t : List ℕ). t ++ 32 ∷ three) c
+    ∙ ap (λ (t : List ℕ). (t ++ 32 ∷ two) ++ 32 ∷ three) b
+    ∙ ap (λ (t : List ℕ). ((t ++ 32 ∷ one) ++ 32 ∷ two) ++ 32 ∷ three) a
+
+-- a new reader
+pub reader_added : (reads : Reads) (kept : Kept) (s : State) (policy : ReloadPolicy) (shown : Snapshot) (now : Readers) (answer : List ℕ)
+    → Holds reads kept s → shown ≡ snapshot_in s 0
+    → now ≡ record kept.reading { readers = insert_entry nat_cmp kept.reading.readers kept.reading.next_reader (record { policy = policy; next = 1; shown = shown }); next_reader = kept.reading.next_reader + 1 }
+    → answer ≡ line (codes "reader") (decimal kept.reading.next_reader ∷ decimal 0 ∷ decimal kept.commit.opstamp ∷ [])
+    → (answer ≡ (reader_step s policy).0) × Holds reads (record kept { reading = now }) (reader_step s policy).1
+reader_added reads kept s policy shown now answer held shown_is put said = (
+  said
+      ∙ ap (λ (r : Readers). line (codes "reader") (decimal r.next_reader ∷ decimal 0 ∷ decimal kept.commit.opstamp ∷ [])) held.reading
+      ∙ ap (λ c. line (codes "reader") (decimal s.reading.next_reader ∷ decimal 0 ∷ decimal c.opstamp ∷ [])) held.commit,
+  changes_readers reads kept s now (record s.reading { readers = insert_entry nat_cmp s.reading.readers s.reading.next_reader (record { policy = policy; next = 1; shown = snapshot_in s 0 }); next_reader = s.reading.next_reader + 1 })
+      (put
+      ∙ ap (λ (r : Readers). record r { readers = insert_entry nat_cmp r.readers r.next_reader (record { policy = policy; next = 1; shown = shown }); next_reader = r.next_reader + 1 }) held.reading
+      ∙ ap (λ (x : Snapshot). record s.reading { readers = insert_entry nat_cmp s.reading.readers s.reading.next_reader (record { policy = policy; next = 1; shown = x }); next_reader = s.reading.next_reader + 1 }) shown_is) held,
+)
+
+-- no such reader
+pub reload_unknown : (reads : Reads) (kept : Kept) (s : State) (number : ℕ) (answer : List ℕ)
+    → reader_at s number ≡ None → answer ≡ line (codes "refused") (codes "unknown-reader" ∷ []) → Holds reads kept s
+    → (answer ≡ (reload_step s number).0) × Holds reads kept (reload_step s number).1
+reload_unknown reads kept s number answer none said held = subst (λ (o : Option Reader). (answer ≡ (reload_of s number o).0) × Holds reads kept (reload_of s number o).1) (sym none) (said, held)
+
+pub release_unknown : (reads : Reads) (kept : Kept) (s : State) (number : ℕ) (answer : List ℕ)
+    → reader_at s number ≡ None → answer ≡ line (codes "refused") (codes "unknown-reader" ∷ []) → Holds reads kept s
+    → (answer ≡ (release_reader_step s number).0) × Holds reads kept (release_reader_step s number).1
+release_unknown reads kept s number answer none said held = subst (λ (o : Option Reader). (answer ≡ (release_reader_of s number o).0) × Holds reads kept (release_reader_of s number o).1) (sym none) (said, held)
+
+pub searcher_unknown : (reads : Reads) (kept : Kept) (s : State) (number : ℕ) (answer : List ℕ)
+    → reader_at s number ≡ None → answer ≡ line (codes "refused") (codes "unknown-reader" ∷ []) → Holds reads kept s
+    → (answer ≡ (searcher_step s number).0) × Holds reads kept (searcher_step s number).1
+searcher_unknown reads kept s number answer none said held = subst (λ (o : Option Reader). (answer ≡ (searcher_of s o).0) × Holds reads kept (searcher_of s o).1) (sym none) (said, held)
+
+-- a reader shows the current commit
+pub reloaded : (reads : Reads) (kept : Kept) (s : State) (number : ℕ) (reader : Reader) (shown : Snapshot) (now : Readers) (answer : List ℕ)
+    → Holds reads kept s → at_number kept.reading.readers number ≡ Some reader → shown ≡ snapshot_in s reader.next
+    → now ≡ record kept.reading { readers = insert_entry nat_cmp kept.reading.readers number (record reader { next = reader.next + 1; shown = shown }) }
+    → answer ≡ line (codes "published") (decimal number ∷ decimal reader.next ∷ decimal kept.commit.opstamp ∷ [])
+    → (answer ≡ (reload_step s number).0) × Holds reads (record kept { reading = now }) (reload_step s number).1
+reloaded reads kept s number reader shown now answer held there shown_is put said =
+    let found : reader_at s number ≡ Some reader = ap (λ (r : Readers). at_number r.readers number) (sym held.reading) ∙ there in
+    subst (λ (o : Option Reader). (answer ≡ (reload_of s number o).0) × Holds reads (record kept { reading = now }) (reload_of s number o).1) (sym found) (
+      said ∙ ap (λ c. line (codes "published") (decimal number ∷ decimal reader.next ∷ decimal c.opstamp ∷ [])) held.commit,
+      changes_readers reads kept s now (record s.reading { readers = insert_entry nat_cmp s.reading.readers number (record reader { next = reader.next + 1; shown = snapshot_in s reader.next }) })
+          (put
+          ∙ ap (λ (r : Readers). record r { readers = insert_entry nat_cmp r.readers number (record reader { next = reader.next + 1; shown = shown }) }) held.reading
+          ∙ ap (λ (x : Snapshot). record s.reading { readers = insert_entry nat_cmp s.reading.readers number (record reader { next = reader.next + 1; shown = x }) }) shown_is) held,
+    )
+
+-- a reader ends
+pub reader_released : (reads : Reads) (kept : Kept) (s : State) (number : ℕ) (reader : Reader) (now : Readers) (answer : List ℕ)
+    → Holds reads kept s → at_number kept.reading.readers number ≡ Some reader
+    → now ≡ record kept.reading { readers = remove_entry (is_at (nat_cmp number)) kept.reading.readers } → answer ≡ codes "released"
+    → (answer ≡ (release_reader_step s number).0) × Holds reads (record kept { reading = now }) (release_reader_step s number).1
+reader_released reads kept s number reader now answer held there cut said =
+    let found : reader_at s number ≡ Some reader = ap (λ (r : Readers). at_number r.readers number) (sym held.reading) ∙ there in
+    subst (λ (o : Option Reader). (answer ≡ (release_reader_of s number o).0) × Holds reads (record kept { reading = now }) (release_reader_of s number o).1) (sym found) (
+      said,
+      changes_readers reads kept s now (record s.reading { readers = remove_entry (is_at (nat_cmp number)) s.reading.readers })
+          (cut ∙ ap (λ (r : Readers). record r { readers = remove_entry (is_at (nat_cmp number)) r.readers }) held.reading) held,
+    )
+
+-- a new searcher
+pub searcher_added : (reads : Reads) (kept : Kept) (s : State) (number : ℕ) (reader : Reader) (now : Readers) (answer : List ℕ)
+    → Holds reads kept s → at_number kept.reading.readers number ≡ Some reader
+    → now ≡ record kept.reading { searchers = insert_entry nat_cmp kept.reading.searchers kept.reading.next_searcher reader.shown; next_searcher = kept.reading.next_searcher + 1 }
+    → answer ≡ searcher_line kept.reading.next_searcher reader
+    → (answer ≡ (searcher_step s number).0) × Holds reads (record kept { reading = now }) (searcher_step s number).1
+searcher_added reads kept s number reader now answer held there put said =
+    let found : reader_at s number ≡ Some reader = ap (λ (r : Readers). at_number r.readers number) (sym held.reading) ∙ there in
+    subst (λ (o : Option Reader). (answer ≡ (searcher_of s o).0) × Holds reads (record kept { reading = now }) (searcher_of s o).1) (sym found) (
+      said ∙ ap (λ (r : Readers). searcher_line r.next_searcher reader) held.reading,
+      changes_readers reads kept s now (record s.reading { searchers = insert_entry nat_cmp s.reading.searchers s.reading.next_searcher reader.shown; next_searcher = s.reading.next_searcher + 1 })
+          (put ∙ ap (λ (r : Readers). record r { searchers = insert_entry nat_cmp r.searchers r.next_searcher reader.shown; next_searcher = r.next_searcher + 1 }) held.reading) held,
+    )
+
+-- what a searcher shows
+pub shown_by : (reads : Reads) (kept : Kept) (s : State) (number : ℕ) (shown : Snapshot) (answer : List ℕ)
+    → Holds reads kept s → searcher_at s number ≡ Some shown → answer ≡ show_line number shown
+    → (answer ≡ (show_step s number).0) × Holds reads kept (show_step s number).1
+shown_by reads kept s number shown answer held found said =
+    subst (λ (o : Option Snapshot). (answer ≡ (show_of s number o).0) × Holds reads kept (show_of s number o).1) (sym found) (said, held)
+
+pub show_unknown : (reads : Reads) (kept : Kept) (s : State) (number : ℕ) (answer : List ℕ)
+    → searcher_at s number ≡ None → answer ≡ line (codes "refused") (codes "unknown-searcher" ∷ []) → Holds reads kept s
+    → (answer ≡ (show_step s number).0) × Holds reads kept (show_step s number).1
+show_unknown reads kept s number answer none said held = subst (λ (o : Option Snapshot). (answer ≡ (show_of s number o).0) × Holds reads kept (show_of s number o).1) (sym none) (said, held)
+
+-- a searcher ends
+pub end_unknown : (reads : Reads) (kept : Kept) (s : State) (number : ℕ) (answer : List ℕ)
+    → searcher_at s number ≡ None → answer ≡ line (codes "refused") (codes "unknown-searcher" ∷ []) → Holds reads kept s
+    → (answer ≡ (release_searcher_step s number).0) × Holds reads kept (release_searcher_step s number).1
+end_unknown reads kept s number answer none said held = subst (λ (o : Option Snapshot). (answer ≡ (release_searcher_of s number o).0) × Holds reads kept (release_searcher_of s number o).1) (sym none) (said, held)
+
+pub searcher_released : (reads : Reads) (kept : Kept) (s : State) (number : ℕ) (shown : Snapshot) (now : Readers) (answer : List ℕ)
+    → Holds reads kept s → at_number kept.reading.searchers number ≡ Some shown
+    → now ≡ record kept.reading { searchers = remove_entry (is_at (nat_cmp number)) kept.reading.searchers } → answer ≡ codes "released"
+    → (answer ≡ (release_searcher_step s number).0) × Holds reads (record kept { reading = now }) (release_searcher_step s number).1
+searcher_released reads kept s number shown now answer held there cut said =
+    let found : searcher_at s number ≡ Some shown = ap (λ (r : Readers). at_number r.searchers number) (sym held.reading) ∙ there in
+    subst (λ (o : Option Snapshot). (answer ≡ (release_searcher_of s number o).0) × Holds reads (record kept { reading = now }) (release_searcher_of s number o).1) (sym found) (
+      said,
+      changes_readers reads kept s now (record s.reading { searchers = remove_entry (is_at (nat_cmp number)) s.reading.searchers })
+          (cut ∙ ap (λ (r : Readers). record r { searchers = remove_entry (is_at (nat_cmp number)) r.searchers }) held.reading) held,
+    )
+
+-- the line by which a body is told
+abbrev pub Answers : BodyAnswer → List ℕ → Type 0
+Answers NoSearcher answer = answer ≡ line (codes "refused") (codes "unknown-searcher" ∷ [])
+Answers NoFile answer = answer ≡ line (codes "refused") (codes "unknown-file" ∷ [])
+Answers (Line text) answer = answer ≡ text
+
+-- what is told of a body is the step's answer
+body_found : (reads : Reads) (kept : Kept) (s : State) (number ord : ℕ) (component : SegmentComponent) (body : Option (List ℕ)) (told : BodyAnswer) (answer : List ℕ)
+    → told ≡ body_told (option_map (bytes_line number ord component) body) → Answers told answer → Holds reads kept s
+    → (answer ≡ (bytes_found s number ord component body).0) × Holds reads kept (bytes_found s number ord component body).1
+body_found reads kept s number ord component None told answer e said held = (subst (λ (t : BodyAnswer). Answers t answer) e said, held)
+body_found reads kept s number ord component (Some body) told answer e said held = (subst (λ (t : BodyAnswer). Answers t answer) e said, held)
+
+body_of : (reads : Reads) (kept : Kept) (s : State) (number ord : ℕ) (component : SegmentComponent) (shown : Option Snapshot) (told : BodyAnswer) (answer : List ℕ)
+    → told ≡ bytes_told number ord component shown → Answers told answer → Holds reads kept s
+    → (answer ≡ (bytes_of s number ord component shown).0) × Holds reads kept (bytes_of s number ord component shown).1
+body_of reads kept s number ord component None told answer e said held = (subst (λ (t : BodyAnswer). Answers t answer) e said, held)
+body_of reads kept s number ord component (Some shown) told answer e said held = body_found reads kept s number ord component (body_at shown ord component) told answer e said held
+
+pub body_said : (reads : Reads) (kept : Kept) (s : State) (number ord : ℕ) (component : SegmentComponent) (searchers : List (ℕ × Snapshot)) (told : BodyAnswer) (answer : List ℕ)
+    → told ≡ bytes_told number ord component (at_number searchers number) → searchers ≡ s.reading.searchers → Answers told answer → Holds reads kept s
+    → (answer ≡ (bytes_step s number ord component).0) × Holds reads kept (bytes_step s number ord component).1
+body_said reads kept s number ord component searchers told answer e same said held =
+    body_of reads kept s number ord component (searcher_at s number) told answer (e ∙ ap (λ (es : List (ℕ × Snapshot)). bytes_told number ord component (at_number es number)) same) said held

@@ -1,0 +1,180 @@
+-- What the steps of the events say, put together.
+use Rattle.std.proofs.Common.{ℕ, ◌≡◌, ◌+◌, ◌≤◌, Bool, true, false, true≢false, inl, List, [], ◌∷◌, length, Option, Some, None, sym, ap, subst, ◌∙◌, arith, refl, Result, Ok, Err, IfErr}
+use Rattle.std.specs.Prelude.{is_some, IfOk, OnOk, OnErr}
+use Rattle.std.specs.List.{AllByRecursion}
+use Rattle.tv_model.specs.declared.event.Event.{Event}
+use Rattle.tv_base.specs.declared.open_errors.OpenReadError.{OpenReadError}
+use Rattle.tv_base.specs.declared.open_errors.LockError.TheVariants as lock
+use Rattle.tv_base.specs.declared.error.TantivyError.{TantivyError}
+use Rattle.tv_base.specs.declared.error.TantivyError.TheVariants as errors
+use Rattle.tv_store.specs.Kept.{Kept, Holds, AtMost}
+use Rattle.tv_store.specs.ReaderNumbers.{FewNumbers}
+use Rattle.tv_store.specs.Applying.{Stepped, LeavesOldOrNew}
+use Rattle.tv_store.specs.ReadCauses.{ApplyCause}
+use Rattle.tv_store.proofs.Holding.{same_holds}
+use Rattle.tv_store.proofs.FewNumbers.{few_more}
+use Rattle.tv_model.specs.Files.{Reads, Same, Rose, RoseBy}
+use Rattle.tv_model.specs.State.{State, Told, Readers, no_readers}
+use Rattle.tv_model.specs.Machine.{step, refused_in}
+use Rattle.tv_model.specs.SoundStates.{IsWhole}
+use Rattle.tv_model.specs.Readable.{ReadsGood}
+use Rattle.tv_model.specs.Commits.{is_schema, first_commit}
+use Rattle.tv_store.specs.StoreCauses.{EventCause, LockingCause, OpeningCause, MakesNoFile}
+
+-- ---- what an event did, by what its method says
+
+-- a cause of an event that reads no commit's files
+plain_cause : (busy refused quiet spent more : Type 0) (bad : OpenReadError → Type 0) (absent : List ℕ → Type 0) (error : TantivyError) → EventCause refused quiet spent error → (spent → more) → ApplyCause busy refused quiet more bad absent error
+plain_cause busy refused quiet spent more bad absent (errors.IoError fault) h f = h
+plain_cause busy refused quiet spent more bad absent (errors.OpenWriteError error) h f = h
+plain_cause busy refused quiet spent more bad absent errors.Exhausted h f = (h.0, f h.1)
+plain_cause busy refused quiet spent more bad absent errors.Memory h f = h
+plain_cause busy refused quiet spent more bad absent other h f = absurd h
+
+pub cause_in : (A busy refused quiet spent more : Type 0) (bad : OpenReadError → Type 0) (absent : List ℕ → Type 0) (result : Result A TantivyError) → IfErr result (λ error. EventCause refused quiet spent error) → (spent → more) → IfErr result (λ error. ApplyCause busy refused quiet more bad absent error)
+cause_in A busy refused quiet spent more bad absent (Ok answer) h f = h
+cause_in A busy refused quiet spent more bad absent (Err error) h f = plain_cause busy refused quiet spent more bad absent error h f
+
+-- and of one that does
+pub read_cause : (busy refused quiet spent more : Type 0) (bad : OpenReadError → Type 0) (absent : List ℕ → Type 0) (error : TantivyError) → ApplyCause busy refused quiet spent bad absent error → (spent → more) → ApplyCause busy refused quiet more bad absent error
+read_cause busy refused quiet spent more bad absent (errors.IoError fault) h f = h
+read_cause busy refused quiet spent more bad absent (errors.OpenWriteError error) h f = h
+read_cause busy refused quiet spent more bad absent (errors.OpenReadError error) h f = h
+read_cause busy refused quiet spent more bad absent (errors.LockFailure why text) h f = h
+read_cause busy refused quiet spent more bad absent errors.Exhausted h f = (h.0, f h.1)
+read_cause busy refused quiet spent more bad absent errors.Memory h f = h
+read_cause busy refused quiet spent more bad absent other h f = absurd h
+
+pub read_cause_in : (A busy refused quiet spent more : Type 0) (bad : OpenReadError → Type 0) (absent : List ℕ → Type 0) (result : Result A TantivyError) → IfErr result (λ error. ApplyCause busy refused quiet spent bad absent error) → (spent → more) → IfErr result (λ error. ApplyCause busy refused quiet more bad absent error)
+read_cause_in A busy refused quiet spent more bad absent (Ok answer) h f = h
+read_cause_in A busy refused quiet spent more bad absent (Err error) h f = read_cause busy refused quiet spent more bad absent error h f
+
+-- the lock that isn't given is one that the event takes
+takes_lock : (busy takes refused quiet spent : Type 0) (bad : OpenReadError → Type 0) (absent : List ℕ → Type 0) (error : TantivyError) → takes → ApplyCause busy refused quiet spent bad absent error → ApplyCause (takes × busy) refused quiet spent bad absent error
+takes_lock busy takes refused quiet spent bad absent (errors.LockFailure lock.LockBusy text) t h = ((t, h.0), h.1)
+takes_lock busy takes refused quiet spent bad absent (errors.LockFailure (lock.IoError fault) text) t h = h
+takes_lock busy takes refused quiet spent bad absent (errors.LockFailure lock.Memory text) t h = absurd h.0
+takes_lock busy takes refused quiet spent bad absent (errors.OpenReadError error) t h = h
+takes_lock busy takes refused quiet spent bad absent (errors.OpenWriteError error) t h = h
+takes_lock busy takes refused quiet spent bad absent (errors.IoError fault) t h = h
+takes_lock busy takes refused quiet spent bad absent errors.Exhausted t h = h
+takes_lock busy takes refused quiet spent bad absent errors.Memory t h = h
+takes_lock busy takes refused quiet spent bad absent other t h = absurd h
+
+pub takes_lock_in : (A busy takes refused quiet spent : Type 0) (bad : OpenReadError → Type 0) (absent : List ℕ → Type 0) (result : Result A TantivyError) → takes → IfErr result (ApplyCause busy refused quiet spent bad absent) → IfErr result (ApplyCause (takes × busy) refused quiet spent bad absent)
+takes_lock_in A busy takes refused quiet spent bad absent (Ok answer) t h = h
+takes_lock_in A busy takes refused quiet spent bad absent (Err error) t h = takes_lock busy takes refused quiet spent bad absent error t h
+
+-- and of one that takes a lock
+locking_cause : (busy refused quiet spent more : Type 0) (bad : OpenReadError → Type 0) (absent : List ℕ → Type 0) (error : TantivyError) → LockingCause busy refused quiet spent error → (spent → more) → ApplyCause busy refused quiet more bad absent error
+locking_cause busy refused quiet spent more bad absent (errors.IoError fault) h f = h
+locking_cause busy refused quiet spent more bad absent (errors.OpenWriteError error) h f = h
+locking_cause busy refused quiet spent more bad absent (errors.LockFailure why text) h f = h
+locking_cause busy refused quiet spent more bad absent errors.Exhausted h f = (h.0, f h.1)
+locking_cause busy refused quiet spent more bad absent errors.Memory h f = h
+locking_cause busy refused quiet spent more bad absent other h f = absurd h
+
+pub locking_cause_in : (A busy refused quiet spent more : Type 0) (bad : OpenReadError → Type 0) (absent : List ℕ → Type 0) (result : Result A TantivyError) → IfErr result (λ error. LockingCause busy refused quiet spent error) → (spent → more) → IfErr result (λ error. ApplyCause busy refused quiet more bad absent error)
+locking_cause_in A busy refused quiet spent more bad absent (Ok answer) h f = h
+locking_cause_in A busy refused quiet spent more bad absent (Err error) h f = locking_cause busy refused quiet spent more bad absent error h f
+
+-- an event that deletes nothing and reads no commit's files
+pub stepped : {E : Type 0} (tells : Type 0) (old_reads new_reads : Reads) (old_kept new_kept : Kept) (old_refusals new_refusals : ℕ) (event : Event) (told : State → Told) (result : Result (List ℕ) E)
+    → new_refusals ≡ old_refusals → ((s : State) → step s event [] ≡ told s) → ((s : State) → ReadsGood s event)
+    → (tells → (s : State) → Holds old_reads old_kept s → IfOk result (λ answer. (answer ≡ (told s).0) × Holds new_reads new_kept (told s).1))
+    → IfOk result (Stepped tells old_reads new_reads old_kept new_kept old_refusals new_refusals event)
+stepped tells old_reads new_reads old_kept new_kept old_refusals new_refusals event told (Ok answer) quiet is good h = (
+  [],
+  inl (omega (arith, quiet)),
+  λ t s held whole.
+      let k = h t s held in
+      (k.0 ∙ ap (λ (x : Told). x.0) (sym (is s)), subst (λ (x : Told). Holds new_reads new_kept x.1) (sym (is s)) k.1, good s),
+)
+stepped tells old_reads new_reads old_kept new_kept old_refusals new_refusals event told (Err error) quiet is good h = tt
+
+-- one that reads them
+pub stepped_reading : {E : Type 0} (tells : Type 0) (old_reads new_reads : Reads) (old_kept new_kept : Kept) (old_refusals new_refusals : ℕ) (event : Event) (told : State → Told) (good : State → Type 0) (result : Result (List ℕ) E)
+    → new_refusals ≡ old_refusals → ((s : State) → step s event [] ≡ told s) → ((s : State) → good s → ReadsGood s event)
+    → (tells → (s : State) → Holds old_reads old_kept s → IsWhole s → IfOk result (λ answer. (answer ≡ (told s).0) × Holds new_reads new_kept (told s).1 × good s))
+    → IfOk result (Stepped tells old_reads new_reads old_kept new_kept old_refusals new_refusals event)
+stepped_reading tells old_reads new_reads old_kept new_kept old_refusals new_refusals event told good (Ok answer) quiet is reads h = (
+  [],
+  inl (omega (arith, quiet)),
+  λ t s held whole.
+      let k = h t s held whole in
+      (k.0 ∙ ap (λ (x : Told). x.0) (sym (is s)), subst (λ (x : Told). Holds new_reads new_kept x.1) (sym (is s)) k.1, reads s k.2),
+)
+stepped_reading tells old_reads new_reads old_kept new_kept old_refusals new_refusals event told good (Err error) quiet is reads h = tt
+
+-- one that deletes
+pub stepped_deleting : {E : Type 0} (tells : Type 0) (old_reads new_reads : Reads) (old_kept new_kept : Kept) (old_refusals new_refusals : ℕ) (event : Event) (told : State → List Bool → Told) (result : Result (List ℕ) E)
+    → ((s : State) (outcomes : List Bool) → step s event outcomes ≡ told s outcomes) → ((s : State) → ReadsGood s event)
+    → IfOk result (λ answer. (outcomes : List Bool) × RoseBy (refused_in outcomes) old_refusals new_refusals × (tells → (s : State) → Holds old_reads old_kept s → (answer ≡ (told s outcomes).0) × Holds new_reads new_kept (told s outcomes).1))
+    → IfOk result (Stepped tells old_reads new_reads old_kept new_kept old_refusals new_refusals event)
+stepped_deleting tells old_reads new_reads old_kept new_kept old_refusals new_refusals event told (Ok answer) is good h = (
+  h.0,
+  h.1,
+  λ t s held whole.
+      let k = h.2 t s held in
+      (k.0 ∙ ap (λ (x : Told). x.0) (sym (is s h.0)), subst (λ (x : Told). Holds new_reads new_kept x.1) (sym (is s h.0)) k.1, good s),
+)
+stepped_deleting tells old_reads new_reads old_kept new_kept old_refusals new_refusals event told (Err error) is good h = tt
+
+pub longer : (es : List (List ℕ × List ℕ)) (small large : ℕ) → small ≤ large → AllByRecursion (λ e. length e.1 ≤ small) es → AllByRecursion (λ e. length e.1 ≤ large) es
+longer [] small large le h = tt
+longer (e ∷ es) small large le h = (omega (arith, le, h.0), longer es small large le h.1)
+
+-- what is at most a bound is at most a larger one
+pub at_most : (bound n : ℕ) (kept : Kept) → AtMost bound kept → AtMost (bound + n) kept
+at_most bound n kept h = longer kept.open_files bound (bound + n) (omega arith) h
+
+-- so are the numbers of who reads, where they stay
+pub numbers_stay : {A E : Type 0} (bound n : ℕ) (old new : Readers) (result : Result A E) → new ≡ old → FewNumbers bound old → OnOk result (FewNumbers (bound + n) new)
+numbers_stay bound n old new (Ok answer) same h = subst (FewNumbers (bound + n)) (sym same) (few_more bound n old h)
+numbers_stay bound n old new (Err error) same h = tt
+
+-- or where they are few after the event
+pub numbers_are : {A E : Type 0} (bound n : ℕ) (new : Readers) (result : Result A E) → OnOk result (FewNumbers bound new) → OnOk result (FewNumbers (bound + n) new)
+numbers_are bound n new (Ok answer) h = few_more bound n new h
+numbers_are bound n new (Err error) h = tt
+
+-- the same bodies are open
+pub same_lens : (bound : ℕ) (kept : Kept) (files : List (List ℕ × List ℕ)) → files ≡ kept.open_files → AtMost bound kept → AllByRecursion (λ e. length e.1 ≤ bound) files
+same_lens bound kept files same h = subst (λ (es : List (List ℕ × List ℕ)). AllByRecursion (λ e. length e.1 ≤ bound) es) (sym same) h
+
+-- what is asked of an opening
+pub opening_of : (tells : Type 0) (schema : List ℕ) (reads : Reads) (busy refused quiet more all : Type 0) (error : TantivyError)
+    → EventCause refused quiet ⊥ error → MakesNoFile error → is_schema schema ≡ true → (refused → more) → (quiet → all)
+    → OpeningCause tells schema reads busy more all error
+opening_of tells schema reads busy refused quiet more all (errors.IoError fault) h plain accepted f q = (accepted, h.0, f h.1)
+opening_of tells schema reads busy refused quiet more all (errors.OpenWriteError error) h plain accepted f q = absurd plain
+opening_of tells schema reads busy refused quiet more all errors.Exhausted h plain accepted f q = absurd h.1
+opening_of tells schema reads busy refused quiet more all errors.Memory h plain accepted f q = q h
+opening_of tells schema reads busy refused quiet more all other h plain accepted f q = absurd h
+
+-- a file that wasn't found doesn't read
+pub not_there : (read : Option (List ℕ)) (found : Bool) → found ≡ is_some read → found ≡ false → read ≡ None
+not_there None found e absent = refl
+not_there (Some bytes) found e absent = absurd (true≢false (sym e ∙ absent))
+
+-- a fault that came after a quiet start
+pub later_fault : (start before after end : ℕ) → before ≡ start → end ≡ after → Rose before after → Rose start end
+later_fault start before after end b e rose = subst (λ (x : ℕ). Rose x end) b (subst (λ (x : ℕ). Rose before x) (sym e) rose)
+
+-- what is kept of an index that is yet to be made
+abbrev pub blank : List ℕ → Kept
+blank schema = record { schema = schema; live = []; next = 1; commit = first_commit; managed = []; open_files = []; left = []; reading = no_readers }
+
+pub still_blank : (kept : Kept) (schema : List ℕ) → kept ≡ blank schema → kept ≡ blank kept.schema
+still_blank kept schema e = subst (λ (x : List ℕ). kept ≡ blank x) (sym (ap (λ (k : Kept). k.schema) e)) e
+
+-- ---- what an error leaves of the commit
+
+-- `meta.json` reads what it read before
+pub leaves_old : {A : Type 0} (result : Result A TantivyError) (before now : Option (List ℕ)) (schema : List ℕ) (s : State) (event : Event) → OnErr result (now ≡ before) → OnErr result (LeavesOldOrNew before now schema s event)
+leaves_old (Ok answer) before now schema s event h = h
+leaves_old (Err error) before now schema s event h = ([], inl h)
+
+pub old_at_memory : {A : Type 0} (result : Result A TantivyError) (before now : Option (List ℕ)) → OnErr result (now ≡ before) → IfErr result (λ error. error ≡ errors.Memory → now ≡ before)
+old_at_memory (Ok answer) before now h = h
+old_at_memory (Err error) before now h = λ is. h

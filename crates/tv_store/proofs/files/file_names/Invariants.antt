@@ -1,0 +1,13 @@
+use Rattle.std.proofs.Common.{◌≡◌, ◌++◌, true, map, string_bytes}
+use Rattle.std.specs.List.{list_all}
+use Rattle.std.specs.Vec.Iter.{into_iter_items}
+use Rattle.tv_model.specs.Names.{is_plain}
+use Rattle.tv_store.proofs.files.file_names.Given as goal
+
+abbrev pub invariant-loop-text : goal.invariant-loop-text
+invariant-loop-text l = record {
+  next : goal.iterator-loop-text.can_next l.text-iterator;
+  finite : goal.iterator-loop-text.is_finite l.text-iterator;
+  plain : list_all is_plain (map string_bytes (into_iter_items l.text-iterator)) ≡ true;
+  names : l.names.items ++ map string_bytes (into_iter_items l.text-iterator) ≡ map string_bytes l.fn.texts.items;
+}

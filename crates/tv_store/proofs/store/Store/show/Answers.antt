@@ -1,0 +1,24 @@
+use Rattle.std.proofs.Common.{◌≡◌, None, sym, ap, ◌∙◌}
+use Rattle.tv_model.specs.State.{Readers, at_number}
+use Rattle.tv_model.specs.SearcherEvents.{show_line}
+use Rattle.tv_store.proofs.Holding.{same_holds}
+use Rattle.tv_store.proofs.ReaderEvents.{mapped, not_mapped, show_unknown, shown_by}
+use Rattle.tv_store.proofs.store.Store.show.Goals as goal
+
+pub returns-in_default-clause-step : goal.returns-in_default-clause-step
+returns-in_default-clause-step g c tells s held =
+    let reads = g.O.Directory.reads in
+    let refusal = c.in_ok-answer-2.ensures in
+    let none : at_number c.self.inside.readers.searchers c.args.number ≡ None = not_mapped (show_line c.args.number) (at_number c.self.inside.readers.searchers c.args.number) (sym c.in_default.is ∙ c.in_ok-answer.ensures) in
+    show_unknown (reads c.refuse.new.self.1) c.refuse.new.self.0 s c.args.number c.in_ok-answer-2.answer
+    (ap (λ (r : Readers). at_number r.searchers c.args.number) (sym (ap (λ v. v.0.reading) c.self.view_is ∙ held.reading)) ∙ none) refusal.answer
+    (same_holds (reads c.args.self.now.1) (reads c.refuse.new.self.1) c.args.self.now.0 c.refuse.new.self.0 s (refusal.content tells) refusal.kept held)
+
+pub returns-clause-step : goal.returns-clause-step
+returns-clause-step g c tells s held =
+    let reads = g.O.Directory.reads in
+    let room = c.in_ok-answer-3.ensures in
+    let found = mapped (show_line c.args.number) (at_number c.self.inside.readers.searchers c.args.number) c.in-Some.answer (sym c.in-Some.is ∙ c.in_ok-answer.ensures) in
+    shown_by (reads c.ready.new.self.1) c.ready.new.self.0 s c.args.number found.0 c.in_ok-answer-3.answer
+    (same_holds (reads c.args.self.now.1) (reads c.ready.new.self.1) c.args.self.now.0 c.ready.new.self.0 s (room.content tells) room.kept held)
+    (ap (λ (r : Readers). at_number r.searchers c.args.number) (sym (ap (λ v. v.0.reading) c.self.view_is ∙ held.reading)) ∙ found.1) (room.answer ∙ found.2)

@@ -1,0 +1,10 @@
+pub mod Kept
+pub mod Choosing
+pub mod Telling
+pub mod StoreCauses
+pub mod OpenFiles
+pub mod ReadCauses
+pub mod Bodies
+pub mod ReaderNumbers
+pub mod SearcherLines
+pub mod Applying

@@ -1,0 +1,47 @@
+-- Why an event that reads the files of a commit fails.
+use Rattle.std.specs.Prelude.{ℕ, ◌≡◌, ◌≢◌, ◌⊎◌, true, List, IsSome, string_bytes}
+use Rattle.tv_model.specs.Names.{is_file_name}
+use Rattle.tv_model.specs.State.{State, at_number, reader_at}
+use Rattle.tv_model.specs.declared.event.Event.{Event}
+use Rattle.tv_model.specs.declared.event.Event.TheVariants as events
+use Rattle.tv_base.specs.Causes.{IsDevice}
+use Rattle.tv_base.specs.declared.io.IoKind.TheVariants.{Device}
+use Rattle.tv_base.specs.declared.open_errors.OpenReadError.{OpenReadError}
+use Rattle.tv_base.specs.declared.open_errors.OpenReadError.TheVariants as read
+use Rattle.tv_base.specs.declared.error.TantivyError.{TantivyError}
+use Rattle.tv_base.specs.declared.error.TantivyError.TheVariants as errors
+use Rattle.tv_store.specs.Kept.{Kept}
+use Rattle.tv_store.specs.StoreCauses.{LockingCause}
+
+-- an event that reads the files of the current commit: a new reader, or a reload of a reader that is there
+abbrev pub Reading : State → Event → Type 0
+Reading s (events.Reader policy) = Unit {0}
+Reading s (events.Reload number) = IsSome (reader_at s number)
+Reading s other = ⊥
+
+-- an event that takes the meta lock: a collection, a new reader, or a reload of a reader that is there
+abbrev pub TakesMetaLock : Kept → Event → Type 0
+TakesMetaLock kept events.Gc = Unit {0}
+TakesMetaLock kept (events.Reader policy) = Unit {0}
+TakesMetaLock kept (events.Reload number) = IsSome (at_number kept.reading.readers number)
+TakesMetaLock kept other = ⊥
+
+-- an event that takes the meta lock, or may do so
+abbrev pub MayTakeMetaLock : Event → Type 0
+MayTakeMetaLock events.Gc = Unit {0}
+MayTakeMetaLock (events.Reader policy) = Unit {0}
+MayTakeMetaLock (events.Reload number) = Unit {0}
+MayTakeMetaLock other = ⊥
+
+-- The device refused the read of a file; or what the file reads is refused with this error, which is `bad`; or it isn't there, which is `absent`.
+abbrev pub ReadFault : (refused quiet : Type 0) (bad : OpenReadError → Type 0) (absent : List ℕ → Type 0) → OpenReadError → Type 0
+ReadFault refused quiet bad absent (read.IoError fault path) =
+    (IsDevice fault × refused) ⊎ ((fault.kind ≢ Device) × quiet × (is_file_name (string_bytes path) ≡ true) × bad (read.IoError fault path))
+ReadFault refused quiet bad absent (read.FileDoesNotExist path) = quiet × (is_file_name (string_bytes path) ≡ true) × absent (string_bytes path)
+ReadFault refused quiet bad absent (read.IncompatibleIndex why) = quiet × bad (read.IncompatibleIndex why)
+ReadFault refused quiet bad absent other = ⊥
+
+-- an event fails as others do, or because a lock isn't given, which is `busy`, or because it can't read a file
+abbrev pub ApplyCause : (busy refused quiet spent : Type 0) (bad : OpenReadError → Type 0) (absent : List ℕ → Type 0) → TantivyError → Type 0
+ApplyCause busy refused quiet spent bad absent (errors.OpenReadError error) = ReadFault refused quiet bad absent error
+ApplyCause busy refused quiet spent bad absent other = LockingCause busy refused quiet spent other

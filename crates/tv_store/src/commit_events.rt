@@ -1,0 +1,406 @@
+//! The event that commits.
+ghost use Rattle.std.specs.Prelude.{◌≡◌, ◌≤◌, ◌<◌, ◌+◌, ◌++◌, [], ◌∷◌, ℕ, length, map, codes, not, ◌&&◌, nat_lt, is_none, find, option_map, IfOk, IfErr, IfSome, OnOk, OnErr, ◌⊎◌, Some};
+ghost use Rattle.std.specs.List.{AllByRecursion, filter};
+ghost use Rattle.std.specs.Str.{IsUtf8};
+ghost use Rattle.std.specs.Fmt.{decimal};
+ghost use Rattle.std.specs.BTreeSet.{insert_key};
+ghost use Rattle.hex.specs.Hex.{encode_lower};
+ghost use Rattle.tv_model.specs.Names.{byte_cmp, has, list_name, meta_name};
+ghost use Rattle.tv_model.specs.Files.{Rose, Same};
+ghost use Rattle.tv_model.specs.State.{State, at, file_at};
+ghost use Rattle.tv_model.specs.Lines.{line};
+ghost use Rattle.tv_model.specs.Listing.{Lists};
+ghost use Rattle.tv_model.specs.Segments.{name_of, num_docs, all_required, required_names};
+ghost use Rattle.tv_model.specs.CommitEvents.{commit_step, commit_sealed, first_unsealed, is_sealed};
+ghost use Rattle.tv_model.specs.Commits.{IsSegment, IsCommit};
+ghost use Rattle.tv_model.specs.Index.{IsFileOf};
+ghost use Rattle.tv_managed.specs.Managed.{KeepsOtherFiles};
+ghost use Rattle.tv_directory.specs.Locks.{SameLocks};
+ghost use Rattle.tv_store.specs.Choosing.{with_living};
+ghost use Rattle.tv_store.specs.Kept.{Holds, AtMost};
+ghost use Rattle.tv_store.specs.StoreCauses.{EventCause};
+ghost use Rattle.tv_store.specs.Applying.{LeavesCommit};
+
+use crate::answers::refused;
+use crate::commit::Commit;
+use crate::store::Store;
+use std::alloc::Global;
+use std::collections::BTreeMap;
+use tv_base::TantivyError;
+use tv_directory::Outside;
+use tv_model::{
+    Answer, FileName, IdList, LiveSegment, Memory, Opstamp, SegmentComponent, SegmentId, Text,
+    segment_file_name,
+};
+
+// The components that each segment has to have sealed, but for the delete file.
+const REQUIRED: [SegmentComponent; 6] = [
+    SegmentComponent::Postings,
+    SegmentComponent::Positions,
+    SegmentComponent::FastFields,
+    SegmentComponent::FieldNorms,
+    SegmentComponent::Terms,
+    SegmentComponent::Store,
+];
+
+// As long as the longest line that names a file which isn't sealed: the words, an id, the number of
+// a delete and the extension.
+const REFUSAL_ROOM: usize = 80;
+
+// A copy of a payload.
+fn copied(alloc: Global, payload: &Option<Text>) -> Result<Option<Text>, Memory>
+    ensures same { IfOk result (λ copy. copy ≡ payload.now) }
+    ensures text { IfOk result (λ copy. IfSome copy IsUtf8) }
+{
+    let Some(text) = payload else {
+        return Ok(None);
+    };
+    let copy = String::from_str(alloc, text.as_str())?;
+    Ok(Some(Text::new(copy)))
+}
+
+// Adds the name of one file of a segment.
+pub(crate) fn push_name(
+    alloc: Global,
+    names: &mut Vec<FileName>,
+    id: SegmentId,
+    segment: LiveSegment,
+    component: SegmentComponent,
+) -> Result<(), Memory>
+    ensures { OnOk result (names.new.items ≡ names.old.items ++ name_of id segment.deletes component ∷ []) }
+{
+    let name = segment_file_name(alloc, id, segment.deletes, component)?;
+    names.push(name)?;
+    Ok(())
+}
+
+// Adds the names of the files that every segment has to have sealed.
+fn push_common(
+    alloc: Global,
+    names: &mut Vec<FileName>,
+    id: SegmentId,
+    segment: LiveSegment,
+) -> Result<(), Memory>
+    ensures { OnOk result (names.new.items ≡ names.old.items ++ map (name_of id segment.deletes) REQUIRED) }
+{
+    for component in REQUIRED {
+        push_name(alloc, names, id, segment, component)?;
+    }
+    Ok(())
+}
+
+// Adds the names of the files that a segment has to have sealed.
+fn push_required(
+    alloc: Global,
+    names: &mut Vec<FileName>,
+    id: SegmentId,
+    segment: LiveSegment,
+) -> Result<(), Memory>
+    ensures { OnOk result (names.new.items ≡ names.old.items ++ required_names id segment) }
+{
+    push_common(alloc, names, id, segment)?;
+    if !segment.has_deletes() {
+        return Ok(());
+    }
+    push_name(alloc, names, id, segment, SegmentComponent::Delete)?;
+    Ok(())
+}
+
+/// The names of the files that a segment has to have sealed, in their order.
+pub(crate) fn required_of(
+    alloc: Global,
+    id: SegmentId,
+    segment: LiveSegment,
+) -> Result<Vec<FileName>, Memory>
+    ensures { IfOk result (λ names. names.items ≡ required_names id segment) }
+{
+    let mut names = Vec::new(alloc);
+    push_required(alloc, &mut names, id, segment)?;
+    Ok(names)
+}
+
+// The names of the files that these segments have to have sealed, in their order.
+fn required_files(
+    alloc: Global,
+    segments: &BTreeMap<SegmentId, LiveSegment>,
+) -> Result<Vec<FileName>, Memory>
+    ensures { IfOk result (λ names. names.items ≡ all_required segments.now.entries) }
+{
+    let mut names = Vec::new(alloc);
+    for (id, segment) in segments {
+        push_required(alloc, &mut names, *id, *segment)?;
+    }
+    Ok(names)
+}
+
+// The first id that isn't live.
+fn first_unknown(live: &BTreeMap<SegmentId, LiveSegment>, ids: &[SegmentId]) -> Option<SegmentId>
+    ensures { result ≡ find (λ id. is_none (at live.now.entries id)) ids.now }
+{
+    ids.iter().copied().find(|id| !live.contains_key(id))
+}
+
+// Adds a live segment, where it has living documents.
+fn put_living(
+    segments: &mut BTreeMap<SegmentId, LiveSegment>,
+    id: SegmentId,
+    segment: Option<LiveSegment>,
+) -> Result<(), Memory>
+    ensures { OnOk result (segments.new.entries ≡ with_living segments.old.entries id segment) }
+{
+    let Some(segment) = segment else {
+        return Ok(());
+    };
+    if segment.num_docs() == 0 {
+        return Ok(());
+    }
+    segments.insert(id, segment)?;
+    Ok(())
+}
+
+// The named live segments that have living documents.
+fn chosen(
+    alloc: Global,
+    live: &BTreeMap<SegmentId, LiveSegment>,
+    ids: &[SegmentId],
+) -> Result<BTreeMap<SegmentId, LiveSegment>, Memory>
+    ensures { IfOk result (λ segments. segments.entries ≡ filter (λ e. has ids.now e.0 && nat_lt 0 (num_docs e.1)) live.now.entries) }
+{
+    // A contract learns from the length that the live ids stand in their order.
+    let _count = live.len();
+    let mut segments = BTreeMap::new(alloc);
+    for id in ids {
+        put_living(&mut segments, *id, live.get(id).copied())?;
+    }
+    Ok(segments)
+}
+
+// The answer to a commit of this many segments.
+fn committed(alloc: Global, opstamp: Opstamp, count: usize) -> Result<Answer, Memory>
+    ensures { IfOk result (λ answer. answer ≡ line (codes "commit") (decimal opstamp ∷ decimal count ∷ [])) }
+{
+    let answer = Answer::new(alloc, "commit")?
+        .number(opstamp)?
+        .number(count as u64)?;
+    Ok(answer)
+}
+
+// A commit of these segments, with a copy of the payload.
+fn new_commit(
+    alloc: Global,
+    opstamp: Opstamp,
+    payload: &Option<Text>,
+    segments: BTreeMap<SegmentId, LiveSegment>,
+) -> Result<Commit, Memory>
+    ensures commit { IfOk result (λ commit. commit ≡ record { opstamp = opstamp; payload = payload.now; segments = segments.entries }) }
+    ensures sound { AllByRecursion IsSegment segments.entries → IfOk result IsCommit }
+{
+    // A contract learns from the length that the ids stand in their order.
+    let _count = segments.len();
+    let payload = copied(alloc, payload)?;
+    Ok(Commit::new(opstamp, payload, segments))
+}
+
+impl<O: Outside> Store<O> {
+    // Whether a file isn't sealed.
+    fn is_unsealed(&mut self, name: &FileName) -> Result<bool, TantivyError>
+        ensures found { O.tells → (s : State) → Holds (O.reads self.old.1) self.old.0 s → IsFileOf name.now → IfOk result (λ found. found ≡ not (is_sealed (file_at s name.now))) }
+        ensures content { O.tells → Same (O.reads self.old.1) (O.reads self.new.1) }
+        ensures kept { self.new.0 ≡ self.old.0 }
+        ensures open { self.new.2 ≡ self.old.2 }
+        ensures heard { O.heard self.new.1 ≡ O.heard self.old.1 }
+        ensures room { O.room self.old.1 ≤ O.room self.new.1 }
+        ensures quiet { OnOk result (O.faults self.new.1 ≡ O.faults self.old.1) }
+        ensures cause { IfErr result (EventCause (Rose (O.faults self.old.1) (O.faults self.new.1)) (O.faults self.new.1 ≡ O.faults self.old.1) ⊥) }
+        ensures locks { O.tells_locks → SameLocks (O.locks self.old.1) (O.locks self.new.1) }
+        ensures clock { O.moment self.old.1 ≤ O.moment self.new.1 }
+        ensures refusals { O.refusals self.new.1 ≡ O.refusals self.old.1 }
+        ensures reading { self.new.0.reading ≡ self.old.0.reading }
+    {
+        if self.left.contains(name) {
+            return Ok(true);
+        }
+        let is_sealed = self.files.is_sealed(name)?;
+        Ok(!is_sealed)
+    }
+
+    // The first of these files that isn't sealed.
+    fn first_unsealed<'a>(
+        &mut self,
+        names: &'a [FileName],
+    ) -> Result<Option<&'a FileName>, TantivyError>
+        ensures found { O.tells → (s : State) → Holds (O.reads self.old.1) self.old.0 s → AllByRecursion IsFileOf names.entry.now → IfOk result (λ found. option_map (λ name. name.now) found ≡ find (λ name. not (is_sealed (file_at s name))) names.entry.now) }
+        ensures content { O.tells → Same (O.reads self.old.1) (O.reads self.new.1) }
+        ensures kept { self.new.0 ≡ self.old.0 }
+        ensures open { self.new.2 ≡ self.old.2 }
+        ensures heard { O.heard self.new.1 ≡ O.heard self.old.1 }
+        ensures room { O.room self.old.1 ≤ O.room self.new.1 }
+        ensures quiet { OnOk result (O.faults self.new.1 ≡ O.faults self.old.1) }
+        ensures cause { IfErr result (EventCause (Rose (O.faults self.old.1) (O.faults self.new.1)) (O.faults self.new.1 ≡ O.faults self.old.1) ⊥) }
+        ensures locks { O.tells_locks → SameLocks (O.locks self.old.1) (O.locks self.new.1) }
+        ensures clock { O.moment self.old.1 ≤ O.moment self.new.1 }
+        ensures refusals { O.refusals self.new.1 ≡ O.refusals self.old.1 }
+        ensures reading { self.new.0.reading ≡ self.old.0.reading }
+    {
+        for name in names {
+            if self.is_unsealed(name)? {
+                return Ok(Some(name));
+            }
+        }
+        Ok(None)
+    }
+
+    // The answer to a commit, in room that is made for it and for a refusal.
+    fn ready_for_either(&mut self, answer: Answer) -> Result<Answer, Memory>
+        ensures answer { IfOk result (λ ready. ready ≡ answer) }
+        ensures room { OnOk result (length answer < O.room self.new.1) }
+        ensures kept { self.new.0 ≡ self.old.0 }
+        ensures open { self.new.2 ≡ self.old.2 }
+        ensures content { O.tells → Same (O.reads self.old.1) (O.reads self.new.1) }
+        ensures quiet { O.faults self.new.1 ≡ O.faults self.old.1 }
+        ensures heard { O.heard self.new.1 ≡ O.heard self.old.1 }
+        ensures locks { O.tells_locks → SameLocks (O.locks self.old.1) (O.locks self.new.1) }
+        ensures clock { O.moment self.old.1 ≤ O.moment self.new.1 }
+        ensures refusals { O.refusals self.new.1 ≡ O.refusals self.old.1 }
+        ensures reading { self.new.0.reading ≡ self.old.0.reading }
+    {
+        self.files.ready(REFUSAL_ROOM)?;
+        let ready = self.ready(answer)?;
+        Ok(ready)
+    }
+
+    // The answer to a commit of an id that isn't live, in room that is made for it.
+    fn refuse_unknown(&mut self, id: SegmentId) -> Result<Answer, Memory>
+        ensures answer { IfOk result (λ answer. answer ≡ line (codes "refused") (codes "unknown-segment" ∷ encode_lower id ∷ [])) }
+        ensures room { IfOk result (λ answer. length answer < O.room self.new.1) }
+        ensures kept { self.new.0 ≡ self.old.0 }
+        ensures open { self.new.2 ≡ self.old.2 }
+        ensures content { O.tells → Same (O.reads self.old.1) (O.reads self.new.1) }
+        ensures quiet { O.faults self.new.1 ≡ O.faults self.old.1 }
+        ensures heard { O.heard self.new.1 ≡ O.heard self.old.1 }
+        ensures locks { O.tells_locks → SameLocks (O.locks self.old.1) (O.locks self.new.1) }
+        ensures clock { O.moment self.old.1 ≤ O.moment self.new.1 }
+        ensures refusals { O.refusals self.new.1 ≡ O.refusals self.old.1 }
+        ensures reading { self.new.0.reading ≡ self.old.0.reading }
+    {
+        let answer = refused(self.alloc, "unknown-segment")?.id(id)?;
+        let ready = self.ready(answer)?;
+        Ok(ready)
+    }
+
+    // The answer to a commit of a file that isn't sealed, in room that is made for it.
+    fn refuse_unsealed(&mut self, name: &FileName) -> Result<Answer, Memory>
+        ensures answer { IfOk result (λ answer. answer ≡ line (codes "refused") (codes "unsealed" ∷ name.now ∷ [])) }
+        ensures room { IfOk result (λ answer. length answer < O.room self.new.1) }
+        ensures kept { self.new.0 ≡ self.old.0 }
+        ensures open { self.new.2 ≡ self.old.2 }
+        ensures content { O.tells → Same (O.reads self.old.1) (O.reads self.new.1) }
+        ensures quiet { O.faults self.new.1 ≡ O.faults self.old.1 }
+        ensures heard { O.heard self.new.1 ≡ O.heard self.old.1 }
+        ensures locks { O.tells_locks → SameLocks (O.locks self.old.1) (O.locks self.new.1) }
+        ensures clock { O.moment self.old.1 ≤ O.moment self.new.1 }
+        ensures refusals { O.refusals self.new.1 ≡ O.refusals self.old.1 }
+        ensures reading { self.new.0.reading ≡ self.old.0.reading }
+    {
+        let answer = refused(self.alloc, "unsealed")?.name(name)?;
+        let ready = self.ready(answer)?;
+        Ok(ready)
+    }
+
+    // Makes this commit the current one, whose text this is.
+    fn publish(&mut self, commit: Commit, text: &[u8]) -> Result<(), TantivyError>
+        requires { self.old.0.next < 18446744073709551615 }
+        ensures kept { OnOk result (self.new.0 ≡ record self.old.0 { next = self.old.0.next + 1; commit = commit; managed = insert_key byte_cmp self.old.0.managed meta_name }) }
+        ensures saved { O.tells → OnOk result (O.reads self.new.1 meta_name ≡ Some text.now) }
+        ensures others { O.tells → KeepsOtherFiles (O.reads self.old.1) (O.reads self.new.1) meta_name }
+        ensures list { O.tells → Lists (O.reads self.old.1 list_name) self.old.0.managed → OnOk result (Lists (O.reads self.new.1 list_name) self.new.0.managed) }
+        ensures open_files { self.new.0.open_files ≡ self.old.0.open_files }
+        ensures schema { self.new.0.schema ≡ self.old.0.schema }
+        ensures open { self.new.2 ≡ self.old.2 }
+        ensures heard { O.heard self.new.1 ≡ O.heard self.old.1 }
+        ensures room { O.room self.old.1 ≤ O.room self.new.1 }
+        ensures quiet { OnOk result (O.faults self.new.1 ≡ O.faults self.old.1) }
+        ensures cause { IfErr result (EventCause (Rose (O.faults self.old.1) (O.faults self.new.1)) (O.faults self.new.1 ≡ O.faults self.old.1) ⊥) }
+        ensures meta { O.tells → OnErr result ((O.reads self.new.1 meta_name ≡ Some text.now) ⊎ (O.reads self.new.1 meta_name ≡ O.reads self.old.1 meta_name)) }
+        ensures memory { O.tells → IfErr result (λ error. error ≡ TantivyError.Memory → O.reads self.new.1 meta_name ≡ O.reads self.old.1 meta_name) }
+        ensures locks { O.tells_locks → SameLocks (O.locks self.old.1) (O.locks self.new.1) }
+        ensures clock { O.moment self.old.1 ≤ O.moment self.new.1 }
+        ensures refusals { O.refusals self.new.1 ≡ O.refusals self.old.1 }
+        ensures reading { self.new.0.reading ≡ self.old.0.reading }
+    {
+        self.files.save_meta(text)?;
+        self.commit = commit;
+        self.next += 1;
+        Ok(())
+    }
+
+    // Publishes the named segments.
+    pub(crate) fn commit(
+        &mut self,
+        payload: &Option<Text>,
+        ids: &IdList,
+    ) -> Result<Answer, TantivyError>
+        ensures step { O.tells → (s : State) → Holds (O.reads self.old.1) self.old.0 s → IfOk result (λ answer. (answer ≡ (commit_step s payload.now ids.now).0) × Holds (O.reads self.new.1) self.new.0 (commit_step s payload.now ids.now).1) }
+        ensures room { IfOk result (λ answer. length answer < O.room self.new.1) }
+        ensures heard { O.heard self.new.1 ≡ O.heard self.old.1 }
+        ensures open { self.new.2 ≡ self.old.2 }
+        ensures schema { self.new.0.schema ≡ self.old.0.schema }
+        ensures lens { (bound : ℕ) → AtMost bound self.old.0 → AtMost bound self.new.0 }
+        ensures quiet { OnOk result (O.faults self.new.1 ≡ O.faults self.old.1) }
+        ensures cause { IfErr result (EventCause (Rose (O.faults self.old.1) (O.faults self.new.1)) (O.faults self.new.1 ≡ O.faults self.old.1) ⊥) }
+        ensures meta { O.tells → (s : State) → Holds (O.reads self.old.1) self.old.0 s → OnErr result (LeavesCommit (O.reads self.old.1 meta_name) (O.reads self.new.1 meta_name) self.old.0.schema (commit_step s payload.now ids.now).1.commit) }
+        ensures memory { O.tells → IfErr result (λ error. error ≡ TantivyError.Memory → O.reads self.new.1 meta_name ≡ O.reads self.old.1 meta_name) }
+        ensures locks { O.tells_locks → SameLocks (O.locks self.old.1) (O.locks self.new.1) }
+        ensures clock { O.moment self.old.1 ≤ O.moment self.new.1 }
+        ensures refusals { O.refusals self.new.1 ≡ O.refusals self.old.1 }
+        ensures reading { self.new.0.reading ≡ self.old.0.reading }
+    {
+        if self.next == Opstamp::MAX {
+            let answer = self.refuse("stamps-spent")?;
+            return Ok(answer);
+        }
+        if let Some(id) = first_unknown(&self.live, ids.as_slice()) {
+            let answer = self.refuse_unknown(id)?;
+            return Ok(answer);
+        }
+        let segments = chosen(self.alloc, &self.live, ids.as_slice())?;
+        let answer = self.commit_chosen(payload, segments)?;
+        Ok(answer)
+    }
+
+    // Publishes these segments, where their files are sealed. The room for either answer is made
+    // before the device is asked.
+    fn commit_chosen(
+        &mut self,
+        payload: &Option<Text>,
+        segments: BTreeMap<SegmentId, LiveSegment>,
+    ) -> Result<Answer, TantivyError>
+        requires { self.old.0.next < 18446744073709551615 }
+        ensures step { O.tells → (s : State) → Holds (O.reads self.old.1) self.old.0 s → AllByRecursion IsSegment segments.entries → IfOk result (λ answer. (answer ≡ (commit_sealed s payload.now segments.entries (first_unsealed s segments.entries)).0) × Holds (O.reads self.new.1) self.new.0 (commit_sealed s payload.now segments.entries (first_unsealed s segments.entries)).1) }
+        ensures room { IfOk result (λ answer. length answer < O.room self.new.1) }
+        ensures heard { O.heard self.new.1 ≡ O.heard self.old.1 }
+        ensures open { self.new.2 ≡ self.old.2 }
+        ensures schema { self.new.0.schema ≡ self.old.0.schema }
+        ensures lens { (bound : ℕ) → AtMost bound self.old.0 → AtMost bound self.new.0 }
+        ensures quiet { OnOk result (O.faults self.new.1 ≡ O.faults self.old.1) }
+        ensures cause { IfErr result (EventCause (Rose (O.faults self.old.1) (O.faults self.new.1)) (O.faults self.new.1 ≡ O.faults self.old.1) ⊥) }
+        ensures meta { O.tells → (s : State) → Holds (O.reads self.old.1) self.old.0 s → AllByRecursion IsSegment segments.entries → OnErr result (LeavesCommit (O.reads self.old.1 meta_name) (O.reads self.new.1 meta_name) self.old.0.schema (commit_sealed s payload.now segments.entries (first_unsealed s segments.entries)).1.commit) }
+        ensures memory { O.tells → IfErr result (λ error. error ≡ TantivyError.Memory → O.reads self.new.1 meta_name ≡ O.reads self.old.1 meta_name) }
+        ensures locks { O.tells_locks → SameLocks (O.locks self.old.1) (O.locks self.new.1) }
+        ensures clock { O.moment self.old.1 ≤ O.moment self.new.1 }
+        ensures refusals { O.refusals self.new.1 ≡ O.refusals self.old.1 }
+        ensures reading { self.new.0.reading ≡ self.old.0.reading }
+    {
+        let names = required_files(self.alloc, &segments)?;
+        let answer = committed(self.alloc, self.next, segments.len())?;
+        let commit = new_commit(self.alloc, self.next, payload, segments)?;
+        let text = commit.print(self.alloc, self.schema.as_slice())?;
+        let answer = self.ready_for_either(answer)?;
+        if let Some(name) = self.first_unsealed(names.as_slice())? {
+            let answer = self.refuse_unsealed(name)?;
+            return Ok(answer);
+        }
+        self.publish(commit, text.as_slice())?;
+        Ok(answer)
+    }
+}

@@ -1,0 +1,144 @@
+//! The events on live segments, and the one that reports.
+ghost use Rattle.std.specs.Prelude.{◌≡◌, ◌≤◌, ◌<◌, ◌||◌, ℕ, length, codes, is_some, IfOk, IfErr, OnOk, map, string_bytes, OnErr};
+ghost use Rattle.hex.specs.Hex.{encode_lower};
+ghost use Rattle.tv_model.specs.Lines.{line};
+ghost use Rattle.tv_model.specs.Files.{Rose};
+ghost use Rattle.tv_model.specs.State.{State, at};
+ghost use Rattle.tv_directory.specs.Locks.{SameLocks};
+ghost use Rattle.tv_store.specs.Kept.{Holds, AtMost};
+ghost use Rattle.tv_store.specs.StoreCauses.{EventCause};
+ghost use Rattle.tv_model.specs.SegmentEvents.{segment_step, docs_step, is_named};
+ghost use Rattle.tv_model.specs.ReportEvents.{managed_step};
+ghost use Rattle.tv_model.specs.Names.{meta_name};
+
+use crate::store::Store;
+use std::collections::BTreeSet;
+use tv_base::TantivyError;
+use tv_directory::Outside;
+use tv_model::{Answer, LiveSegment, Memory, SegmentId};
+
+// Whether a name begins with the digits of an id: the first name from them on tells.
+fn is_named(names: &BTreeSet<String>, id: SegmentId, digits: String) -> bool
+    requires { string_bytes digits ≡ encode_lower id }
+    ensures { result ≡ is_named (map string_bytes names.now.keys) id }
+{
+    let mut spelled = [0; 32];
+    id.write_digits(&mut spelled);
+    match names.range(digits..).next() {
+        Some(name) => name.as_bytes().starts_with(&spelled),
+        None => false,
+    }
+}
+
+impl<O: Outside> Store<O> {
+    // Whether the id is that of a live segment, of one of the commit, or begins a managed name.
+    fn is_in_use(&self, id: SegmentId) -> Result<bool, Memory>
+        ensures { IfOk result (λ used. used ≡ (is_some (at self.now.0.live id) || is_some (at self.now.0.commit.segments id) || is_named self.now.0.managed id)) }
+    {
+        if self.live.contains_key(&id) {
+            return Ok(true);
+        }
+        if self.commit.has_segment(id) {
+            return Ok(true);
+        }
+        let digits = id.uuid_string(self.alloc)?;
+        let named = is_named(self.files.managed(), id, digits);
+        Ok(named)
+    }
+
+    // A new live segment.
+    pub(crate) fn segment(&mut self, id: SegmentId) -> Result<Answer, TantivyError>
+        ensures step { O.tells → (s : State) → Holds (O.reads self.old.1) self.old.0 s → IfOk result (λ answer. (answer ≡ (segment_step s id).0) × Holds (O.reads self.new.1) self.new.0 (segment_step s id).1) }
+        ensures room { IfOk result (λ answer. length answer < O.room self.new.1) }
+        ensures heard { O.heard self.new.1 ≡ O.heard self.old.1 }
+        ensures open { self.new.2 ≡ self.old.2 }
+        ensures schema { self.new.0.schema ≡ self.old.0.schema }
+        ensures lens { (bound : ℕ) → AtMost bound self.old.0 → AtMost bound self.new.0 }
+        ensures quiet { OnOk result (O.faults self.new.1 ≡ O.faults self.old.1) }
+        ensures cause { IfErr result (EventCause (Rose (O.faults self.old.1) (O.faults self.new.1)) (O.faults self.new.1 ≡ O.faults self.old.1) ⊥) }
+        ensures meta { O.tells → OnErr result (O.reads self.new.1 meta_name ≡ O.reads self.old.1 meta_name) }
+        ensures locks { O.tells_locks → SameLocks (O.locks self.old.1) (O.locks self.new.1) }
+        ensures clock { O.moment self.old.1 ≤ O.moment self.new.1 }
+        ensures refusals { O.refusals self.new.1 ≡ O.refusals self.old.1 }
+        ensures reading { self.new.0.reading ≡ self.old.0.reading }
+    {
+        if self.is_in_use(id)? {
+            let answer = self.refuse("id-in-use")?;
+            return Ok(answer);
+        }
+        // Asking for its bytes tells that the id has sixteen, as each kept id must.
+        let _id = id.as_bytes();
+        let answer = Answer::new(self.alloc, "segment")?.id(id)?;
+        let answer = self.ready(answer)?;
+        let fresh = LiveSegment {
+            max_doc: 0,
+            deletes: None,
+        };
+        self.live.insert(id, fresh)?;
+        Ok(answer)
+    }
+
+    // How many documents a live segment has.
+    pub(crate) fn docs(&mut self, id: SegmentId, max_doc: u32) -> Result<Answer, TantivyError>
+        ensures step { O.tells → (s : State) → Holds (O.reads self.old.1) self.old.0 s → IfOk result (λ answer. (answer ≡ (docs_step s id max_doc).0) × Holds (O.reads self.new.1) self.new.0 (docs_step s id max_doc).1) }
+        ensures room { IfOk result (λ answer. length answer < O.room self.new.1) }
+        ensures heard { O.heard self.new.1 ≡ O.heard self.old.1 }
+        ensures open { self.new.2 ≡ self.old.2 }
+        ensures schema { self.new.0.schema ≡ self.old.0.schema }
+        ensures lens { (bound : ℕ) → AtMost bound self.old.0 → AtMost bound self.new.0 }
+        ensures quiet { OnOk result (O.faults self.new.1 ≡ O.faults self.old.1) }
+        ensures cause { IfErr result (EventCause (Rose (O.faults self.old.1) (O.faults self.new.1)) (O.faults self.new.1 ≡ O.faults self.old.1) ⊥) }
+        ensures meta { O.tells → OnErr result (O.reads self.new.1 meta_name ≡ O.reads self.old.1 meta_name) }
+        ensures locks { O.tells_locks → SameLocks (O.locks self.old.1) (O.locks self.new.1) }
+        ensures clock { O.moment self.old.1 ≤ O.moment self.new.1 }
+        ensures refusals { O.refusals self.new.1 ≡ O.refusals self.old.1 }
+        ensures reading { self.new.0.reading ≡ self.old.0.reading }
+    {
+        let Some(segment) = self.live.get(&id).copied() else {
+            let answer = self.refuse("unknown-segment")?;
+            return Ok(answer);
+        };
+        if segment.max_doc != 0 || segment.deletes.is_some() {
+            let answer = self.refuse("wrong-docs")?;
+            return Ok(answer);
+        }
+        let answer = Answer::new(self.alloc, "docs")?
+            .id(id)?
+            .number(u64::from(max_doc))?;
+        let answer = self.ready(answer)?;
+        self.live.insert(id, LiveSegment { max_doc, ..segment })?;
+        Ok(answer)
+    }
+
+    // The line with the managed names.
+    pub(crate) fn managed_names(&self) -> Result<Answer, Memory>
+        ensures { IfOk result (λ answer. answer ≡ line (codes "managed") self.now.0.managed) }
+    {
+        let mut answer = Answer::new(self.alloc, "managed")?;
+        for name in self.files.managed() {
+            answer = answer.word(name.as_bytes())?;
+        }
+        Ok(answer)
+    }
+
+    // The managed names.
+    pub(crate) fn managed(&mut self) -> Result<Answer, TantivyError>
+        ensures step { O.tells → (s : State) → Holds (O.reads self.old.1) self.old.0 s → IfOk result (λ answer. (answer ≡ (managed_step s).0) × Holds (O.reads self.new.1) self.new.0 (managed_step s).1) }
+        ensures room { IfOk result (λ answer. length answer < O.room self.new.1) }
+        ensures heard { O.heard self.new.1 ≡ O.heard self.old.1 }
+        ensures open { self.new.2 ≡ self.old.2 }
+        ensures schema { self.new.0.schema ≡ self.old.0.schema }
+        ensures lens { (bound : ℕ) → AtMost bound self.old.0 → AtMost bound self.new.0 }
+        ensures quiet { OnOk result (O.faults self.new.1 ≡ O.faults self.old.1) }
+        ensures cause { IfErr result (EventCause (Rose (O.faults self.old.1) (O.faults self.new.1)) (O.faults self.new.1 ≡ O.faults self.old.1) ⊥) }
+        ensures meta { O.tells → OnErr result (O.reads self.new.1 meta_name ≡ O.reads self.old.1 meta_name) }
+        ensures locks { O.tells_locks → SameLocks (O.locks self.old.1) (O.locks self.new.1) }
+        ensures clock { O.moment self.old.1 ≤ O.moment self.new.1 }
+        ensures refusals { O.refusals self.new.1 ≡ O.refusals self.old.1 }
+        ensures reading { self.new.0.reading ≡ self.old.0.reading }
+    {
+        let answer = self.managed_names()?;
+        let ready = self.ready(answer)?;
+        Ok(ready)
+    }
+}
