@@ -57,26 +57,3 @@ impl Field {
         self.0
     }
 }
-
-#[cfg(test)]
-mod tests {
-    use super::*;
-
-    #[test]
-    fn addresses_are_ordered(rt: HostRuntime) {
-        let rows = [(0, 0), (0, 7), (1, 3), (2, 0)];
-        for (before, after) in rows.iter().zip(rows[1..].iter()) {
-            let low = DocAddress::new(before.0, before.1);
-            let high = DocAddress::new(after.0, after.1);
-            assert!(rt; low < high);
-            assert!(rt; low == DocAddress::new(before.0, before.1));
-        }
-    }
-
-    #[test]
-    fn fields_have_numbers(rt: HostRuntime) {
-        let field = Field::from_field_id(3);
-        assert_eq!(rt; field.field_id(), 3);
-        assert!(rt; field < Field::from_field_id(4));
-    }
-}

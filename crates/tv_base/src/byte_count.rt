@@ -20,21 +20,3 @@ impl ByteCount {
         ByteCount(self.0.saturating_add(other.0))
     }
 }
-
-#[cfg(test)]
-mod tests {
-    use super::*;
-
-    #[test]
-    fn sums_and_order(rt: HostRuntime) {
-        let rows = [
-            (2, 3, 5),
-            (u64::MAX, 0, u64::MAX),
-            (u64::MAX - 1, 2, u64::MAX),
-        ];
-        for (one, other, want) in rows {
-            assert_eq!(rt; ByteCount(one).plus(ByteCount(other)).get_bytes(), want);
-        }
-        assert!(rt; ByteCount(2) < ByteCount(10));
-    }
-}

@@ -14,8 +14,6 @@ mod open_errors;
 mod sink;
 mod slices;
 mod source;
-#[cfg(test)]
-mod tests;
 mod versions;
 mod vint;
 mod writers;

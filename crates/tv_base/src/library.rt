@@ -21,20 +21,3 @@ pub fn version_string() -> &'static str
 {
     "tantivy v0.26.2, index_format v7"
 }
-
-#[cfg(test)]
-mod tests {
-    use super::*;
-
-    #[test]
-    fn the_version_in_numbers_and_as_a_text(rt: HostRuntime) {
-        let want = Version {
-            major: 0,
-            minor: 26,
-            patch: 2,
-            index_format_version: 7,
-        };
-        assert!(rt; version() == want);
-        assert_eq!(rt; version_string(), "tantivy v0.26.2, index_format v7");
-    }
-}

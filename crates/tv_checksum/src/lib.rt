@@ -4,8 +4,6 @@
 ghost use Rattle.std.specs.Prelude.{◌≡◌, ℕ, List, [], ◌++◌};
 
 mod crc32;
-#[cfg(test)]
-mod tests;
 
 pub use crc32::Crc32;
 

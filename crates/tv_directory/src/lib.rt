@@ -7,8 +7,6 @@ mod bench_device;
 mod bench_directory;
 mod bench_told;
 mod dir_writer;
-#[cfg(test)]
-mod dir_writer_tests;
 mod directory;
 mod files;
 mod lock;
@@ -16,14 +14,8 @@ mod outside;
 mod persist;
 mod ram_calls;
 mod ram_directory;
-#[cfg(test)]
-mod ram_tests;
-#[cfg(test)]
-mod tests;
 mod watch;
 mod watch_list;
-#[cfg(test)]
-mod watch_tests;
 
 pub use bench::Bench;
 pub use dir_writer::DirWriter;

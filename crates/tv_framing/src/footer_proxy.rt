@@ -49,16 +49,6 @@ impl<W: TerminatingWrite, C: Checksum> FooterProxy<W, C> {
     }
 }
 
-#[cfg(test)]
-impl<W: TerminatingWrite, C: Checksum + Drop> FooterProxy<W, C> {
-    // The writer below.
-    pub(crate) fn into_writer(self) -> W
-        ensures { result ≡ self.writer }
-    {
-        self.writer
-    }
-}
-
 impl<W: TerminatingWrite, C: Checksum + Drop> TerminatingWrite for FooterProxy<W, C> {
     ghost taken = { body_taken W.taken };
 

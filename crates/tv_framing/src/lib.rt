@@ -23,8 +23,6 @@ mod searcher_usage;
 mod segment_usage;
 mod starts;
 mod store_usage;
-#[cfg(test)]
-mod tests;
 
 pub use address::FileAddr;
 pub use column_usage::ColumnSpaceUsage;

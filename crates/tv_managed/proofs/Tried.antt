@@ -1,13 +1,15 @@
 -- How far the trying of some names has come.
-use Rattle.std.proofs.Common.{◌≡◌, ◌≢◌, ◌≤◌, ◌+◌, ℕ, Bool, true, false, ◌||◌, inl, inr, ⊎_elim, List, [], ◌∷◌, ◌++◌, length, None, refl, sym, ap, subst, ◌∙◌, arith, true≢false, append_assoc, length-append, append-nil}
+use Rattle.std.proofs.Common.{◌≡◌, ◌≢◌, ◌≤◌, ◌+◌, ℕ, Bool, true, false, ◌||◌, inl, inr, ⊎_elim, List, [], ◌∷◌, ◌++◌, length, None, refl, sym, ap, subst, ◌∙◌, arith, true≢false, append_assoc, length-append, append-nil, String, Global, string_bytes}
+use Rattle.std.specs.Prelude.{if◌then◌else◌}
 use Rattle.std.specs.List.{list_all}
 use Rattle.tv_model.specs.Names.{is, has, is_plain, list_name}
 use Rattle.tv_model.specs.Collections.{done_of, failed_of, without}
 use Rattle.tv_model.specs.Files.{Reads, Same, KeepsOthers, Rose}
 use Rattle.tv_model.proofs.Entries.{is_itself, is_text}
 use Rattle.tv_model.proofs.PlainNames.{both}
-use Rattle.tv_managed.specs.Collecting.{Leaves, Tries, FailsAtMost}
-use Rattle.tv_managed.proofs.Removals.{has_last, either_false, without_none, without_last, done_true, done_false, failed_true, failed_false, untried, not_first, has_without, has_between, has_fewer}
+use Rattle.tv_directory.specs.declared.directory.Directory.{Ghosts}
+use Rattle.tv_managed.specs.Collecting.{Leaves, Tries, TriesName, FailsAtMost, SparesWriters, names_of}
+use Rattle.tv_managed.proofs.Removals.{has_last, names_last, either_false, without_none, without_last, done_true, done_false, failed_true, failed_false, untried, not_first, has_without, has_between, has_fewer}
 
 -- some first names were tried, and these are left
 pub record Tried (names rest before now deleted failed : List (List ℕ)) (tells : Type 0) (old new : Reads) (count counted : ℕ) : Type 0 where
@@ -129,6 +131,32 @@ tried_failed names rest before now deleted failed others tells old new count cou
       calm = λ e. absurd (isnt_empty failed name (sym said ∙ e));
       fits = λ e. fits;
     }
+
+-- one more name was tried
+pub tried_next : {D W C : Type 0} (g : Ghosts D W C) (gone : Bool) (names rest others deleted failed deleted2 failed2 : List (List ℕ)) (name : List ℕ) (first old new : D × List (List ℕ))
+    → Tried names rest first.1 old.1 deleted failed g.tells (g.reads first.0) (g.reads old.0) (g.refusals first.0) (g.refusals old.0)
+    → rest ≡ name ∷ others → TriesName g name old new gone → g.refusals new.0 ≤ 18446744073709551615
+    → deleted2 ≡ (if gone then deleted ++ name ∷ [] else deleted) → failed2 ≡ (if gone then failed else failed ++ name ∷ [])
+    → Tried names others first.1 new.1 deleted2 failed2 g.tells (g.reads first.0) (g.reads new.0) (g.refusals first.0) (g.refusals new.0)
+tried_next g true names rest others deleted failed deleted2 failed2 name first old new t next e fits done kept =
+    subst (λ (f : List (List ℕ)). Tried names others first.1 new.1 deleted2 f g.tells (g.reads first.0) (g.reads new.0) (g.refusals first.0) (g.refusals new.0)) (sym kept)
+    (tried_done names rest first.1 old.1 deleted failed others g.tells (g.reads first.0) (g.reads old.0) (g.refusals first.0) (g.refusals old.0) name new.1 (g.reads new.0) (g.refusals new.0) deleted2 t next
+    e.managed (λ tell. e.gone tell refl) e.others (e.done refl) done)
+tried_next g false names rest others deleted failed deleted2 failed2 name first old new t next e fits kept done =
+    subst (λ (d : List (List ℕ)). Tried names others first.1 new.1 d failed2 g.tells (g.reads first.0) (g.reads new.0) (g.refusals first.0) (g.refusals new.0)) (sym kept)
+    (tried_failed names rest first.1 old.1 deleted failed others g.tells (g.reads first.0) (g.reads old.0) (g.refusals first.0) (g.refusals old.0) name new.1 (g.reads new.0) (g.refusals new.0) failed2 t next
+    e.managed (λ tell. e.same tell refl) (e.failed refl) fits done)
+
+-- the names of texts, to which one was added or not
+pub added_is : (gone : Bool) (texts more : List (String Global)) (text : String Global) (name : List ℕ) → more ≡ (if gone then texts ++ text ∷ [] else texts) → name ≡ string_bytes text
+    → names_of more ≡ (if gone then names_of texts ++ name ∷ [] else names_of texts)
+added_is true texts more text name is named = ap names_of is ∙ names_last texts text ∙ ap (λ (n : List ℕ). names_of texts ++ n ∷ []) (sym named)
+added_is false texts more text name is named = ap names_of is
+
+pub added_else : (gone : Bool) (texts more : List (String Global)) (text : String Global) (name : List ℕ) → more ≡ (if gone then texts else texts ++ text ∷ []) → name ≡ string_bytes text
+    → names_of more ≡ (if gone then names_of texts else names_of texts ++ name ∷ [])
+added_else true texts more text name is named = ap names_of is
+added_else false texts more text name is named = ap names_of is ∙ names_last texts text ∙ ap (λ (n : List ℕ). names_of texts ++ n ∷ []) (sym named)
 
 -- nothing was done
 pub tried_same : (names rest before now deleted failed : List (List ℕ)) (tells : Type 0) (old new : Reads) (count counted : ℕ) (now2 : List (List ℕ)) (new2 : Reads) (counted2 : ℕ) → Tried names rest before now deleted failed tells old new count counted
@@ -307,3 +335,10 @@ pub not_last : (names more : List (List ℕ)) (name n : List ℕ) → more ≡ n
 not_last names more name n e h =
     let p = either_false (has names n) (is name n) (sym (has_last names name n) ∙ ap (λ (l : List (List ℕ)). has l n) (sym e) ∙ h) in
     (p.0, λ same. true≢false (sym (is_itself name) ∙ ap (λ (m : List ℕ). is name m) (sym same) ∙ p.1))
+
+-- writers of names that aren't gone live on
+pub spares_next : {D W C : Type 0} (g : Ghosts D W C) (gone : Bool) (name : List ℕ) (deleted deleted2 : List (List ℕ)) (first old new : D) → SparesWriters deleted g.name_of (g.lives first) (g.lives old)
+    → ((w : W) → g.name_of w ≢ name → g.lives old w ≡ true → g.lives new w ≡ true) → (gone ≡ false → (w : W) → g.lives old w ≡ true → g.lives new w ≡ true)
+    → deleted2 ≡ (if gone then deleted ++ name ∷ [] else deleted) → SparesWriters deleted2 g.name_of (g.lives first) (g.lives new)
+spares_next g true name deleted deleted2 first old new spares others kept is = λ w h l. let p = not_last deleted deleted2 name (g.name_of w) is h in others w p.1 (spares w p.0 l)
+spares_next g false name deleted deleted2 first old new spares others kept is = λ w h l. kept refl w (spares w (ap (λ (ns : List (List ℕ)). has ns (g.name_of w)) (sym is) ∙ h) l)

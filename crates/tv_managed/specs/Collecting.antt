@@ -1,12 +1,13 @@
 -- What a collection does to a directory and its list.
-use Rattle.std.specs.Prelude.{ℕ, ◌≡◌, ◌≢◌, ◌≤◌, ◌+◌, ◌⊎◌, Bool, true, false, List, [], ◌++◌, String, None, codes, length, map, string_bytes}
+use Rattle.std.specs.Prelude.{ℕ, ◌≡◌, ◌≢◌, ◌≤◌, ◌+◌, ◌⊎◌, Bool, true, false, List, [], ◌∷◌, ◌++◌, String, None, codes, length, map, string_bytes, if◌then◌else◌}
 use Rattle.tv_model.specs.Names.{has, list_name}
 use Rattle.tv_model.specs.Collections.{collectable, done_of, failed_of, without}
-use Rattle.tv_model.specs.Files.{Reads}
+use Rattle.tv_model.specs.Files.{Reads, Same, KeepsOthers, Rose}
 use Rattle.tv_base.specs.Causes.{IsDevice}
 use Rattle.tv_base.specs.declared.error.TantivyError.{TantivyError}
 use Rattle.tv_base.specs.declared.error.TantivyError.TheVariants as errors
 use Rattle.tv_directory.specs.Locks.{LockCause}
+use Rattle.tv_directory.specs.declared.directory.Directory.{Ghosts}
 
 -- texts, as names
 abbrev pub names_of : {X : Type 0} → List (String X) → List (List ℕ)
@@ -42,6 +43,22 @@ pub record Tries (names before after deleted failed : List (List ℕ)) (tells : 
   pub gone : tells → (n : List ℕ) → has deleted n ≡ true → new n ≡ None
   -- every other name but that of the list reads what it read
   pub others : tells → (n : List ℕ) → has deleted n ≡ false → n ≢ list_name → new n ≡ old n
+
+-- What trying a name gave: it doesn't read and isn't managed any more, or all is as it was, and the device refused its delete.
+pub record TriesName {D W C : Type 0} (g : Ghosts D W C) (name : List ℕ) (old new : D × List (List ℕ)) (is_gone : Bool) : Type 0 where
+  pub managed : new.1 ≡ (if is_gone then without (name ∷ []) old.1 else old.1)
+  pub gone : g.tells → is_gone ≡ true → g.reads new.0 name ≡ None
+  pub others : g.tells → KeepsOthers (g.reads old.0) (g.reads new.0) name
+  pub same : g.tells → is_gone ≡ false → Same (g.reads old.0) (g.reads new.0)
+  pub done : is_gone ≡ true → g.refusals new.0 ≡ g.refusals old.0
+  pub failed : is_gone ≡ false → Rose (g.refusals old.0) (g.refusals new.0)
+  pub kept : is_gone ≡ false → (w : W) → g.lives old.0 w ≡ true → g.lives new.0 w ≡ true
+
+-- a name wasn't tried: the same names are managed, each reads what it read, and no delete was refused
+pub record TriesNothing {D W C : Type 0} (g : Ghosts D W C) (old new : D × List (List ℕ)) : Type 0 where
+  pub managed : new.1 ≡ old.1
+  pub content : g.tells → Same (g.reads old.0) (g.reads new.0)
+  pub refusals : g.refusals new.0 ≡ g.refusals old.0
 
 -- every writer of a name that wasn't tried lives as it did
 abbrev pub SparesWriters : {W : Type 0} → (names : List (List ℕ)) → (name_of : W → List ℕ) → (before after : W → Bool) → Type 0

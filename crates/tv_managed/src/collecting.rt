@@ -1,5 +1,5 @@
 //! Deletes the managed files that nothing needs.
-ghost use Rattle.std.specs.Prelude.{◌≡◌, ◌≢◌, ◌≤◌, ◌⊎◌, [], ◌∷◌, ℕ, List, true, false, length, None, IsSome, IfOk, IfErr, OnOk, OnErr, if◌then◌else◌};
+ghost use Rattle.std.specs.Prelude.{◌≡◌, ◌≢◌, ◌≤◌, ◌⊎◌, [], ◌∷◌, ◌++◌, ℕ, List, true, false, length, None, IsSome, IfOk, IfErr, OnOk, OnErr, if◌then◌else◌};
 ghost use Rattle.std.specs.List.{list_all};
 ghost use Rattle.tv_model.specs.Names.{is_file_name, is_plain, list_name};
 ghost use Rattle.tv_model.specs.Listing.{Lists};
@@ -8,7 +8,8 @@ ghost use Rattle.tv_model.specs.Files.{Same, Sets, KeepsOthers, Rose};
 ghost use Rattle.tv_base.specs.Causes.{IoCause, DeleteCause};
 ghost use Rattle.tv_directory.specs.Locks.{SameLocks};
 ghost use Rattle.tv_managed.specs.Managed.{Covers};
-ghost use Rattle.tv_managed.specs.Collecting.{Among, meta_lock_name, names_of, Leaves, Tries, SparesWriters, FailsAtMost, CollectCause, is_lock_failure};
+ghost use Rattle.tv_managed.specs.Frames.{Frame, GoesOn, IoFaults};
+ghost use Rattle.tv_managed.specs.Collecting.{Among, meta_lock_name, names_of, Leaves, Tries, TriesName, TriesNothing, SparesWriters, FailsAtMost, CollectCause, is_lock_failure};
 
 use crate::list::save_list;
 use crate::managed_directory::ManagedDirectory;
@@ -24,6 +25,21 @@ use tv_model::Memory;
 pub struct GarbageCollectionResult {
     pub deleted_files: Vec<String>,
     pub failed_to_delete_files: Vec<String>,
+}
+
+impl GarbageCollectionResult {
+    // Adds a name that was tried: it is gone, or its delete was refused.
+    fn add(&mut self, name: String, gone: bool) -> Result<(), Memory>
+        ensures deleted { OnOk result (self.new.deleted_files.items ≡ (if gone then self.old.deleted_files.items ++ name ∷ [] else self.old.deleted_files.items)) }
+        ensures failed { OnOk result (self.new.failed_to_delete_files.items ≡ (if gone then self.old.failed_to_delete_files.items else self.old.failed_to_delete_files.items ++ name ∷ [])) }
+    {
+        if gone {
+            self.deleted_files.push(name)?;
+        } else {
+            self.failed_to_delete_files.push(name)?;
+        }
+        Ok(())
+    }
 }
 
 impl<D: Directory> ManagedDirectory<D> {
@@ -101,15 +117,7 @@ impl<D: Directory> ManagedDirectory<D> {
         ensures free { D.tells_locks → OnOk result (D.locks self.old.0 meta_lock_name ≡ false) }
         ensures busy { D.tells_locks → IfErr result (CollectCause (D.locks self.old.0 meta_lock_name ≡ true) (Unit {0}) (Unit {0})) }
         ensures cause { IfErr result (CollectCause ((D.tells_locks × (D.faults self.new.0 ≡ D.faults self.old.0)) ⊎ Rose (D.faults self.old.0) (D.faults self.new.0)) (Rose (D.faults self.old.0) (D.faults self.new.0)) (D.faults self.new.0 ≡ D.faults self.old.0)) }
-        ensures refusals { D.refusals self.new.0 ≡ D.refusals self.old.0 }
-        ensures writers { (w : _) → D.opened self.old.0 w ≡ true → D.opened self.new.0 w ≡ true }
-        ensures alive { (w : _) → D.lives self.old.0 w ≡ true → D.lives self.new.0 w ≡ true }
-        ensures ended { (w : _) → D.opened self.old.0 w ≡ true → D.lives self.old.0 w ≡ false → D.lives self.new.0 w ≡ false }
-        ensures locks { D.tells_locks → SameLocks (D.locks self.old.0) (D.locks self.new.0) }
-        ensures watched { D.watched self.new.0 ≡ D.watched self.old.0 }
-        ensures clock { D.moment self.old.0 ≤ D.moment self.new.0 }
-        ensures heard { D.heard self.new.0 ≡ D.heard self.old.0 }
-        ensures room { D.room self.old.0 ≤ D.room self.new.0 }
+        ensures frame { Frame D.Directory self.old.0 self.new.0 }
     {
         let lock = self.acquire_lock(&meta_lock())?;
         let answer = call();
@@ -134,13 +142,7 @@ impl<D: Directory> ManagedDirectory<D> {
         ensures quiet { OnOk result (D.faults self.new.0 ≡ D.faults self.old.0) }
         ensures cause { IfErr result (CollectCause ⊥ (Rose (D.faults self.old.0) (D.faults self.new.0)) (D.faults self.new.0 ≡ D.faults self.old.0)) }
         ensures unlocked { IfErr result (λ e. is_lock_failure e ≡ false) }
-        ensures writers { (w : _) → D.opened self.old.0 w ≡ true → D.opened self.new.0 w ≡ true }
-        ensures ended { (w : _) → D.opened self.old.0 w ≡ true → D.lives self.old.0 w ≡ false → D.lives self.new.0 w ≡ false }
-        ensures locks { D.tells_locks → SameLocks (D.locks self.old.0) (D.locks self.new.0) }
-        ensures watched { D.watched self.new.0 ≡ D.watched self.old.0 }
-        ensures clock { D.moment self.old.0 ≤ D.moment self.new.0 }
-        ensures heard { D.heard self.new.0 ≡ D.heard self.old.0 }
-        ensures room { D.room self.old.0 ≤ D.room self.new.0 }
+        ensures goes_on { GoesOn D.Directory self.old.0 self.new.0 }
     {
         let names = names_to_collect(self.alloc, living, &self.managed)?;
         self.sync_directory()?;
@@ -161,52 +163,28 @@ impl<D: Directory> ManagedDirectory<D> {
         ensures calm { IfOk result (λ r. names_of r.failed_to_delete_files.items ≡ [] → D.refusals self.new.0 ≡ D.refusals self.old.0) }
         ensures fits { D.refusals self.old.0 ≤ 18446744073709551615 → D.refusals self.new.0 ≤ 18446744073709551615 }
         ensures faults { D.faults self.new.0 ≡ D.faults self.old.0 }
-        ensures writers { (w : _) → D.opened self.old.0 w ≡ true → D.opened self.new.0 w ≡ true }
-        ensures ended { (w : _) → D.opened self.old.0 w ≡ true → D.lives self.old.0 w ≡ false → D.lives self.new.0 w ≡ false }
-        ensures locks { D.tells_locks → SameLocks (D.locks self.old.0) (D.locks self.new.0) }
-        ensures watched { D.watched self.new.0 ≡ D.watched self.old.0 }
-        ensures clock { D.moment self.old.0 ≤ D.moment self.new.0 }
-        ensures heard { D.heard self.new.0 ≡ D.heard self.old.0 }
-        ensures room { D.room self.old.0 ≤ D.room self.new.0 }
+        ensures goes_on { GoesOn D.Directory self.old.0 self.new.0 }
     {
-        let mut deleted_files = Vec::new(self.alloc);
-        let mut failed_to_delete_files = Vec::new(self.alloc);
+        let mut tried = GarbageCollectionResult {
+            deleted_files: Vec::new(self.alloc),
+            failed_to_delete_files: Vec::new(self.alloc),
+        };
         for name in names {
-            if self.delete_managed(name.as_str())? {
-                deleted_files.push(name)?;
-            } else {
-                failed_to_delete_files.push(name)?;
-            }
+            let gone = self.delete_managed(name.as_str())?;
+            tried.add(name, gone)?;
         }
-        Ok(GarbageCollectionResult {
-            deleted_files,
-            failed_to_delete_files,
-        })
+        Ok(tried)
     }
 
     // Deletes a managed name, and answers whether it is gone; then it isn't managed any more.
     fn delete_managed(&mut self, name: &str) -> Result<bool, Memory>
         requires { is_plain name.now ≡ true }
-        ensures names { IfOk result (λ gone. self.new.1 ≡ (if gone then without (name.now ∷ []) self.old.1 else self.old.1)) }
-        ensures names_err { OnErr result (self.new.1 ≡ self.old.1) }
-        ensures gone { D.tells → IfOk result (λ gone. gone ≡ true → D.reads self.new.0 name.now ≡ None) }
-        ensures others { D.tells → KeepsOthers (D.reads self.old.0) (D.reads self.new.0) name.now }
-        ensures same { D.tells → IfOk result (λ gone. gone ≡ false → Same (D.reads self.old.0) (D.reads self.new.0)) }
-        ensures err { D.tells → OnErr result (Same (D.reads self.old.0) (D.reads self.new.0)) }
-        ensures done { IfOk result (λ gone. gone ≡ true → D.refusals self.new.0 ≡ D.refusals self.old.0) }
-        ensures failed { IfOk result (λ gone. gone ≡ false → Rose (D.refusals self.old.0) (D.refusals self.new.0)) }
-        ensures memory { OnErr result (D.refusals self.new.0 ≡ D.refusals self.old.0) }
+        ensures tried { IfOk result (λ gone. TriesName D.Directory name.now self.old self.new gone) }
+        ensures err { OnErr result (TriesNothing D.Directory self.old self.new) }
         ensures fits { D.refusals self.new.0 ≤ 18446744073709551615 }
         ensures faults { D.faults self.new.0 ≡ D.faults self.old.0 }
         ensures alive { (w : _) → D.name_of w ≢ name.now → D.lives self.old.0 w ≡ true → D.lives self.new.0 w ≡ true }
-        ensures kept { IfOk result (λ gone. gone ≡ false → (w : _) → D.lives self.old.0 w ≡ true → D.lives self.new.0 w ≡ true) }
-        ensures writers { (w : _) → D.opened self.old.0 w ≡ true → D.opened self.new.0 w ≡ true }
-        ensures ended { (w : _) → D.opened self.old.0 w ≡ true → D.lives self.old.0 w ≡ false → D.lives self.new.0 w ≡ false }
-        ensures locks { D.tells_locks → SameLocks (D.locks self.old.0) (D.locks self.new.0) }
-        ensures watched { D.watched self.new.0 ≡ D.watched self.old.0 }
-        ensures clock { D.moment self.old.0 ≤ D.moment self.new.0 }
-        ensures heard { D.heard self.new.0 ≡ D.heard self.old.0 }
-        ensures room { D.room self.old.0 ≤ D.room self.new.0 }
+        ensures goes_on { GoesOn D.Directory self.old.0 self.new.0 }
     {
         match self.directory.delete(name) {
             Ok(()) => {
@@ -241,23 +219,13 @@ impl<D: Directory> ManagedDirectory<D> {
         ensures ok { D.tells → (names_of deleted.now ≡ [] → Lists (D.reads self.old.0 list_name) self.old.1) → OnOk result (Lists (D.reads self.new.0 list_name) self.new.1) }
         ensures saved { D.tells → KeepsOthers (D.reads self.old.0) (D.reads self.new.0) list_name }
         ensures covers { D.tells → Covers (D.reads self.old.0 list_name) self.old.1 → Covers (D.reads self.new.0 list_name) self.new.1 }
-        ensures quiet { OnOk result (D.faults self.new.0 ≡ D.faults self.old.0) }
-        ensures cause { IfErr result (IoCause (Rose (D.faults self.old.0) (D.faults self.new.0)) (D.faults self.new.0 ≡ D.faults self.old.0)) }
-        ensures refusals { D.refusals self.new.0 ≡ D.refusals self.old.0 }
-        ensures writers { (w : _) → D.opened self.old.0 w ≡ true → D.opened self.new.0 w ≡ true }
-        ensures alive { (w : _) → D.lives self.old.0 w ≡ true → D.lives self.new.0 w ≡ true }
-        ensures ended { (w : _) → D.opened self.old.0 w ≡ true → D.lives self.old.0 w ≡ false → D.lives self.new.0 w ≡ false }
-        ensures locks { D.tells_locks → SameLocks (D.locks self.old.0) (D.locks self.new.0) }
-        ensures watched { D.watched self.new.0 ≡ D.watched self.old.0 }
-        ensures clock { D.moment self.old.0 ≤ D.moment self.new.0 }
-        ensures heard { D.heard self.new.0 ≡ D.heard self.old.0 }
-        ensures room { D.room self.old.0 ≤ D.room self.new.0 }
+        ensures faults { IoFaults D.Directory self.old.0 self.new.0 result }
+        ensures frame { Frame D.Directory self.old.0 self.new.0 }
     {
         if deleted.is_empty() {
             return Ok(());
         }
-        self.save_shorter()?;
-        Ok(())
+        self.save_shorter()
     }
 
     // Waits until the device has kept what was deleted, and saves the list.
@@ -266,21 +234,11 @@ impl<D: Directory> ManagedDirectory<D> {
         ensures ok { D.tells → OnOk result (Lists (D.reads self.new.0 list_name) self.new.1) }
         ensures saved { D.tells → KeepsOthers (D.reads self.old.0) (D.reads self.new.0) list_name }
         ensures covers { D.tells → Covers (D.reads self.old.0 list_name) self.old.1 → Covers (D.reads self.new.0 list_name) self.new.1 }
-        ensures quiet { OnOk result (D.faults self.new.0 ≡ D.faults self.old.0) }
-        ensures cause { IfErr result (IoCause (Rose (D.faults self.old.0) (D.faults self.new.0)) (D.faults self.new.0 ≡ D.faults self.old.0)) }
-        ensures refusals { D.refusals self.new.0 ≡ D.refusals self.old.0 }
-        ensures writers { (w : _) → D.opened self.old.0 w ≡ true → D.opened self.new.0 w ≡ true }
-        ensures alive { (w : _) → D.lives self.old.0 w ≡ true → D.lives self.new.0 w ≡ true }
-        ensures ended { (w : _) → D.opened self.old.0 w ≡ true → D.lives self.old.0 w ≡ false → D.lives self.new.0 w ≡ false }
-        ensures locks { D.tells_locks → SameLocks (D.locks self.old.0) (D.locks self.new.0) }
-        ensures watched { D.watched self.new.0 ≡ D.watched self.old.0 }
-        ensures clock { D.moment self.old.0 ≤ D.moment self.new.0 }
-        ensures heard { D.heard self.new.0 ≡ D.heard self.old.0 }
-        ensures room { D.room self.old.0 ≤ D.room self.new.0 }
+        ensures faults { IoFaults D.Directory self.old.0 self.new.0 result }
+        ensures frame { Frame D.Directory self.old.0 self.new.0 }
     {
         self.directory.sync_directory()?;
-        save_list(self.alloc, &mut self.directory, &self.managed)?;
-        Ok(())
+        save_list(self.alloc, &mut self.directory, &self.managed)
     }
 }
 

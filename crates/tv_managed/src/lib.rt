@@ -7,8 +7,6 @@ mod managed_directory;
 mod reading;
 mod sharing;
 mod telling;
-#[cfg(test)]
-mod tests;
 mod writer;
 
 pub use collecting::GarbageCollectionResult;

@@ -3,8 +3,7 @@ ghost use Rattle.std.specs.Prelude.{◌≡◌, ◌≤◌, [], ◌∷◌, ◌++�
 ghost use Rattle.tv_model.specs.Names.{list_name};
 ghost use Rattle.tv_model.specs.Listing.{list_text, quoted};
 ghost use Rattle.tv_model.specs.Files.{Sets, MaySet, Rose};
-ghost use Rattle.tv_base.specs.Causes.{IoCause};
-ghost use Rattle.tv_directory.specs.Locks.{SameLocks};
+ghost use Rattle.tv_managed.specs.Frames.{Frame, IoFaults};
 
 use std::alloc::Global;
 use std::collections::BTreeSet;
@@ -48,17 +47,8 @@ pub(crate) fn save_list<D: Directory>(
 ) -> Result<(), IoError>
     ensures ok { D.tells → OnOk result (Sets (D.reads directory.old) (D.reads directory.new) list_name (Some (list_text (map string_bytes names.now.keys)))) }
     ensures err { D.tells → MaySet (D.reads directory.old) (D.reads directory.new) list_name (Some (list_text (map string_bytes names.now.keys))) }
-    ensures quiet { OnOk result (D.faults directory.new ≡ D.faults directory.old) }
-    ensures cause { IfErr result (IoCause (Rose (D.faults directory.old) (D.faults directory.new)) (D.faults directory.new ≡ D.faults directory.old)) }
-    ensures refusals { D.refusals directory.new ≡ D.refusals directory.old }
-    ensures writers { (w : _) → D.opened directory.old w ≡ true → D.opened directory.new w ≡ true }
-    ensures alive { (w : _) → D.lives directory.old w ≡ true → D.lives directory.new w ≡ true }
-    ensures ended { (w : _) → D.opened directory.old w ≡ true → D.lives directory.old w ≡ false → D.lives directory.new w ≡ false }
-    ensures locks { D.tells_locks → SameLocks (D.locks directory.old) (D.locks directory.new) }
-    ensures watched { D.watched directory.new ≡ D.watched directory.old }
-    ensures clock { D.moment directory.old ≤ D.moment directory.new }
-    ensures heard { D.heard directory.new ≡ D.heard directory.old }
-    ensures room { D.room directory.old ≤ D.room directory.new }
+    ensures faults { IoFaults D.Directory directory.old directory.new result }
+    ensures frame { Frame D.Directory directory.old directory.new }
 {
     let text = list_text(alloc, names)?;
     directory.atomic_write(MANAGED_FILEPATH, text.as_slice())?;

@@ -1,17 +1,20 @@
 //! A directory that writes down the name of each file before it makes the file.
-ghost use Rattle.std.specs.Prelude.{◌≡◌, ◌≢◌, ◌⊎◌, ◌≤◌, ◌<◌, ◌+◌, ◌^◌, ◌++◌, [], true, false, length, Some, None, IsSome, is_some, IfOk, IfErr, OnOk, OnErr, IsOkAnd, map, string_bytes};
+ghost use Rattle.std.specs.Prelude.{List, ℕ, ◌≡◌, ◌≢◌, ◌⊎◌, ◌≤◌, ◌<◌, ◌+◌, ◌^◌, ◌++◌, [], true, false, length, Some, None, IsSome, is_some, IfOk, IfErr, OnOk, OnErr, IsOkAnd, map, string_bytes};
 ghost use Rattle.std.specs.List.{list_all};
 ghost use Rattle.std.specs.BTreeSet.{insert_key};
 ghost use Rattle.tv_model.specs.Names.{byte_cmp, is_file_name, is_plain, is_undotted, list_name};
-ghost use Rattle.tv_model.specs.Footer.{sealed};
+ghost use Rattle.tv_model.specs.Checksum.{crc32};
+ghost use Rattle.tv_model.specs.Footer.{footer, sealed};
 ghost use Rattle.tv_model.specs.Listing.{Lists};
 ghost use Rattle.tv_model.specs.Files.{Same, Sets, KeepsOthers, Rose};
 ghost use Rattle.tv_base.specs.Causes.{IsDevice, IoCause, OpenReadCause, OpenWriteCause};
+ghost use Rattle.tv_checksum.specs.Crc32.{HasTaken};
 ghost use Rattle.tv_directory.specs.Locks.{SameLocks};
 ghost use Rattle.tv_directory.specs.Watch.{IsNewWriter, MayNote, noted};
 ghost use Rattle.tv_managed.specs.Reading.{ReadsBody};
 ghost use Rattle.tv_managed.specs.Writers.{IsSummed};
 ghost use Rattle.tv_managed.specs.Managed.{registered, Covers, KeepsOtherFiles, Makes, ListsNew, MaySave, IsOnList};
+ghost use Rattle.tv_managed.specs.Frames.{Frame, IoFaults, OpenFaults};
 
 use crate::list::save_list;
 use crate::writer::ManagedWriter;
@@ -22,6 +25,7 @@ use tv_base::{IoError, IoFault, OpenReadError, OpenWriteError, TantivyError};
 use tv_checksum::{Checksum, Crc32};
 use tv_directory::Directory;
 use tv_framing::Footer;
+use tv_model::Memory;
 
 /// A directory with the list of the files that it manages. To a contract it is the directory, and
 /// the managed names in their order.
@@ -58,6 +62,13 @@ fn has_no_dot(name: &str) -> bool
     }
 }
 
+// The footer of a file of this checksum.
+fn footer_bytes(alloc: Global, checksum: Crc32) -> Result<Vec<u8>, Memory>
+    ensures { (body : List ℕ) → HasTaken checksum body → IfOk result (λ bytes. bytes.items ≡ footer (crc32 body)) }
+{
+    Footer::new(checksum.finish()).to_bytes(alloc)
+}
+
 impl<D: Directory> ManagedDirectory<D> {
     /// A directory in which no file is listed yet.
     pub fn wrap(alloc: Global, directory: D) -> Result<ManagedDirectory<D>, Refused<D>>
@@ -91,6 +102,24 @@ impl<D: Directory> ManagedDirectory<D> {
         &self.managed
     }
 
+    // Adds a name without a dot in front to the list, where it isn't there yet.
+    fn register_undotted(&mut self, name: &str) -> Result<(), IoError>
+        requires { is_file_name name.now ≡ true }
+        ensures names { OnOk result (self.new.1 ≡ registered self.old.1 name.now) }
+        ensures kept { OnErr result (self.new.1 ≡ self.old.1) }
+        ensures list { D.tells → Lists (D.reads self.old.0 list_name) self.old.1 → OnOk result (Lists (D.reads self.new.0 list_name) self.new.1) }
+        ensures saved { D.tells → KeepsOthers (D.reads self.old.0) (D.reads self.new.0) list_name }
+        ensures covers { D.tells → Covers (D.reads self.old.0 list_name) self.old.1 → Covers (D.reads self.new.0 list_name) self.new.1 }
+        ensures on_list { D.tells → Covers (D.reads self.old.0 list_name) self.old.1 → is_undotted name.now ≡ true → OnOk result (IsOnList (D.reads self.new.0 list_name) name.now) }
+        ensures faults { IoFaults D.Directory self.old.0 self.new.0 result }
+        ensures frame { Frame D.Directory self.old.0 self.new.0 }
+    {
+        if !has_no_dot(name) {
+            return Ok(());
+        }
+        self.register(name)
+    }
+
     // Adds the name to the list, where it isn't there yet. A refused save leaves the names as they were.
     fn register(&mut self, name: &str) -> Result<(), IoError>
         requires { is_plain name.now ≡ true }
@@ -100,17 +129,8 @@ impl<D: Directory> ManagedDirectory<D> {
         ensures saved { D.tells → MaySave (D.reads self.old.0) (D.reads self.new.0) self.old.1 name.now }
         ensures covers { D.tells → Covers (D.reads self.old.0 list_name) self.old.1 → Covers (D.reads self.new.0 list_name) self.new.1 }
         ensures on_list { D.tells → Covers (D.reads self.old.0 list_name) self.old.1 → OnOk result (IsOnList (D.reads self.new.0 list_name) name.now) }
-        ensures quiet { OnOk result (D.faults self.new.0 ≡ D.faults self.old.0) }
-        ensures cause { IfErr result (IoCause (Rose (D.faults self.old.0) (D.faults self.new.0)) (D.faults self.new.0 ≡ D.faults self.old.0)) }
-        ensures refusals { D.refusals self.new.0 ≡ D.refusals self.old.0 }
-        ensures writers { (w : _) → D.opened self.old.0 w ≡ true → D.opened self.new.0 w ≡ true }
-        ensures alive { (w : _) → D.lives self.old.0 w ≡ true → D.lives self.new.0 w ≡ true }
-        ensures ended { (w : _) → D.opened self.old.0 w ≡ true → D.lives self.old.0 w ≡ false → D.lives self.new.0 w ≡ false }
-        ensures locks { D.tells_locks → SameLocks (D.locks self.old.0) (D.locks self.new.0) }
-        ensures watched { D.watched self.new.0 ≡ D.watched self.old.0 }
-        ensures clock { D.moment self.old.0 ≤ D.moment self.new.0 }
-        ensures heard { D.heard self.new.0 ≡ D.heard self.old.0 }
-        ensures room { D.room self.old.0 ≤ D.room self.new.0 }
+        ensures faults { IoFaults D.Directory self.old.0 self.new.0 result }
+        ensures frame { Frame D.Directory self.old.0 self.new.0 }
     {
         if self.managed.contains(name) {
             return Ok(());
@@ -175,10 +195,7 @@ impl<D: Directory> ManagedDirectory<D> {
         ensures heard { D.heard self.new.0 ≡ D.heard self.old.0 }
         ensures room { D.room self.old.0 ≤ D.room self.new.0 }
     {
-        let path = String::from_str(self.alloc, name)?;
-        if self.is_there(name)? {
-            return Err(OpenWriteError::FileAlreadyExists(path));
-        }
+        self.refuse_existing(name)?;
         self.list(name)?;
         let writer = self.directory.open_write(name)?;
         Ok(ManagedWriter {
@@ -187,23 +204,32 @@ impl<D: Directory> ManagedDirectory<D> {
         })
     }
 
+    // An error where the name reads.
+    fn refuse_existing(&mut self, name: &str) -> Result<(), OpenWriteError>
+        requires { is_file_name name.now ≡ true }
+        ensures absent { D.tells → OnOk result (is_some (D.reads self.old.0 name.now) ≡ false) }
+        ensures there { D.tells → IfErr result (OpenWriteCause (IsSome (D.reads self.old.0 name.now)) (Unit {0}) (Unit {0})) }
+        ensures content { D.tells → Same (D.reads self.old.0) (D.reads self.new.0) }
+        ensures names { self.new.1 ≡ self.old.1 }
+        ensures quiet { OnOk result (D.faults self.new.0 ≡ D.faults self.old.0) }
+        ensures cause { IfErr result (OpenWriteCause (D.faults self.new.0 ≡ D.faults self.old.0) (Rose (D.faults self.old.0) (D.faults self.new.0)) (D.faults self.new.0 ≡ D.faults self.old.0)) }
+        ensures frame { Frame D.Directory self.old.0 self.new.0 }
+    {
+        if !self.is_there(name)? {
+            return Ok(());
+        }
+        let path = String::from_str(self.alloc, name)?;
+        Err(OpenWriteError::FileAlreadyExists(path))
+    }
+
     // Whether the name reads, asked before a file is made.
     fn is_there(&mut self, name: &str) -> Result<bool, OpenWriteError>
         requires { is_file_name name.now ≡ true }
         ensures answer { D.tells → IfOk result (λ found. found ≡ is_some (D.reads self.old.0 name.now)) }
         ensures content { D.tells → Same (D.reads self.old.0) (D.reads self.new.0) }
         ensures names { self.new.1 ≡ self.old.1 }
-        ensures quiet { OnOk result (D.faults self.new.0 ≡ D.faults self.old.0) }
-        ensures cause { IfErr result (OpenWriteCause ⊥ (Rose (D.faults self.old.0) (D.faults self.new.0)) (D.faults self.new.0 ≡ D.faults self.old.0)) }
-        ensures refusals { D.refusals self.new.0 ≡ D.refusals self.old.0 }
-        ensures writers { (w : _) → D.opened self.old.0 w ≡ true → D.opened self.new.0 w ≡ true }
-        ensures alive { (w : _) → D.lives self.old.0 w ≡ true → D.lives self.new.0 w ≡ true }
-        ensures ended { (w : _) → D.opened self.old.0 w ≡ true → D.lives self.old.0 w ≡ false → D.lives self.new.0 w ≡ false }
-        ensures locks { D.tells_locks → SameLocks (D.locks self.old.0) (D.locks self.new.0) }
-        ensures watched { D.watched self.new.0 ≡ D.watched self.old.0 }
-        ensures clock { D.moment self.old.0 ≤ D.moment self.new.0 }
-        ensures heard { D.heard self.new.0 ≡ D.heard self.old.0 }
-        ensures room { D.room self.old.0 ≤ D.room self.new.0 }
+        ensures faults { OpenFaults D.Directory self.old.0 self.new.0 result }
+        ensures frame { Frame D.Directory self.old.0 self.new.0 }
     {
         match self.directory.exists(name) {
             Ok(found) => Ok(found),
@@ -225,23 +251,11 @@ impl<D: Directory> ManagedDirectory<D> {
         ensures saved { D.tells → KeepsOthers (D.reads self.old.0) (D.reads self.new.0) list_name }
         ensures covers { D.tells → Covers (D.reads self.old.0 list_name) self.old.1 → Covers (D.reads self.new.0 list_name) self.new.1 }
         ensures on_list { D.tells → Covers (D.reads self.old.0 list_name) self.old.1 → is_undotted name.now ≡ true → OnOk result (IsOnList (D.reads self.new.0 list_name) name.now) }
-        ensures quiet { OnOk result (D.faults self.new.0 ≡ D.faults self.old.0) }
-        ensures cause { IfErr result (OpenWriteCause ⊥ (Rose (D.faults self.old.0) (D.faults self.new.0)) (D.faults self.new.0 ≡ D.faults self.old.0)) }
-        ensures refusals { D.refusals self.new.0 ≡ D.refusals self.old.0 }
-        ensures writers { (w : _) → D.opened self.old.0 w ≡ true → D.opened self.new.0 w ≡ true }
-        ensures alive { (w : _) → D.lives self.old.0 w ≡ true → D.lives self.new.0 w ≡ true }
-        ensures ended { (w : _) → D.opened self.old.0 w ≡ true → D.lives self.old.0 w ≡ false → D.lives self.new.0 w ≡ false }
-        ensures locks { D.tells_locks → SameLocks (D.locks self.old.0) (D.locks self.new.0) }
-        ensures watched { D.watched self.new.0 ≡ D.watched self.old.0 }
-        ensures clock { D.moment self.old.0 ≤ D.moment self.new.0 }
-        ensures heard { D.heard self.new.0 ≡ D.heard self.old.0 }
-        ensures room { D.room self.old.0 ≤ D.room self.new.0 }
+        ensures faults { OpenFaults D.Directory self.old.0 self.new.0 result }
+        ensures frame { Frame D.Directory self.old.0 self.new.0 }
     {
-        if !has_no_dot(name) {
-            return Ok(());
-        }
         let filepath = String::from_str(self.alloc, name)?;
-        match self.register(name) {
+        match self.register_undotted(name) {
             Ok(()) => Ok(()),
             Err(IoError::Memory) => Err(OpenWriteError::Memory),
             Err(IoError::Fault(io_error)) => Err(OpenWriteError::IoError { io_error, filepath }),
@@ -338,10 +352,9 @@ impl<D: Directory> ManagedDirectory<D> {
             mut writer,
             checksum,
         } = writer;
-        let footer = Footer::new(checksum.finish()).to_bytes(self.alloc)?;
+        let footer = footer_bytes(self.alloc, checksum)?;
         self.directory.write(&mut writer, footer.as_slice())?;
-        self.directory.terminate(writer)?;
-        Ok(())
+        self.directory.terminate(writer)
     }
 
     /// The bytes that the name reads. `FileDoesNotExist` comes where it doesn't read.
@@ -390,11 +403,8 @@ impl<D: Directory> ManagedDirectory<D> {
         ensures heard { D.heard self.new.0 ≡ D.heard self.old.0 }
         ensures room { D.room self.old.0 ≤ D.room self.new.0 }
     {
-        if has_no_dot(name) {
-            self.register(name)?;
-        }
-        self.directory.atomic_write(name, bytes)?;
-        Ok(())
+        self.register_undotted(name)?;
+        self.directory.atomic_write(name, bytes)
     }
 
     /// Waits until the device has kept what was written. Takes no memory.

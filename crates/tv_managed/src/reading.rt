@@ -1,9 +1,11 @@
 //! Reads the bodies of sealed files, and their checksums.
-ghost use Rattle.std.specs.Prelude.{◌≡◌, ◌≤◌, List, ℕ, true, false, None, IfOk, IfErr, OnOk, string_bytes};
+ghost use Rattle.std.specs.Prelude.{◌≡◌, ◌≤◌, ◌==◌, List, ℕ, true, false, None, IfOk, IfErr, OnOk, string_bytes};
+ghost use Rattle.tv_model.specs.Checksum.{crc32};
 ghost use Rattle.tv_model.specs.Names.{is_file_name};
 ghost use Rattle.tv_model.specs.Files.{Same, Rose};
 ghost use Rattle.tv_framing.specs.Footers.{IsFramed, Refuses};
 ghost use Rattle.tv_directory.specs.Locks.{SameLocks};
+ghost use Rattle.tv_managed.specs.Frames.{Frame};
 ghost use Rattle.tv_managed.specs.Reading.{HasNoBody, HasNoFooter, NamesFile, OpenBodyCause, ReadsBody, ReadsOther, ReadsRefused, ReadsSuch, SomeOther, SomeRefused, TellsChecksum, at_path};
 
 use crate::managed_directory::ManagedDirectory;
@@ -67,7 +69,7 @@ impl<D: Directory> ManagedDirectory<D> {
         ensures room { D.room self.old.0 ≤ D.room self.new.0 }
     {
         let body = self.open_read(name)?;
-        Ok(body.read_bytes()?)
+        bytes_of(body)
     }
 
     /// Whether the checksum in the file's footer is that of its body. It is refused where `open_read`
@@ -93,10 +95,7 @@ impl<D: Directory> ManagedDirectory<D> {
         ensures room { D.room self.old.0 ≤ D.room self.new.0 }
     {
         let (footer, body) = self.framed(name)?;
-        let bytes = body.read_bytes()?;
-        let mut checksum = Crc32::start();
-        checksum.update(bytes.as_slice());
-        Ok(footer.crc() == checksum.finish())
+        is_right(footer.crc(), body)
     }
 
     // The footer of the file, and the body before it.
@@ -111,15 +110,7 @@ impl<D: Directory> ManagedDirectory<D> {
         ensures names { self.new.1 ≡ self.old.1 }
         ensures quiet { OnOk result (D.faults self.new.0 ≡ D.faults self.old.0) }
         ensures cause { IfErr result (OpenBodyCause (D.faults self.new.0 ≡ D.faults self.old.0) (λ fault. SomeRefused fault × (D.faults self.new.0 ≡ D.faults self.old.0)) (λ _. ⊥) (Rose (D.faults self.old.0) (D.faults self.new.0)) (D.faults self.new.0 ≡ D.faults self.old.0)) }
-        ensures refusals { D.refusals self.new.0 ≡ D.refusals self.old.0 }
-        ensures writers { (w : _) → D.opened self.old.0 w ≡ true → D.opened self.new.0 w ≡ true }
-        ensures alive { (w : _) → D.lives self.old.0 w ≡ true → D.lives self.new.0 w ≡ true }
-        ensures ended { (w : _) → D.opened self.old.0 w ≡ true → D.lives self.old.0 w ≡ false → D.lives self.new.0 w ≡ false }
-        ensures locks { D.tells_locks → SameLocks (D.locks self.old.0) (D.locks self.new.0) }
-        ensures watched { D.watched self.new.0 ≡ D.watched self.old.0 }
-        ensures clock { D.moment self.old.0 ≤ D.moment self.new.0 }
-        ensures heard { D.heard self.new.0 ≡ D.heard self.old.0 }
-        ensures room { D.room self.old.0 ≤ D.room self.new.0 }
+        ensures frame { Frame D.Directory self.old.0 self.new.0 }
     {
         let filepath = String::from_str(self.alloc, name)?;
         let file = match self.directory.open_read(name) {
@@ -128,6 +119,25 @@ impl<D: Directory> ManagedDirectory<D> {
         };
         footer_of(self.alloc, file, filepath)
     }
+}
+
+// The bytes of a body.
+fn bytes_of(body: FileSlice) -> Result<OwnedBytes, OpenReadError>
+    ensures bytes { IfOk result (λ bytes. bytes ≡ body) }
+    ensures wanted { IfErr result (λ error. error ≡ OpenReadError.Memory) }
+{
+    Ok(body.read_bytes()?)
+}
+
+// Whether this is the checksum of a body.
+fn is_right(crc: u32, body: FileSlice) -> Result<bool, OpenReadError>
+    ensures says { IfOk result (λ is_right. is_right ≡ (crc == crc32 body)) }
+    ensures wanted { IfErr result (λ error. error ≡ OpenReadError.Memory) }
+{
+    let bytes = body.read_bytes()?;
+    let mut checksum = Crc32::start();
+    checksum.update(bytes.as_slice());
+    Ok(crc == checksum.finish())
 }
 
 // The error of a file of this path.

@@ -1,8 +1,11 @@
 //! Bytes, texts and lists of ids, seen by contracts as plain lists.
-ghost use Rattle.std.specs.Prelude.{◌≡◌, string_bytes, IfSome, IsSome, ◌↔◌, true};
+ghost use Rattle.std.specs.Prelude.{◌≡◌, string_bytes, IfOk, IfSome, IsSome, ◌↔◌, true};
 ghost use Rattle.tv_model.specs.Ids.{are_distinct};
 
 use crate::id::SegmentId;
+use crate::memory::Memory;
+use std::alloc::Global;
+use std::collections::BTreeSet;
 use std::marker::Model;
 
 /// Some bytes.
@@ -81,11 +84,14 @@ impl Model for IdList {
 
 impl IdList {
     /// These ids, where none of them stands twice.
+    ///
+    /// With memory for a set of them the time grows as that of a sort. Where memory is wanting, each
+    /// id is compared with all after it: slower, and the answer is the same.
     pub fn new(ids: Vec<SegmentId>) -> Option<IdList>
         ensures distinct { IsSome result ↔ (are_distinct ids.items ≡ true) }
         ensures list { IfSome result (λ list. list ≡ ids.items) }
     {
-        if has_no_double(ids.as_slice()) {
+        if are_apart(*ids.allocator(), ids.as_slice()) {
             Some(IdList { ids })
         } else {
             None
@@ -101,11 +107,38 @@ impl IdList {
 }
 
 // Whether no id stands twice.
-fn has_no_double(ids: &[SegmentId]) -> bool
+fn are_apart(alloc: Global, ids: &[SegmentId]) -> bool
     ensures { result ≡ are_distinct ids.now }
 {
-    match ids {
-        [] => true,
-        [id, others @ ..] => !others.contains(id) && has_no_double(others),
+    match are_apart_in_a_set(alloc, ids) {
+        Ok(apart) => apart,
+        Err(_memory) => are_apart_in_pairs(ids),
     }
+}
+
+// The same, where there is memory for a set of the ids.
+fn are_apart_in_a_set(alloc: Global, ids: &[SegmentId]) -> Result<bool, Memory>
+    ensures { IfOk result (λ apart. apart ≡ are_distinct ids.now) }
+{
+    let mut seen = BTreeSet::new(alloc);
+    for id in ids {
+        if !seen.insert(*id)? {
+            return Ok(false);
+        }
+    }
+    Ok(true)
+}
+
+// The same without memory: each id is compared with all after it.
+fn are_apart_in_pairs(ids: &[SegmentId]) -> bool
+    ensures { result ≡ are_distinct ids.now }
+{
+    let mut left = ids;
+    while let [id, others @ ..] = left {
+        if others.contains(id) {
+            return false;
+        }
+        left = others;
+    }
+    true
 }

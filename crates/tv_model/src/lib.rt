@@ -13,8 +13,6 @@ pub mod laws;
 mod memory;
 mod reload_policy;
 mod segment;
-#[cfg(test)]
-mod tests;
 
 pub use answer::Answer;
 pub use blob::{Blob, IdList, Text};

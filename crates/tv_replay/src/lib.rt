@@ -12,8 +12,6 @@ mod program;
 mod reader_lines;
 mod replaying;
 mod script;
-#[cfg(test)]
-mod tests;
 mod words;
 
 pub use bench_place::BenchPlace;

@@ -6,7 +6,6 @@ use Rattle.std.specs.Map.{remove_entry}
 use Rattle.std.specs.BTreeMap.{is_at}
 use Rattle.std.specs.BTreeSet.{insert_key}
 use Rattle.std.specs.String.{string_cmp}
-use Rattle.std.proofs.lemmas.Grind.{flat_map-append}
 use Rattle.tv_model.specs.declared.segment.LiveSegment.{LiveSegment}
 use Rattle.tv_model.specs.declared.segment.SegmentComponent.TheVariants.{Postings, Positions, FastFields, FieldNorms, Terms, Store, Delete}
 use Rattle.tv_model.specs.Names.{byte_cmp, is, has, is_plain, is_file_name, meta_name, list_name}
@@ -26,17 +25,13 @@ use Rattle.tv_model.specs.Index.{IsFileOf}
 use Rattle.tv_model.proofs.Entries.{same_at, at_itself, text_at, is_text, is_by_order, has_put}
 use Rattle.tv_model.proofs.PlainNames.{both}
 use Rattle.tv_model.proofs.CollectionStates.{has_without, at_without, living_spared, meta_living, at_left}
-use Rattle.tv_base.specs.declared.error.TantivyError.{TantivyError}
-use Rattle.tv_base.specs.declared.open_errors.LockError.TheVariants as lock
-use Rattle.tv_base.specs.declared.error.TantivyError.TheVariants as errors
 use Rattle.tv_managed.specs.Writers.{IsSummed}
-use Rattle.tv_managed.specs.Collecting.{Among, Leaves, Tries, FailsAtMost, SparesWriters, CollectCause}
+use Rattle.tv_managed.specs.Collecting.{Among, Leaves, Tries, FailsAtMost, SparesWriters}
 use Rattle.tv_managed.proofs.Removals.{all_filtered}
 use Rattle.tv_managed.proofs.SetsOfTexts.{bytes_inserted}
 use Rattle.tv_store.specs.Kept.{Kept, Holds, FileHolds, is_left}
 use Rattle.tv_store.specs.declared.files.OpenFile.{OpenFile}
 use Rattle.tv_store.specs.OpenFiles.{IsOpenFile}
-use Rattle.tv_store.specs.StoreCauses.{LockingCause}
 use Rattle.tv_store.proofs.Holding.{same_holds}
 use Rattle.tv_store.proofs.OpenFiles.{all_left, all_found, AreOpen, bodies, at_seen}
 use Rattle.tv_store.proofs.CommitEvents.{undotted_isnt_list, all_at}

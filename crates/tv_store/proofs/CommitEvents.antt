@@ -1,5 +1,5 @@
 -- The event that commits: what it chooses, the files that it asks for, and the state that it leads to.
-use Rattle.std.proofs.Common.{◌≡◌, ◌≢◌, ◌⊎◌, inl, inr, ℕ, zero, suc, ◌+◌, ◌<◌, ◌≤◌, Bool, true, false, true≢false, cond, ◌&&◌, nat_lt, List, [], ◌∷◌, ◌++◌, length, map, take, get_or, codes, Option, Some, None, refl, sym, ap, subst, ◌∙◌, arith, append_assoc, length-append}
+use Rattle.std.proofs.Common.{◌≡◌, ◌≢◌, ◌⊎◌, inl, inr, ℕ, zero, suc, ◌+◌, ◌<◌, Bool, true, false, true≢false, cond, ◌&&◌, nat_lt, List, [], ◌∷◌, ◌++◌, length, map, take, get_or, codes, Option, Some, None, refl, sym, ap, subst, ◌∙◌, arith, append_assoc, length-append}
 use Rattle.std.specs.Prelude.{find, is_none, ◌==◌}
 use Rattle.std.specs.Fmt.{decimal}
 use Rattle.std.specs.List.{flat_map, filter, AllByRecursion}
@@ -20,8 +20,7 @@ use Rattle.tv_model.specs.Listing.{Lists}
 use Rattle.tv_model.specs.Segments.{name_of, num_deleted, num_docs, delete_opstamp, required_names, all_required}
 use Rattle.tv_model.specs.Commits.{Commit, IsSegment, IsCommit, Means, printed, default_settings}
 use Rattle.tv_model.specs.State.{State, at, file_at}
-use Rattle.tv_model.specs.Lines.{line, refuse}
-use Rattle.tv_model.specs.CommitEvents.{chosen, first_unsealed, first_unknown, commit_sealed, commit_known, commit_step, last_stamp}
+use Rattle.tv_model.specs.CommitEvents.{chosen, first_unknown, last_stamp}
 use Rattle.tv_model.specs.Index.{IsFileOf}
 use Rattle.tv_model.proofs.Entries.{insert_present}
 use Rattle.tv_model.proofs.PlainNames.{undotted}
@@ -127,50 +126,47 @@ listed_sorted (Some bytes) names name lists there = lists.ordered
 pub undotted_isnt_list : (n : List ℕ) → is_undotted n ≡ true → n ≢ list_name
 undotted_isnt_list n h e = true≢false (sym h ∙ ap is_undotted e)
 
--- the text of a commit means it
-committed : (schema text : List ℕ) (next : ℕ) (s : State) (payload : Option (List ℕ)) (segments : List (List ℕ × LiveSegment)) (commit : Commit)
-    → next ≡ s.next → commit ≡ record { opstamp = next; payload = payload; segments = segments } → IsCommit commit → text ≡ printed default_settings schema commit ++ 10 ∷ []
-    → Means default_settings schema text (record { opstamp = s.next; payload = payload; segments = segments })
-committed schema text next s payload segments commit next_is is_new sound printed_is =
-    subst (λ (c : Commit). Means default_settings schema text c) (is_new ∙ ap (λ (n : ℕ). record { opstamp = n; payload = payload; segments = segments }) next_is)
+-- the text of a commit with the number that comes next means it
+numbered : (next : ℕ) (s : State) (commit : Commit) → next ≡ s.next → commit.opstamp ≡ next → commit ≡ record { opstamp = s.next; payload = commit.payload; segments = commit.segments }
+numbered next s commit next_is is = ap (λ (n : ℕ). record { opstamp = n; payload = commit.payload; segments = commit.segments }) (is ∙ next_is)
+
+committed : (schema text : List ℕ) (next : ℕ) (s : State) (commit : Commit)
+    → next ≡ s.next → commit.opstamp ≡ next → IsCommit commit → text ≡ printed default_settings schema commit ++ 10 ∷ []
+    → Means default_settings schema text (record { opstamp = s.next; payload = commit.payload; segments = commit.segments })
+committed schema text next s commit next_is is sound printed_is =
+    subst (λ (c : Commit). Means default_settings schema text c) (numbered next s commit next_is is)
     (record { is_commit = sound; blocksize = omega arith; text = printed_is })
 
 -- what is left of `meta.json` where its text was written, or not
-pub commit_left : (before mid now : Option (List ℕ)) (schema text : List ℕ) (next : ℕ) (s : State) (payload : Option (List ℕ)) (segments : List (List ℕ × LiveSegment)) (commit : Commit)
-    → mid ≡ before → next ≡ s.next → commit ≡ record { opstamp = next; payload = payload; segments = segments } → IsCommit commit → text ≡ printed default_settings schema commit ++ 10 ∷ []
-    → first_unsealed s segments ≡ None → (now ≡ Some text) ⊎ (now ≡ mid)
-    → LeavesCommit before now schema (commit_sealed s payload segments (first_unsealed s segments)).1.commit
-commit_left before mid now schema text next s payload segments commit same next_is is_new sound printed_is sealed (inl written) =
-    inr (
-      text,
-      written,
-      subst (λ o. Means default_settings schema text (commit_sealed s payload segments o).1.commit) (sym sealed) (committed schema text next s payload segments commit next_is is_new sound printed_is),
-    )
-commit_left before mid now schema text next s payload segments commit same next_is is_new sound printed_is sealed (inr still) = inl (still ∙ same)
+pub commit_left : (before now : Option (List ℕ)) (schema text : List ℕ) (next : ℕ) (s : State) (commit : Commit)
+    → next ≡ s.next → commit.opstamp ≡ next → IsCommit commit → text ≡ printed default_settings schema commit ++ 10 ∷ []
+    → (now ≡ Some text) ⊎ (now ≡ before)
+    → LeavesCommit before now schema (record { opstamp = s.next; payload = commit.payload; segments = commit.segments })
+commit_left before now schema text next s commit next_is is sound printed_is (inl written) = inr (text, written, committed schema text next s commit next_is is sound printed_is)
+commit_left before now schema text next s commit next_is is sound printed_is (inr still) = inl still
 
 -- the state after a commit
-pub published : (before now : Reads) (kept after : Kept) (s : State) (payload : Option (List ℕ)) (segments : List (List ℕ × LiveSegment)) (commit : Commit) (text : List ℕ)
+pub published : (before now : Reads) (kept after : Kept) (s : State) (commit : Commit) (text : List ℕ)
     → Holds before kept s
-    → commit ≡ record { opstamp = kept.next; payload = payload; segments = segments }
+    → commit.opstamp ≡ kept.next
     → IsCommit commit
     → text ≡ printed default_settings kept.schema commit ++ 10 ∷ []
     → after ≡ record kept { next = kept.next + 1; commit = commit; managed = insert_key byte_cmp kept.managed meta_name }
     → now meta_name ≡ Some text
     → KeepsOtherFiles before now meta_name
     → (Lists (before list_name) kept.managed → Lists (now list_name) after.managed)
-    → Holds now after (record s { next = s.next + 1; commit = record { opstamp = s.next; payload = payload; segments = segments } })
-published before now kept after s payload segments commit text h is_new sound printed_is is_after saved others list =
+    → Holds now after (record s { next = s.next + 1; commit = record { opstamp = s.next; payload = commit.payload; segments = commit.segments } })
+published before now kept after s commit text h is sound printed_is is_after saved others list =
     let same_names : kept.managed ≡ s.managed = h.managed in
     let put : insert_key byte_cmp s.managed meta_name ≡ s.managed = insert_present s.managed meta_name h.listed (listed_sorted (before list_name) s.managed meta_name h.listing h.listed) in
     let names : insert_key byte_cmp kept.managed meta_name ≡ s.managed = ap (λ (ns : List (List ℕ)). insert_key byte_cmp ns meta_name) same_names ∙ put in
     let managed : after.managed ≡ s.managed = ap (λ (k : Kept). k.managed) is_after ∙ names in
     let open_files : after.open_files ≡ kept.open_files = ap (λ (k : Kept). k.open_files) is_after in
     let schema : after.schema ≡ kept.schema = ap (λ (k : Kept). k.schema) is_after in
-    let numbered : commit ≡ record { opstamp = s.next; payload = payload; segments = segments } = is_new ∙ ap (λ (n : ℕ). record { opstamp = n; payload = payload; segments = segments }) h.next in
     record {
       live = ap (λ (k : Kept). k.live) is_after ∙ h.live;
       next = ap (λ (k : Kept). k.next) is_after ∙ ap (λ (n : ℕ). n + 1) h.next;
-      commit = ap (λ (k : Kept). k.commit) is_after ∙ numbered;
+      commit = ap (λ (k : Kept). k.commit) is_after ∙ numbered kept.next s commit h.next is;
       managed = managed;
       segments = h.segments;
       names = h.names;
@@ -182,28 +178,13 @@ published before now kept after s payload segments commit text h is_new sound pr
       meta = (
         text,
         saved,
-        committed after.schema text kept.next s payload segments commit h.next is_new sound (printed_is ∙ ap (λ (x : List ℕ). printed default_settings x commit ++ 10 ∷ []) (sym schema)),
+        committed after.schema text kept.next s commit h.next is sound (printed_is ∙ ap (λ (x : List ℕ). printed default_settings x commit ++ 10 ∷ []) (sym schema)),
       );
       listing = subst (λ (ns : List (List ℕ)). Lists (now list_name) ns) managed (list (subst (λ (ns : List (List ℕ)). Lists (before list_name) ns) (sym same_names) h.listing));
       listed = h.listed;
     }
 
--- ---- the steps
-
--- a file isn't sealed
-pub unsealed_step : (reads : Reads) (kept : Kept) (s : State) (payload : Option (List ℕ)) (segments : List (List ℕ × LiveSegment)) (name answer : List ℕ)
-    → first_unsealed s segments ≡ Some name → answer ≡ line (codes "refused") (codes "unsealed" ∷ name ∷ []) → Holds reads kept s
-    → (answer ≡ (commit_sealed s payload segments (first_unsealed s segments)).0) × Holds reads kept (commit_sealed s payload segments (first_unsealed s segments)).1
-unsealed_step reads kept s payload segments name answer found is h =
-    subst (λ o. (answer ≡ (commit_sealed s payload segments o).0) × Holds reads kept (commit_sealed s payload segments o).1) (sym found) (is, h)
-
--- all files are sealed
-pub sealed_step : (reads : Reads) (kept : Kept) (s : State) (payload : Option (List ℕ)) (segments : List (List ℕ × LiveSegment)) (answer : List ℕ)
-    → first_unsealed s segments ≡ None → answer ≡ line (codes "commit") (decimal s.next ∷ decimal (length segments) ∷ [])
-    → Holds reads kept (record s { next = s.next + 1; commit = record { opstamp = s.next; payload = payload; segments = segments } })
-    → (answer ≡ (commit_sealed s payload segments (first_unsealed s segments)).0) × Holds reads kept (commit_sealed s payload segments (first_unsealed s segments)).1
-sealed_step reads kept s payload segments answer found is h =
-    subst (λ o. (answer ≡ (commit_sealed s payload segments o).0) × Holds reads kept (commit_sealed s payload segments o).1) (sym found) (is, h)
+-- ---- what is chosen
 
 -- the first id that isn't live, looked up in what is kept
 pub first_unknown_is : (s : State) (live : List (List ℕ × LiveSegment)) (ids given : List (List ℕ)) (found : Option (List ℕ)) → live ≡ s.live → given ≡ ids → found ≡ find (λ id. is_none (at live id)) given → first_unknown s ids ≡ found
@@ -214,43 +195,6 @@ first_unknown_is s live ids given found same are e =
 pub chosen_is : (s : State) (live segments : List (List ℕ × LiveSegment)) (ids given : List (List ℕ)) → live ≡ s.live → given ≡ ids → segments ≡ filter (λ e. has given e.0 && nat_lt 0 (num_docs e.1)) live → segments ≡ chosen s ids
 chosen_is s live segments ids given same are e =
     e ∙ ap (filter (λ e. has given e.0 && nat_lt 0 (num_docs e.1))) same ∙ ap (λ (names : List (List ℕ)). filter (λ e. has names e.0 && nat_lt 0 (num_docs e.1)) s.live) are
-
--- the answer and the state that a step leads to, where there is a number left
-numbered_step : (reads : Reads) (kept : Kept) (s : State) (payload : Option (List ℕ)) (ids : List (List ℕ)) (unknown : Option (List ℕ)) (answer : List ℕ)
-    → (s.next == last_stamp) ≡ false → first_unknown s ids ≡ unknown
-    → (answer ≡ (commit_known s payload ids unknown).0) × Holds reads kept (commit_known s payload ids unknown).1
-    → (answer ≡ (commit_step s payload ids).0) × Holds reads kept (commit_step s payload ids).1
-numbered_step reads kept s payload ids unknown answer left found h =
-    let known : (answer ≡ (commit_known s payload ids (first_unknown s ids)).0) × Holds reads kept (commit_known s payload ids (first_unknown s ids)).1 =
-    subst (λ o. (answer ≡ (commit_known s payload ids o).0) × Holds reads kept (commit_known s payload ids o).1) (sym found) h in
-    subst (λ (t : Bool). (answer ≡ (cond t (refuse s (codes "stamps-spent")) (commit_known s payload ids (first_unknown s ids))).0) × Holds reads kept (cond t (refuse s (codes "stamps-spent")) (commit_known s payload ids (first_unknown s ids))).1) (sym left) known
-
--- an id isn't live
-pub unknown_step : (reads : Reads) (kept : Kept) (s : State) (payload : Option (List ℕ)) (ids : List (List ℕ)) (id answer : List ℕ)
-    → (s.next == last_stamp) ≡ false → first_unknown s ids ≡ Some id
-    → answer ≡ line (codes "refused") (codes "unknown-segment" ∷ encode_lower id ∷ []) → Holds reads kept s
-    → (answer ≡ (commit_step s payload ids).0) × Holds reads kept (commit_step s payload ids).1
-unknown_step reads kept s payload ids id answer left found is h = numbered_step reads kept s payload ids (Some id) answer left found (is, h)
-
--- all ids are live
-pub known_step : (reads : Reads) (kept : Kept) (s : State) (payload : Option (List ℕ)) (ids : List (List ℕ)) (segments : List (List ℕ × LiveSegment)) (answer : List ℕ)
-    → (s.next == last_stamp) ≡ false → first_unknown s ids ≡ None → segments ≡ chosen s ids
-    → (answer ≡ (commit_sealed s payload segments (first_unsealed s segments)).0) × Holds reads kept (commit_sealed s payload segments (first_unsealed s segments)).1
-    → (answer ≡ (commit_step s payload ids).0) × Holds reads kept (commit_step s payload ids).1
-known_step reads kept s payload ids segments answer left found are h =
-    numbered_step reads kept s payload ids None answer left found
-    (subst (λ (es : List (List ℕ × LiveSegment)). (answer ≡ (commit_sealed s payload es (first_unsealed s es)).0) × Holds reads kept (commit_sealed s payload es (first_unsealed s es)).1) are h)
-
--- what is left of `meta.json` where all ids are live
-pub known_left : (before now : Option (List ℕ)) (schema : List ℕ) (s : State) (payload : Option (List ℕ)) (ids : List (List ℕ)) (segments : List (List ℕ × LiveSegment))
-    → (s.next == last_stamp) ≡ false → first_unknown s ids ≡ None → segments ≡ chosen s ids
-    → LeavesCommit before now schema (commit_sealed s payload segments (first_unsealed s segments)).1.commit
-    → LeavesCommit before now schema (commit_step s payload ids).1.commit
-known_left before now schema s payload ids segments left found are h =
-    let known : LeavesCommit before now schema (commit_known s payload ids (first_unknown s ids)).1.commit =
-    subst (λ o. LeavesCommit before now schema (commit_known s payload ids o).1.commit) (sym found)
-    (subst (λ (es : List (List ℕ × LiveSegment)). LeavesCommit before now schema (commit_sealed s payload es (first_unsealed s es)).1.commit) are h) in
-    subst (λ (t : Bool). LeavesCommit before now schema (cond t (refuse s (codes "stamps-spent")) (commit_known s payload ids (first_unknown s ids))).1.commit) (sym left) known
 
 -- a number that isn't the last is left
 pub is_left : (inside kept : ℕ) (s : State) → (inside ≡ last_stamp → ⊥) → inside ≡ kept → kept ≡ s.next → (s.next == last_stamp) ≡ false

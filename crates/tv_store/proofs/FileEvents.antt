@@ -58,8 +58,8 @@ pub inside_holds : {D : Type 0} (reads : D → Reads) (inside value : Kept × D 
 inside_holds reads inside value s e h = subst (λ v. Holds (reads v.1) v.0 s) (sym e) h
 
 -- the live segment that is found is that of the state
-pub live_is : (reads : Reads) (kept : Kept) (s : State) (live : List (List ℕ × LiveSegment)) (id : List ℕ) (found : Option LiveSegment) → found ≡ at live id → live ≡ kept.live → Holds reads kept s → live_at s id ≡ found
-live_is reads kept s live id found e same h = sym (e ∙ ap (λ (l : List (List ℕ × LiveSegment)). at l id) (same ∙ h.live))
+pub live_found : {reads : Reads} {kept : Kept} {s : State} {result found : Option LiveSegment} (id : List ℕ) → Holds reads kept s → result ≡ at kept.live id → result ≡ found → live_at s id ≡ found
+live_found id h looked is = sym (ap (λ (l : List (List ℕ × LiveSegment)). at l id) h.live) ∙ sym looked ∙ is
 
 -- where neither the managed names nor the open files changed, all is kept
 pub same_kept : (kept : Kept) (managed : List (List ℕ)) (open_files : List (List ℕ × List ℕ)) → managed ≡ kept.managed → open_files ≡ kept.open_files → record kept { managed = managed; open_files = open_files } ≡ kept
@@ -369,7 +369,3 @@ sum_is (Some m) fits n value h e = let same : Some m ≡ Some n = e in let is : 
 pub sum_isnt : (sum : Option ℕ) (value : ℕ) → SomeIff sum (value < 18446744073709551616) value → sum ≡ None → 18446744073709551616 ≤ value
 sum_isnt None value h e = let large : ¬ (value < 18446744073709551616) = h in omega arith
 sum_isnt (Some m) value h e = absurd cc
-
--- an answer of two words
-pub two_words : (text name number first second third answer : List ℕ) → first ≡ text → second ≡ first ++ 32 ∷ name → third ≡ second ++ 32 ∷ number → answer ≡ third → answer ≡ line text (name ∷ number ∷ [])
-two_words text name number first second third answer a b d e = e ∙ d ∙ ap (λ (t : List ℕ). t ++ 32 ∷ number) (b ∙ ap (λ (t : List ℕ). t ++ 32 ∷ name) a)

@@ -12,3 +12,6 @@ pub mod FewNumbers
 pub mod ReaderNumbers
 pub mod ReaderEvents
 pub mod StoreLocks
+pub mod Committing
+pub mod Asking
+pub mod Acting

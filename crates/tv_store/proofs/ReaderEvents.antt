@@ -1,7 +1,7 @@
 -- The events of readers and of searchers: which files are read, why a read fails, and what is held afterwards.
 use Rattle.std.proofs.Common.{◌≡◌, ◌≢◌, inl, inr, ℕ, zero, suc, ◌+◌, ◌<◌, ◌≤◌, Bool, true, false, true≢false, not, ◌||◌, List, [], ◌∷◌, ◌++◌, map, length, take, get_or, codes, string_bytes, Option, Some, None, is_some, refl, sym, ap, subst, ◌∙◌, arith}
 use Rattle.std.proofs.Math.Logic.{⊎_map}
-use Rattle.std.specs.Prelude.{IsSome, option_map, String, Result, Ok, Err, IfErr}
+use Rattle.std.specs.Prelude.{IsSome, option_map, String, Result, Ok, Err, IfErr, OnOk}
 use Rattle.std.specs.Global.{Global}
 use Rattle.std.specs.Result.{IsErrAnd}
 use Rattle.std.specs.Fmt.{decimal}
@@ -438,14 +438,10 @@ pub tested_none : {A B : Type 0} (f : A → B) (o : Option A) (n : Option B) (b 
 tested_none f None n b e t is_true = refl
 tested_none f (Some x) n b e t is_true = absurd (true≢false (sym (ap is_some e) ∙ t ∙ ap not is_true))
 
--- an answer of three words
-pub three_words : (text one two three first second third fourth answer : List ℕ) → first ≡ text → second ≡ first ++ 32 ∷ one → third ≡ second ++ 32 ∷ two → fourth ≡ third ++ 32 ∷ three → answer ≡ fourth → answer ≡ line text (one ∷ two ∷ three ∷ [])
-three_words text one two three first second third fourth answer a b c d e =
-    e
-    ∙ d
-    ∙ ap (λ (t : List ℕ). t ++ 32 ∷ three) c
-    ∙ ap (λ (t : List ℕ). (t ++ 32 ∷ two) ++ 32 ∷ three) b
-    ∙ ap (λ (t : List ℕ). ((t ++ 32 ∷ one) ++ 32 ∷ two) ++ 32 ∷ three) a
+-- what is so whatever is answered
+pub on_ok : {T E P : Type 0} (result : Result T E) → P → OnOk result P
+on_ok (Ok value) p = p
+on_ok (Err error) p = tt
 
 -- a new reader
 pub reader_added : (reads : Reads) (kept : Kept) (s : State) (policy : ReloadPolicy) (shown : Snapshot) (now : Readers) (answer : List ℕ)

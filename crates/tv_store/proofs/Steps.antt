@@ -11,9 +11,8 @@ use Rattle.tv_store.specs.Kept.{Kept, Holds, AtMost}
 use Rattle.tv_store.specs.ReaderNumbers.{FewNumbers}
 use Rattle.tv_store.specs.Applying.{Stepped, LeavesOldOrNew}
 use Rattle.tv_store.specs.ReadCauses.{ApplyCause}
-use Rattle.tv_store.proofs.Holding.{same_holds}
 use Rattle.tv_store.proofs.FewNumbers.{few_more}
-use Rattle.tv_model.specs.Files.{Reads, Same, Rose, RoseBy}
+use Rattle.tv_model.specs.Files.{Reads, Rose, RoseBy}
 use Rattle.tv_model.specs.State.{State, Told, Readers, no_readers}
 use Rattle.tv_model.specs.Machine.{step, refused_in}
 use Rattle.tv_model.specs.SoundStates.{IsWhole}

@@ -8,3 +8,8 @@ pub mod Bodies
 pub mod ReaderNumbers
 pub mod SearcherLines
 pub mod Applying
+pub mod Stays
+pub mod Committing
+pub mod Untold
+pub mod Acting
+pub mod Making

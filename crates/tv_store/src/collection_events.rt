@@ -8,9 +8,9 @@ ghost use Rattle.tv_model.specs.Living.{segment_names};
 ghost use Rattle.tv_model.specs.State.{State, at};
 ghost use Rattle.tv_model.specs.CollectionEvents.{gc_step, collected_line, release_segment_step};
 ghost use Rattle.tv_model.specs.Lines.{line};
-ghost use Rattle.tv_directory.specs.Locks.{SameLocks};
 ghost use Rattle.tv_managed.specs.Collecting.{meta_lock_name};
 ghost use Rattle.tv_store.specs.Kept.{Holds, AtMost};
+ghost use Rattle.tv_store.specs.Stays.{Stays};
 ghost use Rattle.tv_store.specs.StoreCauses.{EventCause, IsBusy, LockingCause};
 
 use crate::commit::listed;
@@ -139,12 +139,9 @@ impl<O: Outside> Store<O> {
     // Makes room for the answer to a collection: all names that it may tell are managed.
     fn ready_for_all(&mut self) -> Result<(), Memory>
         ensures kept { self.new.0 ≡ self.old.0 }
-        ensures open { self.new.2 ≡ self.old.2 }
         ensures content { O.tells → Same (O.reads self.old.1) (O.reads self.new.1) }
         ensures quiet { O.faults self.new.1 ≡ O.faults self.old.1 }
-        ensures heard { O.heard self.new.1 ≡ O.heard self.old.1 }
-        ensures locks { O.tells_locks → SameLocks (O.locks self.old.1) (O.locks self.new.1) }
-        ensures clock { O.moment self.old.1 ≤ O.moment self.new.1 }
+        ensures stays { Stays O.Directory self.old self.new }
         ensures refusals { O.refusals self.new.1 ≡ O.refusals self.old.1 }
     {
         let all = self.managed_names()?;
@@ -157,16 +154,12 @@ impl<O: Outside> Store<O> {
     pub(crate) fn gc(&mut self) -> Result<Answer, TantivyError>
         ensures step { IfOk result (λ answer. (outcomes : List Bool) × RoseBy (refused_in outcomes) (O.refusals self.old.1) (O.refusals self.new.1) × (O.tells → (s : State) → Holds (O.reads self.old.1) self.old.0 s → (answer ≡ (gc_step s outcomes).0) × Holds (O.reads self.new.1) self.new.0 (gc_step s outcomes).1)) }
         ensures room { IfOk result (λ answer. length answer < O.room self.new.1) }
-        ensures heard { O.heard self.new.1 ≡ O.heard self.old.1 }
-        ensures open { self.new.2 ≡ self.old.2 }
-        ensures schema { self.new.0.schema ≡ self.old.0.schema }
+        ensures stays { Stays O.Directory self.old self.new }
         ensures lens { (bound : ℕ) → AtMost bound self.old.0 → AtMost bound self.new.0 }
         ensures quiet { OnOk result (O.faults self.new.1 ≡ O.faults self.old.1) }
         ensures free { O.tells_locks → OnOk result (O.locks self.old.1 meta_lock_name ≡ false) }
         ensures cause { IfErr result (LockingCause (IsBusy O.tells_locks (O.locks self.old.1 meta_lock_name ≡ true) (Rose (O.faults self.old.1) (O.faults self.new.1))) (Rose (O.faults self.old.1) (O.faults self.new.1)) (O.faults self.new.1 ≡ O.faults self.old.1) ⊥) }
         ensures meta { O.tells → OnErr result (O.reads self.new.1 meta_name ≡ O.reads self.old.1 meta_name) }
-        ensures locks { O.tells_locks → SameLocks (O.locks self.old.1) (O.locks self.new.1) }
-        ensures clock { O.moment self.old.1 ≤ O.moment self.new.1 }
         ensures reading { self.new.0.reading ≡ self.old.0.reading }
     {
         let living = self.living()?;
@@ -199,21 +192,16 @@ impl<O: Outside> Store<O> {
     pub(crate) fn release_segment(&mut self, id: SegmentId) -> Result<Answer, TantivyError>
         ensures step { O.tells → (s : State) → Holds (O.reads self.old.1) self.old.0 s → IfOk result (λ answer. (answer ≡ (release_segment_step s id).0) × Holds (O.reads self.new.1) self.new.0 (release_segment_step s id).1) }
         ensures room { IfOk result (λ answer. length answer < O.room self.new.1) }
-        ensures heard { O.heard self.new.1 ≡ O.heard self.old.1 }
-        ensures open { self.new.2 ≡ self.old.2 }
-        ensures schema { self.new.0.schema ≡ self.old.0.schema }
+        ensures stays { Stays O.Directory self.old self.new }
         ensures lens { (bound : ℕ) → AtMost bound self.old.0 → AtMost bound self.new.0 }
         ensures quiet { OnOk result (O.faults self.new.1 ≡ O.faults self.old.1) }
         ensures cause { IfErr result (EventCause (Rose (O.faults self.old.1) (O.faults self.new.1)) (O.faults self.new.1 ≡ O.faults self.old.1) ⊥) }
         ensures meta { O.tells → OnErr result (O.reads self.new.1 meta_name ≡ O.reads self.old.1 meta_name) }
-        ensures locks { O.tells_locks → SameLocks (O.locks self.old.1) (O.locks self.new.1) }
-        ensures clock { O.moment self.old.1 ≤ O.moment self.new.1 }
         ensures refusals { O.refusals self.new.1 ≡ O.refusals self.old.1 }
         ensures reading { self.new.0.reading ≡ self.old.0.reading }
     {
-        let Some(segment) = self.live.get(&id).copied() else {
-            let answer = self.refuse("unknown-segment")?;
-            return Ok(answer);
+        let Some(segment) = self.live_segment(id) else {
+            return self.refuse("unknown-segment");
         };
         let mut names = Vec::new(self.alloc);
         push_names(self.alloc, &mut names, id, segment)?;

@@ -75,6 +75,13 @@ impl Commit {
         listed(alloc, &self.segments)
     }
 
+    /// Its segments by their ids.
+    pub(crate) fn by_id(&self) -> &BTreeMap<SegmentId, LiveSegment>
+        ensures { result.now.entries ≡ self.now.segments }
+    {
+        &self.segments
+    }
+
     /// A copy of its payload.
     pub(crate) fn payload(&self, alloc: Global) -> Result<Option<Text>, Memory>
         ensures { IfOk result (λ payload. payload ≡ self.now.payload) }

@@ -17,9 +17,9 @@ ghost use Rattle.tv_model.specs.Index.{IsFileOf};
 ghost use Rattle.tv_managed.specs.Managed.{KeepsOtherFiles};
 ghost use Rattle.tv_directory.specs.Locks.{SameLocks};
 ghost use Rattle.tv_store.specs.Choosing.{with_living};
-ghost use Rattle.tv_store.specs.Kept.{Holds, AtMost};
-ghost use Rattle.tv_store.specs.StoreCauses.{EventCause};
-ghost use Rattle.tv_store.specs.Applying.{LeavesCommit};
+ghost use Rattle.tv_store.specs.Kept.{Holds};
+ghost use Rattle.tv_store.specs.Stays.{Asks, Faults};
+ghost use Rattle.tv_store.specs.Committing.{Commits, IsPrinted, KeepsRest, commit_line, unsealed_line};
 
 use crate::answers::refused;
 use crate::commit::Commit;
@@ -185,6 +185,20 @@ fn committed(alloc: Global, opstamp: Opstamp, count: usize) -> Result<Answer, Me
     Ok(answer)
 }
 
+// The refusal of an id that isn't live.
+fn unknown(alloc: Global, id: SegmentId) -> Result<Answer, Memory>
+    ensures { IfOk result (λ answer. answer ≡ line (codes "refused") (codes "unknown-segment" ∷ encode_lower id ∷ [])) }
+{
+    refused(alloc, "unknown-segment")?.id(id)
+}
+
+// The refusal of a file that isn't sealed.
+fn unsealed(alloc: Global, name: &FileName) -> Result<Answer, Memory>
+    ensures { IfOk result (λ answer. answer ≡ unsealed_line name.now) }
+{
+    refused(alloc, "unsealed")?.name(name)
+}
+
 // A commit of these segments, with a copy of the payload.
 fn new_commit(
     alloc: Global,
@@ -205,17 +219,8 @@ impl<O: Outside> Store<O> {
     // Whether a file isn't sealed.
     fn is_unsealed(&mut self, name: &FileName) -> Result<bool, TantivyError>
         ensures found { O.tells → (s : State) → Holds (O.reads self.old.1) self.old.0 s → IsFileOf name.now → IfOk result (λ found. found ≡ not (is_sealed (file_at s name.now))) }
-        ensures content { O.tells → Same (O.reads self.old.1) (O.reads self.new.1) }
-        ensures kept { self.new.0 ≡ self.old.0 }
-        ensures open { self.new.2 ≡ self.old.2 }
-        ensures heard { O.heard self.new.1 ≡ O.heard self.old.1 }
-        ensures room { O.room self.old.1 ≤ O.room self.new.1 }
-        ensures quiet { OnOk result (O.faults self.new.1 ≡ O.faults self.old.1) }
-        ensures cause { IfErr result (EventCause (Rose (O.faults self.old.1) (O.faults self.new.1)) (O.faults self.new.1 ≡ O.faults self.old.1) ⊥) }
-        ensures locks { O.tells_locks → SameLocks (O.locks self.old.1) (O.locks self.new.1) }
-        ensures clock { O.moment self.old.1 ≤ O.moment self.new.1 }
-        ensures refusals { O.refusals self.new.1 ≡ O.refusals self.old.1 }
-        ensures reading { self.new.0.reading ≡ self.old.0.reading }
+        ensures asks { Asks O.Directory self.old self.new }
+        ensures faults { Faults O.Directory self.old self.new result }
     {
         if self.left.contains(name) {
             return Ok(true);
@@ -230,17 +235,8 @@ impl<O: Outside> Store<O> {
         names: &'a [FileName],
     ) -> Result<Option<&'a FileName>, TantivyError>
         ensures found { O.tells → (s : State) → Holds (O.reads self.old.1) self.old.0 s → AllByRecursion IsFileOf names.entry.now → IfOk result (λ found. option_map (λ name. name.now) found ≡ find (λ name. not (is_sealed (file_at s name))) names.entry.now) }
-        ensures content { O.tells → Same (O.reads self.old.1) (O.reads self.new.1) }
-        ensures kept { self.new.0 ≡ self.old.0 }
-        ensures open { self.new.2 ≡ self.old.2 }
-        ensures heard { O.heard self.new.1 ≡ O.heard self.old.1 }
-        ensures room { O.room self.old.1 ≤ O.room self.new.1 }
-        ensures quiet { OnOk result (O.faults self.new.1 ≡ O.faults self.old.1) }
-        ensures cause { IfErr result (EventCause (Rose (O.faults self.old.1) (O.faults self.new.1)) (O.faults self.new.1 ≡ O.faults self.old.1) ⊥) }
-        ensures locks { O.tells_locks → SameLocks (O.locks self.old.1) (O.locks self.new.1) }
-        ensures clock { O.moment self.old.1 ≤ O.moment self.new.1 }
-        ensures refusals { O.refusals self.new.1 ≡ O.refusals self.old.1 }
-        ensures reading { self.new.0.reading ≡ self.old.0.reading }
+        ensures asks { Asks O.Directory self.old self.new }
+        ensures faults { Faults O.Directory self.old self.new result }
     {
         for name in names {
             if self.is_unsealed(name)? {
@@ -251,60 +247,64 @@ impl<O: Outside> Store<O> {
     }
 
     // The answer to a commit, in room that is made for it and for a refusal.
-    fn ready_for_either(&mut self, answer: Answer) -> Result<Answer, Memory>
-        ensures answer { IfOk result (λ ready. ready ≡ answer) }
-        ensures room { OnOk result (length answer < O.room self.new.1) }
-        ensures kept { self.new.0 ≡ self.old.0 }
-        ensures open { self.new.2 ≡ self.old.2 }
-        ensures content { O.tells → Same (O.reads self.old.1) (O.reads self.new.1) }
+    fn ready_for_either(&mut self, commit: &Commit) -> Result<Answer, Memory>
+        ensures answer { IfOk result (λ answer. answer ≡ commit_line commit.now.opstamp commit.now.segments) }
+        ensures room { IfOk result (λ answer. length answer < O.room self.new.1) }
+        ensures asks { Asks O.Directory self.old self.new }
         ensures quiet { O.faults self.new.1 ≡ O.faults self.old.1 }
-        ensures heard { O.heard self.new.1 ≡ O.heard self.old.1 }
-        ensures locks { O.tells_locks → SameLocks (O.locks self.old.1) (O.locks self.new.1) }
-        ensures clock { O.moment self.old.1 ≤ O.moment self.new.1 }
-        ensures refusals { O.refusals self.new.1 ≡ O.refusals self.old.1 }
-        ensures reading { self.new.0.reading ≡ self.old.0.reading }
     {
         self.files.ready(REFUSAL_ROOM)?;
-        let ready = self.ready(answer)?;
-        Ok(ready)
+        let answer = committed(self.alloc, commit.opstamp(), commit.len())?;
+        self.ready(answer)
     }
 
     // The answer to a commit of an id that isn't live, in room that is made for it.
-    fn refuse_unknown(&mut self, id: SegmentId) -> Result<Answer, Memory>
+    fn refuse_unknown(&mut self, id: SegmentId) -> Result<Answer, TantivyError>
         ensures answer { IfOk result (λ answer. answer ≡ line (codes "refused") (codes "unknown-segment" ∷ encode_lower id ∷ [])) }
         ensures room { IfOk result (λ answer. length answer < O.room self.new.1) }
-        ensures kept { self.new.0 ≡ self.old.0 }
-        ensures open { self.new.2 ≡ self.old.2 }
-        ensures content { O.tells → Same (O.reads self.old.1) (O.reads self.new.1) }
-        ensures quiet { O.faults self.new.1 ≡ O.faults self.old.1 }
-        ensures heard { O.heard self.new.1 ≡ O.heard self.old.1 }
-        ensures locks { O.tells_locks → SameLocks (O.locks self.old.1) (O.locks self.new.1) }
-        ensures clock { O.moment self.old.1 ≤ O.moment self.new.1 }
-        ensures refusals { O.refusals self.new.1 ≡ O.refusals self.old.1 }
-        ensures reading { self.new.0.reading ≡ self.old.0.reading }
+        ensures asks { Asks O.Directory self.old self.new }
+        ensures faults { Faults O.Directory self.old self.new result }
     {
-        let answer = refused(self.alloc, "unknown-segment")?.id(id)?;
+        let answer = unknown(self.alloc, id)?;
         let ready = self.ready(answer)?;
         Ok(ready)
     }
 
     // The answer to a commit of a file that isn't sealed, in room that is made for it.
-    fn refuse_unsealed(&mut self, name: &FileName) -> Result<Answer, Memory>
-        ensures answer { IfOk result (λ answer. answer ≡ line (codes "refused") (codes "unsealed" ∷ name.now ∷ [])) }
+    fn refuse_unsealed(&mut self, name: &FileName) -> Result<Answer, TantivyError>
+        ensures answer { IfOk result (λ answer. answer ≡ unsealed_line name.now) }
         ensures room { IfOk result (λ answer. length answer < O.room self.new.1) }
-        ensures kept { self.new.0 ≡ self.old.0 }
-        ensures open { self.new.2 ≡ self.old.2 }
-        ensures content { O.tells → Same (O.reads self.old.1) (O.reads self.new.1) }
-        ensures quiet { O.faults self.new.1 ≡ O.faults self.old.1 }
-        ensures heard { O.heard self.new.1 ≡ O.heard self.old.1 }
-        ensures locks { O.tells_locks → SameLocks (O.locks self.old.1) (O.locks self.new.1) }
-        ensures clock { O.moment self.old.1 ≤ O.moment self.new.1 }
-        ensures refusals { O.refusals self.new.1 ≡ O.refusals self.old.1 }
-        ensures reading { self.new.0.reading ≡ self.old.0.reading }
+        ensures asks { Asks O.Directory self.old self.new }
+        ensures faults { Faults O.Directory self.old self.new result }
     {
-        let answer = refused(self.alloc, "unsealed")?.name(name)?;
+        let answer = unsealed(self.alloc, name)?;
         let ready = self.ready(answer)?;
         Ok(ready)
+    }
+
+    // The refusal of the first of these files that isn't sealed, in room that is made for it.
+    fn refuse_first(&mut self, names: &[FileName]) -> Result<Option<Answer>, TantivyError>
+        ensures answer { O.tells → (s : State) → Holds (O.reads self.old.1) self.old.0 s → AllByRecursion IsFileOf names.now → IfOk result (λ refusal. refusal ≡ option_map unsealed_line (find (λ name. not (is_sealed (file_at s name))) names.now)) }
+        ensures room { IfOk result (λ refusal. IfSome refusal (λ answer. length answer < O.room self.new.1)) }
+        ensures asks { Asks O.Directory self.old self.new }
+        ensures faults { Faults O.Directory self.old self.new result }
+    {
+        let Some(name) = self.first_unsealed(names)? else {
+            return Ok(None);
+        };
+        let answer = self.refuse_unsealed(name)?;
+        Ok(Some(answer))
+    }
+
+    // The refusal of a commit, where one of its files isn't sealed.
+    fn refusal_of(&mut self, commit: &Commit) -> Result<Option<Answer>, TantivyError>
+        ensures answer { O.tells → (s : State) → Holds (O.reads self.old.1) self.old.0 s → AllByRecursion IsSegment commit.now.segments → IfOk result (λ refusal. refusal ≡ option_map unsealed_line (first_unsealed s commit.now.segments)) }
+        ensures room { IfOk result (λ refusal. IfSome refusal (λ answer. length answer < O.room self.new.1)) }
+        ensures asks { Asks O.Directory self.old self.new }
+        ensures faults { Faults O.Directory self.old self.new result }
+    {
+        let names = required_files(self.alloc, commit.by_id())?;
+        self.refuse_first(names.as_slice())
     }
 
     // Makes this commit the current one, whose text this is.
@@ -314,19 +314,11 @@ impl<O: Outside> Store<O> {
         ensures saved { O.tells → OnOk result (O.reads self.new.1 meta_name ≡ Some text.now) }
         ensures others { O.tells → KeepsOtherFiles (O.reads self.old.1) (O.reads self.new.1) meta_name }
         ensures list { O.tells → Lists (O.reads self.old.1 list_name) self.old.0.managed → OnOk result (Lists (O.reads self.new.1 list_name) self.new.0.managed) }
-        ensures open_files { self.new.0.open_files ≡ self.old.0.open_files }
-        ensures schema { self.new.0.schema ≡ self.old.0.schema }
-        ensures open { self.new.2 ≡ self.old.2 }
-        ensures heard { O.heard self.new.1 ≡ O.heard self.old.1 }
-        ensures room { O.room self.old.1 ≤ O.room self.new.1 }
-        ensures quiet { OnOk result (O.faults self.new.1 ≡ O.faults self.old.1) }
-        ensures cause { IfErr result (EventCause (Rose (O.faults self.old.1) (O.faults self.new.1)) (O.faults self.new.1 ≡ O.faults self.old.1) ⊥) }
         ensures meta { O.tells → OnErr result ((O.reads self.new.1 meta_name ≡ Some text.now) ⊎ (O.reads self.new.1 meta_name ≡ O.reads self.old.1 meta_name)) }
         ensures memory { O.tells → IfErr result (λ error. error ≡ TantivyError.Memory → O.reads self.new.1 meta_name ≡ O.reads self.old.1 meta_name) }
-        ensures locks { O.tells_locks → SameLocks (O.locks self.old.1) (O.locks self.new.1) }
-        ensures clock { O.moment self.old.1 ≤ O.moment self.new.1 }
-        ensures refusals { O.refusals self.new.1 ≡ O.refusals self.old.1 }
-        ensures reading { self.new.0.reading ≡ self.old.0.reading }
+        ensures room { O.room self.old.1 ≤ O.room self.new.1 }
+        ensures faults { Faults O.Directory self.old self.new result }
+        ensures rest { KeepsRest O.Directory self.old self.new }
     {
         self.files.save_meta(text)?;
         self.commit = commit;
@@ -340,67 +332,57 @@ impl<O: Outside> Store<O> {
         payload: &Option<Text>,
         ids: &IdList,
     ) -> Result<Answer, TantivyError>
-        ensures step { O.tells → (s : State) → Holds (O.reads self.old.1) self.old.0 s → IfOk result (λ answer. (answer ≡ (commit_step s payload.now ids.now).0) × Holds (O.reads self.new.1) self.new.0 (commit_step s payload.now ids.now).1) }
-        ensures room { IfOk result (λ answer. length answer < O.room self.new.1) }
-        ensures heard { O.heard self.new.1 ≡ O.heard self.old.1 }
-        ensures open { self.new.2 ≡ self.old.2 }
-        ensures schema { self.new.0.schema ≡ self.old.0.schema }
-        ensures lens { (bound : ℕ) → AtMost bound self.old.0 → AtMost bound self.new.0 }
-        ensures quiet { OnOk result (O.faults self.new.1 ≡ O.faults self.old.1) }
-        ensures cause { IfErr result (EventCause (Rose (O.faults self.old.1) (O.faults self.new.1)) (O.faults self.new.1 ≡ O.faults self.old.1) ⊥) }
-        ensures meta { O.tells → (s : State) → Holds (O.reads self.old.1) self.old.0 s → OnErr result (LeavesCommit (O.reads self.old.1 meta_name) (O.reads self.new.1 meta_name) self.old.0.schema (commit_step s payload.now ids.now).1.commit) }
-        ensures memory { O.tells → IfErr result (λ error. error ≡ TantivyError.Memory → O.reads self.new.1 meta_name ≡ O.reads self.old.1 meta_name) }
-        ensures locks { O.tells_locks → SameLocks (O.locks self.old.1) (O.locks self.new.1) }
-        ensures clock { O.moment self.old.1 ≤ O.moment self.new.1 }
-        ensures refusals { O.refusals self.new.1 ≡ O.refusals self.old.1 }
-        ensures reading { self.new.0.reading ≡ self.old.0.reading }
+        ensures { Commits O.Directory (Unit {0}) self.old self.new (λ s. commit_step s payload.now ids.now) result }
     {
         if self.next == Opstamp::MAX {
-            let answer = self.refuse("stamps-spent")?;
-            return Ok(answer);
+            return self.refuse("stamps-spent");
         }
         if let Some(id) = first_unknown(&self.live, ids.as_slice()) {
-            let answer = self.refuse_unknown(id)?;
-            return Ok(answer);
+            return self.refuse_unknown(id);
         }
         let segments = chosen(self.alloc, &self.live, ids.as_slice())?;
-        let answer = self.commit_chosen(payload, segments)?;
-        Ok(answer)
+        self.commit_chosen(payload, segments)
     }
 
-    // Publishes these segments, where their files are sealed. The room for either answer is made
-    // before the device is asked.
+    // Publishes these segments, where their files are sealed.
     fn commit_chosen(
         &mut self,
         payload: &Option<Text>,
         segments: BTreeMap<SegmentId, LiveSegment>,
     ) -> Result<Answer, TantivyError>
         requires { self.old.0.next < 18446744073709551615 }
-        ensures step { O.tells → (s : State) → Holds (O.reads self.old.1) self.old.0 s → AllByRecursion IsSegment segments.entries → IfOk result (λ answer. (answer ≡ (commit_sealed s payload.now segments.entries (first_unsealed s segments.entries)).0) × Holds (O.reads self.new.1) self.new.0 (commit_sealed s payload.now segments.entries (first_unsealed s segments.entries)).1) }
-        ensures room { IfOk result (λ answer. length answer < O.room self.new.1) }
-        ensures heard { O.heard self.new.1 ≡ O.heard self.old.1 }
-        ensures open { self.new.2 ≡ self.old.2 }
-        ensures schema { self.new.0.schema ≡ self.old.0.schema }
-        ensures lens { (bound : ℕ) → AtMost bound self.old.0 → AtMost bound self.new.0 }
-        ensures quiet { OnOk result (O.faults self.new.1 ≡ O.faults self.old.1) }
-        ensures cause { IfErr result (EventCause (Rose (O.faults self.old.1) (O.faults self.new.1)) (O.faults self.new.1 ≡ O.faults self.old.1) ⊥) }
-        ensures meta { O.tells → (s : State) → Holds (O.reads self.old.1) self.old.0 s → AllByRecursion IsSegment segments.entries → OnErr result (LeavesCommit (O.reads self.old.1 meta_name) (O.reads self.new.1 meta_name) self.old.0.schema (commit_sealed s payload.now segments.entries (first_unsealed s segments.entries)).1.commit) }
-        ensures memory { O.tells → IfErr result (λ error. error ≡ TantivyError.Memory → O.reads self.new.1 meta_name ≡ O.reads self.old.1 meta_name) }
-        ensures locks { O.tells_locks → SameLocks (O.locks self.old.1) (O.locks self.new.1) }
-        ensures clock { O.moment self.old.1 ≤ O.moment self.new.1 }
-        ensures refusals { O.refusals self.new.1 ≡ O.refusals self.old.1 }
-        ensures reading { self.new.0.reading ≡ self.old.0.reading }
+        ensures { Commits O.Directory (AllByRecursion IsSegment segments.entries) self.old self.new (λ s. commit_sealed s payload.now segments.entries (first_unsealed s segments.entries)) result }
     {
-        let names = required_files(self.alloc, &segments)?;
-        let answer = committed(self.alloc, self.next, segments.len())?;
         let commit = new_commit(self.alloc, self.next, payload, segments)?;
         let text = commit.print(self.alloc, self.schema.as_slice())?;
-        let answer = self.ready_for_either(answer)?;
-        if let Some(name) = self.first_unsealed(names.as_slice())? {
-            let answer = self.refuse_unsealed(name)?;
-            return Ok(answer);
+        self.commit_printed(commit, text.as_slice())
+    }
+
+    // Publishes a commit, where its files are sealed. The room for either answer is made before the
+    // device is asked.
+    fn commit_printed(&mut self, commit: Commit, text: &[u8]) -> Result<Answer, TantivyError>
+        requires { self.old.0.next < 18446744073709551615 }
+        ensures { Commits O.Directory (IsPrinted self.old.0 commit text.now) self.old self.new (λ s. commit_sealed s commit.payload commit.segments (first_unsealed s commit.segments)) result }
+    {
+        let answer = self.ready_for_either(&commit)?;
+        if let Some(refusal) = self.refusal_of(&commit)? {
+            return Ok(refusal);
         }
-        self.publish(commit, text.as_slice())?;
+        self.publish_as(commit, text, answer)
+    }
+
+    // Publishes a commit whose files are sealed, and gives its answer, for which there is room.
+    fn publish_as(
+        &mut self,
+        commit: Commit,
+        text: &[u8],
+        answer: Answer,
+    ) -> Result<Answer, TantivyError>
+        requires next { self.old.0.next < 18446744073709551615 }
+        requires room { length answer < O.room self.old.1 }
+        ensures { Commits O.Directory (IsPrinted self.old.0 commit text.now × (answer ≡ commit_line commit.opstamp commit.segments)) self.old self.new (λ s. commit_sealed s commit.payload commit.segments None) result }
+    {
+        self.publish(commit, text)?;
         Ok(answer)
     }
 }

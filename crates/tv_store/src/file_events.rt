@@ -1,12 +1,14 @@
 //! The events on files.
-ghost use Rattle.std.specs.Prelude.{◌≡◌, ◌≤◌, ◌<◌, ◌+◌, ◌^◌, ◌&&◌, ℕ, true, not, nat_lt, length, IfOk, IfErr, OnOk, OnErr};
+ghost use Rattle.std.specs.Prelude.{◌≡◌, ◌≤◌, ◌<◌, ◌+◌, ◌^◌, ◌&&◌, [], ◌∷◌, ℕ, true, not, nat_lt, length, codes, option_map, IfOk, IfErr, OnOk, OnErr};
+ghost use Rattle.std.specs.Fmt.{decimal};
 ghost use Rattle.tv_model.specs.Names.{is_plain, meta_name};
 ghost use Rattle.tv_model.specs.Files.{Rose};
 ghost use Rattle.tv_model.specs.Segments.{name_of, is_delete, num_deleted};
 ghost use Rattle.tv_model.specs.Index.{IsFileOf};
-ghost use Rattle.tv_model.specs.State.{State};
-ghost use Rattle.tv_directory.specs.Locks.{SameLocks};
+ghost use Rattle.tv_model.specs.State.{State, at};
+ghost use Rattle.tv_model.specs.Lines.{line, has_no_feed};
 ghost use Rattle.tv_store.specs.Kept.{Holds, AtMost};
+ghost use Rattle.tv_store.specs.Stays.{Stays};
 ghost use Rattle.tv_store.specs.StoreCauses.{EventCause};
 ghost use Rattle.tv_model.specs.FileEvents.{open_step, write_step, seal_step};
 
@@ -42,7 +44,29 @@ fn file_of(
     Ok(name)
 }
 
+// The line of a new open file.
+fn opened_line(alloc: Global, name: &FileName) -> Result<Answer, Memory>
+    ensures { IfOk result (λ answer. answer ≡ line (codes "opened") (name.now ∷ [])) }
+{
+    Answer::new(alloc, "opened")?.name(name)
+}
+
+// The line of a file that has this many bytes, after this word.
+fn sized_line(alloc: Global, word: &str, name: &FileName, len: u64) -> Result<Answer, Memory>
+    requires { has_no_feed word.now ≡ true }
+    ensures { IfOk result (λ answer. answer ≡ line word.now (name.now ∷ decimal len ∷ [])) }
+{
+    Answer::new(alloc, word)?.name(name)?.number(len)
+}
+
 impl<O: Outside> Store<O> {
+    // How many bytes were written to a file, where it is open.
+    fn body_len(&self, name: &FileName) -> Option<u64>
+        ensures { result ≡ option_map length (at self.now.0.open_files name.now) }
+    {
+        self.files.body_len(name)
+    }
+
     // A new open file.
     pub(crate) fn open_file(
         &mut self,
@@ -51,29 +75,23 @@ impl<O: Outside> Store<O> {
     ) -> Result<Answer, TantivyError>
         ensures step { O.tells → (s : State) → Holds (O.reads self.old.1) self.old.0 s → IfOk result (λ answer. (answer ≡ (open_step s id component).0) × Holds (O.reads self.new.1) self.new.0 (open_step s id component).1) }
         ensures room { IfOk result (λ answer. length answer < O.room self.new.1) }
-        ensures heard { O.heard self.new.1 ≡ O.heard self.old.1 }
-        ensures open { self.new.2 ≡ self.old.2 }
-        ensures schema { self.new.0.schema ≡ self.old.0.schema }
+        ensures stays { Stays O.Directory self.old self.new }
         ensures lens { (bound : ℕ) → AtMost bound self.old.0 → AtMost bound self.new.0 }
         ensures quiet { OnOk result (O.faults self.new.1 ≡ O.faults self.old.1) }
         ensures cause { IfErr result (EventCause (Rose (O.faults self.old.1) (O.faults self.new.1)) (O.faults self.new.1 ≡ O.faults self.old.1) ⊥) }
         ensures meta { O.tells → OnErr result (O.reads self.new.1 meta_name ≡ O.reads self.old.1 meta_name) }
-        ensures locks { O.tells_locks → SameLocks (O.locks self.old.1) (O.locks self.new.1) }
-        ensures clock { O.moment self.old.1 ≤ O.moment self.new.1 }
         ensures refusals { O.refusals self.new.1 ≡ O.refusals self.old.1 }
         ensures reading { self.new.0.reading ≡ self.old.0.reading }
     {
-        let Some(segment) = self.live.get(&id).copied() else {
-            let answer = self.refuse("unknown-segment")?;
-            return Ok(answer);
+        let Some(segment) = self.live_segment(id) else {
+            return self.refuse("unknown-segment");
         };
         if lacks_deletes(segment, component) {
-            let answer = self.refuse("no-deletes")?;
-            return Ok(answer);
+            return self.refuse("no-deletes");
         }
         let name = file_of(self.alloc, id, segment.deletes, component)?;
         let exists = self.refuse("exists")?;
-        let opened = Answer::new(self.alloc, "opened")?.name(&name)?;
+        let opened = opened_line(self.alloc, &name)?;
         let opened = self.ready(opened)?;
         if !self.files.open(name)? {
             return Ok(exists);
@@ -90,32 +108,26 @@ impl<O: Outside> Store<O> {
     ) -> Result<Answer, TantivyError>
         ensures step { O.tells → (s : State) → Holds (O.reads self.old.1) self.old.0 s → IfOk result (λ answer. (answer ≡ (write_step s id component bytes.now).0) × Holds (O.reads self.new.1) self.new.0 (write_step s id component bytes.now).1) }
         ensures room { IfOk result (λ answer. length answer < O.room self.new.1) }
-        ensures heard { O.heard self.new.1 ≡ O.heard self.old.1 }
-        ensures open { self.new.2 ≡ self.old.2 }
-        ensures schema { self.new.0.schema ≡ self.old.0.schema }
+        ensures stays { Stays O.Directory self.old self.new }
         ensures lens { (bound : ℕ) → AtMost bound self.old.0 → AtMost (bound + length bytes.now) self.new.0 }
         ensures quiet { OnOk result (O.faults self.new.1 ≡ O.faults self.old.1) }
         ensures cause { IfErr result (EventCause (Rose (O.faults self.old.1) (O.faults self.new.1)) (O.faults self.new.1 ≡ O.faults self.old.1) ((bound : ℕ) → AtMost bound self.old.0 → 2 ^ 64 ≤ bound + length bytes.now)) }
         ensures meta { O.tells → OnErr result (O.reads self.new.1 meta_name ≡ O.reads self.old.1 meta_name) }
-        ensures locks { O.tells_locks → SameLocks (O.locks self.old.1) (O.locks self.new.1) }
-        ensures clock { O.moment self.old.1 ≤ O.moment self.new.1 }
         ensures refusals { O.refusals self.new.1 ≡ O.refusals self.old.1 }
         ensures reading { self.new.0.reading ≡ self.old.0.reading }
     {
-        let Some(segment) = self.live.get(&id).copied() else {
-            let answer = self.refuse("unknown-segment")?;
-            return Ok(answer);
+        let Some(segment) = self.live_segment(id) else {
+            return self.refuse("unknown-segment");
         };
         let name = file_of(self.alloc, id, segment.deletes, component)?;
-        let Some(len) = self.files.body_len(&name) else {
-            let answer = self.refuse("not-open")?;
-            return Ok(answer);
+        let Some(len) = self.body_len(&name) else {
+            return self.refuse("not-open");
         };
         let bytes = bytes.as_slice();
         let Some(len) = len.checked_add(bytes.len() as u64) else {
             return Err(TantivyError::Exhausted);
         };
-        let answer = Answer::new(self.alloc, "wrote")?.name(&name)?.number(len)?;
+        let answer = sized_line(self.alloc, "wrote", &name, len)?;
         let answer = self.ready(answer)?;
         self.files.write(name, bytes)?;
         Ok(answer)
@@ -129,28 +141,22 @@ impl<O: Outside> Store<O> {
     ) -> Result<Answer, TantivyError>
         ensures step { O.tells → (s : State) → Holds (O.reads self.old.1) self.old.0 s → IfOk result (λ answer. (answer ≡ (seal_step s id component).0) × Holds (O.reads self.new.1) self.new.0 (seal_step s id component).1) }
         ensures room { IfOk result (λ answer. length answer < O.room self.new.1) }
-        ensures heard { O.heard self.new.1 ≡ O.heard self.old.1 }
-        ensures open { self.new.2 ≡ self.old.2 }
-        ensures schema { self.new.0.schema ≡ self.old.0.schema }
+        ensures stays { Stays O.Directory self.old self.new }
         ensures lens { (bound : ℕ) → AtMost bound self.old.0 → AtMost bound self.new.0 }
         ensures quiet { OnOk result (O.faults self.new.1 ≡ O.faults self.old.1) }
         ensures cause { IfErr result (EventCause (Rose (O.faults self.old.1) (O.faults self.new.1)) (O.faults self.new.1 ≡ O.faults self.old.1) ⊥) }
         ensures meta { O.tells → OnErr result (O.reads self.new.1 meta_name ≡ O.reads self.old.1 meta_name) }
-        ensures locks { O.tells_locks → SameLocks (O.locks self.old.1) (O.locks self.new.1) }
-        ensures clock { O.moment self.old.1 ≤ O.moment self.new.1 }
         ensures refusals { O.refusals self.new.1 ≡ O.refusals self.old.1 }
         ensures reading { self.new.0.reading ≡ self.old.0.reading }
     {
-        let Some(segment) = self.live.get(&id).copied() else {
-            let answer = self.refuse("unknown-segment")?;
-            return Ok(answer);
+        let Some(segment) = self.live_segment(id) else {
+            return self.refuse("unknown-segment");
         };
         let name = file_of(self.alloc, id, segment.deletes, component)?;
-        let Some(len) = self.files.body_len(&name) else {
-            let answer = self.refuse("not-open")?;
-            return Ok(answer);
+        let Some(len) = self.body_len(&name) else {
+            return self.refuse("not-open");
         };
-        let answer = Answer::new(self.alloc, "sealed")?.name(&name)?.number(len)?;
+        let answer = sized_line(self.alloc, "sealed", &name, len)?;
         let answer = self.ready(answer)?;
         self.files.seal(&name)?;
         Ok(answer)

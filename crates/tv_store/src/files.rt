@@ -21,6 +21,7 @@ ghost use Rattle.tv_managed.specs.Reading.{ReadsBody};
 ghost use Rattle.tv_store.specs.Bodies.{RefusesAt};
 ghost use Rattle.tv_store.specs.StoreCauses.{EventCause, IsBusy, LockingCause, MakesNoFile};
 ghost use Rattle.tv_store.specs.Telling.{TellsLine, TellsNoLine};
+ghost use Rattle.tv_store.specs.Untold.{Undisturbed, Untold};
 
 use std::alloc::Global;
 use std::collections::{BTreeMap, BTreeSet};
@@ -135,11 +136,7 @@ impl<O: Outside> Files<O> {
         ensures names { self.new.1 ≡ self.old.1 }
         ensures open_files { self.new.2 ≡ self.old.2 }
         ensures quiet { O.faults self.new.0 ≡ O.faults self.old.0 }
-        ensures locks { O.tells_locks → SameLocks (O.locks self.old.0) (O.locks self.new.0) }
-        ensures clock { O.moment self.old.0 ≤ O.moment self.new.0 }
-        ensures refusals { O.refusals self.new.0 ≡ O.refusals self.old.0 }
-        ensures heard { O.heard self.new.0 ≡ O.heard self.old.0 }
-        ensures room { O.room self.old.0 ≤ O.room self.new.0 }
+        ensures stays { Undisturbed O.Directory self.old.0 self.new.0 }
     {
         self.directory.ready(len)
     }
@@ -205,11 +202,7 @@ impl<O: Outside> Files<O> {
         ensures open_files { self.new.2 ≡ self.old.2 }
         ensures quiet { OnOk result (O.faults self.new.0 ≡ O.faults self.old.0) }
         ensures cause { IfErr result (EventCause (Rose (O.faults self.old.0) (O.faults self.new.0)) (O.faults self.new.0 ≡ O.faults self.old.0) ⊥) }
-        ensures locks { O.tells_locks → SameLocks (O.locks self.old.0) (O.locks self.new.0) }
-        ensures clock { O.moment self.old.0 ≤ O.moment self.new.0 }
-        ensures refusals { O.refusals self.new.0 ≡ O.refusals self.old.0 }
-        ensures heard { O.heard self.new.0 ≡ O.heard self.old.0 }
-        ensures room { O.room self.old.0 ≤ O.room self.new.0 }
+        ensures stays { Undisturbed O.Directory self.old.0 self.new.0 }
     {
         if self.files.contains_key(name) {
             return Ok(false);
@@ -235,11 +228,7 @@ impl<O: Outside> Files<O> {
         ensures lens { OnErr result (self.new.2 ≡ self.old.2) }
         ensures quiet { OnOk result (O.faults self.new.0 ≡ O.faults self.old.0) }
         ensures cause { IfErr result (EventCause (Rose (O.faults self.old.0) (O.faults self.new.0)) (O.faults self.new.0 ≡ O.faults self.old.0) ⊥) }
-        ensures locks { O.tells_locks → SameLocks (O.locks self.old.0) (O.locks self.new.0) }
-        ensures clock { O.moment self.old.0 ≤ O.moment self.new.0 }
-        ensures refusals { O.refusals self.new.0 ≡ O.refusals self.old.0 }
-        ensures heard { O.heard self.new.0 ≡ O.heard self.old.0 }
-        ensures room { O.room self.old.0 ≤ O.room self.new.0 }
+        ensures stays { Undisturbed O.Directory self.old.0 self.new.0 }
     {
         let writer = match self.directory.open_write(name.as_str()) {
             Ok(writer) => writer,
@@ -261,11 +250,7 @@ impl<O: Outside> Files<O> {
         ensures lens { OnErr result (self.new.2 ≡ remove_entry (is_at (byte_cmp name)) self.old.2) }
         ensures quiet { OnOk result (O.faults self.new.0 ≡ O.faults self.old.0) }
         ensures cause { IfErr result (EventCause (Rose (O.faults self.old.0) (O.faults self.new.0)) (O.faults self.new.0 ≡ O.faults self.old.0) ⊥) }
-        ensures locks { O.tells_locks → SameLocks (O.locks self.old.0) (O.locks self.new.0) }
-        ensures clock { O.moment self.old.0 ≤ O.moment self.new.0 }
-        ensures refusals { O.refusals self.new.0 ≡ O.refusals self.old.0 }
-        ensures heard { O.heard self.new.0 ≡ O.heard self.old.0 }
-        ensures room { O.room self.old.0 ≤ O.room self.new.0 }
+        ensures stays { Undisturbed O.Directory self.old.0 self.new.0 }
     {
         let Some(file) = self.files.remove(&name) else {
             unreachable!()
@@ -287,11 +272,7 @@ impl<O: Outside> Files<O> {
         ensures names { self.new.1 ≡ self.old.1 }
         ensures quiet { OnOk result (O.faults self.new.0 ≡ O.faults self.old.0) }
         ensures cause { IfErr result (EventCause (Rose (O.faults self.old.0) (O.faults self.new.0)) (O.faults self.new.0 ≡ O.faults self.old.0) ⊥) }
-        ensures locks { O.tells_locks → SameLocks (O.locks self.old.0) (O.locks self.new.0) }
-        ensures clock { O.moment self.old.0 ≤ O.moment self.new.0 }
-        ensures refusals { O.refusals self.new.0 ≡ O.refusals self.old.0 }
-        ensures heard { O.heard self.new.0 ≡ O.heard self.old.0 }
-        ensures room { O.room self.old.0 ≤ O.room self.new.0 }
+        ensures stays { Undisturbed O.Directory self.old.0 self.new.0 }
     {
         let Some(file) = self.files.remove(name) else {
             unreachable!()
@@ -320,11 +301,7 @@ impl<O: Outside> Files<O> {
         ensures open_files { self.new.2 ≡ self.old.2 }
         ensures quiet { OnOk result (O.faults self.new.0 ≡ O.faults self.old.0) }
         ensures cause { IfErr result (ApplyCause ⊥ (Rose (O.faults self.old.0) (O.faults self.new.0)) (O.faults self.new.0 ≡ O.faults self.old.0) ⊥ (λ error. O.tells → RefusesAt (O.reads self.old.0) name.now error) (λ path. (path ≡ name.now) × (O.tells → O.reads self.old.0 path ≡ None))) }
-        ensures locks { O.tells_locks → SameLocks (O.locks self.old.0) (O.locks self.new.0) }
-        ensures clock { O.moment self.old.0 ≤ O.moment self.new.0 }
-        ensures refusals { O.refusals self.new.0 ≡ O.refusals self.old.0 }
-        ensures heard { O.heard self.new.0 ≡ O.heard self.old.0 }
-        ensures room { O.room self.old.0 ≤ O.room self.new.0 }
+        ensures stays { Undisturbed O.Directory self.old.0 self.new.0 }
     {
         let body = self.directory.open_read(name.as_str())?;
         Ok(body)
@@ -346,10 +323,7 @@ impl<O: Outside> Files<O> {
         ensures quiet { OnOk result (O.faults self.new.0 ≡ O.faults self.old.0) }
         ensures free { O.tells_locks → OnOk result (O.locks self.old.0 meta_lock_name ≡ false) }
         ensures cause { IfErr result (LockingCause (IsBusy O.tells_locks (O.locks self.old.0 meta_lock_name ≡ true) (Rose (O.faults self.old.0) (O.faults self.new.0))) (Rose (O.faults self.old.0) (O.faults self.new.0)) (O.faults self.new.0 ≡ O.faults self.old.0) ⊥) }
-        ensures locks { O.tells_locks → SameLocks (O.locks self.old.0) (O.locks self.new.0) }
-        ensures clock { O.moment self.old.0 ≤ O.moment self.new.0 }
-        ensures heard { O.heard self.new.0 ≡ O.heard self.old.0 }
-        ensures room { O.room self.old.0 ≤ O.room self.new.0 }
+        ensures stays { Untold O.Directory self.old.0 self.new.0 }
     {
         // A contract learns from the managed names that they are plain.
         let _names = self.directory.list_managed_files();
@@ -376,11 +350,7 @@ impl<O: Outside> Files<O> {
         ensures either { O.tells → OnErr result ((O.reads self.new.0 meta_name ≡ Some text.now) ⊎ (O.reads self.new.0 meta_name ≡ O.reads self.old.0 meta_name)) }
         ensures memory { O.tells → IfErr result (λ error. error ≡ TantivyError.Memory → O.reads self.new.0 meta_name ≡ O.reads self.old.0 meta_name) }
         ensures file { IfErr result MakesNoFile }
-        ensures locks { O.tells_locks → SameLocks (O.locks self.old.0) (O.locks self.new.0) }
-        ensures clock { O.moment self.old.0 ≤ O.moment self.new.0 }
-        ensures refusals { O.refusals self.new.0 ≡ O.refusals self.old.0 }
-        ensures heard { O.heard self.new.0 ≡ O.heard self.old.0 }
-        ensures room { O.room self.old.0 ≤ O.room self.new.0 }
+        ensures stays { Undisturbed O.Directory self.old.0 self.new.0 }
     {
         self.directory.sync_directory()?;
         self.directory.atomic_write(META_FILEPATH, text)?;

@@ -11,6 +11,8 @@ ghost use Rattle.tv_store.specs.Kept.{Holds};
 ghost use Rattle.tv_store.specs.StoreCauses.{EventCause, MakesNoFile, OpeningCause, IsRefusal, writer_lock_name};
 ghost use Rattle.tv_store.specs.Telling.{TellsLine, TellsNoLine};
 ghost use Rattle.tv_store.specs.Applying.{MakesFirst};
+ghost use Rattle.tv_store.specs.Stays.{Asks, Faults};
+ghost use Rattle.tv_store.specs.Committing.{KeepsRest};
 
 use crate::commit::Commit;
 use crate::files::Files;
@@ -134,6 +136,17 @@ impl<O: Outside> Store<O> {
             .number(self.commit.len() as u64)
     }
 
+    // The opening line, in room that is made for it.
+    fn ready_to_open(&mut self) -> Result<Answer, Memory>
+        ensures line { IfOk result (λ line. line ≡ opening_of self.old.0.commit) }
+        ensures room { IfOk result (λ line. length line < O.room self.new.1) }
+        ensures asks { Asks O.Directory self.old self.new }
+        ensures quiet { O.faults self.new.1 ≡ O.faults self.old.1 }
+    {
+        let line = self.opening_line()?;
+        self.ready(line)
+    }
+
     // Writes the commit of an index that is new, and answers the opening line, in room that is made for
     // it.
     pub(crate) fn create(&mut self) -> Result<Answer, TantivyError>
@@ -141,21 +154,13 @@ impl<O: Outside> Store<O> {
         ensures first { O.tells → self.old.0.commit ≡ first_commit → MakesFirst (O.reads self.old.1) (O.reads self.new.1) self.old.0.schema }
         ensures line { IfOk result (λ line. line ≡ opening_of self.old.0.commit) }
         ensures room { IfOk result (λ line. length line < O.room self.new.1) }
-        ensures heard { O.heard self.new.1 ≡ O.heard self.old.1 }
         ensures commit { self.new.0.commit ≡ self.old.0.commit }
-        ensures schema { self.new.0.schema ≡ self.old.0.schema }
-        ensures lens { self.new.0.open_files ≡ self.old.0.open_files }
-        ensures quiet { OnOk result (O.faults self.new.1 ≡ O.faults self.old.1) }
-        ensures cause { IfErr result (EventCause (Rose (O.faults self.old.1) (O.faults self.new.1)) (O.faults self.new.1 ≡ O.faults self.old.1) ⊥) }
+        ensures faults { Faults O.Directory self.old self.new result }
         ensures file { IfErr result MakesNoFile }
-        ensures locks { O.tells_locks → SameLocks (O.locks self.old.1) (O.locks self.new.1) }
-        ensures clock { O.moment self.old.1 ≤ O.moment self.new.1 }
-        ensures refusals { O.refusals self.new.1 ≡ O.refusals self.old.1 }
-        ensures reading { self.new.0.reading ≡ self.old.0.reading }
+        ensures rest { KeepsRest O.Directory self.old self.new }
     {
         let text = self.commit.print(self.alloc, self.schema.as_slice())?;
-        let line = self.opening_line()?;
-        let line = self.ready(line)?;
+        let line = self.ready_to_open()?;
         self.files.save_meta(text.as_slice())?;
         Ok(line)
     }

@@ -1,13 +1,14 @@
 //! The events of readers.
-ghost use Rattle.std.specs.Prelude.{◌≡◌, ◌≤◌, ◌<◌, ◌+◌, ◌^◌, ℕ, true, false, length, None, IsSome, IfOk, IfErr, OnOk, OnErr};
-ghost use Rattle.tv_model.specs.Files.{Rose, Same};
+ghost use Rattle.std.specs.Prelude.{◌≡◌, ◌≤◌, ◌<◌, ◌+◌, ◌^◌, [], ◌∷◌, ℕ, true, false, length, None, IsSome, IfOk, IfErr, OnOk, OnErr};
+ghost use Rattle.std.specs.Fmt.{decimal};
+ghost use Rattle.tv_model.specs.Files.{Rose};
+ghost use Rattle.tv_model.specs.Lines.{line, has_no_feed};
 ghost use Rattle.tv_model.specs.Segments.{required_names};
 ghost use Rattle.tv_model.specs.State.{State, at_number, reader_at};
 ghost use Rattle.tv_model.specs.declared.event.Event.TheVariants as events;
 ghost use Rattle.tv_model.specs.SoundStates.{IsWhole};
 ghost use Rattle.tv_model.specs.Readable.{CanRead};
 ghost use Rattle.tv_model.specs.ReaderEvents.{snapshot_in, reader_step, reload_step, release_reader_step};
-ghost use Rattle.tv_directory.specs.Locks.{SameLocks};
 ghost use Rattle.tv_managed.specs.Collecting.{meta_lock_name};
 ghost use Rattle.tv_managed.specs.Reading.{ReadsBody};
 ghost use Rattle.tv_store.specs.Bodies.{RefusesAt, AreBodies, AreSealed, ReadsSegment, FailsAt};
@@ -15,30 +16,42 @@ ghost use Rattle.tv_store.specs.Kept.{Holds, AtMost};
 ghost use Rattle.tv_store.specs.ReaderNumbers.{FewNumbers};
 ghost use Rattle.tv_store.specs.Applying.{LacksIn, BadIn, HoldsNone};
 ghost use Rattle.tv_store.specs.ReadCauses.{ApplyCause};
+ghost use Rattle.tv_store.specs.Stays.{Asks, Stays};
 ghost use Rattle.tv_store.specs.StoreCauses.{EventCause, IsBusy};
 ghost use Rattle.tv_model.specs.Names.{meta_name};
 
 use crate::commit_events::required_of;
 use crate::snapshot::{SegmentReader, Snapshot};
 use crate::store::Store;
+use std::alloc::Global;
 use tv_base::{FileSlice, TantivyError};
 use tv_directory::{Outside, meta_lock};
-use tv_model::{Answer, FileName, LiveSegment, ReloadPolicy, SegmentId};
+use tv_model::{Answer, FileName, LiveSegment, Memory, Opstamp, ReloadPolicy, SegmentId};
+
+// The line of a snapshot that is shown, after this word.
+fn shown_line(
+    alloc: Global,
+    word: &str,
+    number: u64,
+    generation: u64,
+    opstamp: Opstamp,
+) -> Result<Answer, Memory>
+    requires { has_no_feed word.now ≡ true }
+    ensures { IfOk result (λ answer. answer ≡ line word.now (decimal number ∷ decimal generation ∷ decimal opstamp ∷ [])) }
+{
+    Answer::new(alloc, word)?
+        .number(number)?
+        .number(generation)?
+        .number(opstamp)
+}
 
 impl<O: Outside> Store<O> {
     // The body of a sealed file.
     fn read_body(&mut self, name: &FileName) -> Result<FileSlice, TantivyError>
         ensures body { O.tells → IfOk result (λ body. ReadsBody (O.reads self.old.1 name.now) body) }
-        ensures content { O.tells → Same (O.reads self.old.1) (O.reads self.new.1) }
-        ensures kept { self.new.0 ≡ self.old.0 }
-        ensures open { self.new.2 ≡ self.old.2 }
-        ensures heard { O.heard self.new.1 ≡ O.heard self.old.1 }
-        ensures room { O.room self.old.1 ≤ O.room self.new.1 }
+        ensures asks { Asks O.Directory self.old self.new }
         ensures quiet { OnOk result (O.faults self.new.1 ≡ O.faults self.old.1) }
         ensures cause { IfErr result (ApplyCause ⊥ (Rose (O.faults self.old.1) (O.faults self.new.1)) (O.faults self.new.1 ≡ O.faults self.old.1) ⊥ (λ error. O.tells → RefusesAt (O.reads self.old.1) name.now error) (λ path. (path ≡ name.now) × (O.tells → O.reads self.old.1 path ≡ None))) }
-        ensures locks { O.tells_locks → SameLocks (O.locks self.old.1) (O.locks self.new.1) }
-        ensures clock { O.moment self.old.1 ≤ O.moment self.new.1 }
-        ensures refusals { O.refusals self.new.1 ≡ O.refusals self.old.1 }
     {
         let body = self.files.open_read(name)?;
         Ok(body)
@@ -47,16 +60,9 @@ impl<O: Outside> Store<O> {
     // The bodies of some sealed files, in their order.
     fn read_bodies(&mut self, names: &[FileName]) -> Result<Vec<FileSlice>, TantivyError>
         ensures bodies { O.tells → (s : State) → Holds (O.reads self.old.1) self.old.0 s → AreSealed s names.entry.now → IfOk result (λ bodies. AreBodies s names.entry.now bodies.items) }
-        ensures content { O.tells → Same (O.reads self.old.1) (O.reads self.new.1) }
-        ensures kept { self.new.0 ≡ self.old.0 }
-        ensures open { self.new.2 ≡ self.old.2 }
-        ensures heard { O.heard self.new.1 ≡ O.heard self.old.1 }
-        ensures room { O.room self.old.1 ≤ O.room self.new.1 }
+        ensures asks { Asks O.Directory self.old self.new }
         ensures quiet { OnOk result (O.faults self.new.1 ≡ O.faults self.old.1) }
         ensures cause { IfErr result (FailsAt O.tells (O.reads self.old.1) names.entry.now (Rose (O.faults self.old.1) (O.faults self.new.1)) (O.faults self.new.1 ≡ O.faults self.old.1)) }
-        ensures locks { O.tells_locks → SameLocks (O.locks self.old.1) (O.locks self.new.1) }
-        ensures clock { O.moment self.old.1 ≤ O.moment self.new.1 }
-        ensures refusals { O.refusals self.new.1 ≡ O.refusals self.old.1 }
     {
         let mut bodies = Vec::new(self.alloc);
         for name in names {
@@ -73,16 +79,9 @@ impl<O: Outside> Store<O> {
         segment: LiveSegment,
     ) -> Result<SegmentReader, TantivyError>
         ensures reader { O.tells → (s : State) → Holds (O.reads self.old.1) self.old.0 s → AreSealed s (required_names id segment) → IfOk result (λ reader. ReadsSegment s id segment reader.id reader.segment reader.bodies.items) }
-        ensures content { O.tells → Same (O.reads self.old.1) (O.reads self.new.1) }
-        ensures kept { self.new.0 ≡ self.old.0 }
-        ensures open { self.new.2 ≡ self.old.2 }
-        ensures heard { O.heard self.new.1 ≡ O.heard self.old.1 }
-        ensures room { O.room self.old.1 ≤ O.room self.new.1 }
+        ensures asks { Asks O.Directory self.old self.new }
         ensures quiet { OnOk result (O.faults self.new.1 ≡ O.faults self.old.1) }
         ensures cause { IfErr result (FailsAt O.tells (O.reads self.old.1) (required_names id segment) (Rose (O.faults self.old.1) (O.faults self.new.1)) (O.faults self.new.1 ≡ O.faults self.old.1)) }
-        ensures locks { O.tells_locks → SameLocks (O.locks self.old.1) (O.locks self.new.1) }
-        ensures clock { O.moment self.old.1 ≤ O.moment self.new.1 }
-        ensures refusals { O.refusals self.new.1 ≡ O.refusals self.old.1 }
     {
         let names = required_of(self.alloc, id, segment)?;
         let bodies = self.read_bodies(names.as_slice())?;
@@ -92,16 +91,9 @@ impl<O: Outside> Store<O> {
     // The current commit with the bodies of its files, under this number, as they read now.
     fn read_snapshot(&mut self, generation: u64) -> Result<Snapshot, TantivyError>
         ensures shown { O.tells → (s : State) → Holds (O.reads self.old.1) self.old.0 s → IsWhole s → IfOk result (λ shown. (shown ≡ snapshot_in s generation) × CanRead s) }
-        ensures content { O.tells → Same (O.reads self.old.1) (O.reads self.new.1) }
-        ensures kept { self.new.0 ≡ self.old.0 }
-        ensures open { self.new.2 ≡ self.old.2 }
-        ensures heard { O.heard self.new.1 ≡ O.heard self.old.1 }
-        ensures room { O.room self.old.1 ≤ O.room self.new.1 }
+        ensures asks { Asks O.Directory self.old self.new }
         ensures quiet { OnOk result (O.faults self.new.1 ≡ O.faults self.old.1) }
         ensures cause { IfErr result (ApplyCause ⊥ (Rose (O.faults self.old.1) (O.faults self.new.1)) (O.faults self.new.1 ≡ O.faults self.old.1) ⊥ (LacksIn O.tells (O.reads self.old.1) self.old.0) (λ path. HoldsNone O.tells (O.reads self.old.1) self.old.0)) }
-        ensures locks { O.tells_locks → SameLocks (O.locks self.old.1) (O.locks self.new.1) }
-        ensures clock { O.moment self.old.1 ≤ O.moment self.new.1 }
-        ensures refusals { O.refusals self.new.1 ≡ O.refusals self.old.1 }
     {
         let segments = self.commit.segments(self.alloc)?;
         let mut readers = Vec::new(self.alloc);
@@ -118,17 +110,10 @@ impl<O: Outside> Store<O> {
     // while the meta lock is held.
     fn snapshot(&mut self, generation: u64) -> Result<Snapshot, TantivyError>
         ensures shown { O.tells → (s : State) → Holds (O.reads self.old.1) self.old.0 s → IsWhole s → IfOk result (λ shown. (shown ≡ snapshot_in s generation) × CanRead s) }
-        ensures content { O.tells → Same (O.reads self.old.1) (O.reads self.new.1) }
-        ensures kept { self.new.0 ≡ self.old.0 }
-        ensures open { self.new.2 ≡ self.old.2 }
-        ensures heard { O.heard self.new.1 ≡ O.heard self.old.1 }
-        ensures room { O.room self.old.1 ≤ O.room self.new.1 }
+        ensures asks { Asks O.Directory self.old self.new }
         ensures quiet { OnOk result (O.faults self.new.1 ≡ O.faults self.old.1) }
         ensures free { O.tells_locks → OnOk result (O.locks self.old.1 meta_lock_name ≡ false) }
         ensures cause { IfErr result (ApplyCause (IsBusy O.tells_locks (O.locks self.old.1 meta_lock_name ≡ true) (Rose (O.faults self.old.1) (O.faults self.new.1))) (Rose (O.faults self.old.1) (O.faults self.new.1)) (O.faults self.new.1 ≡ O.faults self.old.1) ⊥ (LacksIn O.tells (O.reads self.old.1) self.old.0) (λ path. HoldsNone O.tells (O.reads self.old.1) self.old.0)) }
-        ensures locks { O.tells_locks → SameLocks (O.locks self.old.1) (O.locks self.new.1) }
-        ensures clock { O.moment self.old.1 ≤ O.moment self.new.1 }
-        ensures refusals { O.refusals self.new.1 ≡ O.refusals self.old.1 }
     {
         let lock = self.files.acquire_lock(&meta_lock())?;
         let shown = self.read_snapshot(generation);
@@ -140,27 +125,20 @@ impl<O: Outside> Store<O> {
     pub(crate) fn reader(&mut self, policy: ReloadPolicy) -> Result<Answer, TantivyError>
         ensures step { O.tells → (s : State) → Holds (O.reads self.old.1) self.old.0 s → IsWhole s → IfOk result (λ answer. (answer ≡ (reader_step s policy).0) × Holds (O.reads self.new.1) self.new.0 (reader_step s policy).1 × CanRead s) }
         ensures room { IfOk result (λ answer. length answer < O.room self.new.1) }
-        ensures heard { O.heard self.new.1 ≡ O.heard self.old.1 }
-        ensures open { self.new.2 ≡ self.old.2 }
-        ensures schema { self.new.0.schema ≡ self.old.0.schema }
+        ensures stays { Stays O.Directory self.old self.new }
         ensures lens { (bound : ℕ) → AtMost bound self.old.0 → AtMost bound self.new.0 }
         ensures numbers { (bound : ℕ) → FewNumbers bound self.old.0.reading → OnOk result (FewNumbers (bound + 1) self.new.0.reading) }
         ensures quiet { OnOk result (O.faults self.new.1 ≡ O.faults self.old.1) }
         ensures free { O.tells_locks → OnOk result (O.locks self.old.1 meta_lock_name ≡ false) }
         ensures cause { IfErr result (ApplyCause (IsBusy O.tells_locks (O.locks self.old.1 meta_lock_name ≡ true) (Rose (O.faults self.old.1) (O.faults self.new.1))) (Rose (O.faults self.old.1) (O.faults self.new.1)) (O.faults self.new.1 ≡ O.faults self.old.1) ((bound : ℕ) → FewNumbers bound self.old.0.reading → 2 ^ 64 ≤ bound + 1) (BadIn O.tells (O.reads self.old.1) self.old.0 (events.Reader policy)) (λ path. HoldsNone O.tells (O.reads self.old.1) self.old.0)) }
         ensures meta { O.tells → OnErr result (O.reads self.new.1 meta_name ≡ O.reads self.old.1 meta_name) }
-        ensures locks { O.tells_locks → SameLocks (O.locks self.old.1) (O.locks self.new.1) }
-        ensures clock { O.moment self.old.1 ≤ O.moment self.new.1 }
         ensures refusals { O.refusals self.new.1 ≡ O.refusals self.old.1 }
     {
         let number = self.readers.next_reader();
         if number == u64::MAX {
             return Err(TantivyError::Exhausted);
         }
-        let answer = Answer::new(self.alloc, "reader")?
-            .number(number)?
-            .number(0)?
-            .number(self.commit.opstamp())?;
+        let answer = shown_line(self.alloc, "reader", number, 0, self.commit.opstamp())?;
         let answer = self.ready(answer)?;
         let shown = self.snapshot(0)?;
         self.readers.add_reader(policy, shown)?;
@@ -171,30 +149,28 @@ impl<O: Outside> Store<O> {
     pub(crate) fn reload(&mut self, number: u64) -> Result<Answer, TantivyError>
         ensures step { O.tells → (s : State) → Holds (O.reads self.old.1) self.old.0 s → IsWhole s → IfOk result (λ answer. (answer ≡ (reload_step s number).0) × Holds (O.reads self.new.1) self.new.0 (reload_step s number).1 × (IsSome (reader_at s number) → CanRead s)) }
         ensures room { IfOk result (λ answer. length answer < O.room self.new.1) }
-        ensures heard { O.heard self.new.1 ≡ O.heard self.old.1 }
-        ensures open { self.new.2 ≡ self.old.2 }
-        ensures schema { self.new.0.schema ≡ self.old.0.schema }
+        ensures stays { Stays O.Directory self.old self.new }
         ensures lens { (bound : ℕ) → AtMost bound self.old.0 → AtMost bound self.new.0 }
         ensures numbers { (bound : ℕ) → FewNumbers bound self.old.0.reading → OnOk result (FewNumbers (bound + 1) self.new.0.reading) }
         ensures quiet { OnOk result (O.faults self.new.1 ≡ O.faults self.old.1) }
         ensures free { O.tells_locks → IsSome (at_number self.old.0.reading.readers number) → OnOk result (O.locks self.old.1 meta_lock_name ≡ false) }
         ensures cause { IfErr result (ApplyCause (IsSome (at_number self.old.0.reading.readers number) × IsBusy O.tells_locks (O.locks self.old.1 meta_lock_name ≡ true) (Rose (O.faults self.old.1) (O.faults self.new.1))) (Rose (O.faults self.old.1) (O.faults self.new.1)) (O.faults self.new.1 ≡ O.faults self.old.1) ((bound : ℕ) → FewNumbers bound self.old.0.reading → 2 ^ 64 ≤ bound + 1) (BadIn O.tells (O.reads self.old.1) self.old.0 (events.Reload number)) (λ path. HoldsNone O.tells (O.reads self.old.1) self.old.0)) }
         ensures meta { O.tells → OnErr result (O.reads self.new.1 meta_name ≡ O.reads self.old.1 meta_name) }
-        ensures locks { O.tells_locks → SameLocks (O.locks self.old.1) (O.locks self.new.1) }
-        ensures clock { O.moment self.old.1 ≤ O.moment self.new.1 }
         ensures refusals { O.refusals self.new.1 ≡ O.refusals self.old.1 }
     {
         let Some(generation) = self.readers.next_generation(number) else {
-            let answer = self.refuse("unknown-reader")?;
-            return Ok(answer);
+            return self.refuse("unknown-reader");
         };
         if generation == u64::MAX {
             return Err(TantivyError::Exhausted);
         }
-        let answer = Answer::new(self.alloc, "published")?
-            .number(number)?
-            .number(generation)?
-            .number(self.commit.opstamp())?;
+        let answer = shown_line(
+            self.alloc,
+            "published",
+            number,
+            generation,
+            self.commit.opstamp(),
+        )?;
         let answer = self.ready(answer)?;
         let shown = self.snapshot(generation)?;
         self.readers.publish(number, shown)?;
@@ -205,21 +181,16 @@ impl<O: Outside> Store<O> {
     pub(crate) fn release_reader(&mut self, number: u64) -> Result<Answer, TantivyError>
         ensures step { O.tells → (s : State) → Holds (O.reads self.old.1) self.old.0 s → IfOk result (λ answer. (answer ≡ (release_reader_step s number).0) × Holds (O.reads self.new.1) self.new.0 (release_reader_step s number).1) }
         ensures room { IfOk result (λ answer. length answer < O.room self.new.1) }
-        ensures heard { O.heard self.new.1 ≡ O.heard self.old.1 }
-        ensures open { self.new.2 ≡ self.old.2 }
-        ensures schema { self.new.0.schema ≡ self.old.0.schema }
+        ensures stays { Stays O.Directory self.old self.new }
         ensures lens { (bound : ℕ) → AtMost bound self.old.0 → AtMost bound self.new.0 }
         ensures numbers { (bound : ℕ) → FewNumbers bound self.old.0.reading → OnOk result (FewNumbers bound self.new.0.reading) }
         ensures quiet { OnOk result (O.faults self.new.1 ≡ O.faults self.old.1) }
         ensures cause { IfErr result (EventCause (Rose (O.faults self.old.1) (O.faults self.new.1)) (O.faults self.new.1 ≡ O.faults self.old.1) ⊥) }
         ensures meta { O.tells → OnErr result (O.reads self.new.1 meta_name ≡ O.reads self.old.1 meta_name) }
-        ensures locks { O.tells_locks → SameLocks (O.locks self.old.1) (O.locks self.new.1) }
-        ensures clock { O.moment self.old.1 ≤ O.moment self.new.1 }
         ensures refusals { O.refusals self.new.1 ≡ O.refusals self.old.1 }
     {
         if self.readers.next_generation(number).is_none() {
-            let answer = self.refuse("unknown-reader")?;
-            return Ok(answer);
+            return self.refuse("unknown-reader");
         }
         let answer = Answer::new(self.alloc, "released")?;
         let answer = self.ready(answer)?;

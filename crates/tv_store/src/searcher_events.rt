@@ -3,9 +3,9 @@ ghost use Rattle.std.specs.Prelude.{◌≡◌, ◌≤◌, ◌<◌, ◌+◌, ◌^
 ghost use Rattle.tv_model.specs.Files.{Rose};
 ghost use Rattle.tv_model.specs.State.{State};
 ghost use Rattle.tv_model.specs.SearcherEvents.{searcher_step, show_step, bytes_step, release_searcher_step};
-ghost use Rattle.tv_directory.specs.Locks.{SameLocks};
 ghost use Rattle.tv_store.specs.Kept.{Holds, AtMost};
 ghost use Rattle.tv_store.specs.ReaderNumbers.{FewNumbers};
+ghost use Rattle.tv_store.specs.Stays.{Stays};
 ghost use Rattle.tv_store.specs.StoreCauses.{EventCause};
 ghost use Rattle.tv_model.specs.Names.{meta_name};
 
@@ -20,21 +20,16 @@ impl<O: Outside> Store<O> {
     pub(crate) fn searcher(&mut self, number: u64) -> Result<Answer, TantivyError>
         ensures step { O.tells → (s : State) → Holds (O.reads self.old.1) self.old.0 s → IfOk result (λ answer. (answer ≡ (searcher_step s number).0) × Holds (O.reads self.new.1) self.new.0 (searcher_step s number).1) }
         ensures room { IfOk result (λ answer. length answer < O.room self.new.1) }
-        ensures heard { O.heard self.new.1 ≡ O.heard self.old.1 }
-        ensures open { self.new.2 ≡ self.old.2 }
-        ensures schema { self.new.0.schema ≡ self.old.0.schema }
+        ensures stays { Stays O.Directory self.old self.new }
         ensures lens { (bound : ℕ) → AtMost bound self.old.0 → AtMost bound self.new.0 }
         ensures numbers { (bound : ℕ) → FewNumbers bound self.old.0.reading → OnOk result (FewNumbers (bound + 1) self.new.0.reading) }
         ensures quiet { OnOk result (O.faults self.new.1 ≡ O.faults self.old.1) }
         ensures cause { IfErr result (EventCause (Rose (O.faults self.old.1) (O.faults self.new.1)) (O.faults self.new.1 ≡ O.faults self.old.1) ((bound : ℕ) → FewNumbers bound self.old.0.reading → 2 ^ 64 ≤ bound + 1)) }
         ensures meta { O.tells → OnErr result (O.reads self.new.1 meta_name ≡ O.reads self.old.1 meta_name) }
-        ensures locks { O.tells_locks → SameLocks (O.locks self.old.1) (O.locks self.new.1) }
-        ensures clock { O.moment self.old.1 ≤ O.moment self.new.1 }
         ensures refusals { O.refusals self.new.1 ≡ O.refusals self.old.1 }
     {
         let Some(answer) = self.readers.searcher_line(number)? else {
-            let answer = self.refuse("unknown-reader")?;
-            return Ok(answer);
+            return self.refuse("unknown-reader");
         };
         if self.readers.next_searcher() == u64::MAX {
             return Err(TantivyError::Exhausted);
@@ -48,24 +43,18 @@ impl<O: Outside> Store<O> {
     pub(crate) fn show(&mut self, number: u64) -> Result<Answer, TantivyError>
         ensures step { O.tells → (s : State) → Holds (O.reads self.old.1) self.old.0 s → IfOk result (λ answer. (answer ≡ (show_step s number).0) × Holds (O.reads self.new.1) self.new.0 (show_step s number).1) }
         ensures room { IfOk result (λ answer. length answer < O.room self.new.1) }
-        ensures heard { O.heard self.new.1 ≡ O.heard self.old.1 }
-        ensures open { self.new.2 ≡ self.old.2 }
-        ensures schema { self.new.0.schema ≡ self.old.0.schema }
+        ensures stays { Stays O.Directory self.old self.new }
         ensures lens { (bound : ℕ) → AtMost bound self.old.0 → AtMost bound self.new.0 }
         ensures quiet { OnOk result (O.faults self.new.1 ≡ O.faults self.old.1) }
         ensures cause { IfErr result (EventCause (Rose (O.faults self.old.1) (O.faults self.new.1)) (O.faults self.new.1 ≡ O.faults self.old.1) ⊥) }
         ensures meta { O.tells → OnErr result (O.reads self.new.1 meta_name ≡ O.reads self.old.1 meta_name) }
-        ensures locks { O.tells_locks → SameLocks (O.locks self.old.1) (O.locks self.new.1) }
-        ensures clock { O.moment self.old.1 ≤ O.moment self.new.1 }
         ensures refusals { O.refusals self.new.1 ≡ O.refusals self.old.1 }
         ensures reading { self.new.0.reading ≡ self.old.0.reading }
     {
         let Some(answer) = self.readers.show(number)? else {
-            let answer = self.refuse("unknown-searcher")?;
-            return Ok(answer);
+            return self.refuse("unknown-searcher");
         };
-        let answer = self.ready(answer)?;
-        Ok(answer)
+        self.told(answer)
     }
 
     // The body of a file that a searcher shows.
@@ -77,45 +66,35 @@ impl<O: Outside> Store<O> {
     ) -> Result<Answer, TantivyError>
         ensures step { O.tells → (s : State) → Holds (O.reads self.old.1) self.old.0 s → IfOk result (λ answer. (answer ≡ (bytes_step s number ord component).0) × Holds (O.reads self.new.1) self.new.0 (bytes_step s number ord component).1) }
         ensures room { IfOk result (λ answer. length answer < O.room self.new.1) }
-        ensures heard { O.heard self.new.1 ≡ O.heard self.old.1 }
-        ensures open { self.new.2 ≡ self.old.2 }
-        ensures schema { self.new.0.schema ≡ self.old.0.schema }
+        ensures stays { Stays O.Directory self.old self.new }
         ensures lens { (bound : ℕ) → AtMost bound self.old.0 → AtMost bound self.new.0 }
         ensures quiet { OnOk result (O.faults self.new.1 ≡ O.faults self.old.1) }
         ensures cause { IfErr result (EventCause (Rose (O.faults self.old.1) (O.faults self.new.1)) (O.faults self.new.1 ≡ O.faults self.old.1) ⊥) }
         ensures meta { O.tells → OnErr result (O.reads self.new.1 meta_name ≡ O.reads self.old.1 meta_name) }
-        ensures locks { O.tells_locks → SameLocks (O.locks self.old.1) (O.locks self.new.1) }
-        ensures clock { O.moment self.old.1 ≤ O.moment self.new.1 }
         ensures refusals { O.refusals self.new.1 ≡ O.refusals self.old.1 }
         ensures reading { self.new.0.reading ≡ self.old.0.reading }
     {
-        let answer = match self.readers.bytes(number, ord, component)? {
-            BodyAnswer::NoSearcher => self.refuse("unknown-searcher")?,
-            BodyAnswer::NoFile => self.refuse("unknown-file")?,
-            BodyAnswer::Line(answer) => self.ready(answer)?,
-        };
-        Ok(answer)
+        match self.readers.bytes(number, ord, component)? {
+            BodyAnswer::NoSearcher => self.refuse("unknown-searcher"),
+            BodyAnswer::NoFile => self.refuse("unknown-file"),
+            BodyAnswer::Line(answer) => self.told(answer),
+        }
     }
 
     // A searcher ends.
     pub(crate) fn release_searcher(&mut self, number: u64) -> Result<Answer, TantivyError>
         ensures step { O.tells → (s : State) → Holds (O.reads self.old.1) self.old.0 s → IfOk result (λ answer. (answer ≡ (release_searcher_step s number).0) × Holds (O.reads self.new.1) self.new.0 (release_searcher_step s number).1) }
         ensures room { IfOk result (λ answer. length answer < O.room self.new.1) }
-        ensures heard { O.heard self.new.1 ≡ O.heard self.old.1 }
-        ensures open { self.new.2 ≡ self.old.2 }
-        ensures schema { self.new.0.schema ≡ self.old.0.schema }
+        ensures stays { Stays O.Directory self.old self.new }
         ensures lens { (bound : ℕ) → AtMost bound self.old.0 → AtMost bound self.new.0 }
         ensures numbers { (bound : ℕ) → FewNumbers bound self.old.0.reading → OnOk result (FewNumbers bound self.new.0.reading) }
         ensures quiet { OnOk result (O.faults self.new.1 ≡ O.faults self.old.1) }
         ensures cause { IfErr result (EventCause (Rose (O.faults self.old.1) (O.faults self.new.1)) (O.faults self.new.1 ≡ O.faults self.old.1) ⊥) }
         ensures meta { O.tells → OnErr result (O.reads self.new.1 meta_name ≡ O.reads self.old.1 meta_name) }
-        ensures locks { O.tells_locks → SameLocks (O.locks self.old.1) (O.locks self.new.1) }
-        ensures clock { O.moment self.old.1 ≤ O.moment self.new.1 }
         ensures refusals { O.refusals self.new.1 ≡ O.refusals self.old.1 }
     {
         if !self.readers.has_searcher(number) {
-            let answer = self.refuse("unknown-searcher")?;
-            return Ok(answer);
+            return self.refuse("unknown-searcher");
         }
         let answer = Answer::new(self.alloc, "released")?;
         let answer = self.ready(answer)?;

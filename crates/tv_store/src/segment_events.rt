@@ -1,17 +1,19 @@
 //! The events on live segments, and the one that reports.
-ghost use Rattle.std.specs.Prelude.{◌≡◌, ◌≤◌, ◌<◌, ◌||◌, ℕ, length, codes, is_some, IfOk, IfErr, OnOk, map, string_bytes, OnErr};
+ghost use Rattle.std.specs.Prelude.{◌≡◌, ◌≤◌, ◌<◌, ◌||◌, [], ◌∷◌, ℕ, length, codes, is_some, IfOk, IfErr, OnOk, map, string_bytes, OnErr};
+ghost use Rattle.std.specs.Fmt.{decimal};
 ghost use Rattle.hex.specs.Hex.{encode_lower};
 ghost use Rattle.tv_model.specs.Lines.{line};
 ghost use Rattle.tv_model.specs.Files.{Rose};
 ghost use Rattle.tv_model.specs.State.{State, at};
-ghost use Rattle.tv_directory.specs.Locks.{SameLocks};
 ghost use Rattle.tv_store.specs.Kept.{Holds, AtMost};
+ghost use Rattle.tv_store.specs.Stays.{Stays};
 ghost use Rattle.tv_store.specs.StoreCauses.{EventCause};
 ghost use Rattle.tv_model.specs.SegmentEvents.{segment_step, docs_step, is_named};
 ghost use Rattle.tv_model.specs.ReportEvents.{managed_step};
 ghost use Rattle.tv_model.specs.Names.{meta_name};
 
 use crate::store::Store;
+use std::alloc::Global;
 use std::collections::BTreeSet;
 use tv_base::TantivyError;
 use tv_directory::Outside;
@@ -28,6 +30,22 @@ fn is_named(names: &BTreeSet<String>, id: SegmentId, digits: String) -> bool
         Some(name) => name.as_bytes().starts_with(&spelled),
         None => false,
     }
+}
+
+// The line of a new live segment.
+fn segment_line(alloc: Global, id: SegmentId) -> Result<Answer, Memory>
+    ensures { IfOk result (λ answer. answer ≡ line (codes "segment") (encode_lower id ∷ [])) }
+{
+    Answer::new(alloc, "segment")?.id(id)
+}
+
+// The line of how many documents a segment has.
+fn docs_line(alloc: Global, id: SegmentId, max_doc: u32) -> Result<Answer, Memory>
+    ensures { IfOk result (λ answer. answer ≡ line (codes "docs") (encode_lower id ∷ decimal max_doc ∷ [])) }
+{
+    Answer::new(alloc, "docs")?
+        .id(id)?
+        .number(u64::from(max_doc))
 }
 
 impl<O: Outside> Store<O> {
@@ -50,25 +68,20 @@ impl<O: Outside> Store<O> {
     pub(crate) fn segment(&mut self, id: SegmentId) -> Result<Answer, TantivyError>
         ensures step { O.tells → (s : State) → Holds (O.reads self.old.1) self.old.0 s → IfOk result (λ answer. (answer ≡ (segment_step s id).0) × Holds (O.reads self.new.1) self.new.0 (segment_step s id).1) }
         ensures room { IfOk result (λ answer. length answer < O.room self.new.1) }
-        ensures heard { O.heard self.new.1 ≡ O.heard self.old.1 }
-        ensures open { self.new.2 ≡ self.old.2 }
-        ensures schema { self.new.0.schema ≡ self.old.0.schema }
+        ensures stays { Stays O.Directory self.old self.new }
         ensures lens { (bound : ℕ) → AtMost bound self.old.0 → AtMost bound self.new.0 }
         ensures quiet { OnOk result (O.faults self.new.1 ≡ O.faults self.old.1) }
         ensures cause { IfErr result (EventCause (Rose (O.faults self.old.1) (O.faults self.new.1)) (O.faults self.new.1 ≡ O.faults self.old.1) ⊥) }
         ensures meta { O.tells → OnErr result (O.reads self.new.1 meta_name ≡ O.reads self.old.1 meta_name) }
-        ensures locks { O.tells_locks → SameLocks (O.locks self.old.1) (O.locks self.new.1) }
-        ensures clock { O.moment self.old.1 ≤ O.moment self.new.1 }
         ensures refusals { O.refusals self.new.1 ≡ O.refusals self.old.1 }
         ensures reading { self.new.0.reading ≡ self.old.0.reading }
     {
         if self.is_in_use(id)? {
-            let answer = self.refuse("id-in-use")?;
-            return Ok(answer);
+            return self.refuse("id-in-use");
         }
         // Asking for its bytes tells that the id has sixteen, as each kept id must.
         let _id = id.as_bytes();
-        let answer = Answer::new(self.alloc, "segment")?.id(id)?;
+        let answer = segment_line(self.alloc, id)?;
         let answer = self.ready(answer)?;
         let fresh = LiveSegment {
             max_doc: 0,
@@ -82,29 +95,21 @@ impl<O: Outside> Store<O> {
     pub(crate) fn docs(&mut self, id: SegmentId, max_doc: u32) -> Result<Answer, TantivyError>
         ensures step { O.tells → (s : State) → Holds (O.reads self.old.1) self.old.0 s → IfOk result (λ answer. (answer ≡ (docs_step s id max_doc).0) × Holds (O.reads self.new.1) self.new.0 (docs_step s id max_doc).1) }
         ensures room { IfOk result (λ answer. length answer < O.room self.new.1) }
-        ensures heard { O.heard self.new.1 ≡ O.heard self.old.1 }
-        ensures open { self.new.2 ≡ self.old.2 }
-        ensures schema { self.new.0.schema ≡ self.old.0.schema }
+        ensures stays { Stays O.Directory self.old self.new }
         ensures lens { (bound : ℕ) → AtMost bound self.old.0 → AtMost bound self.new.0 }
         ensures quiet { OnOk result (O.faults self.new.1 ≡ O.faults self.old.1) }
         ensures cause { IfErr result (EventCause (Rose (O.faults self.old.1) (O.faults self.new.1)) (O.faults self.new.1 ≡ O.faults self.old.1) ⊥) }
         ensures meta { O.tells → OnErr result (O.reads self.new.1 meta_name ≡ O.reads self.old.1 meta_name) }
-        ensures locks { O.tells_locks → SameLocks (O.locks self.old.1) (O.locks self.new.1) }
-        ensures clock { O.moment self.old.1 ≤ O.moment self.new.1 }
         ensures refusals { O.refusals self.new.1 ≡ O.refusals self.old.1 }
         ensures reading { self.new.0.reading ≡ self.old.0.reading }
     {
-        let Some(segment) = self.live.get(&id).copied() else {
-            let answer = self.refuse("unknown-segment")?;
-            return Ok(answer);
+        let Some(segment) = self.live_segment(id) else {
+            return self.refuse("unknown-segment");
         };
         if segment.max_doc != 0 || segment.deletes.is_some() {
-            let answer = self.refuse("wrong-docs")?;
-            return Ok(answer);
+            return self.refuse("wrong-docs");
         }
-        let answer = Answer::new(self.alloc, "docs")?
-            .id(id)?
-            .number(u64::from(max_doc))?;
+        let answer = docs_line(self.alloc, id, max_doc)?;
         let answer = self.ready(answer)?;
         self.live.insert(id, LiveSegment { max_doc, ..segment })?;
         Ok(answer)
@@ -125,20 +130,15 @@ impl<O: Outside> Store<O> {
     pub(crate) fn managed(&mut self) -> Result<Answer, TantivyError>
         ensures step { O.tells → (s : State) → Holds (O.reads self.old.1) self.old.0 s → IfOk result (λ answer. (answer ≡ (managed_step s).0) × Holds (O.reads self.new.1) self.new.0 (managed_step s).1) }
         ensures room { IfOk result (λ answer. length answer < O.room self.new.1) }
-        ensures heard { O.heard self.new.1 ≡ O.heard self.old.1 }
-        ensures open { self.new.2 ≡ self.old.2 }
-        ensures schema { self.new.0.schema ≡ self.old.0.schema }
+        ensures stays { Stays O.Directory self.old self.new }
         ensures lens { (bound : ℕ) → AtMost bound self.old.0 → AtMost bound self.new.0 }
         ensures quiet { OnOk result (O.faults self.new.1 ≡ O.faults self.old.1) }
         ensures cause { IfErr result (EventCause (Rose (O.faults self.old.1) (O.faults self.new.1)) (O.faults self.new.1 ≡ O.faults self.old.1) ⊥) }
         ensures meta { O.tells → OnErr result (O.reads self.new.1 meta_name ≡ O.reads self.old.1 meta_name) }
-        ensures locks { O.tells_locks → SameLocks (O.locks self.old.1) (O.locks self.new.1) }
-        ensures clock { O.moment self.old.1 ≤ O.moment self.new.1 }
         ensures refusals { O.refusals self.new.1 ≡ O.refusals self.old.1 }
         ensures reading { self.new.0.reading ≡ self.old.0.reading }
     {
         let answer = self.managed_names()?;
-        let ready = self.ready(answer)?;
-        Ok(ready)
+        self.told(answer)
     }
 }

@@ -10,6 +10,8 @@ ghost use Rattle.tv_managed.specs.Collecting.{meta_lock_name};
 ghost use Rattle.tv_store.specs.Kept.{Holds, AtMost};
 ghost use Rattle.tv_store.specs.ReaderNumbers.{FewNumbers};
 ghost use Rattle.tv_store.specs.Applying.{Stepped, Spent, BadIn, HoldsNone, written_by, LeavesOldOrNew, MakesFirst};
+ghost use Rattle.tv_store.specs.Acting.{Acts};
+ghost use Rattle.tv_store.specs.Making.{Made, NotMade};
 ghost use Rattle.tv_store.specs.ReadCauses.{ApplyCause, TakesMetaLock};
 ghost use Rattle.tv_store.specs.StoreCauses.{IsBusy, OpeningCause, IsArgument};
 ghost use Rattle.tv_store.specs.Telling.{TellsLine, TellsNoLine};
@@ -60,25 +62,8 @@ impl<O: Outside> Store<O> {
         outside: O,
         schema: &[u8],
     ) -> Result<(Store<O>, Answer), Refused<O>>
-        ensures schema { IfOk result (λ made. made.0.0.schema ≡ schema.now) }
-        ensures accepted { OnOk result (is_schema schema.now ≡ true) }
-        ensures none { O.tells → OnOk result (HasNoIndex (O.reads outside)) }
-        ensures holds { O.tells → (s : State) → OpensTo default_settings schema.now (O.reads outside) s → IfOk result (λ made. Holds (O.reads made.0.1) made.0.0 s) }
-        ensures first { O.tells → IfOk result (λ made. MakesFirst (O.reads outside) (O.reads made.0.1) schema.now) }
-        ensures refused { O.tells → IfErr result (λ refused. MakesFirst (O.reads outside) (O.reads refused.directory) schema.now) }
-        ensures unchanged { O.tells → IfErr result (λ refused. IsArgument refused.error → Same (O.reads outside) (O.reads refused.directory)) }
-        ensures line { IfOk result (λ made. made.1 ≡ opening_of made.0.0.commit) }
-        ensures room { IfOk result (λ made. length made.1 < O.room made.0.1) }
-        ensures heard { IfOk result (λ made. O.heard made.0.1 ≡ O.heard outside) }
-        ensures silent { IfErr result (λ refused. O.heard refused.directory ≡ O.heard outside) }
-        ensures lens { IfOk result (λ made. AtMost 0 made.0.0) }
-        ensures numbers { IfOk result (λ made. made.0.0.reading ≡ no_readers) }
-        ensures refusals { IfOk result (λ made. O.refusals made.0.1 ≡ O.refusals outside) }
-        ensures quiet { IfOk result (λ made. O.faults made.0.1 ≡ O.faults outside) }
-        ensures cause { IfErr result (λ refused. OpeningCause O.tells schema.now (O.reads outside) ⊥ (Rose (O.faults outside) (O.faults refused.directory)) (O.faults refused.directory ≡ O.faults outside) refused.error) }
-        ensures locks { O.tells_locks → IfOk result (λ made. SameLocks (O.locks outside) (O.locks made.0.1)) }
-        ensures same_locks { O.tells_locks → IfErr result (λ refused. SameLocks (O.locks outside) (O.locks refused.directory)) }
-        ensures clock { IfOk result (λ made. O.moment outside ≤ O.moment made.0.1) }
+        ensures made { IfOk result (λ made. Made O.Directory outside schema.now made.0 made.1) }
+        ensures refused { IfErr result (λ refused. NotMade O.Directory outside schema.now refused.directory refused.error) }
     {
         let mut outside = outside;
         if let Err(error) = check_empty(alloc, &mut outside, schema) {
@@ -149,20 +134,7 @@ impl<O: Outside> Store<O> {
 
     // One step of the machine, whose line is yet to be told, in room that was made for it.
     fn act(&mut self, event: &Event) -> Result<Answer, TantivyError>
-        ensures step { IfOk result (Stepped O.tells (O.reads self.old.1) (O.reads self.new.1) self.old.0 self.new.0 (O.refusals self.old.1) (O.refusals self.new.1) event.now) }
-        ensures room { IfOk result (λ answer. length answer < O.room self.new.1) }
-        ensures heard { O.heard self.new.1 ≡ O.heard self.old.1 }
-        ensures open { self.new.2 ≡ self.old.2 }
-        ensures schema { self.new.0.schema ≡ self.old.0.schema }
-        ensures lens { (bound : ℕ) → AtMost bound self.old.0 → AtMost (bound + written_by event.now) self.new.0 }
-        ensures quiet { OnOk result (O.faults self.new.1 ≡ O.faults self.old.1) }
-        ensures numbers { (bound : ℕ) → FewNumbers bound self.old.0.reading → OnOk result (FewNumbers (bound + written_by event.now) self.new.0.reading) }
-        ensures free { O.tells_locks → TakesMetaLock self.old.0 event.now → OnOk result (O.locks self.old.1 meta_lock_name ≡ false) }
-        ensures cause { IfErr result (ApplyCause (TakesMetaLock self.old.0 event.now × IsBusy O.tells_locks (O.locks self.old.1 meta_lock_name ≡ true) (Rose (O.faults self.old.1) (O.faults self.new.1))) (Rose (O.faults self.old.1) (O.faults self.new.1)) (O.faults self.new.1 ≡ O.faults self.old.1) (Spent self.old.0 event.now) (BadIn O.tells (O.reads self.old.1) self.old.0 event.now) (λ path. HoldsNone O.tells (O.reads self.old.1) self.old.0)) }
-        ensures meta { O.tells → (s : State) → Holds (O.reads self.old.1) self.old.0 s → IsWhole s → OnErr result (LeavesOldOrNew (O.reads self.old.1 meta_name) (O.reads self.new.1 meta_name) self.old.0.schema s event.now) }
-        ensures memory { O.tells → IfErr result (λ error. error ≡ TantivyError.Memory → O.reads self.new.1 meta_name ≡ O.reads self.old.1 meta_name) }
-        ensures locks { O.tells_locks → SameLocks (O.locks self.old.1) (O.locks self.new.1) }
-        ensures clock { O.moment self.old.1 ≤ O.moment self.new.1 }
+        ensures { Acts O.Directory self.old self.new event.now result }
     {
         match event {
             Event::Segment(id) => self.segment(*id),

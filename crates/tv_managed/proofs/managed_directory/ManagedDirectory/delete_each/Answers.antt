@@ -2,10 +2,9 @@ use Rattle.std.proofs.Common.{◌≡◌, ℕ, List, [], ◌∷◌, ◌++◌, ref
 use Rattle.std.specs.Prelude.{if◌then◌else◌}
 use Rattle.std.specs.Vec.Iter.{into_iter_items}
 use Rattle.std.proofs.lemmas.List.{nil_from_length}
-use Rattle.tv_model.specs.Collections.{without}
 use Rattle.tv_managed.specs.Collecting.{names_of}
-use Rattle.tv_managed.proofs.Removals.{names_last}
-use Rattle.tv_managed.proofs.Tried.{none_tried, tried_done, tried_failed, tried_same, next_plain, leaves_of, tries_of, list_stays, is_another, not_last}
+use Rattle.tv_managed.proofs.Frames.{goes_on_still, goes_on_then}
+use Rattle.tv_managed.proofs.Tried.{none_tried, tried_next, tried_same, added_is, added_else, spares_next, next_plain, leaves_of, tries_of, list_stays, is_another}
 use Rattle.tv_managed.proofs.managed_directory.ManagedDirectory.delete_each.Goals as goal
 
 pub loop-name-init : goal.loop-name-init
@@ -14,19 +13,13 @@ loop-name-init g c =
       next = tt;
       finite = tt;
       tried =
-          none_tried (names_of c.args.names.items) (names_of (into_iter_items c.into_iter-name-iterator.result)) c.args.self.now.1 (names_of c.new-deleted_files.result.items) (names_of c.new-failed_to_delete_files.result.items)
+          none_tried (names_of c.args.names.items) (names_of (into_iter_items c.into_iter-name-iterator.result)) c.args.self.now.1 (names_of c.new.result.items) (names_of c.new-2.result.items)
           g.D.Directory.tells (g.D.Directory.reads c.args.self.now.0) (g.D.Directory.refusals c.args.self.now.0)
-          (ap (λ (l : List (String Global)). names_of l) c.into_iter-name-iterator.ensures.into_iter_gives.0) (ap (λ (l : List (String Global)). names_of l) c.new-deleted_files.ensures.items) (ap (λ (l : List (String Global)). names_of l) c.new-failed_to_delete_files.ensures.items) c.requires;
+          (ap (λ (l : List (String Global)). names_of l) c.into_iter-name-iterator.ensures.into_iter_gives.0) (ap (λ (l : List (String Global)). names_of l) c.new.ensures.items) (ap (λ (l : List (String Global)). names_of l) c.new-2.ensures.items) c.requires;
       spares = λ w h l. l;
       kept = λ w h l. l;
       faults = refl;
-      writers = λ w o. o;
-      ended = λ w o l. l;
-      locks = λ told n. refl;
-      watched = refl;
-      clock = omega arith;
-      heard = refl;
-      room = omega arith;
+      goes_on = goes_on_still g.D.Directory c.args.self.now.0;
     }
 
 pub delete_managed-requires : goal.delete_managed-requires
@@ -37,36 +30,6 @@ delete_managed-requires g c =
     let next : names_of (into_iter_items c.loop-name.name-iterator) ≡ name ∷ others = ap (λ (l : List (String Global)). names_of l) c.in-Some.ensures.steps.0 ∙ ap (λ (n : List ℕ). n ∷ others) (sym c.as_str.ensures.value) in
     next_plain (names_of (into_iter_items c.loop-name.name-iterator)) others name inv.tried.plain next
 
-pub loop-name-preserved-in-Continue-branch-2 : goal.loop-name-preserved-in-Continue-branch-2
-loop-name-preserved-in-Continue-branch-2 g c =
-    let D = g.D.Directory in
-    let inv = c.loop-name.invariant in
-    let name = c.as_str.result.now in
-    let others = names_of (into_iter_items c.next.new.self) in
-    let next : names_of (into_iter_items c.loop-name.name-iterator) ≡ name ∷ others = ap (λ (l : List (String Global)). names_of l) c.in-Some.ensures.steps.0 ∙ ap (λ (n : List ℕ). n ∷ others) (sym c.as_str.ensures.value) in
-    let e = c.in_ok-delete_managed.ensures in
-    record {
-      next = tt;
-      finite = tt;
-      tried =
-          tried_done (names_of c.args.names.items) (names_of (into_iter_items c.loop-name.name-iterator)) c.args.self.now.1 c.loop-name.self.1 (names_of c.loop-name.deleted_files.items) (names_of c.loop-name.failed_to_delete_files.items)
-          (names_of (into_iter_items c.next.new.self)) D.tells (D.reads c.args.self.now.0) (D.reads c.loop-name.self.0) (D.refusals c.args.self.now.0) (D.refusals c.loop-name.self.0) name
-          c.delete_managed.new.self.1 (D.reads c.delete_managed.new.self.0) (D.refusals c.delete_managed.new.self.0) (names_of c.push.new.self.items) inv.tried next
-          (e.names ∙ ap (λ b. if b then without (name ∷ []) c.loop-name.self.1 else c.loop-name.self.1) c.if-branch.true) (λ t. e.gone t c.if-branch.true) e.others (e.done c.if-branch.true) (ap (λ (l : List (String Global)). names_of l) c.in_ok-push.ensures.items ∙ names_last c.loop-name.deleted_files.items c.in-Some.name ∙ ap (λ (n : List ℕ). names_of c.loop-name.deleted_files.items ++ n ∷ []) (sym c.as_str.ensures.value));
-      spares = λ w h l. e.alive w (is_another (names_of c.args.names.items) (names_of (into_iter_items c.loop-name.name-iterator)) others c.args.self.now.1 c.loop-name.self.1 (names_of c.loop-name.deleted_files.items) (names_of c.loop-name.failed_to_delete_files.items) D.tells (D.reads c.args.self.now.0) (D.reads c.loop-name.self.0) (D.refusals c.args.self.now.0) (D.refusals c.loop-name.self.0) name (D.name_of w) inv.tried next h) (inv.spares w h l);
-      kept = λ w h l.
-          let p = not_last (names_of c.loop-name.deleted_files.items) (names_of c.push.new.self.items) name (D.name_of w) (ap (λ (l : List (String Global)). names_of l) c.in_ok-push.ensures.items ∙ names_last c.loop-name.deleted_files.items c.in-Some.name ∙ ap (λ (n : List ℕ). names_of c.loop-name.deleted_files.items ++ n ∷ []) (sym c.as_str.ensures.value)) h in
-          e.alive w p.1 (inv.kept w p.0 l);
-      faults = e.faults ∙ inv.faults;
-      writers = λ w o. e.writers w (inv.writers w o);
-      ended = λ w o l. e.ended w (inv.writers w o) (inv.ended w o l);
-      locks = λ told n. e.locks told n ∙ inv.locks told n;
-      watched = e.watched ∙ inv.watched;
-      clock = omega (arith, inv.clock, e.clock);
-      heard = e.heard ∙ inv.heard;
-      room = omega (arith, inv.room, e.room);
-    }
-
 pub loop-name-preserved : goal.loop-name-preserved
 loop-name-preserved g c =
     let D = g.D.Directory in
@@ -74,234 +37,106 @@ loop-name-preserved g c =
     let name = c.as_str.result.now in
     let others = names_of (into_iter_items c.next.new.self) in
     let next : names_of (into_iter_items c.loop-name.name-iterator) ≡ name ∷ others = ap (λ (l : List (String Global)). names_of l) c.in-Some.ensures.steps.0 ∙ ap (λ (n : List ℕ). n ∷ others) (sym c.as_str.ensures.value) in
-    let e = c.in_ok-delete_managed.ensures in
+    let e = c.in_ok-gone.ensures in
+    let gone = c.in_ok-gone.gone in
+    let done = added_is gone c.loop-name.tried.deleted_files.items c.add.new.self.deleted_files.items c.in-Some.name name c.in_ok-add.ensures.deleted c.as_str.ensures.value in
     record {
       next = tt;
       finite = tt;
       tried =
-          tried_failed (names_of c.args.names.items) (names_of (into_iter_items c.loop-name.name-iterator)) c.args.self.now.1 c.loop-name.self.1 (names_of c.loop-name.deleted_files.items) (names_of c.loop-name.failed_to_delete_files.items)
-          (names_of (into_iter_items c.next.new.self)) D.tells (D.reads c.args.self.now.0) (D.reads c.loop-name.self.0) (D.refusals c.args.self.now.0) (D.refusals c.loop-name.self.0) name
-          c.delete_managed.new.self.1 (D.reads c.delete_managed.new.self.0) (D.refusals c.delete_managed.new.self.0) (names_of c.push-else-branch.new.self.items) inv.tried next
-          (e.names ∙ ap (λ b. if b then without (name ∷ []) c.loop-name.self.1 else c.loop-name.self.1) c.if-branch.false) (λ t. e.same t c.if-branch.false) (e.failed c.if-branch.false) e.fits (ap (λ (l : List (String Global)). names_of l) c.in_ok-push-2.ensures.items ∙ names_last c.loop-name.failed_to_delete_files.items c.in-Some.name ∙ ap (λ (n : List ℕ). names_of c.loop-name.failed_to_delete_files.items ++ n ∷ []) (sym c.as_str.ensures.value));
-      spares = λ w h l. e.alive w (is_another (names_of c.args.names.items) (names_of (into_iter_items c.loop-name.name-iterator)) others c.args.self.now.1 c.loop-name.self.1 (names_of c.loop-name.deleted_files.items) (names_of c.loop-name.failed_to_delete_files.items) D.tells (D.reads c.args.self.now.0) (D.reads c.loop-name.self.0) (D.refusals c.args.self.now.0) (D.refusals c.loop-name.self.0) name (D.name_of w) inv.tried next h) (inv.spares w h l);
-      kept = λ w h l. e.kept c.if-branch.false w (inv.kept w h l);
+          tried_next D gone (names_of c.args.names.items) (names_of (into_iter_items c.loop-name.name-iterator)) others (names_of c.loop-name.tried.deleted_files.items) (names_of c.loop-name.tried.failed_to_delete_files.items)
+          (names_of c.add.new.self.deleted_files.items) (names_of c.add.new.self.failed_to_delete_files.items) name c.args.self.now c.loop-name.self c.delete_managed.new.self inv.tried next e.tried e.fits
+          done (added_else gone c.loop-name.tried.failed_to_delete_files.items c.add.new.self.failed_to_delete_files.items c.in-Some.name name c.in_ok-add.ensures.failed c.as_str.ensures.value);
+      spares = λ w h l. e.alive w (is_another (names_of c.args.names.items) (names_of (into_iter_items c.loop-name.name-iterator)) others c.args.self.now.1 c.loop-name.self.1 (names_of c.loop-name.tried.deleted_files.items) (names_of c.loop-name.tried.failed_to_delete_files.items)
+          D.tells (D.reads c.args.self.now.0) (D.reads c.loop-name.self.0) (D.refusals c.args.self.now.0) (D.refusals c.loop-name.self.0) name (D.name_of w) inv.tried next h) (inv.spares w h l);
+      kept = spares_next D gone name (names_of c.loop-name.tried.deleted_files.items) (names_of c.add.new.self.deleted_files.items) c.args.self.now.0 c.loop-name.self.0 c.delete_managed.new.self.0 inv.kept e.alive e.tried.kept done;
       faults = e.faults ∙ inv.faults;
-      writers = λ w o. e.writers w (inv.writers w o);
-      ended = λ w o l. e.ended w (inv.writers w o) (inv.ended w o l);
-      locks = λ told n. e.locks told n ∙ inv.locks told n;
-      watched = e.watched ∙ inv.watched;
-      clock = omega (arith, inv.clock, e.clock);
-      heard = e.heard ∙ inv.heard;
-      room = omega (arith, inv.room, e.room);
+      goes_on = goes_on_then D c.args.self.now.0 c.loop-name.self.0 c.delete_managed.new.self.0 inv.goes_on e.goes_on;
     }
 
-pub returns-in_err-delete_managed-clause-left : goal.returns-in_err-delete_managed-clause-left
-returns-in_err-delete_managed-clause-left g c =
+pub returns-in_err-gone-clause-left : goal.returns-in_err-gone-clause-left
+returns-in_err-gone-clause-left g c =
     let D = g.D.Directory in
     let inv = c.loop-name.invariant in
-    let e = c.in_err-delete_managed.ensures in
-    leaves_of _ _ _ _ _ _ _ _ _ _ _ (tried_same (names_of c.args.names.items) (names_of (into_iter_items c.loop-name.name-iterator)) c.args.self.now.1 c.loop-name.self.1 (names_of c.loop-name.deleted_files.items) (names_of c.loop-name.failed_to_delete_files.items)
+    let e = c.in_err-gone.ensures in
+    leaves_of _ _ _ _ _ _ _ _ _ _ _ (tried_same (names_of c.args.names.items) (names_of (into_iter_items c.loop-name.name-iterator)) c.args.self.now.1 c.loop-name.self.1 (names_of c.loop-name.tried.deleted_files.items) (names_of c.loop-name.tried.failed_to_delete_files.items)
     D.tells (D.reads c.args.self.now.0) (D.reads c.loop-name.self.0) (D.refusals c.args.self.now.0) (D.refusals c.loop-name.self.0)
-    c.delete_managed.new.self.1 (D.reads c.delete_managed.new.self.0) (D.refusals c.delete_managed.new.self.0) inv.tried e.names_err e.err e.memory)
+    c.delete_managed.new.self.1 (D.reads c.delete_managed.new.self.0) (D.refusals c.delete_managed.new.self.0) inv.tried e.err.managed e.err.content e.err.refusals)
 
-pub returns-in_err-delete_managed-clause-list : goal.returns-in_err-delete_managed-clause-list
-returns-in_err-delete_managed-clause-list g c =
+pub returns-in_err-gone-clause-list : goal.returns-in_err-gone-clause-list
+returns-in_err-gone-clause-list g c =
     let D = g.D.Directory in
     let inv = c.loop-name.invariant in
-    let e = c.in_err-delete_managed.ensures in
-    list_stays _ _ _ _ _ _ _ _ _ _ _ (tried_same (names_of c.args.names.items) (names_of (into_iter_items c.loop-name.name-iterator)) c.args.self.now.1 c.loop-name.self.1 (names_of c.loop-name.deleted_files.items) (names_of c.loop-name.failed_to_delete_files.items)
+    let e = c.in_err-gone.ensures in
+    list_stays _ _ _ _ _ _ _ _ _ _ _ (tried_same (names_of c.args.names.items) (names_of (into_iter_items c.loop-name.name-iterator)) c.args.self.now.1 c.loop-name.self.1 (names_of c.loop-name.tried.deleted_files.items) (names_of c.loop-name.tried.failed_to_delete_files.items)
     D.tells (D.reads c.args.self.now.0) (D.reads c.loop-name.self.0) (D.refusals c.args.self.now.0) (D.refusals c.loop-name.self.0)
-    c.delete_managed.new.self.1 (D.reads c.delete_managed.new.self.0) (D.refusals c.delete_managed.new.self.0) inv.tried e.names_err e.err e.memory)
+    c.delete_managed.new.self.1 (D.reads c.delete_managed.new.self.0) (D.refusals c.delete_managed.new.self.0) inv.tried e.err.managed e.err.content e.err.refusals)
 
-pub returns-in_err-delete_managed-clause-alive : goal.returns-in_err-delete_managed-clause-alive
-returns-in_err-delete_managed-clause-alive g c =
+pub returns-in_err-gone-clause-alive : goal.returns-in_err-gone-clause-alive
+returns-in_err-gone-clause-alive g c =
     let D = g.D.Directory in
     let inv = c.loop-name.invariant in
     let name = c.as_str.result.now in
     let others = names_of (into_iter_items c.next.new.self) in
     let next : names_of (into_iter_items c.loop-name.name-iterator) ≡ name ∷ others = ap (λ (l : List (String Global)). names_of l) c.in-Some.ensures.steps.0 ∙ ap (λ (n : List ℕ). n ∷ others) (sym c.as_str.ensures.value) in
-    let e = c.in_err-delete_managed.ensures in
-    λ w h l. e.alive w (is_another (names_of c.args.names.items) (names_of (into_iter_items c.loop-name.name-iterator)) others c.args.self.now.1 c.loop-name.self.1 (names_of c.loop-name.deleted_files.items) (names_of c.loop-name.failed_to_delete_files.items) D.tells (D.reads c.args.self.now.0) (D.reads c.loop-name.self.0) (D.refusals c.args.self.now.0) (D.refusals c.loop-name.self.0) name (D.name_of w) inv.tried next h) (inv.spares w h l)
+    let e = c.in_err-gone.ensures in
+    λ w h l. e.alive w (is_another (names_of c.args.names.items) (names_of (into_iter_items c.loop-name.name-iterator)) others c.args.self.now.1 c.loop-name.self.1 (names_of c.loop-name.tried.deleted_files.items) (names_of c.loop-name.tried.failed_to_delete_files.items)
+    D.tells (D.reads c.args.self.now.0) (D.reads c.loop-name.self.0) (D.refusals c.args.self.now.0) (D.refusals c.loop-name.self.0) name (D.name_of w) inv.tried next h) (inv.spares w h l)
 
-pub returns-in_err-delete_managed-clause-faults : goal.returns-in_err-delete_managed-clause-faults
-returns-in_err-delete_managed-clause-faults g c =
-    let inv = c.loop-name.invariant in
-    let e = c.in_err-delete_managed.ensures in
-    e.faults ∙ inv.faults
+pub returns-in_err-gone-clause-faults : goal.returns-in_err-gone-clause-faults
+returns-in_err-gone-clause-faults g c =
+    c.in_err-gone.ensures.faults ∙ c.loop-name.invariant.faults
 
-pub returns-in_err-delete_managed-clause-writers : goal.returns-in_err-delete_managed-clause-writers
-returns-in_err-delete_managed-clause-writers g c =
-    let inv = c.loop-name.invariant in
-    let e = c.in_err-delete_managed.ensures in
-    λ w o. e.writers w (inv.writers w o)
+pub returns-in_err-gone-clause-goes_on : goal.returns-in_err-gone-clause-goes_on
+returns-in_err-gone-clause-goes_on g c =
+    goes_on_then g.D.Directory c.args.self.now.0 c.loop-name.self.0 c.delete_managed.new.self.0 c.loop-name.invariant.goes_on c.in_err-gone.ensures.goes_on
 
-pub returns-in_err-delete_managed-clause-ended : goal.returns-in_err-delete_managed-clause-ended
-returns-in_err-delete_managed-clause-ended g c =
-    let inv = c.loop-name.invariant in
-    let e = c.in_err-delete_managed.ensures in
-    λ w o l. e.ended w (inv.writers w o) (inv.ended w o l)
-
-pub returns-in_err-delete_managed-clause-clock : goal.returns-in_err-delete_managed-clause-clock
-returns-in_err-delete_managed-clause-clock g c =
-    let inv = c.loop-name.invariant in
-    let e = c.in_err-delete_managed.ensures in
-    omega (arith, inv.clock, e.clock)
-
-pub returns-in_err-delete_managed-clause-heard : goal.returns-in_err-delete_managed-clause-heard
-returns-in_err-delete_managed-clause-heard g c =
-    let inv = c.loop-name.invariant in
-    let e = c.in_err-delete_managed.ensures in
-    e.heard ∙ inv.heard
-
-pub returns-in_err-delete_managed-clause-room : goal.returns-in_err-delete_managed-clause-room
-returns-in_err-delete_managed-clause-room g c =
-    let inv = c.loop-name.invariant in
-    let e = c.in_err-delete_managed.ensures in
-    omega (arith, inv.room, e.room)
-
-pub returns-in_err-push-clause-left : goal.returns-in_err-push-clause-left
-returns-in_err-push-clause-left g c =
+pub returns-in_err-add-clause-left : goal.returns-in_err-add-clause-left
+returns-in_err-add-clause-left g c =
     let D = g.D.Directory in
     let inv = c.loop-name.invariant in
     let name = c.as_str.result.now in
     let others = names_of (into_iter_items c.next.new.self) in
     let next : names_of (into_iter_items c.loop-name.name-iterator) ≡ name ∷ others = ap (λ (l : List (String Global)). names_of l) c.in-Some.ensures.steps.0 ∙ ap (λ (n : List ℕ). n ∷ others) (sym c.as_str.ensures.value) in
-    let e = c.in_ok-delete_managed.ensures in
-    leaves_of _ _ _ _ _ _ _ _ _ _ _ (tried_done (names_of c.args.names.items) (names_of (into_iter_items c.loop-name.name-iterator)) c.args.self.now.1 c.loop-name.self.1 (names_of c.loop-name.deleted_files.items) (names_of c.loop-name.failed_to_delete_files.items)
-    (names_of (into_iter_items c.next.new.self)) D.tells (D.reads c.args.self.now.0) (D.reads c.loop-name.self.0) (D.refusals c.args.self.now.0) (D.refusals c.loop-name.self.0) name
-    c.delete_managed.new.self.1 (D.reads c.delete_managed.new.self.0) (D.refusals c.delete_managed.new.self.0) (names_of c.loop-name.deleted_files.items ++ name ∷ []) inv.tried next
-    (e.names ∙ ap (λ b. if b then without (name ∷ []) c.loop-name.self.1 else c.loop-name.self.1) c.if-branch.true) (λ t. e.gone t c.if-branch.true) e.others (e.done c.if-branch.true) (refl))
+    let e = c.in_ok-gone.ensures in
+    let gone = c.in_ok-gone.gone in
+    let deleted = names_of c.loop-name.tried.deleted_files.items in
+    let failed = names_of c.loop-name.tried.failed_to_delete_files.items in
+    leaves_of _ _ _ _ _ _ _ _ _ _ _ (tried_next D gone (names_of c.args.names.items) (names_of (into_iter_items c.loop-name.name-iterator)) others (names_of c.loop-name.tried.deleted_files.items) (names_of c.loop-name.tried.failed_to_delete_files.items)
+    (if gone then deleted ++ name ∷ [] else deleted) (if gone then failed else failed ++ name ∷ []) name c.args.self.now c.loop-name.self c.delete_managed.new.self inv.tried next e.tried e.fits refl refl)
 
-pub returns-in_err-push-clause-list : goal.returns-in_err-push-clause-list
-returns-in_err-push-clause-list g c =
+pub returns-in_err-add-clause-list : goal.returns-in_err-add-clause-list
+returns-in_err-add-clause-list g c =
     let D = g.D.Directory in
     let inv = c.loop-name.invariant in
     let name = c.as_str.result.now in
     let others = names_of (into_iter_items c.next.new.self) in
     let next : names_of (into_iter_items c.loop-name.name-iterator) ≡ name ∷ others = ap (λ (l : List (String Global)). names_of l) c.in-Some.ensures.steps.0 ∙ ap (λ (n : List ℕ). n ∷ others) (sym c.as_str.ensures.value) in
-    let e = c.in_ok-delete_managed.ensures in
-    list_stays _ _ _ _ _ _ _ _ _ _ _ (tried_done (names_of c.args.names.items) (names_of (into_iter_items c.loop-name.name-iterator)) c.args.self.now.1 c.loop-name.self.1 (names_of c.loop-name.deleted_files.items) (names_of c.loop-name.failed_to_delete_files.items)
-    (names_of (into_iter_items c.next.new.self)) D.tells (D.reads c.args.self.now.0) (D.reads c.loop-name.self.0) (D.refusals c.args.self.now.0) (D.refusals c.loop-name.self.0) name
-    c.delete_managed.new.self.1 (D.reads c.delete_managed.new.self.0) (D.refusals c.delete_managed.new.self.0) (names_of c.loop-name.deleted_files.items ++ name ∷ []) inv.tried next
-    (e.names ∙ ap (λ b. if b then without (name ∷ []) c.loop-name.self.1 else c.loop-name.self.1) c.if-branch.true) (λ t. e.gone t c.if-branch.true) e.others (e.done c.if-branch.true) (refl))
+    let e = c.in_ok-gone.ensures in
+    let gone = c.in_ok-gone.gone in
+    let deleted = names_of c.loop-name.tried.deleted_files.items in
+    let failed = names_of c.loop-name.tried.failed_to_delete_files.items in
+    list_stays _ _ _ _ _ _ _ _ _ _ _ (tried_next D gone (names_of c.args.names.items) (names_of (into_iter_items c.loop-name.name-iterator)) others (names_of c.loop-name.tried.deleted_files.items) (names_of c.loop-name.tried.failed_to_delete_files.items)
+    (if gone then deleted ++ name ∷ [] else deleted) (if gone then failed else failed ++ name ∷ []) name c.args.self.now c.loop-name.self c.delete_managed.new.self inv.tried next e.tried e.fits refl refl)
 
-pub returns-in_err-push-clause-alive : goal.returns-in_err-push-clause-alive
-returns-in_err-push-clause-alive g c =
+pub returns-in_err-add-clause-alive : goal.returns-in_err-add-clause-alive
+returns-in_err-add-clause-alive g c =
     let D = g.D.Directory in
     let inv = c.loop-name.invariant in
     let name = c.as_str.result.now in
     let others = names_of (into_iter_items c.next.new.self) in
     let next : names_of (into_iter_items c.loop-name.name-iterator) ≡ name ∷ others = ap (λ (l : List (String Global)). names_of l) c.in-Some.ensures.steps.0 ∙ ap (λ (n : List ℕ). n ∷ others) (sym c.as_str.ensures.value) in
-    let e = c.in_ok-delete_managed.ensures in
-    λ w h l. e.alive w (is_another (names_of c.args.names.items) (names_of (into_iter_items c.loop-name.name-iterator)) others c.args.self.now.1 c.loop-name.self.1 (names_of c.loop-name.deleted_files.items) (names_of c.loop-name.failed_to_delete_files.items) D.tells (D.reads c.args.self.now.0) (D.reads c.loop-name.self.0) (D.refusals c.args.self.now.0) (D.refusals c.loop-name.self.0) name (D.name_of w) inv.tried next h) (inv.spares w h l)
+    let e = c.in_ok-gone.ensures in
+    λ w h l. e.alive w (is_another (names_of c.args.names.items) (names_of (into_iter_items c.loop-name.name-iterator)) others c.args.self.now.1 c.loop-name.self.1 (names_of c.loop-name.tried.deleted_files.items) (names_of c.loop-name.tried.failed_to_delete_files.items)
+    D.tells (D.reads c.args.self.now.0) (D.reads c.loop-name.self.0) (D.refusals c.args.self.now.0) (D.refusals c.loop-name.self.0) name (D.name_of w) inv.tried next h) (inv.spares w h l)
 
-pub returns-in_err-push-clause-faults : goal.returns-in_err-push-clause-faults
-returns-in_err-push-clause-faults g c =
-    let inv = c.loop-name.invariant in
-    let e = c.in_ok-delete_managed.ensures in
-    e.faults ∙ inv.faults
+pub returns-in_err-add-clause-faults : goal.returns-in_err-add-clause-faults
+returns-in_err-add-clause-faults g c =
+    c.in_ok-gone.ensures.faults ∙ c.loop-name.invariant.faults
 
-pub returns-in_err-push-clause-writers : goal.returns-in_err-push-clause-writers
-returns-in_err-push-clause-writers g c =
-    let inv = c.loop-name.invariant in
-    let e = c.in_ok-delete_managed.ensures in
-    λ w o. e.writers w (inv.writers w o)
-
-pub returns-in_err-push-clause-ended : goal.returns-in_err-push-clause-ended
-returns-in_err-push-clause-ended g c =
-    let inv = c.loop-name.invariant in
-    let e = c.in_ok-delete_managed.ensures in
-    λ w o l. e.ended w (inv.writers w o) (inv.ended w o l)
-
-pub returns-in_err-push-clause-clock : goal.returns-in_err-push-clause-clock
-returns-in_err-push-clause-clock g c =
-    let inv = c.loop-name.invariant in
-    let e = c.in_ok-delete_managed.ensures in
-    omega (arith, inv.clock, e.clock)
-
-pub returns-in_err-push-clause-heard : goal.returns-in_err-push-clause-heard
-returns-in_err-push-clause-heard g c =
-    let inv = c.loop-name.invariant in
-    let e = c.in_ok-delete_managed.ensures in
-    e.heard ∙ inv.heard
-
-pub returns-in_err-push-clause-room : goal.returns-in_err-push-clause-room
-returns-in_err-push-clause-room g c =
-    let inv = c.loop-name.invariant in
-    let e = c.in_ok-delete_managed.ensures in
-    omega (arith, inv.room, e.room)
-
-pub returns-in_err-push-2-clause-left : goal.returns-in_err-push-2-clause-left
-returns-in_err-push-2-clause-left g c =
-    let D = g.D.Directory in
-    let inv = c.loop-name.invariant in
-    let name = c.as_str.result.now in
-    let others = names_of (into_iter_items c.next.new.self) in
-    let next : names_of (into_iter_items c.loop-name.name-iterator) ≡ name ∷ others = ap (λ (l : List (String Global)). names_of l) c.in-Some.ensures.steps.0 ∙ ap (λ (n : List ℕ). n ∷ others) (sym c.as_str.ensures.value) in
-    let e = c.in_ok-delete_managed.ensures in
-    leaves_of _ _ _ _ _ _ _ _ _ _ _ (tried_failed (names_of c.args.names.items) (names_of (into_iter_items c.loop-name.name-iterator)) c.args.self.now.1 c.loop-name.self.1 (names_of c.loop-name.deleted_files.items) (names_of c.loop-name.failed_to_delete_files.items)
-    (names_of (into_iter_items c.next.new.self)) D.tells (D.reads c.args.self.now.0) (D.reads c.loop-name.self.0) (D.refusals c.args.self.now.0) (D.refusals c.loop-name.self.0) name
-    c.delete_managed.new.self.1 (D.reads c.delete_managed.new.self.0) (D.refusals c.delete_managed.new.self.0) (names_of c.loop-name.failed_to_delete_files.items ++ name ∷ []) inv.tried next
-    (e.names ∙ ap (λ b. if b then without (name ∷ []) c.loop-name.self.1 else c.loop-name.self.1) c.if-branch.false) (λ t. e.same t c.if-branch.false) (e.failed c.if-branch.false) e.fits (refl))
-
-pub returns-in_err-push-2-clause-list : goal.returns-in_err-push-2-clause-list
-returns-in_err-push-2-clause-list g c =
-    let D = g.D.Directory in
-    let inv = c.loop-name.invariant in
-    let name = c.as_str.result.now in
-    let others = names_of (into_iter_items c.next.new.self) in
-    let next : names_of (into_iter_items c.loop-name.name-iterator) ≡ name ∷ others = ap (λ (l : List (String Global)). names_of l) c.in-Some.ensures.steps.0 ∙ ap (λ (n : List ℕ). n ∷ others) (sym c.as_str.ensures.value) in
-    let e = c.in_ok-delete_managed.ensures in
-    list_stays _ _ _ _ _ _ _ _ _ _ _ (tried_failed (names_of c.args.names.items) (names_of (into_iter_items c.loop-name.name-iterator)) c.args.self.now.1 c.loop-name.self.1 (names_of c.loop-name.deleted_files.items) (names_of c.loop-name.failed_to_delete_files.items)
-    (names_of (into_iter_items c.next.new.self)) D.tells (D.reads c.args.self.now.0) (D.reads c.loop-name.self.0) (D.refusals c.args.self.now.0) (D.refusals c.loop-name.self.0) name
-    c.delete_managed.new.self.1 (D.reads c.delete_managed.new.self.0) (D.refusals c.delete_managed.new.self.0) (names_of c.loop-name.failed_to_delete_files.items ++ name ∷ []) inv.tried next
-    (e.names ∙ ap (λ b. if b then without (name ∷ []) c.loop-name.self.1 else c.loop-name.self.1) c.if-branch.false) (λ t. e.same t c.if-branch.false) (e.failed c.if-branch.false) e.fits (refl))
-
-pub returns-in_err-push-2-clause-alive : goal.returns-in_err-push-2-clause-alive
-returns-in_err-push-2-clause-alive g c =
-    let D = g.D.Directory in
-    let inv = c.loop-name.invariant in
-    let name = c.as_str.result.now in
-    let others = names_of (into_iter_items c.next.new.self) in
-    let next : names_of (into_iter_items c.loop-name.name-iterator) ≡ name ∷ others = ap (λ (l : List (String Global)). names_of l) c.in-Some.ensures.steps.0 ∙ ap (λ (n : List ℕ). n ∷ others) (sym c.as_str.ensures.value) in
-    let e = c.in_ok-delete_managed.ensures in
-    λ w h l. e.alive w (is_another (names_of c.args.names.items) (names_of (into_iter_items c.loop-name.name-iterator)) others c.args.self.now.1 c.loop-name.self.1 (names_of c.loop-name.deleted_files.items) (names_of c.loop-name.failed_to_delete_files.items) D.tells (D.reads c.args.self.now.0) (D.reads c.loop-name.self.0) (D.refusals c.args.self.now.0) (D.refusals c.loop-name.self.0) name (D.name_of w) inv.tried next h) (inv.spares w h l)
-
-pub returns-in_err-push-2-clause-faults : goal.returns-in_err-push-2-clause-faults
-returns-in_err-push-2-clause-faults g c =
-    let inv = c.loop-name.invariant in
-    let e = c.in_ok-delete_managed.ensures in
-    e.faults ∙ inv.faults
-
-pub returns-in_err-push-2-clause-writers : goal.returns-in_err-push-2-clause-writers
-returns-in_err-push-2-clause-writers g c =
-    let inv = c.loop-name.invariant in
-    let e = c.in_ok-delete_managed.ensures in
-    λ w o. e.writers w (inv.writers w o)
-
-pub returns-in_err-push-2-clause-ended : goal.returns-in_err-push-2-clause-ended
-returns-in_err-push-2-clause-ended g c =
-    let inv = c.loop-name.invariant in
-    let e = c.in_ok-delete_managed.ensures in
-    λ w o l. e.ended w (inv.writers w o) (inv.ended w o l)
-
-pub returns-in_err-push-2-clause-clock : goal.returns-in_err-push-2-clause-clock
-returns-in_err-push-2-clause-clock g c =
-    let inv = c.loop-name.invariant in
-    let e = c.in_ok-delete_managed.ensures in
-    omega (arith, inv.clock, e.clock)
-
-pub returns-in_err-push-2-clause-heard : goal.returns-in_err-push-2-clause-heard
-returns-in_err-push-2-clause-heard g c =
-    let inv = c.loop-name.invariant in
-    let e = c.in_ok-delete_managed.ensures in
-    e.heard ∙ inv.heard
-
-pub returns-in_err-push-2-clause-room : goal.returns-in_err-push-2-clause-room
-returns-in_err-push-2-clause-room g c =
-    let inv = c.loop-name.invariant in
-    let e = c.in_ok-delete_managed.ensures in
-    omega (arith, inv.room, e.room)
+pub returns-in_err-add-clause-goes_on : goal.returns-in_err-add-clause-goes_on
+returns-in_err-add-clause-goes_on g c =
+    goes_on_then g.D.Directory c.args.self.now.0 c.loop-name.self.0 c.delete_managed.new.self.0 c.loop-name.invariant.goes_on c.in_ok-gone.ensures.goes_on
 
 pub returns-clause-told : goal.returns-clause-told
 returns-clause-told g c =
@@ -342,22 +177,6 @@ pub returns-clause-faults : goal.returns-clause-faults
 returns-clause-faults g c =
     c.loop-name.invariant.faults
 
-pub returns-clause-writers : goal.returns-clause-writers
-returns-clause-writers g c =
-    c.loop-name.invariant.writers
-
-pub returns-clause-ended : goal.returns-clause-ended
-returns-clause-ended g c =
-    c.loop-name.invariant.ended
-
-pub returns-clause-clock : goal.returns-clause-clock
-returns-clause-clock g c =
-    c.loop-name.invariant.clock
-
-pub returns-clause-heard : goal.returns-clause-heard
-returns-clause-heard g c =
-    c.loop-name.invariant.heard
-
-pub returns-clause-room : goal.returns-clause-room
-returns-clause-room g c =
-    c.loop-name.invariant.room
+pub returns-clause-goes_on : goal.returns-clause-goes_on
+returns-clause-goes_on g c =
+    c.loop-name.invariant.goes_on

@@ -1,7 +1,7 @@
-use Rattle.std.proofs.Common.{◌≡◌, ◌≤◌, true, false}
+use Rattle.std.proofs.Common.{◌≡◌}
 use Rattle.std.specs.Vec.Iter.{into_iter_items}
-use Rattle.tv_directory.specs.Locks.{SameLocks}
 use Rattle.tv_managed.specs.Collecting.{names_of, SparesWriters}
+use Rattle.tv_managed.specs.Frames.{GoesOn}
 use Rattle.tv_managed.proofs.Tried.{Tried}
 use Rattle.tv_managed.proofs.managed_directory.ManagedDirectory.delete_each.Given as goal
 
@@ -11,16 +11,10 @@ invariant-loop-name g l =
     record {
       next : (goal.iterator-loop-name g).can_next l.name-iterator;
       finite : (goal.iterator-loop-name g).is_finite l.name-iterator;
-      tried : Tried (names_of l.fn.names.items) (names_of (into_iter_items l.name-iterator)) l.fn.self.1 l.self.1 (names_of l.deleted_files.items) (names_of l.failed_to_delete_files.items)
+      tried : Tried (names_of l.fn.names.items) (names_of (into_iter_items l.name-iterator)) l.fn.self.1 l.self.1 (names_of l.tried.deleted_files.items) (names_of l.tried.failed_to_delete_files.items)
           D.tells (D.reads l.fn.self.0) (D.reads l.self.0) (D.refusals l.fn.self.0) (D.refusals l.self.0);
       spares : SparesWriters (names_of l.fn.names.items) D.name_of (D.lives l.fn.self.0) (D.lives l.self.0);
-      kept : SparesWriters (names_of l.deleted_files.items) D.name_of (D.lives l.fn.self.0) (D.lives l.self.0);
+      kept : SparesWriters (names_of l.tried.deleted_files.items) D.name_of (D.lives l.fn.self.0) (D.lives l.self.0);
       faults : D.faults l.self.0 ≡ D.faults l.fn.self.0;
-      writers : (w : _) → D.opened l.fn.self.0 w ≡ true → D.opened l.self.0 w ≡ true;
-      ended : (w : _) → D.opened l.fn.self.0 w ≡ true → D.lives l.fn.self.0 w ≡ false → D.lives l.self.0 w ≡ false;
-      locks : D.tells_locks → SameLocks (D.locks l.fn.self.0) (D.locks l.self.0);
-      watched : D.watched l.self.0 ≡ D.watched l.fn.self.0;
-      clock : D.moment l.fn.self.0 ≤ D.moment l.self.0;
-      heard : D.heard l.self.0 ≡ D.heard l.fn.self.0;
-      room : D.room l.fn.self.0 ≤ D.room l.self.0;
+      goes_on : GoesOn D l.fn.self.0 l.self.0;
     }

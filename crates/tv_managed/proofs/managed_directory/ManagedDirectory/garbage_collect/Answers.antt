@@ -9,7 +9,7 @@ pub returns-in_err-living-clause-left : goal.returns-in_err-living-clause-left
 returns-in_err-living-clause-left g c =
     let D = g.D.Directory in
     let e = c.in_err-living.ensures in
-    ([], inl refl, left_alone [] c.args.self.now.1 c.under_meta_lock.new.self.1 D.tells (D.reads c.args.self.now.0) (D.reads c.under_meta_lock.new.self.0) e.names e.content, λ w none l. e.alive w l)
+    ([], inl refl, left_alone [] c.args.self.now.1 c.under_meta_lock.new.self.1 D.tells (D.reads c.args.self.now.0) (D.reads c.under_meta_lock.new.self.0) e.names e.content, λ w none l. e.frame.alive w l)
 
 pub returns-clause-told : goal.returns-clause-told
 returns-clause-told g c =

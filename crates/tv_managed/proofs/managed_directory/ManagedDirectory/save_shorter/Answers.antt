@@ -1,27 +1,24 @@
 use Rattle.std.proofs.Common.{refl, sym, ap, subst, ◌∙◌, ⊎_elim, map, string_bytes}
+use Rattle.std.proofs.lemmas.Result.{on_ok_weaker}
 use Rattle.tv_model.specs.Names.{list_name}
 use Rattle.tv_model.specs.Listing.{Lists}
 use Rattle.tv_managed.proofs.SetsOfTexts.{list_of}
 use Rattle.tv_managed.proofs.Saves.{covers_saved, covers_again}
 use Rattle.tv_managed.proofs.managed_directory.ManagedDirectory.save_shorter.Goals as goal
 
-pub returns-in_err-save_list-clause-covers : goal.returns-in_err-save_list-clause-covers
-returns-in_err-save_list-clause-covers g c tells covers =
+pub returns-clause-ok : goal.returns-clause-ok
+returns-clause-ok g c tells =
+    let names = map string_bytes c.self.inside.managed.keys in
+    on_ok_weaker c.save_list.result
+    (λ saved. subst (λ read. Lists read names) (sym saved.changed) (list_of c.self.inside.managed.keys names refl c.self.invariant))
+    (c.save_list.ensures.ok tells)
+
+pub returns-clause-covers : goal.returns-clause-covers
+returns-clause-covers g c tells covers =
     let reads = g.D.Directory.reads in
     let names = map string_bytes c.self.inside.managed.keys in
     ⊎_elim
     (λ saved. covers_saved (reads c.save_list.new.directory list_name) names (subst (λ read. Lists read names) (sym saved) (list_of c.self.inside.managed.keys names refl c.self.invariant)))
     (λ kept. covers_again (reads c.save_list.new.directory list_name) (reads c.args.self.now.0 list_name) c.args.self.now.1 names
     (kept ∙ c.in_ok-sync_directory.ensures.content tells list_name ∙ ap (λ v. reads v.0 list_name) c.self.view_is) (ap (λ v. v.1) c.self.view_is) covers)
-    (c.in_err-save_list.ensures.err tells).either
-
-pub returns-clause-ok : goal.returns-clause-ok
-returns-clause-ok g c tells =
-    let names = map string_bytes c.self.inside.managed.keys in
-    subst (λ read. Lists read names) (sym (c.in_ok-save_list.ensures.ok tells).changed) (list_of c.self.inside.managed.keys names refl c.self.invariant)
-
-pub returns-clause-covers : goal.returns-clause-covers
-returns-clause-covers g c tells covers =
-    let names = map string_bytes c.self.inside.managed.keys in
-    covers_saved (g.D.Directory.reads c.save_list.new.directory list_name) names
-    (subst (λ read. Lists read names) (sym (c.in_ok-save_list.ensures.ok tells).changed) (list_of c.self.inside.managed.keys names refl c.self.invariant))
+    (c.save_list.ensures.err tells).either

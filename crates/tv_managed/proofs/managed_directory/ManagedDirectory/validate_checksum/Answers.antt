@@ -1,18 +1,30 @@
-use Rattle.std.proofs.Common.{◌≡◌, ◌==◌, ℕ, [], ap, ◌∙◌}
+use Rattle.std.proofs.Common.{◌==◌, ℕ, ap, ◌∙◌}
+use Rattle.std.proofs.lemmas.Result.{IfOk-weaker}
 use Rattle.tv_model.specs.Checksum.{crc32}
+use Rattle.tv_managed.proofs.Handed.{wanted_only}
 use Rattle.tv_managed.proofs.managed_directory.ManagedDirectory.validate_checksum.Goals as goal
 
 pub returns-clause-answer : goal.returns-clause-answer
 returns-clause-answer g c tells =
     let found = c.in_ok-footer.ensures.read tells in
-    let sum : c.finish.result ≡ crc32 c.in_ok-footer.body =
-    c.finish.ensures c.as_slice.result.now (c.update.ensures [] c.start-checksum.ensures) ∙ ap crc32 (c.as_slice.ensures.bytes ∙ c.in_ok-bytes.ensures.bytes) in (
+    IfOk-weaker c.is_right.result _ _
+    (λ right says. (
       found.0,
       found.1,
       record {
         footer = _;
         body = c.in_ok-footer.body;
         framed = found.2;
-        says = ap (λ (n : ℕ). n == c.finish.result) c.crc.ensures.crc ∙ ap (λ (n : ℕ). c.in_ok-footer.footer.crc == n) sum;
+        says = says ∙ ap (λ (n : ℕ). n == crc32 c.in_ok-footer.body) c.crc.ensures.crc;
       },
-    )
+    ))
+    c.is_right.ensures.says
+
+pub returns-clause-err : goal.returns-clause-err
+returns-clause-err g c tells = wanted_only c.is_right.result _ c.is_right.ensures.wanted tt
+
+pub returns-clause-outside : goal.returns-clause-outside
+returns-clause-outside g c tells = wanted_only c.is_right.result _ c.is_right.ensures.wanted tt
+
+pub returns-clause-path : goal.returns-clause-path
+returns-clause-path g c = wanted_only c.is_right.result _ c.is_right.ensures.wanted tt

@@ -1,42 +1,42 @@
-use Rattle.std.proofs.Common.{◌≡◌, false, None, ◌==◌, Some, sym, ap, subst, ◌∙◌}
+use Rattle.std.proofs.Common.{◌≡◌, false, None, Some, ◌==◌, [], ◌∷◌, codes, sym, ap, subst, ◌∙◌}
 use Rattle.std.specs.List.{AllByRecursion}
-use Rattle.std.proofs.lemmas.Result.{err_from_is_err_and}
-use Rattle.tv_model.specs.Names.{meta_name}
+use Rattle.hex.specs.Hex.{encode_lower}
+use Rattle.tv_model.specs.Lines.{line}
 use Rattle.tv_model.specs.Commits.{IsSegment}
-use Rattle.tv_model.specs.CommitEvents.{chosen, first_unknown, last_stamp}
-use Rattle.tv_store.proofs.Holding.{same_holds}
-use Rattle.tv_store.proofs.CommitEvents.{is_left, first_unknown_is, chosen_is, chosen_are_segments, unknown_step, known_step, known_left}
+use Rattle.tv_model.specs.CommitEvents.{chosen, first_unknown, first_unsealed, commit_sealed, commit_step, last_stamp}
+use Rattle.tv_store.proofs.CommitEvents.{is_left, first_unknown_is, chosen_is, chosen_are_segments}
+use Rattle.tv_store.proofs.Committing.{refuses, commits_as, at_ok, spent_step, numbered_step}
 use Rattle.tv_store.proofs.store.Store.commit.Goals as goal
 
-pub returns-in-Some-clause-step : goal.returns-in-Some-clause-step
-returns-in-Some-clause-step g c tells s held =
-    let reads = g.O.Directory.reads in
-    let refusal = c.in_ok-answer-2.ensures in
-    let left : (s.next == last_stamp) ≡ false = is_left c.self.inside.next c.args.self.now.0.next s c.if-self.false (ap (λ v. v.0.next) c.self.view_is) held.next in
-    let live = ap (λ v. v.0.live) c.self.view_is ∙ held.live in
-    let unknown : first_unknown s c.args.ids.now ≡ Some c.in-Some.id = first_unknown_is s c.self.inside.live.entries c.args.ids.now c.as_slice.result.now (Some c.in-Some.id) live c.as_slice.ensures c.in-Some.ensures in
-    unknown_step (reads c.refuse_unknown.new.self.1) c.refuse_unknown.new.self.0 s c.args.payload.now c.args.ids.now c.in-Some.id c.in_ok-answer-2.answer left unknown refusal.answer
-    (same_holds (reads c.args.self.now.1) (reads c.refuse_unknown.new.self.1) c.args.self.now.0 c.refuse_unknown.new.self.0 s (refusal.content tells) refusal.kept held)
+pub returns-then-self : goal.returns-then-self
+returns-then-self g c =
+    let asked = c.refuse.ensures in
+    refuses g.O.Directory (Unit {0}) c.args.self.now c.refuse.new.self (λ s. commit_step s c.args.payload.now c.args.ids.now) (line (codes "refused") (codes "stamps-spent" ∷ [])) c.refuse.result
+    asked.stays asked.kept asked.content asked.refusals (record { quiet = at_ok c.refuse.result asked.quiet; cause = asked.cause }) asked.answer asked.room
+    (λ tells s held known. spent_step s c.args.payload.now c.args.ids.now (sym held.next ∙ sym (ap (λ v. v.0.next) c.self.view_is) ∙ c.if-self.true))
 
-pub returns-clause-step : goal.returns-clause-step
-returns-clause-step g c tells s held =
-    let reads = g.O.Directory.reads in
-    let left : (s.next == last_stamp) ≡ false = is_left c.self.inside.next c.args.self.now.0.next s c.if-self.false (ap (λ v. v.0.next) c.self.view_is) held.next in
-    let live = ap (λ v. v.0.live) c.self.view_is ∙ held.live in
-    let known : first_unknown s c.args.ids.now ≡ None = first_unknown_is s c.self.inside.live.entries c.args.ids.now c.as_slice.result.now None live c.as_slice.ensures c.in_default.ensures in
-    let are : c.in_ok-segments.segments.entries ≡ chosen s c.args.ids.now = chosen_is s c.self.inside.live.entries c.in_ok-segments.segments.entries c.args.ids.now c.as_slice-2.result.now live c.as_slice-2.ensures c.in_ok-segments.ensures in
-    let segments : AllByRecursion IsSegment c.in_ok-segments.segments.entries = subst (AllByRecursion IsSegment) (sym are) (chosen_are_segments s c.args.ids.now held.segments) in
-    known_step (reads c.commit_chosen.new.self.1) c.commit_chosen.new.self.0 s c.args.payload.now c.args.ids.now c.in_ok-segments.segments.entries c.in_ok-answer-3.answer left known are
-    (c.in_ok-answer-3.ensures.step tells s held segments)
+pub returns-in-Some : goal.returns-in-Some
+returns-in-Some g c =
+    let asked = c.refuse_unknown.ensures in
+    refuses g.O.Directory (Unit {0}) c.args.self.now c.refuse_unknown.new.self (λ s. commit_step s c.args.payload.now c.args.ids.now) (line (codes "refused") (codes "unknown-segment" ∷ encode_lower c.in-Some.id ∷ [])) c.refuse_unknown.result
+    asked.asks.stays asked.asks.kept asked.asks.content asked.asks.refusals asked.faults asked.answer asked.room
+    (λ tells s held known.
+    numbered_step s c.args.payload.now c.args.ids.now (Some c.in-Some.id)
+    (is_left c.self.inside.next c.args.self.now.0.next s c.if-self.false (ap (λ v. v.0.next) c.self.view_is) held.next)
+    (first_unknown_is s c.self.inside.live.entries c.args.ids.now c.as_slice.result.now (Some c.in-Some.id) (ap (λ v. v.0.live) c.self.view_is ∙ held.live) c.as_slice.ensures c.in-Some.ensures))
 
-pub returns-in_err-answer-3-clause-meta : goal.returns-in_err-answer-3-clause-meta
-returns-in_err-answer-3-clause-meta g c tells s held =
-    let reads = g.O.Directory.reads in
-    let left : (s.next == last_stamp) ≡ false = is_left c.self.inside.next c.args.self.now.0.next s c.if-self.false (ap (λ v. v.0.next) c.self.view_is) held.next in
+pub returns : goal.returns
+returns g c =
+    let payload = c.args.payload.now in
+    let ids = c.args.ids.now in
+    let segments = c.in_ok-segments.segments.entries in
+    commits_as g.O.Directory (AllByRecursion IsSegment segments) c.args.self.now c.commit_chosen.new.self (Unit {0})
+    (λ s. commit_sealed s payload segments (first_unsealed s segments)) (λ s. commit_step s payload ids) c.commit_chosen.result c.commit_chosen.ensures
+    (λ tells s held known.
     let live = ap (λ v. v.0.live) c.self.view_is ∙ held.live in
-    let known : first_unknown s c.args.ids.now ≡ None = first_unknown_is s c.self.inside.live.entries c.args.ids.now c.as_slice.result.now None live c.as_slice.ensures c.in_default.ensures in
-    let are : c.in_ok-segments.segments.entries ≡ chosen s c.args.ids.now = chosen_is s c.self.inside.live.entries c.in_ok-segments.segments.entries c.args.ids.now c.as_slice-2.result.now live c.as_slice-2.ensures c.in_ok-segments.ensures in
-    let segments : AllByRecursion IsSegment c.in_ok-segments.segments.entries = subst (AllByRecursion IsSegment) (sym are) (chosen_are_segments s c.args.ids.now held.segments) in
-    let e = err_from_is_err_and c.from_residual-in_err-answer-3.result c.from_residual-in_err-answer-3.ensures.1 in
-    rw e.1 (known_left (reads c.args.self.now.1 meta_name) (reads c.commit_chosen.new.self.1 meta_name) c.args.self.now.0.schema s c.args.payload.now c.args.ids.now c.in_ok-segments.segments.entries left known are
-    (c.in_err-answer-3.ensures.meta tells s held segments))
+    let left : (s.next == last_stamp) ≡ false = is_left c.self.inside.next c.args.self.now.0.next s c.if-self.false (ap (λ v. v.0.next) c.self.view_is) held.next in
+    let none : first_unknown s ids ≡ None = first_unknown_is s c.self.inside.live.entries ids c.as_slice.result.now None live c.as_slice.ensures c.in_default.ensures in
+    let are : segments ≡ chosen s ids = chosen_is s c.self.inside.live.entries segments ids c.as_slice-2.result.now live c.as_slice-2.ensures c.in_ok-segments.ensures in (
+      subst (AllByRecursion IsSegment) (sym are) (chosen_are_segments s ids held.segments),
+      ap (λ es. commit_sealed s payload es (first_unsealed s es)) are ∙ sym (numbered_step s payload ids None left none),
+    ))

@@ -8,8 +8,8 @@ pub returns-clause-holds : goal.returns-clause-holds
 returns-clause-holds g c tells s old same opens none is =
     let reads = g.O.Directory.reads in
     let at_start = ap (λ v. v.0) c.self.view_is in
-    let kept = ap (λ v. v.0) c.self-2.view_is ∙ c.in_ok-line-2.ensures.kept ∙ is in
-    let asked = subst (λ d. Same (reads old) (reads d)) (sym (ap (λ v. v.1) c.self-2.view_is)) (λ n. c.in_ok-line-2.ensures.content tells n ∙ same n) in
+    let kept = ap (λ v. v.0) c.self-2.view_is ∙ c.in_ok-line.ensures.asks.kept ∙ is in
+    let asked = subst (λ d. Same (reads old) (reads d)) (sym (ap (λ v. v.1) c.self-2.view_is)) (λ n. c.in_ok-line.ensures.asks.content tells n ∙ same n) in
     created (reads old) (reads c.self-2.inside.files.0) (reads c.save_meta.new.self.0) c.args.self.now.0.schema c.as_slice-2.result.now s _
     asked none opens
     (remade _ c.args.self.now.0.schema c.save_meta.new.self.1 c.save_meta.new.self.2 kept c.in_ok-save_meta.ensures.names c.in_ok-save_meta.ensures.open_files)
@@ -26,7 +26,7 @@ returns-in_err-save_meta-clause-first g c tells is =
     let at_start = ap (λ v. v.0) c.self.view_is in
     let before = reads c.self-2.inside.files.0 in
     let now = reads c.save_meta.new.self.0 in
-    first_between (reads c.args.self.now.1) before now now c.args.self.now.0.schema (subst (λ d. Same (reads c.args.self.now.1) (reads d)) (sym (ap (λ v. v.1) c.self-2.view_is)) (c.in_ok-line-2.ensures.content tells)) (λ n. refl)
+    first_between (reads c.args.self.now.1) before now now c.args.self.now.0.schema (subst (λ d. Same (reads c.args.self.now.1) (reads d)) (sym (ap (λ v. v.1) c.self-2.view_is)) (c.in_ok-line.ensures.asks.content tells)) (λ n. refl)
     (first_written before now c.args.self.now.0.schema c.as_slice-2.result.now (c.save_meta.ensures.others tells)
     (printed_of c.as_slice-2.result.now c.in_ok-text.text.items c.args.self.now.0.schema c.as_slice.result.now c.self.inside.commit c.as_slice-2.ensures.value c.in_ok-text.ensures (c.as_slice.ensures ∙ ap (λ k. k.schema) at_start)
     (ap (λ k. k.commit) at_start ∙ is)) (c.in_err-save_meta.ensures.either tells))
@@ -37,7 +37,7 @@ returns-clause-first g c tells is =
     let at_start = ap (λ v. v.0) c.self.view_is in
     let before = reads c.self-2.inside.files.0 in
     let now = reads c.save_meta.new.self.0 in
-    first_between (reads c.args.self.now.1) before now now c.args.self.now.0.schema (subst (λ d. Same (reads c.args.self.now.1) (reads d)) (sym (ap (λ v. v.1) c.self-2.view_is)) (c.in_ok-line-2.ensures.content tells)) (λ n. refl)
+    first_between (reads c.args.self.now.1) before now now c.args.self.now.0.schema (subst (λ d. Same (reads c.args.self.now.1) (reads d)) (sym (ap (λ v. v.1) c.self-2.view_is)) (c.in_ok-line.ensures.asks.content tells)) (λ n. refl)
     (first_written before now c.args.self.now.0.schema c.as_slice-2.result.now (c.save_meta.ensures.others tells)
     (printed_of c.as_slice-2.result.now c.in_ok-text.text.items c.args.self.now.0.schema c.as_slice.result.now c.self.inside.commit c.as_slice-2.ensures.value c.in_ok-text.ensures (c.as_slice.ensures ∙ ap (λ k. k.schema) at_start)
     (ap (λ k. k.commit) at_start ∙ is)) (inl (c.in_ok-save_meta.ensures.saved tells)))

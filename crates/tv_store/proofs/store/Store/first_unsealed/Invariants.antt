@@ -1,24 +1,16 @@
-use Rattle.std.proofs.Common.{◌≡◌, ◌≤◌, None, take}
+use Rattle.std.proofs.Common.{◌≡◌, None, take}
 use Rattle.std.specs.Prelude.{not, find}
 use Rattle.std.specs.List.{AllByRecursion}
-use Rattle.tv_model.specs.Files.{Same}
 use Rattle.tv_model.specs.State.{State, file_at}
 use Rattle.tv_model.specs.CommitEvents.{is_sealed}
 use Rattle.tv_model.specs.Index.{IsFileOf}
-use Rattle.tv_directory.specs.Locks.{SameLocks}
 use Rattle.tv_store.specs.Kept.{Holds}
+use Rattle.tv_store.specs.Stays.{Asks}
 use Rattle.tv_store.proofs.store.Store.first_unsealed.Given as goal
 
 abbrev pub invariant-loop-name : goal.invariant-loop-name
 invariant-loop-name g l = record {
   found : g.O.Directory.tells → (s : State) → Holds (g.O.Directory.reads l.initial.self.1) l.initial.self.0 s → AllByRecursion IsFileOf l.names → find (λ name. not (is_sealed (file_at s name))) (take l.name-index l.names) ≡ None;
-  content : g.O.Directory.tells → Same (g.O.Directory.reads l.initial.self.1) (g.O.Directory.reads l.self.1);
-  kept : l.self.0 ≡ l.initial.self.0;
-  opened : l.self.2 ≡ l.initial.self.2;
-  heard : g.O.Directory.heard l.self.1 ≡ g.O.Directory.heard l.initial.self.1;
-  room : g.O.Directory.room l.initial.self.1 ≤ g.O.Directory.room l.self.1;
+  asks : Asks g.O.Directory l.initial.self l.self;
   quiet : g.O.Directory.faults l.self.1 ≡ g.O.Directory.faults l.initial.self.1;
-  refusals : g.O.Directory.refusals l.self.1 ≡ g.O.Directory.refusals l.initial.self.1;
-  locks : g.O.Directory.tells_locks → SameLocks (g.O.Directory.locks l.initial.self.1) (g.O.Directory.locks l.self.1);
-  clock : g.O.Directory.moment l.initial.self.1 ≤ g.O.Directory.moment l.self.1;
 }

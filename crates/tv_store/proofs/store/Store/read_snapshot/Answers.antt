@@ -6,6 +6,7 @@ use Rattle.tv_store.specs.declared.snapshot.SegmentReader.{SegmentReader}
 use Rattle.tv_store.specs.Applying.{LacksIn, HoldsNone}
 use Rattle.tv_store.specs.Kept.{Kept}
 use Rattle.tv_store.specs.ReadCauses.{ApplyCause}
+use Rattle.tv_store.proofs.Asking.{asks_later}
 use Rattle.tv_store.proofs.Holding.{same_holds}
 use Rattle.tv_store.proofs.ReaderEvents.{failed_as, snapshot_fails, segment_is_sealed, read_more, all_read}
 use Rattle.tv_store.proofs.store.Store.read_snapshot.Goals as goal
@@ -23,7 +24,7 @@ returns-in_err-reader-clause-cause g c =
     c.from_residual-in_err-reader.ensures.1
     (snapshot_fails tells (reads c.args.self.now.1) (reads c.loop-entry.self.1) c.args.self.now.0 segments c.loop-entry.entry-index c.entry-item.result
     (faults c.args.self.now.1) (faults c.loop-entry.self.1) (faults c.read_segment.new.self.1) c.in_err-reader.field-0.0
-    so_far.content so_far.quiet (c.deref-entry-items.ensures.value ∙ c.in_ok-segments.ensures ∙ ap (λ v. v.0.commit.segments) c.self.view_is) within c.entry-item.is c.in_err-reader.ensures.cause)
+    so_far.asks.content so_far.quiet (c.deref-entry-items.ensures.value ∙ c.in_ok-segments.ensures ∙ ap (λ v. v.0.commit.segments) c.self.view_is) within c.entry-item.is c.in_err-reader.ensures.cause)
 
 pub loop-entry-preserved : goal.loop-entry-preserved
 loop-entry-preserved g c =
@@ -34,7 +35,7 @@ loop-entry-preserved g c =
     let within : c.loop-entry.entry-index < length segments = omega arith in
     record {
       read = λ tells s held whole are.
-          let now = same_holds (reads c.args.self.now.1) (reads c.loop-entry.self.1) c.args.self.now.0 c.loop-entry.self.0 s (so_far.content tells) so_far.kept held in
+          let now = same_holds (reads c.args.self.now.1) (reads c.loop-entry.self.1) c.args.self.now.0 c.loop-entry.self.0 s (so_far.asks.content tells) so_far.asks.kept held in
           let sealed = segment_is_sealed (reads c.loop-entry.self.1) c.loop-entry.self.0 s segments c.loop-entry.entry-index c.entry-item.result are within c.entry-item.is whole now in
           read_more s segments c.loop-entry.entry-index c.entry-item.result c.in_ok-reader.reader.id c.in_ok-reader.reader.segment c.in_ok-reader.reader.bodies.items
           (map (λ (r : SegmentReader). (r.id, r.segment)) c.loop-entry.readers.items) (map (λ (r : SegmentReader). (r.id, r.segment)) c.push.new.self.items)
@@ -43,15 +44,8 @@ loop-entry-preserved g c =
           (ap (map (λ (r : SegmentReader). (r.id, r.segment))) c.in_ok-push.ensures.items ∙ map_push (λ (r : SegmentReader). (r.id, r.segment)) c.loop-entry.readers.items c.in_ok-reader.reader)
           (ap (map (λ (r : SegmentReader). r.bodies.items)) c.in_ok-push.ensures.items ∙ map_push (λ (r : SegmentReader). r.bodies.items) c.loop-entry.readers.items c.in_ok-reader.reader)
           (so_far.read tells s held whole are);
-      content = λ tells n. asked.content tells n ∙ so_far.content tells n;
-      kept = asked.kept ∙ so_far.kept;
-      opened = asked.open ∙ so_far.opened;
-      heard = asked.heard ∙ so_far.heard;
-      room = omega (arith, asked.room, so_far.room);
+      asks = asks_later so_far.asks asked.asks;
       quiet = asked.quiet ∙ so_far.quiet;
-      locks = λ told n. asked.locks told n ∙ so_far.locks told n;
-      clock = omega (arith, asked.clock, so_far.clock);
-      refusals = asked.refusals ∙ so_far.refusals;
     }
 
 pub returns-clause-shown : goal.returns-clause-shown
@@ -59,7 +53,7 @@ returns-clause-shown g c tells s held whole =
     let so_far = c.loop-entry.invariant in
     let segments = c.deref-entry-items.result.now in
     let are : segments ≡ s.commit.segments = c.deref-entry-items.ensures.value ∙ c.in_ok-segments.ensures ∙ ap (λ v. v.0.commit.segments) c.self.view_is ∙ ap (λ (k : Commit). k.segments) held.commit in
-    let commit : c.self-2.inside.commit ≡ s.commit = ap (λ v. v.0.commit) c.self-2.view_is ∙ ap (λ (k : Kept). k.commit) so_far.kept ∙ held.commit in
+    let commit : c.self-2.inside.commit ≡ s.commit = ap (λ v. v.0.commit) c.self-2.view_is ∙ ap (λ (k : Kept). k.commit) so_far.asks.kept ∙ held.commit in
     let all = all_read s segments (map (λ (r : SegmentReader). (r.id, r.segment)) c.loop-entry.readers.items) (map (λ (r : SegmentReader). r.bodies.items) c.loop-entry.readers.items)
     c.loop-entry.entry-index c.args.generation c.opstamp.result c.in_ok-payload.payload are
     (c.opstamp.ensures ∙ ap (λ (k : Commit). k.opstamp) commit) (c.in_ok-payload.ensures ∙ ap (λ (k : Commit). k.payload) commit) (omega arith) (so_far.read tells s held whole are) in

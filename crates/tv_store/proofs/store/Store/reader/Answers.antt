@@ -14,7 +14,7 @@ use Rattle.tv_store.specs.ReadCauses.{ApplyCause}
 use Rattle.tv_store.proofs.Holding.{same_holds}
 use Rattle.tv_store.proofs.FileEvents.{inside_holds}
 use Rattle.tv_store.proofs.ReaderNumbers.{few_same}
-use Rattle.tv_store.proofs.ReaderEvents.{busy_before, failed_as, later_fails, three_words, reader_added}
+use Rattle.tv_store.proofs.ReaderEvents.{busy_before, failed_as, later_fails, reader_added}
 use Rattle.tv_store.proofs.store.Store.reader.Goals as goal
 
 pub returns-in_err-shown-clause-cause : goal.returns-in_err-shown-clause-cause
@@ -30,7 +30,7 @@ returns-in_err-shown-clause-cause g c =
     (ApplyCause busy (Rose (faults c.args.self.now.1) (faults c.snapshot.new.self.1)) (faults c.snapshot.new.self.1 ≡ faults c.args.self.now.1) spent (BadIn tells (reads c.args.self.now.1) c.args.self.now.0 (events.Reader c.args.policy)) (λ path. HoldsNone tells (reads c.args.self.now.1) c.args.self.now.0))
     c.from_residual-in_err-shown.ensures.1
     (later_fails tells (reads c.args.self.now.1) (reads c.ready.new.self.1) c.args.self.now.0 c.ready.new.self.0 (events.Reader c.args.policy) (λ s held. tt) spent _ busy
-    (faults c.args.self.now.1) (faults c.ready.new.self.1) (faults c.snapshot.new.self.1) c.in_err-shown.field-0.0 (busy_before _ _ _ _ _ (λ told. room.locks told meta_lock_name) room.quiet) room.content room.kept room.quiet c.in_err-shown.ensures.cause)
+    (faults c.args.self.now.1) (faults c.ready.new.self.1) (faults c.snapshot.new.self.1) c.in_err-shown.field-0.0 (busy_before _ _ _ _ _ (λ told. room.stays.locks told meta_lock_name) room.quiet) room.content room.kept room.quiet c.in_err-shown.ensures.cause)
 
 pub returns-clause-step : goal.returns-clause-step
 returns-clause-step g c tells s held whole =
@@ -38,15 +38,14 @@ returns-clause-step g c tells s held whole =
     let room = c.in_ok-answer-2.ensures in
     let asked = c.in_ok-shown.ensures in
     let kept : Kept = record { schema = c.self-2.inside.schema; live = c.self-2.inside.live.entries; next = c.self-2.inside.next; commit = c.self-2.inside.commit; managed = c.self-2.inside.files.1; open_files = c.self-2.inside.files.2; left = c.self-2.inside.left.keys; reading = c.self-2.inside.readers } in
-    let kept_is : c.snapshot.new.self.0 ≡ c.args.self.now.0 = asked.kept ∙ room.kept in
+    let kept_is : c.snapshot.new.self.0 ≡ c.args.self.now.0 = asked.asks.kept ∙ room.kept in
     let readers : c.self.inside.readers ≡ kept.reading = ap (λ v. v.0.reading) c.self.view_is ∙ sym (ap (λ v. v.0.reading) c.self-2.view_is ∙ ap (λ (k : Kept). k.reading) kept_is) in
     let commit : c.self.inside.commit ≡ kept.commit = ap (λ v. v.0.commit) c.self.view_is ∙ sym (ap (λ v. v.0.commit) c.self-2.view_is ∙ ap (λ (k : Kept). k.commit) kept_is) in
     let once = same_holds (reads c.args.self.now.1) (reads c.ready.new.self.1) c.args.self.now.0 c.ready.new.self.0 s (room.content tells) room.kept held in
-    let after = same_holds (reads c.ready.new.self.1) (reads c.snapshot.new.self.1) c.ready.new.self.0 c.snapshot.new.self.0 s (asked.content tells) asked.kept once in
+    let after = same_holds (reads c.ready.new.self.1) (reads c.snapshot.new.self.1) c.ready.new.self.0 c.snapshot.new.self.0 s (asked.asks.content tells) asked.asks.kept once in
     let shown = asked.shown tells s once whole in
     let said : c.in_ok-answer-2.answer ≡ line (codes "reader") (decimal kept.reading.next_reader ∷ decimal 0 ∷ decimal kept.commit.opstamp ∷ []) =
-    three_words (codes "reader") (decimal c.next_reader-number.result) (decimal 0) (decimal c.opstamp.result) c.in_ok-new.field-0 c.in_ok-number.field-0 c.in_ok-number-2.field-0 c.in_ok-answer.answer c.in_ok-answer-2.answer
-    c.in_ok-new.ensures c.in_ok-number.ensures c.in_ok-number-2.ensures c.in_ok-answer.ensures room.answer
+    room.answer ∙ c.in_ok-answer.ensures
     ∙ ap (λ (n : ℕ). line (codes "reader") (decimal n ∷ decimal 0 ∷ decimal c.opstamp.result ∷ [])) (c.next_reader-number.ensures ∙ ap (λ (r : Readers). r.next_reader) readers)
     ∙ ap (λ (n : ℕ). line (codes "reader") (decimal kept.reading.next_reader ∷ decimal 0 ∷ decimal n ∷ [])) (c.opstamp.ensures ∙ ap (λ (k : Commit). k.opstamp) commit) in
     let told = reader_added (reads c.self-2.inside.files.0) kept s c.args.policy c.in_ok-shown.shown c.add_reader.new.self c.in_ok-answer-2.answer
@@ -56,4 +55,4 @@ returns-clause-step g c tells s held whole =
 
 pub returns-clause-numbers : goal.returns-clause-numbers
 returns-clause-numbers g c bound few =
-    c.in_ok-add_reader.ensures.few bound (few_same bound c.self-2.inside.readers c.args.self.now.0.reading (ap (λ v. v.0.reading) c.self-2.view_is ∙ ap (λ (k : Kept). k.reading) (c.in_ok-shown.ensures.kept ∙ c.in_ok-answer-2.ensures.kept)) few)
+    c.in_ok-add_reader.ensures.few bound (few_same bound c.self-2.inside.readers c.args.self.now.0.reading (ap (λ v. v.0.reading) c.self-2.view_is ∙ ap (λ (k : Kept). k.reading) (c.in_ok-shown.ensures.asks.kept ∙ c.in_ok-answer-2.ensures.kept)) few)

@@ -1,4 +1,5 @@
 use Rattle.std.proofs.Common.{◌≡◌, true, ◌∷◌, [], ℕ, ◌+◌, ◌≤◌, ◌^◌, codes, None, Some, is_some, refl, sym, ap, ◌∙◌, arith}
+use Rattle.std.proofs.lemmas.Result.{IfOk-weaker}
 use Rattle.std.specs.Prelude.{IsSome}
 use Rattle.std.specs.Fmt.{decimal}
 use Rattle.tv_model.specs.Files.{Rose}
@@ -17,23 +18,26 @@ use Rattle.tv_store.proofs.Holding.{same_holds}
 use Rattle.tv_store.proofs.FileEvents.{inside_holds}
 use Rattle.tv_store.proofs.FewNumbers.{few_more}
 use Rattle.tv_store.proofs.ReaderNumbers.{few_same, few_found}
-use Rattle.tv_store.proofs.ReaderEvents.{busy_before, failed_as, later_fails, three_words, mapped, not_mapped, isnt_there, reload_unknown, reloaded}
+use Rattle.tv_store.proofs.ReaderEvents.{busy_before, failed_as, later_fails, on_ok, mapped, not_mapped, isnt_there, reload_unknown, reloaded}
 use Rattle.tv_store.proofs.store.Store.reload.Goals as goal
 
 pub returns-in_default-clause-step : goal.returns-in_default-clause-step
 returns-in_default-clause-step g c tells s held whole =
     let reads = g.O.Directory.reads in
-    let refusal = c.in_ok-answer.ensures in
+    let refusal = c.refuse.ensures in
     let readers = c.self.inside.readers in
     let absent : at_number readers.readers c.args.number ≡ None = not_mapped (λ (r : Reader). r.next) (at_number readers.readers c.args.number) (sym c.in_default.is ∙ c.next_generation.ensures) in
     let none : reader_at s c.args.number ≡ None = ap (λ (r : Readers). at_number r.readers c.args.number) (sym (ap (λ v. v.0.reading) c.self.view_is ∙ held.reading)) ∙ absent in
-    let told = reload_unknown (reads c.refuse.new.self.1) c.refuse.new.self.0 s c.args.number c.in_ok-answer.answer none refusal.answer
+    IfOk-weaker c.refuse.result _ _
+    (λ answer said.
+    let told = reload_unknown (reads c.refuse.new.self.1) c.refuse.new.self.0 s c.args.number answer none said
     (same_holds (reads c.args.self.now.1) (reads c.refuse.new.self.1) c.args.self.now.0 c.refuse.new.self.0 s (refusal.content tells) refusal.kept held) in
-    (told.0, told.1, λ there. absurd (isnt_there (reader_at s c.args.number) none there))
+    (told.0, told.1, λ there. absurd (isnt_there (reader_at s c.args.number) none there)))
+    refusal.answer
 
 pub returns-in_default-clause-numbers : goal.returns-in_default-clause-numbers
 returns-in_default-clause-numbers g c bound few =
-    few_more bound 1 c.refuse.new.self.0.reading (few_same bound c.refuse.new.self.0.reading c.args.self.now.0.reading c.in_ok-answer.ensures.reading few)
+    on_ok c.refuse.result (few_more bound 1 c.refuse.new.self.0.reading (few_same bound c.refuse.new.self.0.reading c.args.self.now.0.reading (ap (λ (k : Kept). k.reading) c.refuse.ensures.kept) few))
 
 pub returns-then-generation-clause-cause : goal.returns-then-generation-clause-cause
 returns-then-generation-clause-cause g c = (
@@ -53,7 +57,7 @@ returns-in_err-shown-clause-cause g c =
     let tells = g.O.Directory.tells in
     let reads = g.O.Directory.reads in
     let faults = g.O.Directory.faults in
-    let room = c.in_ok-answer-3.ensures in
+    let room = c.in_ok-answer-2.ensures in
     let found = mapped (λ (r : Reader). r.next) (at_number c.self.inside.readers.readers c.args.number) c.in-Some.generation (sym c.in-Some.is ∙ c.next_generation.ensures) in
     let is_there : (s : State) → Holds (reads c.args.self.now.1) c.args.self.now.0 s → reader_at s c.args.number ≡ Some found.0 =
     λ s held. ap (λ (r : Readers). at_number r.readers c.args.number) (sym (ap (λ v. v.0.reading) c.self.view_is ∙ held.reading)) ∙ found.1 in
@@ -67,32 +71,31 @@ returns-in_err-shown-clause-cause g c =
     (ApplyCause busy (Rose (faults c.args.self.now.1) (faults c.snapshot.new.self.1)) (faults c.snapshot.new.self.1 ≡ faults c.args.self.now.1) spent (BadIn tells (reads c.args.self.now.1) c.args.self.now.0 (events.Reload c.args.number)) (λ path. HoldsNone tells (reads c.args.self.now.1) c.args.self.now.0))
     c.from_residual-in_err-shown.ensures.1
     (later_fails tells (reads c.args.self.now.1) (reads c.ready.new.self.1) c.args.self.now.0 c.ready.new.self.0 (events.Reload c.args.number) (λ s held. ap is_some (is_there s held)) spent _ busy
-    (faults c.args.self.now.1) (faults c.ready.new.self.1) (faults c.snapshot.new.self.1) c.in_err-shown.field-0.0 (λ b. (ap is_some there, busy_before _ _ _ _ _ (λ told. room.locks told meta_lock_name) room.quiet b)) room.content room.kept room.quiet c.in_err-shown.ensures.cause)
+    (faults c.args.self.now.1) (faults c.ready.new.self.1) (faults c.snapshot.new.self.1) c.in_err-shown.field-0.0 (λ b. (ap is_some there, busy_before _ _ _ _ _ (λ told. room.stays.locks told meta_lock_name) room.quiet b)) room.content room.kept room.quiet c.in_err-shown.ensures.cause)
 
 pub returns-clause-step : goal.returns-clause-step
 returns-clause-step g c tells s held whole =
     let reads = g.O.Directory.reads in
-    let room = c.in_ok-answer-3.ensures in
+    let room = c.in_ok-answer-2.ensures in
     let asked = c.in_ok-shown.ensures in
     let kept : Kept = record { schema = c.self-2.inside.schema; live = c.self-2.inside.live.entries; next = c.self-2.inside.next; commit = c.self-2.inside.commit; managed = c.self-2.inside.files.1; open_files = c.self-2.inside.files.2; left = c.self-2.inside.left.keys; reading = c.self-2.inside.readers } in
-    let kept_is : c.snapshot.new.self.0 ≡ c.args.self.now.0 = asked.kept ∙ room.kept in
+    let kept_is : c.snapshot.new.self.0 ≡ c.args.self.now.0 = asked.asks.kept ∙ room.kept in
     let readers : c.self.inside.readers ≡ kept.reading = ap (λ v. v.0.reading) c.self.view_is ∙ sym (ap (λ v. v.0.reading) c.self-2.view_is ∙ ap (λ (k : Kept). k.reading) kept_is) in
     let commit : c.self.inside.commit ≡ kept.commit = ap (λ v. v.0.commit) c.self.view_is ∙ sym (ap (λ v. v.0.commit) c.self-2.view_is ∙ ap (λ (k : Kept). k.commit) kept_is) in
     let found = mapped (λ (r : Reader). r.next) (at_number c.self.inside.readers.readers c.args.number) c.in-Some.generation (sym c.in-Some.is ∙ c.next_generation.ensures) in
     let there : at_number c.self-2.inside.readers.readers c.args.number ≡ Some found.0 = ap (λ (r : Readers). at_number r.readers c.args.number) (sym readers) ∙ found.1 in
     let once = same_holds (reads c.args.self.now.1) (reads c.ready.new.self.1) c.args.self.now.0 c.ready.new.self.0 s (room.content tells) room.kept held in
-    let after = same_holds (reads c.ready.new.self.1) (reads c.snapshot.new.self.1) c.ready.new.self.0 c.snapshot.new.self.0 s (asked.content tells) asked.kept once in
+    let after = same_holds (reads c.ready.new.self.1) (reads c.snapshot.new.self.1) c.ready.new.self.0 c.snapshot.new.self.0 s (asked.asks.content tells) asked.asks.kept once in
     let shown = asked.shown tells s once whole in
-    let said : c.in_ok-answer-3.answer ≡ line (codes "published") (decimal c.args.number ∷ decimal found.0.next ∷ decimal kept.commit.opstamp ∷ []) =
-    three_words (codes "published") (decimal c.args.number) (decimal c.in-Some.generation) (decimal c.opstamp.result) c.in_ok-new.field-0 c.in_ok-number.field-0 c.in_ok-number-2.field-0 c.in_ok-answer-2.answer c.in_ok-answer-3.answer
-    c.in_ok-new.ensures c.in_ok-number.ensures c.in_ok-number-2.ensures c.in_ok-answer-2.ensures room.answer
+    let said : c.in_ok-answer-2.answer ≡ line (codes "published") (decimal c.args.number ∷ decimal found.0.next ∷ decimal kept.commit.opstamp ∷ []) =
+    room.answer ∙ c.in_ok-answer.ensures
     ∙ ap (λ (n : ℕ). line (codes "published") (decimal c.args.number ∷ decimal n ∷ decimal c.opstamp.result ∷ [])) found.2
     ∙ ap (λ (n : ℕ). line (codes "published") (decimal c.args.number ∷ decimal found.0.next ∷ decimal n ∷ [])) (c.opstamp.ensures ∙ ap (λ (k : Commit). k.opstamp) commit) in
-    let told = reloaded (reads c.self-2.inside.files.0) kept s c.args.number found.0 c.in_ok-shown.shown c.publish.new.self c.in_ok-answer-3.answer
+    let told = reloaded (reads c.self-2.inside.files.0) kept s c.args.number found.0 c.in_ok-shown.shown c.publish.new.self c.in_ok-answer-2.answer
     (inside_holds reads (kept, c.self-2.inside.files.0, c.self-2.inside.open) c.snapshot.new.self s c.self-2.view_is after)
     there (shown.0 ∙ ap (λ (n : ℕ). snapshot_in s n) found.2) (c.in_ok-publish.ensures.published found.0 there) said in
     (told.0, told.1, λ _. shown.1)
 
 pub returns-clause-numbers : goal.returns-clause-numbers
 returns-clause-numbers g c bound few =
-    c.in_ok-publish.ensures.few bound (few_same bound c.self-2.inside.readers c.args.self.now.0.reading (ap (λ v. v.0.reading) c.self-2.view_is ∙ ap (λ (k : Kept). k.reading) (c.in_ok-shown.ensures.kept ∙ c.in_ok-answer-3.ensures.kept)) few)
+    c.in_ok-publish.ensures.few bound (few_same bound c.self-2.inside.readers c.args.self.now.0.reading (ap (λ v. v.0.reading) c.self-2.view_is ∙ ap (λ (k : Kept). k.reading) (c.in_ok-shown.ensures.asks.kept ∙ c.in_ok-answer-2.ensures.kept)) few)

@@ -1,27 +1,33 @@
-use Rattle.std.proofs.Common.{◌≡◌, length, codes, Some, None, option_map, sym, ap, ◌∙◌}
-use Rattle.std.specs.Fmt.{decimal}
+use Rattle.std.proofs.Common.{◌≡◌, length, option_map, sym, ap, ◌∙◌}
+use Rattle.std.proofs.lemmas.Result.{IfOk-weaker}
 use Rattle.tv_model.specs.State.{at}
 use Rattle.tv_store.specs.Kept.{Kept}
 use Rattle.tv_store.proofs.Holding.{same_holds}
-use Rattle.tv_store.proofs.FileEvents.{inside_holds, live_is, seal_unknown, seal_closed, sealed_file, most_left, two_words}
+use Rattle.tv_store.proofs.FileEvents.{inside_holds, live_found, seal_unknown, seal_closed, sealed_file, most_left}
 use Rattle.tv_store.proofs.store.Store.seal_file.Goals as goal
 
 pub returns-in_default-clause-step : goal.returns-in_default-clause-step
 returns-in_default-clause-step g c tells s h =
     let reads = g.O.Directory.reads in
-    let unknown = live_is (reads c.args.self.now.1) c.args.self.now.0 s c.self.inside.live.entries c.args.id None (sym c.in_default.is ∙ c.copied.ensures ∙ c.get.ensures.value) (ap (λ v. v.0.live) c.self.view_is) h in
-    seal_unknown (reads c.refuse.new.self.1) c.refuse.new.self.0 s c.args.id c.args.component c.in_ok-answer.answer unknown c.in_ok-answer.ensures.answer
-    (same_holds (reads c.args.self.now.1) (reads c.refuse.new.self.1) c.args.self.now.0 c.refuse.new.self.0 s (c.refuse.ensures.content tells) c.refuse.ensures.kept h)
+    let asked = c.refuse in
+    IfOk-weaker asked.result _ _
+    (λ answer said.
+    seal_unknown (reads asked.new.self.1) asked.new.self.0 s c.args.id c.args.component answer (live_found c.args.id h c.live_segment.ensures c.in_default.is) said
+    (same_holds (reads c.args.self.now.1) (reads asked.new.self.1) c.args.self.now.0 asked.new.self.0 s (asked.ensures.content tells) asked.ensures.kept h))
+    asked.ensures.answer
 
 pub returns-in_default-body_len-clause-step : goal.returns-in_default-body_len-clause-step
 returns-in_default-body_len-clause-step g c tells s h =
     let reads = g.O.Directory.reads in
     let asked = c.refuse-in_default-body_len in
-    let found = live_is (reads c.args.self.now.1) c.args.self.now.0 s c.self.inside.live.entries c.args.id (Some c.in-Some.segment) (sym c.in-Some.is ∙ c.copied.ensures ∙ c.get.ensures.value) (ap (λ v. v.0.live) c.self.view_is) h in
-    let none = sym c.in_default-body_len.is ∙ c.body_len.ensures ∙ ap (λ v. option_map length (at v.0.open_files c.in_ok-name.name)) c.self.view_is ∙ sym (ap (λ (k : Kept). option_map length (at k.open_files c.in_ok-name.name)) asked.ensures.kept) in
-    seal_closed (reads asked.new.self.1) asked.new.self.0 s c.args.id c.in_ok-name.name c.args.component c.in-Some.segment c.in_ok-answer-2.answer
-    found c.in_ok-name.ensures.name c.in_ok-name.ensures.file none c.in_ok-answer-2.ensures.answer
-    (same_holds (reads c.args.self.now.1) (reads asked.new.self.1) c.args.self.now.0 asked.new.self.0 s (asked.ensures.content tells) asked.ensures.kept h)
+    let name = c.in_ok-name.name in
+    let none = sym c.in_default-body_len.is ∙ c.body_len.ensures ∙ sym (ap (λ (k : Kept). option_map length (at k.open_files name)) asked.ensures.kept) in
+    IfOk-weaker asked.result _ _
+    (λ answer said.
+    seal_closed (reads asked.new.self.1) asked.new.self.0 s c.args.id name c.args.component c.in-Some.segment answer
+    (live_found c.args.id h c.live_segment.ensures c.in-Some.is) c.in_ok-name.ensures.name c.in_ok-name.ensures.file none said
+    (same_holds (reads c.args.self.now.1) (reads asked.new.self.1) c.args.self.now.0 asked.new.self.0 s (asked.ensures.content tells) asked.ensures.kept h))
+    asked.ensures.answer
 
 pub returns-in_err-seal-clause-lens : goal.returns-in_err-seal-clause-lens
 returns-in_err-seal-clause-lens g c bound h =
@@ -34,14 +40,12 @@ returns-clause-step g c tells s h =
     let name = c.in_ok-name.name in
     let kept : Kept = record { schema = c.self-2.inside.schema; live = c.self-2.inside.live.entries; next = c.self-2.inside.next; commit = c.self-2.inside.commit; managed = c.self-2.inside.files.1; open_files = c.self-2.inside.files.2; left = c.self-2.inside.left.keys; reading = c.self-2.inside.readers } in
     let now : c.self-2.inside.files.2 ≡ c.args.self.now.0.open_files = ap (λ v. v.0.open_files) c.self-2.view_is ∙ ap (λ (k : Kept). k.open_files) c.ready.ensures.kept in
-    let same : c.self.inside.files.2 ≡ c.self-2.inside.files.2 = ap (λ v. v.0.open_files) c.self.view_is ∙ sym now in
-    let has_len = sym c.in-Some-body_len.is ∙ c.body_len.ensures ∙ ap (λ es. option_map length (at es name)) same in
-    let found = live_is (reads c.args.self.now.1) c.args.self.now.0 s c.self.inside.live.entries c.args.id (Some c.in-Some.segment) (sym c.in-Some.is ∙ c.copied.ensures ∙ c.get.ensures.value) (ap (λ v. v.0.live) c.self.view_is) h in
+    let has_len = sym c.in-Some-body_len.is ∙ c.body_len.ensures ∙ ap (λ es. option_map length (at es name)) (sym now) in
+    let found = live_found c.args.id h c.live_segment.ensures c.in-Some.is in
     let once = same_holds (reads c.args.self.now.1) (reads c.ready.new.self.1) c.args.self.now.0 c.ready.new.self.0 s (c.ready.ensures.content tells) c.ready.ensures.kept h in
-    let said = two_words (codes "sealed") name (decimal c.in-Some-body_len.len) c.in_ok-new.field-0 c.in_ok-name-2.field-0 c.in_ok-answer-3.answer c.in_ok-answer-4.answer
-    c.in_ok-new.ensures c.in_ok-name-2.ensures c.in_ok-answer-3.ensures c.in_ok-answer-4.ensures.answer in
-    sealed_file (reads c.self-2.inside.files.0) (reads c.seal.new.self.0) kept s c.args.id name c.args.component c.in-Some.segment c.in-Some-body_len.len c.in_ok-answer-4.answer c.seal.new.self.1 c.seal.new.self.2
-    found c.in_ok-name.ensures.name c.in_ok-name.ensures.file has_len (c.in_ok-seal.ensures.sealed tells) c.in_ok-seal.ensures.names c.in_ok-seal.ensures.open_files c.in_ok-seal.ensures.closed said
+    sealed_file (reads c.self-2.inside.files.0) (reads c.seal.new.self.0) kept s c.args.id name c.args.component c.in-Some.segment c.in-Some-body_len.len c.in_ok-answer-2.answer c.seal.new.self.1 c.seal.new.self.2
+    found c.in_ok-name.ensures.name c.in_ok-name.ensures.file has_len (c.in_ok-seal.ensures.sealed tells) c.in_ok-seal.ensures.names c.in_ok-seal.ensures.open_files c.in_ok-seal.ensures.closed
+    (c.in_ok-answer-2.ensures.answer ∙ c.in_ok-answer.ensures)
     (inside_holds reads (kept, c.self-2.inside.files.0, c.self-2.inside.open) c.ready.new.self s c.self-2.view_is once)
 
 pub returns-clause-lens : goal.returns-clause-lens

@@ -1,4 +1,5 @@
-use Rattle.std.proofs.Common.{◌≡◌, ℕ, ◌+◌, ◌≤◌, List, [], ◌∷◌, ◌++◌, length, codes, Some, None, option_map, refl, sym, ap, subst, ◌∙◌}
+use Rattle.std.proofs.Common.{◌≡◌, ℕ, ◌+◌, ◌≤◌, List, [], ◌∷◌, ◌++◌, length, codes, option_map, refl, sym, ap, subst, ◌∙◌}
+use Rattle.std.proofs.lemmas.Result.{IfOk-weaker}
 use Rattle.std.specs.Fmt.{decimal}
 use Rattle.std.specs.Map.{remove_entry}
 use Rattle.std.specs.BTreeMap.{is_at, insert_entry}
@@ -7,15 +8,18 @@ use Rattle.tv_model.specs.Lines.{line}
 use Rattle.tv_model.specs.State.{at}
 use Rattle.tv_store.specs.Kept.{Kept}
 use Rattle.tv_store.proofs.Holding.{same_holds}
-use Rattle.tv_store.proofs.FileEvents.{inside_holds, live_is, write_unknown, write_closed, written, most_same, most_failed, most_written, is_spent, sum_is, sum_isnt, two_words}
+use Rattle.tv_store.proofs.FileEvents.{inside_holds, live_found, write_unknown, write_closed, written, most_same, most_failed, most_written, is_spent, sum_is, sum_isnt}
 use Rattle.tv_store.proofs.store.Store.write_file.Goals as goal
 
 pub returns-in_default-clause-step : goal.returns-in_default-clause-step
 returns-in_default-clause-step g c tells s h =
     let reads = g.O.Directory.reads in
-    let unknown = live_is (reads c.args.self.now.1) c.args.self.now.0 s c.self.inside.live.entries c.args.id None (sym c.in_default.is ∙ c.copied.ensures ∙ c.get.ensures.value) (ap (λ v. v.0.live) c.self.view_is) h in
-    write_unknown (reads c.refuse.new.self.1) c.refuse.new.self.0 s c.args.id c.args.component c.args.bytes.now c.in_ok-answer.answer unknown c.in_ok-answer.ensures.answer
-    (same_holds (reads c.args.self.now.1) (reads c.refuse.new.self.1) c.args.self.now.0 c.refuse.new.self.0 s (c.refuse.ensures.content tells) c.refuse.ensures.kept h)
+    let asked = c.refuse in
+    IfOk-weaker asked.result _ _
+    (λ answer said.
+    write_unknown (reads asked.new.self.1) asked.new.self.0 s c.args.id c.args.component c.args.bytes.now answer (live_found c.args.id h c.live_segment.ensures c.in_default.is) said
+    (same_holds (reads c.args.self.now.1) (reads asked.new.self.1) c.args.self.now.0 asked.new.self.0 s (asked.ensures.content tells) asked.ensures.kept h))
+    asked.ensures.answer
 
 pub returns-in_default-clause-lens : goal.returns-in_default-clause-lens
 returns-in_default-clause-lens g c = most_same c.args.self.now.0 c.refuse.new.self.0 (length c.args.bytes.now) c.refuse.ensures.kept
@@ -23,18 +27,18 @@ returns-in_default-clause-lens g c = most_same c.args.self.now.0 c.refuse.new.se
 pub returns-in_err-name-clause-lens : goal.returns-in_err-name-clause-lens
 returns-in_err-name-clause-lens g c = most_same c.args.self.now.0 c.args.self.now.0 (length c.args.bytes.now) refl
 
-pub returns-in_err-answer-2-clause-lens : goal.returns-in_err-answer-2-clause-lens
-returns-in_err-answer-2-clause-lens g c = most_same c.args.self.now.0 c.refuse-in_default-body_len.new.self.0 (length c.args.bytes.now) c.refuse-in_default-body_len.ensures.kept
-
 pub returns-in_default-body_len-clause-step : goal.returns-in_default-body_len-clause-step
 returns-in_default-body_len-clause-step g c tells s h =
     let reads = g.O.Directory.reads in
     let asked = c.refuse-in_default-body_len in
-    let found = live_is (reads c.args.self.now.1) c.args.self.now.0 s c.self.inside.live.entries c.args.id (Some c.in-Some.segment) (sym c.in-Some.is ∙ c.copied.ensures ∙ c.get.ensures.value) (ap (λ v. v.0.live) c.self.view_is) h in
-    let none = sym c.in_default-body_len.is ∙ c.body_len.ensures ∙ ap (λ v. option_map length (at v.0.open_files c.in_ok-name.name)) c.self.view_is ∙ sym (ap (λ (k : Kept). option_map length (at k.open_files c.in_ok-name.name)) asked.ensures.kept) in
-    write_closed (reads asked.new.self.1) asked.new.self.0 s c.args.id c.in_ok-name.name c.args.component c.args.bytes.now c.in-Some.segment c.in_ok-answer-2.answer
-    found c.in_ok-name.ensures.name c.in_ok-name.ensures.file none c.in_ok-answer-2.ensures.answer
-    (same_holds (reads c.args.self.now.1) (reads asked.new.self.1) c.args.self.now.0 asked.new.self.0 s (asked.ensures.content tells) asked.ensures.kept h)
+    let name = c.in_ok-name.name in
+    let none = sym c.in_default-body_len.is ∙ c.body_len.ensures ∙ sym (ap (λ (k : Kept). option_map length (at k.open_files name)) asked.ensures.kept) in
+    IfOk-weaker asked.result _ _
+    (λ answer said.
+    write_closed (reads asked.new.self.1) asked.new.self.0 s c.args.id name c.args.component c.args.bytes.now c.in-Some.segment answer
+    (live_found c.args.id h c.live_segment.ensures c.in-Some.is) c.in_ok-name.ensures.name c.in_ok-name.ensures.file none said
+    (same_holds (reads c.args.self.now.1) (reads asked.new.self.1) c.args.self.now.0 asked.new.self.0 s (asked.ensures.content tells) asked.ensures.kept h))
+    asked.ensures.answer
 
 pub returns-in_default-body_len-clause-lens : goal.returns-in_default-body_len-clause-lens
 returns-in_default-body_len-clause-lens g c = most_same c.args.self.now.0 c.refuse-in_default-body_len.new.self.0 (length c.args.bytes.now) c.refuse-in_default-body_len.ensures.kept
@@ -44,24 +48,18 @@ returns-in_default-checked_add-clause-lens g c = most_same c.args.self.now.0 c.a
 
 pub returns-in_default-checked_add-clause-cause : goal.returns-in_default-checked_add-clause-cause
 returns-in_default-checked_add-clause-cause g c =
-    let now : c.self.inside.files.2 ≡ c.args.self.now.0.open_files = ap (λ v. v.0.open_files) c.self.view_is in
+    let open_files = c.args.self.now.0.open_files in
     let large = sum_isnt c.checked_add.result (c.in-Some-body_len.len + length c.as_slice-bytes.result.now) c.checked_add.ensures c.in_default-checked_add.is in (
       refl,
-      λ bound h. is_spent bound c.in-Some-body_len.len (length c.args.bytes.now) c.args.self.now.0.open_files c.self.inside.files.2 c.in_ok-name.name now (sym c.in-Some-body_len.is ∙ c.body_len.ensures)
+      λ bound h. is_spent bound c.in-Some-body_len.len (length c.args.bytes.now) open_files open_files c.in_ok-name.name refl (sym c.in-Some-body_len.is ∙ c.body_len.ensures)
           (subst (λ (bs : List ℕ). 18446744073709551616 ≤ c.in-Some-body_len.len + length bs) c.as_slice-bytes.ensures large) h,
     )
 
-pub returns-in_err-new-clause-lens : goal.returns-in_err-new-clause-lens
-returns-in_err-new-clause-lens g c = most_same c.args.self.now.0 c.args.self.now.0 (length c.args.bytes.now) refl
+pub returns-in_err-answer-clause-lens : goal.returns-in_err-answer-clause-lens
+returns-in_err-answer-clause-lens g c = most_same c.args.self.now.0 c.args.self.now.0 (length c.args.bytes.now) refl
 
-pub returns-in_err-name-2-clause-lens : goal.returns-in_err-name-2-clause-lens
-returns-in_err-name-2-clause-lens g c = most_same c.args.self.now.0 c.args.self.now.0 (length c.args.bytes.now) refl
-
-pub returns-in_err-answer-3-clause-lens : goal.returns-in_err-answer-3-clause-lens
-returns-in_err-answer-3-clause-lens g c = most_same c.args.self.now.0 c.args.self.now.0 (length c.args.bytes.now) refl
-
-pub returns-in_err-answer-4-clause-lens : goal.returns-in_err-answer-4-clause-lens
-returns-in_err-answer-4-clause-lens g c = most_same c.args.self.now.0 c.ready.new.self.0 (length c.args.bytes.now) c.ready.ensures.kept
+pub returns-in_err-answer-2-clause-lens : goal.returns-in_err-answer-2-clause-lens
+returns-in_err-answer-2-clause-lens g c = most_same c.args.self.now.0 c.ready.new.self.0 (length c.args.bytes.now) c.ready.ensures.kept
 
 pub returns-in_err-write-clause-lens : goal.returns-in_err-write-clause-lens
 returns-in_err-write-clause-lens g c bound h =
@@ -75,24 +73,20 @@ returns-clause-step g c tells s h =
     let bytes = c.args.bytes.now in
     let kept : Kept = record { schema = c.self-2.inside.schema; live = c.self-2.inside.live.entries; next = c.self-2.inside.next; commit = c.self-2.inside.commit; managed = c.self-2.inside.files.1; open_files = c.self-2.inside.files.2; left = c.self-2.inside.left.keys; reading = c.self-2.inside.readers } in
     let now : c.self-2.inside.files.2 ≡ c.args.self.now.0.open_files = ap (λ v. v.0.open_files) c.self-2.view_is ∙ ap (λ (k : Kept). k.open_files) c.ready.ensures.kept in
-    let same : c.self.inside.files.2 ≡ c.self-2.inside.files.2 = ap (λ v. v.0.open_files) c.self.view_is ∙ sym now in
-    let has_len = sym c.in-Some-body_len.is ∙ c.body_len.ensures ∙ ap (λ es. option_map length (at es name)) same in
-    let found = live_is (reads c.args.self.now.1) c.args.self.now.0 s c.self.inside.live.entries c.args.id (Some c.in-Some.segment) (sym c.in-Some.is ∙ c.copied.ensures ∙ c.get.ensures.value) (ap (λ v. v.0.live) c.self.view_is) h in
+    let has_len = sym c.in-Some-body_len.is ∙ c.body_len.ensures ∙ ap (λ es. option_map length (at es name)) (sym now) in
+    let found = live_found c.args.id h c.live_segment.ensures c.in-Some.is in
     let once = same_holds (reads c.args.self.now.1) (reads c.ready.new.self.1) c.args.self.now.0 c.ready.new.self.0 s (c.ready.ensures.content tells) c.ready.ensures.kept h in
     let sum : c.in-Some-checked_add.len ≡ c.in-Some-body_len.len + length bytes =
     sum_is c.checked_add.result _ c.in-Some-checked_add.len _ c.checked_add.ensures c.in-Some-checked_add.is ∙ ap (λ (bs : List ℕ). c.in-Some-body_len.len + length bs) c.as_slice-bytes.ensures in
-    let said = two_words (codes "wrote") name (decimal c.in-Some-checked_add.len) c.in_ok-new.field-0 c.in_ok-name-2.field-0 c.in_ok-answer-3.answer c.in_ok-answer-4.answer
-    c.in_ok-new.ensures c.in_ok-name-2.ensures c.in_ok-answer-3.ensures c.in_ok-answer-4.ensures.answer in
-    written (reads c.self-2.inside.files.0) (reads c.write.new.self.0) kept s c.args.id name c.args.component bytes c.in-Some.segment c.in-Some-body_len.len c.in_ok-answer-4.answer c.write.new.self.1 c.write.new.self.2
+    written (reads c.self-2.inside.files.0) (reads c.write.new.self.0) kept s c.args.id name c.args.component bytes c.in-Some.segment c.in-Some-body_len.len c.in_ok-answer-2.answer c.write.new.self.1 c.write.new.self.2
     found c.in_ok-name.ensures.name c.in_ok-name.ensures.file has_len (c.in_ok-write.ensures.reads tells) (c.in_ok-write.ensures.there tells) c.in_ok-write.ensures.names
     (λ body there. subst (λ bs. c.write.new.self.2 ≡ insert_entry byte_cmp (remove_entry (is_at (byte_cmp name)) c.self-2.inside.files.2) name (body ++ bs)) c.as_slice-bytes.ensures (c.in_ok-write.ensures.written body there))
-    (said ∙ ap (λ n. line (codes "wrote") (name ∷ decimal n ∷ [])) sum)
+    (c.in_ok-answer-2.ensures.answer ∙ c.in_ok-answer.ensures ∙ ap (λ n. line (codes "wrote") (name ∷ decimal n ∷ [])) sum)
     (inside_holds reads (kept, c.self-2.inside.files.0, c.self-2.inside.open) c.ready.new.self s c.self-2.view_is once)
 
 pub returns-clause-lens : goal.returns-clause-lens
 returns-clause-lens g c bound h =
     let now : c.self-2.inside.files.2 ≡ c.args.self.now.0.open_files = ap (λ v. v.0.open_files) c.self-2.view_is ∙ ap (λ (k : Kept). k.open_files) c.ready.ensures.kept in
-    let same : c.self.inside.files.2 ≡ c.self-2.inside.files.2 = ap (λ v. v.0.open_files) c.self.view_is ∙ sym now in
-    let has_len = sym c.in-Some-body_len.is ∙ c.body_len.ensures ∙ ap (λ es. option_map length (at es c.in_ok-name.name)) same in
+    let has_len = sym c.in-Some-body_len.is ∙ c.body_len.ensures ∙ ap (λ es. option_map length (at es c.in_ok-name.name)) (sym now) in
     most_written bound c.in-Some-body_len.len c.args.bytes.now c.args.self.now.0.open_files c.self-2.inside.files.2 c.write.new.self.2 c.in_ok-name.name now has_len
     (λ body there. subst (λ bs. c.write.new.self.2 ≡ insert_entry byte_cmp (remove_entry (is_at (byte_cmp c.in_ok-name.name)) c.self-2.inside.files.2) c.in_ok-name.name (body ++ bs)) c.as_slice-bytes.ensures (c.in_ok-write.ensures.written body there)) h

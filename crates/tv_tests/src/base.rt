@@ -1,0 +1,152 @@
+//! Known spellings of numbers, parts of files, and sources and sinks in memory.
+ghost use Rattle.std.specs.Prelude.{◌≡◌, [], ◌∷◌, length};
+
+use std::alloc::Global;
+use std::process::Abort;
+use tv_base::{
+    ByteCount, DocAddress, Field, FileSlice, IoFault, IoKind, Memory, OwnedBytes, Sink, Source,
+    TextSource, VInt, VecSink,
+};
+
+// Looks whether this is the spelling of a number.
+fn is_spelled<R: Abort>(rt: &R, alloc: Global, number: u64, spelling: &[u8]) {
+    let mut out = Vec::new(alloc);
+    VInt(number).serialize(&mut out).expect(rt, "memory");
+    assert_eq!(rt; out.as_slice(), spelling);
+}
+
+#[test]
+fn spellings_of_numbers(rt: HostRuntime) {
+    let rows: [(u64, &[u8]); 5] = [
+        (0, &[0x80]),
+        (127, &[0xff]),
+        (128, &[0x00, 0x81]),
+        (1_000_000, &[0x40, 0x04, 0xbd]),
+        (32_431_123, &[0x13, 0x38, 0x3b, 0x8f]),
+    ];
+    for (number, spelling) in &rows {
+        let mut out = Vec::new(rt.alloc());
+        VInt(*number).serialize(&mut out).expect(&rt, "memory");
+        assert_eq!(rt; out.as_slice(), *spelling);
+        assert_eq!(rt;
+            VInt::deserialize(spelling),
+            Some((VInt(*number), spelling.len()))
+        );
+    }
+}
+
+#[test]
+fn numbers_are_read_from_the_front(rt: HostRuntime) {
+    let rows: [(&[u8], Option<(VInt, usize)>); 4] = [
+        (&[0x40, 0x04, 0xbd, 0x00], Some((VInt(1_000_000), 3))),
+        (&[0x00, 0x80], None),
+        (&[0x40], None),
+        (&[], None),
+    ];
+    for (bytes, want) in &rows {
+        assert_eq!(rt; VInt::deserialize(bytes), *want);
+    }
+}
+
+// Looks whether these are the bytes.
+fn are_bytes<R: Abort>(rt: &R, bytes: Result<OwnedBytes, Memory>, want: &[u8]) {
+    assert_eq!(rt; bytes.expect(rt, "memory").as_slice(), want);
+}
+
+// Looks whether a part of a file is these bytes.
+fn is_part<R: Abort>(rt: &R, part: Result<FileSlice, Memory>, want: &[u8]) {
+    are_bytes(rt, part.expect(rt, "memory").read_bytes(), want);
+}
+
+// All bytes of a file, for which there is memory.
+fn abcd<R: Abort>(rt: &R, alloc: Global) -> OwnedBytes
+    ensures { result ≡ 97 ∷ 98 ∷ 99 ∷ 100 ∷ [] }
+{
+    let bytes = b"abcd".to_vec(alloc).expect(rt, "memory");
+    OwnedBytes::new(bytes).expect(rt, "memory")
+}
+
+// Looks whether the parts of `abcd` are what they should be.
+fn has_parts<R: Abort>(rt: &R, file: &FileSlice)
+    requires { length file.now ≡ 4 }
+{
+    is_part(rt, file.slice(1..3), b"bc");
+    is_part(rt, file.slice_from(2), b"cd");
+    is_part(rt, file.slice_to(1), b"a");
+    is_part(rt, file.slice_from_end(1), b"d");
+    is_part(rt, file.share(), b"abcd");
+}
+
+#[test]
+fn parts_of_a_file(rt: HostRuntime) {
+    let file = FileSlice::new(abcd(&rt, rt.alloc()));
+    has_parts(&rt, &file);
+}
+
+#[test]
+fn bytes_are_shared(rt: HostRuntime) {
+    let bytes = abcd(&rt, rt.alloc());
+    are_bytes(&rt, bytes.share(), b"abcd");
+}
+
+// What a read answers, and what stands in the buffer then.
+fn reads<S: Source>(rt: &impl Abort, source: &mut S, into: &mut [u8; 4], want: Option<usize>) {
+    match source.read(into.as_mut_slice()) {
+        Ok(n) => assert_eq!(rt; Some(n), want),
+        Err(fault) => {
+            assert_eq!(rt; None, want);
+            assert_eq!(rt; fault.kind, IoKind::Device);
+        }
+    }
+}
+
+#[test]
+fn a_text_in_pieces(rt: HostRuntime) {
+    let text = b"abcdefg".to_vec(rt.alloc()).expect(&rt, "memory");
+    let refused = [2, 0, 2].to_vec(rt.alloc()).expect(&rt, "memory");
+    let mut source = TextSource::new(text, refused);
+    let mut piece = [0; 4];
+    for (want, held) in [
+        (None, b"\0\0\0\0"),
+        (Some(4), b"abcd"),
+        (None, b"abcd"),
+        (Some(3), b"efgd"),
+        (Some(0), b"efgd"),
+    ] {
+        reads(&rt, &mut source, &mut piece, want);
+        assert_eq!(rt; piece, *held);
+    }
+}
+
+// Whether a put was refused by the device, with no text.
+fn is_refused<S: Sink>(sink: &mut S, bytes: &[u8]) -> bool {
+    match sink.put(bytes) {
+        Ok(()) => false,
+        Err(IoFault { kind, text }) => kind == IoKind::Device && text.is_empty(),
+    }
+}
+
+#[test]
+fn what_has_no_room_is_refused(rt: HostRuntime) {
+    let mut sink = VecSink::new(rt.alloc(), 5).expect(&rt, "memory");
+    let rows: [(&[u8], bool, &[u8], u64); 5] = [
+        (b"abc", false, b"abc", 0),
+        (b"def", true, b"abc", 1),
+        (b"de", false, b"abcde", 1),
+        (b"", false, b"abcde", 1),
+        (b"f", true, b"abcde", 2),
+    ];
+    for (bytes, refused, taken, faults) in rows {
+        assert_eq!(rt; is_refused(&mut sink, bytes), refused);
+        assert_eq!(rt; sink.as_slice(), taken);
+        assert_eq!(rt; sink.faults(), faults);
+    }
+}
+
+#[test]
+fn numbers_are_ordered(rt: HostRuntime) {
+    assert!(rt; DocAddress::new(0, 7) < DocAddress::new(1, 3));
+    assert!(rt; DocAddress::new(1, 3) < DocAddress::new(1, 4));
+    assert!(rt; Field::from_field_id(3) < Field::from_field_id(4));
+    assert!(rt; ByteCount(2) < ByteCount(10));
+}

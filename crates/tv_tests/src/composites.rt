@@ -1,0 +1,201 @@
+//! Files that are made of the bodies of several fields: their bytes, what is read of them, and what is
+//! refused.
+ghost use Rattle.std.specs.Prelude.{◌≡◌, [], false};
+
+use crate::written::{Content, file_of, is_written};
+use std::alloc::Global;
+use std::process::Abort;
+use tv_base::{ByteCount, Field, IoError, IoKind, TerminatingWrite};
+use tv_framing::{CompositeFile, CompositeWrite};
+
+// The spelling of 32431123, of 2 and of 1000000 as numbers of variable length.
+const LARGE: &[u8] = &[0x13, 0x38, 0x3b, 0x8f];
+
+const TWO: &[u8] = &[0x82];
+
+const MILLION: &[u8] = &[0x40, 0x04, 0xbd];
+
+// The file of the fields 0 and 4.
+const TWO_FIELDS: &[u8] = &[
+    0x13, 0x38, 0x3b, 0x8f, 0x82, 0x82, 0x80, 0, 0, 0, 0, 0x80, 0x84, 4, 0, 0, 0, 0x80, 13, 0, 0, 0,
+];
+
+// The file of two bodies of field 1, and one of field 0.
+const TWO_BODIES_OF_ONE_FIELD: &[u8] = &[
+    0x13, 0x38, 0x3b, 0x8f, 0x40, 0x04, 0xbd, 0x83, 0x80, 1, 0, 0, 0, 0x80, 0x84, 1, 0, 0, 0, 0x81,
+    0x80, 0, 0, 0, 0, 0x80, 0x13, 0, 0, 0,
+];
+
+const NO_FIELDS: &[u8] = &[0x80, 1, 0, 0, 0];
+
+fn field(id: u32) -> Field
+    ensures { result ≡ id }
+{
+    Field::from_field_id(id)
+}
+
+fn put_two_fields<W: TerminatingWrite>(rt: &impl Abort, write: &mut CompositeWrite<W>)
+    requires going { W.ended write.old.writer ≡ false }
+    requires none { write.old.parts ≡ [] }
+    ensures going { W.ended write.new.writer ≡ false }
+{
+    write.for_field(field(0)).expect(rt, "memory");
+    write.write_all(LARGE).expect(rt, "written");
+    write.for_field(field(4)).expect(rt, "memory");
+    write.write_all(TWO).expect(rt, "written");
+}
+
+fn put_two_bodies_of_one_field<W: TerminatingWrite>(rt: &impl Abort, write: &mut CompositeWrite<W>)
+    requires going { W.ended write.old.writer ≡ false }
+    requires none { write.old.parts ≡ [] }
+    ensures going { W.ended write.new.writer ≡ false }
+{
+    write.for_field_with_idx(field(1), 0).expect(rt, "memory");
+    write.write_all(LARGE).expect(rt, "written");
+    write.for_field_with_idx(field(1), 1).expect(rt, "memory");
+    write.for_field_with_idx(field(0), 0).expect(rt, "memory");
+    write.write_all(MILLION).expect(rt, "written");
+}
+
+// Writes the bodies of the fields 0 and 4.
+pub(crate) fn write_two_fields<W: TerminatingWrite + Drop>(
+    rt: &impl Abort,
+    alloc: Global,
+    writer: W,
+)
+    requires going { W.ended writer ≡ false }
+{
+    let mut write = CompositeWrite::wrap(alloc, writer);
+    put_two_fields(rt, &mut write);
+    write.close().1.expect(rt, "closed");
+}
+
+// Writes two bodies of field 1, and one of field 0.
+pub(crate) fn write_two_bodies_of_one_field<W: TerminatingWrite + Drop>(
+    rt: &impl Abort,
+    alloc: Global,
+    writer: W,
+)
+    requires going { W.ended writer ≡ false }
+{
+    let mut write = CompositeWrite::wrap(alloc, writer);
+    put_two_bodies_of_one_field(rt, &mut write);
+    write.close().1.expect(rt, "closed");
+}
+
+// Writes no bodies.
+pub(crate) fn write_no_fields<W: TerminatingWrite + Drop>(rt: &impl Abort, alloc: Global, writer: W)
+    requires going { W.ended writer ≡ false }
+{
+    CompositeWrite::wrap(alloc, writer)
+        .close()
+        .1
+        .expect(rt, "closed");
+}
+
+#[test]
+fn composite_files_are_written(rt: HostRuntime) {
+    let rows = [
+        (Content::TwoFields, TWO_FIELDS),
+        (Content::TwoBodiesOfOneField, TWO_BODIES_OF_ONE_FIELD),
+        (Content::NoFields, NO_FIELDS),
+    ];
+    for (content, want) in rows {
+        assert!(rt; is_written(&rt, rt.alloc(), content, want));
+    }
+}
+
+// A file, an address, and the body that is read there, if there is one.
+type Row<'a> = (&'a [u8], u32, u64, Option<&'a [u8]>);
+
+fn assert_read(rt: &impl Abort, alloc: Global, row: Row<'_>) {
+    let (bytes, id, idx, want) = row;
+    let file = CompositeFile::open(alloc, &file_of(rt, alloc, bytes)).expect(rt, "composite");
+    match (
+        file.open_read_with_idx(field(id), idx).expect(rt, "memory"),
+        want,
+    ) {
+        (Some(body), Some(want)) => {
+            assert_eq!(rt; body.read_bytes().expect(rt, "memory").as_slice(), want)
+        }
+        (None, None) => {}
+        _ => panic!(rt; "field {id} has another body"),
+    }
+}
+
+#[test]
+fn composite_files_are_read(rt: HostRuntime) {
+    let rows: [Row<'_>; 7] = [
+        (TWO_FIELDS, 0, 0, Some(LARGE)),
+        (TWO_FIELDS, 4, 0, Some(TWO)),
+        (TWO_FIELDS, 1, 0, None),
+        (TWO_BODIES_OF_ONE_FIELD, 1, 0, Some(LARGE)),
+        (TWO_BODIES_OF_ONE_FIELD, 1, 1, Some(&[])),
+        (TWO_BODIES_OF_ONE_FIELD, 0, 0, Some(MILLION)),
+        (NO_FIELDS, 0, 0, None),
+    ];
+    for row in rows {
+        assert_read(&rt, rt.alloc(), row);
+    }
+}
+
+// Whether a file of these bytes is refused.
+fn is_refused(rt: &impl Abort, alloc: Global, bytes: &[u8]) -> bool {
+    match CompositeFile::open(alloc, &file_of(rt, alloc, bytes)) {
+        Err(IoError::Fault(fault)) => {
+            fault.kind == IoKind::InvalidData
+                && fault.text.as_str() == "Composite file is not of the stated form."
+        }
+        _ => false,
+    }
+}
+
+#[test]
+fn refused_composite_files(rt: HostRuntime) {
+    let twice: &[u8] = &[
+        0x13, 0x38, 0x3b, 0x8f, 0x82, 0x82, 0x80, 0, 0, 0, 0, 0x80, 0x84, 0, 0, 0, 0, 0x80, 13, 0,
+        0, 0,
+    ];
+    let longer: &[u8] = &[
+        0x13, 0x38, 0x3b, 0x8f, 0x82, 0x02, 0x80, 0x80, 0, 0, 0, 0, 0x80, 0x84, 4, 0, 0, 0, 0x80,
+        14, 0, 0, 0,
+    ];
+    let rows: [&[u8]; 6] = [
+        &TWO_FIELDS[2..],
+        &TWO_FIELDS[..21],
+        twice,
+        longer,
+        &[1, 2, 3],
+        &[],
+    ];
+    for bytes in rows {
+        assert!(rt; is_refused(&rt, rt.alloc(), bytes), "{bytes:?}");
+    }
+}
+
+// The names of five fields.
+fn five_names(rt: &impl Abort, alloc: Global) -> Vec<String> {
+    let mut names = Vec::new(alloc);
+    for name in ["f0", "f1", "f2", "f3", "f4"] {
+        names
+            .push(String::from_str(alloc, name).expect(rt, "memory"))
+            .expect(rt, "memory");
+    }
+    names
+}
+
+// How many bytes the bodies of five fields take.
+fn size_of(rt: &impl Abort, file: &CompositeFile, names: &[String]) -> ByteCount {
+    assert_eq!(rt; names.len(), 5);
+    assert!(rt; file.fields_below(5));
+    file.space_usage(names).expect(rt, "small indexes").total()
+}
+
+#[test]
+fn sizes_of_the_bodies_of_five_fields(rt: HostRuntime) {
+    let bytes = file_of(&rt, rt.alloc(), TWO_FIELDS);
+    let file = CompositeFile::open(rt.alloc(), &bytes).expect(&rt, "composite");
+    let names = five_names(&rt, rt.alloc());
+    assert!(rt; size_of(&rt, &file, names.as_slice()) == ByteCount(5));
+    assert!(rt; file.open_read(field(4)).expect(&rt, "memory").is_some());
+}

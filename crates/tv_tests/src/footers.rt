@@ -1,0 +1,127 @@
+//! The footers of files: their bytes, what is read of them, and what is refused.
+ghost use Rattle.std.specs.Prelude.{◌≡◌, false};
+
+use crate::written::{Content, file_of, is_written};
+use std::alloc::Global;
+use std::process::Abort;
+use tv_base::{IoError, IoKind, TerminatingWrite};
+use tv_checksum::Crc32;
+use tv_framing::{Footer, FooterProxy};
+
+// A footer of 79 bytes of JSON, with the length of that and the number by which footers are known.
+const FOOTER_OF_123: &[u8] =
+    b"{\"version\":{\"major\":0,\"minor\":26,\"patch\":2,\"index_format_version\":7},\"crc\":123}\x4f\0\0\0\x39\x05\0\0";
+
+// Nine bytes and their footer, which has 86 bytes of JSON.
+const NINE_BYTES: &[u8] =
+    b"123456789{\"version\":{\"major\":0,\"minor\":26,\"patch\":2,\"index_format_version\":7},\"crc\":3421780262}\x56\0\0\0\x39\x05\0\0";
+
+// A body, and a footer with blanks, a repeated key, an unknown key and another order: 102 bytes of JSON.
+const OTHER_SPELLING: &[u8] =
+    b"body { \"crc\" : 1, \"crc\":5, \"more\":[], \"version\":{\"patch\":3,\"minor\":2,\"major\":1,\"index_format_version\":8} }\x66\0\0\0\x39\x05\0\0";
+
+// Writes a footer alone.
+pub(crate) fn write_footer<W: TerminatingWrite + Drop>(
+    rt: &impl Abort,
+    alloc: Global,
+    mut writer: W,
+)
+    requires going { W.ended writer ≡ false }
+{
+    Footer::new(123)
+        .append_footer(alloc, &mut writer)
+        .expect(rt, "written");
+    writer.terminate().expect(rt, "ended");
+}
+
+// Writes nine bytes in two pieces, and a footer with their checksum.
+pub(crate) fn write_nine_bytes<W: TerminatingWrite + Drop>(
+    rt: &impl Abort,
+    alloc: Global,
+    writer: W,
+)
+    requires going { W.ended writer ≡ false }
+{
+    let mut proxy = FooterProxy::<W, Crc32>::new(alloc, writer);
+    proxy.write_all(b"1234").expect(rt, "written");
+    proxy.write_all(b"56789").expect(rt, "written");
+    proxy.flush().expect(rt, "flushed");
+    proxy.terminate().expect(rt, "ended");
+}
+
+#[test]
+fn footers_are_written(rt: HostRuntime) {
+    let rows = [
+        (Content::Footer, FOOTER_OF_123),
+        (Content::NineBytes, NINE_BYTES),
+    ];
+    for (content, want) in rows {
+        assert!(rt; is_written(&rt, rt.alloc(), content, want));
+    }
+}
+
+// What is read of a file: its body, the checksum, and whether its format is good.
+type Row<'a> = (&'a [u8], &'a [u8], u32, bool);
+
+fn assert_read(rt: &impl Abort, alloc: Global, row: Row<'_>) {
+    let (bytes, want, crc, is_compatible) = row;
+    let file = file_of(rt, alloc, bytes);
+    let (footer, body) = Footer::extract_footer(alloc, file).expect(rt, "a footer");
+    assert_eq!(rt; footer.crc(), crc);
+    assert_eq!(rt; footer.is_compatible().is_ok(), is_compatible);
+    assert_eq!(rt; body.read_bytes().expect(rt, "memory").as_slice(), want);
+}
+
+#[test]
+fn footers_are_read(rt: HostRuntime) {
+    let rows: [Row<'_>; 3] = [
+        (FOOTER_OF_123, b"", 123, true),
+        (NINE_BYTES, b"123456789", 3_421_780_262, true),
+        (OTHER_SPELLING, b"body", 5, false),
+    ];
+    for row in rows {
+        assert_read(&rt, rt.alloc(), row);
+    }
+}
+
+// Whether a file of these bytes is refused in this way.
+fn is_refused(rt: &impl Abort, alloc: Global, bytes: &[u8], kind: IoKind, text: &str) -> bool {
+    match Footer::extract_footer(alloc, file_of(rt, alloc, bytes)) {
+        Err(IoError::Fault(fault)) => fault.kind == kind && fault.text.as_str() == text,
+        _ => false,
+    }
+}
+
+#[test]
+fn refused_footers(rt: HostRuntime) {
+    let rows: [(&[u8], IoKind, &str); 5] = [
+        (
+            &[0, 0, 0, 0, 0x39, 0x05, 0],
+            IoKind::UnexpectedEof,
+            "File corrupted. The file is smaller than 8 bytes (len=7).",
+        ),
+        (
+            &[0, 0, 0, 0, 0xb3, 0x15, 0, 0],
+            IoKind::InvalidData,
+            "Footer magic byte mismatch. File corrupted or index was created using old an tantivy version which is not supported anymore. Please use tantivy 0.15 or above to recreate the index.",
+        ),
+        (
+            &[0x64, 0, 0, 0, 0x39, 0x05, 0, 0],
+            IoKind::UnexpectedEof,
+            "File corrupted. The file is smaller than it's footer bytes (len=108).",
+        ),
+        (
+            &[0x51, 0xc3, 0, 0, 0x39, 0x05, 0, 0],
+            IoKind::InvalidData,
+            "Footer seems invalid as it suggests a footer len of 50001. File is corrupted, or the index was created with a different & old version of tantivy.",
+        ),
+        (
+            &[b'{', b'}', 2, 0, 0, 0, 0x39, 0x05, 0, 0],
+            IoKind::InvalidData,
+            "Footer is not of the stated form.",
+        ),
+    ];
+    for (bytes, kind, text) in rows {
+        assert!(rt; is_refused(&rt, rt.alloc(), bytes, kind, text), "{text}");
+    }
+}

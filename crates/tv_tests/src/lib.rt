@@ -1,0 +1,40 @@
+//! Tests of what no clause says: values from outside, printed texts, threads, and that each call succeeds where
+//! there is memory.
+#![tactic(auto)]
+
+#[cfg(test)]
+mod base;
+#[cfg(test)]
+mod bench;
+#[cfg(test)]
+mod checksum;
+#[cfg(test)]
+mod collections;
+#[cfg(test)]
+mod composites;
+#[cfg(test)]
+mod error_texts;
+#[cfg(test)]
+mod footers;
+#[cfg(test)]
+mod future_results;
+#[cfg(test)]
+mod inventory;
+#[cfg(test)]
+mod managed;
+#[cfg(test)]
+mod model;
+#[cfg(test)]
+mod printing;
+#[cfg(test)]
+mod ram;
+#[cfg(test)]
+mod sealed_files;
+#[cfg(test)]
+mod usages;
+#[cfg(test)]
+mod watches;
+#[cfg(test)]
+mod writers;
+#[cfg(test)]
+mod written;

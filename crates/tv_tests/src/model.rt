@@ -1,0 +1,75 @@
+//! Ids, and the names of a segment's files.
+use crate::printing::{debugs, prints};
+use std::alloc::Global;
+use std::process::Abort;
+use tv_model::{DeleteMeta, IdList, Memory, SegmentComponent, SegmentId, laws, segment_file_name};
+
+// More ids than the longest line of a script can name.
+const MANY: u64 = 31_775;
+
+const BYTES: [u8; 16] = [
+    0xa5, 0xc4, 0xdf, 0xcb, 0xdf, 0xe6, 0x45, 0x08, 0x91, 0x29, 0xe3, 0x08, 0xe2, 0x6d, 0x55, 0x23,
+];
+
+fn id() -> SegmentId {
+    SegmentId::from_bytes(BYTES)
+}
+
+// Looks whether there was memory for a text, and it is this one.
+fn is_text<R: Abort>(rt: &R, text: Result<String, Memory>, want: &str) {
+    assert_eq!(rt; text.expect(rt, "memory").as_str(), want);
+}
+
+#[test]
+fn an_id_is_printed(rt: HostRuntime) {
+    let a = rt.alloc();
+    prints(&rt, a, id(), "Seg(\"a5c4dfcb\")");
+    debugs(&rt, a, id(), "Seg(\"a5c4dfcb\")");
+    is_text(&rt, id().uuid_string(a), "a5c4dfcbdfe645089129e308e26d5523");
+    is_text(
+        &rt,
+        id().hyphenated_string(a),
+        "a5c4dfcb-dfe6-4508-9129-e308e26d5523",
+    );
+}
+
+#[test]
+fn a_file_is_named_after_its_segment(rt: HostRuntime) {
+    let deletes = DeleteMeta {
+        num_deleted_docs: 2,
+        opstamp: 7,
+    };
+    let made = segment_file_name(rt.alloc(), id(), Some(deletes), SegmentComponent::Delete);
+    let name = made.expect(&rt, "memory");
+    assert_eq!(rt; name.as_str(), "a5c4dfcbdfe645089129e308e26d5523.7.del");
+}
+
+// That many ids, the number of each in its last bytes, highest first.
+fn ids<R: Abort>(rt: &R, alloc: Global, count: u64) -> Vec<SegmentId> {
+    let mut ids = Vec::new(alloc);
+    for number in (0..count).rev() {
+        let id = u128::from(number).to_be_bytes();
+        ids.push(SegmentId::from_bytes(id)).expect(rt, "memory");
+    }
+    ids
+}
+
+#[test]
+fn many_ids_are_told_apart(rt: HostRuntime) {
+    let mut list = ids(&rt, rt.alloc(), MANY);
+    list.push(id()).expect(&rt, "memory");
+    assert!(rt; IdList::new(list).is_some());
+    let mut list = ids(&rt, rt.alloc(), MANY);
+    list.push(SegmentId::from_bytes([0; 16]))
+        .expect(&rt, "memory");
+    assert!(rt; IdList::new(list).is_none());
+}
+
+#[test]
+fn laws_are_called() {
+    laws::searchers_keep_their_commit();
+    laws::collections_take_what_nothing_needs();
+    laws::lines_tell_outcomes();
+    laws::reports_determine_runs();
+    laws::files_keep_their_body();
+}
