@@ -1,0 +1,14 @@
+//! Tests of what no run of the program shows: places in memory, a store that is used by itself, and the
+//! tally of a replay.
+#![tactic(auto)]
+
+#[cfg(test)]
+mod fixtures;
+#[cfg(test)]
+mod places;
+#[cfg(test)]
+mod replays;
+#[cfg(test)]
+mod runs;
+#[cfg(test)]
+mod stores;
