@@ -12,7 +12,7 @@ use std::process::ExitCode;
 use std::{env, io};
 use tv_directory::{Bench, NoWatch};
 use tv_model::Memory;
-use tv_replay::{BenchPlace, Place, run};
+use tv_replay::{BenchPlace, run};
 
 // The path of the schema that the place in memory has.
 const SCHEMA_PATH: &str = "S";
@@ -36,7 +36,7 @@ struct Outcome {
 
 // An empty directory in memory, and the schema of a text field.
 fn place(alloc: Global) -> Result<BenchPlace<Bench<NoWatch>>, Memory>
-    ensures { IfOk result (λ place. ⟦<BenchPlace<Bench<NoWatch>> as Place>⟧.lent place ≡ None) }
+    ensures { IfOk result (λ place. place.lent ≡ None) }
 {
     let mut schemas = Vec::new(alloc);
     schemas.push((

@@ -25,9 +25,7 @@ impl<R: io::Read + Drop> Stdin<R> {
 }
 
 impl<R: io::Read + Drop> Source for Stdin<R> {
-    ghost left = { λ _. None };
-
-    ghost faults = { λ s. s.faults };
+    ghost view = { λ s. record { left = None; faults = s.faults } };
 
     fn read(&mut self, into: &mut [u8]) -> Result<usize, IoFault> {
         match read_uninterrupted(&mut self.reader, into) {

@@ -1,5 +1,5 @@
 -- Why a call is refused.
-use Rattle.std.specs.Prelude.{◌≡◌}
+use Rattle.std.specs.Prelude.{◌≡◌, ℕ, List, string_bytes}
 use Rattle.tv_base.specs.declared.io.IoKind.TheVariants.{Device}
 use Rattle.tv_base.specs.declared.io.IoFault.{IoFault}
 use Rattle.tv_base.specs.declared.io.IoError.{IoError}
@@ -20,22 +20,22 @@ abbrev pub IoCause : (refused quiet : Type 0) → IoError → Type 0
 IoCause refused quiet (io.Fault fault) = IsDevice fault × refused
 IoCause refused quiet io.Memory = quiet
 
--- the same of a call that reads: `absent` where there is no such file
-abbrev pub OpenReadCause : (absent refused quiet : Type 0) → OpenReadError → Type 0
-OpenReadCause absent refused quiet (read.FileDoesNotExist path) = absent
-OpenReadCause absent refused quiet (read.IoError fault path) = IsDevice fault × refused
-OpenReadCause absent refused quiet (read.IncompatibleIndex why) = ⊥
-OpenReadCause absent refused quiet read.Memory = quiet
+-- the same of a call that reads the file of this name: `absent` where there is none; the error names the file
+abbrev pub OpenReadCause : (name : List ℕ) (absent refused quiet : Type 0) → OpenReadError → Type 0
+OpenReadCause name absent refused quiet (read.FileDoesNotExist path) = (string_bytes path ≡ name) × absent
+OpenReadCause name absent refused quiet (read.IoError fault path) = (string_bytes path ≡ name) × IsDevice fault × refused
+OpenReadCause name absent refused quiet (read.IncompatibleIndex why) = ⊥
+OpenReadCause name absent refused quiet read.Memory = quiet
 
--- the same of a call that makes a file: `there` where it is there
-abbrev pub OpenWriteCause : (there refused quiet : Type 0) → OpenWriteError → Type 0
-OpenWriteCause there refused quiet (write.FileAlreadyExists path) = there
-OpenWriteCause there refused quiet (write.Leaving path) = ⊥
-OpenWriteCause there refused quiet (write.IoError fault path) = IsDevice fault × refused
-OpenWriteCause there refused quiet write.Memory = quiet
+-- the same of a call that makes it: `there` where it is there
+abbrev pub OpenWriteCause : (name : List ℕ) (there refused quiet : Type 0) → OpenWriteError → Type 0
+OpenWriteCause name there refused quiet (write.FileAlreadyExists path) = (string_bytes path ≡ name) × there
+OpenWriteCause name there refused quiet (write.Leaving path) = ⊥
+OpenWriteCause name there refused quiet (write.IoError fault path) = (string_bytes path ≡ name) × IsDevice fault × refused
+OpenWriteCause name there refused quiet write.Memory = quiet
 
--- the same of a call that deletes a file: `absent` where there is no such file
-abbrev pub DeleteCause : (absent refused quiet : Type 0) → DeleteError → Type 0
-DeleteCause absent refused quiet (delete.FileDoesNotExist path) = absent
-DeleteCause absent refused quiet (delete.IoError fault path) = IsDevice fault × refused
-DeleteCause absent refused quiet delete.Memory = quiet
+-- the same of a call that deletes it: `absent` where there is none
+abbrev pub DeleteCause : (name : List ℕ) (absent refused quiet : Type 0) → DeleteError → Type 0
+DeleteCause name absent refused quiet (delete.FileDoesNotExist path) = (string_bytes path ≡ name) × absent
+DeleteCause name absent refused quiet (delete.IoError fault path) = (string_bytes path ≡ name) × IsDevice fault × refused
+DeleteCause name absent refused quiet delete.Memory = quiet

@@ -1,5 +1,18 @@
 -- Bytes that come in pieces.
-use Rattle.std.specs.Prelude.{ℕ, ◌≡◌, List, [], ◌++◌, Option, Some}
+use Rattle.std.specs.Prelude.{ℕ, ◌≡◌, List, [], ◌++◌, Option, Some, Result, IfErr, OnOk}
+use Rattle.tv_model.specs.Files.{Rose}
+use Rattle.tv_base.specs.Causes.{IsDevice}
+use Rattle.tv_base.specs.declared.io.IoFault.{IoFault}
+
+-- what is told of a source: the bytes that are still to come, where it tells them, and how many reads were refused
+pub record SourceView : Type 0 where
+  pub left : Option (List ℕ)
+  pub faults : ℕ
+
+-- A read fails where the device refused it, and the count rose; else the count stands still.
+pub record SourceFaults {A : Type 0} (old new : SourceView) (result : Result A IoFault) : Type 0 where
+  pub quiet : OnOk result (new.faults ≡ old.faults)
+  pub cause : IfErr result (λ fault. IsDevice fault × Rose old.faults new.faults)
 
 -- the piece came off the front of what was left, where that is told
 abbrev pub Reads : List ℕ → Option (List ℕ) → Option (List ℕ) → Type 0

@@ -1,7 +1,7 @@
 //! A result that may come later.
 ghost use Rattle.std.specs.Prelude.{◌≡◌, Some, None, false, IfOk, IfErr, IfSome};
 ghost use Rattle.futures.specs.Poll.{OnPending};
-ghost use Rattle.futures.specs.Task.{Keeps};
+ghost use Rattle.futures.specs.Task.{IsArmed, Keeps};
 
 use crate::error::TantivyError;
 use crossbeam_utils::Backoff;
@@ -57,7 +57,8 @@ impl<T: Drop> FutureResult<T> {
     /// A result that is sent later. Where its sender is dropped before, it is the error `SystemError`
     /// with this message.
     pub fn create(alloc: Global, msg: &'static str) -> Result<(FutureResult<T>, Sender<T>), Memory>
-        ensures waiting { IfOk result (λ ends. ends.0 ≡ record { finished = None; answered = false }) }
+        ensures waiting { IfOk result
+            (λ ends. ends.0 ≡ record { finished = None; answered = false }) }
     {
         let message = String::from_str(alloc, msg)?;
         let (sender, receiver) = oneshot::channel(alloc)?;
@@ -90,7 +91,8 @@ impl<T: Drop> FutureResult<T> {
     pub fn poll(&mut self, cx: &mut Context<'_>) -> Poll<Result<T, TantivyError>>
         requires unanswered { self.old.answered ≡ false }
         ensures answer { IfSome self.old.finished (λ answer. result ≡ Poll.Ready answer) }
-        ensures again { OnPending result (self.new.answered ≡ false) }
+        ensures registered { OnPending result (IsArmed cx.new) }
+        ensures again { OnPending result (self.new ≡ self.old) }
         ensures kept { Keeps cx.old cx.new }
     {
         match mem::replace(&mut self.state, State::Answered) {

@@ -1,28 +1,23 @@
 //! Where a script comes from.
-ghost use Rattle.std.specs.Prelude.{◌≡◌, ◌≤◌, ◌<◌, ◌↔◌, List, ℕ, Option, Some, true, length, take, min, IfOk, OnOk, IfErr, OnErr, IsErr};
-ghost use Rattle.tv_base.specs.Streams.{Reads, IsAtEnd};
+ghost use Rattle.std.specs.Prelude.{◌≡◌, ◌≤◌, ◌<◌, ◌↔◌, Some, true, length, take, min, IfOk, IfErr, OnErr, IsErr};
+ghost use Rattle.tv_base.specs.Streams.{Reads, IsAtEnd, SourceView, SourceFaults};
 ghost use Rattle.tv_base.specs.Causes.{IsDevice};
 ghost use Rattle.tv_base.specs.Texts.{is_refused, after_refusal, after_read};
-ghost use Rattle.tv_model.specs.Files.{Rose};
 
 use crate::io::{IoFault, IoKind};
 use std::marker::Model;
 
 /// Where bytes come from.
 pub trait Source {
-    /// The bytes that are still to come, where the source tells them.
-    ghost left: { Self → Option (List ℕ) };
-
-    /// How many reads were refused.
-    ghost faults: { Self → ℕ };
+    /// What is told of the source.
+    ghost view: { Self → SourceView };
 
     /// Reads into the front of `into`, and answers how many bytes came. None come only at the end.
     fn read(&mut self, into: &mut [u8]) -> Result<usize, IoFault>
         ensures count { IfOk result (λ n. n ≤ length into.old) }
-        ensures bytes { IfOk result (λ n. Reads (take n into.new) (left self.old) (left self.new)) }
-        ensures end { IfOk result (λ n. n ≡ 0 → 0 < length into.old → IsAtEnd (left self.old)) }
-        ensures quiet { OnOk result (faults self.new ≡ faults self.old) }
-        ensures cause { IfErr result (λ fault. IsDevice fault × Rose (faults self.old) (faults self.new)) };
+        ensures bytes { IfOk result (λ n. Reads (take n into.new) (view self.old).left (view self.new).left) }
+        ensures end { IfOk result (λ n. n ≡ 0 → 0 < length into.old → IsAtEnd (view self.old).left) }
+        ensures faults { SourceFaults (view self.old) (view self.new) result };
 }
 
 /// A text in memory, some of whose reads are refused.
@@ -52,10 +47,7 @@ impl Model for TextSource {
 impl TextSource {
     /// All of a text. Refused are exactly the calls whose numbers are in `fail_at`.
     pub fn new(bytes: Vec<u8>, fail_at: Vec<u64>) -> TextSource
-        ensures left { ⟦<TextSource as Source>⟧.left result ≡ Some bytes.items }
-        ensures faults { ⟦<TextSource as Source>⟧.faults result ≡ 0 }
-        ensures fail_at { result.fail_at ≡ fail_at.items }
-        ensures call { result.call ≡ 0 }
+        ensures { result ≡ record { left = bytes.items; fail_at = fail_at.items; call = 0; faults = 0 } }
     {
         TextSource {
             bytes,
@@ -68,28 +60,22 @@ impl TextSource {
 
     /// How many reads were refused.
     pub fn faults(&self) -> u64
-        ensures { result ≡ ⟦<TextSource as Source>⟧.faults self.now }
+        ensures { result ≡ self.now.faults }
     {
         self.faults
     }
 }
 
 impl Source for TextSource {
-    ghost left = { λ s. Some s.left };
-
-    ghost faults = { λ s. s.faults };
+    ghost view = { λ s. record { left = Some s.left; faults = s.faults } };
 
     fn read(&mut self, into: &mut [u8]) -> Result<usize, IoFault>
-        ensures count { IfOk result (λ n. n ≤ length into.old) }
-        ensures bytes { IfOk result (λ n. Reads (take n into.new) (Some self.old.left) (Some self.new.left)) }
-        ensures end { IfOk result (λ n. n ≡ 0 → 0 < length into.old → IsAtEnd (Some self.old.left)) }
-        ensures quiet { OnOk result (self.new.faults ≡ self.old.faults) }
-        ensures cause { IfErr result (λ fault. IsDevice fault × Rose self.old.faults self.new.faults) }
-        ensures refused { IsErr result ↔ (is_refused self.old ≡ true) }
-        ensures failed { OnErr result (self.new ≡ after_refusal self.old) }
         ensures size { IfOk result (λ n. n ≡ min (length into.old) (length self.old.left)) }
         ensures piece { IfOk result (λ n. take n into.new ≡ take n self.old.left) }
         ensures took { IfOk result (λ n. self.new ≡ after_read n self.old) }
+        ensures refused { IsErr result ↔ (is_refused self.old ≡ true) }
+        ensures device { IfErr result IsDevice }
+        ensures failed { OnErr result (self.new ≡ after_refusal self.old) }
     {
         let number = self.call;
         self.call = number.saturating_add(1);

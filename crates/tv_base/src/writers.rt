@@ -1,7 +1,6 @@
 //! What files are written with.
-ghost use Rattle.std.specs.Prelude.{◌≡◌, ◌+◌, ◌++◌, List, ℕ, Bool, true, false, length, min, IfErr, OnOk, OnErr};
-ghost use Rattle.tv_base.specs.Causes.{IoCause};
-ghost use Rattle.tv_model.specs.Files.{Rose};
+ghost use Rattle.std.specs.Prelude.{◌≡◌, ◌+◌, List, ℕ, false, length, min, OnOk, OnErr};
+ghost use Rattle.tv_base.specs.Writers.{WriterView, TakesAll, TakesNone, WriteFaults, Ends};
 
 use crate::io::IoError;
 use std::marker::Model;
@@ -11,49 +10,43 @@ use std::marker::Model;
 /// A device may refuse any call. It then answers a fault of kind `Device`, and a count rises. No call
 /// follows a refused one, or the end.
 pub trait TerminatingWrite {
-    /// The bytes that were taken.
-    ghost taken: { Self → List ℕ };
-
-    /// How many calls the device has refused.
-    ghost faults: { Self → ℕ };
-
-    /// No further call may be made: the end was told, or a call was refused.
-    ghost ended: { Self → Bool };
+    /// What is told of the writer.
+    ghost view: { Self → WriterView };
 
     /// Whether what was taken is still told after the end.
     ghost keeps: { Type 0 };
 
+    /// What every call leaves of the outside that is written to: before and after.
+    ghost stays: { Self → Self → Type 0 };
+
+    /// What stands after a flush of all that was taken: before and after.
+    ghost flushed: { Self → Self → Type 0 };
+
+    /// What stands after the end, where all bytes that were taken are these: before and after.
+    ghost sealed: { Self → Self → List ℕ → Type 0 };
+
     /// Takes all of these bytes. Where memory is wanted, none of them is taken; how many a refused call
     /// has taken isn't said.
     fn write_all(&mut self, bytes: &[u8]) -> Result<(), IoError>
-        requires going { ended self.old ≡ false }
-        ensures ok { OnOk result (taken self.new ≡ taken self.old ++ bytes.now) }
-        ensures memory { IfErr result (IoCause (Unit {0}) (taken self.new ≡ taken self.old)) }
-        ensures going { OnOk result (ended self.new ≡ false) }
-        ensures again { IfErr result (IoCause (Unit {0}) (ended self.new ≡ false)) }
-        ensures over { IfErr result (IoCause (ended self.new ≡ true) (Unit {0})) }
-        ensures quiet { OnOk result (faults self.new ≡ faults self.old) }
-        ensures cause { IfErr result (IoCause (Rose (faults self.old) (faults self.new)) (faults self.new ≡ faults self.old)) };
+        requires going { (view self.old).ended ≡ false }
+        ensures takes { TakesAll (view self.old) (view self.new) bytes.now result }
+        ensures faults { WriteFaults (view self.old) (view self.new) result }
+        ensures stays { stays self.old self.new };
 
     /// Hands the bytes that were taken on to the device.
     fn flush(&mut self) -> Result<(), IoError>
-        requires going { ended self.old ≡ false }
-        ensures ok { OnOk result (taken self.new ≡ taken self.old) }
-        ensures memory { IfErr result (IoCause (Unit {0}) (taken self.new ≡ taken self.old)) }
-        ensures going { OnOk result (ended self.new ≡ false) }
-        ensures again { IfErr result (IoCause (Unit {0}) (ended self.new ≡ false)) }
-        ensures over { IfErr result (IoCause (ended self.new ≡ true) (Unit {0})) }
-        ensures quiet { OnOk result (faults self.new ≡ faults self.old) }
-        ensures cause { IfErr result (IoCause (Rose (faults self.old) (faults self.new)) (faults self.new ≡ faults self.old)) };
+        requires going { (view self.old).ended ≡ false }
+        ensures takes { TakesNone (view self.old) (view self.new) result }
+        ensures flushed { OnOk result (flushed self.old self.new) }
+        ensures faults { WriteFaults (view self.old) (view self.new) result }
+        ensures stays { stays self.old self.new };
 
     /// Tells the end. It is the last call, whatever it answers.
     fn terminate(&mut self) -> Result<(), IoError>
-        requires going { ended self.old ≡ false }
-        ensures ended { ended self.new ≡ true }
-        ensures ok { keeps → OnOk result (taken self.new ≡ taken self.old) }
-        ensures memory { keeps → IfErr result (IoCause (Unit {0}) (taken self.new ≡ taken self.old)) }
-        ensures quiet { OnOk result (faults self.new ≡ faults self.old) }
-        ensures cause { IfErr result (IoCause (Rose (faults self.old) (faults self.new)) (faults self.new ≡ faults self.old)) };
+        requires going { (view self.old).ended ≡ false }
+        ensures ends { Ends keeps (view self.old) (view self.new) result }
+        ensures sealed { OnOk result (sealed self.old self.new (view self.old).taken) }
+        ensures stays { stays self.old self.new };
 }
 
 /// A writer that counts the bytes which go through it.
@@ -74,7 +67,7 @@ impl<W> Model for CountingWriter<W> {
 impl<W: TerminatingWrite> CountingWriter<W> {
     /// Counts what is written to this writer from now on. Takes no memory.
     pub fn wrap(w: W) -> CountingWriter<W>
-        requires going { W.ended w ≡ false }
+        requires going { (W.view w).ended ≡ false }
         ensures writer { result.writer ≡ w }
         ensures none { result.written ≡ 0 }
     {
@@ -100,24 +93,24 @@ impl<W: TerminatingWrite> CountingWriter<W> {
 }
 
 impl<W: TerminatingWrite> TerminatingWrite for CountingWriter<W> {
-    ghost taken = { λ c. W.taken c.writer };
-
-    ghost faults = { λ c. W.faults c.writer };
-
-    ghost ended = { λ c. W.ended c.writer };
+    ghost view = { λ c. W.view c.writer };
 
     ghost keeps = { W.keeps };
 
+    ghost stays = { λ old new. W.stays old.writer new.writer };
+
+    ghost flushed = { λ old new. W.flushed old.writer new.writer };
+
+    ghost sealed = { λ old new bytes. W.sealed old.writer new.writer bytes };
+
     fn write_all(&mut self, bytes: &[u8]) -> Result<(), IoError>
-        requires going { W.ended self.old.writer ≡ false }
-        ensures ok { OnOk result (W.taken self.new.writer ≡ W.taken self.old.writer ++ bytes.now) }
-        ensures memory { IfErr result (IoCause (Unit {0}) (W.taken self.new.writer ≡ W.taken self.old.writer)) }
-        ensures going { OnOk result (W.ended self.new.writer ≡ false) }
-        ensures again { IfErr result (IoCause (Unit {0}) (W.ended self.new.writer ≡ false)) }
-        ensures over { IfErr result (IoCause (W.ended self.new.writer ≡ true) (Unit {0})) }
-        ensures quiet { OnOk result (W.faults self.new.writer ≡ W.faults self.old.writer) }
-        ensures cause { IfErr result (IoCause (Rose (W.faults self.old.writer) (W.faults self.new.writer)) (W.faults self.new.writer ≡ W.faults self.old.writer)) }
-        ensures counted { OnOk result (self.new.written ≡ min (self.old.written + length bytes.now) 18446744073709551615) }
+        requires going { (W.view self.old.writer).ended ≡ false }
+        ensures takes { TakesAll (W.view self.old.writer) (W.view self.new.writer)
+            bytes.now result }
+        ensures faults { WriteFaults (W.view self.old.writer) (W.view self.new.writer) result }
+        ensures stays { W.stays self.old.writer self.new.writer }
+        ensures counted { OnOk result
+            (self.new.written ≡ min (self.old.written + length bytes.now) 18446744073709551615) }
         ensures kept { OnErr result (self.new.written ≡ self.old.written) }
     {
         self.writer.write_all(bytes)?;
@@ -126,26 +119,22 @@ impl<W: TerminatingWrite> TerminatingWrite for CountingWriter<W> {
     }
 
     fn flush(&mut self) -> Result<(), IoError>
-        requires going { W.ended self.old.writer ≡ false }
-        ensures ok { OnOk result (W.taken self.new.writer ≡ W.taken self.old.writer) }
-        ensures memory { IfErr result (IoCause (Unit {0}) (W.taken self.new.writer ≡ W.taken self.old.writer)) }
-        ensures going { OnOk result (W.ended self.new.writer ≡ false) }
-        ensures again { IfErr result (IoCause (Unit {0}) (W.ended self.new.writer ≡ false)) }
-        ensures over { IfErr result (IoCause (W.ended self.new.writer ≡ true) (Unit {0})) }
-        ensures quiet { OnOk result (W.faults self.new.writer ≡ W.faults self.old.writer) }
-        ensures cause { IfErr result (IoCause (Rose (W.faults self.old.writer) (W.faults self.new.writer)) (W.faults self.new.writer ≡ W.faults self.old.writer)) }
+        requires going { (W.view self.old.writer).ended ≡ false }
+        ensures takes { TakesNone (W.view self.old.writer) (W.view self.new.writer) result }
+        ensures flushed { OnOk result (W.flushed self.old.writer self.new.writer) }
+        ensures faults { WriteFaults (W.view self.old.writer) (W.view self.new.writer) result }
+        ensures stays { W.stays self.old.writer self.new.writer }
         ensures kept { self.new.written ≡ self.old.written }
     {
         self.writer.flush()
     }
 
     fn terminate(&mut self) -> Result<(), IoError>
-        requires going { W.ended self.old.writer ≡ false }
-        ensures ended { W.ended self.new.writer ≡ true }
-        ensures ok { W.keeps → OnOk result (W.taken self.new.writer ≡ W.taken self.old.writer) }
-        ensures memory { W.keeps → IfErr result (IoCause (Unit {0}) (W.taken self.new.writer ≡ W.taken self.old.writer)) }
-        ensures quiet { OnOk result (W.faults self.new.writer ≡ W.faults self.old.writer) }
-        ensures cause { IfErr result (IoCause (Rose (W.faults self.old.writer) (W.faults self.new.writer)) (W.faults self.new.writer ≡ W.faults self.old.writer)) }
+        requires going { (W.view self.old.writer).ended ≡ false }
+        ensures ends { Ends W.keeps (W.view self.old.writer) (W.view self.new.writer) result }
+        ensures sealed { OnOk result
+            (W.sealed self.old.writer self.new.writer (W.view self.old.writer).taken) }
+        ensures stays { W.stays self.old.writer self.new.writer }
         ensures kept { self.new.written ≡ self.old.written }
     {
         self.writer.terminate()

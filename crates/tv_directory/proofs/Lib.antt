@@ -3,3 +3,4 @@ pub mod LockNames
 pub mod CopiedFiles
 pub mod WatchLists
 pub mod PersistedFiles
+pub mod Views

@@ -1,18 +1,20 @@
 -- Files that are written to another directory, one after the other.
-use Rattle.std.proofs.Common.{◌≡◌, ◌≢◌, ℕ, Bool, true, false, cond, List, [], ◌∷◌, ◌++◌, Option, Some, None, IsSome, refl, sym, ap, ◌∙◌, append_assoc}
+use Rattle.std.proofs.Common.{◌≡◌, ◌≢◌, ℕ, Bool, true, false, cond, List, [], ◌∷◌, ◌++◌, Option, Some, None, IsSome, refl, sym, ap, subst, ◌∙◌, append_assoc}
 use Rattle.std.specs.BTreeMap.{is_at}
 use Rattle.tv_model.specs.Names.{byte_cmp}
 use Rattle.tv_model.specs.State.{at}
-use Rattle.tv_model.specs.Files.{Reads, Sets}
-use Rattle.tv_directory.specs.Persisting.{Persists}
+use Rattle.tv_model.specs.Files.{Reads, Sets, Rose}
+use Rattle.tv_base.specs.declared.error.TantivyError.{TantivyError}
+use Rattle.tv_directory.specs.View.{View, Told}
+use Rattle.tv_directory.specs.Persisting.{Persists, PersistCause, Refuses, StopsAt}
 use Rattle.tv_directory.proofs.StoredFiles.{same_or, isnt_at}
 use Rattle.tv_model.proofs.Entries.{at_itself, same_at}
 
 -- some files are still to be written
-pub record PersistsRest (all rest : List (List ℕ × List ℕ)) (old new : Reads) : Type 0 where
+pub record PersistsRest (told : Type 0) (all rest : List (List ℕ × List ℕ)) (old new : Reads) : Type 0 where
   pub before : List (List ℕ × List ℕ)
   pub split : all ≡ before ++ rest
-  pub persisted : Persists before old new
+  pub persisted : told → Persists before old new
 
 some_isnt_none : {X : Type 0} (o : Option X) → IsSome o → o ≡ None → ⊥
 some_isnt_none None some none = absurd cc
@@ -62,33 +64,51 @@ found_or {P} before n found none =
 some_value : (o : Option (List ℕ)) (x y : List ℕ) → o ≡ Some x → o ≡ Some y → x ≡ y
 some_value o x y a b = cc
 
-pub rest_next : (all rest others : List (List ℕ × List ℕ)) (old mid new : Reads) (name bytes : List ℕ) → PersistsRest all rest old mid → rest ≡ (name, bytes) ∷ others → mid name ≡ None → Sets mid new name (Some bytes) → PersistsRest all others old new
-rest_next all rest others old mid new name bytes r first absent set =
+-- one more file was written
+persists_one : (before : List (List ℕ × List ℕ)) (old mid new : Reads) (name bytes : List ℕ) → Persists before old mid → mid name ≡ None → Sets mid new name (Some bytes) → Persists (before ++ (name, bytes) ∷ []) old new
+persists_one before old mid new name bytes p absent set =
     let e : List ℕ × List ℕ = (name, bytes) in
-    let before = r.before in
-    let p = r.persisted in
     let new_here : at before name ≡ None = found_or before name (λ x f. absurd (some_isnt_none (mid name) (some_is (mid name) x (p.written name x f)) absent)) (λ none. none) in
     record {
-      before = before ++ e ∷ [];
-      split = r.split ∙ ap (λ (l : List (List ℕ × List ℕ)). before ++ l) first ∙ sym (append_assoc before (e ∷ []) others);
-      persisted = record {
-        absent = λ n some.
-            found_or before n
-            (λ x f. p.absent n (some_is (at before n) x f))
-            (λ none. same_or name n
-            (λ same. ap old same ∙ sym (p.others name new_here) ∙ absent)
-            (λ other. absurd (some_isnt_none (at (before ++ e ∷ []) n) some ((is_last before e n none).other other))));
-        written = λ n x is.
-            found_or before n
-            (λ y f. set.others n (λ same. some_isnt_none (at before n) (some_is (at before n) y f) (ap (at before) same ∙ new_here)) ∙ p.written n y f ∙ ap Some (some_value (at (before ++ e ∷ []) n) y x (found_before before e n y f) is))
-            (λ none. same_or name n
-            (λ same. ap new same ∙ set.changed ∙ sym ((is_last before e n none).same same) ∙ is)
-            (λ other. absurd (some_isnt_none (at (before ++ e ∷ []) n) (some_is (at (before ++ e ∷ []) n) x is) ((is_last before e n none).other other))));
-        others = λ n none.
-            found_or before n
-            (λ y f. absurd (some_isnt_none (at (before ++ e ∷ []) n) (some_is (at (before ++ e ∷ []) n) y (found_before before e n y f)) none))
-            (λ no. same_or name n
-            (λ same. absurd (some_isnt_none (at (before ++ e ∷ []) n) (some_is (at (before ++ e ∷ []) n) bytes ((is_last before e n no).same same)) none))
-            (λ other. set.others n other ∙ p.others n no));
-      };
+      absent = λ n some.
+          found_or before n
+          (λ x f. p.absent n (some_is (at before n) x f))
+          (λ none. same_or name n
+          (λ same. ap old same ∙ sym (p.others name new_here) ∙ absent)
+          (λ other. absurd (some_isnt_none (at (before ++ e ∷ []) n) some ((is_last before e n none).other other))));
+      written = λ n x is.
+          found_or before n
+          (λ y f. set.others n (λ same. some_isnt_none (at before n) (some_is (at before n) y f) (ap (at before) same ∙ new_here)) ∙ p.written n y f ∙ ap Some (some_value (at (before ++ e ∷ []) n) y x (found_before before e n y f) is))
+          (λ none. same_or name n
+          (λ same. ap new same ∙ set.changed ∙ sym ((is_last before e n none).same same) ∙ is)
+          (λ other. absurd (some_isnt_none (at (before ++ e ∷ []) n) (some_is (at (before ++ e ∷ []) n) x is) ((is_last before e n none).other other))));
+      others = λ n none.
+          found_or before n
+          (λ y f. absurd (some_isnt_none (at (before ++ e ∷ []) n) (some_is (at (before ++ e ∷ []) n) y (found_before before e n y f)) none))
+          (λ no. same_or name n
+          (λ same. absurd (some_isnt_none (at (before ++ e ∷ []) n) (some_is (at (before ++ e ∷ []) n) bytes ((is_last before e n no).same same)) none))
+          (λ other. set.others n other ∙ p.others n no));
     }
+
+pub rest_next : (told : Type 0) (all rest others : List (List ℕ × List ℕ)) (old mid new : Reads) (name bytes : List ℕ) → PersistsRest told all rest old mid → rest ≡ (name, bytes) ∷ others → (told → mid name ≡ None) → (told → Sets mid new name (Some bytes)) → PersistsRest told all others old new
+rest_next told all rest others old mid new name bytes r first absent set = record {
+  before = r.before ++ (name, bytes) ∷ [];
+  split = r.split ∙ ap (λ (l : List (List ℕ × List ℕ)). r.before ++ l) first ∙ sym (append_assoc r.before ((name, bytes) ∷ []) others);
+  persisted = λ t. persists_one r.before old mid new name bytes (r.persisted t) (absent t) (set t);
+}
+
+-- one of the files couldn't be written
+pub stops_at : {W : Type 0} (told : Told) (old mid new : View W) (all rest others : List (List ℕ × List ℕ)) (name bytes : List ℕ) → PersistsRest told.content all rest old.reads mid.reads → rest ≡ (name, bytes) ∷ others → mid.faults ≡ old.faults → (error : TantivyError) → Refuses told mid new mid.reads name error → StopsAt told old new all error
+stops_at told old mid new all rest others name bytes r first same error refused = record {
+  before = r.before;
+  name = name;
+  bytes = bytes;
+  rest = others;
+  split = r.split ∙ ap (λ (l : List (List ℕ × List ℕ)). r.before ++ l) first;
+  tried = mid.reads;
+  persisted = r.persisted;
+  refused = record {
+    cause = subst (λ (n : ℕ). PersistCause name (new.faults ≡ n) (Rose n new.faults) (new.faults ≡ n) error) same refused.cause;
+    left = refused.left;
+  };
+}

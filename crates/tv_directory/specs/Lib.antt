@@ -2,6 +2,8 @@ pub mod Watch
 pub mod WatchList
 pub mod Locks
 pub mod Telling
+pub mod View
+pub mod Calls
 pub mod Device
 pub mod StoredFiles
 pub mod Ram

@@ -1,13 +1,14 @@
 -- Files that are written to another directory.
-use Rattle.std.specs.Prelude.{◌≡◌, ◌∷◌, ◌++◌, ℕ, List, None, Some, IsSome, map}
+use Rattle.std.specs.Prelude.{◌≡◌, ◌∷◌, ◌++◌, ℕ, List, None, Some, IsSome, Result, IfErr, OnOk, map, string_bytes}
 use Rattle.tv_base.specs.Causes.{IsDevice}
 use Rattle.tv_base.specs.declared.error.TantivyError.{TantivyError}
 use Rattle.tv_base.specs.declared.error.TantivyError.TheVariants as error
 use Rattle.tv_base.specs.declared.open_errors.OpenWriteError.{OpenWriteError}
 use Rattle.tv_base.specs.declared.open_errors.OpenWriteError.TheVariants as write
 use Rattle.tv_model.specs.State.{at}
-use Rattle.tv_model.specs.Files.{Reads, Same, KeepsOthers}
+use Rattle.tv_model.specs.Files.{Reads, Same, Sets, KeepsOthers, Rose}
 use Rattle.tv_directory.specs.StoredFiles.{bytes_of}
+use Rattle.tv_directory.specs.View.{View, Told}
 use Rattle.tv_directory.specs.declared.files.StoredFile.{StoredFile}
 
 -- names in their order, with what they read
@@ -20,17 +21,6 @@ pub record Persists (files : List (List ℕ × List ℕ)) (old new : Reads) : Ty
   pub written : (n bytes : List ℕ) → at files n ≡ Some bytes → new n ≡ Some bytes
   pub others : (n : List ℕ) → at files n ≡ None → new n ≡ old n
 
--- those before one of the files are written, and it stopped there: `how` says how, of what was read before it was tried, and of its name
-pub record StopsAt (files : List (List ℕ × List ℕ)) (old : Reads) (how : Reads → List ℕ → Type 0) : Type 0 where
-  pub before : List (List ℕ × List ℕ)
-  pub name : List ℕ
-  pub bytes : List ℕ
-  pub rest : List (List ℕ × List ℕ)
-  pub split : files ≡ before ++ (name, bytes) ∷ rest
-  pub tried : Reads
-  pub persisted : Persists before old tried
-  pub stopped : how tried name
-
 -- the name was there already
 pub record IsThere (new tried : Reads) (name : List ℕ) : Type 0 where
   pub there : IsSome (tried name)
@@ -40,15 +30,46 @@ pub record IsThere (new tried : Reads) (name : List ℕ) : Type 0 where
 abbrev pub MayRead : Reads → Reads → List ℕ → Type 0
 MayRead new tried name = KeepsOthers tried new name
 
--- What is true of each answer: `there` where a file is there already, `refused` where the device refused a call, `quiet` where memory was wanted.
-abbrev pub of_open_write : (there refused quiet : Type 0) → OpenWriteError → Type 0
-of_open_write there refused quiet (write.FileAlreadyExists path) = there
-of_open_write there refused quiet (write.IoError fault path) = IsDevice fault × refused
-of_open_write there refused quiet (write.Leaving path) = ⊥
-of_open_write there refused quiet write.Memory = ⊥
+-- What is true of each answer for a file of this name, which the errors name: `there` where it is there already, `refused` where the device refused a call, `quiet` where memory was wanted.
+abbrev pub of_open_write : (name : List ℕ) (there refused : Type 0) → OpenWriteError → Type 0
+of_open_write name there refused (write.FileAlreadyExists path) = (string_bytes path ≡ name) × there
+of_open_write name there refused (write.IoError fault path) = (string_bytes path ≡ name) × IsDevice fault × refused
+of_open_write name there refused (write.Leaving path) = ⊥
+of_open_write name there refused write.Memory = ⊥
 
-abbrev pub PersistCause : (there refused quiet : Type 0) → TantivyError → Type 0
-PersistCause there refused quiet (error.OpenWriteError e) = of_open_write there refused quiet e
-PersistCause there refused quiet (error.IoError fault) = IsDevice fault × refused
-PersistCause there refused quiet error.Memory = quiet
-PersistCause there refused quiet e = ⊥
+abbrev pub PersistCause : (name : List ℕ) (there refused quiet : Type 0) → TantivyError → Type 0
+PersistCause name there refused quiet (error.OpenWriteError e) = of_open_write name there refused e
+PersistCause name there refused quiet (error.IoError fault) = IsDevice fault × refused
+PersistCause name there refused quiet error.Memory = quiet
+PersistCause name there refused quiet e = ⊥
+
+-- the file that couldn't be written, of which is said what was read before it was tried
+pub record Refuses {W : Type 0} (told : Told) (old new : View W) (tried : Reads) (name : List ℕ) (error : TantivyError) : Type 0 where
+  pub cause : PersistCause name (new.faults ≡ old.faults) (Rose old.faults new.faults) (new.faults ≡ old.faults) error
+  pub left : told.content → PersistCause name (IsThere new.reads tried name) (MayRead new.reads tried name) (MayRead new.reads tried name) error
+
+-- one file is written: its name wasn't there
+pub record PersistsFile {A W : Type 0} (told : Told) (old new : View W) (name bytes : List ℕ) (result : Result A TantivyError) : Type 0 where
+  pub absent : told.content → OnOk result (old.reads name ≡ None)
+  pub ok : told.content → OnOk result (Sets old.reads new.reads name (Some bytes))
+
+-- and why it isn't
+pub record FileFaults {A W : Type 0} (told : Told) (old new : View W) (name : List ℕ) (result : Result A TantivyError) : Type 0 where
+  pub quiet : OnOk result (new.faults ≡ old.faults)
+  pub cause : IfErr result (Refuses told old new old.reads name)
+
+-- those before one of the files are written, and it stopped there
+pub record StopsAt {W : Type 0} (told : Told) (old new : View W) (files : List (List ℕ × List ℕ)) (error : TantivyError) : Type 0 where
+  pub before : List (List ℕ × List ℕ)
+  pub name : List ℕ
+  pub bytes : List ℕ
+  pub rest : List (List ℕ × List ℕ)
+  pub split : files ≡ before ++ (name, bytes) ∷ rest
+  pub tried : Reads
+  pub persisted : told.content → Persists before old.reads tried
+  pub refused : Refuses told old new tried name error
+
+-- All files are written, or it stops at one of them.
+pub record PersistFaults {A W : Type 0} (told : Told) (old new : View W) (files : List (List ℕ × List ℕ)) (result : Result A TantivyError) : Type 0 where
+  pub quiet : OnOk result (new.faults ≡ old.faults)
+  pub cause : IfErr result (StopsAt told old new files)

@@ -1,8 +1,9 @@
 -- A directory in memory.
-use Rattle.std.specs.Prelude.{ℕ, ◌≡◌, ◌-◌, Bool, nat_lt}
-use Rattle.tv_model.specs.Files.{Reads}
+use Rattle.std.specs.Prelude.{ℕ, List, [], ◌≡◌, ◌-◌, Bool, false, nat_lt}
+use Rattle.tv_model.specs.Files.{Reads, Same}
 use Rattle.tv_directory.specs.Locks.{Locks, held_in}
 use Rattle.tv_directory.specs.StoredFiles.{reads_of, is_made}
+use Rattle.tv_directory.specs.View.{View, WriterState}
 use Rattle.tv_directory.specs.Watch.{WatchState}
 use Rattle.tv_directory.specs.WatchList.{state_of}
 use Rattle.tv_directory.specs.declared.ram_directory.RamDirectory.{RamDirectory}
@@ -28,6 +29,28 @@ ram_locks ram = held_in ram.held.entries
 abbrev pub ram_watched : {C : Type 0} → (C → ℕ) → RamDirectory C → WatchState
 ram_watched calls ram = state_of calls ram.watchers
 
--- nothing changed but the files
-abbrev pub OnlyFiles : {C : Type 0} → RamDirectory C → RamDirectory C → Type 0
-OnlyFiles old new = new ≡ record old { files = new.files }
+-- all that is said of it: it has no device and no clock, and is told nothing
+abbrev pub ram_view : {C : Type 0} → (C → ℕ) → RamDirectory C → View RamWriter
+ram_view calls ram = record {
+  reads = ram_reads ram;
+  locks = ram_locks ram;
+  watched = ram_watched calls ram;
+  moment = 0;
+  heard = [];
+  room = 0;
+  faults = 0;
+  refusals = 0;
+  opened = ram_opened ram;
+  lives = ram_lives ram;
+}
+
+-- the file that a writer writes
+abbrev pub ram_state : RamWriter → WriterState
+ram_state w = record { name = w.name; written = w.bytes.items }
+
+-- It reads these files; no writer was opened, no lock is held, and nobody watches it.
+pub record IsNewRam {C : Type 0} (calls : C → ℕ) (files : Reads) (ram : RamDirectory C) : Type 0 where
+  pub reads : Same files (ram_reads ram)
+  pub unopened : (w : RamWriter) → ram_opened ram w ≡ false
+  pub free : (n : List ℕ) → ram_locks ram n ≡ false
+  pub watched : ram_watched calls ram ≡ record { registered = []; notice = false }

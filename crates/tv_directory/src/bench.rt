@@ -1,10 +1,9 @@
 //! A directory in memory, for tests.
-ghost use Rattle.std.specs.Prelude.{◌≡◌, [], List, ℕ, true, false, string_bytes, IfOk};
+ghost use Rattle.std.specs.Prelude.{◌≡◌, [], true, string_bytes, IfOk};
 ghost use Rattle.std.specs.List.{AllByRecursion};
 ghost use Rattle.tv_model.specs.Names.{is_file_name};
-ghost use Rattle.tv_model.specs.Files.{Same};
 ghost use Rattle.tv_base.specs.Causes.{OpenReadCause};
-ghost use Rattle.tv_directory.specs.Bench.{device_in, Untouched};
+ghost use Rattle.tv_directory.specs.Bench.{device_in, IsNewBench, Untouched};
 ghost use Rattle.tv_directory.specs.Device.{after_fault};
 ghost use Rattle.tv_directory.specs.StoredFiles.{named, last_of};
 ghost use Rattle.tv_directory.specs.Telling.{bytes_heard};
@@ -36,14 +35,10 @@ impl<C: WatchCall> Bench<C> {
     /// last one counts. The clock and the counts are 0, nothing was told, and no call is refused.
     pub fn new(alloc: Global, files: Vec<(String, Vec<u8>)>) -> Result<Bench<C>, Memory>
         requires { AllByRecursion (λ file. is_file_name (string_bytes file.0) ≡ true) files.items }
-        ensures reads { IfOk result (λ bench. Same (last_of (named files.items)) (⟦<Bench<C> as Directory>⟧.reads bench)) }
-        ensures heard { IfOk result (λ bench. ⟦<Bench<C> as Directory>⟧.heard bench ≡ []) }
-        ensures moment { IfOk result (λ bench. ⟦<Bench<C> as Directory>⟧.moment bench ≡ 0) }
-        ensures faults { IfOk result (λ bench. ⟦<Bench<C> as Directory>⟧.faults bench ≡ 0) }
-        ensures refusals { IfOk result (λ bench. ⟦<Bench<C> as Directory>⟧.refusals bench ≡ 0) }
-        ensures locks { IfOk result (λ bench. (n : List ℕ) → ⟦<Bench<C> as Directory>⟧.locks bench n ≡ false) }
-        ensures watched { IfOk result (λ bench. ⟦<Bench<C> as Directory>⟧.watched bench ≡ record { registered = []; notice = false }) }
-        ensures device { IfOk result (λ bench. device_in bench ≡ record { fail_at = []; call = 0; faults = 0; refusals = 0 }) }
+        ensures new { IfOk result (λ bench.
+            IsNewBench (last_of (named files.items)) (⟦<Bench<C> as Directory>⟧.view bench)) }
+        ensures device { IfOk result (λ bench.
+            device_in bench ≡ record { fail_at = []; call = 0; faults = 0; refusals = 0 }) }
     {
         Ok(Bench {
             alloc,
@@ -58,7 +53,8 @@ impl<C: WatchCall> Bench<C> {
     /// a fault of the device are numbered from 0 on, whatever they answer: all calls of `Directory`, and
     /// `tell`. The number stops at `u64::MAX`, and that call is never refused.
     pub fn fail_at(&mut self, calls: Vec<u64>)
-        ensures device { device_in self.new ≡ record (device_in self.old) { fail_at = calls.items } }
+        ensures device { device_in self.new ≡ record (device_in self.old)
+            { fail_at = calls.items } }
         ensures others { self.new ≡ record self.old { device = device_in self.new } }
     {
         self.device.fail_at(calls);
@@ -66,35 +62,38 @@ impl<C: WatchCall> Bench<C> {
 
     /// The clock: how many calls were recorded.
     pub fn moment(&self) -> u64
-        ensures { result ≡ ⟦<Bench<C> as Directory>⟧.moment self.now }
+        ensures { result ≡ (⟦<Bench<C> as Directory>⟧.view self.now).moment }
     {
         self.clock.moment
     }
 
     /// How many calls other than deletes the device has refused.
     pub fn faults(&self) -> u64
-        ensures { result ≡ ⟦<Bench<C> as Directory>⟧.faults self.now }
+        ensures { result ≡ (⟦<Bench<C> as Directory>⟧.view self.now).faults }
     {
         self.device.faults()
     }
 
     /// How many deletes the device has refused.
     pub fn refusals(&self) -> u64
-        ensures { result ≡ ⟦<Bench<C> as Directory>⟧.refusals self.now }
+        ensures { result ≡ (⟦<Bench<C> as Directory>⟧.view self.now).refusals }
     {
         self.device.refusals()
     }
 
     /// All that was told, one piece after the other.
     pub fn heard_lines(&self) -> Result<Vec<u8>, Memory>
-        ensures { IfOk result (λ bytes. bytes.items ≡ bytes_heard (⟦<Bench<C> as Directory>⟧.heard self.now)) }
+        ensures { IfOk result (λ bytes.
+            bytes.items ≡ bytes_heard (⟦<Bench<C> as Directory>⟧.view self.now).heard) }
     {
         self.told.bytes()
     }
 
     // The refusal of a call that reads this name. It is counted once there is memory for its text.
     pub(crate) fn refused_read(&mut self, name: &str) -> OpenReadError
-        ensures cause { OpenReadCause ⊥ (device_in self.new ≡ after_fault (device_in self.old)) (device_in self.new ≡ device_in self.old) result }
+        ensures cause { OpenReadCause name.now ⊥
+            (device_in self.new ≡ after_fault (device_in self.old))
+            (device_in self.new ≡ device_in self.old) result }
         ensures others { Untouched self.old self.new }
     {
         let Ok(filepath) = String::from_str(self.alloc, name) else {

@@ -34,7 +34,8 @@ impl Clock {
 
     /// A sync, which is recorded only where there is something to settle.
     pub fn settle(&mut self)
-        ensures moment { self.new.moment ≡ (if self.old.settled then self.old.moment else called self.old.moment) }
+        ensures moment { self.new.moment
+            ≡ (if self.old.settled then self.old.moment else called self.old.moment) }
         ensures later { self.old.moment ≤ self.new.moment }
         ensures settled { self.new.settled ≡ true }
     {

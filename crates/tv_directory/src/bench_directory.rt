@@ -1,13 +1,16 @@
 //! The calls of a directory in memory.
-ghost use Rattle.std.specs.Prelude.{◌≡◌, ◌≢◌, ◌≤◌, ◌<◌, ◌++◌, [], ◌∷◌, true, false, length, string_bytes, is_some, Some, None, IsSome, IfOk, IfErr, OnOk, OnErr};
+ghost use Rattle.std.specs.Prelude.{◌≡◌, ◌<◌, true, false, length, is_some, Some, IfOk, IfErr, OnOk, OnErr};
 ghost use Rattle.tv_model.specs.Names.{is_file_name};
 ghost use Rattle.tv_model.specs.Lines.{has_no_feed};
-ghost use Rattle.tv_model.specs.Files.{Same, Sets};
-ghost use Rattle.tv_base.specs.Causes.{IsDevice, IoCause, OpenReadCause, OpenWriteCause, DeleteCause};
-ghost use Rattle.tv_directory.specs.Device.{after_call, Passed, Faulted, Refused};
-ghost use Rattle.tv_directory.specs.Bench.{reads_in, moment_in, heard_in, room_in, device_in, opened_in, lives_in, locks_in, watched_in, Untouched, Timed};
-ghost use Rattle.tv_directory.specs.Locks.{FreesLock, LockCause, SameLocks, TakesLock};
-ghost use Rattle.tv_directory.specs.Watch.{IsNewWatcher, IsNewWriter, delivered, noted, unsubscribed};
+ghost use Rattle.tv_base.specs.Causes.{OpenReadCause, OpenWriteCause};
+ghost use Rattle.tv_directory.specs.View.{tells_all, Frame, Kept, OnlyReads, OnlyLocks, OnlyWatches, OnlyTells, MayDelete};
+ghost use Rattle.tv_directory.specs.Calls.{AskFaults, ReadFaults, OpenFaults, IoFaults, DeviceFaults, DeleteFaults, LockFaults};
+ghost use Rattle.tv_directory.specs.Calls.{IsNewWriter, Makes, Appends, HandsBack, Touches, Flushes, Seals, Gives, Notes, Deletes, EndsWriters, Acquires, TellsLineTo};
+ghost use Rattle.tv_directory.specs.Device.{IsSilent};
+ghost use Rattle.tv_directory.specs.Locks.{FreesLock, LockCause};
+ghost use Rattle.tv_directory.specs.Ram.{ram_lives, ram_state};
+ghost use Rattle.tv_directory.specs.Bench.{view_in, OnlyRam, Numbered, NumberedDelete, of_io, of_write, of_device};
+ghost use Rattle.tv_directory.specs.Watch.{IsNewWatcher, delivered, unsubscribed};
 
 use crate::bench::Bench;
 use crate::directory::Directory;
@@ -28,40 +31,20 @@ impl<C: WatchCall> Directory for Bench<C> {
 
     type Callback = C;
 
-    ghost tells = { Unit {0} };
+    ghost told = { tells_all };
 
-    ghost reads = { reads_in };
+    ghost view = { view_in C.calls };
 
-    ghost tells_locks = { Unit {0} };
-
-    ghost locks = { locks_in };
-
-    ghost watched = { watched_in C.calls };
-
-    ghost moment = { moment_in };
-
-    ghost heard = { heard_in };
-
-    ghost room = { room_in };
-
-    ghost faults = { λ b. (device_in b).faults };
-
-    ghost refusals = { λ b. (device_in b).refusals };
-
-    ghost opened = { opened_in };
-
-    ghost lives = { lives_in };
-
-    ghost name_of = { λ w. w.name };
-
-    ghost written = { λ w. w.bytes.items };
+    ghost state_of = { ram_state };
 
     fn exists(&mut self, name: &str) -> Result<bool, OpenReadError>
         requires { is_file_name name.now ≡ true }
-        ensures answer { IfOk result (λ found. found ≡ is_some (reads_in self.old name.now)) }
-        ensures passed { OnOk result (Passed (device_in self.old) (device_in self.new)) }
-        ensures refused { IfErr result (OpenReadCause ⊥ (Faulted (device_in self.old) (device_in self.new)) (device_in self.new ≡ after_call (device_in self.old))) }
-        ensures others { Untouched self.old self.new }
+        ensures answer { IfOk result
+            (λ found. found ≡ is_some ((view_in C.calls self.old).reads name.now)) }
+        ensures faults { AskFaults (view_in C.calls self.old) (view_in C.calls self.new)
+            name.now result }
+        ensures frame { OnlyReads tells_all (view_in C.calls self.old) (view_in C.calls self.new) }
+        ensures device { Numbered (Unit {0}) (OpenReadCause name.now) self.old self.new result }
     {
         if self.device.refuses() {
             return Err(self.refused_read(name));
@@ -71,20 +54,24 @@ impl<C: WatchCall> Directory for Bench<C> {
 
     fn open_read(&mut self, name: &str) -> Result<FileSlice, OpenReadError>
         requires { is_file_name name.now ≡ true }
-        ensures bytes { IfOk result (λ file. reads_in self.old name.now ≡ Some file) }
-        ensures passed { OnOk result (Passed (device_in self.old) (device_in self.new)) }
-        ensures refused { IfErr result (OpenReadCause ((reads_in self.old name.now ≡ None) × Passed (device_in self.old) (device_in self.new)) (Faulted (device_in self.old) (device_in self.new)) (device_in self.new ≡ after_call (device_in self.old))) }
-        ensures others { Untouched self.old self.new }
+        ensures bytes { IfOk result
+            (λ file. (view_in C.calls self.old).reads name.now ≡ Some file) }
+        ensures faults { ReadFaults tells_all (view_in C.calls self.old) (view_in C.calls self.new)
+            name.now result }
+        ensures frame { OnlyReads tells_all (view_in C.calls self.old) (view_in C.calls self.new) }
+        ensures device { Numbered (Unit {0}) (OpenReadCause name.now) self.old self.new result }
     {
         Ok(FileSlice::new(self.get_file_handle(name)?))
     }
 
     fn get_file_handle(&mut self, name: &str) -> Result<OwnedBytes, OpenReadError>
         requires { is_file_name name.now ≡ true }
-        ensures bytes { IfOk result (λ bytes. reads_in self.old name.now ≡ Some bytes) }
-        ensures passed { OnOk result (Passed (device_in self.old) (device_in self.new)) }
-        ensures refused { IfErr result (OpenReadCause ((reads_in self.old name.now ≡ None) × Passed (device_in self.old) (device_in self.new)) (Faulted (device_in self.old) (device_in self.new)) (device_in self.new ≡ after_call (device_in self.old))) }
-        ensures others { Untouched self.old self.new }
+        ensures bytes { IfOk result
+            (λ bytes. (view_in C.calls self.old).reads name.now ≡ Some bytes) }
+        ensures faults { ReadFaults tells_all (view_in C.calls self.old) (view_in C.calls self.new)
+            name.now result }
+        ensures frame { OnlyReads tells_all (view_in C.calls self.old) (view_in C.calls self.new) }
+        ensures device { Numbered (Unit {0}) (OpenReadCause name.now) self.old self.new result }
     {
         let bytes = self.atomic_read(name)?;
         Ok(OwnedBytes::new(bytes)?)
@@ -92,19 +79,14 @@ impl<C: WatchCall> Directory for Bench<C> {
 
     fn open_write(&mut self, name: &str) -> Result<RamWriter, OpenWriteError>
         requires { is_file_name name.now ≡ true }
-        ensures writer { IfOk result (λ w. IsNewWriter (opened_in self.new) (lives_in self.new) (λ w. w.name) (λ w. w.bytes.items) name.now w) }
-        ensures absent { OnOk result (reads_in self.old name.now ≡ None) }
-        ensures ok { OnOk result (Sets (reads_in self.old) (reads_in self.new) name.now (Some [])) }
-        ensures passed { OnOk result (Passed (device_in self.old) (device_in self.new)) }
-        ensures refused { IfErr result (OpenWriteCause (IsSome (reads_in self.old name.now) × Untouched self.old self.new × Passed (device_in self.old) (device_in self.new)) (Timed self.old self.new × Faulted (device_in self.old) (device_in self.new)) (Same (reads_in self.old) (reads_in self.new) × (device_in self.new ≡ after_call (device_in self.old)))) }
-        ensures writers { (w : _) → opened_in self.old w ≡ true → opened_in self.new w ≡ true }
-        ensures alive { (w : _) → lives_in self.old w ≡ true → lives_in self.new w ≡ true }
-        ensures ended { (w : _) → opened_in self.old w ≡ true → lives_in self.old w ≡ false → lives_in self.new w ≡ false }
-        ensures locks { SameLocks (locks_in self.old) (locks_in self.new) }
-        ensures watched { watched_in C.calls self.new ≡ watched_in C.calls self.old }
-        ensures clock { moment_in self.old ≤ moment_in self.new }
-        ensures heard { heard_in self.new ≡ heard_in self.old }
-        ensures room { room_in self.new ≡ room_in self.old }
+        ensures writer { IfOk result
+            (IsNewWriter tells_all (view_in C.calls self.new) ram_state name.now) }
+        ensures makes { Makes tells_all (view_in C.calls self.old) (view_in C.calls self.new)
+            name.now result }
+        ensures faults { OpenFaults tells_all (view_in C.calls self.old) (view_in C.calls self.new)
+            name.now result }
+        ensures frame { Kept tells_all (view_in C.calls self.old) (view_in C.calls self.new) }
+        ensures device { Numbered ⊥ (OpenWriteCause name.now) self.old self.new result }
     {
         if self.device.refuses() {
             let name = file_name(self.alloc, name)?;
@@ -122,14 +104,16 @@ impl<C: WatchCall> Directory for Bench<C> {
     }
 
     fn write(&mut self, writer: &mut RamWriter, bytes: &[u8]) -> Result<(), IoError>
-        requires { opened_in self.old writer.old ≡ true }
-        ensures ok { OnOk result (writer.new.bytes.items ≡ writer.old.bytes.items ++ bytes.now) }
-        ensures err { OnErr result (writer.new.bytes.items ≡ writer.old.bytes.items) }
-        ensures name { writer.new.name ≡ writer.old.name }
-        ensures number { writer.new.number ≡ writer.old.number }
-        ensures passed { OnOk result (Passed (device_in self.old) (device_in self.new)) }
-        ensures refused { IfErr result (IoCause (Faulted (device_in self.old) (device_in self.new)) (device_in self.new ≡ after_call (device_in self.old))) }
-        ensures others { Untouched self.old self.new }
+        requires { (view_in C.calls self.old).opened writer.old ≡ true }
+        ensures appends { Appends (ram_state writer.old) (ram_state writer.new) bytes.now result }
+        ensures hands_back { HandsBack tells_all (view_in C.calls self.old)
+            (view_in C.calls self.new) writer.old writer.new result }
+        ensures touches { Touches tells_all (view_in C.calls self.old) (view_in C.calls self.new)
+            ram_state writer.old }
+        ensures faults { IoFaults (view_in C.calls self.old) (view_in C.calls self.new) result }
+        ensures frame { Kept tells_all (view_in C.calls self.old) (view_in C.calls self.new) }
+        ensures device { Numbered (Unit {0}) (of_write writer.old writer.new)
+            self.old self.new result }
     {
         if self.device.refuses() {
             return Err(IoError::Fault(self.device.fault()));
@@ -138,19 +122,16 @@ impl<C: WatchCall> Directory for Bench<C> {
     }
 
     fn flush(&mut self, writer: &mut RamWriter) -> Result<(), IoError>
-        requires { opened_in self.old writer.old ≡ true }
-        ensures ok { lives_in self.old writer.old ≡ true → OnOk result (Sets (reads_in self.old) (reads_in self.new) writer.old.name (Some writer.old.bytes.items)) }
-        ensures gone { lives_in self.old writer.old ≡ false → Untouched self.old self.new }
-        ensures passed { OnOk result (Passed (device_in self.old) (device_in self.new)) }
-        ensures refused { IfErr result (IoCause (Timed self.old self.new × Faulted (device_in self.old) (device_in self.new)) (Same (reads_in self.old) (reads_in self.new) × (device_in self.new ≡ after_call (device_in self.old)))) }
-        ensures writer { writer.new ≡ writer.old }
-        ensures writers { (w : _) → opened_in self.old w ≡ true → opened_in self.new w ≡ true }
-        ensures numbers { (w : _) → lives_in self.new w ≡ lives_in self.old w }
-        ensures locks { SameLocks (locks_in self.old) (locks_in self.new) }
-        ensures watched { watched_in C.calls self.new ≡ watched_in C.calls self.old }
-        ensures clock { moment_in self.old ≤ moment_in self.new }
-        ensures heard { heard_in self.new ≡ heard_in self.old }
-        ensures room { room_in self.new ≡ room_in self.old }
+        requires { (view_in C.calls self.old).opened writer.old ≡ true }
+        ensures flushes { Flushes tells_all (view_in C.calls self.old) (view_in C.calls self.new)
+            ram_state writer.old result }
+        ensures state { ram_state writer.new ≡ ram_state writer.old }
+        ensures hands_back { HandsBack tells_all (view_in C.calls self.old)
+            (view_in C.calls self.new) writer.old writer.new result }
+        ensures faults { IoFaults (view_in C.calls self.old) (view_in C.calls self.new) result }
+        ensures frame { Kept tells_all (view_in C.calls self.old) (view_in C.calls self.new) }
+        ensures device { Numbered (ram_lives self.old.ram writer.old ≡ false) of_io self.old
+            self.new result }
     {
         let lives = self.ram.files.is_made(&writer.name, writer.number);
         if self.device.refuses() {
@@ -167,19 +148,13 @@ impl<C: WatchCall> Directory for Bench<C> {
     }
 
     fn terminate(&mut self, writer: RamWriter) -> Result<(), IoError>
-        requires { opened_in self.old writer ≡ true }
-        ensures ok { lives_in self.old writer ≡ true → OnOk result (Sets (reads_in self.old) (reads_in self.new) writer.name (Some writer.bytes.items)) }
-        ensures gone { lives_in self.old writer ≡ false → Untouched self.old self.new }
-        ensures passed { OnOk result (Passed (device_in self.old) (device_in self.new)) }
-        ensures refused { IfErr result (IoCause (Timed self.old self.new × Faulted (device_in self.old) (device_in self.new)) (Same (reads_in self.old) (reads_in self.new) × (device_in self.new ≡ after_call (device_in self.old)))) }
-        ensures writers { (w : _) → opened_in self.old w ≡ true → opened_in self.new w ≡ true }
-        ensures alive { (w : _) → lives_in self.old w ≡ true → lives_in self.new w ≡ true }
-        ensures ended { (w : _) → opened_in self.old w ≡ true → lives_in self.old w ≡ false → lives_in self.new w ≡ false }
-        ensures locks { SameLocks (locks_in self.old) (locks_in self.new) }
-        ensures watched { watched_in C.calls self.new ≡ watched_in C.calls self.old }
-        ensures clock { moment_in self.old ≤ moment_in self.new }
-        ensures heard { heard_in self.new ≡ heard_in self.old }
-        ensures room { room_in self.new ≡ room_in self.old }
+        requires { (view_in C.calls self.old).opened writer ≡ true }
+        ensures seals { Seals tells_all (view_in C.calls self.old) (view_in C.calls self.new)
+            ram_state writer result }
+        ensures faults { IoFaults (view_in C.calls self.old) (view_in C.calls self.new) result }
+        ensures frame { Kept tells_all (view_in C.calls self.old) (view_in C.calls self.new) }
+        ensures device { Numbered (ram_lives self.old.ram writer ≡ false)
+            of_io self.old self.new result }
     {
         let lives = self.ram.files.is_made(&writer.name, writer.number);
         if self.device.refuses() {
@@ -197,10 +172,12 @@ impl<C: WatchCall> Directory for Bench<C> {
 
     fn atomic_read(&mut self, name: &str) -> Result<Vec<u8>, OpenReadError>
         requires { is_file_name name.now ≡ true }
-        ensures bytes { IfOk result (λ bytes. reads_in self.old name.now ≡ Some bytes.items) }
-        ensures passed { OnOk result (Passed (device_in self.old) (device_in self.new)) }
-        ensures refused { IfErr result (OpenReadCause ((reads_in self.old name.now ≡ None) × Passed (device_in self.old) (device_in self.new)) (Faulted (device_in self.old) (device_in self.new)) (device_in self.new ≡ after_call (device_in self.old))) }
-        ensures others { Untouched self.old self.new }
+        ensures bytes { IfOk result
+            (λ bytes. (view_in C.calls self.old).reads name.now ≡ Some bytes.items) }
+        ensures faults { ReadFaults tells_all (view_in C.calls self.old) (view_in C.calls self.new)
+            name.now result }
+        ensures frame { OnlyReads tells_all (view_in C.calls self.old) (view_in C.calls self.new) }
+        ensures device { Numbered (Unit {0}) (OpenReadCause name.now) self.old self.new result }
     {
         if self.device.refuses() {
             return Err(self.refused_read(name));
@@ -210,18 +187,13 @@ impl<C: WatchCall> Directory for Bench<C> {
 
     fn atomic_write(&mut self, name: &str, bytes: &[u8]) -> Result<(), IoError>
         requires { is_file_name name.now ≡ true }
-        ensures ok { OnOk result (Sets (reads_in self.old) (reads_in self.new) name.now (Some bytes.now)) }
-        ensures passed { OnOk result (Passed (device_in self.old) (device_in self.new)) }
-        ensures refused { IfErr result (IoCause (Timed self.old self.new × Faulted (device_in self.old) (device_in self.new)) (Same (reads_in self.old) (reads_in self.new) × (device_in self.new ≡ after_call (device_in self.old)))) }
-        ensures writers { (w : _) → opened_in self.old w ≡ true → opened_in self.new w ≡ true }
-        ensures alive { (w : _) → lives_in self.old w ≡ true → lives_in self.new w ≡ true }
-        ensures ended { (w : _) → opened_in self.old w ≡ true → lives_in self.old w ≡ false → lives_in self.new w ≡ false }
-        ensures locks { SameLocks (locks_in self.old) (locks_in self.new) }
-        ensures watched { OnOk result (watched_in C.calls self.new ≡ noted name.now (watched_in C.calls self.old)) }
-        ensures unwatched { OnErr result (watched_in C.calls self.new ≡ watched_in C.calls self.old) }
-        ensures clock { moment_in self.old ≤ moment_in self.new }
-        ensures heard { heard_in self.new ≡ heard_in self.old }
-        ensures room { room_in self.new ≡ room_in self.old }
+        ensures gives { Gives tells_all (view_in C.calls self.old) (view_in C.calls self.new)
+            name.now bytes.now result }
+        ensures notes { Notes (view_in C.calls self.old) (view_in C.calls self.new)
+            name.now result }
+        ensures faults { IoFaults (view_in C.calls self.old) (view_in C.calls self.new) result }
+        ensures frame { Frame tells_all (view_in C.calls self.old) (view_in C.calls self.new) }
+        ensures device { Numbered ⊥ of_io self.old self.new result }
     {
         if self.device.refuses() {
             self.clock.tick();
@@ -234,22 +206,14 @@ impl<C: WatchCall> Directory for Bench<C> {
 
     fn delete(&mut self, name: &str) -> Result<(), DeleteError>
         requires { is_file_name name.now ≡ true }
-        ensures there { OnOk result (IsSome (reads_in self.old name.now)) }
-        ensures ok { OnOk result (Sets (reads_in self.old) (reads_in self.new) name.now None) }
-        ensures passed { OnOk result (Passed (device_in self.old) (device_in self.new)) }
-        ensures refused { IfErr result (DeleteCause ((reads_in self.old name.now ≡ None) × Passed (device_in self.old) (device_in self.new)) (Refused (device_in self.old) (device_in self.new)) (device_in self.new ≡ after_call (device_in self.old))) }
-        ensures err { OnErr result (Same (reads_in self.old) (reads_in self.new)) }
-        ensures fits { (device_in self.new).refusals ≤ 18446744073709551615 }
-        ensures writers { (w : _) → opened_in self.old w ≡ true → opened_in self.new w ≡ true }
-        ensures alive { (w : _) → w.name ≢ name.now → lives_in self.old w ≡ true → lives_in self.new w ≡ true }
-        ensures kept { OnErr result ((w : _) → lives_in self.old w ≡ true → lives_in self.new w ≡ true) }
-        ensures lost { OnOk result ((w : _) → w.name ≡ name.now → lives_in self.new w ≡ false) }
-        ensures ended { (w : _) → opened_in self.old w ≡ true → lives_in self.old w ≡ false → lives_in self.new w ≡ false }
-        ensures locks { SameLocks (locks_in self.old) (locks_in self.new) }
-        ensures watched { watched_in C.calls self.new ≡ watched_in C.calls self.old }
-        ensures clock { moment_in self.old ≤ moment_in self.new }
-        ensures heard { heard_in self.new ≡ heard_in self.old }
-        ensures room { room_in self.new ≡ room_in self.old }
+        ensures deletes { Deletes tells_all (view_in C.calls self.old) (view_in C.calls self.new)
+            name.now result }
+        ensures writers { EndsWriters tells_all (view_in C.calls self.old)
+            (view_in C.calls self.new) ram_state name.now result }
+        ensures faults { DeleteFaults tells_all (view_in C.calls self.old)
+            (view_in C.calls self.new) name.now result }
+        ensures frame { MayDelete tells_all (view_in C.calls self.old) (view_in C.calls self.new) }
+        ensures device { NumberedDelete self.old self.new name.now result }
     {
         if self.device.refuses() {
             let Ok(name) = file_name(self.alloc, name) else {
@@ -266,10 +230,10 @@ impl<C: WatchCall> Directory for Bench<C> {
     }
 
     fn sync_directory(&mut self) -> Result<(), IoFault>
-        ensures passed { OnOk result (Passed (device_in self.old) (device_in self.new)) }
-        ensures refused { IfErr result (λ fault. IsDevice fault × (string_bytes fault.text ≡ []) × Untouched self.old self.new × Faulted (device_in self.old) (device_in self.new)) }
-        ensures others { Timed self.old self.new }
-        ensures clock { moment_in self.old ≤ moment_in self.new }
+        ensures faults { DeviceFaults (view_in C.calls self.old) (view_in C.calls self.new) result }
+        ensures silent { IfErr result IsSilent }
+        ensures frame { OnlyReads tells_all (view_in C.calls self.old) (view_in C.calls self.new) }
+        ensures device { Numbered ⊥ of_device self.old self.new result }
     {
         if self.device.refuses() {
             return Err(self.device.fault());
@@ -281,11 +245,12 @@ impl<C: WatchCall> Directory for Bench<C> {
     fn acquire_lock(&mut self, lock: &Lock) -> Result<DirectoryLock, LockError>
         requires { is_file_name lock.now.filepath.now ≡ true }
         ensures token { IfOk result (λ token. token ≡ lock.now.filepath.now) }
-        ensures taken { OnOk result (TakesLock (locks_in self.old) (locks_in self.new) lock.now.filepath.now) }
-        ensures passed { OnOk result (Passed (device_in self.old) (device_in self.new)) }
-        ensures refused { IfErr result (LockCause ((locks_in self.old lock.now.filepath.now ≡ true) × Passed (device_in self.old) (device_in self.new)) (Faulted (device_in self.old) (device_in self.new)) (device_in self.new ≡ after_call (device_in self.old))) }
-        ensures err { OnErr result (SameLocks (locks_in self.old) (locks_in self.new)) }
-        ensures others { self.new ≡ record self.old { device = self.new.device; ram = record self.old.ram { held = self.new.ram.held } } }
+        ensures acquires { Acquires tells_all (view_in C.calls self.old) (view_in C.calls self.new)
+            lock.now.filepath.now result }
+        ensures faults { LockFaults tells_all (view_in C.calls self.old) (view_in C.calls self.new)
+            lock.now.filepath.now result }
+        ensures frame { OnlyLocks tells_all (view_in C.calls self.old) (view_in C.calls self.new) }
+        ensures device { Numbered (Unit {0}) LockCause self.old self.new result }
     {
         if self.device.refuses() {
             return Err(LockError::IoError(self.device.fault()));
@@ -294,56 +259,70 @@ impl<C: WatchCall> Directory for Bench<C> {
     }
 
     fn release(&mut self, lock: DirectoryLock)
-        ensures freed { FreesLock (locks_in self.old) (locks_in self.new) lock }
-        ensures others { self.new ≡ record self.old { ram = record self.old.ram { held = self.new.ram.held } } }
+        ensures freed { FreesLock (view_in C.calls self.old).locks (view_in C.calls self.new).locks
+            lock }
+        ensures faults { (view_in C.calls self.new).faults ≡ (view_in C.calls self.old).faults }
+        ensures frame { OnlyLocks tells_all (view_in C.calls self.old) (view_in C.calls self.new) }
+        ensures others { OnlyRam self.old self.new }
     {
         self.ram.release(lock);
     }
 
     fn watch(&mut self, callback: C) -> Result<WatchHandle, Memory>
-        ensures ok { IfOk result (λ handle. IsNewWatcher (watched_in C.calls self.old) (watched_in C.calls self.new) (C.calls callback) handle) }
-        ensures err { OnErr result (watched_in C.calls self.new ≡ watched_in C.calls self.old) }
-        ensures others { self.new ≡ record self.old { ram = record self.old.ram { watchers = self.new.ram.watchers } } }
+        ensures ok { IfOk result (IsNewWatcher (view_in C.calls self.old).watched
+            (view_in C.calls self.new).watched (C.calls callback)) }
+        ensures err { OnErr result
+            ((view_in C.calls self.new).watched ≡ (view_in C.calls self.old).watched) }
+        ensures faults { (view_in C.calls self.new).faults ≡ (view_in C.calls self.old).faults }
+        ensures frame { OnlyWatches tells_all (view_in C.calls self.old)
+            (view_in C.calls self.new) }
+        ensures others { OnlyRam self.old self.new }
     {
         self.ram.watch(callback)
     }
 
     fn unwatch(&mut self, handle: WatchHandle)
-        ensures left { watched_in C.calls self.new ≡ unsubscribed handle (watched_in C.calls self.old) }
-        ensures others { self.new ≡ record self.old { ram = record self.old.ram { watchers = self.new.ram.watchers } } }
+        ensures left { (view_in C.calls self.new).watched
+            ≡ unsubscribed handle (view_in C.calls self.old).watched }
+        ensures faults { (view_in C.calls self.new).faults ≡ (view_in C.calls self.old).faults }
+        ensures frame { OnlyWatches tells_all (view_in C.calls self.old)
+            (view_in C.calls self.new) }
+        ensures others { OnlyRam self.old self.new }
     {
         self.ram.unwatch(handle);
     }
 
     fn deliver(&mut self) -> bool
-        ensures told { result ≡ (watched_in C.calls self.old).notice }
-        ensures called { watched_in C.calls self.new ≡ delivered (watched_in C.calls self.old) }
-        ensures others { self.new ≡ record self.old { ram = record self.old.ram { watchers = self.new.ram.watchers } } }
+        ensures answer { result ≡ (view_in C.calls self.old).watched.notice }
+        ensures called { (view_in C.calls self.new).watched ≡ delivered
+            (view_in C.calls self.old).watched }
+        ensures faults { (view_in C.calls self.new).faults ≡ (view_in C.calls self.old).faults }
+        ensures frame { OnlyWatches tells_all (view_in C.calls self.old)
+            (view_in C.calls self.new) }
+        ensures others { OnlyRam self.old self.new }
     {
         self.ram.deliver()
     }
 }
 
 impl<C: WatchCall> Outside for Bench<C> {
-    ghost tells_heard = { Unit {0} };
-
     fn ready(&mut self, len: usize) -> Result<(), Memory>
-        ensures made { OnOk result (len < room_in self.new) }
+        ensures made { OnOk result (len < (view_in C.calls self.new).room) }
+        ensures faults { (view_in C.calls self.new).faults ≡ (view_in C.calls self.old).faults }
+        ensures frame { OnlyReads tells_all (view_in C.calls self.old) (view_in C.calls self.new) }
         ensures others { self.new ≡ record self.old { told = self.new.told } }
-        ensures heard { heard_in self.new ≡ heard_in self.old }
-        ensures room { room_in self.old ≤ room_in self.new }
     {
         self.told.ready(len)
     }
 
     fn tell(&mut self, line: &[u8]) -> Result<(), IoFault>
-        requires room { length line.now < room_in self.old }
+        requires room { length line.now < (view_in C.calls self.old).room }
         requires feed { has_no_feed line.now ≡ true }
-        ensures told { OnOk result (heard_in self.new ≡ heard_in self.old ++ (moment_in self.old, line.now ++ 10 ∷ []) ∷ []) }
-        ensures passed { OnOk result (Passed (device_in self.old) (device_in self.new)) }
-        ensures refused { IfErr result (λ fault. IsDevice fault × Untouched self.old self.new × Faulted (device_in self.old) (device_in self.new)) }
-        ensures files { self.new.ram ≡ self.old.ram }
-        ensures clock { moment_in self.old ≤ moment_in self.new }
+        ensures tells { TellsLineTo tells_all (view_in C.calls self.old) (view_in C.calls self.new)
+            line.now result }
+        ensures faults { DeviceFaults (view_in C.calls self.old) (view_in C.calls self.new) result }
+        ensures frame { OnlyTells tells_all (view_in C.calls self.old) (view_in C.calls self.new) }
+        ensures device { Numbered ⊥ of_device self.old self.new result }
     {
         if self.device.refuses() {
             return Err(self.device.fault());

@@ -1,9 +1,7 @@
 //! Writes one file of a directory.
-ghost use Rattle.std.specs.Prelude.{◌≡◌, ◌≤◌, ◌++◌, true, false, not, Some, IsSome, IfErr, OnOk};
-ghost use Rattle.tv_base.specs.Causes.{IoCause};
-ghost use Rattle.tv_model.specs.Files.{KeepsOthers, MaySet, Rose, Same, Sets};
-ghost use Rattle.tv_directory.specs.DirWriters.{holds, told_by};
-ghost use Rattle.tv_directory.specs.Locks.{SameLocks};
+ghost use Rattle.std.specs.Prelude.{◌≡◌, true, false, Some, OnOk};
+ghost use Rattle.tv_base.specs.Writers.{TakesAll, TakesNone, WriteFaults, Ends};
+ghost use Rattle.tv_directory.specs.DirWriters.{writer_view, held_bytes, HeldStays, Reaches, IsStillThere, HeldFilesStay, MayReach};
 
 use crate::directory::Directory;
 use tv_base::{IoError, TerminatingWrite};
@@ -21,7 +19,7 @@ pub struct DirWriter<'a, D: Directory> {
 impl<'a, D: Directory> DirWriter<'a, D> {
     /// Writes with this writer, behind what it has written so far. Takes no memory.
     pub fn new(directory: &'a mut D, writer: D::Writer) -> DirWriter<'a, D>
-        requires opened { D.opened directory.old writer ≡ true }
+        requires opened { (D.view directory.old).opened writer ≡ true }
         ensures same_reference { result.directory.ghost_name ≡ directory.entry.ghost_name }
         ensures directory { result.directory.now ≡ directory.old }
         ensures writer { result.writer ≡ Some writer }
@@ -47,39 +45,24 @@ impl<D: Directory> Drop for DirWriter<'_, D> {
 }
 
 impl<D: Directory> TerminatingWrite for DirWriter<'_, D> {
-    ghost taken = { λ w. told_by D.written w.writer };
-
-    ghost faults = { λ w. D.faults w.directory.now };
-
-    ghost ended = { λ w. not (holds (D.opened w.directory.now) w.writer) };
+    ghost view = { writer_view D.Directory };
 
     ghost keeps = { ⊥ };
 
+    ghost stays = { HeldStays D.Directory };
+
+    ghost flushed = { λ old new. Reaches D.Directory old new (held_bytes D.Directory old) };
+
+    ghost sealed = { Reaches D.Directory };
+
     fn write_all(&mut self, bytes: &[u8]) -> Result<(), IoError>
-        requires going { not (holds (D.opened self.old.directory.now) self.old.writer) ≡ false }
-        ensures ok { OnOk result (told_by D.written self.new.writer ≡ told_by D.written self.old.writer ++ bytes.now) }
-        ensures memory { IfErr result (IoCause (Unit {0}) (told_by D.written self.new.writer ≡ told_by D.written self.old.writer)) }
-        ensures going { OnOk result (not (holds (D.opened self.new.directory.now) self.new.writer) ≡ false) }
-        ensures again { IfErr result (IoCause (Unit {0}) (not (holds (D.opened self.new.directory.now) self.new.writer) ≡ false)) }
-        ensures over { IfErr result (IoCause (not (holds (D.opened self.new.directory.now) self.new.writer) ≡ true) (Unit {0})) }
-        ensures quiet { OnOk result (D.faults self.new.directory.now ≡ D.faults self.old.directory.now) }
-        ensures cause { IfErr result (IoCause (Rose (D.faults self.old.directory.now) (D.faults self.new.directory.now)) (D.faults self.new.directory.now ≡ D.faults self.old.directory.now)) }
-        ensures same_reference { self.new.directory.ghost_name ≡ self.old.directory.ghost_name }
-        ensures name { OnOk result (told_by D.name_of self.new.writer ≡ told_by D.name_of self.old.writer) }
-        ensures lives { OnOk result (holds (D.lives self.new.directory.now) self.new.writer ≡ holds (D.lives self.old.directory.now) self.old.writer) }
-        ensures kept { IfErr result (IoCause (Unit {0}) ((told_by D.name_of self.new.writer ≡ told_by D.name_of self.old.writer) × (holds (D.lives self.new.directory.now) self.new.writer ≡ holds (D.lives self.old.directory.now) self.old.writer))) }
-        ensures content { D.tells → KeepsOthers (D.reads self.old.directory.now) (D.reads self.new.directory.now) (told_by D.name_of self.old.writer) }
-        ensures there { D.tells → holds (D.lives self.old.directory.now) self.old.writer ≡ true → IsSome (D.reads self.new.directory.now (told_by D.name_of self.old.writer)) }
-        ensures gone { D.tells → holds (D.lives self.old.directory.now) self.old.writer ≡ false → Same (D.reads self.old.directory.now) (D.reads self.new.directory.now) }
-        ensures refusals { D.refusals self.new.directory.now ≡ D.refusals self.old.directory.now }
-        ensures writers { (w : _) → D.opened self.old.directory.now w ≡ true → D.opened self.new.directory.now w ≡ true }
-        ensures alive { (w : _) → D.lives self.old.directory.now w ≡ true → D.lives self.new.directory.now w ≡ true }
-        ensures others_ended { (w : _) → D.opened self.old.directory.now w ≡ true → D.lives self.old.directory.now w ≡ false → D.lives self.new.directory.now w ≡ false }
-        ensures locks { D.tells_locks → SameLocks (D.locks self.old.directory.now) (D.locks self.new.directory.now) }
-        ensures watched { D.watched self.new.directory.now ≡ D.watched self.old.directory.now }
-        ensures clock { D.moment self.old.directory.now ≤ D.moment self.new.directory.now }
-        ensures heard { D.heard self.new.directory.now ≡ D.heard self.old.directory.now }
-        ensures room { D.room self.old.directory.now ≤ D.room self.new.directory.now }
+        requires going { (writer_view D.Directory self.old).ended ≡ false }
+        ensures takes { TakesAll (writer_view D.Directory self.old)
+            (writer_view D.Directory self.new) bytes.now result }
+        ensures faults { WriteFaults (writer_view D.Directory self.old)
+            (writer_view D.Directory self.new) result }
+        ensures stays { HeldStays D.Directory self.old self.new }
+        ensures there { IsStillThere D.Directory self.old self.new }
     {
         let Some(writer) = &mut self.writer else {
             unreachable!()
@@ -92,32 +75,16 @@ impl<D: Directory> TerminatingWrite for DirWriter<'_, D> {
     }
 
     fn flush(&mut self) -> Result<(), IoError>
-        requires going { not (holds (D.opened self.old.directory.now) self.old.writer) ≡ false }
-        ensures ok { OnOk result (told_by D.written self.new.writer ≡ told_by D.written self.old.writer) }
-        ensures memory { IfErr result (IoCause (Unit {0}) (told_by D.written self.new.writer ≡ told_by D.written self.old.writer)) }
-        ensures going { OnOk result (not (holds (D.opened self.new.directory.now) self.new.writer) ≡ false) }
-        ensures again { IfErr result (IoCause (Unit {0}) (not (holds (D.opened self.new.directory.now) self.new.writer) ≡ false)) }
-        ensures over { IfErr result (IoCause (not (holds (D.opened self.new.directory.now) self.new.writer) ≡ true) (Unit {0})) }
-        ensures quiet { OnOk result (D.faults self.new.directory.now ≡ D.faults self.old.directory.now) }
-        ensures cause { IfErr result (IoCause (Rose (D.faults self.old.directory.now) (D.faults self.new.directory.now)) (D.faults self.new.directory.now ≡ D.faults self.old.directory.now)) }
-        ensures same_reference { self.new.directory.ghost_name ≡ self.old.directory.ghost_name }
-        ensures name { OnOk result (told_by D.name_of self.new.writer ≡ told_by D.name_of self.old.writer) }
-        ensures lives { OnOk result (holds (D.lives self.new.directory.now) self.new.writer ≡ holds (D.lives self.old.directory.now) self.old.writer) }
-        ensures kept { IfErr result (IoCause (Unit {0}) ((told_by D.name_of self.new.writer ≡ told_by D.name_of self.old.writer) × (holds (D.lives self.new.directory.now) self.new.writer ≡ holds (D.lives self.old.directory.now) self.old.writer))) }
-        ensures flushed { D.tells → holds (D.lives self.old.directory.now) self.old.writer ≡ true → OnOk result (Sets (D.reads self.old.directory.now) (D.reads self.new.directory.now) (told_by D.name_of self.old.writer) (Some (told_by D.written self.old.writer))) }
-        ensures wanted { D.tells → IfErr result (IoCause (Unit {0}) (Same (D.reads self.old.directory.now) (D.reads self.new.directory.now))) }
-        ensures content { D.tells → KeepsOthers (D.reads self.old.directory.now) (D.reads self.new.directory.now) (told_by D.name_of self.old.writer) }
-        ensures there { D.tells → holds (D.lives self.old.directory.now) self.old.writer ≡ true → IsSome (D.reads self.new.directory.now (told_by D.name_of self.old.writer)) }
-        ensures gone { D.tells → holds (D.lives self.old.directory.now) self.old.writer ≡ false → Same (D.reads self.old.directory.now) (D.reads self.new.directory.now) }
-        ensures refusals { D.refusals self.new.directory.now ≡ D.refusals self.old.directory.now }
-        ensures writers { (w : _) → D.opened self.old.directory.now w ≡ true → D.opened self.new.directory.now w ≡ true }
-        ensures alive { (w : _) → D.lives self.old.directory.now w ≡ true → D.lives self.new.directory.now w ≡ true }
-        ensures others_ended { (w : _) → D.opened self.old.directory.now w ≡ true → D.lives self.old.directory.now w ≡ false → D.lives self.new.directory.now w ≡ false }
-        ensures locks { D.tells_locks → SameLocks (D.locks self.old.directory.now) (D.locks self.new.directory.now) }
-        ensures watched { D.watched self.new.directory.now ≡ D.watched self.old.directory.now }
-        ensures clock { D.moment self.old.directory.now ≤ D.moment self.new.directory.now }
-        ensures heard { D.heard self.new.directory.now ≡ D.heard self.old.directory.now }
-        ensures room { D.room self.old.directory.now ≤ D.room self.new.directory.now }
+        requires going { (writer_view D.Directory self.old).ended ≡ false }
+        ensures takes { TakesNone (writer_view D.Directory self.old)
+            (writer_view D.Directory self.new) result }
+        ensures flushed { OnOk result
+            (Reaches D.Directory self.old self.new (held_bytes D.Directory self.old)) }
+        ensures faults { WriteFaults (writer_view D.Directory self.old)
+            (writer_view D.Directory self.new) result }
+        ensures stays { HeldStays D.Directory self.old self.new }
+        ensures there { IsStillThere D.Directory self.old self.new }
+        ensures wanted { HeldFilesStay D.Directory self.old self.new result }
     {
         let Some(writer) = &mut self.writer else {
             unreachable!()
@@ -131,25 +98,13 @@ impl<D: Directory> TerminatingWrite for DirWriter<'_, D> {
 
     /// Seals the file with all bytes that were written.
     fn terminate(&mut self) -> Result<(), IoError>
-        requires going { not (holds (D.opened self.old.directory.now) self.old.writer) ≡ false }
-        ensures ended { not (holds (D.opened self.new.directory.now) self.new.writer) ≡ true }
-        ensures ok { ⊥ → OnOk result (told_by D.written self.new.writer ≡ told_by D.written self.old.writer) }
-        ensures memory { ⊥ → IfErr result (IoCause (Unit {0}) (told_by D.written self.new.writer ≡ told_by D.written self.old.writer)) }
-        ensures quiet { OnOk result (D.faults self.new.directory.now ≡ D.faults self.old.directory.now) }
-        ensures cause { IfErr result (IoCause (Rose (D.faults self.old.directory.now) (D.faults self.new.directory.now)) (D.faults self.new.directory.now ≡ D.faults self.old.directory.now)) }
-        ensures same_reference { self.new.directory.ghost_name ≡ self.old.directory.ghost_name }
-        ensures sealed { D.tells → holds (D.lives self.old.directory.now) self.old.writer ≡ true → OnOk result (Sets (D.reads self.old.directory.now) (D.reads self.new.directory.now) (told_by D.name_of self.old.writer) (Some (told_by D.written self.old.writer))) }
-        ensures refused { D.tells → IfErr result (IoCause (MaySet (D.reads self.old.directory.now) (D.reads self.new.directory.now) (told_by D.name_of self.old.writer) (Some (told_by D.written self.old.writer))) (Same (D.reads self.old.directory.now) (D.reads self.new.directory.now))) }
-        ensures gone { D.tells → holds (D.lives self.old.directory.now) self.old.writer ≡ false → Same (D.reads self.old.directory.now) (D.reads self.new.directory.now) }
-        ensures refusals { D.refusals self.new.directory.now ≡ D.refusals self.old.directory.now }
-        ensures writers { (w : _) → D.opened self.old.directory.now w ≡ true → D.opened self.new.directory.now w ≡ true }
-        ensures alive { (w : _) → D.lives self.old.directory.now w ≡ true → D.lives self.new.directory.now w ≡ true }
-        ensures others_ended { (w : _) → D.opened self.old.directory.now w ≡ true → D.lives self.old.directory.now w ≡ false → D.lives self.new.directory.now w ≡ false }
-        ensures locks { D.tells_locks → SameLocks (D.locks self.old.directory.now) (D.locks self.new.directory.now) }
-        ensures watched { D.watched self.new.directory.now ≡ D.watched self.old.directory.now }
-        ensures clock { D.moment self.old.directory.now ≤ D.moment self.new.directory.now }
-        ensures heard { D.heard self.new.directory.now ≡ D.heard self.old.directory.now }
-        ensures room { D.room self.old.directory.now ≤ D.room self.new.directory.now }
+        requires going { (writer_view D.Directory self.old).ended ≡ false }
+        ensures ends { Ends ⊥ (writer_view D.Directory self.old) (writer_view D.Directory self.new)
+            result }
+        ensures sealed { OnOk result
+            (Reaches D.Directory self.old self.new (held_bytes D.Directory self.old)) }
+        ensures stays { HeldStays D.Directory self.old self.new }
+        ensures refused { MayReach D.Directory self.old self.new result }
     {
         let Some(writer) = self.writer.take() else {
             unreachable!()

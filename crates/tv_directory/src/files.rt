@@ -66,7 +66,8 @@ impl Files {
     /// Sealed files of these names and bytes.
     pub fn sealed(alloc: Global, files: Vec<(String, Vec<u8>)>) -> Result<Files, Memory>
         requires { AllByRecursion (λ file. is_file_name (string_bytes file.0) ≡ true) files.items }
-        ensures { IfOk result (λ made. Same (last_of (named files.items)) (reads_of made.map.entries)) }
+        ensures { IfOk result
+            (λ made. Same (last_of (named files.items)) (reads_of made.map.entries)) }
     {
         let map = sealed_files(alloc, files)?;
         Ok(Files { map, last: 0 })
@@ -112,7 +113,8 @@ impl Files {
 
     /// A copy of what the name reads.
     pub fn read(&self, alloc: Global, name: &FileName) -> Result<Option<Vec<u8>>, Memory>
-        ensures { IfOk result (λ found. option_map (λ bytes. bytes.items) found ≡ reads_of self.now.map.entries name.now) }
+        ensures { IfOk result (λ found.
+            option_map (λ bytes. bytes.items) found ≡ reads_of self.now.map.entries name.now) }
     {
         match self.map.get(name) {
             Some(file) => Ok(Some(Vec::from_slice(alloc, file.content.as_slice())?)),
@@ -122,13 +124,18 @@ impl Files {
 
     /// Makes a file of a name that has none, and answers its number.
     pub fn make(&mut self, name: FileName, content: Content) -> Result<u64, Memory>
-        ensures ok { OnOk result (Sets (reads_of self.old.map.entries) (reads_of self.new.map.entries) name (Some (bytes_of content))) }
+        ensures ok { OnOk result
+            (Sets (reads_of self.old.map.entries) (reads_of self.new.map.entries)
+            name (Some (bytes_of content))) }
         ensures number { IfOk result (λ number. number ≡ self.old.last + 1) }
-        ensures last { OnOk result (self.new.last ≡ self.old.last + 1) }
-        ensures made { OnOk result (is_made self.new.map.entries name (self.old.last + 1) ≡ true) }
-        ensures kept { number_at self.old.map.entries name ≡ None → (n : List ℕ) (k : ℕ) → is_made self.old.map.entries n k ≡ true → is_made self.new.map.entries n k ≡ true }
-        ensures ended { (n : List ℕ) (k : ℕ) → k ≢ self.old.last + 1 → is_made self.old.map.entries n k ≡ false → is_made self.new.map.entries n k ≡ false }
-        ensures err { OnErr result ((self.new.map.entries ≡ self.old.map.entries) × (self.new.last ≡ self.old.last)) }
+        ensures made { OnOk result ((self.new.last ≡ self.old.last + 1)
+            × (is_made self.new.map.entries name (self.old.last + 1) ≡ true)) }
+        ensures kept { number_at self.old.map.entries name ≡ None → (n : List ℕ) (k : ℕ)
+            → is_made self.old.map.entries n k ≡ true → is_made self.new.map.entries n k ≡ true }
+        ensures ended { (n : List ℕ) (k : ℕ) → k ≢ self.old.last + 1
+            → is_made self.old.map.entries n k ≡ false → is_made self.new.map.entries n k ≡ false }
+        ensures err { OnErr result
+            ((self.new.map.entries ≡ self.old.map.entries) × (self.new.last ≡ self.old.last)) }
     {
         let number = self.last.checked_add(1).ok_or(Memory)?;
         put(&mut self.map, name, StoredFile { number, content })?;
@@ -139,8 +146,11 @@ impl Files {
     /// Gives the file of this name and number another content.
     pub fn replace(&mut self, name: FileName, number: u64, content: Content) -> Result<(), Memory>
         requires { number_at self.old.map.entries name ≡ Some number }
-        ensures ok { OnOk result (Sets (reads_of self.old.map.entries) (reads_of self.new.map.entries) name (Some (bytes_of content))) }
-        ensures numbers { (n : List ℕ) → number_at self.new.map.entries n ≡ number_at self.old.map.entries n }
+        ensures ok { OnOk result
+            (Sets (reads_of self.old.map.entries) (reads_of self.new.map.entries)
+            name (Some (bytes_of content))) }
+        ensures numbers { (n : List ℕ) → number_at self.new.map.entries n
+            ≡ number_at self.old.map.entries n }
         ensures last { self.new.last ≡ self.old.last }
         ensures err { OnErr result (self.new.map.entries ≡ self.old.map.entries) }
     {
@@ -150,7 +160,8 @@ impl Files {
 
     /// The same files, under no number of a writer's.
     pub fn copied(&self, alloc: Global) -> Result<Files, Memory>
-        ensures files { IfOk result (λ files. Same (reads_of self.now.map.entries) (reads_of files.map.entries)) }
+        ensures files { IfOk result
+            (λ files. Same (reads_of self.now.map.entries) (reads_of files.map.entries)) }
         ensures unmade { IfOk result (λ files. files.last ≡ 0) }
     {
         let mut map = BTreeMap::new(alloc);
@@ -179,10 +190,14 @@ impl Files {
     /// Gives a name this content in one step. Its file keeps its number; a name that has none gets a
     /// new file.
     pub fn write(&mut self, name: FileName, content: Content) -> Result<(), Memory>
-        ensures ok { OnOk result (Sets (reads_of self.old.map.entries) (reads_of self.new.map.entries) name (Some (bytes_of content))) }
+        ensures ok { OnOk result
+            (Sets (reads_of self.old.map.entries) (reads_of self.new.map.entries)
+            name (Some (bytes_of content))) }
         ensures last { self.old.last ≤ self.new.last }
-        ensures kept { (n : List ℕ) (k : ℕ) → is_made self.old.map.entries n k ≡ true → is_made self.new.map.entries n k ≡ true }
-        ensures ended { (n : List ℕ) (k : ℕ) → k ≢ self.old.last + 1 → is_made self.old.map.entries n k ≡ false → is_made self.new.map.entries n k ≡ false }
+        ensures kept { (n : List ℕ) (k : ℕ)
+            → is_made self.old.map.entries n k ≡ true → is_made self.new.map.entries n k ≡ true }
+        ensures ended { (n : List ℕ) (k : ℕ) → k ≢ self.old.last + 1
+            → is_made self.old.map.entries n k ≡ false → is_made self.new.map.entries n k ≡ false }
         ensures err { OnErr result (self.new.map.entries ≡ self.old.map.entries) }
     {
         match self.number(&name) {
@@ -197,9 +212,11 @@ impl Files {
     /// Deletes the file of this name, and answers whether there was one.
     pub fn delete(&mut self, name: &FileName) -> bool
         ensures there { result ≡ is_there self.old.map.entries name.now }
-        ensures ok { Sets (reads_of self.old.map.entries) (reads_of self.new.map.entries) name.now None }
+        ensures ok { Sets (reads_of self.old.map.entries) (reads_of self.new.map.entries) name.now
+            None }
         ensures number { number_at self.new.map.entries name.now ≡ None }
-        ensures numbers { (n : List ℕ) → n ≢ name.now → number_at self.new.map.entries n ≡ number_at self.old.map.entries n }
+        ensures numbers { (n : List ℕ) → n ≢ name.now
+            → number_at self.new.map.entries n ≡ number_at self.old.map.entries n }
         ensures last { self.new.last ≡ self.old.last }
         ensures err { OnFalse result (self.new.map.entries ≡ self.old.map.entries) }
     {
@@ -232,9 +249,11 @@ fn put(
     name: FileName,
     file: StoredFile,
 ) -> Result<(), Memory>
-    ensures ok { OnOk result (Sets (reads_of files.old.entries) (reads_of files.new.entries) name (Some (bytes_of file.content))) }
+    ensures ok { OnOk result (Sets (reads_of files.old.entries) (reads_of files.new.entries)
+        name (Some (bytes_of file.content))) }
     ensures number { OnOk result (number_at files.new.entries name ≡ Some file.number) }
-    ensures numbers { OnOk result ((n : List ℕ) → n ≢ name → number_at files.new.entries n ≡ number_at files.old.entries n) }
+    ensures numbers { OnOk result ((n : List ℕ) → n ≢ name
+        → number_at files.new.entries n ≡ number_at files.old.entries n) }
     ensures err { OnErr result (files.new.entries ≡ files.old.entries) }
 {
     files.insert(name, file)?;

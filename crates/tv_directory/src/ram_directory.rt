@@ -1,11 +1,10 @@
 //! A directory in memory.
-ghost use Rattle.std.specs.Prelude.{◌≡◌, [], List, ℕ, None, true, false, IfOk, IfNone, OnErr, MatchOption, min};
+ghost use Rattle.std.specs.Prelude.{◌≡◌, [], None, true, false, IfOk, IfNone, OnErr, MatchOption, min};
 ghost use Rattle.tv_model.specs.Names.{is_file_name};
 ghost use Rattle.tv_directory.specs.Locks.{SameLocks, TakesLock};
 ghost use Rattle.tv_directory.specs.Device.{last};
-ghost use Rattle.tv_directory.specs.Ram.{ram_locks, ram_opened, ram_reads, ram_watched};
+ghost use Rattle.tv_directory.specs.Ram.{IsNewRam, ram_locks, ram_reads};
 ghost use Rattle.tv_directory.specs.StoredFiles.{total_len};
-ghost use Rattle.tv_model.specs.Files.{Same};
 
 use crate::files::Files;
 use crate::lock::DirectoryLock;
@@ -38,10 +37,7 @@ pub struct RamWriter {
 impl<C: WatchCall> RamDirectory<C> {
     /// A directory without files, in which no writer was opened. Takes no memory.
     pub fn create(alloc: Global) -> RamDirectory<C>
-        ensures files { (n : List ℕ) → ram_reads result n ≡ None }
-        ensures unopened { (w : _) → ram_opened result w ≡ false }
-        ensures free { (n : List ℕ) → ram_locks result n ≡ false }
-        ensures watched { ram_watched C.calls result ≡ record { registered = []; notice = false } }
+        ensures new { IsNewRam C.calls (λ _. None) result }
     {
         RamDirectory::with_files(alloc, Files::new(alloc))
     }
@@ -49,10 +45,7 @@ impl<C: WatchCall> RamDirectory<C> {
     /// A directory of its own with these files. Nobody watches it, none of its locks is held, and no
     /// writer was opened there.
     pub fn deep_clone(&self) -> Result<RamDirectory<C>, Memory>
-        ensures files { IfOk result (λ copy. Same (ram_reads self.now) (ram_reads copy)) }
-        ensures unopened { IfOk result (λ copy. (w : _) → ram_opened copy w ≡ false) }
-        ensures free { IfOk result (λ copy. (n : List ℕ) → ram_locks copy n ≡ false) }
-        ensures watched { IfOk result (λ copy. ram_watched C.calls copy ≡ record { registered = []; notice = false }) }
+        ensures copy { IfOk result (IsNewRam C.calls (ram_reads self.now)) }
     {
         let files = self.files.copied(self.alloc)?;
         Ok(RamDirectory::with_files(self.alloc, files))
@@ -84,7 +77,9 @@ impl<C> RamDirectory<C> {
     // Takes the lock of this name, unless it is held.
     pub(crate) fn hold(&mut self, name: &str) -> Result<Option<DirectoryLock>, Memory>
         requires { is_file_name name.now ≡ true }
-        ensures free { IfOk result (λ found. MatchOption found (ram_locks self.old name.now ≡ true) (λ token. (token ≡ name.now) × TakesLock (ram_locks self.old) (ram_locks self.new) name.now)) }
+        ensures free { IfOk result
+            (λ found. MatchOption found (ram_locks self.old name.now ≡ true) (λ token.
+            (token ≡ name.now) × TakesLock (ram_locks self.old) (ram_locks self.new) name.now)) }
         ensures busy { IfOk result (λ found. IfNone found (self.new ≡ self.old)) }
         ensures err { OnErr result (SameLocks (ram_locks self.old) (ram_locks self.new)) }
         ensures others { self.new ≡ record self.old { held = self.new.held } }

@@ -56,7 +56,10 @@ impl<C> Watchers<C> {
 impl<C: WatchCall> Watchers<C> {
     /// Registers a callback under a number that nobody has. Where memory is wanted, it is dropped.
     pub fn watch(&mut self, callback: C) -> Result<WatchHandle, Memory>
-        ensures ok { IfOk result (λ handle. (n : ℕ) × (handle ≡ Some n) × (find (has_number n) (state_of C.calls self.old).registered ≡ None) × (state_of C.calls self.new ≡ subscribed n (C.calls callback) (state_of C.calls self.old))) }
+        ensures ok { IfOk result (λ handle. (n : ℕ) × (handle ≡ Some n)
+            × (find (has_number n) (state_of C.calls self.old).registered ≡ None)
+            × (state_of C.calls self.new
+            ≡ subscribed n (C.calls callback) (state_of C.calls self.old))) }
         ensures err { OnErr result (state_of C.calls self.new ≡ state_of C.calls self.old) }
         ensures kept { OnErr result (self.new ≡ self.old) }
     {
@@ -66,7 +69,8 @@ impl<C: WatchCall> Watchers<C> {
 
     /// Gives a handle back; with the last one the callback goes. Takes no memory.
     pub fn unwatch(&mut self, handle: WatchHandle)
-        ensures unsubscribed { state_of C.calls self.new ≡ unsubscribed handle (state_of C.calls self.old) }
+        ensures unsubscribed { state_of C.calls self.new ≡ unsubscribed handle
+            (state_of C.calls self.old) }
     {
         if let Some(number) = handle.number() {
             self.list.release(Ticket::new(number));
@@ -126,7 +130,10 @@ impl<C: Drop> CallbackList<C> {
     /// Registers a callback under a number that no registered one has. Where memory is wanted, it is
     /// dropped.
     pub fn subscribe(&mut self, callback: C) -> Result<WatchHandle, Memory>
-        ensures ok { IfOk result (λ handle. (n : ℕ) × (handle ≡ Some n) × (find (is_at n) self.old ≡ None) × (self.new ≡ self.old ++ record { number = n; count = 1; value = record { callback = callback } } ∷ [])) }
+        ensures ok { IfOk result
+            (λ handle. (n : ℕ) × (handle ≡ Some n) × (find (is_at n) self.old ≡ None)
+            × (self.new ≡ self.old
+            ++ record { number = n; count = 1; value = record { callback = callback } } ∷ [])) }
         ensures err { OnErr result (self.new ≡ self.old) }
     {
         let ticket = self.entries.track(Watcher { callback })?;
@@ -139,7 +146,8 @@ impl<C: Drop> CallbackList<C> {
         ensures number { IfOk result (λ other. other ≡ handle.now) }
         ensures ok { IfOk result (λ _. self.new ≡ shared_by handle.now self.old) }
         ensures err { OnErr result (self.new ≡ self.old) }
-        ensures full { IsErr result ↔ IsSomeAnd handle.now (λ n. IsSomeAnd (find (is_at n) self.old) (λ e. e.count ≡ 18446744073709551615)) }
+        ensures full { IsErr result ↔ IsSomeAnd handle.now (λ n.
+            IsSomeAnd (find (is_at n) self.old) (λ e. e.count ≡ 18446744073709551615)) }
     {
         let Some(number) = handle.number() else {
             return Ok(WatchHandle::empty());
@@ -153,7 +161,8 @@ impl<C: Drop> CallbackList<C> {
     #[tactic(auto, using(crate::proofs::WatchLists::apart_released, crate::proofs::WatchLists::last_gone))]
     pub fn release(&mut self, handle: WatchHandle)
         ensures released { self.new ≡ released_by handle self.old }
-        ensures gone { IfSome handle (λ n. is_last (find (is_at n) self.old) ≡ true → find (is_at n) self.new ≡ None) }
+        ensures gone { IfSome handle (λ n.
+            is_last (find (is_at n) self.old) ≡ true → find (is_at n) self.new ≡ None) }
     {
         if let Some(number) = handle.number() {
             self.entries.release(Ticket::new(number));
@@ -165,7 +174,8 @@ impl<C: WatchCall> CallbackList<C> {
     /// Calls each registered callback once, in order of subscription, and nobody else. The result is
     /// there at once. Takes no memory.
     pub fn broadcast(&mut self) -> FutureResult<()>
-        ensures called { map (seen C.calls) self.new ≡ map called_once (map (seen C.calls) self.old) }
+        ensures called { map (seen C.calls) self.new ≡ map called_once
+            (map (seen C.calls) self.old) }
         ensures gone { (n : ℕ) → find (is_at n) self.old ≡ None → find (is_at n) self.new ≡ None }
         ensures finished { result.finished ≡ Some (Ok tt) }
         ensures unanswered { result.answered ≡ false }
@@ -177,7 +187,8 @@ impl<C: WatchCall> CallbackList<C> {
 
 // Calls everybody once, in order.
 fn call_all<C: WatchCall>(entries: &mut Inventory<Watcher<C>>)
-    ensures called { map (seen C.calls) entries.new ≡ map called_once (map (seen C.calls) entries.old) }
+    ensures called { map (seen C.calls) entries.new ≡ map called_once
+        (map (seen C.calls) entries.old) }
     ensures gone { (n : ℕ) → find (is_at n) entries.old ≡ None → find (is_at n) entries.new ≡ None }
     ensures apart { AreApart entries.old → AreApart entries.new }
 {

@@ -8,3 +8,4 @@ pub mod FooterTexts
 pub mod Gathered
 pub mod Reported
 pub mod Summed
+pub mod Proxied

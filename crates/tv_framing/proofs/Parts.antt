@@ -10,9 +10,10 @@ use Rattle.tv_framing.specs.declared.address.FileAddr.{FileAddr}
 use Rattle.tv_framing.specs.declared.starts.Start.{Start}
 use Rattle.tv_framing.specs.Composite.{Part, AreDistinct, IsAddress, IsComposite, addresses, bodies, body_at, composite, footing, grown, is_at, listed}
 use Rattle.tv_framing.specs.Starts.{Ascend, Fill, footing_text, listed_from, next_start, parts_of, start_addresses}
-use Rattle.std.specs.Prelude.{Result, Ok, Err, OnOk, IfErr}
+use Rattle.std.specs.Prelude.{Result, Ok, Err, OnOk}
 use Rattle.tv_base.specs.declared.io.IoError.{IoError}
-use Rattle.tv_framing.specs.Closing.{CloseCause}
+use Rattle.tv_base.specs.declared.writers.TerminatingWrite.{Ghosts}
+use Rattle.tv_framing.specs.Closing.{EndFaults}
 use Rattle.tv_framing.specs.Composing.{Composing, IsBegun, before_last, the_last}
 
 pub addresses_of : (bytes : List ℕ) (ss : List Start) → addresses (parts_of bytes ss) ≡ start_addresses ss
@@ -244,8 +245,9 @@ pub on_ok : {T E P Q : Type 0} (r : Result T E) → OnOk r P → (P → Q) → O
 on_ok (Ok x) h f = f h
 on_ok (Err e) h f = tt
 
-pub same_cause : {T : Type 0} (r : Result T IoError) (m n : ℕ) (refused quiet : Type 0) → m ≡ n → IfErr r (CloseCause (2 ^ 32 ≤ m) refused quiet) → IfErr r (CloseCause (2 ^ 32 ≤ n) refused quiet)
-same_cause r m n refused quiet is h = subst (λ k. IfErr r (CloseCause (2 ^ 32 ≤ k) refused quiet)) is h
+pub faults_so : {W A : Type 0} (w : Ghosts W) (old new : W) (m n : ℕ) (text bytes : List ℕ) (result : Result A IoError) → m ≡ n → text ≡ bytes → EndFaults w (2 ^ 32 ≤ m) old new text result → EndFaults w (2 ^ 32 ≤ n) old new bytes result
+faults_so w old new m n text bytes result same is h =
+    subst (λ k. EndFaults w (2 ^ 32 ≤ k) old new bytes result) same (subst (λ (l : List ℕ). EndFaults w (2 ^ 32 ≤ m) old new l result) is h)
 
 -- ---- where a body lies
 

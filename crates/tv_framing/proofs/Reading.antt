@@ -1,5 +1,5 @@
 -- How the list of a composite file and its bodies agree.
-use Rattle.std.proofs.Common.{◌≡◌, ◌≤◌, ◌<◌, ◌+◌, ◌-◌, ◌^◌, ℕ, suc, Bool, true, false, ◌||◌, List, [], ◌∷◌, ◌++◌, length, take, drop, get_or, slice_range, Option, Some, None, refl, sym, ap, subst, ◌∙◌, arith, append_assoc, append-nil, length-append, length-drop}
+use Rattle.std.proofs.Common.{◌≡◌, ◌≤◌, ◌<◌, ◌+◌, ◌-◌, ◌^◌, ℕ, suc, Bool, true, false, ◌||◌, ◌&&◌, cond, eqb, List, [], ◌∷◌, ◌++◌, length, take, drop, get_or, slice_range, Option, Some, None, refl, sym, ap, subst, ◌∙◌, arith, append_assoc, append-nil, length-append, length-drop}
 use Rattle.std.proofs.lemmas.List.{drop_at, drop_more, take_at, length-take-le}
 use Rattle.std.specs.List.{AllByRecursion, list_any}
 use Rattle.tv_model.specs.Footer.{four_bytes}
@@ -7,6 +7,14 @@ use Rattle.tv_model.specs.VInt.{vint}
 use Rattle.tv_framing.specs.declared.address.FileAddr.{FileAddr}
 use Rattle.tv_framing.specs.declared.entries.Entry.{Entry}
 use Rattle.tv_framing.specs.declared.starts.Start.{Start}
+use Rattle.std.specs.BTreeSet.{BTreeSet}
+use Rattle.std.specs.BTreeSet as tree
+use Rattle.std.specs.Ordering.{is_eq, nat_cmp, ordering_then}
+use Rattle.std.specs.declared.cmp.Ordering.{Ordering}
+use Rattle.std.specs.declared.cmp.Ordering.TheVariants.{Less, Equal, Greater}
+use Rattle.std.proofs.lemmas.Bool.Decides.{nat_tests}
+use Rattle.std.proofs.lemmas.List.Folds.{list_any-append}
+use Rattle.tv_framing.specs.contracts.address.FileAddrOrd.TheImpl as order
 use Rattle.tv_framing.specs.Composite.{Part, AreDistinct, IsAddress, IsComposite, addresses, bodies, footing, is_at, listed}
 use Rattle.tv_framing.specs.Entries.{BeginsAtFirst, IsLayout, entries_text, entry_addresses, entry_text, gaps, starts_after}
 use Rattle.tv_framing.specs.Fitting.{EntryFits}
@@ -273,6 +281,41 @@ pub stands_twice : (entries : List Entry) (i offset len : ℕ) (starts : List St
 stands_twice entries i offset len starts e s front is h =
     twice (start_addresses starts) e.addr (entry_addresses (drop (i + 1) entries)) is
     (subst AreDistinct (sym (ap (λ (l : List Entry). start_addresses starts ++ entry_addresses l) (sym front) ∙ s.named)) h.distinct)
+
+-- ---- the addresses in a set
+
+nat_same : (x y : ℕ) → is_eq (nat_cmp x y) ≡ eqb x y
+nat_same x y = grind (arith, nat_tests)
+
+both_same : (x y : Ordering) (b c : Bool) → is_eq x ≡ b → is_eq y ≡ c → is_eq (ordering_then x y) ≡ (b && c)
+both_same Less y b c p q = ap (λ d. d && c) p
+both_same Equal y b c p q = q ∙ ap (λ d. d && c) p
+both_same Greater y b c p q = ap (λ d. d && c) p
+
+same_order : (a q : FileAddr) → is_eq (order.cmp-value.it a q) ≡ is_at q a
+same_order a q = both_same (nat_cmp a.field q.field) (nat_cmp a.idx q.idx) (eqb a.field q.field) (eqb a.idx q.idx) (nat_same a.field q.field) (nat_same a.idx q.idx)
+
+-- the set has the addresses of these starts
+abbrev pub HasSeen : BTreeSet FileAddr → List Start → Type 0
+HasSeen seen starts = (q : FileAddr) → tree.contains order.cmp-value.it seen q ≡ list_any (is_at q) (start_addresses starts)
+
+or_so : (b d c e : Bool) → b ≡ d → c ≡ e → cond b true c ≡ (e || (d || false))
+or_so true true c true p q = refl
+or_so true true c false p q = refl
+or_so true false c e p q = absurd (cc)
+or_so false true c e p q = absurd (cc)
+or_so false false true true p q = refl
+or_so false false false false p q = refl
+or_so false false true false p q = absurd (cc)
+or_so false false false true p q = absurd (cc)
+
+pub seen_more : (old new : BTreeSet FileAddr) (starts now : List Start) (e : Entry) (offset : ℕ) → HasSeen old starts
+    → ((q : FileAddr) → tree.contains order.cmp-value.it new q ≡ cond (is_eq (order.cmp-value.it e.addr q)) true (tree.contains order.cmp-value.it old q))
+    → now ≡ starts ++ record { addr = e.addr; offset = offset } ∷ [] → HasSeen new now
+seen_more old new starts now e offset seen updates is q =
+    updates q ∙ or_so _ _ _ _ (same_order e.addr q) (seen q)
+    ∙ sym (list_any-append (is_at q) (start_addresses starts) (e.addr ∷ []))
+    ∙ sym (ap (list_any (is_at q)) (ap start_addresses is ∙ addresses_push starts (record { addr = e.addr; offset = offset })))
 
 -- ---- the parts of a file are those that begin where the entries say
 

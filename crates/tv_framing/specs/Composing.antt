@@ -1,7 +1,9 @@
 -- A composite file that is being written.
-use Rattle.std.specs.Prelude.{ℕ, ◌≤◌, ◌-◌, List, length, take, drop}
+use Rattle.std.specs.Prelude.{ℕ, ◌≡◌, ◌≤◌, ◌-◌, ◌++◌, ◌∷◌, [], List, length, take, drop, Result, IfErr, OnOk}
 use Rattle.std.specs.List.{AllByRecursion}
-use Rattle.tv_framing.specs.Composite.{Part, AreDistinct, IsAddress}
+use Rattle.tv_base.specs.Causes.{IoCause}
+use Rattle.tv_base.specs.declared.io.IoError.{IoError}
+use Rattle.tv_framing.specs.Composite.{Part, AreDistinct, IsAddress, address, grown}
 use Rattle.tv_framing.specs.declared.starts.Start.{Start}
 use Rattle.tv_framing.specs.Starts.{Fill, start_addresses}
 
@@ -10,6 +12,15 @@ pub record Composing (W : Type 0) : Type 0 where
   pub writer : W
   pub before : List ℕ
   pub parts : List Part
+
+-- the same with one more body, which is empty
+abbrev pub begun : {W : Type 0} → Composing W → (field idx : ℕ) → Composing W
+begun c field idx = record c { parts = c.parts ++ record { addr = address field idx; body = [] } ∷ [] }
+
+-- The body that was begun last has these bytes too. Where memory is wanted, none of them was taken.
+pub record GrowsComposite {W A : Type 0} (old new : Composing W) (bytes : List ℕ) (result : Result A IoError) : Type 0 where
+  pub ok : OnOk result ((new.parts ≡ grown old.parts bytes) × (new.before ≡ old.before))
+  pub memory : IfErr result (IoCause (Unit {0}) ((new.parts ≡ old.parts) × (new.before ≡ old.before)))
 
 -- of what the writer took, all but the last ones, and the last ones
 abbrev pub before_last : ℕ → List ℕ → List ℕ

@@ -10,6 +10,9 @@ pub record Part : Type 0 where
   pub addr : FileAddr
   pub body : List ℕ
 
+abbrev pub address : (field idx : ℕ) → FileAddr
+address field idx = record { field = field; idx = idx }
+
 -- the bodies, one behind the other
 abbrev pub bodies : List Part → List ℕ
 bodies [] = []
@@ -49,6 +52,14 @@ pub record IsComposite (bytes : List ℕ) (parts : List Part) : Type 0 where
   pub distinct : AreDistinct (addresses parts)
   pub short : length (footing parts) < 2 ^ 32
   pub whole : bytes ≡ composite parts
+
+-- it is made of no other ones
+abbrev pub AreTheParts : List ℕ → List Part → Type 0
+AreTheParts bytes parts = (others : List Part) → IsComposite bytes others → others ≡ parts
+
+-- it is made of none
+abbrev pub IsNotComposite : List ℕ → Type 0
+IsNotComposite bytes = (parts : List Part) → IsComposite bytes parts → ⊥
 
 -- the body of this address, if there is one
 abbrev pub body_at : FileAddr → List Part → Option (List ℕ)

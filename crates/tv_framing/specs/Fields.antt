@@ -21,3 +21,6 @@ field_sum field = sum_by bytes_of field.parts + column_bytes field.column
 -- the parts with one more at this index; indexes before it that weren't there are without a part
 abbrev pub with_part : ℕ → ByteCount → List (Option ByteCount) → List (Option ByteCount)
 with_part idx size parts = slice_set (parts ++ replicate (idx + 1 - length parts) None) idx (Some size)
+
+abbrev pub with_usage : ℕ → ByteCount → FieldSpace → FieldSpace
+with_usage idx size field = record field { parts = with_part idx size field.parts }

@@ -8,6 +8,7 @@ use Rattle.tv_model.specs.Footer.{four_bytes, footer_magic, stated}
 use Rattle.tv_model.specs.Footer as model
 use Rattle.tv_base.specs.declared.io.IoKind.TheVariants.{InvalidData, UnexpectedEof}
 use Rattle.tv_base.specs.declared.io.IoFault.{IoFault}
+use Rattle.tv_base.specs.declared.versions.Version.{Version}
 use Rattle.tv_framing.specs.Faults.{IsFault}
 use Rattle.tv_framing.specs.declared.footer.Footer.{Footer}
 
@@ -29,6 +30,13 @@ IsFooter d footer = form.IsFooter d (numbers_of footer)
 abbrev pub Spells : List ℕ → Footer → Type 0
 Spells json footer = form.Spells json (numbers_of footer)
 
+-- the version of this library, and its footer of this checksum
+abbrev pub own_version : Version
+own_version = record { major = 0; minor = 26; patch = 2; index_format_version = 7 }
+
+abbrev pub own_footer : ℕ → Footer
+own_footer crc = record { version = own_version; crc = crc }
+
 -- its numbers fit 32 bits
 abbrev pub FooterFits : Footer → Type 0
 FooterFits footer = form.FooterFits (numbers_of footer)
@@ -36,6 +44,10 @@ FooterFits footer = form.FooterFits (numbers_of footer)
 -- the file in four parts: its body, the JSON of the footer, the JSON's length, and the number by which a footer is known
 abbrev pub IsFramed : List ℕ → Footer → List ℕ → Type 0
 IsFramed bytes footer body = model.IsFramed bytes (numbers_of footer) body
+
+-- the file can't be seen so
+abbrev pub IsNotFramed : List ℕ → Type 0
+IsNotFramed bytes = (footer : Footer) (body : List ℕ) → IsFramed bytes footer body → ⊥
 
 -- the last four bytes, and the bytes before the last eight that the number in the first four of those means
 abbrev pub last_four : List ℕ → List ℕ

@@ -10,6 +10,7 @@ pub mod Fitting
 pub mod Footers
 pub mod FooterTrees
 pub mod FooterEnds
+pub mod Sealing
 pub mod Proxies
 pub mod PerField
 pub mod Places

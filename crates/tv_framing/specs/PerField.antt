@@ -6,7 +6,7 @@ use Rattle.std.specs.declared.cmp.Ordering.TheVariants.{Less}
 use Rattle.tv_model.specs.Names.{byte_cmp}
 use Rattle.tv_base.specs.declared.byte_count.ByteCount.{ByteCount}
 use Rattle.tv_framing.specs.declared.column_usage.ColumnSpaceUsage.{ColumnSpaceUsage}
-use Rattle.tv_framing.specs.Usage.{merged_columns, together}
+use Rattle.tv_framing.specs.Usage.{capped, merged_columns, together}
 use Rattle.tv_framing.specs.Fields.{FieldSpace, field_sum}
 
 -- the parts of two usages, index by index
@@ -50,3 +50,7 @@ pub record AreByName (given fields : List FieldSpace) : Type 0 where
 -- all fields
 abbrev pub fields_sum : List FieldSpace → ℕ
 fields_sum fields = sum_by field_sum fields
+
+-- all fields take so many bytes together
+abbrev pub UsesBytes : List FieldSpace → ℕ → Type 0
+UsesBytes fields n = capped (fields_sum fields) ≡ capped n

@@ -39,3 +39,7 @@ listed_from before (start ∷ starts) =
 -- their number and their list
 abbrev pub footing_text : List Start → List ℕ
 footing_text starts = vint (length starts) ++ listed_from 0 starts
+
+-- and how long that is
+abbrev pub list_text : List Start → List ℕ
+list_text starts = footing_text starts ++ four_bytes (length (footing_text starts))

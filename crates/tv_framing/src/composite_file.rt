@@ -2,11 +2,10 @@
 ghost use Rattle.std.specs.Prelude.{◌≡◌, ◌≤◌, ◌<◌, ◌^◌, ◌++◌, ℕ, List, [], IfOk, IfErr, IfSome, IfNone, false, true, length, map, string_bytes, take};
 ghost use Rattle.tv_model.specs.Footer.{four_bytes};
 ghost use Rattle.tv_base.specs.declared.io.IoKind.TheVariants.{InvalidData};
-ghost use Rattle.tv_framing.specs.Composite.{IsComposite, Part, bodies, body_at, fields_below, not_composite};
+ghost use Rattle.tv_framing.specs.Composite.{AreTheParts, IsComposite, IsNotComposite, address, bodies, body_at, fields_below, not_composite};
 ghost use Rattle.tv_framing.specs.Faults.{IsFault, OfFault};
-ghost use Rattle.tv_framing.specs.PerField.{AreByName, fields_sum};
+ghost use Rattle.tv_framing.specs.PerField.{AreByName, UsesBytes};
 ghost use Rattle.tv_framing.specs.Reports.{index_too_large, indexes_fit, usages};
-ghost use Rattle.tv_framing.specs.Usage.{capped};
 ghost use Rattle.std.specs.Option.{IsSomeAnd};
 
 use crate::address::FileAddr;
@@ -45,9 +44,9 @@ impl CompositeFile {
     /// The parts of the file. `InvalidData` comes exactly where it isn't made of parts.
     pub fn open(alloc: Global, file: &FileSlice) -> Result<CompositeFile, IoError>
         ensures ok { IfOk result (IsComposite file.now) }
-        ensures only { IfOk result (λ parts. (others : List Part) → IsComposite file.now others → others ≡ parts) }
+        ensures only { IfOk result (AreTheParts file.now) }
         ensures err { IfErr result (OfFault (IsFault InvalidData not_composite)) }
-        ensures outside { IfErr result (OfFault (λ _. (parts : List Part) → IsComposite file.now parts → ⊥)) }
+        ensures outside { IfErr result (OfFault (λ _. IsNotComposite file.now)) }
     {
         match parts_in(alloc, file)? {
             Some(parts) => Ok(parts),
@@ -78,14 +77,14 @@ impl CompositeFile {
 
     /// The field's body of index 0, and `None` where there is none.
     pub fn open_read(&self, field: Field) -> Result<Option<FileSlice>, Memory>
-        ensures body { IfOk result (λ found. found ≡ body_at (record { field = field; idx = 0 }) self.now) }
+        ensures body { IfOk result (λ found. found ≡ body_at (address field 0) self.now) }
     {
         self.open_read_with_idx(field, 0)
     }
 
     /// The field's body of this index, and `None` where there is none.
     pub fn open_read_with_idx(&self, field: Field, idx: u64) -> Result<Option<FileSlice>, Memory>
-        ensures body { IfOk result (λ found. found ≡ body_at (record { field = field; idx = idx }) self.now) }
+        ensures body { IfOk result (λ found. found ≡ body_at (address field idx) self.now) }
     {
         let addr = FileAddr { field, idx };
         match range_of(self.starts.as_slice(), &addr, self.bytes.len()) {
@@ -99,7 +98,7 @@ impl CompositeFile {
     pub fn space_usage(&self, names: &[String]) -> Result<PerFieldSpaceUsage, IoError>
         requires below { fields_below (length names.now) self.now ≡ true }
         ensures ok { IfOk result (AreByName (usages (map string_bytes names.now) self.now)) }
-        ensures total { IfOk result (λ usage. capped (fields_sum usage) ≡ capped (length (bodies self.now))) }
+        ensures total { IfOk result (λ usage. UsesBytes usage (length (bodies self.now))) }
         ensures fits { IfOk result (λ _. indexes_fit self.now ≡ true) }
         ensures err { IfErr result (OfFault (IsFault InvalidData index_too_large)) }
         ensures above { IfErr result (OfFault (λ _. indexes_fit self.now ≡ false)) }
@@ -120,8 +119,8 @@ impl CompositeFile {
 // The parts of the file, if it is made of parts.
 fn parts_in(alloc: Global, file: &FileSlice) -> Result<Option<CompositeFile>, Memory>
     ensures some { IfOk result (λ found. IfSome found (IsComposite file.now)) }
-    ensures only { IfOk result (λ found. IfSome found (λ parts. (others : List Part) → IsComposite file.now others → others ≡ parts)) }
-    ensures none { IfOk result (λ found. IfNone found ((parts : List Part) → IsComposite file.now parts → ⊥)) }
+    ensures only { IfOk result (λ found. IfSome found (AreTheParts file.now)) }
+    ensures none { IfOk result (λ found. IfNone found (IsNotComposite file.now)) }
 {
     let bytes = file.read_bytes()?;
     let Some((len, footing)) = split_footing(bytes.as_slice()) else {
@@ -139,9 +138,12 @@ fn parts_in(alloc: Global, file: &FileSlice) -> Result<Option<CompositeFile>, Me
 
 // How many bytes stand before the list of the parts, and that list, as the last four bytes say.
 fn split_footing(bytes: &[u8]) -> Option<(usize, &[u8])>
-    ensures found { (front footing : List ℕ) → length footing < 2 ^ 32 → bytes.now ≡ front ++ (footing ++ four_bytes (length footing)) → IsSomeAnd result (λ r. (r.0 ≡ length front) × (r.1.now ≡ footing)) }
+    ensures found { (front footing : List ℕ) → length footing < 2 ^ 32
+        → bytes.now ≡ front ++ (footing ++ four_bytes (length footing))
+        → IsSomeAnd result (λ r. (r.0 ≡ length front) × (r.1.now ≡ footing)) }
     ensures small { IfSome result (λ r. r.0 < 2 ^ 64) }
-    ensures only { IfSome result (λ r. (r.0 ≤ length bytes.now) × (length r.1.now < 2 ^ 32) × (bytes.now ≡ take r.0 bytes.now ++ (r.1.now ++ four_bytes (length r.1.now)))) }
+    ensures only { IfSome result (λ r. (r.0 ≤ length bytes.now) × (length r.1.now < 2 ^ 32)
+        × (bytes.now ≡ take r.0 bytes.now ++ (r.1.now ++ four_bytes (length r.1.now)))) }
 {
     let end = bytes.len().checked_sub(4)?;
     let (front, last) = bytes.split_at(end);

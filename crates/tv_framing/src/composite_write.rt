@@ -1,11 +1,11 @@
 //! Writes a composite file.
-ghost use Rattle.std.specs.Prelude.{◌≡◌, ◌≢◌, ◌<◌, ◌≤◌, ◌+◌, ◌^◌, ◌++◌, [], ◌∷◌, true, false, length, OnOk, OnErr, IfErr};
-ghost use Rattle.tv_model.specs.Files.{Rose};
-ghost use Rattle.tv_base.specs.Causes.{IoCause};
-ghost use Rattle.tv_framing.specs.Composite.{IsComposite, bodies, composite, footing, grown, has_address};
-ghost use Rattle.tv_framing.specs.Closing.{CloseCause};
+ghost use Rattle.std.specs.Prelude.{◌≡◌, ◌≢◌, ◌<◌, ◌+◌, ◌^◌, [], false, length, OnOk, OnErr};
+ghost use Rattle.tv_base.specs.Writers.{WriteFaults};
+ghost use Rattle.tv_framing.specs.Composite.{IsComposite, address, bodies, composite, has_address};
+ghost use Rattle.tv_framing.specs.Composing.{GrowsComposite, begun};
+ghost use Rattle.tv_framing.specs.Closing.{CloseFaults, ListFaults, SealsList, whole_file};
+ghost use Rattle.tv_framing.specs.Sealing.{SealsAll, Steps};
 ghost use Rattle.tv_framing.specs.Starts.{Ascend, footing_text};
-ghost use Rattle.tv_model.specs.Footer.{four_bytes};
 
 use crate::address::FileAddr;
 use crate::faults::refusal;
@@ -28,17 +28,17 @@ impl<W: TerminatingWrite> Model for CompositeWrite<W> {
 
     ghost Value = { Composing W };
 
-    ghost view = { λ c. record { writer = c.writer; before = before_last c.written (W.taken c.writer); parts = parts_of (the_last c.written (W.taken c.writer)) c.starts.items } };
+    ghost view = { λ c. record { writer = c.writer; before = before_last c.written (W.view c.writer).taken; parts = parts_of (the_last c.written (W.view c.writer).taken) c.starts.items } };
 
-    ghost invariant = { λ c. IsBegun c.starts.items c.written (W.taken c.writer) };
+    ghost invariant = { λ c. IsBegun c.starts.items c.written (W.view c.writer).taken };
 }
 
 impl<W: TerminatingWrite> CompositeWrite<W> {
     /// Writes to this writer, behind what it has taken so far. Takes no memory.
     pub fn wrap(alloc: Global, w: W) -> CompositeWrite<W>
-        requires going { W.ended w ≡ false }
+        requires going { (W.view w).ended ≡ false }
         ensures writer { result.writer ≡ w }
-        ensures before { result.before ≡ W.taken w }
+        ensures before { result.before ≡ (W.view w).taken }
         ensures none { result.parts ≡ [] }
     {
         CompositeWrite {
@@ -50,8 +50,8 @@ impl<W: TerminatingWrite> CompositeWrite<W> {
 
     /// Begins the body of this field under the index 0.
     pub fn for_field(&mut self, field: Field) -> Result<(), Memory>
-        requires unused { has_address (record { field = field; idx = 0 }) self.old.parts ≡ false }
-        ensures ok { OnOk result (self.new ≡ record self.old { parts = self.old.parts ++ record { addr = record { field = field; idx = 0 }; body = [] } ∷ [] }) }
+        requires unused { has_address (address field 0) self.old.parts ≡ false }
+        ensures ok { OnOk result (self.new ≡ begun self.old field 0) }
         ensures err { OnErr result (self.new ≡ self.old) }
     {
         self.for_field_with_idx(field, 0)
@@ -59,8 +59,8 @@ impl<W: TerminatingWrite> CompositeWrite<W> {
 
     /// Begins the body of this field and index.
     pub fn for_field_with_idx(&mut self, field: Field, idx: u64) -> Result<(), Memory>
-        requires unused { has_address (record { field = field; idx = idx }) self.old.parts ≡ false }
-        ensures ok { OnOk result (self.new ≡ record self.old { parts = self.old.parts ++ record { addr = record { field = field; idx = idx }; body = [] } ∷ [] }) }
+        requires unused { has_address (address field idx) self.old.parts ≡ false }
+        ensures ok { OnOk result (self.new ≡ begun self.old field idx) }
         ensures err { OnErr result (self.new ≡ self.old) }
     {
         let field = Field::from_field_id(field.field_id());
@@ -80,16 +80,12 @@ impl<W: TerminatingWrite> CompositeWrite<W> {
 
     /// Adds bytes to the body that was begun last. After a fault the value is only dropped.
     pub fn write_all(&mut self, bytes: &[u8]) -> Result<(), IoError>
-        requires going { W.ended self.old.writer ≡ false }
+        requires going { (W.view self.old.writer).ended ≡ false }
         requires begun { self.old.parts ≢ [] }
         requires room { length (bodies self.old.parts) + length bytes.now < 2 ^ 64 }
-        ensures ok { OnOk result ((self.new.parts ≡ grown self.old.parts bytes.now) × (self.new.before ≡ self.old.before)) }
-        ensures memory { IfErr result (IoCause (Unit {0}) ((self.new.parts ≡ self.old.parts) × (self.new.before ≡ self.old.before))) }
-        ensures going { OnOk result (W.ended self.new.writer ≡ false) }
-        ensures again { IfErr result (IoCause (Unit {0}) (W.ended self.new.writer ≡ false)) }
-        ensures over { IfErr result (IoCause (W.ended self.new.writer ≡ true) (Unit {0})) }
-        ensures quiet { OnOk result (W.faults self.new.writer ≡ W.faults self.old.writer) }
-        ensures cause { IfErr result (IoCause (Rose (W.faults self.old.writer) (W.faults self.new.writer)) (W.faults self.new.writer ≡ W.faults self.old.writer)) }
+        ensures grows { GrowsComposite self.old self.new bytes.now result }
+        ensures faults { WriteFaults (W.view self.old.writer) (W.view self.new.writer) result }
+        ensures stays { W.stays self.old.writer self.new.writer }
     {
         match self.writer.write_all(bytes) {
             Ok(()) => {
@@ -109,12 +105,12 @@ impl<W: TerminatingWrite> CompositeWrite<W> {
     /// Writes the list of the bodies, tells the end, and gives the writer back. `InvalidData` comes
     /// exactly where the list is longer than `u32::MAX` bytes.
     pub fn close(self) -> (W, Result<(), IoError>)
-        requires going { W.ended self.writer ≡ false }
-        ensures ok { W.keeps → OnOk result.1 (W.taken result.0 ≡ self.before ++ composite self.parts) }
+        requires going { (W.view self.writer).ended ≡ false }
         ensures form { OnOk result.1 (IsComposite (composite self.parts) self.parts) }
-        ensures ended { OnOk result.1 (W.ended result.0 ≡ true) }
-        ensures quiet { OnOk result.1 (W.faults result.0 ≡ W.faults self.writer) }
-        ensures cause { IfErr result.1 (CloseCause (2 ^ 32 ≤ length (footing self.parts)) (Rose (W.faults self.writer) (W.faults result.0)) (W.faults result.0 ≡ W.faults self.writer)) }
+        ensures sealed { SealsAll W.TerminatingWrite self.writer result.0 (whole_file self)
+            result.1 }
+        ensures faults { CloseFaults W.TerminatingWrite self result.0 result.1 }
+        ensures stays { Steps W.stays self.writer result.0 }
     {
         let CompositeWrite {
             mut writer,
@@ -133,13 +129,12 @@ fn finish<W: TerminatingWrite>(
     written: u64,
     alloc: Global,
 ) -> Result<(), IoError>
-    requires going { W.ended writer.old ≡ false }
+    requires going { (W.view writer.old).ended ≡ false }
     requires ascend { Ascend 0 starts.now written }
-    ensures ok { W.keeps → OnOk result (W.taken writer.new ≡ W.taken writer.old ++ (footing_text starts.now ++ four_bytes (length (footing_text starts.now)))) }
     ensures short { OnOk result (length (footing_text starts.now) < 2 ^ 32) }
-    ensures ended { OnOk result (W.ended writer.new ≡ true) }
-    ensures quiet { OnOk result (W.faults writer.new ≡ W.faults writer.old) }
-    ensures cause { IfErr result (CloseCause (2 ^ 32 ≤ length (footing_text starts.now)) (Rose (W.faults writer.old) (W.faults writer.new)) (W.faults writer.new ≡ W.faults writer.old)) }
+    ensures sealed { SealsList W.TerminatingWrite starts.now writer.old writer.new result }
+    ensures faults { ListFaults W.TerminatingWrite starts.now writer.old writer.new result }
+    ensures stays { Steps W.stays writer.old writer.new }
 {
     let mut footing = footing_of(alloc, starts, written)?;
     let Ok(len) = u32::try_from(footing.len()) else {

@@ -36,7 +36,8 @@ impl<'a> Cursor<'a> {
 
     /// The number whose spelling comes next.
     pub(crate) fn vint(&mut self) -> Option<u64>
-        ensures found { (n : ℕ) (rest : List ℕ) → n < 2 ^ 64 → self.old ≡ vint n ++ rest → (result ≡ Some n) × (self.new ≡ rest) }
+        ensures found { (n : ℕ) (rest : List ℕ) → n < 2 ^ 64 → self.old ≡ vint n ++ rest
+            → (result ≡ Some n) × (self.new ≡ rest) }
         ensures only { IfSome result (λ n. self.old ≡ vint n ++ self.new) }
     {
         let (number, len) = VInt::deserialize(self.left)?;
@@ -46,7 +47,8 @@ impl<'a> Cursor<'a> {
 
     /// The number of the next four bytes, the lowest first.
     pub(crate) fn four_bytes(&mut self) -> Option<u32>
-        ensures found { (n : ℕ) (rest : List ℕ) → n < 2 ^ 32 → self.old ≡ four_bytes n ++ rest → (result ≡ Some n) × (self.new ≡ rest) }
+        ensures found { (n : ℕ) (rest : List ℕ) → n < 2 ^ 32 → self.old ≡ four_bytes n ++ rest
+            → (result ≡ Some n) × (self.new ≡ rest) }
         ensures only { IfSome result (λ n. self.old ≡ four_bytes n ++ self.new) }
         ensures none { IfNone result (length self.old < 4) }
     {

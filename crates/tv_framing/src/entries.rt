@@ -7,8 +7,9 @@ ghost use Rattle.tv_framing.specs.Fitting.{EntryFits};
 
 use crate::address::FileAddr;
 use crate::cursor::Cursor;
-use crate::starts::{Start, has_start};
+use crate::starts::Start;
 use std::alloc::Global;
+use std::collections::BTreeSet;
 use tv_base::{Field, Memory};
 
 /// A body's address, and how far the body begins behind the one before.
@@ -20,7 +21,9 @@ pub(crate) struct Entry {
 
 // The entry that comes next.
 fn next_entry(cursor: &mut Cursor<'_>) -> Option<Entry>
-    ensures found { (entry : Entry) (rest : List ℕ) → EntryFits entry → cursor.old ≡ entry_text entry ++ rest → (result ≡ Some entry) × (cursor.new ≡ rest) }
+    ensures found { (entry : Entry) (rest : List ℕ) → EntryFits entry
+        → cursor.old ≡ entry_text entry ++ rest
+        → (result ≡ Some entry) × (cursor.new ≡ rest) }
     ensures only { IfSome result (λ entry. cursor.old ≡ entry_text entry ++ cursor.new) }
     ensures fits { IfSome result EntryFits }
 {
@@ -33,9 +36,13 @@ fn next_entry(cursor: &mut Cursor<'_>) -> Option<Entry>
 
 /// The entries that the bytes spell behind their number, and nothing for all other bytes.
 pub(crate) fn entries_in(alloc: Global, footing: &[u8]) -> Result<Option<Vec<Entry>>, Memory>
-    ensures found { (entries : List Entry) → length entries < 2 ^ 64 → AllByRecursion EntryFits entries → footing.now ≡ vint (length entries) ++ entries_text entries → IfOk result (λ found. option_map (λ v. v.items) found ≡ Some entries) }
+    ensures found { (entries : List Entry) → length entries < 2 ^ 64
+        → AllByRecursion EntryFits entries
+        → footing.now ≡ vint (length entries) ++ entries_text entries
+        → IfOk result (λ found. option_map (λ v. v.items) found ≡ Some entries) }
     ensures fits { IfOk result (λ found. IfSome found (λ v. AllByRecursion EntryFits v.items)) }
-    ensures only { IfOk result (λ found. IfSome found (λ v. footing.now ≡ vint (length v.items) ++ entries_text v.items)) }
+    ensures only { IfOk result (λ found. IfSome found (λ v.
+        footing.now ≡ vint (length v.items) ++ entries_text v.items)) }
 {
     let mut cursor = Cursor::new(footing);
     let Some(count) = cursor.vint() else {
@@ -61,19 +68,21 @@ pub(crate) fn starts_of(
     entries: &[Entry],
     len: u64,
 ) -> Result<Option<Vec<Start>>, Memory>
-    ensures some { IfOk result (λ found. IfSome found (λ v. IsLayout entries.now len × (v.items ≡ starts_after 0 entries.now))) }
+    ensures some { IfOk result (λ found. IfSome found (λ v. IsLayout entries.now len
+        × (v.items ≡ starts_after 0 entries.now))) }
     ensures none { IfOk result (λ found. IfNone found (IsLayout entries.now len → ⊥)) }
 {
     if !begins_at_first(entries, len) {
         return Ok(None);
     }
     let mut starts = Vec::new(alloc);
+    let mut seen = BTreeSet::new(alloc);
     let mut offset = 0;
     for entry in entries {
         if len - offset < entry.gap {
             return Ok(None);
         }
-        if has_start(starts.as_slice(), &entry.addr) {
+        if !seen.insert(entry.addr)? {
             return Ok(None);
         }
         offset += entry.gap;

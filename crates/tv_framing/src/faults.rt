@@ -34,7 +34,8 @@ pub(crate) fn numbered(
 
 // The text with the number in its middle.
 fn numbered_text(alloc: Global, before: &str, number: usize, after: &str) -> Result<String, Memory>
-    ensures { IfOk result (λ text. string_bytes text ≡ before.now ++ (decimal number ++ after.now)) }
+    ensures { IfOk result (λ text.
+        string_bytes text ≡ before.now ++ (decimal number ++ after.now)) }
 {
     let mut digits = itoa::Buffer::new();
     let mut text = String::from_str(alloc, before)?;

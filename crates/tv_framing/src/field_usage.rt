@@ -2,7 +2,7 @@
 ghost use Rattle.std.specs.Prelude.{◌≡◌, ◌≤◌, [], None, Some, IfOk, OnOk, OnErr, get_or, string_bytes, option_and_then, option_copied, option_map, sum_by};
 ghost use Rattle.tv_framing.specs.Usage.{bytes_of, capped};
 ghost use Rattle.tv_framing.specs.PerField.{joined, joined_columns, joined_parts};
-ghost use Rattle.tv_framing.specs.Fields.{column_bytes, field_sum, with_part};
+ghost use Rattle.tv_framing.specs.Fields.{column_bytes, field_sum, with_usage};
 
 use crate::column_usage::{ColumnSpaceUsage, size_of, together};
 use std::alloc::Global;
@@ -43,7 +43,7 @@ impl FieldUsage {
     pub fn add_field_idx(&mut self, idx: usize, size: ByteCount) -> Result<(), Memory>
         requires small { idx ≤ 65535 }
         requires unset { get_or self.old.parts idx None ≡ None }
-        ensures ok { OnOk result (self.new ≡ record self.old { parts = with_part idx size self.old.parts }) }
+        ensures ok { OnOk result (self.new ≡ with_usage idx size self.old) }
         ensures err { OnErr result (self.new ≡ self.old) }
     {
         if self.sub_num_bytes.len() <= idx {
@@ -115,7 +115,8 @@ impl FieldUsage {
 
     /// The size of the column's dictionary, if there is one.
     pub fn dictionary_num_bytes(&self) -> Option<ByteCount>
-        ensures dictionary { result ≡ option_and_then (λ usage. usage.dictionary) self.now.column }
+        ensures dictionary { result ≡ option_and_then (λ usage. usage.dictionary)
+            self.now.column }
     {
         match self.column_usage {
             Some(usage) => usage.dictionary,

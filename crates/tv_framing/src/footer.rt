@@ -1,11 +1,11 @@
 //! The footer of a file.
-ghost use Rattle.std.specs.Prelude.{◌≡◌, ◌++◌, List, ℕ, false, IfOk, IfErr, OnOk};
-ghost use Rattle.tv_model.specs.Files.{Rose};
+ghost use Rattle.std.specs.Prelude.{◌≡◌, List, ℕ, false, IfOk, IfErr, OnOk};
 ghost use Rattle.tv_model.specs.Footer.{IsOtherFormat, IsReadFormat, footer};
-ghost use Rattle.tv_base.specs.Causes.{IoCause};
+ghost use Rattle.tv_base.specs.Writers.{TakesAll, WriteFaults};
 ghost use Rattle.tv_framing.specs.Faults.{OfFault};
 ghost use Rattle.tv_framing.specs.declared.footer.Footer.{Footer};
-ghost use Rattle.tv_framing.specs.Footers.{IsFramed, Refuses, footer_text};
+ghost use Rattle.tv_framing.specs.Footers.{IsFramed, IsNotFramed, Refuses, footer_text, own_footer, own_version};
+ghost use Rattle.tv_framing.specs.Sealing.{Steps};
 
 use crate::faults::refusal;
 use crate::footer_end::{FOOTER_MAGIC_NUMBER, json_range};
@@ -27,7 +27,7 @@ pub struct Footer {
 impl Footer {
     /// The footer of this library for a body with this checksum.
     pub fn new(crc: u32) -> Footer
-        ensures footer { result ≡ record { version = record { major = 0; minor = 26; patch = 2; index_format_version = 7 }; crc = crc } }
+        ensures footer { result ≡ own_footer crc }
     {
         Footer {
             version: version(),
@@ -45,7 +45,8 @@ impl Footer {
     /// The footer's bytes: its JSON, the length of that, and the magic number.
     pub fn to_bytes(&self, alloc: Global) -> Result<Vec<u8>, Memory>
         ensures bytes { IfOk result (λ bytes. bytes.items ≡ footer_text self.now) }
-        ensures own { (crc : ℕ) → self.now ≡ record { version = record { major = 0; minor = 26; patch = 2; index_format_version = 7 }; crc = crc } → IfOk result (λ bytes. bytes.items ≡ footer crc) }
+        ensures own { (crc : ℕ) → self.now ≡ own_footer crc
+            → IfOk result (λ bytes. bytes.items ≡ footer crc) }
     {
         let mut bytes = write_json(alloc, self)?;
         let Ok(len) = u32::try_from(bytes.len()) else {
@@ -62,13 +63,11 @@ impl Footer {
         alloc: Global,
         write: &mut W,
     ) -> Result<(), IoError>
-        requires going { W.ended write.old ≡ false }
-        ensures ok { OnOk result (W.taken write.new ≡ W.taken write.old ++ footer_text self.now) }
-        ensures memory { IfErr result (IoCause (Unit {0}) (W.taken write.new ≡ W.taken write.old)) }
-        ensures going { OnOk result (W.ended write.new ≡ false) }
-        ensures again { IfErr result (IoCause (Unit {0}) (W.ended write.new ≡ false)) }
-        ensures quiet { OnOk result (W.faults write.new ≡ W.faults write.old) }
-        ensures cause { IfErr result (IoCause (Rose (W.faults write.old) (W.faults write.new)) (W.faults write.new ≡ W.faults write.old)) }
+        requires going { (W.view write.old).ended ≡ false }
+        ensures takes { TakesAll (W.view write.old) (W.view write.new)
+            (footer_text self.now) result }
+        ensures faults { WriteFaults (W.view write.old) (W.view write.new) result }
+        ensures stays { Steps W.stays write.old write.new }
     {
         let bytes = self.to_bytes(alloc)?;
         write.write_all(bytes.as_slice())
@@ -79,7 +78,7 @@ impl Footer {
     pub fn extract_footer(alloc: Global, file: FileSlice) -> Result<(Footer, FileSlice), IoError>
         ensures ok { IfOk result (λ found. IsFramed file found.0 found.1) }
         ensures err { IfErr result (OfFault (Refuses file)) }
-        ensures outside { IfErr result (OfFault (λ _. (footer : Footer) (body : List ℕ) → IsFramed file footer body → ⊥)) }
+        ensures outside { IfErr result (OfFault (λ _. IsNotFramed file)) }
     {
         framed(alloc, file)
     }
@@ -87,7 +86,8 @@ impl Footer {
     /// Whether files of this footer's version can be read. Takes no memory.
     pub fn is_compatible(&self) -> Result<(), Incompatibility>
         ensures ok { OnOk result (IsReadFormat self.now.version.index_format_version) }
-        ensures err { IfErr result (λ e. e ≡ Incompatibility.IndexMismatch (record { major = 0; minor = 26; patch = 2; index_format_version = 7 }) self.now.version) }
+        ensures err { IfErr result (λ e.
+            e ≡ Incompatibility.IndexMismatch own_version self.now.version) }
         ensures outside { IfErr result (λ _. IsOtherFormat self.now.version.index_format_version) }
     {
         let format = self.version.index_format_version;

@@ -61,7 +61,8 @@ pub(crate) fn json_range(alloc: Global, bytes: &[u8]) -> Result<Range<usize>, Io
 
 // How many bytes stand before the last eight, and the two numbers in those.
 fn ending(bytes: &[u8]) -> Option<(usize, u32, u32)>
-    ensures some { IfSome result (λ r. (r.0 + 8 ≡ length bytes.now) × (drop r.0 bytes.now ≡ four_bytes r.1 ++ four_bytes r.2)) }
+    ensures some { IfSome result (λ r. (r.0 + 8 ≡ length bytes.now)
+        × (drop r.0 bytes.now ≡ four_bytes r.1 ++ four_bytes r.2)) }
     ensures small { IfSome result (λ r. (r.1 < 2 ^ 32) × (r.2 < 2 ^ 32)) }
     ensures none { IfNone result (length bytes.now < 8) }
 {

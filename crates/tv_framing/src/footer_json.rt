@@ -15,7 +15,8 @@ use tv_base::{Memory, Version};
 /// The footer that the bytes spell, and nothing for all other bytes.
 pub(crate) fn read_footer(alloc: Global, bytes: &[u8]) -> Result<Option<Footer>, Memory>
     ensures some { IfOk result (λ found. IfSome found (Spells bytes.now)) }
-    ensures none { IfOk result (λ found. IfNone found ((footer : Footer) → Spells bytes.now footer → ⊥)) }
+    ensures none { IfOk result (λ found. IfNone found
+        ((footer : Footer) → Spells bytes.now footer → ⊥)) }
 {
     match Value::from_slice(alloc, bytes) {
         Ok(tree) => Ok(footer_of(&tree)),

@@ -1,9 +1,7 @@
 //! Writes a file that ends with a footer.
-ghost use Rattle.std.specs.Prelude.{◌≡◌, ◌++◌, [], List, ℕ, false, true, IfErr, OnOk};
-ghost use Rattle.tv_model.specs.Files.{Rose};
-ghost use Rattle.tv_model.specs.Footer.{footer};
-ghost use Rattle.tv_base.specs.Causes.{IoCause};
-ghost use Rattle.tv_framing.specs.Proxies.{SumsUp, body_taken, is_ended};
+ghost use Rattle.std.specs.Prelude.{◌≡◌, [], false, OnOk};
+ghost use Rattle.tv_base.specs.Writers.{Ends, TakesAll, TakesNone, WriteFaults};
+ghost use Rattle.tv_framing.specs.Proxies.{AddsUp, EndsWithFooter, ProxyStays, SealedWithFooter, SealsProxy, SumsUp, seen};
 
 use crate::footer::Footer;
 use std::alloc::Global;
@@ -35,7 +33,7 @@ impl<W: TerminatingWrite, C: Checksum> Model for FooterProxy<W, C> {
 impl<W: TerminatingWrite, C: Checksum> FooterProxy<W, C> {
     /// Writes to this writer, behind what it has taken so far. Takes no memory.
     pub fn new(alloc: Global, writer: W) -> FooterProxy<W, C>
-        requires going { W.ended writer ≡ false }
+        requires going { (W.view writer).ended ≡ false }
         ensures writer { result.writer ≡ writer }
         ensures sum { SumsUp C.has_taken result.sum [] }
         ensures none { result.footer_len ≡ 0 }
@@ -50,26 +48,24 @@ impl<W: TerminatingWrite, C: Checksum> FooterProxy<W, C> {
 }
 
 impl<W: TerminatingWrite, C: Checksum + Drop> TerminatingWrite for FooterProxy<W, C> {
-    ghost taken = { body_taken W.taken };
-
-    ghost faults = { λ p. W.faults p.writer };
-
-    ghost ended = { is_ended W.ended };
+    ghost view = { seen W.view };
 
     ghost keeps = { W.keeps };
 
+    ghost stays = { ProxyStays W.TerminatingWrite C.Checksum };
+
+    ghost flushed = { λ old new. W.flushed old.writer new.writer };
+
+    ghost sealed = { SealedWithFooter W.TerminatingWrite C.Checksum };
+
     fn write_all(&mut self, bytes: &[u8]) -> Result<(), IoError>
-        requires going { is_ended W.ended self.old ≡ false }
-        ensures ok { OnOk result (body_taken W.taken self.new ≡ body_taken W.taken self.old ++ bytes.now) }
-        ensures memory { IfErr result (IoCause (Unit {0}) (body_taken W.taken self.new ≡ body_taken W.taken self.old)) }
-        ensures going { OnOk result (is_ended W.ended self.new ≡ false) }
-        ensures again { IfErr result (IoCause (Unit {0}) (is_ended W.ended self.new ≡ false)) }
-        ensures over { IfErr result (IoCause (is_ended W.ended self.new ≡ true) (Unit {0})) }
-        ensures quiet { OnOk result (W.faults self.new.writer ≡ W.faults self.old.writer) }
-        ensures cause { IfErr result (IoCause (Rose (W.faults self.old.writer) (W.faults self.new.writer)) (W.faults self.new.writer ≡ W.faults self.old.writer)) }
-        ensures below { OnOk result (W.taken self.new.writer ≡ W.taken self.old.writer ++ bytes.now) }
-        ensures sum { (body : List ℕ) → SumsUp C.has_taken self.old.sum body → OnOk result (SumsUp C.has_taken self.new.sum (body ++ bytes.now)) }
-        ensures unsummed { IfErr result (IoCause (Unit {0}) (self.new.sum ≡ self.old.sum)) }
+        requires going { (seen W.view self.old).ended ≡ false }
+        ensures takes { TakesAll (seen W.view self.old) (seen W.view self.new) bytes.now result }
+        ensures faults { WriteFaults (seen W.view self.old) (seen W.view self.new) result }
+        ensures stays { ProxyStays W.TerminatingWrite C.Checksum self.old self.new }
+        ensures below { TakesAll (W.view self.old.writer) (W.view self.new.writer)
+            bytes.now result }
+        ensures sums { AddsUp C.Checksum self.old.sum self.new.sum bytes.now result }
     {
         let Some(checksum) = &mut self.checksum else {
             unreachable!()
@@ -80,14 +76,11 @@ impl<W: TerminatingWrite, C: Checksum + Drop> TerminatingWrite for FooterProxy<W
     }
 
     fn flush(&mut self) -> Result<(), IoError>
-        requires going { is_ended W.ended self.old ≡ false }
-        ensures ok { OnOk result (body_taken W.taken self.new ≡ body_taken W.taken self.old) }
-        ensures memory { IfErr result (IoCause (Unit {0}) (body_taken W.taken self.new ≡ body_taken W.taken self.old)) }
-        ensures going { OnOk result (is_ended W.ended self.new ≡ false) }
-        ensures again { IfErr result (IoCause (Unit {0}) (is_ended W.ended self.new ≡ false)) }
-        ensures over { IfErr result (IoCause (is_ended W.ended self.new ≡ true) (Unit {0})) }
-        ensures quiet { OnOk result (W.faults self.new.writer ≡ W.faults self.old.writer) }
-        ensures cause { IfErr result (IoCause (Rose (W.faults self.old.writer) (W.faults self.new.writer)) (W.faults self.new.writer ≡ W.faults self.old.writer)) }
+        requires going { (seen W.view self.old).ended ≡ false }
+        ensures takes { TakesNone (seen W.view self.old) (seen W.view self.new) result }
+        ensures flushed { OnOk result (W.flushed self.old.writer self.new.writer) }
+        ensures faults { WriteFaults (seen W.view self.old) (seen W.view self.new) result }
+        ensures stays { ProxyStays W.TerminatingWrite C.Checksum self.old self.new }
         ensures sum { self.new.sum ≡ self.old.sum }
     {
         self.writer.flush()
@@ -95,14 +88,11 @@ impl<W: TerminatingWrite, C: Checksum + Drop> TerminatingWrite for FooterProxy<W
 
     /// Writes the footer, and tells the end.
     fn terminate(&mut self) -> Result<(), IoError>
-        requires going { is_ended W.ended self.old ≡ false }
-        ensures ended { is_ended W.ended self.new ≡ true }
-        ensures ok { W.keeps → OnOk result (body_taken W.taken self.new ≡ body_taken W.taken self.old) }
-        ensures memory { W.keeps → IfErr result (IoCause (Unit {0}) (body_taken W.taken self.new ≡ body_taken W.taken self.old)) }
-        ensures quiet { OnOk result (W.faults self.new.writer ≡ W.faults self.old.writer) }
-        ensures cause { IfErr result (IoCause (Rose (W.faults self.old.writer) (W.faults self.new.writer)) (W.faults self.new.writer ≡ W.faults self.old.writer)) }
-        ensures below { OnOk result (W.ended self.new.writer ≡ true) }
-        ensures sealed { W.keeps → (body : List ℕ) → SumsUp C.has_taken self.old.sum body → OnOk result (W.taken self.new.writer ≡ W.taken self.old.writer ++ footer (C.checksum body)) }
+        requires going { (seen W.view self.old).ended ≡ false }
+        ensures ends { Ends W.keeps (seen W.view self.old) (seen W.view self.new) result }
+        ensures sealed { OnOk result (SealsProxy W.TerminatingWrite C.Checksum self.old self.new) }
+        ensures stays { ProxyStays W.TerminatingWrite C.Checksum self.old self.new }
+        ensures footer { EndsWithFooter W.TerminatingWrite C.Checksum self.old self.new result }
     {
         let Some(checksum) = self.checksum.take() else {
             unreachable!()

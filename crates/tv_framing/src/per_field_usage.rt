@@ -2,7 +2,7 @@
 ghost use Rattle.std.specs.Prelude.{◌≡◌, IfOk, OnOk};
 ghost use Rattle.std.specs.Slice.Iter.{iter_rest};
 ghost use Rattle.tv_framing.specs.Usage.{capped};
-ghost use Rattle.tv_framing.specs.PerField.{AreByName, fields_sum};
+ghost use Rattle.tv_framing.specs.PerField.{AreByName, UsesBytes, fields_sum};
 ghost use Rattle.tv_framing.specs.Places.{place_of, with_field};
 
 use crate::field_usage::FieldUsage;
@@ -36,7 +36,7 @@ impl PerFieldSpaceUsage {
     /// The usages of these fields. Those of one name make one usage together, part by part.
     pub fn new(alloc: Global, fields: Vec<FieldUsage>) -> Result<PerFieldSpaceUsage, Memory>
         ensures by_name { IfOk result (AreByName fields.items) }
-        ensures total { IfOk result (λ usage. capped (fields_sum usage) ≡ capped (fields_sum fields.items)) }
+        ensures total { IfOk result (λ usage. UsesBytes usage (fields_sum fields.items)) }
     {
         let mut usage = PerFieldSpaceUsage {
             fields: Vec::new(alloc),

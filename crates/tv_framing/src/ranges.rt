@@ -10,7 +10,9 @@ use std::ops::Range;
 /// Where the body of this address lies, if there is one. The bodies fill everything up to the end.
 pub(crate) fn range_of(starts: &[Start], addr: &FileAddr, end: usize) -> Option<Range<usize>>
     requires { Fill starts.now end }
-    ensures body { (bytes : List ℕ) → length bytes ≡ end → MatchOption result (body_at addr.now (parts_of bytes starts.now) ≡ None) (λ r. body_at addr.now (parts_of bytes starts.now) ≡ Some (slice_range bytes r.start r.end)) }
+    ensures body { (bytes : List ℕ) → length bytes ≡ end
+        → MatchOption result (body_at addr.now (parts_of bytes starts.now) ≡ None)
+        (λ r. body_at addr.now (parts_of bytes starts.now) ≡ Some (slice_range bytes r.start r.end)) }
     ensures inside { IfSome result (λ r. (r.start ≤ r.end) × (r.end ≤ end)) }
 {
     for (i, start) in starts.iter().enumerate() {

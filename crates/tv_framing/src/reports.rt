@@ -19,8 +19,10 @@ pub(crate) fn usages_of(
     names: &[String],
 ) -> Result<Vec<FieldUsage>, Memory>
     requires fill { Fill starts.now end }
-    requires below { list_all (λ addr. nat_lt addr.field (length names.now)) (start_addresses starts.now) ≡ true }
-    requires small { list_all (λ addr. nat_le addr.idx 65535) (start_addresses starts.now) ≡ true }
+    requires below { list_all (λ addr. nat_lt addr.field (length names.now))
+        (start_addresses starts.now) ≡ true }
+    requires small { list_all (λ addr. nat_le addr.idx 65535)
+        (start_addresses starts.now) ≡ true }
     ensures { (bytes : List ℕ) → length bytes ≡ end → IfOk result (λ v. v.items ≡ usages (map string_bytes names.now) (parts_of bytes starts.now)) }
 {
     let mut usages = Vec::new(alloc);

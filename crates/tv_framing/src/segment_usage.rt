@@ -44,7 +44,16 @@ impl SegmentSpaceUsage {
         store: StoreSpaceUsage,
         deletes: ByteCount,
     ) -> SegmentSpaceUsage
-        ensures usage { result ≡ record { num_docs = num_docs; termdict = termdict; postings = postings; positions = positions; fast_fields = fast_fields; fieldnorms = fieldnorms; store = store; deletes = deletes } }
+        ensures usage { result ≡ record {
+          num_docs = num_docs;
+          termdict = termdict;
+          postings = postings;
+          positions = positions;
+          fast_fields = fast_fields;
+          fieldnorms = fieldnorms;
+          store = store;
+          deletes = deletes;
+        } }
     {
         SegmentSpaceUsage {
             num_docs,

@@ -43,7 +43,7 @@ one_body was first second h k =
     sym (body_of_good h.0 first h.2) ∙ body_of_good h.0 second (subst (λ (l : List ℕ). HasBody l second) (some_is (sym k.1 ∙ h.1)) k.2)
 
 -- an error that was handed on
-pub handed_on : {T : Type 0} (result : Result T OpenReadError) (error : OpenReadError) (P : OpenReadError → Type 0) → IsErrAnd result (λ e. e ≡ error) → P error → IfErr result P
+pub handed_on : {T E : Type 0} (result : Result T E) (error : E) (P : E → Type 0) → IsErrAnd result (λ e. e ≡ error) → P error → IfErr result P
 handed_on (Ok x) error P h k = tt
 handed_on (Err e) error P h k = subst P (sym h) k
 

@@ -153,6 +153,10 @@ collectable_more living (x ∷ names) name b e = rw (collectable_more living nam
   pulled true x xs ys = refl
   pulled false x xs ys = refl
 
+-- the same names can be collected where the managed ones are the same
+pub collected_same : (living old new : List (List ℕ)) → new ≡ old → collectable living old ≡ collectable living new
+collected_same living old new same = ap (collectable living) (sym same)
+
 -- the names of some texts and one more
 pub names_last : (texts : List (String Global)) (text : String Global) → names_of (texts ++ text ∷ []) ≡ names_of texts ++ string_bytes text ∷ []
 names_last [] text = refl

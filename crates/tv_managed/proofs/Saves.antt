@@ -1,5 +1,5 @@
 -- What a save of the list changes.
-use Rattle.std.proofs.Common.{◌≡◌, ◌≢◌, ◌⊎◌, ℕ, true, false, true≢false, List, refl, sym, ap, subst, ◌∙◌, ⊎_elim, inl, inr, Option, Some, None}
+use Rattle.std.proofs.Common.{◌≡◌, ◌≢◌, ◌⊎◌, ℕ, true, false, true≢false, List, [], refl, sym, ap, subst, ◌∙◌, ⊎_elim, inl, inr, Option, Some, None}
 use Rattle.std.specs.Prelude.{IsSome}
 use Rattle.std.specs.BTreeSet.{insert_key}
 use Rattle.tv_model.specs.Names.{byte_cmp, is, has, is_undotted, list_name}
@@ -7,9 +7,9 @@ use Rattle.tv_model.specs.Files.{Reads, Same, MaySet, KeepsOthers}
 use Rattle.tv_model.specs.Listing.{Lists, IsListOf, list_text}
 use Rattle.tv_model.proofs.Entries.{is_itself, is_text, has_inserted, has_kept}
 use Rattle.tv_base.specs.Causes.{OpenWriteCause}
-use Rattle.tv_base.specs.declared.io.IoError.TheVariants as io
 use Rattle.tv_base.specs.declared.open_errors.OpenWriteError.{OpenWriteError}
 use Rattle.tv_base.specs.declared.open_errors.OpenWriteError.TheVariants as write
+use Rattle.tv_directory.specs.Calls.{MayMake}
 use Rattle.tv_managed.specs.Managed.{MaySave, Covers, IsOnList, ListsNew}
 
 -- the list with one name more was saved, or it wasn't
@@ -41,7 +41,7 @@ covers_saved now names lists = (names, lists, λ n h. h)
 pub on_saved : (now : Option (List ℕ)) (names put : List (List ℕ)) (name : List ℕ) → put ≡ insert_key byte_cmp names name → Lists now put → IsOnList now name
 on_saved now names put name is lists = (put, lists, subst (λ ns. has ns name ≡ true) (sym is) (has_inserted names name))
 
-isnt_some : {X : Type 0} (o : Option X) → IsSome o → o ≡ None → ⊥
+pub isnt_some : {X : Type 0} (o : Option X) → IsSome o → o ≡ None → ⊥
 isnt_some o h e = let k = subst IsSome e h in absurd (true≢false (sym k))
 
 undotted_isnt_list : (n : List ℕ) → is_undotted n ≡ true → n ≢ list_name
@@ -63,11 +63,31 @@ lists_new old asked listed new name same saved made other on n undotted some non
     ] refl
 
 -- a call that was refused changed no other name
-pub others_of_refused : (old new : Reads) (name : List ℕ) (value : Option (List ℕ)) (A : Type 0) (e : OpenWriteError) → OpenWriteCause (A × Same old new) (MaySet old new name value) (Same old new) e → KeepsOthers old new name
-others_of_refused old new name value A (write.FileAlreadyExists path) h = λ n ne. h.1 n
-others_of_refused old new name value A (write.Leaving path) h = absurd h
-others_of_refused old new name value A (write.IoError fault path) h = h.1.others
-others_of_refused old new name value A write.Memory h = λ n ne. h n
+pub others_of_refused : (old new : Reads) (name : List ℕ) (e : OpenWriteError) → OpenWriteCause name (Same old new) (MayMake old new name) (Same old new) e → KeepsOthers old new name
+others_of_refused old new name (write.FileAlreadyExists path) h = λ n ne. h.1 n
+others_of_refused old new name (write.Leaving path) h = absurd h
+others_of_refused old new name (write.IoError fault path) h = ⊎_elim (λ same n ne. same n) (λ made. made.1.others) h.2
+others_of_refused old new name write.Memory h = λ n ne. h n
+
+-- the cause of an error where other things are said of it
+cause_with : (name : List ℕ) {A B C A2 B2 C2 : Type 0} → (A → A2) → (B → B2) → (C → C2) → (e : OpenWriteError) → OpenWriteCause name A B C e → OpenWriteCause name A2 B2 C2 e
+cause_with name f g h (write.FileAlreadyExists path) c = (c.0, f c.1)
+cause_with name f g h (write.Leaving path) c = absurd c
+cause_with name f g h (write.IoError fault path) c = (c.0, c.1, g c.2)
+cause_with name f g h write.Memory c = h c
+
+-- the file wasn't made: its name reads what it read, or after a refusal of the device an empty file
+abbrev pub NotMade : (old new : Reads) (name : List ℕ) → OpenWriteError → Type 0
+NotMade old new name = OpenWriteCause name (Unit {0}) ((new name ≡ Some []) ⊎ (new name ≡ old name)) (new name ≡ old name)
+
+-- so it is after a call that left the name alone
+pub still_not_made : (old new : Reads) (name : List ℕ) (there refused quiet : Type 0) → new name ≡ old name → (e : OpenWriteError) → OpenWriteCause name there refused quiet e → NotMade old new name e
+still_not_made old new name there refused quiet same e h = cause_with name (λ x. tt) (λ x. inr same) (λ x. same) e h
+
+-- and after a refused call that makes the file
+pub not_made : (old listed new : Reads) (name : List ℕ) → listed name ≡ old name → (e : OpenWriteError) → OpenWriteCause name (Same listed new) (MayMake listed new name) (Same listed new) e → NotMade old new name e
+not_made old listed new name before e h =
+    cause_with name (λ same. tt) (λ may. ⊎_elim (λ same. inr (same name ∙ before)) (λ made. inl made.1.changed) may) (λ same. same name ∙ before) e h
 
 -- a call that changes nothing
 pub still_covers : {D : Type 0} (reads : D → Reads) (old new : D) (before after : List (List ℕ)) → Same (reads old) (reads new) → after ≡ before → Covers (reads old list_name) before → Covers (reads new list_name) after

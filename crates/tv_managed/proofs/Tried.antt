@@ -1,14 +1,17 @@
 -- How far the trying of some names has come.
 use Rattle.std.proofs.Common.{◌≡◌, ◌≢◌, ◌≤◌, ◌+◌, ℕ, Bool, true, false, ◌||◌, inl, inr, ⊎_elim, List, [], ◌∷◌, ◌++◌, length, None, refl, sym, ap, subst, ◌∙◌, arith, true≢false, append_assoc, length-append, append-nil, String, Global, string_bytes}
-use Rattle.std.specs.Prelude.{if◌then◌else◌}
+use Rattle.std.specs.Prelude.{IsSome, if◌then◌else◌}
 use Rattle.std.specs.List.{list_all}
 use Rattle.tv_model.specs.Names.{is, has, is_plain, list_name}
 use Rattle.tv_model.specs.Collections.{done_of, failed_of, without}
 use Rattle.tv_model.specs.Files.{Reads, Same, KeepsOthers, Rose}
 use Rattle.tv_model.proofs.Entries.{is_itself, is_text}
 use Rattle.tv_model.proofs.PlainNames.{both}
+use Rattle.tv_directory.specs.View.{Kept, MayDelete, OnlyReads}
 use Rattle.tv_directory.specs.declared.directory.Directory.{Ghosts}
-use Rattle.tv_managed.specs.Collecting.{Leaves, Tries, TriesName, FailsAtMost, SparesWriters, names_of}
+use Rattle.tv_managed.specs.declared.collecting.GarbageCollectionResult.{GarbageCollectionResult}
+use Rattle.tv_managed.specs.Collecting.{Leaves, Tries, TriesName, TriesNothing, FailsAtMost, SparesWriters, EndsTheirWriters, names_of}
+use Rattle.tv_managed.specs.Frames.{KeepsNames}
 use Rattle.tv_managed.proofs.Removals.{has_last, names_last, either_false, without_none, without_last, done_true, done_false, failed_true, failed_false, untried, not_first, has_without, has_between, has_fewer}
 
 -- some first names were tried, and these are left
@@ -134,17 +137,17 @@ tried_failed names rest before now deleted failed others tells old new count cou
 
 -- one more name was tried
 pub tried_next : {D W C : Type 0} (g : Ghosts D W C) (gone : Bool) (names rest others deleted failed deleted2 failed2 : List (List ℕ)) (name : List ℕ) (first old new : D × List (List ℕ))
-    → Tried names rest first.1 old.1 deleted failed g.tells (g.reads first.0) (g.reads old.0) (g.refusals first.0) (g.refusals old.0)
-    → rest ≡ name ∷ others → TriesName g name old new gone → g.refusals new.0 ≤ 18446744073709551615
+    → Tried names rest first.1 old.1 deleted failed g.told.content (g.view first.0).reads (g.view old.0).reads (g.view first.0).refusals (g.view old.0).refusals
+    → rest ≡ name ∷ others → TriesName g name old new gone → (g.view new.0).refusals ≤ 18446744073709551615
     → deleted2 ≡ (if gone then deleted ++ name ∷ [] else deleted) → failed2 ≡ (if gone then failed else failed ++ name ∷ [])
-    → Tried names others first.1 new.1 deleted2 failed2 g.tells (g.reads first.0) (g.reads new.0) (g.refusals first.0) (g.refusals new.0)
+    → Tried names others first.1 new.1 deleted2 failed2 g.told.content (g.view first.0).reads (g.view new.0).reads (g.view first.0).refusals (g.view new.0).refusals
 tried_next g true names rest others deleted failed deleted2 failed2 name first old new t next e fits done kept =
-    subst (λ (f : List (List ℕ)). Tried names others first.1 new.1 deleted2 f g.tells (g.reads first.0) (g.reads new.0) (g.refusals first.0) (g.refusals new.0)) (sym kept)
-    (tried_done names rest first.1 old.1 deleted failed others g.tells (g.reads first.0) (g.reads old.0) (g.refusals first.0) (g.refusals old.0) name new.1 (g.reads new.0) (g.refusals new.0) deleted2 t next
+    subst (λ (f : List (List ℕ)). Tried names others first.1 new.1 deleted2 f g.told.content (g.view first.0).reads (g.view new.0).reads (g.view first.0).refusals (g.view new.0).refusals) (sym kept)
+    (tried_done names rest first.1 old.1 deleted failed others g.told.content (g.view first.0).reads (g.view old.0).reads (g.view first.0).refusals (g.view old.0).refusals name new.1 (g.view new.0).reads (g.view new.0).refusals deleted2 t next
     e.managed (λ tell. e.gone tell refl) e.others (e.done refl) done)
 tried_next g false names rest others deleted failed deleted2 failed2 name first old new t next e fits kept done =
-    subst (λ (d : List (List ℕ)). Tried names others first.1 new.1 d failed2 g.tells (g.reads first.0) (g.reads new.0) (g.refusals first.0) (g.refusals new.0)) (sym kept)
-    (tried_failed names rest first.1 old.1 deleted failed others g.tells (g.reads first.0) (g.reads old.0) (g.refusals first.0) (g.refusals old.0) name new.1 (g.reads new.0) (g.refusals new.0) failed2 t next
+    subst (λ (d : List (List ℕ)). Tried names others first.1 new.1 d failed2 g.told.content (g.view first.0).reads (g.view new.0).reads (g.view first.0).refusals (g.view new.0).refusals) (sym kept)
+    (tried_failed names rest first.1 old.1 deleted failed others g.told.content (g.view first.0).reads (g.view old.0).reads (g.view first.0).refusals (g.view old.0).refusals name new.1 (g.view new.0).reads (g.view new.0).refusals failed2 t next
     e.managed (λ tell. e.same tell refl) (e.failed refl) fits done)
 
 -- the names of texts, to which one was added or not
@@ -182,9 +185,17 @@ tried_same names rest before now deleted failed tells old new count counted now2
 pub next_plain : (rest others : List (List ℕ)) (name : List ℕ) → list_all is_plain rest ≡ true → rest ≡ name ∷ others → is_plain name ≡ true
 next_plain rest others name h next = (both (is_plain name) (list_all is_plain others) (subst (λ (l : List (List ℕ)). list_all is_plain l ≡ true) next h)).0
 
+-- What became of the writers: those of names that weren't tried live on, and so do those of names that weren't deleted; no writer that was open of a deleted file does.
+pub record Ended {D W C : Type 0} (g : Ghosts D W C) (names deleted : List (List ℕ)) (old new : D) : Type 0 where
+  pub spares : g.told.content → SparesWriters names g.state_of (g.view old).lives (g.view new).lives
+  pub kept : g.told.content → SparesWriters deleted g.state_of (g.view old).lives (g.view new).lives
+  pub ended : g.told.content → EndsTheirWriters deleted g.state_of (g.view old) (g.view new)
+
 -- what was tried so far, whatever comes now
-pub leaves_of : (names rest before now deleted failed : List (List ℕ)) (tells : Type 0) (old new : Reads) (count counted : ℕ) → Tried names rest before now deleted failed tells old new count counted → Leaves names before now tells old new
-leaves_of names rest before now deleted failed tells old new count counted t =
+pub leaves_of : {D W C : Type 0} (g : Ghosts D W C) (names rest deleted failed : List (List ℕ)) (old new : D × List (List ℕ))
+    → Tried names rest old.1 new.1 deleted failed g.told.content (g.view old.0).reads (g.view new.0).reads (g.view old.0).refusals (g.view new.0).refusals
+    → Ended g names deleted old.0 new.0 → Leaves g names old new
+leaves_of g names rest deleted failed old new t w =
     let isnt_first : (n : List ℕ) → has names n ≡ false → has t.front n ≡ false = λ n h. not_first t.front rest n (ap (λ (l : List (List ℕ)). has l n) (sym t.split) ∙ h) in
     record {
       front = t.front;
@@ -196,22 +207,31 @@ leaves_of names rest before now deleted failed tells old new count counted t =
       gone = t.gone;
       others = λ tell n h isnt. t.others tell n h;
       spared = λ tell n h isnt. t.others tell n (untried t.front t.outcomes n (isnt_first n h));
-      kept = λ n h. ap (λ (l : List (List ℕ)). has l n) t.managed ∙ has_without (done_of t.front t.outcomes) before n (untried t.front t.outcomes n (isnt_first n h));
+      kept = λ n h. ap (λ (l : List (List ℕ)). has l n) t.managed ∙ has_without (done_of t.front t.outcomes) old.1 n (untried t.front t.outcomes n (isnt_first n h));
+      alive = w.spares;
+      ended = λ tell x o h. w.ended tell x o (ap (λ (l : List (List ℕ)). has l (g.state_of x).name) t.deleted_is ∙ h);
+      fits = t.fits;
     }
 
 -- all were tried
-pub tries_of : (names rest before now deleted failed : List (List ℕ)) (tells : Type 0) (old new : Reads) (count counted : ℕ) → rest ≡ [] → Tried names rest before now deleted failed tells old new count counted → Tries names before now deleted failed tells old new
-tries_of names rest before now deleted failed tells old new count counted none t =
+pub tries_of : {D W C : Type 0} (g : Ghosts D W C) (names rest : List (List ℕ)) (old new : D × List (List ℕ)) (result : GarbageCollectionResult) → rest ≡ []
+    → Tried names rest old.1 new.1 (names_of result.deleted_files.items) (names_of result.failed_to_delete_files.items) g.told.content (g.view old.0).reads (g.view new.0).reads (g.view old.0).refusals (g.view new.0).refusals
+    → Ended g names (names_of result.deleted_files.items) old.0 new.0 → Tries g names old new result
+tries_of g names rest old new result none t w =
     let all : names ≡ t.front = t.split ∙ ap (λ (l : List (List ℕ)). t.front ++ l) none ∙ append-nil t.front in
-    let had : (n : List ℕ) (b : Bool) → has deleted n ≡ b → has (done_of t.front t.outcomes) n ≡ b = λ n b h. ap (λ (l : List (List ℕ)). has l n) (sym t.deleted_is) ∙ h in
+    let had : (n : List ℕ) (b : Bool) → has (names_of result.deleted_files.items) n ≡ b → has (done_of t.front t.outcomes) n ≡ b = λ n b h. ap (λ (l : List (List ℕ)). has l n) (sym t.deleted_is) ∙ h in
     record {
       outcomes = t.outcomes;
       each = t.each ∙ ap length (sym all);
-      deleted_is = t.deleted_is ∙ ap (λ (l : List (List ℕ)). done_of l t.outcomes) (sym all);
-      failed_is = t.failed_is ∙ ap (λ (l : List (List ℕ)). failed_of l t.outcomes) (sym all);
-      managed = t.managed ∙ ap (λ (l : List (List ℕ)). without l before) (sym t.deleted_is);
+      deleted = t.deleted_is ∙ ap (λ (l : List (List ℕ)). done_of l t.outcomes) (sym all);
+      failed = t.failed_is ∙ ap (λ (l : List (List ℕ)). failed_of l t.outcomes) (sym all);
+      managed = t.managed ∙ ap (λ (l : List (List ℕ)). without l old.1) (sym t.deleted_is);
       gone = λ tell n h. t.gone tell n (had n true h);
       others = λ tell n h isnt. t.others tell n (had n false h);
+      alive = w.kept;
+      ended = w.ended;
+      counted = t.most;
+      calm = t.calm;
     }
 
 -- the list isn't among the names that are done
@@ -229,47 +249,63 @@ is_another names rest others before now deleted failed tells old new count count
     true≢false (sym is ∙ ap (has names) (sym same) ∙ isnt)
 
 -- nothing was tried
-pub left_alone : (names before after : List (List ℕ)) (tells : Type 0) (old new : Reads) → after ≡ before → (tells → Same old new) → Leaves names before after tells old new
-left_alone names before after tells old new kept same = record {
-  front = [];
-  rest = names;
-  outcomes = [];
-  split = refl;
-  each = refl;
-  managed = kept ∙ sym (without_none before);
-  gone = λ tell n h. absurd (true≢false (sym h));
-  others = λ tell n h isnt. same tell n;
-  spared = λ tell n h isnt. same tell n;
-  kept = λ n h. ap (λ (l : List (List ℕ)). has l n) kept;
-}
+pub left_alone : {D W C : Type 0} (g : Ghosts D W C) (names : List (List ℕ)) (old new : D × List (List ℕ)) → KeepsNames (OnlyReads g.told) g.view old new → Leaves g names old new
+left_alone g names old new k =
+    let quiet = k.below.kept.frame.tells_none.deletes_none in
+    record {
+      front = [];
+      rest = names;
+      outcomes = [];
+      split = refl;
+      each = refl;
+      managed = k.names ∙ sym (without_none old.1);
+      gone = λ tell n h. absurd (true≢false (sym h));
+      others = λ tell n h isnt. k.below.content tell n;
+      spared = λ tell n h isnt. k.below.content tell n;
+      kept = λ n h. ap (λ (l : List (List ℕ)). has l n) k.names;
+      alive = λ tell w h l. quiet.alive tell w l;
+      ended = λ tell w o h. absurd (true≢false (sym h));
+      fits = λ f. subst (λ c. c ≤ 18446744073709551615) (sym quiet.refusals) f;
+    }
 
 -- what was left, seen from before a call that changed nothing
-pub left_at : (names names2 before before2 after : List (List ℕ)) (tells : Type 0) (old old2 new : Reads) → names2 ≡ names → before2 ≡ before → (tells → Same old2 old) → Leaves names before after tells old new → Leaves names2 before2 after tells old2 new
-left_at names names2 before before2 after tells old old2 new is was same l =
-    subst (λ (ns : List (List ℕ)). Leaves ns before2 after tells old2 new) (sym is) (subst (λ (b : List (List ℕ)). Leaves names b after tells old2 new) (sym was) (record {
+pub left_at : {D W C : Type 0} (g : Ghosts D W C) (names names2 : List (List ℕ)) (first old new : D × List (List ℕ)) → names2 ≡ names → KeepsNames (OnlyReads g.told) g.view first old → Leaves g names old new → Leaves g names2 first new
+left_at g names names2 first old new is k l =
+    let quiet = k.below.kept.frame.tells_none.deletes_none in
+    let same = k.below.content in
+    subst (λ (ns : List (List ℕ)). Leaves g ns first new) (sym is) (record {
       front = l.front;
       rest = l.rest;
       outcomes = l.outcomes;
       split = l.split;
       each = l.each;
-      managed = l.managed;
+      managed = l.managed ∙ ap (without (done_of l.front l.outcomes)) k.names;
       gone = l.gone;
       others = λ tell n h isnt. l.others tell n h isnt ∙ same tell n;
       spared = λ tell n h isnt. l.spared tell n h isnt ∙ same tell n;
-      kept = l.kept;
-    }))
+      kept = λ n h. l.kept n h ∙ ap (λ (ns : List (List ℕ)). has ns n) k.names;
+      alive = λ tell w h a. l.alive tell w h (quiet.alive tell w a);
+      ended = λ tell w o h some. l.ended tell w (quiet.goes_on.writers w o) h (subst IsSome (sym (same tell (g.state_of w).name)) some);
+      fits = λ f. l.fits (subst (λ c. c ≤ 18446744073709551615) (sym quiet.refusals) f);
+    })
 
-pub told_at : (names names2 before before2 after deleted failed : List (List ℕ)) (tells : Type 0) (old old2 new : Reads) → names2 ≡ names → before2 ≡ before → (tells → Same old2 old) → Tries names before after deleted failed tells old new → Tries names2 before2 after deleted failed tells old2 new
-told_at names names2 before before2 after deleted failed tells old old2 new is was same l =
-    subst (λ (ns : List (List ℕ)). Tries ns before2 after deleted failed tells old2 new) (sym is) (subst (λ (b : List (List ℕ)). Tries names b after deleted failed tells old2 new) (sym was) (record {
+pub tries_at : {D W C : Type 0} (g : Ghosts D W C) (names names2 : List (List ℕ)) (first old new : D × List (List ℕ)) (result : GarbageCollectionResult) → names2 ≡ names → KeepsNames (OnlyReads g.told) g.view first old → Tries g names old new result → Tries g names2 first new result
+tries_at g names names2 first old new result is k l =
+    let quiet = k.below.kept.frame.tells_none.deletes_none in
+    let same = k.below.content in
+    subst (λ (ns : List (List ℕ)). Tries g ns first new result) (sym is) (record {
       outcomes = l.outcomes;
       each = l.each;
-      deleted_is = l.deleted_is;
-      failed_is = l.failed_is;
-      managed = l.managed;
+      deleted = l.deleted;
+      failed = l.failed;
+      managed = l.managed ∙ ap (without (names_of result.deleted_files.items)) k.names;
       gone = l.gone;
       others = λ tell n h isnt. l.others tell n h isnt ∙ same tell n;
-    }))
+      alive = λ tell w h a. l.alive tell w h (quiet.alive tell w a);
+      ended = λ tell w o h some. l.ended tell w (quiet.goes_on.writers w o) h (subst IsSome (sym (same tell (g.state_of w).name)) some);
+      counted = subst (λ c. FailsAtMost (length (names_of result.failed_to_delete_files.items)) c (g.view new.0).refusals) quiet.refusals l.counted;
+      calm = λ e. l.calm e ∙ quiet.refusals;
+    })
 
 done_among : (names : List (List ℕ)) (os : List Bool) (n : List ℕ) → has (done_of names os) n ≡ true → has names n ≡ true
 done_among names os n h =
@@ -297,38 +333,51 @@ among_plain (x ∷ names) n plain h =
     ] refl
 
 -- after the list was saved too
-pub left_saved : (names before after after2 : List (List ℕ)) (tells : Type 0) (old new new2 : Reads) → list_all is_plain names ≡ true → after2 ≡ after → (tells → KeepsOthers new new2 list_name) → Leaves names before after tells old new → Leaves names before after2 tells old new2
-left_saved names before after after2 tells old new new2 plain kept keeps l = record {
-  front = l.front;
-  rest = l.rest;
-  outcomes = l.outcomes;
-  split = l.split;
-  each = l.each;
-  managed = kept ∙ l.managed;
-  gone = λ tell n h. keeps tell n (among_plain names n plain (ap (λ (ns : List (List ℕ)). has ns n) l.split ∙ among_first l.front l.rest n (done_among l.front l.outcomes n h))) ∙ l.gone tell n h;
-  others = λ tell n h isnt. keeps tell n isnt ∙ l.others tell n h isnt;
-  spared = λ tell n h isnt. keeps tell n isnt ∙ l.spared tell n h isnt;
-  kept = λ n h. ap (λ (ns : List (List ℕ)). has ns n) kept ∙ l.kept n h;
-}
+pub left_saved : {D W C : Type 0} (g : Ghosts D W C) (names : List (List ℕ)) (first old new : D × List (List ℕ)) → list_all is_plain names ≡ true → KeepsNames (Kept g.told) g.view old new
+    → (g.told.content → KeepsOthers (g.view old.0).reads (g.view new.0).reads list_name) → MayDelete g.told (g.view first.0) (g.view old.0) → Leaves g names first old → Leaves g names first new
+left_saved g names first old new plain k keeps f l =
+    let quiet = k.below.frame.tells_none.deletes_none in
+    record {
+      front = l.front;
+      rest = l.rest;
+      outcomes = l.outcomes;
+      split = l.split;
+      each = l.each;
+      managed = k.names ∙ l.managed;
+      gone = λ tell n h. keeps tell n (among_plain names n plain (ap (λ (ns : List (List ℕ)). has ns n) l.split ∙ among_first l.front l.rest n (done_among l.front l.outcomes n h))) ∙ l.gone tell n h;
+      others = λ tell n h isnt. keeps tell n isnt ∙ l.others tell n h isnt;
+      spared = λ tell n h isnt. keeps tell n isnt ∙ l.spared tell n h isnt;
+      kept = λ n h. ap (λ (ns : List (List ℕ)). has ns n) k.names ∙ l.kept n h;
+      alive = λ tell w h a. quiet.alive tell w (l.alive tell w h a);
+      ended = λ tell w o h some. quiet.goes_on.ended tell w (f.goes_on.writers w o) (l.ended tell w o h some);
+      fits = λ e. subst (λ c. c ≤ 18446744073709551615) (sym quiet.refusals) (l.fits e);
+    }
 
-pub told_saved : (names before after after2 deleted failed : List (List ℕ)) (tells : Type 0) (old new new2 : Reads) → list_all is_plain names ≡ true → after2 ≡ after → (tells → KeepsOthers new new2 list_name) → Tries names before after deleted failed tells old new → Tries names before after2 deleted failed tells old new2
-told_saved names before after after2 deleted failed tells old new new2 plain kept keeps l = record {
-  outcomes = l.outcomes;
-  each = l.each;
-  deleted_is = l.deleted_is;
-  failed_is = l.failed_is;
-  managed = kept ∙ l.managed;
-  gone = λ tell n h. keeps tell n (among_plain names n plain (done_among names l.outcomes n (ap (λ (ns : List (List ℕ)). has ns n) (sym l.deleted_is) ∙ h))) ∙ l.gone tell n h;
-  others = λ tell n h isnt. keeps tell n isnt ∙ l.others tell n h isnt;
-}
+pub tries_saved : {D W C : Type 0} (g : Ghosts D W C) (names : List (List ℕ)) (first old new : D × List (List ℕ)) (result : GarbageCollectionResult) → list_all is_plain names ≡ true → KeepsNames (Kept g.told) g.view old new
+    → (g.told.content → KeepsOthers (g.view old.0).reads (g.view new.0).reads list_name) → MayDelete g.told (g.view first.0) (g.view old.0) → Tries g names first old result → Tries g names first new result
+tries_saved g names first old new result plain k keeps f l =
+    let quiet = k.below.frame.tells_none.deletes_none in
+    record {
+      outcomes = l.outcomes;
+      each = l.each;
+      deleted = l.deleted;
+      failed = l.failed;
+      managed = k.names ∙ l.managed;
+      gone = λ tell n h. keeps tell n (among_plain names n plain (done_among names l.outcomes n (ap (λ (ns : List (List ℕ)). has ns n) (sym l.deleted) ∙ h))) ∙ l.gone tell n h;
+      others = λ tell n h isnt. keeps tell n isnt ∙ l.others tell n h isnt;
+      alive = λ tell w h a. quiet.alive tell w (l.alive tell w h a);
+      ended = λ tell w o h some. quiet.goes_on.ended tell w (f.goes_on.writers w o) (l.ended tell w o h some);
+      counted = subst (FailsAtMost (length (names_of result.failed_to_delete_files.items)) (g.view first.0).refusals) (sym quiet.refusals) l.counted;
+      calm = λ e. quiet.refusals ∙ l.calm e;
+    }
 
 -- what is left of the managed names was there before
-pub left_fewer : (names before after : List (List ℕ)) (tells : Type 0) (old new : Reads) → Leaves names before after tells old new → (n : List ℕ) → has after n ≡ true → has before n ≡ true
-left_fewer names before after tells old new l n h = has_fewer (done_of l.front l.outcomes) before n (ap (λ (ns : List (List ℕ)). has ns n) (sym l.managed) ∙ h)
+pub left_fewer : {D W C : Type 0} (g : Ghosts D W C) (names : List (List ℕ)) (old new : D × List (List ℕ)) → Leaves g names old new → (n : List ℕ) → has new.1 n ≡ true → has old.1 n ≡ true
+left_fewer g names old new l n h = has_fewer (done_of l.front l.outcomes) old.1 n (ap (λ (ns : List (List ℕ)). has ns n) (sym l.managed) ∙ h)
 
 -- where no name is deleted, the managed names stay
-pub none_deleted : (names before after deleted failed : List (List ℕ)) (tells : Type 0) (old new : Reads) → Tries names before after deleted failed tells old new → deleted ≡ [] → after ≡ before
-none_deleted names before after deleted failed tells old new l none = l.managed ∙ ap (λ (ns : List (List ℕ)). without ns before) none ∙ without_none before
+pub none_deleted : {D W C : Type 0} (g : Ghosts D W C) (names : List (List ℕ)) (old new : D × List (List ℕ)) (result : GarbageCollectionResult) → Tries g names old new result → names_of result.deleted_files.items ≡ [] → new.1 ≡ old.1
+none_deleted g names old new result l none = l.managed ∙ ap (λ (ns : List (List ℕ)). without ns old.1) none ∙ without_none old.1
 
 -- a name that isn't among some names and one more is neither among them nor that one
 pub not_last : (names more : List (List ℕ)) (name n : List ℕ) → more ≡ names ++ name ∷ [] → has more n ≡ false → (has names n ≡ false) × (n ≢ name)
@@ -337,8 +386,51 @@ not_last names more name n e h =
     (p.0, λ same. true≢false (sym (is_itself name) ∙ ap (λ (m : List ℕ). is name m) (sym same) ∙ p.1))
 
 -- writers of names that aren't gone live on
-pub spares_next : {D W C : Type 0} (g : Ghosts D W C) (gone : Bool) (name : List ℕ) (deleted deleted2 : List (List ℕ)) (first old new : D) → SparesWriters deleted g.name_of (g.lives first) (g.lives old)
-    → ((w : W) → g.name_of w ≢ name → g.lives old w ≡ true → g.lives new w ≡ true) → (gone ≡ false → (w : W) → g.lives old w ≡ true → g.lives new w ≡ true)
-    → deleted2 ≡ (if gone then deleted ++ name ∷ [] else deleted) → SparesWriters deleted2 g.name_of (g.lives first) (g.lives new)
-spares_next g true name deleted deleted2 first old new spares others kept is = λ w h l. let p = not_last deleted deleted2 name (g.name_of w) is h in others w p.1 (spares w p.0 l)
-spares_next g false name deleted deleted2 first old new spares others kept is = λ w h l. kept refl w (spares w (ap (λ (ns : List (List ℕ)). has ns (g.name_of w)) (sym is) ∙ h) l)
+spares_next : {D W C : Type 0} (g : Ghosts D W C) (gone : Bool) (name : List ℕ) (deleted deleted2 : List (List ℕ)) (first : D) (old new : D × List (List ℕ)) → g.told.content → SparesWriters deleted g.state_of (g.view first).lives (g.view old.0).lives
+    → TriesName g name old new gone → deleted2 ≡ (if gone then deleted ++ name ∷ [] else deleted) → SparesWriters deleted2 g.state_of (g.view first).lives (g.view new.0).lives
+spares_next g true name deleted deleted2 first old new tell spares e is = λ w h l. let p = not_last deleted deleted2 name (g.state_of w).name is h in e.alive tell w p.1 (spares w p.0 l)
+spares_next g false name deleted deleted2 first old new tell spares e is = λ w h l. e.kept tell refl w (spares w (ap (λ (ns : List (List ℕ)). has ns (g.state_of w).name) (sym is) ∙ h) l)
+
+-- Writers of a name that is gone now have ended too: one of a name that was gone before isn't alive again, and of another name the file was there until now.
+ends_next : {D W C : Type 0} (g : Ghosts D W C) (gone : Bool) (name : List ℕ) (deleted deleted2 : List (List ℕ)) (first old new : D × List (List ℕ)) → g.told.content → EndsTheirWriters deleted g.state_of (g.view first.0) (g.view old.0)
+    → ((n : List ℕ) → has deleted n ≡ false → (g.view old.0).reads n ≡ (g.view first.0).reads n) → MayDelete g.told (g.view first.0) (g.view old.0) → MayDelete g.told (g.view old.0) (g.view new.0)
+    → TriesName g name old new gone → deleted2 ≡ (if gone then deleted ++ name ∷ [] else deleted) → EndsTheirWriters deleted2 g.state_of (g.view first.0) (g.view new.0)
+ends_next g true name deleted deleted2 first old new tell ends others f f2 e put = λ w o h some.
+    let n = (g.state_of w).name in
+    elim (has deleted n) as (λ b. has deleted n ≡ b → (g.view new.0).lives w ≡ false) [
+      | true ↦ λ had. f2.goes_on.ended tell w (f.goes_on.writers w o) (ends w o had some)
+      | false ↦ λ none.
+          let last : is name n ≡ true = rw none at (sym (has_last deleted name n) ∙ ap (λ (ns : List (List ℕ)). has ns n) (sym put) ∙ h) in
+          let it : name ≡ n = is_text name n last in
+          e.ended tell refl (subst IsSome (sym (others n none) ∙ ap (g.view old.0).reads (sym it)) some) w (sym it)
+    ] refl
+ends_next g false name deleted deleted2 first old new tell ends others f f2 e put = λ w o h some.
+    f2.goes_on.ended tell w (f.goes_on.writers w o) (ends w o (ap (λ (ns : List (List ℕ)). has ns (g.state_of w).name) (sym put) ∙ h) some)
+
+-- what became of the writers once one more name was tried
+pub ended_next : {D W C : Type 0} (g : Ghosts D W C) (gone : Bool) (names rest others deleted failed deleted2 : List (List ℕ)) (name : List ℕ) (first old new : D × List (List ℕ))
+    → Tried names rest first.1 old.1 deleted failed g.told.content (g.view first.0).reads (g.view old.0).reads (g.view first.0).refusals (g.view old.0).refusals
+    → rest ≡ name ∷ others → Ended g names deleted first.0 old.0 → MayDelete g.told (g.view first.0) (g.view old.0) → MayDelete g.told (g.view old.0) (g.view new.0)
+    → TriesName g name old new gone → deleted2 ≡ (if gone then deleted ++ name ∷ [] else deleted) → Ended g names deleted2 first.0 new.0
+ended_next g gone names rest others deleted failed deleted2 name first old new t next w f f2 e is = record {
+  spares = λ tell x h l. e.alive tell x (is_another names rest others first.1 old.1 deleted failed g.told.content (g.view first.0).reads (g.view old.0).reads (g.view first.0).refusals (g.view old.0).refusals name (g.state_of x).name t next h) (w.spares tell x h l);
+  kept = λ tell. spares_next g gone name deleted deleted2 first.0 old new tell (w.kept tell) e is;
+  ended = λ tell. ends_next g gone name deleted deleted2 first old new tell (w.ended tell) (λ n none. t.others tell n (ap (λ (ns : List (List ℕ)). has ns n) (sym t.deleted_is) ∙ none)) f f2 e is;
+}
+
+-- what became of the writers where a name wasn't tried
+pub ended_same : {D W C : Type 0} (g : Ghosts D W C) (names deleted : List (List ℕ)) (first old new : D × List (List ℕ)) → Ended g names deleted first.0 old.0 → MayDelete g.told (g.view first.0) (g.view old.0) → MayDelete g.told (g.view old.0) (g.view new.0)
+    → TriesNothing g old new → Ended g names deleted first.0 new.0
+ended_same g names deleted first old new w f f2 e = record {
+  spares = λ tell x h l. e.alive tell x (w.spares tell x h l);
+  kept = λ tell x h l. e.alive tell x (w.kept tell x h l);
+  ended = λ tell x o h some. f2.goes_on.ended tell x (f.goes_on.writers x o) (w.ended tell x o h some);
+}
+
+-- at the start no writer has ended
+pub none_ended : {D W C : Type 0} (g : Ghosts D W C) (names deleted : List (List ℕ)) (old : D) → deleted ≡ [] → Ended g names deleted old old
+none_ended g names deleted old none = record {
+  spares = λ tell w h l. l;
+  kept = λ tell w h l. l;
+  ended = λ tell w o h. absurd (true≢false (sym (ap (λ (ns : List (List ℕ)). has ns (g.state_of w).name) (sym none) ∙ h)));
+}

@@ -1,72 +1,94 @@
 -- What a collection does to a directory and its list.
-use Rattle.std.specs.Prelude.{ℕ, ◌≡◌, ◌≢◌, ◌≤◌, ◌+◌, ◌⊎◌, Bool, true, false, List, [], ◌∷◌, ◌++◌, String, None, codes, length, map, string_bytes, if◌then◌else◌}
+use Rattle.std.specs.Prelude.{ℕ, ◌≡◌, ◌≢◌, ◌≤◌, ◌+◌, ◌⊎◌, Bool, true, false, List, [], ◌∷◌, ◌++◌, String, None, IsSome, codes, length, map, string_bytes, if◌then◌else◌, Result, IfErr, OnOk}
 use Rattle.tv_model.specs.Names.{has, list_name}
 use Rattle.tv_model.specs.Collections.{collectable, done_of, failed_of, without}
-use Rattle.tv_model.specs.Files.{Reads, Same, KeepsOthers, Rose}
+use Rattle.tv_model.specs.Files.{Same, KeepsOthers, Rose}
 use Rattle.tv_base.specs.Causes.{IsDevice}
 use Rattle.tv_base.specs.declared.error.TantivyError.{TantivyError}
 use Rattle.tv_base.specs.declared.error.TantivyError.TheVariants as errors
 use Rattle.tv_directory.specs.Locks.{LockCause}
+use Rattle.tv_directory.specs.View.{View, WriterState, OnlyReads}
 use Rattle.tv_directory.specs.declared.directory.Directory.{Ghosts}
+use Rattle.tv_managed.specs.Frames.{KeepsNames}
+use Rattle.tv_managed.specs.declared.collecting.GarbageCollectionResult.{GarbageCollectionResult}
 
 -- texts, as names
 abbrev pub names_of : {X : Type 0} → List (String X) → List (List ℕ)
 names_of texts = map string_bytes texts
 
+-- no more names failed than the count of refused deletes rose, or the count stands at the end of its 64 bits
+abbrev pub FailsAtMost : (failed before now : ℕ) → Type 0
+FailsAtMost failed before now = (failed + before ≤ now) ⊎ (now ≡ 18446744073709551615)
+
+-- every writer of a name that wasn't tried lives as it did
+abbrev pub SparesWriters : {W : Type 0} → (names : List (List ℕ)) → (state_of : W → WriterState) → (before after : W → Bool) → Type 0
+SparesWriters {W} names state_of before after = (w : W) → has names (state_of w).name ≡ false → before w ≡ true → after w ≡ true
+
+-- no writer that was open lives of a file that was there and was deleted
+abbrev pub EndsTheirWriters : {W : Type 0} → (deleted : List (List ℕ)) → (state_of : W → WriterState) → (old new : View W) → Type 0
+EndsTheirWriters {W} deleted state_of old new = (w : W) → old.opened w ≡ true → has deleted (state_of w).name ≡ true → IsSome (old.reads (state_of w).name) → new.lives w ≡ false
+
 -- What trying these names left, whatever was answered: some first ones were tried, and some of these are done, which don't read and aren't managed any more.
 -- All else is as it was.
-pub record Leaves (names before after : List (List ℕ)) (tells : Type 0) (old new : Reads) : Type 0 where
+pub record Leaves {D W C : Type 0} (g : Ghosts D W C) (names : List (List ℕ)) (old new : D × List (List ℕ)) : Type 0 where
   pub front : List (List ℕ)
   pub rest : List (List ℕ)
   pub outcomes : List Bool
   pub split : names ≡ front ++ rest
   pub each : length outcomes ≡ length front
   -- the managed names
-  pub managed : after ≡ without (done_of front outcomes) before
+  pub managed : new.1 ≡ without (done_of front outcomes) old.1
   -- a name that is done doesn't read
-  pub gone : tells → (n : List ℕ) → has (done_of front outcomes) n ≡ true → new n ≡ None
+  pub gone : g.told.content → (n : List ℕ) → has (done_of front outcomes) n ≡ true → (g.view new.0).reads n ≡ None
   -- every other name but that of the list reads what it read
-  pub others : tells → (n : List ℕ) → has (done_of front outcomes) n ≡ false → n ≢ list_name → new n ≡ old n
+  pub others : g.told.content → (n : List ℕ) → has (done_of front outcomes) n ≡ false → n ≢ list_name → (g.view new.0).reads n ≡ (g.view old.0).reads n
   -- a name that isn't among them reads what it read, and is managed where it was
-  pub spared : tells → (n : List ℕ) → has names n ≡ false → n ≢ list_name → new n ≡ old n
-  pub kept : (n : List ℕ) → has names n ≡ false → has after n ≡ has before n
+  pub spared : g.told.content → (n : List ℕ) → has names n ≡ false → n ≢ list_name → (g.view new.0).reads n ≡ (g.view old.0).reads n
+  pub kept : (n : List ℕ) → has names n ≡ false → has new.1 n ≡ has old.1 n
+  -- its writers live on
+  pub alive : g.told.content → SparesWriters names g.state_of (g.view old.0).lives (g.view new.0).lives
+  -- and no writer that was open lives of a file that was deleted
+  pub ended : g.told.content → EndsTheirWriters (done_of front outcomes) g.state_of (g.view old.0) (g.view new.0)
+  -- the count of refused deletes is one of 64 bits
+  pub fits : (g.view old.0).refusals ≤ 18446744073709551615 → (g.view new.0).refusals ≤ 18446744073709551615
 
 -- What trying these names gave where all were tried: each is told as done or as failed, in their order.
-pub record Tries (names before after deleted failed : List (List ℕ)) (tells : Type 0) (old new : Reads) : Type 0 where
+pub record Tries {D W C : Type 0} (g : Ghosts D W C) (names : List (List ℕ)) (old new : D × List (List ℕ)) (result : GarbageCollectionResult) : Type 0 where
   pub outcomes : List Bool
   pub each : length outcomes ≡ length names
-  pub deleted_is : deleted ≡ done_of names outcomes
-  pub failed_is : failed ≡ failed_of names outcomes
+  pub deleted : names_of result.deleted_files.items ≡ done_of names outcomes
+  pub failed : names_of result.failed_to_delete_files.items ≡ failed_of names outcomes
   -- the managed names are those that were, without the deleted ones
-  pub managed : after ≡ without deleted before
+  pub managed : new.1 ≡ without (names_of result.deleted_files.items) old.1
   -- a deleted name doesn't read
-  pub gone : tells → (n : List ℕ) → has deleted n ≡ true → new n ≡ None
+  pub gone : g.told.content → (n : List ℕ) → has (names_of result.deleted_files.items) n ≡ true → (g.view new.0).reads n ≡ None
   -- every other name but that of the list reads what it read
-  pub others : tells → (n : List ℕ) → has deleted n ≡ false → n ≢ list_name → new n ≡ old n
+  pub others : g.told.content → (n : List ℕ) → has (names_of result.deleted_files.items) n ≡ false → n ≢ list_name → (g.view new.0).reads n ≡ (g.view old.0).reads n
+  -- its writers live on, and no writer that was open of a file that was deleted does
+  pub alive : g.told.content → SparesWriters (names_of result.deleted_files.items) g.state_of (g.view old.0).lives (g.view new.0).lives
+  pub ended : g.told.content → EndsTheirWriters (names_of result.deleted_files.items) g.state_of (g.view old.0) (g.view new.0)
+  -- no more names failed than deletes were refused; and where none failed, none was
+  pub counted : FailsAtMost (length (names_of result.failed_to_delete_files.items)) (g.view old.0).refusals (g.view new.0).refusals
+  pub calm : names_of result.failed_to_delete_files.items ≡ [] → (g.view new.0).refusals ≡ (g.view old.0).refusals
 
 -- What trying a name gave: it doesn't read and isn't managed any more, or all is as it was, and the device refused its delete.
 pub record TriesName {D W C : Type 0} (g : Ghosts D W C) (name : List ℕ) (old new : D × List (List ℕ)) (is_gone : Bool) : Type 0 where
   pub managed : new.1 ≡ (if is_gone then without (name ∷ []) old.1 else old.1)
-  pub gone : g.tells → is_gone ≡ true → g.reads new.0 name ≡ None
-  pub others : g.tells → KeepsOthers (g.reads old.0) (g.reads new.0) name
-  pub same : g.tells → is_gone ≡ false → Same (g.reads old.0) (g.reads new.0)
-  pub done : is_gone ≡ true → g.refusals new.0 ≡ g.refusals old.0
-  pub failed : is_gone ≡ false → Rose (g.refusals old.0) (g.refusals new.0)
-  pub kept : is_gone ≡ false → (w : W) → g.lives old.0 w ≡ true → g.lives new.0 w ≡ true
+  pub gone : g.told.content → is_gone ≡ true → (g.view new.0).reads name ≡ None
+  pub others : g.told.content → KeepsOthers (g.view old.0).reads (g.view new.0).reads name
+  pub same : g.told.content → is_gone ≡ false → Same (g.view old.0).reads (g.view new.0).reads
+  pub done : is_gone ≡ true → (g.view new.0).refusals ≡ (g.view old.0).refusals
+  pub failed : is_gone ≡ false → Rose (g.view old.0).refusals (g.view new.0).refusals
+  pub alive : g.told.content → (w : W) → (g.state_of w).name ≢ name → (g.view old.0).lives w ≡ true → (g.view new.0).lives w ≡ true
+  pub kept : g.told.content → is_gone ≡ false → (w : W) → (g.view old.0).lives w ≡ true → (g.view new.0).lives w ≡ true
+  pub ended : g.told.content → is_gone ≡ true → IsSome ((g.view old.0).reads name) → (w : W) → (g.state_of w).name ≡ name → (g.view new.0).lives w ≡ false
 
--- a name wasn't tried: the same names are managed, each reads what it read, and no delete was refused
+-- a name wasn't tried: the same names are managed, each reads what it read, every writer lives as it did, and no delete was refused
 pub record TriesNothing {D W C : Type 0} (g : Ghosts D W C) (old new : D × List (List ℕ)) : Type 0 where
   pub managed : new.1 ≡ old.1
-  pub content : g.tells → Same (g.reads old.0) (g.reads new.0)
-  pub refusals : g.refusals new.0 ≡ g.refusals old.0
-
--- every writer of a name that wasn't tried lives as it did
-abbrev pub SparesWriters : {W : Type 0} → (names : List (List ℕ)) → (name_of : W → List ℕ) → (before after : W → Bool) → Type 0
-SparesWriters {W} names name_of before after = (w : W) → has names (name_of w) ≡ false → before w ≡ true → after w ≡ true
-
--- no more names failed than the count of refused deletes rose, or the count stands at the end of its 64 bits
-abbrev pub FailsAtMost : (failed before now : ℕ) → Type 0
-FailsAtMost failed before now = (failed + before ≤ now) ⊎ (now ≡ 18446744073709551615)
+  pub content : g.told.content → Same (g.view old.0).reads (g.view new.0).reads
+  pub alive : g.told.content → (w : W) → (g.view old.0).lives w ≡ true → (g.view new.0).lives w ≡ true
+  pub refusals : (g.view new.0).refusals ≡ (g.view old.0).refusals
 
 -- the lock that is held while the living names are asked for
 abbrev pub meta_lock_name : List ℕ
@@ -87,3 +109,17 @@ CollectCause busy refused quiet (errors.IoError fault) = IsDevice fault × refus
 CollectCause busy refused quiet (errors.LockFailure why text) = LockCause busy refused ⊥ why × (text ≡ None)
 CollectCause busy refused quiet errors.Memory = quiet
 CollectCause busy refused quiet _ = ⊥
+
+-- A collection fails where the meta lock is held, where the device refused a call other than a delete, or where memory was wanted. Where the lock isn't given, nothing changed; at Ok it was free.
+pub record CollectFaults {A D W C : Type 0} (g : Ghosts D W C) (old new : D × List (List ℕ)) (result : Result A TantivyError) : Type 0 where
+  pub quiet : OnOk result ((g.view new.0).faults ≡ (g.view old.0).faults)
+  pub free : g.told.locks → OnOk result ((g.view old.0).locks meta_lock_name ≡ false)
+  pub busy : g.told.locks → IfErr result (CollectCause ((g.view old.0).locks meta_lock_name ≡ true) (Unit {0}) (Unit {0}))
+  pub cause : IfErr result (CollectCause ((g.told.locks × ((g.view new.0).faults ≡ (g.view old.0).faults)) ⊎ Rose (g.view old.0).faults (g.view new.0).faults) (Rose (g.view old.0).faults (g.view new.0).faults) ((g.view new.0).faults ≡ (g.view old.0).faults))
+  pub unchanged : IfErr result (λ e. is_lock_failure e ≡ true → KeepsNames (OnlyReads g.told) g.view old new)
+
+-- The same of the part of a collection that takes no lock: it never answers that a lock wasn't given.
+pub record UnlockedFaults {A D W C : Type 0} (g : Ghosts D W C) (old new : D) (result : Result A TantivyError) : Type 0 where
+  pub quiet : OnOk result ((g.view new).faults ≡ (g.view old).faults)
+  pub cause : IfErr result (CollectCause ⊥ (Rose (g.view old).faults (g.view new).faults) ((g.view new).faults ≡ (g.view old).faults))
+  pub unlocked : IfErr result (λ e. is_lock_failure e ≡ false)

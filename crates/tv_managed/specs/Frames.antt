@@ -1,34 +1,16 @@
--- What a call of a managed directory leaves alone, and why it is given up.
-use Rattle.std.specs.Prelude.{◌≡◌, ◌≤◌, true, false, Result, IfErr, OnOk}
+-- What a call of a managed directory leaves alone.
+use Rattle.std.specs.Prelude.{◌≡◌, ℕ, List, Result, IfErr, OnOk}
 use Rattle.tv_model.specs.Files.{Rose}
-use Rattle.tv_base.specs.Causes.{IoCause, OpenWriteCause}
-use Rattle.tv_base.specs.declared.io.IoError.{IoError}
+use Rattle.tv_base.specs.Causes.{OpenWriteCause}
 use Rattle.tv_base.specs.declared.open_errors.OpenWriteError.{OpenWriteError}
-use Rattle.tv_directory.specs.Locks.{SameLocks}
-use Rattle.tv_directory.specs.declared.directory.Directory.{Ghosts}
+use Rattle.tv_directory.specs.View.{View}
 
--- Writers may still be handed in, and what was deleted stays so. No lock was taken or freed, nobody was registered or called, nothing was told, and the clock doesn't go back.
-pub record GoesOn {D W C : Type 0} (g : Ghosts D W C) (old new : D) : Type 0 where
-  pub writers : (w : W) → g.opened old w ≡ true → g.opened new w ≡ true
-  pub ended : (w : W) → g.opened old w ≡ true → g.lives old w ≡ false → g.lives new w ≡ false
-  pub locks : g.tells_locks → SameLocks (g.locks old) (g.locks new)
-  pub watched : g.watched new ≡ g.watched old
-  pub clock : g.moment old ≤ g.moment new
-  pub heard : g.heard new ≡ g.heard old
-  pub room : g.room old ≤ g.room new
+-- the managed names stay, and of the directory below what such a call keeps
+pub record KeepsNames {D W : Type 0} (keeps : View W → View W → Type 0) (view : D → View W) (old new : D × List (List ℕ)) : Type 0 where
+  pub names : new.1 ≡ old.1
+  pub below : keeps (view old.0) (view new.0)
 
--- and no file was deleted, and no delete refused
-pub record Frame {D W C : Type 0} (g : Ghosts D W C) (old new : D) : Type 0 where
-  pub goes_on : GoesOn g old new
-  pub refusals : g.refusals new ≡ g.refusals old
-  pub alive : (w : W) → g.lives old w ≡ true → g.lives new w ≡ true
-
--- a call that does its work wasn't refused, and one that is given up was, or memory was wanted
-pub record IoFaults {D W C X : Type 0} (g : Ghosts D W C) (old new : D) (result : Result X IoError) : Type 0 where
-  pub quiet : OnOk result (g.faults new ≡ g.faults old)
-  pub cause : IfErr result (IoCause (Rose (g.faults old) (g.faults new)) (g.faults new ≡ g.faults old))
-
--- the same of a step towards a file that is made
-pub record OpenFaults {D W C X : Type 0} (g : Ghosts D W C) (old new : D) (result : Result X OpenWriteError) : Type 0 where
-  pub quiet : OnOk result (g.faults new ≡ g.faults old)
-  pub cause : IfErr result (OpenWriteCause ⊥ (Rose (g.faults old) (g.faults new)) (g.faults new ≡ g.faults old))
+-- A step towards a file that is made fails where the device refused a call, or where memory was wanted; the error names the file.
+pub record MakeFaults {A W : Type 0} (old new : View W) (name : List ℕ) (result : Result A OpenWriteError) : Type 0 where
+  pub quiet : OnOk result (new.faults ≡ old.faults)
+  pub cause : IfErr result (OpenWriteCause name ⊥ (Rose old.faults new.faults) (new.faults ≡ old.faults))

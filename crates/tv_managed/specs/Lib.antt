@@ -1,5 +1,5 @@
-pub mod Managed
 pub mod Reading
-pub mod Collecting
 pub mod Writers
+pub mod Managed
+pub mod Collecting
 pub mod Frames

@@ -1,11 +1,19 @@
 -- What the calls of a managed directory do to what it reads.
-use Rattle.std.specs.Prelude.{◌≡◌, ◌≢◌, ◌⊎◌, ℕ, true, List, [], Option, Some, None, IsSome, if◌then◌else◌}
+use Rattle.std.specs.Prelude.{◌≡◌, ◌≢◌, ◌⊎◌, ℕ, true, false, List, [], Option, Some, None, IsSome, if◌then◌else◌, Result, IfErr, OnOk, OnErr}
 use Rattle.std.specs.BTreeSet.{insert_key}
 use Rattle.std.specs.List.{list_all}
 use Rattle.std.specs.List.Sorted.{IsStrictlySortedBy}
 use Rattle.tv_model.specs.Names.{byte_cmp, has, is_plain, is_undotted, list_name}
 use Rattle.tv_model.specs.Listing.{Lists, list_text}
-use Rattle.tv_model.specs.Files.{Reads, KeepsOthers}
+use Rattle.tv_model.specs.Files.{Reads, Same, Sets, MaySet, KeepsOthers}
+use Rattle.tv_model.specs.Footer.{sealed}
+use Rattle.tv_base.specs.Causes.{IoCause, OpenWriteCause}
+use Rattle.tv_base.specs.declared.io.IoError.{IoError}
+use Rattle.tv_base.specs.declared.open_errors.OpenWriteError.{OpenWriteError}
+use Rattle.tv_directory.specs.declared.directory.Directory.{Ghosts}
+use Rattle.tv_managed.specs.Reading.{ReadsBody}
+use Rattle.tv_managed.specs.Writers.{IsSummed}
+use Rattle.tv_managed.specs.declared.writer.ManagedWriter.{ManagedWriter}
 
 -- managed names are plain, and stand in their order, each once
 pub record AreManaged (names : List (List ℕ)) : Type 0 where
@@ -29,7 +37,7 @@ abbrev pub KeepsOtherFiles : Reads → Reads → List ℕ → Type 0
 KeepsOtherFiles old new name = (n : List ℕ) → n ≢ name → n ≢ list_name → new n ≡ old n
 
 -- a file was made that wasn't there, and no other file was changed
-pub record Makes (old new : Reads) (name : List ℕ) : Type 0 where
+pub record MakesFile (old new : Reads) (name : List ℕ) : Type 0 where
   pub absent : old name ≡ None
   pub empty : new name ≡ Some []
   pub others : KeepsOtherFiles old new name
@@ -42,3 +50,50 @@ ListsNew old new = (n : List ℕ) → is_undotted n ≡ true → IsSome (new n) 
 pub record MaySave (old new : Reads) (names : List (List ℕ)) (name : List ℕ) : Type 0 where
   pub either : (new list_name ≡ Some (list_text (insert_key byte_cmp names name))) ⊎ (new list_name ≡ old list_name)
   pub others : KeepsOthers old new list_name
+
+-- A name without a dot in front is managed afterwards. After an error the managed names are as they were, or there is this one more.
+pub record Registers {A E : Type 0} (old new : List (List ℕ)) (name : List ℕ) (result : Result A E) : Type 0 where
+  pub ok : OnOk result (new ≡ registered old name)
+  pub err : OnErr result ((new ≡ old) ⊎ (new ≡ registered old name))
+
+-- The list of these names was saved. Where the call failed, it was saved, or it reads as before. No other file was changed.
+pub record SavesNames {A E D W C : Type 0} (g : Ghosts D W C) (old new : D) (names : List (List ℕ)) (result : Result A E) : Type 0 where
+  pub ok : g.told.content → OnOk result (Sets (g.view old).reads (g.view new).reads list_name (Some (list_text names)))
+  pub err : g.told.content → MaySet (g.view old).reads (g.view new).reads list_name (Some (list_text names))
+
+-- The list on the device goes on having each managed name. Where it listed the managed names, it does so at Ok.
+pub record SavesList {A E D W C : Type 0} (g : Ghosts D W C) (old new : D × List (List ℕ)) (result : Result A E) : Type 0 where
+  pub list : g.told.content → Lists ((g.view old.0).reads list_name) old.1 → OnOk result (Lists ((g.view new.0).reads list_name) new.1)
+  pub covers : g.told.content → Covers ((g.view old.0).reads list_name) old.1 → Covers ((g.view new.0).reads list_name) new.1
+
+-- The same of a step that lists a name: at Ok the name is on the list, unless it has a dot in front.
+pub record HasListed {A E D W C : Type 0} (g : Ghosts D W C) (old new : D × List (List ℕ)) (name : List ℕ) (result : Result A E) : Type 0 where
+  pub saves : SavesList g old new result
+  pub on_list : g.told.content → Covers ((g.view old.0).reads list_name) old.1 → is_undotted name ≡ true → OnOk result (IsOnList ((g.view new.0).reads list_name) name)
+
+-- The same of a call that makes a file: the list has each undotted file that is made.
+pub record KeepsList {A E D W C : Type 0} (g : Ghosts D W C) (old new : D × List (List ℕ)) (result : Result A E) : Type 0 where
+  pub saves : SavesList g old new result
+  pub listed : g.told.content → Covers ((g.view old.0).reads list_name) old.1 → ListsNew (g.view old.0).reads (g.view new.0).reads
+
+-- An empty file is made, where there was none. Where the file was there, nothing changed. After a refusal of the device the name reads what it read or an empty file,
+-- after another error what it read. No other file but the list was changed.
+pub record Creates {A D W C : Type 0} (g : Ghosts D W C) (old new : D × List (List ℕ)) (name : List ℕ) (result : Result A OpenWriteError) : Type 0 where
+  pub ok : g.told.content → OnOk result (MakesFile (g.view old.0).reads (g.view new.0).reads name)
+  pub there : g.told.content → IsSome ((g.view old.0).reads name) → Same (g.view old.0).reads (g.view new.0).reads × (new.1 ≡ old.1)
+  pub err : g.told.content → IfErr result (OpenWriteCause name (Unit {0}) (((g.view new.0).reads name ≡ Some []) ⊎ ((g.view new.0).reads name ≡ (g.view old.0).reads name)) ((g.view new.0).reads name ≡ (g.view old.0).reads name))
+  pub others : g.told.content → KeepsOtherFiles (g.view old.0).reads (g.view new.0).reads name
+
+-- The name is given these bytes. Where the device refused a call, it may have been; where memory was wanted, the name reads what it read. No other file but the list was changed.
+pub record GivesFile {A D W C : Type 0} (g : Ghosts D W C) (old new : D) (name bytes : List ℕ) (result : Result A IoError) : Type 0 where
+  pub ok : g.told.content → OnOk result ((g.view new).reads name ≡ Some bytes)
+  pub err : g.told.content → IfErr result (IoCause (((g.view new).reads name ≡ Some bytes) ⊎ ((g.view new).reads name ≡ (g.view old).reads name)) ((g.view new).reads name ≡ (g.view old).reads name))
+  pub others : g.told.content → KeepsOtherFiles (g.view old).reads (g.view new).reads name
+
+-- The writer's file is sealed: it reads what was written, with a footer, and so its body is read back. After an error the file is still there. Where its name was deleted since, nothing changed. No other file was changed.
+pub record SealsBody {A D W C : Type 0} (g : Ghosts D W C) (old new : D) (w : ManagedWriter D W C) (result : Result A IoError) : Type 0 where
+  pub ok : g.told.content → (g.view old).lives w.writer ≡ true → IsSummed g.state_of w → OnOk result (Sets (g.view old).reads (g.view new).reads (g.state_of w.writer).name (Some (sealed (g.state_of w.writer).written)))
+  pub body : g.told.content → (g.view old).lives w.writer ≡ true → IsSummed g.state_of w → OnOk result (ReadsBody ((g.view new).reads (g.state_of w.writer).name) (g.state_of w.writer).written)
+  pub others : g.told.content → KeepsOthers (g.view old).reads (g.view new).reads (g.state_of w.writer).name
+  pub there : g.told.content → (g.view old).lives w.writer ≡ true → IsSome ((g.view old).reads (g.state_of w.writer).name) → IsSome ((g.view new).reads (g.state_of w.writer).name)
+  pub gone : g.told.content → (g.view old).lives w.writer ≡ false → Same (g.view old).reads (g.view new).reads

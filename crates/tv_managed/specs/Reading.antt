@@ -1,7 +1,7 @@
 -- How the body of a sealed file is read, and its checksum.
-use Rattle.std.specs.Prelude.{ℕ, ◌≡◌, ◌⊎◌, ◌==◌, Bool, List, Option, Some, String, string_bytes}
-use Rattle.std.specs.Global.{Global}
+use Rattle.std.specs.Prelude.{ℕ, ◌≡◌, ◌⊎◌, ◌==◌, Bool, List, Option, Some, None, Result, IfErr, OnOk, string_bytes}
 use Rattle.tv_model.specs.Checksum.{crc32}
+use Rattle.tv_model.specs.Files.{Rose}
 use Rattle.tv_model.specs.Footer.{HasBody, IsFramed, IsOtherFormat}
 use Rattle.tv_model.specs.FooterForm.{FooterNumbers}
 use Rattle.tv_base.specs.Causes.{IsDevice}
@@ -10,6 +10,7 @@ use Rattle.tv_base.specs.declared.open_errors.OpenReadError.{OpenReadError}
 use Rattle.tv_base.specs.declared.open_errors.OpenReadError.TheVariants as read
 use Rattle.tv_base.specs.declared.versions.Incompatibility.{Incompatibility}
 use Rattle.tv_base.specs.declared.versions.Incompatibility.TheVariants.{IndexMismatch}
+use Rattle.tv_directory.specs.declared.directory.Directory.{Ghosts}
 use Rattle.tv_framing.specs.declared.footer.Footer.{Footer}
 use Rattle.tv_framing.specs.Footers as framing
 use Rattle.tv_framing.specs.Footers.{Refuses}
@@ -74,9 +75,18 @@ NamesFile name (read.IoError fault path) = string_bytes path ≡ name
 NamesFile name (read.IncompatibleIndex why) = Unit {0}
 NamesFile name read.Memory = Unit {0}
 
--- an error of another file, as one of the file of this path
-abbrev pub at_path : OpenReadError → String Global → OpenReadError
-at_path (read.FileDoesNotExist other) path = read.FileDoesNotExist path
-at_path (read.IoError fault other) path = read.IoError fault path
-at_path (read.IncompatibleIndex why) path = read.IncompatibleIndex why
-at_path read.Memory path = read.Memory
+-- A call that reads a file's footer, whatever format that is of, fails for one of these causes, and the error names the file.
+pub record FooterFaults {A D W C : Type 0} (g : Ghosts D W C) (old new : D) (name : List ℕ) (result : Result A OpenReadError) : Type 0 where
+  pub quiet : OnOk result ((g.view new).faults ≡ (g.view old).faults)
+  pub path : IfErr result (NamesFile name)
+  pub cause : IfErr result (OpenBodyCause ((g.view new).faults ≡ (g.view old).faults) (λ fault. SomeRefused fault × ((g.view new).faults ≡ (g.view old).faults)) (λ why. ⊥) (Rose (g.view old).faults (g.view new).faults) ((g.view new).faults ≡ (g.view old).faults))
+  pub err : g.told.content → IfErr result (OpenBodyCause ((g.view old).reads name ≡ None) (ReadsRefused ((g.view old).reads name)) (λ why. ⊥) (Unit {0}) (Unit {0}))
+  pub outside : g.told.content → IfErr result (OpenBodyCause (Unit {0}) (λ fault. ReadsSuch ((g.view old).reads name) HasNoFooter) (λ why. ⊥) (Unit {0}) (Unit {0}))
+
+-- The same of a call that reads a body: a footer of another format is refused.
+pub record BodyFaults {A D W C : Type 0} (g : Ghosts D W C) (old new : D) (name : List ℕ) (result : Result A OpenReadError) : Type 0 where
+  pub quiet : OnOk result ((g.view new).faults ≡ (g.view old).faults)
+  pub path : IfErr result (NamesFile name)
+  pub cause : IfErr result (OpenBodyCause ((g.view new).faults ≡ (g.view old).faults) (λ fault. SomeRefused fault × ((g.view new).faults ≡ (g.view old).faults)) (λ why. SomeOther why × ((g.view new).faults ≡ (g.view old).faults)) (Rose (g.view old).faults (g.view new).faults) ((g.view new).faults ≡ (g.view old).faults))
+  pub err : g.told.content → IfErr result (OpenBodyCause ((g.view old).reads name ≡ None) (ReadsRefused ((g.view old).reads name)) (ReadsOther ((g.view old).reads name)) (Unit {0}) (Unit {0}))
+  pub outside : g.told.content → IfErr result (OpenBodyCause (Unit {0}) (λ fault. ReadsSuch ((g.view old).reads name) HasNoBody) (λ why. ReadsSuch ((g.view old).reads name) HasNoBody) (Unit {0}) (Unit {0}))

@@ -1,9 +1,9 @@
 //! The file that lists the managed files.
-ghost use Rattle.std.specs.Prelude.{◌≡◌, ◌≤◌, [], ◌∷◌, ◌++◌, true, false, Some, IfOk, IfErr, OnOk, map, string_bytes, if◌then◌else◌};
-ghost use Rattle.tv_model.specs.Names.{list_name};
+ghost use Rattle.std.specs.Prelude.{◌≡◌, [], ◌∷◌, ◌++◌, IfOk, OnOk, map, string_bytes, if◌then◌else◌};
 ghost use Rattle.tv_model.specs.Listing.{list_text, quoted};
-ghost use Rattle.tv_model.specs.Files.{Sets, MaySet, Rose};
-ghost use Rattle.tv_managed.specs.Frames.{Frame, IoFaults};
+ghost use Rattle.tv_directory.specs.Calls.{IoFaults};
+ghost use Rattle.tv_directory.specs.View.{Kept};
+ghost use Rattle.tv_managed.specs.Managed.{SavesNames};
 
 use std::alloc::Global;
 use std::collections::BTreeSet;
@@ -13,7 +13,8 @@ use tv_model::Memory;
 
 // Adds a name in quotation marks, and a comma before it where it isn't the first.
 fn push_name(text: &mut Vec<u8>, name: &str, is_first: bool) -> Result<(), Memory>
-    ensures { OnOk result (text.new.items ≡ text.old.items ++ ((if is_first then [] else 44 ∷ []) ++ quoted name.now)) }
+    ensures { OnOk result (text.new.items
+        ≡ text.old.items ++ ((if is_first then [] else 44 ∷ []) ++ quoted name.now)) }
 {
     if !is_first {
         text.push(b',')?;
@@ -45,10 +46,10 @@ pub(crate) fn save_list<D: Directory>(
     directory: &mut D,
     names: &BTreeSet<String>,
 ) -> Result<(), IoError>
-    ensures ok { D.tells → OnOk result (Sets (D.reads directory.old) (D.reads directory.new) list_name (Some (list_text (map string_bytes names.now.keys)))) }
-    ensures err { D.tells → MaySet (D.reads directory.old) (D.reads directory.new) list_name (Some (list_text (map string_bytes names.now.keys))) }
-    ensures faults { IoFaults D.Directory directory.old directory.new result }
-    ensures frame { Frame D.Directory directory.old directory.new }
+    ensures saves { SavesNames D.Directory directory.old directory.new
+        (map string_bytes names.now.keys) result }
+    ensures faults { IoFaults (D.view directory.old) (D.view directory.new) result }
+    ensures frame { Kept D.told (D.view directory.old) (D.view directory.new) }
 {
     let text = list_text(alloc, names)?;
     directory.atomic_write(MANAGED_FILEPATH, text.as_slice())?;

@@ -22,7 +22,7 @@ use Rattle.tv_store.specs.ReadCauses.{ReadFault}
 use Rattle.tv_replay.specs.Replays.{ReplayCause, StopsAt, LineRefusal, IsBadFile, NeverOpens}
 use Rattle.tv_replay.specs.Completeness.{IsScript, IsReady}
 use Rattle.tv_replay.proofs.Progress.{AreLines-length}
-use Rattle.tv_replay.proofs.Applying.{opens_first, no_names}
+use Rattle.tv_replay.proofs.AppliedEvents.{opens_first, no_names}
 
 -- the event whose line stands after some others
 event_there : (texts : List (List ℕ)) (text : List ℕ) (more : List (List ℕ)) (events : List Event) → AreLines (texts ++ text ∷ more) events → (event : Event) × IsLine text event

@@ -6,7 +6,7 @@ use Rattle.std.proofs.lemmas.List.Splits.{join_with_byte-slice_split}
 use Rattle.tv_model.specs.declared.event.Event.{Event}
 use Rattle.tv_model.specs.declared.event.Event.TheVariants as events
 use Rattle.tv_model.specs.Script.{line_limit, Fits, IsLine, keyword, AreArguments}
-use Rattle.tv_replay.specs.Reading.{event_in}
+use Rattle.tv_replay.specs.EventWords.{event_in}
 use Rattle.tv_replay.proofs.Numbers.{number_again}
 use Rattle.tv_replay.proofs.Spelling.{NoSpace, is_space, split_joined, id_again, id_has_no_space, number_has_no_space}
 use Rattle.tv_replay.proofs.WordLaws.{Reads, named, either, component_again, extension_has_no_space, bytes_again, bytes_have_no_space, ids_again, ids_have_no_space}

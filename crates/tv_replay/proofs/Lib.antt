@@ -9,8 +9,9 @@ pub mod LineLemmas
 pub mod Limits
 pub mod Progress
 pub mod Benches
-pub mod Applying
+pub mod AppliedEvents
 pub mod Stopping
 pub mod Runs
 pub mod Complete
 pub mod StoreLocks
+pub mod ReplayFrames

@@ -2,7 +2,7 @@
 use Rattle.std.proofs.Common.{◌≡◌, ℕ, suc, ◌≤◌, ◌<◌, ◌==◌, Bool, true, false, not, ◌&&◌, List, [], ◌∷◌, ◌++◌, length, Option, Some, None, refl, sym, ap, ◌∙◌, arith, append_assoc}
 use Rattle.std.specs.List.{onto_first}
 use Rattle.std.proofs.lemmas.List.{append-nil}
-use Rattle.tv_base.specs.Streams.{Reads, Keeps, IsAtEnd}
+use Rattle.tv_base.specs.Streams.{Keeps}
 use Rattle.tv_model.specs.Lines.{has_no_feed}
 use Rattle.tv_model.specs.Script.{line_limit, lines_of}
 use Rattle.tv_replay.specs.ScriptLines.{NoFeed, pending, Moves, Takes, IsTooLong, Begins}

@@ -6,7 +6,7 @@ use Rattle.tv_model.specs.declared.event.Event.TheVariants as events
 use Rattle.tv_model.specs.declared.reload_policy.ReloadPolicy.TheVariants.{Manual}
 use Rattle.tv_model.specs.Names.{is}
 use Rattle.tv_replay.specs.Fields.{id_at, number_at, component_at}
-use Rattle.tv_replay.specs.Reading.{◌>>=◌, reader_in, reload_in, searcher_in, show_in, bytes_in, release_in, reader_event_in}
+use Rattle.tv_replay.specs.EventWords.{◌>>=◌, reader_in, reload_in, searcher_in, show_in, bytes_in, release_in, reader_event_in}
 use Rattle.tv_replay.proofs.Numbers.{chosen, number_found}
 use Rattle.tv_replay.proofs.Spelling.{id_found}
 use Rattle.tv_replay.proofs.WordLaws.{Reads, named, bind_some, some_is, either, same_one, same_two, all_three, component_found}

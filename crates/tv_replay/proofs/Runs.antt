@@ -1,16 +1,17 @@
 -- What a run tells or says: no line feed stands in the lines of errors, and what each refusal leads to.
 use Rattle.std.proofs.Common.{◌≡◌, ◌⊎◌, inl, inr, ℕ, zero, suc, ◌+◌, ◌<◌, ◌/◌, ◌%◌, ◌==◌, Bool, true, false, not, nat_lt, if◌then◌else◌, ◌≤◌, List, [], ◌∷◌, ◌++◌, length, get_or, codes, refl, sym, ap, subst, ◌∙◌, arith, string_bytes, Result, Ok, Err}
-use Rattle.std.specs.Prelude.{nat_eq, OnOk, IfErr, OnErr, map, Option, Some, None, IsSome}
+use Rattle.std.specs.Prelude.{nat_eq, map, Option, Some, None, IsSome}
 use Rattle.std.specs.Cmp.Lexicographic.{pointwise, same_text}
 use Rattle.std.specs.List.{starts_with}
 use Rattle.std.specs.Fmt.{decimal, digits, digits_onto, digit_glyph}
 use Rattle.std.proofs.lemmas.Bool.{ne_eqb}
-use Rattle.tv_directory.specs.Locks.{Locks}
-use Rattle.tv_model.specs.Files.{Reads, Heard, Rose}
+use Rattle.tv_directory.specs.declared.directory.Directory.{Ghosts}
+use Rattle.tv_model.specs.Files.{Reads, Rose}
 use Rattle.tv_model.specs.Lines.{has_no_feed}
 use Rattle.tv_model.proofs.NoFeeds.{no_feed_append, no_feed_name}
 use Rattle.tv_base.specs.Causes.{IoCause}
 use Rattle.tv_base.specs.Errors.{of_io, of_open_directory}
+use Rattle.tv_base.specs.declared.io.IoFault.{IoFault}
 use Rattle.tv_base.specs.declared.io.IoError.{IoError}
 use Rattle.tv_base.specs.declared.io.IoError.TheVariants as io
 use Rattle.tv_base.specs.declared.io.IoKind.{IoKind}
@@ -27,7 +28,7 @@ use Rattle.tv_base.specs.declared.error.TantivyError.{TantivyError}
 use Rattle.tv_base.specs.declared.error.TantivyError.TheVariants as errors
 use Rattle.tv_replay.specs.ErrorLines.{argument_line, fault_line, format_line, lock_line, read_line, error_line}
 use Rattle.tv_store.specs.ReadCauses.{ReadFault}
-use Rattle.tv_replay.specs.Places.{LendCause, SaysPart}
+use Rattle.tv_replay.specs.PlaceView.{PlaceTold, PlaceView, KeepsTexts, KeepsFolders, PlaceKept, LendCause, Says, SayFaults}
 use Rattle.tv_replay.specs.Replays.{ReplayCause, LineRefusal, IsBadFile, NeverOpens, line_refusal, long_refusal}
 use Rattle.tv_replay.specs.Runs.{schema_line, folder_line, replay_words, SaysLine, OnlySays, Refuses, Reports}
 use Rattle.tv_store.specs.StoreCauses.{OpeningRefusal}
@@ -125,59 +126,86 @@ folder_line_is directory.Memory other = absurd (other refl)
 folder_line_is error other = refl
 
 -- a line was said, or the place refused it
-says_line : {T E : Type 0} (r : Result T E) (D : E → Type 0) (told : Type 0) (faults faults_now : ℕ) (before now line : List ℕ) → OnOk r (faults_now ≡ faults) → (told → OnOk r (now ≡ before ++ line ++ 10 ∷ [])) → (told → OnErr r (SaysPart before now line)) → IfErr r (λ e. D e × Rose faults faults_now)
-    → SaysLine told faults faults_now before now line
-says_line (Ok x) D told faults faults_now before now line q f g h = inl (q, f)
-says_line (Err e) D told faults faults_now before now line q f g h = inr (h.1, g)
+says_line : {A O : Type 0} {told : PlaceTold} {old new : PlaceView O} {line : List ℕ} (r : Result A IoFault) → Says told old new line r → SayFaults old new r → SaysLine told old new line
+says_line (Ok x) says faults = inl (faults.quiet, says.ok)
+says_line (Err e) says faults = inr (faults.cause.1, says.err)
 
-pub only_says : {O T E : Type 0} (r : Result T E) (D : E → Type 0) (told tells_said : Type 0) (before now : List ℕ → Option O) (faults faults_now : ℕ) (said_before said_now line : List ℕ)
-    → OnOk r (faults_now ≡ faults) → (tells_said → OnOk r (said_now ≡ said_before ++ line ++ 10 ∷ [])) → (tells_said → OnErr r (SaysPart said_before said_now line)) → IfErr r (λ e. D e × Rose faults faults_now)
-    → (told → (f : List ℕ) → now f ≡ before f) → OnlySays told tells_said before now faults faults_now said_before said_now line
-only_says r D told tells_said before now faults faults_now said_before said_now line q f g h folders = record {
-  says = says_line r D tells_said faults faults_now said_before said_now line q f g h;
-  folders = folders;
-}
+pub only_says : {A O : Type 0} {told : PlaceTold} {old new : PlaceView O} {line : List ℕ} (r : Result A IoFault) → Says told old new line r → SayFaults old new r → KeepsFolders told old new → OnlySays told old new line
+only_says r says faults frame = record { says = says_line r says faults; counted = faults.counted; frame = frame }
 
 -- the line that was said is this one
-pub says_this : {O : Type 0} {told tells_said : Type 0} {before now : List ℕ → Option O} {faults faults_now : ℕ} {said_before said_now line whole : List ℕ}
-    → line ≡ whole → OnlySays told tells_said before now faults faults_now said_before said_now line → OnlySays told tells_said before now faults faults_now said_before said_now whole
-says_this {O} {told} {tells_said} {before} {now} {faults} {faults_now} {said_before} {said_now} {line} {whole} is only =
-    subst (λ (l : List ℕ). OnlySays told tells_said before now faults faults_now said_before said_now l) is only
+pub says_this : {O : Type 0} {told : PlaceTold} {old new : PlaceView O} {line whole : List ℕ} → line ≡ whole → OnlySays told old new line → OnlySays told old new whole
+says_this {told = told} {old = old} {new = new} is only = subst (λ (l : List ℕ). OnlySays told old new l) is only
 
--- what was said and kept, told of from an earlier moment
-says_since : {O : Type 0} {told tells_said : Type 0} {before between now : List ℕ → Option O} {faults faults_now : ℕ} {said_before said_between said_now line : List ℕ}
-    → (told → (f : List ℕ) → between f ≡ before f) → said_between ≡ said_before
-    → OnlySays told tells_said between now faults faults_now said_between said_now line → OnlySays told tells_said before now faults faults_now said_before said_now line
-says_since {tells_said = tells_said} {faults = faults} {faults_now = faults_now} {said_now = said_now} {line = line} folders silent only = record {
-  says = subst (λ (s : List ℕ). SaysLine tells_said faults faults_now s said_now line) silent only.says;
-  folders = λ t f. only.folders t f ∙ folders t f;
+texts_then : {O : Type 0} {told : PlaceTold} {first next last : PlaceView O} → KeepsTexts told first next → KeepsTexts told next last → KeepsTexts told first last
+texts_then before after = record {
+  schemas = λ tells path. after.schemas tells path ∙ before.schemas tells path;
+  scripts = λ tells path. after.scripts tells path ∙ before.scripts tells path;
 }
 
+folders_then : {O : Type 0} {told : PlaceTold} {first next last : PlaceView O} → KeepsFolders told first next → KeepsFolders told next last → KeepsFolders told first last
+folders_then before after = record {
+  texts = texts_then before.texts after.texts;
+  folders = λ tells folder. after.folders tells folder ∙ before.folders tells folder;
+  lent = after.lent ∙ before.lent;
+}
+
+pub kept_then : {O : Type 0} {told : PlaceTold} {first next last : PlaceView O} → PlaceKept told first next → PlaceKept told next last → PlaceKept told first last
+kept_then before after = record { folders = folders_then before.folders after.folders; said = after.said ∙ before.said }
+
+-- the count is none of what is kept
+as_counted : {O : Type 0} {told : PlaceTold} {old new : PlaceView O} (count : ℕ) → KeepsFolders told old new → KeepsFolders told (record old { faults = count }) new
+as_counted count kept = record { texts = record { schemas = kept.texts.schemas; scripts = kept.texts.scripts }; folders = kept.folders; lent = kept.lent }
+
+-- what was said and kept, told of from an earlier moment
+says_since : {O : Type 0} {told : PlaceTold} {old mid new : PlaceView O} {line : List ℕ} → PlaceKept told old mid → OnlySays told mid new line → OnlySays told (record old { faults = mid.faults }) new line
+says_since {told = told} {old = old} {mid = mid} {new = new} {line = line} kept only = record {
+  says = subst (λ (said : List ℕ). SaysLine told (record old { faults = mid.faults; said = said }) new line) kept.said only.says;
+  counted = only.counted;
+  frame = as_counted mid.faults (folders_then kept.folders only.frame);
+}
+
+-- and no call was refused since
+says_quietly : {O : Type 0} {told : PlaceTold} {old mid new : PlaceView O} {line : List ℕ} → PlaceKept told old mid → mid.faults ≡ old.faults → OnlySays told mid new line → OnlySays told old new line
+says_quietly {told = told} {old = old} {mid = mid} {new = new} {line = line} kept quiet only = record {
+  says = subst (λ (n : ℕ). SaysLine told (record old { faults = n }) new line) quiet (says_since kept only).says;
+  counted = subst (λ (n : ℕ). (before : ℕ) → Rose before n → Rose before new.faults) quiet only.counted;
+  frame = folders_then kept.folders only.frame;
+}
+
+-- why a schema or a folder wasn't had, seen from an earlier moment
+pub why_since : {memory : Type 0} {faults start count : ℕ} → start ≡ faults → Rose start count ⊎ ((count ≡ start) × memory) → Rose faults count ⊎ ((count ≡ faults) × memory)
+why_since {count = count} same (inl rose) = inl (subst (λ (n : ℕ). Rose n count) same rose)
+why_since same (inr (quiet, m)) = inr (quiet ∙ same, m)
+
 -- the place refused a schema or a folder, and then the line of that was said
-pub refuses : {O : Type 0} (told tells_said memory : Type 0) (before between now : List ℕ → Option O) (faults start count faults_now : ℕ) (said_before said_between said_now line whole : List ℕ)
-    → start ≡ faults → Rose start count ⊎ ((count ≡ start) × memory) → (memory → ⊥) → (told → (f : List ℕ) → between f ≡ before f) → said_between ≡ said_before → line ≡ whole
-    → OnlySays told tells_said between now count faults_now said_between said_now line → Refuses told tells_said before now faults faults_now said_before said_now whole
-refuses told tells_said memory before between now faults start count faults_now said_before said_between said_now line whole same (inl rose) other folders silent is only =
-    record { count = count; refused = subst (λ (n : ℕ). Rose n count) same rose; only = says_since folders silent (says_this is only) }
-refuses told tells_said memory before between now faults start count faults_now said_before said_between said_now line whole same (inr (_, m)) other folders silent is only = absurd (other m)
+pub refuses : {O : Type 0} {told : PlaceTold} {old mid new : PlaceView O} {line whole : List ℕ} (memory : Type 0) → PlaceKept told old mid
+    → Rose old.faults mid.faults ⊎ ((mid.faults ≡ old.faults) × memory) → (memory → ⊥) → line ≡ whole → OnlySays told mid new line → Refuses told old new whole
+refuses {mid = mid} memory kept (inl rose) other is only = record { count = mid.faults; refused = rose; only = says_since kept (says_this is only) }
+refuses memory kept (inr (_, m)) other is only = absurd (other m)
 
 -- memory was wanted for a schema or a folder, or for the line of its refusal
-pub wants : {O X : Type 0} (told tells_said memory : Type 0) (before between now : List ℕ → Option O) (faults start count faults_now : ℕ) (said_before said_between said_now line : List ℕ)
-    → start ≡ faults → Rose start count ⊎ ((count ≡ start) × memory) → (told → (f : List ℕ) → between f ≡ before f) → said_between ≡ said_before
-    → OnlySays told tells_said between now count faults_now said_between said_now line
-    → OnlySays told tells_said before now faults faults_now said_before said_now line ⊎ (Refuses told tells_said before now faults faults_now said_before said_now line ⊎ X)
-wants told tells_said memory before between now faults start count faults_now said_before said_between said_now line same (inl rose) folders silent only =
-    inr (inl (record { count = count; refused = subst (λ (n : ℕ). Rose n count) same rose; only = says_since folders silent only }))
-wants told tells_said memory before between now faults start count faults_now said_before said_between said_now line same (inr (quiet, _)) folders silent only =
-    inl (subst (λ (n : ℕ). OnlySays told tells_said before now n faults_now said_before said_now line) (quiet ∙ same) (says_since folders silent only))
+pub wants : {O X : Type 0} {told : PlaceTold} {old mid new : PlaceView O} {line : List ℕ} (memory : Type 0) → PlaceKept told old mid
+    → Rose old.faults mid.faults ⊎ ((mid.faults ≡ old.faults) × memory) → OnlySays told mid new line → OnlySays told old new line ⊎ (Refuses told old new line ⊎ X)
+wants {mid = mid} memory kept (inl rose) only = inr (inl (record { count = mid.faults; refused = rose; only = says_since kept only }))
+wants memory kept (inr (quiet, _)) only = inl (says_quietly kept quiet only)
 
 -- a report, told of from an earlier moment at which nothing more had been said and refused
-pub reports_since : {O : Type 0} {tells tells_heard tells_locks : Type 0} {reads : O → Reads} {heard : O → Heard} {locks : O → Locks} {faults refusals moment : O → ℕ} {told tells_said : Type 0} {stopped : O} {kept_now : Option O} {start count faults_now : ℕ} {said_before said_between said_now line : List ℕ}
-    → count ≡ start → said_between ≡ said_before → Reports tells tells_heard tells_locks reads heard locks faults refusals moment told tells_said stopped kept_now count faults_now said_between said_now line
-    → Reports tells tells_heard tells_locks reads heard locks faults refusals moment told tells_said stopped kept_now start faults_now said_before said_now line
-reports_since {O} {tells} {tells_heard} {tells_locks} {reads} {heard} {locks} {faults} {refusals} {moment} {told} {tells_said} {stopped} {kept_now} {start} {count} {faults_now} {said_before} {said_between} {said_now} {line} same silent r =
-    subst (λ (s : List ℕ). Reports tells tells_heard tells_locks reads heard locks faults refusals moment told tells_said stopped kept_now start faults_now s said_now line) silent
-    (subst (λ (n : ℕ). Reports tells tells_heard tells_locks reads heard locks faults refusals moment told tells_said stopped kept_now n faults_now said_between said_now line) same r)
+pub reports_since : {O W C : Type 0} {g : Ghosts O W C} {told : PlaceTold} {stopped : O} {folder : List ℕ} {old mid new : PlaceView O} {line : List ℕ}
+    → mid.faults ≡ old.faults → mid.said ≡ old.said → Reports g told stopped folder mid new line → Reports g told stopped folder old new line
+reports_since {told = told} {old = old} {mid = mid} {new = new} {line = line} same silent r = record {
+  now = r.now;
+  given_back = r.given_back;
+  frame = r.frame;
+  reported = elim r.reported [
+    | inl (heard, nothing) ↦ inl (heard, record { said = nothing.said ∙ silent; quiet = nothing.quiet ∙ same })
+    | inr (part, says) ↦
+        inr (
+          part,
+          subst (λ (n : ℕ). SaysLine told (record old { faults = n }) new line) same (subst (λ (said : List ℕ). SaysLine told (record mid { said = said }) new line) silent says),
+        )
+  ];
+}
 
 pub not_done : (n : ℕ) → (n ≡ 1) ⊎ (n ≡ 3) → n ≡ 0 → ⊥
 not_done n (inl one) none = omega arith

@@ -7,7 +7,7 @@ use Rattle.tv_model.specs.declared.event.Event.TheVariants as events
 use Rattle.tv_model.specs.Ids.{are_distinct}
 use Rattle.tv_model.specs.Names.{is}
 use Rattle.tv_replay.specs.Fields.{id_at, number_at, component_at, bytes_at}
-use Rattle.tv_replay.specs.Reading.{◌>>=◌, segment_in, open_in, write_in, seal_in, docs_in, ids_in, commit_of, commit_in, gc_in, managed_in}
+use Rattle.tv_replay.specs.EventWords.{◌>>=◌, segment_in, open_in, write_in, seal_in, docs_in, ids_in, commit_of, commit_in, gc_in, managed_in}
 use Rattle.tv_replay.proofs.Numbers.{chosen, number_found}
 use Rattle.tv_replay.proofs.Spelling.{id_found}
 use Rattle.tv_replay.proofs.WordLaws.{Reads, bind_some, some_is, either, same_one, same_two, same_three, same_front, component_found, bytes_found, ids_found}

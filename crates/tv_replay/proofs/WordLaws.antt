@@ -15,7 +15,7 @@ use Rattle.tv_model.specs.Names.{is}
 use Rattle.tv_model.specs.Segments.{extension}
 use Rattle.tv_model.specs.Script.{IsNamed, Fits, keyword, AreArguments}
 use Rattle.tv_replay.specs.Fields.{id_at, component_at, named_components, bytes_at, some_bytes}
-use Rattle.tv_replay.specs.Reading.{◌>>=◌, ids_in}
+use Rattle.tv_replay.specs.EventWords.{◌>>=◌, ids_in}
 use Rattle.tv_replay.proofs.Spelling.{NoSpace, id_found, id_again, id_has_no_space, passing_have_no_space}
 
 -- an event with its words, as they were read

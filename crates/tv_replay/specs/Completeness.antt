@@ -1,11 +1,15 @@
 -- What makes a replay come to its end.
 use Rattle.std.specs.Prelude.{ℕ, ◌≡◌, ◌<◌, ◌^◌, true, false, List, length, Option, Some}
+use Rattle.tv_base.specs.Streams.{SourceView}
 use Rattle.tv_directory.specs.Locks.{Locks}
+use Rattle.tv_directory.specs.declared.directory.Directory.{Ghosts}
 use Rattle.tv_model.specs.declared.event.Event.{Event}
 use Rattle.tv_model.specs.Files.{Reads}
 use Rattle.tv_model.specs.Commits.{is_schema}
 use Rattle.tv_model.specs.Index.{IsSound, HasNoIndex}
 use Rattle.tv_model.specs.Script.{lines_of, AreLines}
+use Rattle.tv_replay.specs.declared.replaying.Replayed.{Replayed}
+use Rattle.tv_replay.specs.Replays.{IsRefusedAt}
 
 -- each line of the text is an event's, and there are no more than are taken
 abbrev pub IsScript : List ℕ → Type 0
@@ -23,3 +27,11 @@ pub record IsReady (schema : List ℕ) (script : Option (List ℕ)) (reads : Rea
   pub valid : IsScript text
   pub sound : IsSound schema reads
   pub none : HasNoIndex reads
+
+-- All of that stands in a directory that tells its content and its locks; no lock is held, and no call but deletes is refused.
+pub record IsUndisturbed {O W C : Type 0} (g : Ghosts O W C) (before : O) (schema : List ℕ) (script script_now : SourceView) (result : Replayed O) : Type 0 where
+  pub content : g.told.content
+  pub locks : g.told.locks
+  pub free : AreFree (g.view before).locks
+  pub ready : IsReady schema script.left (g.view before).reads
+  pub quiet : IsRefusedAt (g.view before) (g.view result.outside) script script_now → ⊥

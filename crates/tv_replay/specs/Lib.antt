@@ -1,11 +1,11 @@
 pub mod Fields
-pub mod Reading
+pub mod EventWords
 pub mod ScriptLines
 pub mod ScriptCauses
 pub mod Replays
-pub mod Applying
+pub mod AppliedEvents
 pub mod Completeness
-pub mod Places
+pub mod PlaceView
 pub mod ErrorLines
 pub mod Runs
 pub mod BenchPlace

@@ -1,9 +1,9 @@
 -- A script replayed over a directory.
-use Rattle.std.specs.Prelude.{ℕ, ◌≡◌, ◌≢◌, ◌⊎◌, ◌+◌, ◌≤◌, true, List, [], ◌∷◌, ◌++◌, length, codes, Option, Some, None, string_bytes}
+use Rattle.std.specs.Prelude.{ℕ, ◌≡◌, ◌≢◌, ◌⊎◌, ◌+◌, ◌≤◌, true, false, List, [], ◌∷◌, ◌++◌, length, codes, Option, Some, None, IfErr, OnOk, string_bytes}
 use Rattle.std.specs.Fmt.{decimal}
 use Rattle.tv_model.specs.declared.event.Event.{Event}
 use Rattle.tv_model.specs.Names.{has, is_undotted, meta_name}
-use Rattle.tv_model.specs.Files.{Reads, Same, Heard, RoseBy}
+use Rattle.tv_model.specs.Files.{Reads, Same, Heard, Rose, RoseBy}
 use Rattle.tv_model.specs.Commits.{is_schema, default_settings, Means}
 use Rattle.tv_model.specs.Segments.{all_required}
 use Rattle.tv_model.specs.State.{State, Sealed, file_at}
@@ -14,12 +14,18 @@ use Rattle.tv_model.specs.Collecting.{CollectsIn}
 use Rattle.tv_model.specs.Script.{lines_of, AreLines}
 use Rattle.tv_model.specs.Index.{DirectoryHolds, IsSound, OpensTo, HasNoIndex, first_state}
 use Rattle.tv_base.specs.Causes.{IsDevice}
-use Rattle.tv_directory.specs.Locks.{Locks, LockCause}
+use Rattle.tv_base.specs.Streams.{SourceView}
+use Rattle.tv_directory.specs.Locks.{Locks, LockCause, SameLocks}
+use Rattle.tv_directory.specs.View.{View, Told, GoesOn}
+use Rattle.tv_directory.specs.Watch.{MayNote}
+use Rattle.tv_directory.specs.declared.directory.Directory.{Ghosts}
 use Rattle.tv_managed.specs.Reading.{HasNoBody}
 use Rattle.tv_managed.specs.Collecting.{meta_lock_name}
 use Rattle.tv_base.specs.declared.open_errors.OpenReadError.{OpenReadError}
 use Rattle.tv_base.specs.declared.error.TantivyError.{TantivyError}
 use Rattle.tv_base.specs.declared.error.TantivyError.TheVariants as errors
+use Rattle.tv_replay.specs.declared.replaying.Replayed.{Replayed}
+use Rattle.tv_replay.specs.declared.replaying.Tally.{Tally}
 use Rattle.tv_replay.specs.ScriptLines.{IsNoEvent, IsTooLong}
 use Rattle.tv_store.specs.Bodies.{RefusesFile}
 use Rattle.tv_store.specs.ReadCauses.{Reading, ReadFault, MayTakeMetaLock}
@@ -31,21 +37,33 @@ use Rattle.tv_store.specs.Telling.{TellsLines, TellsNoLine}
 -- events was told, line by line, and the directory holds the run's last state; each event that reads a commit's files found that it could; no more deletes were
 -- refused than their count rose; and from a sound start what it reads is sound. The run's readers and searchers serve as `Serves` says, and from a sound start
 -- they show each file as it was sealed; its collections take what nothing needs, as `CollectsIn` says.
-pub record Replays (tells tells_heard : Type 0) (schema : List ℕ) (script left : Option (List ℕ)) (old_reads new_reads : Reads) (old_heard new_heard : Heard) (old_refusals new_refusals count : ℕ) : Type 0 where
+pub record Replays {O W C : Type 0} (g : Ghosts O W C) (before now : O) (schema : List ℕ) (script : Option (List ℕ)) (tally : Tally) : Type 0 where
   pub turns : List Turn
-  pub counted : count ≡ length turns
+  pub counted : tally.events ≡ length turns
   pub schema_is : is_schema schema ≡ true
-  pub lines : (text : List ℕ) → script ≡ Some text → AreLines (lines_of text) (events_of turns) × (left ≡ Some [])
-  pub none : tells → HasNoIndex old_reads
-  pub told : tells → tells_heard → (s : State) → OpensTo default_settings schema old_reads s → TellsLines old_heard new_heard (report s turns)
-  pub holds : tells → (s : State) → OpensTo default_settings schema old_reads s → DirectoryHolds default_settings schema new_reads (after s turns)
-  pub readable : tells → (s : State) → OpensTo default_settings schema old_reads s → AllReadGood s turns
-  pub serves : tells → (s : State) → OpensTo default_settings schema old_reads s → Serves s turns
-  pub collects : tells → (s : State) → OpensTo default_settings schema old_reads s → CollectsIn s turns
-  pub refused : RoseBy (all_refused turns) old_refusals new_refusals
-  pub first : tells → IsSound schema old_reads → OpensTo default_settings schema old_reads first_state
-  pub as_sealed : tells → IsSound schema old_reads → ServesAsSealed first_state turns
-  pub sound : tells → IsSound schema old_reads → IsSound schema new_reads
+  pub lines : (text : List ℕ) → script ≡ Some text → AreLines (lines_of text) (events_of turns)
+  pub none : g.told.content → HasNoIndex (g.view before).reads
+  pub told : g.told.content → g.told.heard → (s : State) → OpensTo default_settings schema (g.view before).reads s → TellsLines (g.view before).heard (g.view now).heard (report s turns)
+  pub holds : g.told.content → (s : State) → OpensTo default_settings schema (g.view before).reads s → DirectoryHolds default_settings schema (g.view now).reads (after s turns)
+  pub readable : g.told.content → (s : State) → OpensTo default_settings schema (g.view before).reads s → AllReadGood s turns
+  pub serves : g.told.content → (s : State) → OpensTo default_settings schema (g.view before).reads s → Serves s turns
+  pub collects : g.told.content → (s : State) → OpensTo default_settings schema (g.view before).reads s → CollectsIn s turns
+  pub refused : RoseBy (all_refused turns) (g.view before).refusals (g.view now).refusals
+  pub first : g.told.content → IsSound schema (g.view before).reads → OpensTo default_settings schema (g.view before).reads first_state
+  pub as_sealed : g.told.content → IsSound schema (g.view before).reads → ServesAsSealed first_state turns
+  pub sound : g.told.content → IsSound schema (g.view before).reads → IsSound schema (g.view now).reads
+
+-- what was told of a script was read to its end
+abbrev pub IsReadOut : SourceView → SourceView → Type 0
+IsReadOut script script_now = (text : List ℕ) → script.left ≡ Some text → script_now.left ≡ Some []
+
+-- a call of the directory that was no delete, or a read of the script, was refused
+abbrev pub IsRefusedAt : {W : Type 0} → (old new : View W) → (script script_now : SourceView) → Type 0
+IsRefusedAt old new script script_now = Rose old.faults new.faults ⊎ Rose script.faults script_now.faults
+
+-- no such call was
+abbrev pub IsQuietAt : {W : Type 0} → (old new : View W) → (script script_now : SourceView) → Type 0
+IsQuietAt old new script script_now = (new.faults ≡ old.faults) × (script_now.faults ≡ script.faults)
 
 -- the lines before a place are events' lines, and this is what is left of the script there
 pub record StopsAt (script : List ℕ) (number : ℕ) (rest : List ℕ) : Type 0 where
@@ -116,7 +134,7 @@ abbrev pub IsMet : (tells_locks : Type 0) → (script : Option (List ℕ)) → L
 IsMet tells_locks script locks refused = IsBusy tells_locks (locks writer_lock_name ≡ true) refused ⊎ (MeetsLock script × IsBusy tells_locks (locks meta_lock_name ≡ true) refused)
 
 -- What a run that stopped leaves. The lines of some first events of the script were told, and `meta.json` means the commit of these events, or of the one after them.
-pub record LeavesRun (tells_heard : Type 0) (schema : List ℕ) (script : Option (List ℕ)) (lines_told : State → List Turn → List (List ℕ)) (s : State) (before now : Heard) (meta : Option (List ℕ)) (error : TantivyError) : Type 0 where
+pub record LeavesRun {W : Type 0} (told : Told) (schema : List ℕ) (script : Option (List ℕ)) (lines_told : State → List Turn → List (List ℕ)) (s : State) (before now : View W) (error : TantivyError) : Type 0 where
   -- the events whose lines were told
   pub turns : List Turn
   -- the one in progress, where its commit stands already
@@ -127,22 +145,23 @@ pub record LeavesRun (tells_heard : Type 0) (schema : List ℕ) (script : Option
   -- where the script is told, its first lines are those of these events
   pub lines : (text : List ℕ) → script ≡ Some text → BeginsWith text (events_of (turns ++ ahead))
   -- after the lines of these events no whole line was told
-  pub told : tells_heard → (so_far : Heard) × TellsLines before so_far (lines_told s turns) × TellsNoLine so_far now
+  pub lines_heard : told.heard → (so_far : Heard) × TellsLines before.heard so_far (lines_told s turns) × TellsNoLine so_far now.heard
   -- the commit that stands
   pub text : List ℕ
-  pub reads : meta ≡ Some text
+  pub reads : now.reads meta_name ≡ Some text
   pub means : Means default_settings schema text (after s (turns ++ ahead)).commit
 
 -- What an opening that was refused leaves: no whole line was told, an index that was being made has its first commit or none, and an argument that was refused changed nothing.
-pub record RefusesOpening (tells_heard : Type 0) (schema : List ℕ) (old_reads new_reads : Reads) (before now : Heard) (error : TantivyError) : Type 0 where
-  pub silent : tells_heard → TellsNoLine before now
-  pub first : MakesFirst old_reads new_reads schema
-  pub unchanged : IsArgument error → Same old_reads new_reads
+pub record RefusesOpening {W : Type 0} (told : Told) (schema : List ℕ) (before now : View W) (error : TantivyError) : Type 0 where
+  pub silent : told.heard → TellsNoLine before.heard now.heard
+  pub first : MakesFirst before.reads now.reads schema
+  pub unchanged : IsArgument error → Same before.reads now.reads
 
--- what a replay leaves at this error, from a state to which the directory opened
-abbrev pub LeavesAt : (tells_heard : Type 0) → (schema : List ℕ) → (script : Option (List ℕ)) → State → (old_reads new_reads : Reads) → (before now : Heard) → TantivyError → Type 0
-LeavesAt tells_heard schema script s old_reads new_reads before now error =
-    RefusesOpening tells_heard schema old_reads new_reads before now error ⊎ LeavesRun tells_heard schema script report s before now (new_reads meta_name) error
+-- what a replay leaves that stopped with this error, from each state to which the directory opened
+abbrev pub LeavesReplay : {O W C : Type 0} → Ghosts O W C → (before now : O) → (schema : List ℕ) → (script : Option (List ℕ)) → TantivyError → Type 0
+LeavesReplay g before now schema script error =
+    g.told.content → (s : State) → OpensTo default_settings schema (g.view before).reads s
+    → RefusesOpening g.told schema (g.view before) (g.view now) error ⊎ LeavesRun g.told schema script report s (g.view before) (g.view now) error
 
 -- where the content is told, a run from each state to which the directory opens meets a file that is refused with this error
 abbrev pub IsBadFile : (tells : Type 0) → (schema : List ℕ) → Reads → (script : Option (List ℕ)) → OpenReadError → Type 0
@@ -164,3 +183,22 @@ ReplayCause tells schema reads script busy refused quiet (errors.OpenReadError e
 ReplayCause tells schema reads script busy refused quiet errors.Exhausted = quiet × (is_schema schema ≡ true) × (tells → HasNoIndex reads) × IsTooMany script
 ReplayCause tells schema reads script busy refused quiet errors.Memory = quiet
 ReplayCause tells schema reads script busy refused quiet other = ⊥
+
+-- Why a replay stopped, between these two directories and these two views of the script.
+abbrev pub StopsReplay : {O W C : Type 0} → Ghosts O W C → (before now : O) → (schema : List ℕ) → (script script_now : SourceView) → TantivyError → Type 0
+StopsReplay g before now schema script script_now =
+    ReplayCause g.told.content schema (g.view before).reads script.left
+    (IsMet g.told.locks script.left (g.view before).locks (Rose (g.view before).faults (g.view now).faults))
+    (IsRefusedAt (g.view before) (g.view now) script script_now) (IsQuietAt (g.view before) (g.view now) script script_now)
+
+-- Where a replay answers Ok no call but deletes was refused, and the lock of the writer was free; and why it answers an error.
+pub record ReplayFaults {O W C : Type 0} (g : Ghosts O W C) (before : O) (schema : List ℕ) (script script_now : SourceView) (result : Replayed O) : Type 0 where
+  pub quiet : OnOk result.outcome (IsQuietAt (g.view before) (g.view result.outside) script script_now)
+  pub free : g.told.locks → OnOk result.outcome ((g.view before).locks writer_lock_name ≡ false)
+  pub cause : IfErr result.outcome (StopsReplay g before result.outside schema script script_now)
+
+-- What each replay keeps: writers may still be handed in, the same locks are held, and nobody was registered or called; a notice of a commit may stand.
+pub record ReplayFrame {W : Type 0} (told : Told) (old new : View W) : Type 0 where
+  pub goes_on : GoesOn told old new
+  pub locks : told.locks → SameLocks old.locks new.locks
+  pub watched : MayNote meta_name old.watched new.watched

@@ -1,17 +1,35 @@
--- Why nothing was taken from a script: `refused` where the device refused a read, `quiet` where it refused none.
+-- Why nothing was taken from a script.
+use Rattle.std.specs.Prelude.{ℕ, ◌≡◌, List, Option, Some, Result, IfErr, OnOk}
+use Rattle.tv_model.specs.Files.{Rose}
 use Rattle.tv_base.specs.Causes.{IsDevice}
+use Rattle.tv_base.specs.Streams.{SourceView}
 use Rattle.tv_replay.specs.declared.lines.LineError.{LineError}
 use Rattle.tv_replay.specs.declared.lines.LineError.TheVariants as line
 use Rattle.tv_replay.specs.declared.next_event.ScriptError.{ScriptError}
-use Rattle.tv_replay.specs.declared.next_event.ScriptError.TheVariants as script
+use Rattle.tv_replay.specs.declared.next_event.ScriptError.TheVariants as failed
+use Rattle.tv_replay.specs.ScriptLines.{IsNoEvent, IsTooLong}
 
-abbrev pub LineCause : (refused quiet : Type 0) → LineError → Type 0
-LineCause refused quiet line.Memory = quiet
-LineCause refused quiet (line.Fault fault) = IsDevice fault × refused
-LineCause refused quiet line.TooLong = quiet
+-- where the script is told, its first line is one that is refused so
+abbrev pub IsRefused : (List ℕ → Type 0) → Option (List ℕ) → Type 0
+IsRefused why script = (text : List ℕ) → script ≡ Some text → why text
 
-abbrev pub ScriptCause : (refused quiet : Type 0) → ScriptError → Type 0
-ScriptCause refused quiet script.Memory = quiet
-ScriptCause refused quiet (script.Fault fault) = IsDevice fault × refused
-ScriptCause refused quiet script.NotAnEvent = quiet
-ScriptCause refused quiet script.TooLong = quiet
+-- why no line was taken: `refused` where the device refused a read, `quiet` where it refused none
+abbrev pub LineCause : (script : Option (List ℕ)) (refused quiet : Type 0) → LineError → Type 0
+LineCause script refused quiet line.Memory = quiet
+LineCause script refused quiet (line.Fault fault) = IsDevice fault × refused
+LineCause script refused quiet line.TooLong = quiet × IsRefused IsTooLong script
+
+-- why no event was taken
+abbrev pub ScriptCause : (script : Option (List ℕ)) (refused quiet : Type 0) → ScriptError → Type 0
+ScriptCause script refused quiet (failed.Line error) = LineCause script refused quiet error
+ScriptCause script refused quiet failed.NotAnEvent = quiet × IsRefused IsNoEvent script
+
+-- No read was refused where a line was taken; and why none was.
+pub record LineFaults {A : Type 0} (script : Option (List ℕ)) (old new : SourceView) (result : Result A LineError) : Type 0 where
+  pub quiet : OnOk result (new.faults ≡ old.faults)
+  pub cause : IfErr result (LineCause script (Rose old.faults new.faults) (new.faults ≡ old.faults))
+
+-- No read was refused where an event was taken; and why none was.
+pub record ScriptFaults {A : Type 0} (script : Option (List ℕ)) (old new : SourceView) (result : Result A ScriptError) : Type 0 where
+  pub quiet : OnOk result (new.faults ≡ old.faults)
+  pub cause : IfErr result (ScriptCause script (Rose old.faults new.faults) (new.faults ≡ old.faults))

@@ -2,7 +2,8 @@
 use Rattle.std.specs.Prelude.{ℕ, ◌≡◌, ◌<◌, ◌≤◌, Bool, true, false, List, [], ◌∷◌, ◌++◌, length, Option, Some, None, option_map}
 use Rattle.tv_model.specs.declared.event.Event.{Event}
 use Rattle.tv_model.specs.Lines.{has_no_feed}
-use Rattle.tv_model.specs.Script.{line_limit, lines_of, IsLine}
+use Rattle.tv_model.specs.Script.{line_limit, lines_of, Fits, IsLine}
+use Rattle.tv_store.specs.Applying.{written_by}
 
 -- what is held, and after it what is left, where that is told
 abbrev pub pending : List ℕ → Option (List ℕ) → Option (List ℕ)
@@ -22,6 +23,10 @@ abbrev pub Takes : List ℕ → Option (List ℕ) → Option (List ℕ) → Type
 Takes script (Some line) left = (rest : List ℕ) × (left ≡ Some rest) × (lines_of script ≡ line ∷ lines_of rest)
 Takes script None left = (script ≡ []) × (left ≡ Some [])
 
+-- where the script is told, its first line was taken, or there is none
+abbrev pub TakesNext : Option (List ℕ) → Option (List ℕ) → Option (List ℕ) → Type 0
+TakesNext before found after = (script : List ℕ) → before ≡ Some script → Takes script found after
+
 -- the first line of a script is longer than a line may be
 abbrev pub IsTooLong : List ℕ → Type 0
 IsTooLong script = (line : List ℕ) × (lines : List (List ℕ)) × (lines_of script ≡ line ∷ lines) × (line_limit < length line)
@@ -35,6 +40,15 @@ abbrev pub TakesEvent : List ℕ → Option Event → Option (List ℕ) → Type
 TakesEvent script (Some event) left =
     (text : List ℕ) × (rest : List ℕ) × (left ≡ Some rest) × (lines_of script ≡ text ∷ lines_of rest) × IsLine text event
 TakesEvent script None left = (script ≡ []) × (left ≡ Some [])
+
+-- where the script is told, its first line was taken, and it is this event's; or there is none
+abbrev pub TakesNextEvent : Option (List ℕ) → Option Event → Option (List ℕ) → Type 0
+TakesNextEvent before found after = (script : List ℕ) → before ≡ Some script → TakesEvent script found after
+
+-- what an event adds to a file fits into a line, and its fields are within their ranges
+pub record FitsLine (event : Event) : Type 0 where
+  pub small : written_by event ≤ line_limit
+  pub fits : Fits event
 
 -- the first line of a script is no longer than a line may be, and no event's
 abbrev pub IsNoEvent : List ℕ → Type 0

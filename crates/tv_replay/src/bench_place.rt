@@ -1,9 +1,9 @@
 //! A place in memory, for tests.
-ghost use Rattle.std.specs.Prelude.{◌≡◌, ◌≤◌, ◌-◌, ◌++◌, [], ◌∷◌, ◌↔◌, List, ℕ, Some, None, IsSome, IsErr, option_map, length, IfOk, IfErr, OnOk};
+ghost use Rattle.std.specs.Prelude.{◌≡◌, ◌≤◌, ◌-◌, ◌++◌, [], ◌∷◌, ◌↔◌, Some, None, IsSome, IsErr, option_map, length, IfOk, IfErr, OnOk};
 ghost use Rattle.tv_model.specs.State.{at};
-ghost use Rattle.tv_base.specs.Causes.{IsDevice, IoCause};
+ghost use Rattle.tv_base.specs.Causes.{IsDevice};
 ghost use Rattle.tv_directory.specs.StoredFiles.{named};
-ghost use Rattle.tv_replay.specs.BenchPlace.{refused};
+ghost use Rattle.tv_replay.specs.BenchPlace.{new_place, refused, TextCause};
 
 use crate::place::Place;
 use std::alloc::Global;
@@ -50,13 +50,8 @@ impl<O: Outside + Drop> BenchPlace<O> {
         bench: O,
         room: usize,
     ) -> Result<BenchPlace<O>, Memory>
-        ensures schemas { IfOk result (λ place. ⟦<BenchPlace<O> as Place>⟧.schemas place ≡ at (named schemas.items)) }
-        ensures scripts { IfOk result (λ place. ⟦<BenchPlace<O> as Place>⟧.scripts place ≡ at (named scripts.items)) }
-        ensures kept { IfOk result (λ place. (folder : List ℕ) → ⟦<BenchPlace<O> as Place>⟧.kept place folder ≡ Some bench) }
-        ensures lent { IfOk result (λ place. ⟦<BenchPlace<O> as Place>⟧.lent place ≡ None) }
-        ensures said { IfOk result (λ place. ⟦<BenchPlace<O> as Place>⟧.said place ≡ []) }
-        ensures room { IfOk result (λ place. place.room ≡ room) }
-        ensures faults { IfOk result (λ place. ⟦<BenchPlace<O> as Place>⟧.faults place ≡ 0) }
+        ensures { IfOk result
+            (λ place. place ≡ new_place (named schemas.items) (named scripts.items) bench room) }
     {
         match Vec::with_capacity(alloc, room) {
             Ok(said) => Ok(BenchPlace {
@@ -75,9 +70,9 @@ impl<O: Outside + Drop> BenchPlace<O> {
 
     /// The directory, where it isn't lent, and what was said. Takes no memory.
     pub fn into_parts(self) -> (O, Vec<u8>)
-        requires { ⟦<BenchPlace<O> as Place>⟧.lent self ≡ None }
-        ensures bench { (folder : List ℕ) → ⟦<BenchPlace<O> as Place>⟧.kept self folder ≡ Some result.0 }
-        ensures said { result.1.items ≡ ⟦<BenchPlace<O> as Place>⟧.said self }
+        requires { self.lent ≡ None }
+        ensures bench { self.bench ≡ Some result.0 }
+        ensures said { result.1.items ≡ self.said }
     {
         let BenchPlace {
             alloc: _,
@@ -129,19 +124,9 @@ impl<O: Outside + Drop> Place for BenchPlace<O> {
 
     type Text = TextSource;
 
-    ghost tells = { Unit {0} };
+    ghost told = { record { content = Unit {0}; said = Unit {0} } };
 
-    ghost tells_said = { Unit {0} };
-
-    ghost schemas = { λ p. at p.schemas };
-
-    ghost scripts = { λ p. at p.scripts };
-
-    ghost kept = { λ p folder. p.bench };
-
-    ghost lent = { λ p. p.lent };
-
-    ghost said = { λ p. p.said };
+    ghost view = { λ p. record { schemas = at p.schemas; scripts = at p.scripts; kept = λ folder. p.bench; lent = p.lent; said = p.said; faults = p.faults } };
 
     ghost is_schema_path = { λ path. Unit {0} };
 
@@ -149,13 +134,11 @@ impl<O: Outside + Drop> Place for BenchPlace<O> {
 
     ghost is_folder_path = { λ path. Unit {0} };
 
-    ghost faults = { λ p. p.faults };
-
     fn schema(&mut self, path: &str) -> Result<Vec<u8>, IoError>
         ensures bytes { IfOk result (λ bytes. at self.old.schemas path.now ≡ Some bytes.items) }
         ensures answered { OnOk result (self.new ≡ self.old) }
         // Memory is wanted only for bytes that are there.
-        ensures why { IfErr result (IoCause ((at self.old.schemas path.now ≡ None) × (self.new ≡ refused self.old)) (IsSome (at self.old.schemas path.now) × (self.new ≡ self.old))) }
+        ensures faults { IfErr result (TextCause (at self.old.schemas path.now) self.old self.new) }
     {
         match bytes_at(self.schemas.as_slice(), path) {
             Some(bytes) => Ok(Vec::from_slice(self.alloc, bytes)?),
@@ -165,10 +148,11 @@ impl<O: Outside + Drop> Place for BenchPlace<O> {
 
     fn script(&mut self, path: &str) -> Result<TextSource, IoError>
         ensures text { IfOk result (λ text. at self.old.scripts path.now ≡ Some text.left) }
-        ensures fresh { IfOk result (λ text. (text.fail_at ≡ []) × (text.call ≡ 0) × (text.faults ≡ 0)) }
+        ensures fresh { IfOk result
+            (λ text. (text.fail_at ≡ []) × (text.call ≡ 0) × (text.faults ≡ 0)) }
         ensures answered { OnOk result (self.new ≡ self.old) }
         // Memory is wanted only for a script that is there.
-        ensures why { IfErr result (IoCause ((at self.old.scripts path.now ≡ None) × (self.new ≡ refused self.old)) (IsSome (at self.old.scripts path.now) × (self.new ≡ self.old))) }
+        ensures faults { IfErr result (TextCause (at self.old.scripts path.now) self.old self.new) }
     {
         match bytes_at(self.scripts.as_slice(), path) {
             Some(bytes) => {
@@ -182,8 +166,10 @@ impl<O: Outside + Drop> Place for BenchPlace<O> {
     fn lend(&mut self, folder: &str) -> Result<O, OpenDirectoryError>
         requires free { self.old.lent ≡ None }
         ensures given { IfOk result (λ bench. self.old.bench ≡ Some bench) }
-        ensures lends { OnOk result (self.new ≡ record self.old { bench = None; lent = Some folder.now }) }
-        ensures why { IfErr result (λ error. (error ≡ OpenDirectoryError.Memory) × (self.new ≡ self.old)) }
+        ensures lends { OnOk result
+            (self.new ≡ record self.old { bench = None; lent = Some folder.now }) }
+        ensures faults { IfErr result
+            (λ error. (error ≡ OpenDirectoryError.Memory) × (self.new ≡ self.old)) }
     {
         let Ok(folder) = String::from_str(self.alloc, folder) else {
             return Err(OpenDirectoryError::Memory);
@@ -215,9 +201,10 @@ impl<O: Outside + Drop> Place for BenchPlace<O> {
     }
 
     fn say(&mut self, line: &[u8]) -> Result<(), IoFault>
-        ensures says { OnOk result (self.new ≡ record self.old { said = self.old.said ++ line.now ++ 10 ∷ [] }) }
+        ensures says { OnOk result
+            (self.new ≡ record self.old { said = self.old.said ++ line.now ++ 10 ∷ [] }) }
         ensures full { IsErr result ↔ (self.old.room - length self.old.said ≤ length line.now) }
-        ensures why { IfErr result (λ fault. IsDevice fault × (self.new ≡ refused self.old)) }
+        ensures faults { IfErr result (λ fault. IsDevice fault × (self.new ≡ refused self.old)) }
     {
         if self.room - self.said.len() <= line.len() {
             return Err(self.refuse());

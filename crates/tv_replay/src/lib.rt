@@ -4,7 +4,6 @@
 
 mod bench_place;
 mod error_line;
-mod held;
 mod lines;
 mod next_event;
 mod place;
@@ -12,6 +11,7 @@ mod program;
 mod reader_lines;
 mod replaying;
 mod script;
+mod script_buffer;
 mod words;
 
 pub use bench_place::BenchPlace;

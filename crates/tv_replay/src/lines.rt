@@ -1,12 +1,11 @@
 //! The lines of a script, one at a time.
-ghost use Rattle.std.specs.Prelude.{◌≡◌, ◌≤◌, List, ℕ, Some, option_map, IfOk, OnOk, IfErr, IfSome, IsErrOf, vec_len};
-ghost use Rattle.tv_model.specs.Files.{Rose};
+ghost use Rattle.std.specs.Prelude.{◌≡◌, ◌≤◌, option_map, IfOk, IfSome, vec_len};
 ghost use Rattle.tv_model.specs.Script.{line_limit};
-ghost use Rattle.tv_replay.specs.ScriptLines.{pending, Takes, IsTooLong};
-ghost use Rattle.tv_replay.specs.ScriptCauses.{LineCause};
+ghost use Rattle.tv_replay.specs.ScriptLines.{pending, TakesNext};
+ghost use Rattle.tv_replay.specs.ScriptCauses.{LineFaults};
 
-use crate::held::Held;
 use crate::script::LINE_LIMIT;
+use crate::script_buffer::ScriptBuffer;
 use std::alloc::{AllocError, Global};
 use tv_base::{IoFault, Source};
 
@@ -45,24 +44,26 @@ impl From<IoFault> for LineError {
 pub(crate) fn next_line<S: Source>(
     alloc: Global,
     source: &mut S,
-    held: &mut Held,
+    buffer: &mut ScriptBuffer,
 ) -> Result<Option<Vec<u8>>, LineError>
-    ensures line { IfOk result (λ found. (script : List ℕ) → pending held.old (S.left source.old) ≡ Some script → Takes script (option_map (λ line. line.items) found) (pending held.new (S.left source.new))) }
+    ensures line { IfOk result (λ found. TakesNext
+        (pending buffer.old (S.view source.old).left)
+        (option_map (λ line. line.items) found)
+        (pending buffer.new (S.view source.new).left)) }
     ensures within { IfOk result (λ found. IfSome found (λ line. vec_len line ≤ line_limit)) }
-    ensures too_long { IsErrOf result LineError.TooLong → (script : List ℕ) → pending held.old (S.left source.old) ≡ Some script → IsTooLong script }
-    ensures quiet { OnOk result (S.faults source.new ≡ S.faults source.old) }
-    ensures cause { IfErr result (LineCause (Rose (S.faults source.old) (S.faults source.new)) (S.faults source.new ≡ S.faults source.old)) }
+    ensures faults { LineFaults (pending buffer.old (S.view source.old).left) (S.view source.old)
+        (S.view source.new) result }
 {
     let mut line = Vec::new(alloc);
     'pieces: loop {
-        held.refill(source, line.len())?;
-        if held.is_empty() {
+        buffer.refill(source, line.len())?;
+        if buffer.is_empty() {
             if line.as_slice().is_empty() {
                 return Ok(None);
             }
             return Ok(Some(line));
         }
-        let found = held.move_line(&mut line)?;
+        let found = buffer.move_line(&mut line)?;
         if line.len() > LINE_LIMIT {
             return Err(LineError::TooLong);
         }

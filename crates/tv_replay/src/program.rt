@@ -1,12 +1,11 @@
 //! The top call of the program.
 ghost use Rattle.std.specs.Prelude.{◌≡◌, ◌≢◌, ◌⊎◌, ◌↔◌, List, ℕ, None, IsSome, Some, true, false, map, string_bytes};
 ghost use Rattle.tv_base.specs.declared.error.TantivyError.TheVariants as errors;
-ghost use Rattle.tv_model.specs.Files.{Same};
 ghost use Rattle.tv_model.specs.Lines.{has_no_feed};
 ghost use Rattle.tv_directory.specs.Telling.{TellsPart};
-ghost use Rattle.tv_directory.specs.Locks.{SameLocks};
+ghost use Rattle.tv_directory.specs.View.{OnlyTells};
 ghost use Rattle.tv_replay.specs.ErrorLines.{error_line};
-ghost use Rattle.tv_replay.specs.Runs.{replay_words, usage_line, memory_line, OnlySays, Ends, Reports};
+ghost use Rattle.tv_replay.specs.Runs.{replay_words, usage_line, memory_line, OnlySays, SaysNothing, Ends, EndsReplay, Reports};
 ghost use Rattle.tv_store.specs.Telling.{TellsLine};
 
 use crate::error_line::error_line;
@@ -35,17 +34,20 @@ pub fn run<P: Place, R: Source>(
     place: &mut P,
     script: &mut R,
 ) -> u8
-    requires free { P.lent place.old ≡ None }
-    requires paths { (folder path : List ℕ) → map string_bytes words.now ≡ replay_words folder path → P.is_folder_path folder × P.is_schema_path path }
-    ensures free { P.lent place.new ≡ None }
-    ensures usage { (result ≡ 2) ↔ ((folder path : List ℕ) → map string_bytes words.now ≢ replay_words folder path) }
-    ensures usage_line { result ≡ 2 → OnlySays P.tells P.tells_said (P.kept place.old) (P.kept place.new) (P.faults place.old) (P.faults place.new) (P.said place.old) (P.said place.new) usage_line }
+    requires free { (P.view place.old).lent ≡ None }
+    requires paths { (folder path : List ℕ) → map string_bytes words.now ≡ replay_words folder path
+        → P.is_folder_path folder × P.is_schema_path path }
+    ensures free { (P.view place.new).lent ≡ None }
+    ensures usage { (result ≡ 2)
+        ↔ ((folder path : List ℕ) → map string_bytes words.now ≢ replay_words folder path) }
+    ensures usage_line { result ≡ 2
+        → OnlySays P.told (P.view place.old) (P.view place.new) usage_line }
     // What was replayed, told and said.
-    ensures ends { (folder path : List ℕ) → map string_bytes words.now ≡ replay_words folder path
-        → Ends P.Out.tells P.Out.tells_heard P.Out.tells_locks P.Out.reads P.Out.heard P.Out.locks P.Out.faults P.Out.refusals P.Out.moment P.tells P.tells_said (P.kept place.old) (P.kept place.new) folder (P.schemas place.old path) (R.left script.old) (R.left script.new) (R.faults script.old) (R.faults script.new) (P.faults place.old) (P.faults place.new) (P.said place.old) (P.said place.new) result }
+    ensures ends { Ends P.Out.Directory P.told (map string_bytes words.now)
+        (record { place = P.view place.old; script = R.view script.old })
+        (record { place = P.view place.new; script = R.view script.new }) result }
     // After the whole script nothing was said, and the place refused no call.
-    ensures nothing_said { result ≡ 0 → P.said place.new ≡ P.said place.old }
-    ensures quiet { result ≡ 0 → P.faults place.new ≡ P.faults place.old }
+    ensures quiet { result ≡ 0 → SaysNothing (P.view place.old) (P.view place.new) }
     ensures statuses { (result ≡ 0) ⊎ (result ≡ 1) ⊎ (result ≡ 2) ⊎ (result ≡ 3) }
 {
     match words {
@@ -67,13 +69,14 @@ fn run_replay<P: Place, R: Source>(
     place: &mut P,
     script: &mut R,
 ) -> u8
-    requires free { P.lent place.old ≡ None }
+    requires free { (P.view place.old).lent ≡ None }
     requires folder { P.is_folder_path folder.now }
     requires path { P.is_schema_path path.now }
-    ensures free { P.lent place.new ≡ None }
-    ensures ends { Ends P.Out.tells P.Out.tells_heard P.Out.tells_locks P.Out.reads P.Out.heard P.Out.locks P.Out.faults P.Out.refusals P.Out.moment P.tells P.tells_said (P.kept place.old) (P.kept place.new) folder.now (P.schemas place.old path.now) (R.left script.old) (R.left script.new) (R.faults script.old) (R.faults script.new) (P.faults place.old) (P.faults place.new) (P.said place.old) (P.said place.new) result }
-    ensures nothing_said { result ≡ 0 → P.said place.new ≡ P.said place.old }
-    ensures quiet { result ≡ 0 → P.faults place.new ≡ P.faults place.old }
+    ensures free { (P.view place.new).lent ≡ None }
+    ensures ends { EndsReplay P.Out.Directory P.told folder.now path.now
+        (record { place = P.view place.old; script = R.view script.old })
+        (record { place = P.view place.new; script = R.view script.new }) result }
+    ensures quiet { result ≡ 0 → SaysNothing (P.view place.old) (P.view place.new) }
 {
     let schema = match place.schema(path) {
         Ok(schema) => schema,
@@ -96,17 +99,17 @@ fn run_replay<P: Place, R: Source>(
 // Says a line.
 #[tactic(auto, using(crate::proofs::Runs::only_says))]
 fn say_line<P: Place>(place: &mut P, line: &[u8])
-    ensures lent { P.lent place.new ≡ P.lent place.old }
-    ensures says { OnlySays P.tells P.tells_said (P.kept place.old) (P.kept place.new) (P.faults place.old) (P.faults place.new) (P.said place.old) (P.said place.new) line.now }
+    ensures says { OnlySays P.told (P.view place.old) (P.view place.new) line.now }
 {
     let _refused = place.say(line);
 }
 
 // Says the line of an error, and answers its status.
 fn say_error<P: Place>(alloc: Global, place: &mut P, error: TantivyError) -> u8
-    ensures lent { P.lent place.new ≡ P.lent place.old }
-    ensures other { result ≡ 1 → (error ≢ errors.Memory) × OnlySays P.tells P.tells_said (P.kept place.old) (P.kept place.new) (P.faults place.old) (P.faults place.new) (P.said place.old) (P.said place.new) (error_line error) }
-    ensures memory { result ≡ 3 → OnlySays P.tells P.tells_said (P.kept place.old) (P.kept place.new) (P.faults place.old) (P.faults place.new) (P.said place.old) (P.said place.new) memory_line }
+    ensures other { result ≡ 1 → (error ≢ errors.Memory)
+        × OnlySays P.told (P.view place.old) (P.view place.new) (error_line error) }
+    ensures memory { result ≡ 3
+        → OnlySays P.told (P.view place.old) (P.view place.new) memory_line }
     ensures statuses { (result ≡ 1) ⊎ (result ≡ 3) }
 {
     match error_line(alloc, &error) {
@@ -123,7 +126,8 @@ fn say_error<P: Place>(alloc: Global, place: &mut P, error: TantivyError) -> u8
 
 // The status of an error.
 fn status_of(error: &TantivyError) -> u8
-    ensures { (result ≡ 1) × (error.now ≢ errors.Memory) ⊎ (result ≡ 3) × (error.now ≡ errors.Memory) }
+    ensures { (result ≡ 1) × (error.now ≢ errors.Memory) ⊎ (result ≡ 3)
+        × (error.now ≡ errors.Memory) }
 {
     match error {
         TantivyError::Memory => 3,
@@ -139,11 +143,16 @@ fn give_back_after<P: Place>(
     outside: P::Out,
     error: TantivyError,
 ) -> u8
-    requires lent { IsSome (P.lent place.old) }
+    requires lent { IsSome (P.view place.old).lent }
     requires feed { has_no_feed (error_line error) ≡ true }
-    ensures free { P.lent place.new ≡ None }
-    ensures other { (folder : List ℕ) → P.lent place.old ≡ Some folder → result ≡ 1 → (error ≢ errors.Memory) × Reports P.Out.tells P.Out.tells_heard P.Out.tells_locks P.Out.reads P.Out.heard P.Out.locks P.Out.faults P.Out.refusals P.Out.moment P.tells P.tells_said outside (P.kept place.new folder) (P.faults place.old) (P.faults place.new) (P.said place.old) (P.said place.new) (error_line error) }
-    ensures memory { (folder : List ℕ) → P.lent place.old ≡ Some folder → result ≡ 3 → Reports P.Out.tells P.Out.tells_heard P.Out.tells_locks P.Out.reads P.Out.heard P.Out.locks P.Out.faults P.Out.refusals P.Out.moment P.tells P.tells_said outside (P.kept place.new folder) (P.faults place.old) (P.faults place.new) (P.said place.old) (P.said place.new) memory_line }
+    ensures free { (P.view place.new).lent ≡ None }
+    ensures other { (folder : List ℕ) → (P.view place.old).lent ≡ Some folder → result ≡ 1
+        → (error ≢ errors.Memory)
+        × Reports P.Out.Directory P.told outside folder (P.view place.old) (P.view place.new)
+        (error_line error) }
+    ensures memory { (folder : List ℕ) → (P.view place.old).lent ≡ Some folder → result ≡ 3
+        → Reports P.Out.Directory P.told outside folder (P.view place.old)
+        (P.view place.new) memory_line }
     ensures statuses { (result ≡ 1) ⊎ (result ≡ 3) }
 {
     match error_line(alloc, &error) {
@@ -161,10 +170,12 @@ fn give_back_after<P: Place>(
 // Tells a line to the directory that was lent, and gives that back; where it can't be told, it is
 // said.
 fn report<P: Place>(place: &mut P, outside: P::Out, line: &[u8])
-    requires lent { IsSome (P.lent place.old) }
+    requires lent { IsSome (P.view place.old).lent }
     requires feed { has_no_feed line.now ≡ true }
-    ensures free { P.lent place.new ≡ None }
-    ensures reports { (folder : List ℕ) → P.lent place.old ≡ Some folder → Reports P.Out.tells P.Out.tells_heard P.Out.tells_locks P.Out.reads P.Out.heard P.Out.locks P.Out.faults P.Out.refusals P.Out.moment P.tells P.tells_said outside (P.kept place.new folder) (P.faults place.old) (P.faults place.new) (P.said place.old) (P.said place.new) line.now }
+    ensures free { (P.view place.new).lent ≡ None }
+    ensures reports { (folder : List ℕ) → (P.view place.old).lent ≡ Some folder
+        → Reports P.Out.Directory P.told outside folder (P.view place.old)
+        (P.view place.new) line.now }
 {
     let mut outside = outside;
     let told = tell_line(&mut outside, line);
@@ -178,10 +189,13 @@ fn report<P: Place>(place: &mut P, outside: P::Out, line: &[u8])
 // Tells a line, where there is room for it and it isn't refused.
 fn tell_line<O: Outside>(outside: &mut O, line: &[u8]) -> bool
     requires { has_no_feed line.now ≡ true }
-    ensures told { O.tells_heard → result ≡ true → TellsLine (O.heard outside.old) (O.heard outside.new) (O.moment outside.old) (O.moment outside.new) line.now }
-    ensures part { O.tells_heard → result ≡ false → (told_at : ℕ) × TellsPart (O.heard outside.old) (O.heard outside.new) told_at line.now }
-    ensures content { O.tells → Same (O.reads outside.old) (O.reads outside.new) }
-    ensures locks { O.tells_locks → SameLocks (O.locks outside.old) (O.locks outside.new) }
+    ensures told { O.told.heard → result ≡ true
+        → TellsLine (O.view outside.old).heard (O.view outside.new).heard
+        (O.view outside.old).moment (O.view outside.new).moment line.now }
+    ensures part { O.told.heard → result ≡ false
+        → (told_at : ℕ)
+        × TellsPart (O.view outside.old).heard (O.view outside.new).heard told_at line.now }
+    ensures frame { OnlyTells O.told (O.view outside.old) (O.view outside.new) }
 {
     match outside.ready(line.len()) {
         Ok(()) => outside.tell(line).is_ok(),

@@ -1,6 +1,6 @@
 //! The lines about readers and searchers, and the releases.
 ghost use Rattle.std.specs.Prelude.{◌≡◌, map};
-ghost use Rattle.tv_replay.specs.Reading.{reader_in, reload_in, searcher_in, show_in, bytes_in, released_in, release_in, reader_event_in};
+ghost use Rattle.tv_replay.specs.EventWords.{reader_in, reload_in, searcher_in, show_in, bytes_in, released_in, release_in, reader_event_in};
 
 use crate::words::{component_of, id_of, number_of};
 use tv_model::{Event, ReloadPolicy};

@@ -3,7 +3,7 @@ ghost use Rattle.std.specs.Prelude.{◌≡◌, ◌==◌, IfOk, IfSome, map, opti
 ghost use Rattle.std.specs.List.{slice_split};
 ghost use Rattle.tv_model.specs.declared.event.Event.{Event};
 ghost use Rattle.tv_model.specs.Script.{IsLine};
-ghost use Rattle.tv_replay.specs.Reading.{event_in, segment_in, open_in, write_in, seal_in, docs_in, ids_in, commit_in, gc_in, managed_in};
+ghost use Rattle.tv_replay.specs.EventWords.{event_in, segment_in, open_in, write_in, seal_in, docs_in, ids_in, commit_in, gc_in, managed_in};
 
 use crate::reader_lines::reader_event_of;
 use crate::words::{bytes_of, component_of, id_of, number_of};
@@ -15,7 +15,8 @@ pub(crate) const LINE_LIMIT: usize = 1_048_576;
 
 // The words of a line, which stand one space apart.
 fn words_of(alloc: Global, line: &[u8]) -> Result<Vec<&[u8]>, AllocError>
-    ensures { IfOk result (λ words. map (λ w. w.now) words.items ≡ slice_split (λ b. b == 32) line.now) }
+    ensures { IfOk result
+        (λ words. map (λ w. w.now) words.items ≡ slice_split (λ b. b == 32) line.now) }
 {
     line.split(|b| *b == b' ').collect(alloc)
 }
@@ -80,7 +81,8 @@ fn docs_of(args: &[&[u8]]) -> Option<Event>
 
 // The ids that the words spell, where each of them spells one.
 fn ids_of(alloc: Global, words: &[&[u8]]) -> Result<Option<Vec<SegmentId>>, Memory>
-    ensures { IfOk result (λ found. option_map (λ ids. ids.items) found ≡ ids_in (map (λ w. w.now) words.now)) }
+    ensures { IfOk result
+        (λ found. option_map (λ ids. ids.items) found ≡ ids_in (map (λ w. w.now) words.now)) }
 {
     let mut ids = Vec::new(alloc);
     for word in words {
@@ -163,7 +165,8 @@ pub fn parse_event(alloc: Global, line: &[u8]) -> Result<Option<Event>, Memory>
     // What is found is the event whose line this is.
     ensures found { IfOk result (λ found. IfSome found (IsLine line.now)) }
     // The event whose line this is is found.
-    ensures only { (event : Event) → IsLine line.now event → IfOk result (λ found. found ≡ Some event) }
+    ensures only { (event : Event) → IsLine line.now event
+        → IfOk result (λ found. found ≡ Some event) }
 {
     if line.len() > LINE_LIMIT {
         return Ok(None);

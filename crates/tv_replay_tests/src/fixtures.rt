@@ -5,7 +5,7 @@ use std::alloc::Global;
 use std::process::Abort;
 use tv_base::TextSource;
 use tv_directory::{Bench, NoWatch};
-use tv_replay::{BenchPlace, Place};
+use tv_replay::BenchPlace;
 
 pub(crate) type TestBench = Bench<NoWatch>;
 
@@ -49,7 +49,7 @@ fn under_paths(rt: &impl Abort, alloc: Global, texts: &[(&str, &str)]) -> Vec<(S
 /// A place with two schemas, one of which stands there twice, and a script. As many bytes as `room` can be
 /// said.
 pub(crate) fn place(rt: &impl Abort, alloc: Global, room: usize) -> TestPlace
-    ensures { ⟦<BenchPlace<TestBench> as Place>⟧.lent result ≡ None }
+    ensures { result.lent ≡ None }
 {
     let schemas = [("a.json", "[]"), ("b.json", "{}"), ("a.json", "[3]")];
     let schemas = under_paths(rt, alloc, &schemas);

@@ -56,8 +56,8 @@ fn given<T: Drop>(rt: &impl Abort, answer: Result<T, IoError>) -> Option<T> {
 
 // The bytes of a script, which is given back.
 fn script(rt: &impl Abort, alloc: Global, place: &mut TestPlace, path: &str) -> Option<Vec<u8>>
-    requires { ⟦<TestPlace as Place>⟧.lent place.old ≡ None }
-    ensures { ⟦<TestPlace as Place>⟧.lent place.new ≡ None }
+    requires { place.old.lent ≡ None }
+    ensures { place.new.lent ≡ None }
 {
     let mut text = given(rt, place.script(path))?;
     let bytes = read_all(rt, alloc, &mut text);
@@ -67,8 +67,8 @@ fn script(rt: &impl Abort, alloc: Global, place: &mut TestPlace, path: &str) -> 
 
 // What was lent is told a line, and given back. All that was told to it.
 fn lend(rt: &impl Abort, place: &mut TestPlace, folder: &str) -> Vec<u8>
-    requires { ⟦<TestPlace as Place>⟧.lent place.old ≡ None }
-    ensures { ⟦<TestPlace as Place>⟧.lent place.new ≡ None }
+    requires { place.old.lent ≡ None }
+    ensures { place.new.lent ≡ None }
 {
     let mut bench = place.lend(folder).expect(rt, "memory");
     bench.ready(4).expect(rt, "memory");
@@ -80,8 +80,8 @@ fn lend(rt: &impl Abort, place: &mut TestPlace, folder: &str) -> Vec<u8>
 
 // What the place answers.
 fn answer(rt: &impl Abort, alloc: Global, place: &mut TestPlace, call: Call) -> Option<Vec<u8>>
-    requires { ⟦<TestPlace as Place>⟧.lent place.old ≡ None }
-    ensures { ⟦<TestPlace as Place>⟧.lent place.new ≡ None }
+    requires { place.old.lent ≡ None }
+    ensures { place.new.lent ≡ None }
 {
     match call {
         Schema(path) => given(rt, place.schema(path)),
@@ -96,8 +96,8 @@ fn answer(rt: &impl Abort, alloc: Global, place: &mut TestPlace, call: Call) -> 
 
 // Looks at each answer.
 fn answer_all(rt: &impl Abort, alloc: Global, place: &mut TestPlace)
-    requires { ⟦<TestPlace as Place>⟧.lent place.old ≡ None }
-    ensures { ⟦<TestPlace as Place>⟧.lent place.new ≡ None }
+    requires { place.old.lent ≡ None }
+    ensures { place.new.lent ≡ None }
 {
     for (call, want) in CALLS {
         let found = answer(rt, alloc, place, call);

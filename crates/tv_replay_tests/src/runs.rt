@@ -5,7 +5,7 @@ use crate::fixtures::{TestPlace, owned, place, source};
 use std::alloc::Global;
 use std::process::Abort;
 use tv_base::TextSource;
-use tv_replay::{Place, run};
+use tv_replay::run;
 
 const USAGE: &str =
     "usage: tv replay FOLDER SCHEMA | space FOLDER SCHEMA | generate N | race FOLDER SCHEMA HANDLES SCRIPT..\n";
@@ -26,7 +26,7 @@ fn run_in(
     words: &[String],
     script: &mut TextSource,
 ) -> (u8, Vec<u8>)
-    requires { ⟦<TestPlace as Place>⟧.lent place ≡ None }
+    requires { place.lent ≡ None }
 {
     let mut place = place;
     let status = run(alloc, words, &mut place, script);

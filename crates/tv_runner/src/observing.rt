@@ -5,7 +5,7 @@ use crate::bench_files::{CaseBench, held, hold_all, refuse_from_now_on, write};
 use crate::case::{Given, Locks};
 use crate::pieces::Pieces;
 use std::alloc::Global;
-use tv_replay::{BenchPlace, Place, run};
+use tv_replay::{BenchPlace, run};
 
 /// What a run answered, told and said, and what it left.
 #[derive(Drop)]
@@ -67,7 +67,7 @@ fn schemas(alloc: Global, given: &Given) -> anyhow::Result<Vec<(String, Vec<u8>)
 
 // A place with this directory.
 fn place(alloc: Global, bench: CaseBench, given: &Given) -> anyhow::Result<BenchPlace<CaseBench>>
-    ensures { IfOk result (λ place. ⟦<BenchPlace<CaseBench> as Place>⟧.lent place ≡ None) }
+    ensures { IfOk result (λ place. place.lent ≡ None) }
 {
     let schemas = schemas(alloc, given)?;
     match BenchPlace::new(alloc, schemas, Vec::new(alloc), bench, ROOM) {

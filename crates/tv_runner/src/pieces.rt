@@ -54,9 +54,7 @@ fn in_progress(begun: usize, piece: &[u8]) -> usize {
 }
 
 impl Source for Pieces<'_> {
-    ghost left = { λ s. None };
-
-    ghost faults = { λ s. s.faults };
+    ghost view = { λ s. record { left = None; faults = s.faults } };
 
     fn read(&mut self, into: &mut [u8]) -> Result<usize, IoFault> {
         let number = self.call;

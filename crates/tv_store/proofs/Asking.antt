@@ -1,23 +1,59 @@
 -- What two calls leave alone, one after the other.
-use Rattle.std.proofs.Common.{Bool, ◌∙◌, arith}
-use Rattle.tv_directory.specs.declared.directory.Directory.{Ghosts}
+use Rattle.std.proofs.Common.{◌≡◌, Bool, sym, subst, ◌∙◌, arith}
+use Rattle.tv_model.specs.Names.{meta_name}
+use Rattle.tv_directory.specs.View.{View, Told, GoesOn, DeletesNone, Frame, OnlyReads}
+use Rattle.tv_directory.specs.Watch.{WatchState, MayNote}
 use Rattle.tv_store.specs.Kept.{Kept}
-use Rattle.tv_store.specs.Stays.{Stays, Asks}
+use Rattle.tv_store.specs.Stays.{Asks, FrameNotes, MayNotify}
 
-stays_later : {O W C : Type 0} {g : Ghosts O W C} {first now next : Kept × O × Bool} → Stays g first now → Stays g now next → Stays g first next
-stays_later before after = record {
-  heard = after.heard ∙ before.heard;
-  locks = λ told n. after.locks told n ∙ before.locks told n;
-  clock = omega (arith, before.clock, after.clock);
-  schema = after.schema ∙ before.schema;
-  is_open = after.is_open ∙ before.is_open;
-}
+module _ {W : Type 0} {told : Told} {first now next : View W} where
+  goes_later : GoesOn told first now → GoesOn told now next → GoesOn told first next
+  goes_later before after = record {
+    writers = λ w o. after.writers w (before.writers w o);
+    ended = λ t w o l. after.ended t w (before.writers w o) (before.ended t w o l);
+    clock = omega (arith, before.clock, after.clock);
+  }
 
-pub asks_later : {O W C : Type 0} {g : Ghosts O W C} {first now next : Kept × O × Bool} → Asks g first now → Asks g now next → Asks g first next
+  pub deletes_later : DeletesNone told first now → DeletesNone told now next → DeletesNone told first next
+  deletes_later before after = record {
+    goes_on = goes_later before.goes_on after.goes_on;
+    refusals = after.refusals ∙ before.refusals;
+    alive = λ t w l. after.alive t w (before.alive t w l);
+  }
+
+  pub frame_later : Frame told first now → Frame told now next → Frame told first next
+  frame_later before after = record {
+    tells_none = record {
+      deletes_none = deletes_later before.tells_none.deletes_none after.tells_none.deletes_none;
+      heard = after.tells_none.heard ∙ before.tells_none.heard;
+      room = omega (arith, before.tells_none.room, after.tells_none.room);
+    };
+    locks = λ t n. after.locks t n ∙ before.locks t n;
+  }
+
+  pub reads_later : OnlyReads told first now → OnlyReads told now next → OnlyReads told first next
+  reads_later before after = record {
+    kept = record { frame = frame_later before.kept.frame after.kept.frame; watched = after.kept.watched ∙ before.kept.watched };
+    content = λ t n. after.content t n ∙ before.content t n;
+  }
+
+  -- a notice came with the second call, if at all
+  pub notes_later : OnlyReads told first now → FrameNotes told now next → FrameNotes told first next
+  notes_later before after = record {
+    frame = frame_later before.kept.frame after.frame;
+    watched = subst (λ (w : WatchState). MayNote meta_name w next.watched) before.kept.watched after.watched;
+  }
+
+  -- or with the first
+  pub noted_before : MayNotify told first now → DeletesNone told now next → next.watched ≡ now.watched → MayNotify told first next
+  noted_before before after same = record {
+    deletes_none = deletes_later before.deletes_none after;
+    watched = subst (λ (w : WatchState). MayNote meta_name first.watched w) (sym same) before.watched;
+  }
+
+pub asks_later : {O W : Type 0} {told : Told} {view : O → View W} {first now next : Kept × O × Bool} → Asks (OnlyReads told) view first now → Asks (OnlyReads told) view now next → Asks (OnlyReads told) view first next
 asks_later before after = record {
-  stays = stays_later before.stays after.stays;
   kept = after.kept ∙ before.kept;
-  content = λ tells n. after.content tells n ∙ before.content tells n;
-  refusals = after.refusals ∙ before.refusals;
-  room = omega (arith, before.room, after.room);
+  is_open = after.is_open ∙ before.is_open;
+  below = reads_later before.below after.below;
 }

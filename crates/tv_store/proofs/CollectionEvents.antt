@@ -12,7 +12,6 @@ use Rattle.tv_model.specs.Names.{byte_cmp, is, has, is_plain, is_file_name, meta
 use Rattle.tv_model.specs.Ids.{IsId}
 use Rattle.tv_model.specs.Files.{Reads, Same, RoseBy}
 use Rattle.tv_model.specs.Listing.{Lists}
-use Rattle.tv_model.specs.Segments.{name_of}
 use Rattle.tv_model.specs.Commits.{Commit, IsSegment, Means, default_settings}
 use Rattle.tv_model.specs.Collections.{done_of, failed_of, collectable, without}
 use Rattle.tv_model.specs.Living.{living, segment_names}
@@ -25,8 +24,11 @@ use Rattle.tv_model.specs.Index.{IsFileOf}
 use Rattle.tv_model.proofs.Entries.{same_at, at_itself, text_at, is_text, is_by_order, has_put}
 use Rattle.tv_model.proofs.PlainNames.{both}
 use Rattle.tv_model.proofs.CollectionStates.{has_without, at_without, living_spared, meta_living, at_left}
-use Rattle.tv_managed.specs.Writers.{IsSummed}
-use Rattle.tv_managed.specs.Collecting.{Among, Leaves, Tries, FailsAtMost, SparesWriters}
+use Rattle.tv_directory.specs.View.{GoesOn}
+use Rattle.tv_directory.specs.declared.directory.Directory.{Ghosts}
+use Rattle.tv_managed.specs.Collecting.{Among, Leaves, Tries, FailsAtMost, SparesWriters, names_of}
+use Rattle.tv_managed.specs.declared.collecting.GarbageCollectionResult.{GarbageCollectionResult}
+use Rattle.tv_store.specs.FileCalls.{Tried}
 use Rattle.tv_managed.proofs.Removals.{all_filtered}
 use Rattle.tv_managed.proofs.SetsOfTexts.{bytes_inserted}
 use Rattle.tv_store.specs.Kept.{Kept, Holds, FileHolds, is_left}
@@ -148,29 +150,29 @@ others_away {X} gone es new h = keys_away gone new (λ n g. h n ∙ ap (λ (b : 
 
 -- ---- open files after a collection
 
-open_after : {S W : Type 0} (opened lives : S → W → Bool) (name_of written : W → List ℕ) (old new : S) (deleted : List (List ℕ)) (name : List ℕ) (w : W) (summed : Type 0) (len : ℕ)
-    → ((w : W) → opened old w ≡ true → opened new w ≡ true) → SparesWriters deleted name_of (lives old) (lives new) → has deleted name ≡ false
-    → IsOpenFile (opened old) (lives old) name_of written name w summed len → IsOpenFile (opened new) (lives new) name_of written name w summed len
-open_after opened lives name_of written old new deleted name w summed len writers spared away h =
-    record { opened_is = writers w h.opened_is; lives_is = spared w (ap (has deleted) h.name_is ∙ away) h.lives_is; name_is = h.name_is; len_is = h.len_is; summed_is = h.summed_is }
-
-all_after : {S D W C : Type 0} (opened lives : S → W → Bool) (name_of written : W → List ℕ) (old new : S) (deleted : List (List ℕ)) (es : List (List ℕ × OpenFile D W C))
-    → ((w : W) → opened old w ≡ true → opened new w ≡ true) → SparesWriters deleted name_of (lives old) (lives new) → AllByRecursion (λ e. has deleted e.0 ≡ false) es
-    → AreOpen (opened old) (lives old) name_of written es → AreOpen (opened new) (lives new) name_of written es
-all_after opened lives name_of written old new deleted [] writers spared away h = tt
-all_after opened lives name_of written old new deleted (e ∷ es) writers spared away h = (
-  open_after opened lives name_of written old new deleted e.0 e.1.writer.writer (IsSummed written e.1.writer) e.1.len writers spared away.0 h.0,
-  all_after opened lives name_of written old new deleted es writers spared away.1 h.1,
+all_after : {D W C : Type 0} (g : Ghosts D W C) (old new : D) (deleted : List (List ℕ)) (es : List (List ℕ × OpenFile D W C))
+    → GoesOn g.told (g.view old) (g.view new) → (g.told.content → SparesWriters deleted g.state_of (g.view old).lives (g.view new).lives) → AllByRecursion (λ e. has deleted e.0 ≡ false) es
+    → AreOpen g old es → AreOpen g new es
+all_after g old new deleted [] goes_on spared away h = tt
+all_after g old new deleted (e ∷ es) goes_on spared away h = (
+  record {
+    opened_is = goes_on.writers e.1.writer.writer h.0.opened_is;
+    lives_is = λ tells. spared tells e.1.writer.writer (ap (has deleted) h.0.name_is ∙ away.0) (h.0.lives_is tells);
+    name_is = h.0.name_is;
+    len_is = h.0.len_is;
+    summed_is = h.0.summed_is;
+  },
+  all_after g old new deleted es goes_on spared away.1 h.1,
 )
 
 -- files that were open, and whose names weren't deleted, are open
-pub collected_open : {S D W C : Type 0} (opened lives : S → W → Bool) (name_of written : W → List ℕ) (old new : S) (deleted : List (List ℕ)) (es es2 : List (List ℕ × OpenFile D W C))
-    → ((w : W) → opened old w ≡ true → opened new w ≡ true) → SparesWriters deleted name_of (lives old) (lives new)
+pub collected_open : {D W C : Type 0} (g : Ghosts D W C) (old new : D) (deleted : List (List ℕ)) (es es2 : List (List ℕ × OpenFile D W C))
+    → GoesOn g.told (g.view old) (g.view new) → (g.told.content → SparesWriters deleted g.state_of (g.view old).lives (g.view new).lives)
     → ((n : List ℕ) → at es2 n ≡ cond (has deleted n) None (at es n)) → AllByRecursion (Contains es) es2
-    → AreOpen (opened old) (lives old) name_of written es → AreOpen (opened new) (lives new) name_of written es2
-collected_open opened lives name_of written old new deleted es es2 writers spared gone left h =
-    all_after opened lives name_of written old new deleted es2 writers spared (others_away deleted es es2 gone)
-    (all_still (λ e. IsOpenFile (opened old) (lives old) name_of written e.0 e.1.writer.writer (IsSummed written e.1.writer) e.1.len) es es2 h left)
+    → AreOpen g old es → AreOpen g new es2
+collected_open g old new deleted es es2 goes_on spared gone left h =
+    all_after g old new deleted es2 goes_on spared (others_away deleted es es2 gone)
+    (all_still (λ e. IsOpenFile g old e.0 e.1.writer e.1.len) es es2 h left)
 
 gone_seen : {X Y : Type 0} (f : X → Y) (b : Bool) (o : Option X) → option_map f (cond b None o) ≡ cond b None (option_map f o)
 gone_seen f true o = refl
@@ -229,11 +231,30 @@ failed_plain test (n ∷ names) (true ∷ outcomes) h = failed_plain test names 
 failed_plain test (n ∷ names) (false ∷ outcomes) h = let t = both (test n) (list_all test names) h in rw t.0 (failed_plain test names outcomes t.1)
 
 -- so are those that a collection told
-pub told_plain : (needed before after deleted failed : List (List ℕ)) (tells : Type 0) (old new : Reads) → Tries (collectable needed before) before after deleted failed tells old new → list_all is_plain before ≡ true
-    → (list_all is_plain deleted ≡ true) × (list_all is_plain failed ≡ true)
-told_plain needed before after deleted failed tells old new told h =
-    let tried : list_all is_plain (collectable needed before) ≡ true = all_filtered (λ name. not (has needed name)) is_plain before h in
-    (ap (list_all is_plain) told.deleted_is ∙ done_plain is_plain (collectable needed before) told.outcomes tried, ap (list_all is_plain) told.failed_is ∙ failed_plain is_plain (collectable needed before) told.outcomes tried)
+pub told_plain : {D W C : Type 0} (g : Ghosts D W C) (needed : List (List ℕ)) (old new : D × List (List ℕ)) (result : GarbageCollectionResult) → Tries g (collectable needed old.1) old new result → list_all is_plain old.1 ≡ true
+    → (list_all is_plain (names_of result.deleted_files.items) ≡ true) × (list_all is_plain (names_of result.failed_to_delete_files.items) ≡ true)
+told_plain g needed old new result told h =
+    let tried : list_all is_plain (collectable needed old.1) ≡ true = all_filtered (λ name. not (has needed name)) is_plain old.1 h in
+    (ap (list_all is_plain) told.deleted ∙ done_plain is_plain (collectable needed old.1) told.outcomes tried, ap (list_all is_plain) told.failed ∙ failed_plain is_plain (collectable needed old.1) told.outcomes tried)
+
+-- what a collection told, of the names that it gave
+pub tried_as : {D W C : Type 0} (g : Ghosts D W C) (needed others : List (List ℕ)) (old new first : D × List (List ℕ)) (result : GarbageCollectionResult) (deleted failed : List (List ℕ))
+    → old ≡ first → needed ≡ others → deleted ≡ names_of result.deleted_files.items → failed ≡ names_of result.failed_to_delete_files.items
+    → Tries g (collectable needed old.1) old new result → Tried (collectable others first.1) first.1 new.1 deleted failed g.told.content (g.view first.0).reads (g.view new.0).reads
+tried_as g needed others old new first result deleted failed same living done not_done told =
+    subst (λ (ns : List (List ℕ)). Tried (collectable ns first.1) first.1 new.1 deleted failed g.told.content (g.view first.0).reads (g.view new.0).reads) living
+    (subst (λ (ns : List (List ℕ)). Tried (collectable needed first.1) first.1 new.1 ns failed g.told.content (g.view first.0).reads (g.view new.0).reads) (sym done)
+    (subst (λ (ns : List (List ℕ)). Tried (collectable needed first.1) first.1 new.1 (names_of result.deleted_files.items) ns g.told.content (g.view first.0).reads (g.view new.0).reads) (sym not_done)
+    (subst (λ f. Tried (collectable needed f.1) f.1 new.1 (names_of result.deleted_files.items) (names_of result.failed_to_delete_files.items) g.told.content (g.view f.0).reads (g.view new.0).reads) same
+    (record {
+      outcomes = told.outcomes;
+      each = told.each;
+      deleted_is = told.deleted;
+      failed_is = told.failed;
+      managed = told.managed;
+      gone = told.gone;
+      others = told.others;
+    }))))
 
 grouped : (a s r : Bool) → ((a || s) || r) ≡ (s || (a || r))
 grouped true true r = refl
@@ -256,14 +277,14 @@ all_put keys names n all none h = none_more (has (map string_bytes keys) n) ∙ 
   none_more false = refl
 
 -- what is living isn't taken, whichever names were tried
-pub living_stands : {S : Type 0} (answered : S → Type 0) (names_of : S → List (List ℕ)) (living managed after names : List (List ℕ)) (tells : Type 0) (old new : Reads) (n : List ℕ)
-    → ((set : S) → answered set → names_of set ≡ living) → Among answered names_of managed names → Leaves names managed after tells old new
-    → tells → has living n ≡ true → n ≢ list_name → new n ≡ old n
-living_stands {S} answered names_of living managed after names tells old new n is (inl none) l t h other = l.spared t n (ap (λ (ns : List (List ℕ)). has ns n) none) other
-living_stands {S} answered names_of living managed after names tells old new n is (inr set) l t h other =
+pub living_stands : {S D W C : Type 0} (g : Ghosts D W C) (answered : S → Type 0) (sets : S → List (List ℕ)) (living names : List (List ℕ)) (old new : D × List (List ℕ)) (n : List ℕ)
+    → ((set : S) → answered set → sets set ≡ living) → Among answered sets old.1 names → Leaves g names old new
+    → g.told.content → has living n ≡ true → n ≢ list_name → (g.view new.0).reads n ≡ (g.view old.0).reads n
+living_stands g answered sets living names old new n is (inl none) l t h other = l.spared t n (ap (λ (ns : List (List ℕ)). has ns n) none) other
+living_stands g answered sets living names old new n is (inr set) l t h other =
     l.spared t n
-    (ap (λ (ns : List (List ℕ)). has ns n) (set.2 ∙ ap (λ (ns : List (List ℕ)). collectable ns managed) (is set.0 set.1))
-    ∙ has_without living managed n ∙ ap (λ (b : Bool). not b && has managed n) h) other
+    (ap (λ (ns : List (List ℕ)). has ns n) (set.2 ∙ ap (λ (ns : List (List ℕ)). collectable ns old.1) (is set.0 set.1))
+    ∙ has_without living old.1 n ∙ ap (λ (b : Bool). not b && has old.1 n) h) other
 
 -- names that are among others alike are spared alike
 pub same_collectable : (needed others managed : List (List ℕ)) → ((n : List ℕ) → has needed n ≡ has others n) → collectable needed managed ≡ collectable others managed
@@ -343,7 +364,7 @@ collected_step : (reads now : Reads) (kept after : Kept) (s : State) (tells : Ty
     → Holds reads kept s
     → ((n : List ℕ) → has needed n ≡ has (meta_name ∷ flat_map segment_names (kept.commit.segments ++ kept.live)) n)
     → record after { managed = kept.managed; open_files = kept.open_files; left = kept.left } ≡ kept
-    → (told : Tries (collectable needed kept.managed) kept.managed after.managed deleted failed tells reads now)
+    → (told : Tried (collectable needed kept.managed) kept.managed after.managed deleted failed tells reads now)
     → (Lists (reads list_name) kept.managed → Lists (now list_name) after.managed)
     → ((n : List ℕ) → at after.open_files n ≡ cond (has deleted n) None (at kept.open_files n))
     → ((n : List ℕ) → has after.left n ≡ (not (has deleted n) && has kept.left n))
@@ -367,7 +388,7 @@ pub collected_told : (reads now : Reads) (first mid kept after : Kept) (s : Stat
     → mid ≡ first
     → ((n : List ℕ) → has needed n ≡ has (meta_name ∷ flat_map segment_names (first.commit.segments ++ first.live)) n)
     → record after { managed = kept.managed; open_files = kept.open_files; left = kept.left } ≡ kept
-    → (told : Tries (collectable needed kept.managed) kept.managed after.managed deleted failed tells reads now)
+    → (told : Tried (collectable needed kept.managed) kept.managed after.managed deleted failed tells reads now)
     → (Lists (reads list_name) kept.managed → Lists (now list_name) after.managed)
     → ((n : List ℕ) → at after.open_files n ≡ cond (has deleted n) None (at kept.open_files n))
     → ((n : List ℕ) → has after.left n ≡ (not (has out n) && has kept.left n))
@@ -385,7 +406,7 @@ collected_told reads now first mid kept after s tells needed deleted failed out 
     (said ∙ text_is ∙ ap (λ (ns : List (List ℕ)). collected_line ns not_done) done_is ∙ ap (λ (ns : List (List ℕ)). collected_line deleted ns) not_done_is)
 
 -- and how the count of refused deletes rose
-pub rose_told : (needed before after deleted failed : List (List ℕ)) (tells : Type 0) (old new : Reads) (told : Tries (collectable needed before) before after deleted failed tells old new) (count counted mid start end : ℕ)
+pub rose_told : (needed before after deleted failed : List (List ℕ)) (tells : Type 0) (old new : Reads) (told : Tried (collectable needed before) before after deleted failed tells old new) (count counted mid start end : ℕ)
     → count ≡ mid → mid ≡ start → end ≡ counted → FailsAtMost (length failed) count counted → RoseBy (refused_in told.outcomes) start end
 rose_told needed before after deleted failed tells old new told count counted mid start end first second last h =
     rose_by (length failed) (refused_in told.outcomes) count counted start end (refused_is (collectable needed before) told.outcomes told.each ∙ ap length (sym told.failed_is)) (first ∙ second) last h

@@ -23,7 +23,7 @@ use Rattle.tv_model.specs.FileEvents.{open_name, open_of, open_step, write_name,
 use Rattle.tv_model.specs.Index.{IsFileOf}
 use Rattle.tv_model.proofs.Entries.{same_at, at_itself, text_at, lookup_put, has_kept}
 use Rattle.tv_model.proofs.PlainNames.{undotted}
-use Rattle.tv_managed.specs.Managed.{Makes}
+use Rattle.tv_managed.specs.Managed.{MakesFile}
 use Rattle.tv_store.specs.Kept.{Kept, FileHolds, is_left, Holds, AtMost}
 use Rattle.tv_store.proofs.Holding.{same_holds}
 use Rattle.tv_store.proofs.OpenFiles.{all_put, all_left, all_found}
@@ -223,7 +223,7 @@ open_exists reads reads2 kept kept2 s id name component segment answer found lac
 -- a file that was made
 pub opened : (reads reads2 : Reads) (kept : Kept) (s : State) (id name : List ℕ) (component : SegmentComponent) (segment : LiveSegment) (answer : List ℕ) (managed : List (List ℕ)) (open_files : List (List ℕ × List ℕ))
     → live_at s id ≡ Some segment → false ≡ (is_delete component && not (nat_lt 0 (num_deleted segment.deletes))) → name ≡ name_of id segment.deletes component → IsFileOf name
-    → Makes reads reads2 name → (Lists (reads list_name) kept.managed → Lists (reads2 list_name) managed) → managed ≡ insert_key byte_cmp kept.managed name → open_files ≡ insert_entry byte_cmp kept.open_files name []
+    → MakesFile reads reads2 name → (Lists (reads list_name) kept.managed → Lists (reads2 list_name) managed) → managed ≡ insert_key byte_cmp kept.managed name → open_files ≡ insert_entry byte_cmp kept.open_files name []
     → answer ≡ line (codes "opened") (name ∷ [])
     → Holds reads kept s → (answer ≡ (open_step s id component).0) × Holds reads2 (record kept { managed = managed; open_files = open_files }) (open_step s id component).1
 opened reads reads2 kept s id name component segment answer managed open_files found lacks is fits makes lists put opens said h =

@@ -15,3 +15,5 @@ pub mod StoreLocks
 pub mod Committing
 pub mod Asking
 pub mod Acting
+pub mod Applied
+pub mod Opened

@@ -1,5 +1,5 @@
 -- The entries of open files, and what of them stays true.
-use Rattle.std.proofs.Common.{◌≡◌, ◌⊎◌, inl, inr, ℕ, Bool, true, false, true≢false, cond, ◌&&◌, nat_le, List, [], ◌∷◌, map, Option, Some, None, option_map, is_some, length, ◌++◌, ◌+◌, ◌<◌, length-append, refl, sym, ap, subst, ◌∙◌, Ok, Err}
+use Rattle.std.proofs.Common.{◌≡◌, inl, inr, ℕ, Bool, true, false, true≢false, cond, ◌&&◌, nat_le, List, [], ◌∷◌, map, Option, Some, None, option_map, is_some, length, ◌++◌, ◌+◌, ◌<◌, length-append, refl, sym, ap, subst, ◌∙◌, Ok, Err}
 use Rattle.std.specs.Prelude.{IsSome, OnErr, Result}
 use Rattle.std.specs.Ordering.{is_eq, match_ordering}
 use Rattle.std.specs.declared.cmp.Ordering.{Ordering}
@@ -14,10 +14,13 @@ use Rattle.tv_model.specs.Files.{Reads, KeepsOthers, Sets}
 use Rattle.tv_model.specs.Footer.{sealed}
 use Rattle.tv_model.proofs.Entries.{text_at}
 use Rattle.tv_model.proofs.PlainNames.{both}
-use Rattle.tv_directory.specs.Watch.{IsNewWriter}
+use Rattle.tv_directory.specs.View.{DeletesNone, WriterState}
+use Rattle.tv_directory.specs.declared.directory.Directory.{Ghosts}
 use Rattle.tv_managed.specs.Managed.{registered}
-use Rattle.tv_managed.specs.Writers.{IsSummed}
+use Rattle.tv_managed.specs.Writers.{IsNewManaged, IsSummed}
+use Rattle.tv_managed.specs.declared.writer.ManagedWriter.{ManagedWriter}
 use Rattle.tv_store.specs.declared.files.OpenFile.{OpenFile}
+use Rattle.tv_store.specs.FileCalls.{Asked}
 use Rattle.tv_store.specs.OpenFiles.{IsOpenFile}
 
 found : {X Y : Type 0} (f : X → Y) (b : Bool) (x : X) (rest : Option X) (seen : Option Y) → seen ≡ option_map f rest → cond b (Some (f x)) seen ≡ option_map f (cond b (Some x) rest)
@@ -82,38 +85,35 @@ all_found {X} P (x ∷ es) n v h e =
     ] refl e
 
 -- these files are open
-abbrev pub AreOpen : {D W C : Type 0} → (opened lives : W → Bool) → (name_of written : W → List ℕ) → List (List ℕ × OpenFile D W C) → Type 0
-AreOpen opened lives name_of written es = AllByRecursion (λ e. IsOpenFile opened lives name_of written e.0 e.1.writer.writer (IsSummed written e.1.writer) e.1.len) es
+abbrev pub AreOpen : {D W C : Type 0} (g : Ghosts D W C) (directory : D) → List (List ℕ × OpenFile D W C) → Type 0
+AreOpen g directory es = AllByRecursion (λ e. IsOpenFile g directory e.0 e.1.writer e.1.len) es
 
--- open files stay open where the directory's writers do
-pub still_open : {S D W C : Type 0} (opened lives : S → W → Bool) (name_of written : W → List ℕ) (old new : S) (es : List (List ℕ × OpenFile D W C))
-    → ((w : W) → opened old w ≡ true → opened new w ≡ true) → ((w : W) → lives old w ≡ true → lives new w ≡ true)
-    → AreOpen (opened old) (lives old) name_of written es → AreOpen (opened new) (lives new) name_of written es
-still_open opened lives name_of written old new [] writers alive h = tt
-still_open opened lives name_of written old new (e ∷ es) writers alive h = (
-  record { opened_is = writers _ h.0.opened_is; lives_is = alive _ h.0.lives_is; name_is = h.0.name_is; len_is = h.0.len_is; summed_is = h.0.summed_is },
-  still_open opened lives name_of written old new es writers alive h.1,
+-- open files stay open where no file is deleted
+pub still_open : {D W C : Type 0} (g : Ghosts D W C) (old new : D) (es : List (List ℕ × OpenFile D W C)) → DeletesNone g.told (g.view old) (g.view new) → AreOpen g old es → AreOpen g new es
+still_open g old new [] frame h = tt
+still_open g old new (e ∷ es) frame h = (
+  record {
+    opened_is = frame.goes_on.writers e.1.writer.writer h.0.opened_is;
+    lives_is = λ tells. frame.alive tells e.1.writer.writer (h.0.lives_is tells);
+    name_is = h.0.name_is;
+    len_is = h.0.len_is;
+    summed_is = h.0.summed_is;
+  },
+  still_open g old new es frame h.1,
 )
 
 -- one more open file
-pub put_open : {D W C : Type 0} (opened lives : W → Bool) (name_of written : W → List ℕ) (es new : List (List ℕ × OpenFile D W C)) (n : List ℕ) (file : OpenFile D W C) → new ≡ insert_entry byte_cmp es n file
-    → IsOpenFile opened lives name_of written n file.writer.writer (IsSummed written file.writer) file.len → AreOpen opened lives name_of written es → AreOpen opened lives name_of written new
-put_open opened lives name_of written es new n file put here h =
-    subst (λ fs. AreOpen opened lives name_of written fs) (sym put)
-    (all_put (λ e. IsOpenFile opened lives name_of written e.0 e.1.writer.writer (IsSummed written e.1.writer) e.1.len) es n file here h)
+pub put_open : {D W C : Type 0} (g : Ghosts D W C) (directory : D) (es new : List (List ℕ × OpenFile D W C)) (n : List ℕ) (file : OpenFile D W C) → new ≡ insert_entry byte_cmp es n file
+    → IsOpenFile g directory n file.writer file.len → AreOpen g directory es → AreOpen g directory new
+put_open g directory es new n file put here h = subst (λ fs. AreOpen g directory fs) (sym put) (all_put (λ e. IsOpenFile g directory e.0 e.1.writer e.1.len) es n file here h)
 
 -- one less
-pub left_open : {D W C : Type 0} (opened lives : W → Bool) (name_of written : W → List ℕ) (es new : List (List ℕ × OpenFile D W C)) (test : List ℕ → Bool) → new ≡ remove_entry test es
-    → AreOpen opened lives name_of written es → AreOpen opened lives name_of written new
-left_open opened lives name_of written es new test cut h =
-    subst (λ fs. AreOpen opened lives name_of written fs) (sym cut)
-    (all_left (λ e. IsOpenFile opened lives name_of written e.0 e.1.writer.writer (IsSummed written e.1.writer) e.1.len) es test h)
+pub left_open : {D W C : Type 0} (g : Ghosts D W C) (directory : D) (es new : List (List ℕ × OpenFile D W C)) (test : List ℕ → Bool) → new ≡ remove_entry test es → AreOpen g directory es → AreOpen g directory new
+left_open g directory es new test cut h = subst (λ fs. AreOpen g directory fs) (sym cut) (all_left (λ e. IsOpenFile g directory e.0 e.1.writer e.1.len) es test h)
 
 -- a file that is found is open
-pub found_open : {D W C : Type 0} (opened lives : W → Bool) (name_of written : W → List ℕ) (es : List (List ℕ × OpenFile D W C)) (n : List ℕ) (file : OpenFile D W C)
-    → Some file ≡ at es n → AreOpen opened lives name_of written es → IsOpenFile opened lives name_of written n file.writer.writer (IsSummed written file.writer) file.len
-found_open opened lives name_of written es n file it h =
-    all_found (λ e. IsOpenFile opened lives name_of written e.0 e.1.writer.writer (IsSummed written e.1.writer) e.1.len) es n file h (sym it)
+pub found_open : {D W C : Type 0} (g : Ghosts D W C) (directory : D) (es : List (List ℕ × OpenFile D W C)) (n : List ℕ) (file : OpenFile D W C) → Some file ≡ at es n → AreOpen g directory es → IsOpenFile g directory n file.writer file.len
+found_open g directory es n file it h = all_found (λ e. IsOpenFile g directory e.0 e.1.writer e.1.len) es n file h (sym it)
 
 -- what was written to open files
 abbrev pub bodies : {D W C : Type 0} → (W → List ℕ) → List (List ℕ × OpenFile D W C) → List (List ℕ × List ℕ)
@@ -176,15 +176,14 @@ read_absent None e = refl
 read_absent (Some x) e = absurd (true≢false e)
 
 -- whether a file is sealed, by what the directory answers where it isn't open
-pub sealed_answer : {S : Type 0} (reads : S → Reads) (inside old : S) (asked name : List ℕ) (found : Bool) (o : Option (List ℕ)) → inside ≡ old → asked ≡ name → found ≡ is_some (reads inside asked) → is_some o ≡ false
-    → (found ≡ true → IsSome (reads old name) × (o ≡ None)) × (found ≡ false → (reads old name ≡ None) ⊎ IsSome o)
+pub sealed_answer : {S : Type 0} (reads : S → Reads) (inside old : S) (asked name : List ℕ) (found : Bool) (o : Option (List ℕ)) → inside ≡ old → asked ≡ name → found ≡ is_some (reads inside asked) → is_some o ≡ false → Asked (reads old name) o found
 sealed_answer {S} reads inside old asked name found o same text answer none =
     let it : found ≡ is_some (reads old name) = answer ∙ ap (λ (s : S). is_some (reads s asked)) same ∙ ap (λ (n : List ℕ). is_some (reads old n)) text in
-    (λ e. (sym it ∙ e, read_absent o none), λ e. inl (read_absent (reads old name) (sym it ∙ e)))
+    record { yes = λ e. (sym it ∙ e, read_absent o none); no = λ e. inl (read_absent (reads old name) (sym it ∙ e)) }
 
 -- an open file isn't sealed
-pub open_answer : (before : Option (List ℕ)) (o : Option (List ℕ)) → is_some o ≡ true → (false ≡ true → IsSome before × (o ≡ None)) × (false ≡ false → (before ≡ None) ⊎ IsSome o)
-open_answer before o h = (λ e. absurd (true≢false (sym e)), λ e. inr h)
+pub open_answer : (before : Option (List ℕ)) (o : Option (List ℕ)) → is_some o ≡ true → Asked before o false
+open_answer before o h = record { yes = λ e. absurd (true≢false (sym e)); no = λ e. inr h }
 
 -- a claim about an error holds of what holds anyway
 pub on_err : {A E : Type 0} (r : Result A E) (P : Type 0) → P → OnErr r P
@@ -220,28 +219,31 @@ pub length_isnt : (o : Option (List ℕ)) → o ≡ None → None ≡ option_map
 length_isnt o e = ap (λ (p : Option (List ℕ)). option_map length p) (sym e)
 
 -- entries that stay as they are
-pub same_open : {D W C : Type 0} (opened lives : W → Bool) (name_of written : W → List ℕ) (es new : List (List ℕ × OpenFile D W C)) → new ≡ es
-    → AreOpen opened lives name_of written es → AreOpen opened lives name_of written new
-same_open opened lives name_of written es new same h = subst (λ fs. AreOpen opened lives name_of written fs) (sym same) h
+pub same_open : {D W C : Type 0} (g : Ghosts D W C) (directory : D) (es new : List (List ℕ × OpenFile D W C)) → new ≡ es → AreOpen g directory es → AreOpen g directory new
+same_open g directory es new same h = subst (λ fs. AreOpen g directory fs) (sym same) h
 
 -- a file that was just opened
-pub new_open : {W : Type 0} (opened lives : W → Bool) (name_of written : W → List ℕ) (asked name : List ℕ) (w : W) (summed : Type 0) → asked ≡ name → IsNewWriter opened lives name_of written asked w → summed
-    → IsOpenFile opened lives name_of written name w summed 0
-new_open opened lives name_of written asked name w summed same h sum =
-    record { opened_is = h.opened_is; lives_is = h.lives_is; name_is = h.name_is ∙ same; len_is = ap length (sym h.empty); summed_is = sum }
+pub new_open : {D W C : Type 0} (g : Ghosts D W C) (directory : D) (asked name : List ℕ) (w : ManagedWriter D W C) → asked ≡ name → IsNewManaged g directory asked w → IsOpenFile g directory name w 0
+new_open g directory asked name w same h = record {
+  opened_is = h.writer.opened;
+  lives_is = h.writer.lives;
+  name_is = ap (λ (s : WriterState). s.name) h.writer.state ∙ same;
+  len_is = ap length (sym (ap (λ (s : WriterState). s.written) h.writer.state));
+  summed_is = h.summed;
+}
 
 -- a file to which bytes were added
-pub written_open : {S W : Type 0} (opened lives : S → W → Bool) (name_of written : W → List ℕ) (old new : S) (name : List ℕ) (w more : W) (summed after : Type 0) (len : ℕ) (bytes : List ℕ)
-    → written more ≡ written w ++ bytes → opened new more ≡ true → (lives old w ≡ true → lives new more ≡ true) → name_of more ≡ name_of w → (summed → after)
-    → IsOpenFile (opened old) (lives old) name_of written name w summed len → IsOpenFile (opened new) (lives new) name_of written name more after (len + length bytes)
-written_open opened lives name_of written old new name w more summed after len bytes added is_opened alive same sum h =
-    record {
-      opened_is = is_opened;
-      lives_is = alive h.lives_is;
-      name_is = same ∙ h.name_is;
-      summed_is = sum h.summed_is;
-      len_is = ap (λ n. n + length bytes) h.len_is ∙ sym (ap length added ∙ length-append (written w) bytes);
-    }
+pub written_open : {D W C : Type 0} (g : Ghosts D W C) (old new : D) (name : List ℕ) (w more : ManagedWriter D W C) (len : ℕ) (bytes : List ℕ)
+    → (g.state_of more.writer).written ≡ (g.state_of w.writer).written ++ bytes → (g.view new).opened more.writer ≡ true → (g.told.content → (g.view new).lives more.writer ≡ (g.view old).lives w.writer)
+    → (g.state_of more.writer).name ≡ (g.state_of w.writer).name → (IsSummed g.state_of w → IsSummed g.state_of more)
+    → IsOpenFile g old name w len → IsOpenFile g new name more (len + length bytes)
+written_open g old new name w more len bytes added is_opened alive same sum h = record {
+  opened_is = is_opened;
+  lives_is = λ tells. alive tells ∙ h.lives_is tells;
+  name_is = same ∙ h.name_is;
+  summed_is = sum h.summed_is;
+  len_is = ap (λ n. n + length bytes) h.len_is ∙ sym (ap length added ∙ length-append (g.state_of w.writer).written bytes);
+}
 
 -- a length that is kept
 pub longer_fits : (len n m : ℕ) → len ≡ n → n + m < 18446744073709551616 → len + m < 18446744073709551616

@@ -12,12 +12,15 @@ use Rattle.tv_store.specs.ReaderNumbers.{FewNumbers}
 use Rattle.tv_store.specs.Applying.{Stepped, LeavesOldOrNew}
 use Rattle.tv_store.specs.ReadCauses.{ApplyCause}
 use Rattle.tv_store.proofs.FewNumbers.{few_more}
-use Rattle.tv_model.specs.Files.{Reads, Rose, RoseBy}
-use Rattle.tv_model.specs.State.{State, Told, Readers, no_readers}
-use Rattle.tv_model.specs.Machine.{step, refused_in}
+use Rattle.tv_model.specs.Files.{Reads, Rose}
+use Rattle.tv_model.specs.State.{State, Told, Readers}
+use Rattle.tv_model.specs.Machine.{step}
 use Rattle.tv_model.specs.SoundStates.{IsWhole}
 use Rattle.tv_model.specs.Readable.{ReadsGood}
-use Rattle.tv_model.specs.Commits.{is_schema, first_commit}
+use Rattle.tv_model.specs.Commits.{is_schema}
+use Rattle.tv_directory.specs.declared.directory.Directory.{Ghosts}
+use Rattle.tv_store.specs.Acting.{StepsDeleting}
+use Rattle.tv_store.specs.Making.{blank}
 use Rattle.tv_store.specs.StoreCauses.{EventCause, LockingCause, OpeningCause, MakesNoFile}
 
 -- ---- what an event did, by what its method says
@@ -77,47 +80,47 @@ pub locking_cause_in : (A busy refused quiet spent more : Type 0) (bad : OpenRea
 locking_cause_in A busy refused quiet spent more bad absent (Ok answer) h f = h
 locking_cause_in A busy refused quiet spent more bad absent (Err error) h f = locking_cause busy refused quiet spent more bad absent error h f
 
--- an event that deletes nothing and reads no commit's files
-pub stepped : {E : Type 0} (tells : Type 0) (old_reads new_reads : Reads) (old_kept new_kept : Kept) (old_refusals new_refusals : ℕ) (event : Event) (told : State → Told) (result : Result (List ℕ) E)
-    → new_refusals ≡ old_refusals → ((s : State) → step s event [] ≡ told s) → ((s : State) → ReadsGood s event)
-    → (tells → (s : State) → Holds old_reads old_kept s → IfOk result (λ answer. (answer ≡ (told s).0) × Holds new_reads new_kept (told s).1))
-    → IfOk result (Stepped tells old_reads new_reads old_kept new_kept old_refusals new_refusals event)
-stepped tells old_reads new_reads old_kept new_kept old_refusals new_refusals event told (Ok answer) quiet is good h = (
-  [],
-  inl (omega (arith, quiet)),
-  λ t s held whole.
-      let k = h t s held in
-      (k.0 ∙ ap (λ (x : Told). x.0) (sym (is s)), subst (λ (x : Told). Holds new_reads new_kept x.1) (sym (is s)) k.1, good s),
-)
-stepped tells old_reads new_reads old_kept new_kept old_refusals new_refusals event told (Err error) quiet is good h = tt
+module _ {O W C : Type 0} (g : Ghosts O W C) (old new : Kept × O × Bool) (event : Event) where
+  -- an event that deletes nothing and reads no commit's files
+  pub stepped : {E : Type 0} (told : State → Told) (result : Result (List ℕ) E)
+      → (g.view new.1).refusals ≡ (g.view old.1).refusals → ((s : State) → step s event [] ≡ told s) → ((s : State) → ReadsGood s event)
+      → (g.told.content → (s : State) → Holds (g.view old.1).reads old.0 s → IfOk result (λ answer. (answer ≡ (told s).0) × Holds (g.view new.1).reads new.0 (told s).1))
+      → IfOk result (Stepped g old new event)
+  stepped told (Ok answer) quiet is good h = (
+    [],
+    inl (omega (arith, quiet)),
+    λ t s held whole.
+        let k = h t s held in
+        (k.0 ∙ ap (λ (x : Told). x.0) (sym (is s)), subst (λ (x : Told). Holds (g.view new.1).reads new.0 x.1) (sym (is s)) k.1, good s),
+  )
+  stepped told (Err error) quiet is good h = tt
 
--- one that reads them
-pub stepped_reading : {E : Type 0} (tells : Type 0) (old_reads new_reads : Reads) (old_kept new_kept : Kept) (old_refusals new_refusals : ℕ) (event : Event) (told : State → Told) (good : State → Type 0) (result : Result (List ℕ) E)
-    → new_refusals ≡ old_refusals → ((s : State) → step s event [] ≡ told s) → ((s : State) → good s → ReadsGood s event)
-    → (tells → (s : State) → Holds old_reads old_kept s → IsWhole s → IfOk result (λ answer. (answer ≡ (told s).0) × Holds new_reads new_kept (told s).1 × good s))
-    → IfOk result (Stepped tells old_reads new_reads old_kept new_kept old_refusals new_refusals event)
-stepped_reading tells old_reads new_reads old_kept new_kept old_refusals new_refusals event told good (Ok answer) quiet is reads h = (
-  [],
-  inl (omega (arith, quiet)),
-  λ t s held whole.
-      let k = h t s held whole in
-      (k.0 ∙ ap (λ (x : Told). x.0) (sym (is s)), subst (λ (x : Told). Holds new_reads new_kept x.1) (sym (is s)) k.1, reads s k.2),
-)
-stepped_reading tells old_reads new_reads old_kept new_kept old_refusals new_refusals event told good (Err error) quiet is reads h = tt
+  -- one that reads them
+  pub stepped_reading : {E : Type 0} (told : State → Told) (good : State → Type 0) (result : Result (List ℕ) E)
+      → (g.view new.1).refusals ≡ (g.view old.1).refusals → ((s : State) → step s event [] ≡ told s) → ((s : State) → good s → ReadsGood s event)
+      → (g.told.content → (s : State) → Holds (g.view old.1).reads old.0 s → IsWhole s → IfOk result (λ answer. (answer ≡ (told s).0) × Holds (g.view new.1).reads new.0 (told s).1 × good s))
+      → IfOk result (Stepped g old new event)
+  stepped_reading told good (Ok answer) quiet is reads h = (
+    [],
+    inl (omega (arith, quiet)),
+    λ t s held whole.
+        let k = h t s held whole in
+        (k.0 ∙ ap (λ (x : Told). x.0) (sym (is s)), subst (λ (x : Told). Holds (g.view new.1).reads new.0 x.1) (sym (is s)) k.1, reads s k.2),
+  )
+  stepped_reading told good (Err error) quiet is reads h = tt
 
--- one that deletes
-pub stepped_deleting : {E : Type 0} (tells : Type 0) (old_reads new_reads : Reads) (old_kept new_kept : Kept) (old_refusals new_refusals : ℕ) (event : Event) (told : State → List Bool → Told) (result : Result (List ℕ) E)
-    → ((s : State) (outcomes : List Bool) → step s event outcomes ≡ told s outcomes) → ((s : State) → ReadsGood s event)
-    → IfOk result (λ answer. (outcomes : List Bool) × RoseBy (refused_in outcomes) old_refusals new_refusals × (tells → (s : State) → Holds old_reads old_kept s → (answer ≡ (told s outcomes).0) × Holds new_reads new_kept (told s outcomes).1))
-    → IfOk result (Stepped tells old_reads new_reads old_kept new_kept old_refusals new_refusals event)
-stepped_deleting tells old_reads new_reads old_kept new_kept old_refusals new_refusals event told (Ok answer) is good h = (
-  h.0,
-  h.1,
-  λ t s held whole.
-      let k = h.2 t s held in
-      (k.0 ∙ ap (λ (x : Told). x.0) (sym (is s h.0)), subst (λ (x : Told). Holds new_reads new_kept x.1) (sym (is s h.0)) k.1, good s),
-)
-stepped_deleting tells old_reads new_reads old_kept new_kept old_refusals new_refusals event told (Err error) is good h = tt
+  -- one that deletes
+  pub stepped_deleting : {E : Type 0} (told : State → List Bool → Told) (result : Result (List ℕ) E)
+      → ((s : State) (outcomes : List Bool) → step s event outcomes ≡ told s outcomes) → ((s : State) → ReadsGood s event)
+      → IfOk result (StepsDeleting g old new told) → IfOk result (Stepped g old new event)
+  stepped_deleting told (Ok answer) is good h = (
+    h.0,
+    h.1,
+    λ t s held whole.
+        let k = h.2 t s held in
+        (k.0 ∙ ap (λ (x : Told). x.0) (sym (is s h.0)), subst (λ (x : Told). Holds (g.view new.1).reads new.0 x.1) (sym (is s h.0)) k.1, good s),
+  )
+  stepped_deleting told (Err error) is good h = tt
 
 pub longer : (es : List (List ℕ × List ℕ)) (small large : ℕ) → small ≤ large → AllByRecursion (λ e. length e.1 ≤ small) es → AllByRecursion (λ e. length e.1 ≤ large) es
 longer [] small large le h = tt
@@ -159,10 +162,6 @@ not_there (Some bytes) found e absent = absurd (true≢false (sym e ∙ absent))
 -- a fault that came after a quiet start
 pub later_fault : (start before after end : ℕ) → before ≡ start → end ≡ after → Rose before after → Rose start end
 later_fault start before after end b e rose = subst (λ (x : ℕ). Rose x end) b (subst (λ (x : ℕ). Rose before x) (sym e) rose)
-
--- what is kept of an index that is yet to be made
-abbrev pub blank : List ℕ → Kept
-blank schema = record { schema = schema; live = []; next = 1; commit = first_commit; managed = []; open_files = []; left = []; reading = no_readers }
 
 pub still_blank : (kept : Kept) (schema : List ℕ) → kept ≡ blank schema → kept ≡ blank kept.schema
 still_blank kept schema e = subst (λ (x : List ℕ). kept ≡ blank x) (sym (ap (λ (k : Kept). k.schema) e)) e

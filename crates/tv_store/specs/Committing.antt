@@ -1,33 +1,42 @@
 -- What a call that commits does.
-use Rattle.std.specs.Prelude.{ℕ, ◌≡◌, ◌<◌, ◌++◌, [], ◌∷◌, Bool, List, length, codes, Result, IfOk, IfErr, OnErr}
+use Rattle.std.specs.Prelude.{ℕ, ◌≡◌, ◌<◌, ◌+◌, ◌++◌, [], ◌∷◌, Bool, List, length, codes, Some, Result, IfOk, IfErr, OnErr}
+use Rattle.std.specs.BTreeSet.{insert_key}
 use Rattle.std.specs.Fmt.{decimal}
+use Rattle.hex.specs.Hex.{encode_lower}
 use Rattle.tv_base.specs.declared.error.TantivyError.{TantivyError}
 use Rattle.tv_base.specs.declared.error.TantivyError.TheVariants as errors
 use Rattle.tv_directory.specs.declared.directory.Directory.{Ghosts}
-use Rattle.tv_model.specs.Names.{meta_name}
+use Rattle.tv_directory.specs.View.{View, Told as ToldParts}
+use Rattle.tv_model.specs.Listing.{Lists}
+use Rattle.tv_model.specs.Names.{byte_cmp, list_name, meta_name}
 use Rattle.tv_model.specs.declared.segment.LiveSegment.{LiveSegment}
 use Rattle.tv_model.specs.Lines.{line}
 use Rattle.tv_model.specs.Commits.{Commit, IsCommit, printed, default_settings}
 use Rattle.tv_model.specs.State.{State, Told}
 use Rattle.tv_store.specs.Kept.{Kept, Holds}
 use Rattle.tv_store.specs.Applying.{LeavesCommit}
-use Rattle.tv_store.specs.Stays.{Stays, Faults}
+use Rattle.tv_store.specs.Stays.{Stays, FrameNotes, EventFaults}
 
--- nothing else than the commit, its number and its name may have changed
-pub record KeepsRest {O W C : Type 0} (g : Ghosts O W C) (old new : Kept × O × Bool) : Type 0 where
-  pub stays : Stays g old new
+-- The open files, who reads, the schema and whether the store is open stay; nothing was told, and a notice of a commit may stand.
+pub record KeepsRest {O W : Type 0} (told : ToldParts) (view : O → View W) (old new : Kept × O × Bool) : Type 0 where
+  pub stays : Stays (FrameNotes told) view old new
   pub open_files : new.0.open_files ≡ old.0.open_files
   pub reading : new.0.reading ≡ old.0.reading
-  pub refusals : g.refusals new.1 ≡ g.refusals old.1
 
 -- A call makes this step of the machine from each state that was held, if this is so. An error leaves the commit before, or that of the step; want of memory the one before.
 pub record Commits {O W C : Type 0} (g : Ghosts O W C) (given : Type 0) (old new : Kept × O × Bool) (told : State → Told) (result : Result (List ℕ) TantivyError) : Type 0 where
-  pub step : g.tells → (s : State) → Holds (g.reads old.1) old.0 s → given → IfOk result (λ answer. (answer ≡ (told s).0) × Holds (g.reads new.1) new.0 (told s).1)
-  pub meta : g.tells → (s : State) → Holds (g.reads old.1) old.0 s → given → OnErr result (LeavesCommit (g.reads old.1 meta_name) (g.reads new.1 meta_name) old.0.schema (told s).1.commit)
-  pub memory : g.tells → IfErr result (λ error. error ≡ errors.Memory → g.reads new.1 meta_name ≡ g.reads old.1 meta_name)
-  pub room : IfOk result (λ answer. length answer < g.room new.1)
-  pub faults : Faults g old new result
-  pub rest : KeepsRest g old new
+  pub step : g.told.content → (s : State) → Holds (g.view old.1).reads old.0 s → given → IfOk result (λ answer. (answer ≡ (told s).0) × Holds (g.view new.1).reads new.0 (told s).1)
+  pub meta : g.told.content → (s : State) → Holds (g.view old.1).reads old.0 s → given → OnErr result (LeavesCommit ((g.view old.1).reads meta_name) ((g.view new.1).reads meta_name) old.0.schema (told s).1.commit)
+  pub memory : g.told.content → IfErr result (λ error. error ≡ errors.Memory → (g.view new.1).reads meta_name ≡ (g.view old.1).reads meta_name)
+  pub room : IfOk result (λ answer. length answer < (g.view new.1).room)
+  pub faults : EventFaults ⊥ (g.view old.1) (g.view new.1) result
+  pub frame : KeepsRest g.told g.view old new
+
+-- this commit, which gets the next number, is the current one, and this is its text
+pub record Publishes {O W C : Type 0} (g : Ghosts O W C) (old new : Kept × O × Bool) (commit : Commit) (text : List ℕ) : Type 0 where
+  pub kept : new.0 ≡ record old.0 { next = old.0.next + 1; commit = commit; managed = insert_key byte_cmp old.0.managed meta_name }
+  pub saved : g.told.content → (g.view new.1).reads meta_name ≡ Some text
+  pub list : g.told.content → Lists ((g.view old.1).reads list_name) old.0.managed → Lists ((g.view new.1).reads list_name) new.0.managed
 
 -- a commit gets the number that comes next, and this is its text
 pub record IsPrinted (kept : Kept) (commit : Commit) (text : List ℕ) : Type 0 where
@@ -38,6 +47,10 @@ pub record IsPrinted (kept : Kept) (commit : Commit) (text : List ℕ) : Type 0 
 -- what is answered to a commit with this number, of these segments
 abbrev pub commit_line : ℕ → List (List ℕ × LiveSegment) → List ℕ
 commit_line opstamp segments = line (codes "commit") (decimal opstamp ∷ decimal (length segments) ∷ [])
+
+-- or to one of an id that isn't live
+abbrev pub unknown_line : List ℕ → List ℕ
+unknown_line id = line (codes "refused") (codes "unknown-segment" ∷ encode_lower id ∷ [])
 
 -- or to one of a file that isn't sealed
 abbrev pub unsealed_line : List ℕ → List ℕ

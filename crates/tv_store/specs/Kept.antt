@@ -1,5 +1,5 @@
 -- What a store keeps in memory, and the state of the machine that it holds with what its directory reads.
-use Rattle.std.specs.Prelude.{ℕ, ◌≡◌, ◌≤◌, Bool, true, false, List, length, Option, Some, None, IsSome, is_some}
+use Rattle.std.specs.Prelude.{ℕ, ◌≡◌, ◌≤◌, ◌+◌, ◌^◌, Bool, true, false, List, length, Option, Some, None, IsSome, is_some, ◌&&◌, ◌||◌}
 use Rattle.std.specs.List.{AllByRecursion}
 use Rattle.tv_model.specs.declared.segment.LiveSegment.{LiveSegment}
 use Rattle.tv_model.specs.Names.{has, list_name, meta_name}
@@ -52,3 +52,11 @@ pub record Holds (reads : Reads) (kept : Kept) (s : State) : Type 0 where
 -- no open file has more bytes than this
 abbrev pub AtMost : ℕ → Kept → Type 0
 AtMost bound kept = AllByRecursion (λ e. length e.1 ≤ bound) kept.open_files
+
+-- no bound on these lengths is so small that a file can get this many bytes more
+abbrev pub BytesSpent : Kept → ℕ → Type 0
+BytesSpent kept count = (bound : ℕ) → AtMost bound kept → 2 ^ 64 ≤ bound + count
+
+-- the open ones of these files are left, beside those that were
+abbrev pub TakesAsLeft : (names : List (List ℕ)) (old new : Kept) → Type 0
+TakesAsLeft names old new = (n : List ℕ) → has new.left n ≡ (has old.left n || (has names n && is_some (at old.open_files n)))

@@ -10,6 +10,8 @@ pub mod SearcherLines
 pub mod Applying
 pub mod Stays
 pub mod Committing
-pub mod Untold
+pub mod FileCalls
+pub mod SnapshotCalls
 pub mod Acting
 pub mod Making
+pub mod Opening

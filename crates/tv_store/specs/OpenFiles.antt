@@ -1,10 +1,13 @@
 -- The files of a store that are open.
-use Rattle.std.specs.Prelude.{ℕ, ◌≡◌, Bool, true, List, length}
+use Rattle.std.specs.Prelude.{ℕ, ◌≡◌, true, List, length}
+use Rattle.tv_directory.specs.declared.directory.Directory.{Ghosts}
+use Rattle.tv_managed.specs.Writers.{IsSummed}
+use Rattle.tv_managed.specs.declared.writer.ManagedWriter.{ManagedWriter}
 
--- an open file: its writer was opened here under its name, keeps the checksum of what was written, and its length is kept beside it
-pub record IsOpenFile {W : Type 0} (opened lives : W → Bool) (name_of written : W → List ℕ) (name : List ℕ) (w : W) (summed : Type 0) (len : ℕ) : Type 0 where
-  pub opened_is : opened w ≡ true
-  pub lives_is : lives w ≡ true
-  pub name_is : name_of w ≡ name
-  pub len_is : len ≡ length (written w)
-  pub summed_is : summed
+-- an open file: its writer was opened here under its name, which wasn't deleted since, keeps the checksum of what was written, and its length is kept beside it
+pub record IsOpenFile {O W C : Type 0} (g : Ghosts O W C) (directory : O) (name : List ℕ) (w : ManagedWriter O W C) (len : ℕ) : Type 0 where
+  pub opened_is : (g.view directory).opened w.writer ≡ true
+  pub lives_is : g.told.content → (g.view directory).lives w.writer ≡ true
+  pub name_is : (g.state_of w.writer).name ≡ name
+  pub len_is : len ≡ length (g.state_of w.writer).written
+  pub summed_is : IsSummed g.state_of w

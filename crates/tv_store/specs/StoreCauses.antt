@@ -14,7 +14,7 @@ abbrev pub WriteFault : (refused : Type 0) → OpenWriteError → Type 0
 WriteFault refused (write.IoError fault path) = IsDevice fault × refused
 WriteFault refused other = ⊥
 
--- An event fails only where the device refused a call, where memory was wanted, or where a file would pass 64 bits of bytes.
+-- An event fails only where the device refused a call, where memory was wanted, or where something is spent.
 abbrev pub EventCause : (refused quiet spent : Type 0) → TantivyError → Type 0
 EventCause refused quiet spent (errors.IoError fault) = IsDevice fault × refused
 EventCause refused quiet spent (errors.OpenWriteError error) = WriteFault refused error

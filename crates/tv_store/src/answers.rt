@@ -1,10 +1,9 @@
 //! Answers, and the room that is made for them before the device is asked.
-ghost use Rattle.std.specs.Prelude.{◌≡◌, ◌≤◌, ◌<◌, [], ◌∷◌, true, length, codes, IfOk, IfErr, OnOk};
-ghost use Rattle.tv_model.specs.Files.{Rose, Same};
+ghost use Rattle.std.specs.Prelude.{◌≡◌, ◌<◌, [], ◌∷◌, true, length, codes, IfOk, OnOk};
 ghost use Rattle.tv_model.specs.Lines.{line, has_no_feed};
 ghost use Rattle.tv_model.specs.State.{at};
-ghost use Rattle.tv_store.specs.Stays.{Stays};
-ghost use Rattle.tv_store.specs.StoreCauses.{EventCause};
+ghost use Rattle.tv_directory.specs.View.{OnlyReads};
+ghost use Rattle.tv_store.specs.Stays.{Asks, EventFaults};
 
 use crate::store::Store;
 use std::alloc::Global;
@@ -31,13 +30,9 @@ impl<O: Outside> Store<O> {
     // An answer in room that is made for it.
     pub(crate) fn ready(&mut self, answer: Answer) -> Result<Answer, Memory>
         ensures answer { IfOk result (λ ready. ready ≡ answer) }
-        ensures room { OnOk result (length answer < O.room self.new.1) }
-        ensures kept { self.new.0 ≡ self.old.0 }
-        ensures content { O.tells → Same (O.reads self.old.1) (O.reads self.new.1) }
-        ensures quiet { O.faults self.new.1 ≡ O.faults self.old.1 }
-        ensures stays { Stays O.Directory self.old self.new }
-        ensures refusals { O.refusals self.new.1 ≡ O.refusals self.old.1 }
-        ensures more { O.room self.old.1 ≤ O.room self.new.1 }
+        ensures room { OnOk result (length answer < (O.view self.new.1).room) }
+        ensures faults { (O.view self.new.1).faults ≡ (O.view self.old.1).faults }
+        ensures frame { Asks (OnlyReads O.told) O.view self.old self.new }
     {
         self.files.ready(answer.as_slice().len())?;
         Ok(answer)
@@ -46,13 +41,10 @@ impl<O: Outside> Store<O> {
     // The answer to an event that changes nothing but the room for it.
     pub(crate) fn told(&mut self, answer: Answer) -> Result<Answer, TantivyError>
         ensures answer { IfOk result (λ told. told ≡ answer) }
-        ensures room { IfOk result (λ told. length told < O.room self.new.1) }
-        ensures kept { self.new.0 ≡ self.old.0 }
-        ensures content { O.tells → Same (O.reads self.old.1) (O.reads self.new.1) }
-        ensures quiet { O.faults self.new.1 ≡ O.faults self.old.1 }
-        ensures cause { IfErr result (EventCause (Rose (O.faults self.old.1) (O.faults self.new.1)) (O.faults self.new.1 ≡ O.faults self.old.1) ⊥) }
-        ensures stays { Stays O.Directory self.old self.new }
-        ensures refusals { O.refusals self.new.1 ≡ O.refusals self.old.1 }
+        ensures room { IfOk result (λ answer. length answer < (O.view self.new.1).room) }
+        ensures quiet { (O.view self.new.1).faults ≡ (O.view self.old.1).faults }
+        ensures faults { EventFaults ⊥ (O.view self.old.1) (O.view self.new.1) result }
+        ensures frame { Asks (OnlyReads O.told) O.view self.old self.new }
     {
         let ready = self.ready(answer)?;
         Ok(ready)
@@ -62,13 +54,10 @@ impl<O: Outside> Store<O> {
     pub(crate) fn refuse(&mut self, word: &str) -> Result<Answer, TantivyError>
         requires { has_no_feed word.now ≡ true }
         ensures answer { IfOk result (λ answer. answer ≡ line (codes "refused") (word.now ∷ [])) }
-        ensures room { IfOk result (λ answer. length answer < O.room self.new.1) }
-        ensures kept { self.new.0 ≡ self.old.0 }
-        ensures content { O.tells → Same (O.reads self.old.1) (O.reads self.new.1) }
-        ensures quiet { O.faults self.new.1 ≡ O.faults self.old.1 }
-        ensures cause { IfErr result (EventCause (Rose (O.faults self.old.1) (O.faults self.new.1)) (O.faults self.new.1 ≡ O.faults self.old.1) ⊥) }
-        ensures stays { Stays O.Directory self.old self.new }
-        ensures refusals { O.refusals self.new.1 ≡ O.refusals self.old.1 }
+        ensures room { IfOk result (λ answer. length answer < (O.view self.new.1).room) }
+        ensures quiet { (O.view self.new.1).faults ≡ (O.view self.old.1).faults }
+        ensures faults { EventFaults ⊥ (O.view self.old.1) (O.view self.new.1) result }
+        ensures frame { Asks (OnlyReads O.told) O.view self.old self.new }
     {
         let answer = refused(self.alloc, word)?;
         self.told(answer)

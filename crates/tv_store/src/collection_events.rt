@@ -1,17 +1,16 @@
 //! The event that collects files, and the one that ends a segment.
-ghost use Rattle.std.specs.Prelude.{◌≡◌, ◌≤◌, ◌<◌, ◌++◌, ◌∷◌, [], ℕ, Bool, true, false, not, length, cond, is_some, IfOk, IfErr, OnOk, List, map, string_bytes, ◌&&◌, ◌||◌, None, OnErr};
+ghost use Rattle.std.specs.Prelude.{◌≡◌, ◌<◌, ◌++◌, ◌∷◌, ℕ, not, length, cond, IfOk, OnOk, List, map, string_bytes, ◌&&◌, None};
 ghost use Rattle.std.specs.List.{flat_map};
 ghost use Rattle.tv_model.specs.Names.{has, meta_name};
-ghost use Rattle.tv_model.specs.Files.{Rose, RoseBy, Same};
-ghost use Rattle.tv_model.specs.Machine.{refused_in};
 ghost use Rattle.tv_model.specs.Living.{segment_names};
-ghost use Rattle.tv_model.specs.State.{State, at};
+ghost use Rattle.tv_model.specs.State.{at};
 ghost use Rattle.tv_model.specs.CollectionEvents.{gc_step, collected_line, release_segment_step};
 ghost use Rattle.tv_model.specs.Lines.{line};
-ghost use Rattle.tv_managed.specs.Collecting.{meta_lock_name};
-ghost use Rattle.tv_store.specs.Kept.{Holds, AtMost};
-ghost use Rattle.tv_store.specs.Stays.{Stays};
-ghost use Rattle.tv_store.specs.StoreCauses.{EventCause, IsBusy, LockingCause};
+ghost use Rattle.tv_directory.specs.View.{OnlyReads, MayDelete};
+ghost use Rattle.tv_store.specs.Kept.{AtMost, TakesAsLeft};
+ghost use Rattle.tv_store.specs.Acting.{StepsTo, StepsDeleting, KeepsMeta};
+ghost use Rattle.tv_store.specs.FileCalls.{GcFaults};
+ghost use Rattle.tv_store.specs.Stays.{Asks, KeepsReaders, EventFaults};
 
 use crate::commit::listed;
 use crate::commit_events::push_name;
@@ -58,7 +57,8 @@ fn push_all(
     names: &mut Vec<FileName>,
     segments: &[(SegmentId, LiveSegment)],
 ) -> Result<(), Memory>
-    ensures { OnOk result (names.new.items ≡ names.old.items ++ flat_map segment_names segments.now) }
+    ensures { OnOk result (names.new.items ≡ names.old.items
+        ++ flat_map segment_names segments.now) }
 {
     for entry in segments {
         let (id, segment) = *entry;
@@ -73,7 +73,8 @@ fn needed_names(
     committed: &[(SegmentId, LiveSegment)],
     live: &[(SegmentId, LiveSegment)],
 ) -> Result<Vec<FileName>, Memory>
-    ensures { IfOk result (λ names. names.items ≡ meta_name ∷ (flat_map segment_names committed.now ++ flat_map segment_names live.now)) }
+    ensures { IfOk result (λ names. names.items ≡ meta_name ∷ (flat_map segment_names committed.now
+        ++ flat_map segment_names live.now)) }
 {
     let meta = String::from_str(alloc, META_FILEPATH)?;
     let mut names = Vec::new(alloc);
@@ -85,7 +86,8 @@ fn needed_names(
 
 // The names as a set of texts.
 fn set_of(alloc: Global, names: Vec<FileName>) -> Result<BTreeSet<String>, Memory>
-    ensures { IfOk result (λ set. (n : List ℕ) → has (map string_bytes set.keys) n ≡ has names.items n) }
+    ensures { IfOk result (λ set. (n : List ℕ)
+        → has (map string_bytes set.keys) n ≡ has names.items n) }
 {
     let mut set = BTreeSet::new(alloc);
     for name in names {
@@ -117,7 +119,8 @@ fn collected(alloc: Global, done: &[FileName], failed: &[FileName]) -> Result<An
 
 // Takes these names out of a set.
 fn remove_all(set: &mut BTreeSet<FileName>, names: &[FileName])
-    ensures { (n : List ℕ) → has set.new.keys n ≡ (not (has names.entry.now n) && has set.old.keys n) }
+    ensures { (n : List ℕ) → has set.new.keys n
+        ≡ (not (has names.entry.now n) && has set.old.keys n) }
 {
     for name in names {
         let _there = set.remove(name);
@@ -127,7 +130,10 @@ fn remove_all(set: &mut BTreeSet<FileName>, names: &[FileName])
 impl<O: Outside> Store<O> {
     // The names that are needed.
     fn living(&self) -> Result<BTreeSet<String>, Memory>
-        ensures { IfOk result (λ set. (n : List ℕ) → has (map string_bytes set.keys) n ≡ has (meta_name ∷ flat_map segment_names (self.now.0.commit.segments ++ self.now.0.live)) n) }
+        ensures { IfOk result (λ set. (n : List ℕ)
+            → has (map string_bytes set.keys) n
+            ≡ has (meta_name ∷ flat_map segment_names (self.now.0.commit.segments
+            ++ self.now.0.live)) n) }
     {
         let committed = self.commit.segments(self.alloc)?;
         let live = listed(self.alloc, &self.live)?;
@@ -138,11 +144,8 @@ impl<O: Outside> Store<O> {
 
     // Makes room for the answer to a collection: all names that it may tell are managed.
     fn ready_for_all(&mut self) -> Result<(), Memory>
-        ensures kept { self.new.0 ≡ self.old.0 }
-        ensures content { O.tells → Same (O.reads self.old.1) (O.reads self.new.1) }
-        ensures quiet { O.faults self.new.1 ≡ O.faults self.old.1 }
-        ensures stays { Stays O.Directory self.old self.new }
-        ensures refusals { O.refusals self.new.1 ≡ O.refusals self.old.1 }
+        ensures faults { (O.view self.new.1).faults ≡ (O.view self.old.1).faults }
+        ensures frame { Asks (OnlyReads O.told) O.view self.old self.new }
     {
         let all = self.managed_names()?;
         self.files
@@ -152,15 +155,12 @@ impl<O: Outside> Store<O> {
 
     // The files that nothing needs are tried, and those that are done are gone.
     pub(crate) fn gc(&mut self) -> Result<Answer, TantivyError>
-        ensures step { IfOk result (λ answer. (outcomes : List Bool) × RoseBy (refused_in outcomes) (O.refusals self.old.1) (O.refusals self.new.1) × (O.tells → (s : State) → Holds (O.reads self.old.1) self.old.0 s → (answer ≡ (gc_step s outcomes).0) × Holds (O.reads self.new.1) self.new.0 (gc_step s outcomes).1)) }
-        ensures room { IfOk result (λ answer. length answer < O.room self.new.1) }
-        ensures stays { Stays O.Directory self.old self.new }
+        ensures step { IfOk result (StepsDeleting O.Directory self.old self.new gc_step) }
+        ensures room { IfOk result (λ answer. length answer < (O.view self.new.1).room) }
         ensures lens { (bound : ℕ) → AtMost bound self.old.0 → AtMost bound self.new.0 }
-        ensures quiet { OnOk result (O.faults self.new.1 ≡ O.faults self.old.1) }
-        ensures free { O.tells_locks → OnOk result (O.locks self.old.1 meta_lock_name ≡ false) }
-        ensures cause { IfErr result (LockingCause (IsBusy O.tells_locks (O.locks self.old.1 meta_lock_name ≡ true) (Rose (O.faults self.old.1) (O.faults self.new.1))) (Rose (O.faults self.old.1) (O.faults self.new.1)) (O.faults self.new.1 ≡ O.faults self.old.1) ⊥) }
-        ensures meta { O.tells → OnErr result (O.reads self.new.1 meta_name ≡ O.reads self.old.1 meta_name) }
-        ensures reading { self.new.0.reading ≡ self.old.0.reading }
+        ensures faults { GcFaults O.Directory self.old.1 self.new.1 result }
+        ensures meta { KeepsMeta O.Directory self.old self.new result }
+        ensures frame { KeepsReaders (MayDelete O.told) O.view self.old self.new }
     {
         let living = self.living()?;
         self.ready_for_all()?;
@@ -173,9 +173,14 @@ impl<O: Outside> Store<O> {
 
     // The open files among these are left.
     fn leave(&mut self, names: Vec<FileName>) -> Result<(), Memory>
-        ensures open_files { OnOk result ((n : List ℕ) → at self.new.0.open_files n ≡ cond (has names.items n) None (at self.old.0.open_files n)) }
-        ensures left { OnOk result ((n : List ℕ) → has self.new.0.left n ≡ (has self.old.0.left n || (has names.items n && is_some (at self.old.0.open_files n)))) }
-        ensures others { record self.new.0 { open_files = self.old.0.open_files; left = self.old.0.left } ≡ self.old.0 }
+        ensures open_files { OnOk result ((n : List ℕ)
+            → at self.new.0.open_files n ≡ cond (has names.items n) None
+            (at self.old.0.open_files n)) }
+        ensures left { OnOk result (TakesAsLeft names.items self.old.0 self.new.0) }
+        ensures others { record self.new.0 {
+          open_files = self.old.0.open_files;
+          left = self.old.0.left;
+        } ≡ self.old.0 }
         ensures outside { self.new.1 ≡ self.old.1 }
         ensures open { self.new.2 ≡ self.old.2 }
         ensures lens { (bound : ℕ) → AtMost bound self.old.0 → AtMost bound self.new.0 }
@@ -190,15 +195,12 @@ impl<O: Outside> Store<O> {
 
     // A live segment is live no more, and its open files are left.
     pub(crate) fn release_segment(&mut self, id: SegmentId) -> Result<Answer, TantivyError>
-        ensures step { O.tells → (s : State) → Holds (O.reads self.old.1) self.old.0 s → IfOk result (λ answer. (answer ≡ (release_segment_step s id).0) × Holds (O.reads self.new.1) self.new.0 (release_segment_step s id).1) }
-        ensures room { IfOk result (λ answer. length answer < O.room self.new.1) }
-        ensures stays { Stays O.Directory self.old self.new }
+        ensures step { StepsTo O.Directory self.old self.new
+            (λ s. release_segment_step s id) result }
+        ensures room { IfOk result (λ answer. length answer < (O.view self.new.1).room) }
         ensures lens { (bound : ℕ) → AtMost bound self.old.0 → AtMost bound self.new.0 }
-        ensures quiet { OnOk result (O.faults self.new.1 ≡ O.faults self.old.1) }
-        ensures cause { IfErr result (EventCause (Rose (O.faults self.old.1) (O.faults self.new.1)) (O.faults self.new.1 ≡ O.faults self.old.1) ⊥) }
-        ensures meta { O.tells → OnErr result (O.reads self.new.1 meta_name ≡ O.reads self.old.1 meta_name) }
-        ensures refusals { O.refusals self.new.1 ≡ O.refusals self.old.1 }
-        ensures reading { self.new.0.reading ≡ self.old.0.reading }
+        ensures faults { EventFaults ⊥ (O.view self.old.1) (O.view self.new.1) result }
+        ensures frame { KeepsReaders (OnlyReads O.told) O.view self.old self.new }
     {
         let Some(segment) = self.live_segment(id) else {
             return self.refuse("unknown-segment");

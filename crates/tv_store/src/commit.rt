@@ -1,5 +1,5 @@
 //! The current commit, and how it is printed.
-ghost use Rattle.std.specs.Prelude.{◌≡◌, ◌++◌, [], ◌∷◌, ℕ, Option, Some, None, IfOk, OnOk, is_some, length};
+ghost use Rattle.std.specs.Prelude.{◌≡◌, ◌++◌, [], ◌∷◌, Option, Some, None, IfOk, OnOk, is_some, length};
 ghost use Rattle.tv_model.specs.Commits.{first_commit, printed, default_settings, segment_text, escaped_byte, escaped, payload_text, deletes_text, settings_text, hex_digit};
 ghost use Rattle.tv_model.specs.State.{at};
 ghost use Rattle.std.specs.List.{join_with_byte};
@@ -24,7 +24,11 @@ impl Model for Commit {
 
     ghost Value = { Committed };
 
-    ghost view = { λ a. record { opstamp = a.opstamp; payload = a.payload; segments = a.segments.entries } };
+    ghost view = { λ a. record {
+      opstamp = a.opstamp;
+      payload = a.payload;
+      segments = a.segments.entries;
+    } };
 }
 
 impl Commit {
@@ -45,7 +49,11 @@ impl Commit {
         payload: Option<Text>,
         segments: BTreeMap<SegmentId, LiveSegment>,
     ) -> Commit
-        ensures { result ≡ record { opstamp = opstamp; payload = payload; segments = segments.entries } }
+        ensures { result ≡ record {
+          opstamp = opstamp;
+          payload = payload;
+          segments = segments.entries;
+        } }
     {
         Commit {
             opstamp,
@@ -102,18 +110,29 @@ impl Commit {
 
     /// The text of `meta.json` under the schema with this text.
     pub(crate) fn print(&self, alloc: Global, schema: &[u8]) -> Result<Vec<u8>, Memory>
-        ensures { IfOk result (λ text. text.items ≡ printed default_settings schema.now self.now ++ 10 ∷ []) }
+        ensures { IfOk result (λ text. text.items ≡ printed default_settings schema.now self.now
+            ++ 10 ∷ []) }
     {
         let mut text = Vec::new(alloc);
-        put(&mut text, "{\"index_settings\":")?;
-        put_settings(&mut text)?;
-        put(&mut text, ",\"segments\":[")?;
-        put_segments(alloc, &mut text, &self.segments)?;
-        put_schema(&mut text, schema)?;
-        put_opstamp(&mut text, self.opstamp)?;
-        put_payload(&mut text, &self.payload)?;
-        put(&mut text, "}\n")?;
+        self.put_text(alloc, &mut text, schema)?;
         Ok(text)
+    }
+
+    // Fills an empty vector with the text of `meta.json`.
+    fn put_text(&self, alloc: Global, out: &mut Vec<u8>, schema: &[u8]) -> Result<(), Memory>
+        requires { out.old.items ≡ [] }
+        ensures { OnOk result (out.new.items ≡ printed default_settings schema.now self.now
+            ++ 10 ∷ []) }
+    {
+        put(out, "{\"index_settings\":")?;
+        put_settings(out)?;
+        put(out, ",\"segments\":[")?;
+        put_segments(alloc, out, &self.segments)?;
+        put_schema(out, schema)?;
+        put_opstamp(out, self.opstamp)?;
+        put_payload(out, &self.payload)?;
+        put(out, "}\n")?;
+        Ok(())
     }
 }
 
@@ -171,7 +190,8 @@ fn put_schema(out: &mut Vec<u8>, schema: &[u8]) -> Result<(), Memory>
 
 // Adds the number of the commit.
 fn put_opstamp(out: &mut Vec<u8>, opstamp: Opstamp) -> Result<(), Memory>
-    ensures { OnOk result (out.new.items ≡ out.old.items ++ (codes ",\"opstamp\":" ++ decimal opstamp)) }
+    ensures { OnOk result (out.new.items ≡ out.old.items
+        ++ (codes ",\"opstamp\":" ++ decimal opstamp)) }
 {
     put(out, ",\"opstamp\":")?;
     put_number(out, opstamp)?;
@@ -184,7 +204,8 @@ fn put_segments(
     out: &mut Vec<u8>,
     segments: &BTreeMap<SegmentId, LiveSegment>,
 ) -> Result<(), Memory>
-    ensures { OnOk result (out.new.items ≡ out.old.items ++ join_with_byte 44 (map segment_text segments.now.entries)) }
+    ensures { OnOk result (out.new.items ≡ out.old.items
+        ++ join_with_byte 44 (map segment_text segments.now.entries)) }
 {
     let mut is_first = true;
     for (id, segment) in segments {
@@ -221,7 +242,10 @@ fn put_segment(
 
 // Adds the segment whose id has these digits.
 fn put_segment_of(out: &mut Vec<u8>, digits: &str, segment: &LiveSegment) -> Result<(), Memory>
-    ensures { OnOk result (out.new.items ≡ out.old.items ++ (codes "{\"segment_id\":\"" ++ digits.now ++ codes "\",\"max_doc\":" ++ decimal segment.now.max_doc ++ codes ",\"deletes\":" ++ deletes_text segment.now.deletes ++ codes "}")) }
+    ensures { OnOk result (out.new.items ≡ out.old.items
+        ++ (codes "{\"segment_id\":\"" ++ digits.now ++ codes "\",\"max_doc\":"
+        ++ decimal segment.now.max_doc ++ codes ",\"deletes\":"
+        ++ deletes_text segment.now.deletes ++ codes "}")) }
 {
     put(out, "{\"segment_id\":\"")?;
     put(out, digits)?;

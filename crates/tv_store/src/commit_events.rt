@@ -1,25 +1,22 @@
 //! The event that commits.
-ghost use Rattle.std.specs.Prelude.{◌≡◌, ◌≤◌, ◌<◌, ◌+◌, ◌++◌, [], ◌∷◌, ℕ, length, map, codes, not, ◌&&◌, nat_lt, is_none, find, option_map, IfOk, IfErr, IfSome, OnOk, OnErr, ◌⊎◌, Some};
+ghost use Rattle.std.specs.Prelude.{◌≡◌, ◌≤◌, ◌<◌, ◌++◌, [], ◌∷◌, length, map, codes, not, ◌&&◌, nat_lt, is_none, find, option_map, None, IfOk, IfSome, OnOk};
 ghost use Rattle.std.specs.List.{AllByRecursion, filter};
 ghost use Rattle.std.specs.Str.{IsUtf8};
 ghost use Rattle.std.specs.Fmt.{decimal};
-ghost use Rattle.std.specs.BTreeSet.{insert_key};
-ghost use Rattle.hex.specs.Hex.{encode_lower};
-ghost use Rattle.tv_model.specs.Names.{byte_cmp, has, list_name, meta_name};
-ghost use Rattle.tv_model.specs.Files.{Rose, Same};
+ghost use Rattle.tv_model.specs.Names.{has, meta_name};
 ghost use Rattle.tv_model.specs.State.{State, at, file_at};
 ghost use Rattle.tv_model.specs.Lines.{line};
-ghost use Rattle.tv_model.specs.Listing.{Lists};
 ghost use Rattle.tv_model.specs.Segments.{name_of, num_docs, all_required, required_names};
 ghost use Rattle.tv_model.specs.CommitEvents.{commit_step, commit_sealed, first_unsealed, is_sealed};
 ghost use Rattle.tv_model.specs.Commits.{IsSegment, IsCommit};
 ghost use Rattle.tv_model.specs.Index.{IsFileOf};
+ghost use Rattle.tv_directory.specs.View.{OnlyReads};
 ghost use Rattle.tv_managed.specs.Managed.{KeepsOtherFiles};
-ghost use Rattle.tv_directory.specs.Locks.{SameLocks};
 ghost use Rattle.tv_store.specs.Choosing.{with_living};
 ghost use Rattle.tv_store.specs.Kept.{Holds};
-ghost use Rattle.tv_store.specs.Stays.{Asks, Faults};
-ghost use Rattle.tv_store.specs.Committing.{Commits, IsPrinted, KeepsRest, commit_line, unsealed_line};
+ghost use Rattle.tv_store.specs.FileCalls.{LeavesText};
+ghost use Rattle.tv_store.specs.Stays.{Asks, EventFaults};
+ghost use Rattle.tv_store.specs.Committing.{Commits, IsPrinted, KeepsRest, Publishes, commit_line, unknown_line, unsealed_line};
 
 use crate::answers::refused;
 use crate::commit::Commit;
@@ -67,7 +64,8 @@ pub(crate) fn push_name(
     segment: LiveSegment,
     component: SegmentComponent,
 ) -> Result<(), Memory>
-    ensures { OnOk result (names.new.items ≡ names.old.items ++ name_of id segment.deletes component ∷ []) }
+    ensures { OnOk result (names.new.items ≡ names.old.items
+        ++ name_of id segment.deletes component ∷ []) }
 {
     let name = segment_file_name(alloc, id, segment.deletes, component)?;
     names.push(name)?;
@@ -81,7 +79,8 @@ fn push_common(
     id: SegmentId,
     segment: LiveSegment,
 ) -> Result<(), Memory>
-    ensures { OnOk result (names.new.items ≡ names.old.items ++ map (name_of id segment.deletes) REQUIRED) }
+    ensures { OnOk result (names.new.items ≡ names.old.items
+        ++ map (name_of id segment.deletes) REQUIRED) }
 {
     for component in REQUIRED {
         push_name(alloc, names, id, segment, component)?;
@@ -164,7 +163,8 @@ fn chosen(
     live: &BTreeMap<SegmentId, LiveSegment>,
     ids: &[SegmentId],
 ) -> Result<BTreeMap<SegmentId, LiveSegment>, Memory>
-    ensures { IfOk result (λ segments. segments.entries ≡ filter (λ e. has ids.now e.0 && nat_lt 0 (num_docs e.1)) live.now.entries) }
+    ensures { IfOk result (λ segments. segments.entries
+        ≡ filter (λ e. has ids.now e.0 && nat_lt 0 (num_docs e.1)) live.now.entries) }
 {
     // A contract learns from the length that the live ids stand in their order.
     let _count = live.len();
@@ -177,7 +177,8 @@ fn chosen(
 
 // The answer to a commit of this many segments.
 fn committed(alloc: Global, opstamp: Opstamp, count: usize) -> Result<Answer, Memory>
-    ensures { IfOk result (λ answer. answer ≡ line (codes "commit") (decimal opstamp ∷ decimal count ∷ [])) }
+    ensures { IfOk result (λ answer. answer ≡ line (codes "commit")
+        (decimal opstamp ∷ decimal count ∷ [])) }
 {
     let answer = Answer::new(alloc, "commit")?
         .number(opstamp)?
@@ -187,7 +188,7 @@ fn committed(alloc: Global, opstamp: Opstamp, count: usize) -> Result<Answer, Me
 
 // The refusal of an id that isn't live.
 fn unknown(alloc: Global, id: SegmentId) -> Result<Answer, Memory>
-    ensures { IfOk result (λ answer. answer ≡ line (codes "refused") (codes "unknown-segment" ∷ encode_lower id ∷ [])) }
+    ensures { IfOk result (λ answer. answer ≡ unknown_line id) }
 {
     refused(alloc, "unknown-segment")?.id(id)
 }
@@ -206,7 +207,8 @@ fn new_commit(
     payload: &Option<Text>,
     segments: BTreeMap<SegmentId, LiveSegment>,
 ) -> Result<Commit, Memory>
-    ensures commit { IfOk result (λ commit. commit ≡ record { opstamp = opstamp; payload = payload.now; segments = segments.entries }) }
+    ensures commit { IfOk result (λ commit. commit
+        ≡ record { opstamp = opstamp; payload = payload.now; segments = segments.entries }) }
     ensures sound { AllByRecursion IsSegment segments.entries → IfOk result IsCommit }
 {
     // A contract learns from the length that the ids stand in their order.
@@ -218,9 +220,11 @@ fn new_commit(
 impl<O: Outside> Store<O> {
     // Whether a file isn't sealed.
     fn is_unsealed(&mut self, name: &FileName) -> Result<bool, TantivyError>
-        ensures found { O.tells → (s : State) → Holds (O.reads self.old.1) self.old.0 s → IsFileOf name.now → IfOk result (λ found. found ≡ not (is_sealed (file_at s name.now))) }
-        ensures asks { Asks O.Directory self.old self.new }
-        ensures faults { Faults O.Directory self.old self.new result }
+        ensures found { O.told.content → (s : State) → Holds (O.view self.old.1).reads self.old.0 s
+            → IsFileOf name.now
+            → IfOk result (λ found. found ≡ not (is_sealed (file_at s name.now))) }
+        ensures faults { EventFaults ⊥ (O.view self.old.1) (O.view self.new.1) result }
+        ensures frame { Asks (OnlyReads O.told) O.view self.old self.new }
     {
         if self.left.contains(name) {
             return Ok(true);
@@ -234,9 +238,12 @@ impl<O: Outside> Store<O> {
         &mut self,
         names: &'a [FileName],
     ) -> Result<Option<&'a FileName>, TantivyError>
-        ensures found { O.tells → (s : State) → Holds (O.reads self.old.1) self.old.0 s → AllByRecursion IsFileOf names.entry.now → IfOk result (λ found. option_map (λ name. name.now) found ≡ find (λ name. not (is_sealed (file_at s name))) names.entry.now) }
-        ensures asks { Asks O.Directory self.old self.new }
-        ensures faults { Faults O.Directory self.old self.new result }
+        ensures found { O.told.content → (s : State) → Holds (O.view self.old.1).reads self.old.0 s
+            → AllByRecursion IsFileOf names.entry.now
+            → IfOk result (λ found. option_map (λ name. name.now) found
+            ≡ find (λ name. not (is_sealed (file_at s name))) names.entry.now) }
+        ensures faults { EventFaults ⊥ (O.view self.old.1) (O.view self.new.1) result }
+        ensures frame { Asks (OnlyReads O.told) O.view self.old self.new }
     {
         for name in names {
             if self.is_unsealed(name)? {
@@ -248,10 +255,11 @@ impl<O: Outside> Store<O> {
 
     // The answer to a commit, in room that is made for it and for a refusal.
     fn ready_for_either(&mut self, commit: &Commit) -> Result<Answer, Memory>
-        ensures answer { IfOk result (λ answer. answer ≡ commit_line commit.now.opstamp commit.now.segments) }
-        ensures room { IfOk result (λ answer. length answer < O.room self.new.1) }
-        ensures asks { Asks O.Directory self.old self.new }
-        ensures quiet { O.faults self.new.1 ≡ O.faults self.old.1 }
+        ensures answer { IfOk result (λ answer. answer
+            ≡ commit_line commit.now.opstamp commit.now.segments) }
+        ensures room { IfOk result (λ answer. length answer < (O.view self.new.1).room) }
+        ensures faults { (O.view self.new.1).faults ≡ (O.view self.old.1).faults }
+        ensures frame { Asks (OnlyReads O.told) O.view self.old self.new }
     {
         self.files.ready(REFUSAL_ROOM)?;
         let answer = committed(self.alloc, commit.opstamp(), commit.len())?;
@@ -260,10 +268,10 @@ impl<O: Outside> Store<O> {
 
     // The answer to a commit of an id that isn't live, in room that is made for it.
     fn refuse_unknown(&mut self, id: SegmentId) -> Result<Answer, TantivyError>
-        ensures answer { IfOk result (λ answer. answer ≡ line (codes "refused") (codes "unknown-segment" ∷ encode_lower id ∷ [])) }
-        ensures room { IfOk result (λ answer. length answer < O.room self.new.1) }
-        ensures asks { Asks O.Directory self.old self.new }
-        ensures faults { Faults O.Directory self.old self.new result }
+        ensures answer { IfOk result (λ answer. answer ≡ unknown_line id) }
+        ensures room { IfOk result (λ answer. length answer < (O.view self.new.1).room) }
+        ensures faults { EventFaults ⊥ (O.view self.old.1) (O.view self.new.1) result }
+        ensures frame { Asks (OnlyReads O.told) O.view self.old self.new }
     {
         let answer = unknown(self.alloc, id)?;
         let ready = self.ready(answer)?;
@@ -273,9 +281,9 @@ impl<O: Outside> Store<O> {
     // The answer to a commit of a file that isn't sealed, in room that is made for it.
     fn refuse_unsealed(&mut self, name: &FileName) -> Result<Answer, TantivyError>
         ensures answer { IfOk result (λ answer. answer ≡ unsealed_line name.now) }
-        ensures room { IfOk result (λ answer. length answer < O.room self.new.1) }
-        ensures asks { Asks O.Directory self.old self.new }
-        ensures faults { Faults O.Directory self.old self.new result }
+        ensures room { IfOk result (λ answer. length answer < (O.view self.new.1).room) }
+        ensures faults { EventFaults ⊥ (O.view self.old.1) (O.view self.new.1) result }
+        ensures frame { Asks (OnlyReads O.told) O.view self.old self.new }
     {
         let answer = unsealed(self.alloc, name)?;
         let ready = self.ready(answer)?;
@@ -284,10 +292,14 @@ impl<O: Outside> Store<O> {
 
     // The refusal of the first of these files that isn't sealed, in room that is made for it.
     fn refuse_first(&mut self, names: &[FileName]) -> Result<Option<Answer>, TantivyError>
-        ensures answer { O.tells → (s : State) → Holds (O.reads self.old.1) self.old.0 s → AllByRecursion IsFileOf names.now → IfOk result (λ refusal. refusal ≡ option_map unsealed_line (find (λ name. not (is_sealed (file_at s name))) names.now)) }
-        ensures room { IfOk result (λ refusal. IfSome refusal (λ answer. length answer < O.room self.new.1)) }
-        ensures asks { Asks O.Directory self.old self.new }
-        ensures faults { Faults O.Directory self.old self.new result }
+        ensures answer { O.told.content → (s : State) → Holds (O.view self.old.1).reads self.old.0 s
+            → AllByRecursion IsFileOf names.now
+            → IfOk result (λ refusal. refusal ≡ option_map unsealed_line
+            (find (λ name. not (is_sealed (file_at s name))) names.now)) }
+        ensures room { IfOk result (λ refusal. IfSome refusal
+            (λ answer. length answer < (O.view self.new.1).room)) }
+        ensures faults { EventFaults ⊥ (O.view self.old.1) (O.view self.new.1) result }
+        ensures frame { Asks (OnlyReads O.told) O.view self.old self.new }
     {
         let Some(name) = self.first_unsealed(names)? else {
             return Ok(None);
@@ -298,10 +310,14 @@ impl<O: Outside> Store<O> {
 
     // The refusal of a commit, where one of its files isn't sealed.
     fn refusal_of(&mut self, commit: &Commit) -> Result<Option<Answer>, TantivyError>
-        ensures answer { O.tells → (s : State) → Holds (O.reads self.old.1) self.old.0 s → AllByRecursion IsSegment commit.now.segments → IfOk result (λ refusal. refusal ≡ option_map unsealed_line (first_unsealed s commit.now.segments)) }
-        ensures room { IfOk result (λ refusal. IfSome refusal (λ answer. length answer < O.room self.new.1)) }
-        ensures asks { Asks O.Directory self.old self.new }
-        ensures faults { Faults O.Directory self.old self.new result }
+        ensures answer { O.told.content → (s : State) → Holds (O.view self.old.1).reads self.old.0 s
+            → AllByRecursion IsSegment commit.now.segments
+            → IfOk result (λ refusal. refusal ≡ option_map unsealed_line
+            (first_unsealed s commit.now.segments)) }
+        ensures room { IfOk result (λ refusal. IfSome refusal
+            (λ answer. length answer < (O.view self.new.1).room)) }
+        ensures faults { EventFaults ⊥ (O.view self.old.1) (O.view self.new.1) result }
+        ensures frame { Asks (OnlyReads O.told) O.view self.old self.new }
     {
         let names = required_files(self.alloc, commit.by_id())?;
         self.refuse_first(names.as_slice())
@@ -310,15 +326,13 @@ impl<O: Outside> Store<O> {
     // Makes this commit the current one, whose text this is.
     fn publish(&mut self, commit: Commit, text: &[u8]) -> Result<(), TantivyError>
         requires { self.old.0.next < 18446744073709551615 }
-        ensures kept { OnOk result (self.new.0 ≡ record self.old.0 { next = self.old.0.next + 1; commit = commit; managed = insert_key byte_cmp self.old.0.managed meta_name }) }
-        ensures saved { O.tells → OnOk result (O.reads self.new.1 meta_name ≡ Some text.now) }
-        ensures others { O.tells → KeepsOtherFiles (O.reads self.old.1) (O.reads self.new.1) meta_name }
-        ensures list { O.tells → Lists (O.reads self.old.1 list_name) self.old.0.managed → OnOk result (Lists (O.reads self.new.1 list_name) self.new.0.managed) }
-        ensures meta { O.tells → OnErr result ((O.reads self.new.1 meta_name ≡ Some text.now) ⊎ (O.reads self.new.1 meta_name ≡ O.reads self.old.1 meta_name)) }
-        ensures memory { O.tells → IfErr result (λ error. error ≡ TantivyError.Memory → O.reads self.new.1 meta_name ≡ O.reads self.old.1 meta_name) }
-        ensures room { O.room self.old.1 ≤ O.room self.new.1 }
-        ensures faults { Faults O.Directory self.old self.new result }
-        ensures rest { KeepsRest O.Directory self.old self.new }
+        ensures published { OnOk result (Publishes O.Directory self.old self.new commit text.now) }
+        ensures others { O.told.content → KeepsOtherFiles (O.view self.old.1).reads
+            (O.view self.new.1).reads meta_name }
+        ensures leaves { LeavesText O.Directory self.old.1 self.new.1 text.now result }
+        ensures room { (O.view self.old.1).room ≤ (O.view self.new.1).room }
+        ensures faults { EventFaults ⊥ (O.view self.old.1) (O.view self.new.1) result }
+        ensures frame { KeepsRest O.told O.view self.old self.new }
     {
         self.files.save_meta(text)?;
         self.commit = commit;
@@ -332,7 +346,8 @@ impl<O: Outside> Store<O> {
         payload: &Option<Text>,
         ids: &IdList,
     ) -> Result<Answer, TantivyError>
-        ensures { Commits O.Directory (Unit {0}) self.old self.new (λ s. commit_step s payload.now ids.now) result }
+        ensures { Commits O.Directory (Unit {0}) self.old self.new
+            (λ s. commit_step s payload.now ids.now) result }
     {
         if self.next == Opstamp::MAX {
             return self.refuse("stamps-spent");
@@ -351,7 +366,9 @@ impl<O: Outside> Store<O> {
         segments: BTreeMap<SegmentId, LiveSegment>,
     ) -> Result<Answer, TantivyError>
         requires { self.old.0.next < 18446744073709551615 }
-        ensures { Commits O.Directory (AllByRecursion IsSegment segments.entries) self.old self.new (λ s. commit_sealed s payload.now segments.entries (first_unsealed s segments.entries)) result }
+        ensures { Commits O.Directory (AllByRecursion IsSegment segments.entries) self.old self.new
+            (λ s. commit_sealed s payload.now segments.entries (first_unsealed s segments.entries))
+            result }
     {
         let commit = new_commit(self.alloc, self.next, payload, segments)?;
         let text = commit.print(self.alloc, self.schema.as_slice())?;
@@ -362,7 +379,9 @@ impl<O: Outside> Store<O> {
     // device is asked.
     fn commit_printed(&mut self, commit: Commit, text: &[u8]) -> Result<Answer, TantivyError>
         requires { self.old.0.next < 18446744073709551615 }
-        ensures { Commits O.Directory (IsPrinted self.old.0 commit text.now) self.old self.new (λ s. commit_sealed s commit.payload commit.segments (first_unsealed s commit.segments)) result }
+        ensures { Commits O.Directory (IsPrinted self.old.0 commit text.now) self.old self.new
+            (λ s. commit_sealed s commit.payload commit.segments
+            (first_unsealed s commit.segments)) result }
     {
         let answer = self.ready_for_either(&commit)?;
         if let Some(refusal) = self.refusal_of(&commit)? {
@@ -379,8 +398,10 @@ impl<O: Outside> Store<O> {
         answer: Answer,
     ) -> Result<Answer, TantivyError>
         requires next { self.old.0.next < 18446744073709551615 }
-        requires room { length answer < O.room self.old.1 }
-        ensures { Commits O.Directory (IsPrinted self.old.0 commit text.now × (answer ≡ commit_line commit.opstamp commit.segments)) self.old self.new (λ s. commit_sealed s commit.payload commit.segments None) result }
+        requires room { length answer < (O.view self.old.1).room }
+        ensures { Commits O.Directory (IsPrinted self.old.0 commit text.now
+            × (answer ≡ commit_line commit.opstamp commit.segments))
+            self.old self.new (λ s. commit_sealed s commit.payload commit.segments None) result }
     {
         self.publish(commit, text)?;
         Ok(answer)

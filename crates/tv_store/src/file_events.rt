@@ -1,16 +1,16 @@
 //! The events on files.
-ghost use Rattle.std.specs.Prelude.{◌≡◌, ◌≤◌, ◌<◌, ◌+◌, ◌^◌, ◌&&◌, [], ◌∷◌, ℕ, true, not, nat_lt, length, codes, option_map, IfOk, IfErr, OnOk, OnErr};
+ghost use Rattle.std.specs.Prelude.{◌≡◌, ◌<◌, ◌+◌, ◌&&◌, [], ◌∷◌, ℕ, true, not, nat_lt, length, codes, option_map, IfOk};
 ghost use Rattle.std.specs.Fmt.{decimal};
-ghost use Rattle.tv_model.specs.Names.{is_plain, meta_name};
-ghost use Rattle.tv_model.specs.Files.{Rose};
+ghost use Rattle.tv_model.specs.Names.{is_plain};
 ghost use Rattle.tv_model.specs.Segments.{name_of, is_delete, num_deleted};
 ghost use Rattle.tv_model.specs.Index.{IsFileOf};
-ghost use Rattle.tv_model.specs.State.{State, at};
+ghost use Rattle.tv_model.specs.State.{at};
 ghost use Rattle.tv_model.specs.Lines.{line, has_no_feed};
-ghost use Rattle.tv_store.specs.Kept.{Holds, AtMost};
-ghost use Rattle.tv_store.specs.Stays.{Stays};
-ghost use Rattle.tv_store.specs.StoreCauses.{EventCause};
 ghost use Rattle.tv_model.specs.FileEvents.{open_step, write_step, seal_step};
+ghost use Rattle.tv_directory.specs.View.{Kept};
+ghost use Rattle.tv_store.specs.Kept.{AtMost, BytesSpent};
+ghost use Rattle.tv_store.specs.Acting.{StepsTo, KeepsMeta};
+ghost use Rattle.tv_store.specs.Stays.{KeepsReaders, EventFaults};
 
 use crate::store::Store;
 use std::alloc::Global;
@@ -73,15 +73,13 @@ impl<O: Outside> Store<O> {
         id: SegmentId,
         component: SegmentComponent,
     ) -> Result<Answer, TantivyError>
-        ensures step { O.tells → (s : State) → Holds (O.reads self.old.1) self.old.0 s → IfOk result (λ answer. (answer ≡ (open_step s id component).0) × Holds (O.reads self.new.1) self.new.0 (open_step s id component).1) }
-        ensures room { IfOk result (λ answer. length answer < O.room self.new.1) }
-        ensures stays { Stays O.Directory self.old self.new }
+        ensures step { StepsTo O.Directory self.old self.new
+            (λ s. open_step s id component) result }
+        ensures room { IfOk result (λ answer. length answer < (O.view self.new.1).room) }
         ensures lens { (bound : ℕ) → AtMost bound self.old.0 → AtMost bound self.new.0 }
-        ensures quiet { OnOk result (O.faults self.new.1 ≡ O.faults self.old.1) }
-        ensures cause { IfErr result (EventCause (Rose (O.faults self.old.1) (O.faults self.new.1)) (O.faults self.new.1 ≡ O.faults self.old.1) ⊥) }
-        ensures meta { O.tells → OnErr result (O.reads self.new.1 meta_name ≡ O.reads self.old.1 meta_name) }
-        ensures refusals { O.refusals self.new.1 ≡ O.refusals self.old.1 }
-        ensures reading { self.new.0.reading ≡ self.old.0.reading }
+        ensures faults { EventFaults ⊥ (O.view self.old.1) (O.view self.new.1) result }
+        ensures meta { KeepsMeta O.Directory self.old self.new result }
+        ensures frame { KeepsReaders (Kept O.told) O.view self.old self.new }
     {
         let Some(segment) = self.live_segment(id) else {
             return self.refuse("unknown-segment");
@@ -106,15 +104,15 @@ impl<O: Outside> Store<O> {
         component: SegmentComponent,
         bytes: &Blob,
     ) -> Result<Answer, TantivyError>
-        ensures step { O.tells → (s : State) → Holds (O.reads self.old.1) self.old.0 s → IfOk result (λ answer. (answer ≡ (write_step s id component bytes.now).0) × Holds (O.reads self.new.1) self.new.0 (write_step s id component bytes.now).1) }
-        ensures room { IfOk result (λ answer. length answer < O.room self.new.1) }
-        ensures stays { Stays O.Directory self.old self.new }
-        ensures lens { (bound : ℕ) → AtMost bound self.old.0 → AtMost (bound + length bytes.now) self.new.0 }
-        ensures quiet { OnOk result (O.faults self.new.1 ≡ O.faults self.old.1) }
-        ensures cause { IfErr result (EventCause (Rose (O.faults self.old.1) (O.faults self.new.1)) (O.faults self.new.1 ≡ O.faults self.old.1) ((bound : ℕ) → AtMost bound self.old.0 → 2 ^ 64 ≤ bound + length bytes.now)) }
-        ensures meta { O.tells → OnErr result (O.reads self.new.1 meta_name ≡ O.reads self.old.1 meta_name) }
-        ensures refusals { O.refusals self.new.1 ≡ O.refusals self.old.1 }
-        ensures reading { self.new.0.reading ≡ self.old.0.reading }
+        ensures step { StepsTo O.Directory self.old self.new
+            (λ s. write_step s id component bytes.now) result }
+        ensures room { IfOk result (λ answer. length answer < (O.view self.new.1).room) }
+        ensures lens { (bound : ℕ) → AtMost bound self.old.0
+            → AtMost (bound + length bytes.now) self.new.0 }
+        ensures faults { EventFaults (BytesSpent self.old.0 (length bytes.now))
+            (O.view self.old.1) (O.view self.new.1) result }
+        ensures meta { KeepsMeta O.Directory self.old self.new result }
+        ensures frame { KeepsReaders (Kept O.told) O.view self.old self.new }
     {
         let Some(segment) = self.live_segment(id) else {
             return self.refuse("unknown-segment");
@@ -139,15 +137,13 @@ impl<O: Outside> Store<O> {
         id: SegmentId,
         component: SegmentComponent,
     ) -> Result<Answer, TantivyError>
-        ensures step { O.tells → (s : State) → Holds (O.reads self.old.1) self.old.0 s → IfOk result (λ answer. (answer ≡ (seal_step s id component).0) × Holds (O.reads self.new.1) self.new.0 (seal_step s id component).1) }
-        ensures room { IfOk result (λ answer. length answer < O.room self.new.1) }
-        ensures stays { Stays O.Directory self.old self.new }
+        ensures step { StepsTo O.Directory self.old self.new
+            (λ s. seal_step s id component) result }
+        ensures room { IfOk result (λ answer. length answer < (O.view self.new.1).room) }
         ensures lens { (bound : ℕ) → AtMost bound self.old.0 → AtMost bound self.new.0 }
-        ensures quiet { OnOk result (O.faults self.new.1 ≡ O.faults self.old.1) }
-        ensures cause { IfErr result (EventCause (Rose (O.faults self.old.1) (O.faults self.new.1)) (O.faults self.new.1 ≡ O.faults self.old.1) ⊥) }
-        ensures meta { O.tells → OnErr result (O.reads self.new.1 meta_name ≡ O.reads self.old.1 meta_name) }
-        ensures refusals { O.refusals self.new.1 ≡ O.refusals self.old.1 }
-        ensures reading { self.new.0.reading ≡ self.old.0.reading }
+        ensures faults { EventFaults ⊥ (O.view self.old.1) (O.view self.new.1) result }
+        ensures meta { KeepsMeta O.Directory self.old self.new result }
+        ensures frame { KeepsReaders (Kept O.told) O.view self.old self.new }
     {
         let Some(segment) = self.live_segment(id) else {
             return self.refuse("unknown-segment");

@@ -1,27 +1,21 @@
 //! The files of an index: a managed directory, and the writers of the files that are open.
-ghost use Rattle.std.specs.Prelude.{◌≡◌, ◌≢◌, ◌⊎◌, ◌≤◌, ◌<◌, ◌+◌, ◌^◌, ◌++◌, [], List, ℕ, true, false, length, Option, Some, None, IsSome, is_some, cond, option_map, Contains, IfOk, IfErr, OnOk, OnErr, map, string_bytes};
+ghost use Rattle.std.specs.Prelude.{◌≡◌, ◌≢◌, ◌≤◌, ◌<◌, ◌+◌, ◌^◌, ◌++◌, [], List, ℕ, true, false, length, Option, Some, None, IsSome, is_some, cond, option_map, Contains, IfOk, OnOk, OnErr, map, string_bytes};
 ghost use Rattle.std.specs.List.{list_all, AllByRecursion};
 ghost use Rattle.std.specs.Map.{remove_entry};
 ghost use Rattle.std.specs.BTreeMap.{is_at, insert_entry};
-ghost use Rattle.std.specs.BTreeSet.{insert_key};
 ghost use Rattle.tv_model.specs.Names.{byte_cmp, has, is_plain, is_file_name, list_name, meta_name};
 ghost use Rattle.tv_model.specs.Footer.{sealed};
 ghost use Rattle.tv_model.specs.Listing.{Lists};
-ghost use Rattle.tv_model.specs.Files.{Same, Sets, KeepsOthers, Rose};
+ghost use Rattle.tv_model.specs.Files.{Sets, KeepsOthers};
 ghost use Rattle.tv_model.specs.State.{at};
 ghost use Rattle.tv_model.specs.Lines.{has_no_feed};
-ghost use Rattle.tv_base.specs.Causes.{IsDevice};
-ghost use Rattle.tv_managed.specs.Managed.{KeepsOtherFiles, Makes};
-ghost use Rattle.tv_model.specs.Collections.{collectable};
-ghost use Rattle.tv_managed.specs.Collecting.{meta_lock_name, Tries, FailsAtMost};
-ghost use Rattle.tv_managed.specs.Writers.{IsSummed};
-ghost use Rattle.tv_directory.specs.Locks.{FreesLock, LockCause, SameLocks, TakesLock};
-ghost use Rattle.tv_store.specs.ReadCauses.{ApplyCause};
+ghost use Rattle.tv_directory.specs.Calls.{DeviceFaults, LockFaults, Acquires, TellsLineTo};
+ghost use Rattle.tv_directory.specs.Locks.{FreesLock};
+ghost use Rattle.tv_directory.specs.View.{Kept, OnlyReads, OnlyLocks, OnlyTells, MayDelete};
+ghost use Rattle.tv_managed.specs.Managed.{KeepsOtherFiles};
 ghost use Rattle.tv_managed.specs.Reading.{ReadsBody};
-ghost use Rattle.tv_store.specs.Bodies.{RefusesAt};
-ghost use Rattle.tv_store.specs.StoreCauses.{EventCause, IsBusy, LockingCause, MakesNoFile};
-ghost use Rattle.tv_store.specs.Telling.{TellsLine, TellsNoLine};
-ghost use Rattle.tv_store.specs.Untold.{Undisturbed, Untold};
+ghost use Rattle.tv_store.specs.FileCalls.{Asked, OpensFile, FindsFile, ReadBodyFaults, Collects, GcFaults, SavesMeta, LeavesText, KeepsOpenFiles};
+ghost use Rattle.tv_store.specs.Stays.{KeepsManaged, KeepsFiles, EventFaults, Faults};
 
 use std::alloc::Global;
 use std::collections::{BTreeMap, BTreeSet};
@@ -57,14 +51,19 @@ pub(crate) struct Files<O: Outside> {
 impl<O: Outside> Model for Files<O> {
     ghost use Rattle.std.specs.Prelude.{List, ℕ, map};
     ghost use Rattle.std.specs.List.{AllByRecursion};
-    ghost use Rattle.tv_managed.specs.Writers.{IsSummed};
     ghost use Rattle.tv_store.specs.OpenFiles.{IsOpenFile};
 
     ghost Value = { O × List (List ℕ) × List (List ℕ × List ℕ) };
 
-    ghost view = { λ a. (a.directory.0, a.directory.1, map (λ e. (e.0, O.written e.1.writer.writer)) a.files.entries) };
+    ghost view = { λ a. (
+      a.directory.0,
+      a.directory.1,
+      map
+          (λ e. (e.0, (O.state_of e.1.writer.writer).written)) a.files.entries,
+    ) };
 
-    ghost invariant = { λ a. AllByRecursion (λ e. IsOpenFile (O.opened a.directory.0) (O.lives a.directory.0) O.name_of O.written e.0 e.1.writer.writer (IsSummed O.written e.1.writer) e.1.len) a.files.entries };
+    ghost invariant = { λ a. AllByRecursion
+        (λ e. IsOpenFile O.Directory a.directory.0 e.0 e.1.writer e.1.len) a.files.entries };
 }
 
 // Names of files, from their texts.
@@ -81,7 +80,8 @@ fn file_names(alloc: Global, texts: Vec<String>) -> Result<Vec<FileName>, Memory
 
 // Takes the entries of these names out of a map.
 fn remove_all<V: Drop>(map: &mut BTreeMap<FileName, V>, names: &[FileName])
-    ensures names { (n : List ℕ) → at map.new.entries n ≡ cond (has names.entry.now n) None (at map.old.entries n) }
+    ensures names { (n : List ℕ) → at map.new.entries n ≡ cond (has names.entry.now n) None
+        (at map.old.entries n) }
     ensures left { AllByRecursion (Contains map.old.entries) map.new.entries }
 {
     for name in names {
@@ -131,30 +131,20 @@ impl<O: Outside> Files<O> {
 
     /// Makes room for a line of this length.
     pub(crate) fn ready(&mut self, len: usize) -> Result<(), Memory>
-        ensures made { OnOk result (len < O.room self.new.0) }
-        ensures content { O.tells → Same (O.reads self.old.0) (O.reads self.new.0) }
-        ensures names { self.new.1 ≡ self.old.1 }
-        ensures open_files { self.new.2 ≡ self.old.2 }
-        ensures quiet { O.faults self.new.0 ≡ O.faults self.old.0 }
-        ensures stays { Undisturbed O.Directory self.old.0 self.new.0 }
+        ensures made { OnOk result (len < (O.view self.new.0).room) }
+        ensures faults { (O.view self.new.0).faults ≡ (O.view self.old.0).faults }
+        ensures frame { KeepsFiles (OnlyReads O.told) O.view self.old self.new }
     {
         self.directory.ready(len)
     }
 
-    /// Tries a line, in the room that was made.
+    /// Tells a line, in the room that was made.
     pub(crate) fn tell(&mut self, line: &[u8]) -> Result<(), IoFault>
-        requires room { length line.now < O.room self.old.0 }
+        requires room { length line.now < (O.view self.old.0).room }
         requires feed { has_no_feed line.now ≡ true }
-        ensures told { O.tells_heard → OnOk result (TellsLine (O.heard self.old.0) (O.heard self.new.0) (O.moment self.old.0) (O.moment self.new.0) line.now) }
-        ensures part { O.tells_heard → OnErr result (TellsNoLine (O.heard self.old.0) (O.heard self.new.0)) }
-        ensures content { O.tells → Same (O.reads self.old.0) (O.reads self.new.0) }
-        ensures names { self.new.1 ≡ self.old.1 }
-        ensures open_files { self.new.2 ≡ self.old.2 }
-        ensures quiet { OnOk result (O.faults self.new.0 ≡ O.faults self.old.0) }
-        ensures cause { IfErr result (λ fault. IsDevice fault × Rose (O.faults self.old.0) (O.faults self.new.0)) }
-        ensures locks { O.tells_locks → SameLocks (O.locks self.old.0) (O.locks self.new.0) }
-        ensures clock { O.moment self.old.0 ≤ O.moment self.new.0 }
-        ensures refusals { O.refusals self.new.0 ≡ O.refusals self.old.0 }
+        ensures tells { TellsLineTo O.told (O.view self.old.0) (O.view self.new.0) line.now result }
+        ensures faults { DeviceFaults (O.view self.old.0) (O.view self.new.0) result }
+        ensures frame { KeepsFiles (OnlyTells O.told) O.view self.old self.new }
     {
         self.directory.tell(line)
     }
@@ -163,46 +153,31 @@ impl<O: Outside> Files<O> {
     pub(crate) fn acquire_lock(&mut self, lock: &Lock) -> Result<DirectoryLock, LockError>
         requires { is_file_name lock.now.filepath.now ≡ true }
         ensures token { IfOk result (λ token. token ≡ lock.now.filepath.now) }
-        ensures taken { O.tells_locks → OnOk result (TakesLock (O.locks self.old.0) (O.locks self.new.0) lock.now.filepath.now) }
-        ensures busy { O.tells_locks → IfErr result (LockCause (O.locks self.old.0 lock.now.filepath.now ≡ true) (Unit {0}) (Unit {0})) }
-        ensures err { O.tells_locks → OnErr result (SameLocks (O.locks self.old.0) (O.locks self.new.0)) }
-        ensures content { O.tells → Same (O.reads self.old.0) (O.reads self.new.0) }
-        ensures names { self.new.1 ≡ self.old.1 }
-        ensures open_files { self.new.2 ≡ self.old.2 }
-        ensures quiet { OnOk result (O.faults self.new.0 ≡ O.faults self.old.0) }
-        ensures cause { IfErr result (LockCause ((O.tells_locks × (O.faults self.new.0 ≡ O.faults self.old.0)) ⊎ Rose (O.faults self.old.0) (O.faults self.new.0)) (Rose (O.faults self.old.0) (O.faults self.new.0)) (O.faults self.new.0 ≡ O.faults self.old.0)) }
-        ensures refusals { O.refusals self.new.0 ≡ O.refusals self.old.0 }
-        ensures clock { O.moment self.old.0 ≤ O.moment self.new.0 }
-        ensures heard { O.heard self.new.0 ≡ O.heard self.old.0 }
-        ensures room { O.room self.old.0 ≤ O.room self.new.0 }
+        ensures acquires { Acquires O.told (O.view self.old.0)
+            (O.view self.new.0) lock.now.filepath.now result }
+        ensures faults { LockFaults O.told (O.view self.old.0)
+            (O.view self.new.0) lock.now.filepath.now result }
+        ensures frame { KeepsFiles (OnlyLocks O.told) O.view self.old self.new }
     {
         self.directory.acquire_lock(lock)
     }
 
     /// Frees a lock. Takes no memory.
     pub(crate) fn release(&mut self, lock: DirectoryLock)
-        ensures freed { O.tells_locks → FreesLock (O.locks self.old.0) (O.locks self.new.0) lock }
-        ensures content { O.tells → Same (O.reads self.old.0) (O.reads self.new.0) }
-        ensures names { self.new.1 ≡ self.old.1 }
-        ensures open_files { self.new.2 ≡ self.old.2 }
-        ensures faults { O.faults self.new.0 ≡ O.faults self.old.0 }
-        ensures refusals { O.refusals self.new.0 ≡ O.refusals self.old.0 }
-        ensures clock { O.moment self.old.0 ≤ O.moment self.new.0 }
-        ensures heard { O.heard self.new.0 ≡ O.heard self.old.0 }
-        ensures room { O.room self.old.0 ≤ O.room self.new.0 }
+        ensures freed { O.told.locks → FreesLock (O.view self.old.0).locks
+            (O.view self.new.0).locks lock }
+        ensures faults { (O.view self.new.0).faults ≡ (O.view self.old.0).faults }
+        ensures frame { KeepsFiles (OnlyLocks O.told) O.view self.old self.new }
     {
         self.directory.release(lock);
     }
 
     /// Whether a file is there and isn't open.
     pub(crate) fn is_sealed(&mut self, name: &FileName) -> Result<bool, TantivyError>
-        ensures answer { O.tells → IfOk result (λ found. (found ≡ true → IsSome (O.reads self.old.0 name.now) × (at self.old.2 name.now ≡ None)) × (found ≡ false → (O.reads self.old.0 name.now ≡ None) ⊎ IsSome (at self.old.2 name.now))) }
-        ensures content { O.tells → Same (O.reads self.old.0) (O.reads self.new.0) }
-        ensures names { self.new.1 ≡ self.old.1 }
-        ensures open_files { self.new.2 ≡ self.old.2 }
-        ensures quiet { OnOk result (O.faults self.new.0 ≡ O.faults self.old.0) }
-        ensures cause { IfErr result (EventCause (Rose (O.faults self.old.0) (O.faults self.new.0)) (O.faults self.new.0 ≡ O.faults self.old.0) ⊥) }
-        ensures stays { Undisturbed O.Directory self.old.0 self.new.0 }
+        ensures answer { O.told.content → IfOk result (Asked ((O.view self.old.0).reads name.now)
+            (at self.old.2 name.now)) }
+        ensures faults { EventFaults ⊥ (O.view self.old.0) (O.view self.new.0) result }
+        ensures frame { KeepsFiles (OnlyReads O.told) O.view self.old self.new }
     {
         if self.files.contains_key(name) {
             return Ok(false);
@@ -219,16 +194,15 @@ impl<O: Outside> Files<O> {
     /// Makes an empty file, unless the name reads.
     pub(crate) fn open(&mut self, name: FileName) -> Result<bool, TantivyError>
         requires { is_plain name ≡ true }
-        ensures made { IfOk result (λ made. made ≡ true → (self.new.1 ≡ insert_key byte_cmp self.old.1 name) × (self.new.2 ≡ insert_entry byte_cmp self.old.2 name [])) }
-        ensures reads { O.tells → IfOk result (λ made. made ≡ true → Makes (O.reads self.old.0) (O.reads self.new.0) name) }
-        ensures others { O.tells → KeepsOtherFiles (O.reads self.old.0) (O.reads self.new.0) name }
-        ensures list { O.tells → Lists (O.reads self.old.0 list_name) self.old.1 → IfOk result (λ made. made ≡ true → Lists (O.reads self.new.0 list_name) self.new.1) }
-        ensures there { IfOk result (λ made. made ≡ false → self.new.2 ≡ self.old.2) }
-        ensures same { O.tells → IfOk result (λ made. made ≡ false → IsSome (O.reads self.old.0 name) × Same (O.reads self.old.0) (O.reads self.new.0) × (self.new.1 ≡ self.old.1)) }
-        ensures lens { OnErr result (self.new.2 ≡ self.old.2) }
-        ensures quiet { OnOk result (O.faults self.new.0 ≡ O.faults self.old.0) }
-        ensures cause { IfErr result (EventCause (Rose (O.faults self.old.0) (O.faults self.new.0)) (O.faults self.new.0 ≡ O.faults self.old.0) ⊥) }
-        ensures stays { Undisturbed O.Directory self.old.0 self.new.0 }
+        ensures opened { IfOk result (λ made. made ≡ true
+            → OpensFile O.Directory self.old self.new name) }
+        ensures found { IfOk result (λ made. made ≡ false
+            → FindsFile O.Directory self.old self.new name) }
+        ensures others { O.told.content → KeepsOtherFiles (O.view self.old.0).reads
+            (O.view self.new.0).reads name }
+        ensures kept { OnErr result (self.new.2 ≡ self.old.2) }
+        ensures faults { EventFaults ⊥ (O.view self.old.0) (O.view self.new.0) result }
+        ensures frame { Kept O.told (O.view self.old.0) (O.view self.new.0) }
     {
         let writer = match self.directory.open_write(name.as_str()) {
             Ok(writer) => writer,
@@ -242,15 +216,18 @@ impl<O: Outside> Files<O> {
     /// Adds bytes to an open file.
     pub(crate) fn write(&mut self, name: FileName, bytes: &[u8]) -> Result<(), TantivyError>
         requires is_open { IsSome (at self.old.2 name) }
-        requires fits { (body : List ℕ) → at self.old.2 name ≡ Some body → length body + length bytes.now < 2 ^ 64 }
-        ensures written { (body : List ℕ) → at self.old.2 name ≡ Some body → OnOk result (self.new.2 ≡ insert_entry byte_cmp (remove_entry (is_at (byte_cmp name)) self.old.2) name (body ++ bytes.now)) }
-        ensures reads { O.tells → KeepsOthers (O.reads self.old.0) (O.reads self.new.0) name }
-        ensures there { O.tells → OnOk result (IsSome (O.reads self.new.0 name)) }
-        ensures names { self.new.1 ≡ self.old.1 }
-        ensures lens { OnErr result (self.new.2 ≡ remove_entry (is_at (byte_cmp name)) self.old.2) }
-        ensures quiet { OnOk result (O.faults self.new.0 ≡ O.faults self.old.0) }
-        ensures cause { IfErr result (EventCause (Rose (O.faults self.old.0) (O.faults self.new.0)) (O.faults self.new.0 ≡ O.faults self.old.0) ⊥) }
-        ensures stays { Undisturbed O.Directory self.old.0 self.new.0 }
+        requires fits { (body : List ℕ) → at self.old.2 name ≡ Some body
+            → length body + length bytes.now < 2 ^ 64 }
+        ensures written { (body : List ℕ) → at self.old.2 name ≡ Some body
+            → OnOk result (self.new.2 ≡ insert_entry byte_cmp
+            (remove_entry (is_at (byte_cmp name)) self.old.2) name (body ++ bytes.now)) }
+        ensures closed { OnErr result (self.new.2
+            ≡ remove_entry (is_at (byte_cmp name)) self.old.2) }
+        ensures others { O.told.content → KeepsOthers (O.view self.old.0).reads
+            (O.view self.new.0).reads name }
+        ensures there { O.told.content → OnOk result (IsSome ((O.view self.new.0).reads name)) }
+        ensures faults { EventFaults ⊥ (O.view self.old.0) (O.view self.new.0) result }
+        ensures frame { KeepsManaged (Kept O.told) O.view self.old self.new }
     {
         let Some(file) = self.files.remove(&name) else {
             unreachable!()
@@ -265,14 +242,15 @@ impl<O: Outside> Files<O> {
     /// Seals an open file.
     pub(crate) fn seal(&mut self, name: &FileName) -> Result<(), TantivyError>
         requires { IsSome (at self.old.2 name.now) }
-        ensures sealed { O.tells → (body : List ℕ) → at self.old.2 name.now ≡ Some body → OnOk result (Sets (O.reads self.old.0) (O.reads self.new.0) name.now (Some (sealed body))) }
-        ensures others { O.tells → KeepsOthers (O.reads self.old.0) (O.reads self.new.0) name.now }
+        ensures sealed { O.told.content → (body : List ℕ) → at self.old.2 name.now ≡ Some body
+            → OnOk result (Sets (O.view self.old.0).reads (O.view self.new.0).reads name.now
+            (Some (sealed body))) }
+        ensures others { O.told.content → KeepsOthers (O.view self.old.0).reads
+            (O.view self.new.0).reads name.now }
         ensures open_files { self.new.2 ≡ remove_entry (is_at (byte_cmp name.now)) self.old.2 }
         ensures closed { at self.new.2 name.now ≡ None }
-        ensures names { self.new.1 ≡ self.old.1 }
-        ensures quiet { OnOk result (O.faults self.new.0 ≡ O.faults self.old.0) }
-        ensures cause { IfErr result (EventCause (Rose (O.faults self.old.0) (O.faults self.new.0)) (O.faults self.new.0 ≡ O.faults self.old.0) ⊥) }
-        ensures stays { Undisturbed O.Directory self.old.0 self.new.0 }
+        ensures faults { EventFaults ⊥ (O.view self.old.0) (O.view self.new.0) result }
+        ensures frame { KeepsManaged (Kept O.told) O.view self.old self.new }
     {
         let Some(file) = self.files.remove(name) else {
             unreachable!()
@@ -295,13 +273,10 @@ impl<O: Outside> Files<O> {
 
     /// The body of a sealed file.
     pub(crate) fn open_read(&mut self, name: &FileName) -> Result<FileSlice, TantivyError>
-        ensures body { O.tells → IfOk result (λ body. ReadsBody (O.reads self.old.0 name.now) body) }
-        ensures content { O.tells → Same (O.reads self.old.0) (O.reads self.new.0) }
-        ensures names { self.new.1 ≡ self.old.1 }
-        ensures open_files { self.new.2 ≡ self.old.2 }
-        ensures quiet { OnOk result (O.faults self.new.0 ≡ O.faults self.old.0) }
-        ensures cause { IfErr result (ApplyCause ⊥ (Rose (O.faults self.old.0) (O.faults self.new.0)) (O.faults self.new.0 ≡ O.faults self.old.0) ⊥ (λ error. O.tells → RefusesAt (O.reads self.old.0) name.now error) (λ path. (path ≡ name.now) × (O.tells → O.reads self.old.0 path ≡ None))) }
-        ensures stays { Undisturbed O.Directory self.old.0 self.new.0 }
+        ensures body { O.told.content → IfOk result
+            (ReadsBody ((O.view self.old.0).reads name.now)) }
+        ensures faults { ReadBodyFaults O.Directory self.old.0 self.new.0 name.now result }
+        ensures frame { KeepsFiles (OnlyReads O.told) O.view self.old self.new }
     {
         let body = self.directory.open_read(name.as_str())?;
         Ok(body)
@@ -313,17 +288,18 @@ impl<O: Outside> Files<O> {
         alloc: Global,
         living: BTreeSet<String>,
     ) -> Result<Collected, TantivyError>
-        ensures told { IfOk result (λ c. Tries (collectable (map string_bytes living.keys) self.old.1) self.old.1 self.new.1 c.deleted.items c.failed.items O.tells (O.reads self.old.0) (O.reads self.new.0)) }
+        ensures collects { IfOk result (λ c. Collects O.Directory
+            (map string_bytes living.keys) self.old self.new c.deleted.items c.failed.items) }
         // What is living reads what it read.
-        ensures spared { O.tells → (n : List ℕ) → has (map string_bytes living.keys) n ≡ true → n ≢ list_name → O.reads self.new.0 n ≡ O.reads self.old.0 n }
-        ensures counted { IfOk result (λ c. FailsAtMost (length c.failed.items) (O.refusals self.old.0) (O.refusals self.new.0)) }
-        ensures list { O.tells → Lists (O.reads self.old.0 list_name) self.old.1 → OnOk result (Lists (O.reads self.new.0 list_name) self.new.1) }
-        ensures open_files { IfOk result (λ c. (n : List ℕ) → at self.new.2 n ≡ cond (has c.deleted.items n) None (at self.old.2 n)) }
-        ensures lens { (bound : ℕ) → AllByRecursion (λ e. length e.1 ≤ bound) self.old.2 → AllByRecursion (λ e. length e.1 ≤ bound) self.new.2 }
-        ensures quiet { OnOk result (O.faults self.new.0 ≡ O.faults self.old.0) }
-        ensures free { O.tells_locks → OnOk result (O.locks self.old.0 meta_lock_name ≡ false) }
-        ensures cause { IfErr result (LockingCause (IsBusy O.tells_locks (O.locks self.old.0 meta_lock_name ≡ true) (Rose (O.faults self.old.0) (O.faults self.new.0))) (Rose (O.faults self.old.0) (O.faults self.new.0)) (O.faults self.new.0 ≡ O.faults self.old.0) ⊥) }
-        ensures stays { Untold O.Directory self.old.0 self.new.0 }
+        ensures spared { O.told.content → (n : List ℕ) → has (map string_bytes living.keys) n ≡ true
+            → n ≢ list_name
+            → (O.view self.new.0).reads n ≡ (O.view self.old.0).reads n }
+        ensures list { O.told.content → Lists ((O.view self.old.0).reads list_name) self.old.1
+            → OnOk result (Lists ((O.view self.new.0).reads list_name) self.new.1) }
+        ensures lens { (bound : ℕ) → AllByRecursion (λ e. length e.1 ≤ bound) self.old.2
+            → AllByRecursion (λ e. length e.1 ≤ bound) self.new.2 }
+        ensures faults { GcFaults O.Directory self.old.0 self.new.0 result }
+        ensures frame { MayDelete O.told (O.view self.old.0) (O.view self.new.0) }
     {
         // A contract learns from the managed names that they are plain.
         let _names = self.directory.list_managed_files();
@@ -340,17 +316,12 @@ impl<O: Outside> Files<O> {
     /// Makes these bytes the text of `meta.json`: what was written before is kept by then, and the
     /// text is kept afterwards.
     pub(crate) fn save_meta(&mut self, text: &[u8]) -> Result<(), TantivyError>
-        ensures saved { O.tells → OnOk result (O.reads self.new.0 meta_name ≡ Some text.now) }
-        ensures others { O.tells → KeepsOtherFiles (O.reads self.old.0) (O.reads self.new.0) meta_name }
-        ensures list { O.tells → Lists (O.reads self.old.0 list_name) self.old.1 → OnOk result (Lists (O.reads self.new.0 list_name) self.new.1) }
-        ensures names { OnOk result (self.new.1 ≡ insert_key byte_cmp self.old.1 meta_name) }
-        ensures open_files { self.new.2 ≡ self.old.2 }
-        ensures quiet { OnOk result (O.faults self.new.0 ≡ O.faults self.old.0) }
-        ensures cause { IfErr result (EventCause (Rose (O.faults self.old.0) (O.faults self.new.0)) (O.faults self.new.0 ≡ O.faults self.old.0) ⊥) }
-        ensures either { O.tells → OnErr result ((O.reads self.new.0 meta_name ≡ Some text.now) ⊎ (O.reads self.new.0 meta_name ≡ O.reads self.old.0 meta_name)) }
-        ensures memory { O.tells → IfErr result (λ error. error ≡ TantivyError.Memory → O.reads self.new.0 meta_name ≡ O.reads self.old.0 meta_name) }
-        ensures file { IfErr result MakesNoFile }
-        ensures stays { Undisturbed O.Directory self.old.0 self.new.0 }
+        ensures saves { OnOk result (SavesMeta O.Directory self.old self.new text.now) }
+        ensures others { O.told.content → KeepsOtherFiles (O.view self.old.0).reads
+            (O.view self.new.0).reads meta_name }
+        ensures leaves { LeavesText O.Directory self.old.0 self.new.0 text.now result }
+        ensures faults { Faults (O.view self.old.0) (O.view self.new.0) result }
+        ensures frame { KeepsOpenFiles O.told O.view self.old self.new }
     {
         self.directory.sync_directory()?;
         self.directory.atomic_write(META_FILEPATH, text)?;

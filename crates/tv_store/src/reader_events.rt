@@ -1,7 +1,6 @@
 //! The events of readers.
-ghost use Rattle.std.specs.Prelude.{◌≡◌, ◌≤◌, ◌<◌, ◌+◌, ◌^◌, [], ◌∷◌, ℕ, true, false, length, None, IsSome, IfOk, IfErr, OnOk, OnErr};
+ghost use Rattle.std.specs.Prelude.{◌≡◌, ◌<◌, ◌+◌, [], ◌∷◌, ℕ, true, length, IsSome, IfOk, OnOk};
 ghost use Rattle.std.specs.Fmt.{decimal};
-ghost use Rattle.tv_model.specs.Files.{Rose};
 ghost use Rattle.tv_model.specs.Lines.{line, has_no_feed};
 ghost use Rattle.tv_model.specs.Segments.{required_names};
 ghost use Rattle.tv_model.specs.State.{State, at_number, reader_at};
@@ -9,16 +8,15 @@ ghost use Rattle.tv_model.specs.declared.event.Event.TheVariants as events;
 ghost use Rattle.tv_model.specs.SoundStates.{IsWhole};
 ghost use Rattle.tv_model.specs.Readable.{CanRead};
 ghost use Rattle.tv_model.specs.ReaderEvents.{snapshot_in, reader_step, reload_step, release_reader_step};
-ghost use Rattle.tv_managed.specs.Collecting.{meta_lock_name};
+ghost use Rattle.tv_directory.specs.View.{OnlyReads};
 ghost use Rattle.tv_managed.specs.Reading.{ReadsBody};
-ghost use Rattle.tv_store.specs.Bodies.{RefusesAt, AreBodies, AreSealed, ReadsSegment, FailsAt};
+ghost use Rattle.tv_store.specs.Acting.{StepsTo, StepsReading};
+ghost use Rattle.tv_store.specs.Bodies.{AreBodies, AreSealed, ReadsSegment};
+ghost use Rattle.tv_store.specs.FileCalls.{ReadBodyFaults};
 ghost use Rattle.tv_store.specs.Kept.{Holds, AtMost};
-ghost use Rattle.tv_store.specs.ReaderNumbers.{FewNumbers};
-ghost use Rattle.tv_store.specs.Applying.{LacksIn, BadIn, HoldsNone};
-ghost use Rattle.tv_store.specs.ReadCauses.{ApplyCause};
-ghost use Rattle.tv_store.specs.Stays.{Asks, Stays};
-ghost use Rattle.tv_store.specs.StoreCauses.{EventCause, IsBusy};
-ghost use Rattle.tv_model.specs.Names.{meta_name};
+ghost use Rattle.tv_store.specs.ReaderNumbers.{FewNumbers, NumbersSpent};
+ghost use Rattle.tv_store.specs.SnapshotCalls.{BodiesFaults, CommitFaults, SnapshotFaults, ReadingFaults};
+ghost use Rattle.tv_store.specs.Stays.{Asks, Stays, EventFaults};
 
 use crate::commit_events::required_of;
 use crate::snapshot::{SegmentReader, Snapshot};
@@ -37,7 +35,8 @@ fn shown_line(
     opstamp: Opstamp,
 ) -> Result<Answer, Memory>
     requires { has_no_feed word.now ≡ true }
-    ensures { IfOk result (λ answer. answer ≡ line word.now (decimal number ∷ decimal generation ∷ decimal opstamp ∷ [])) }
+    ensures { IfOk result (λ answer. answer
+        ≡ line word.now (decimal number ∷ decimal generation ∷ decimal opstamp ∷ [])) }
 {
     Answer::new(alloc, word)?
         .number(number)?
@@ -48,10 +47,10 @@ fn shown_line(
 impl<O: Outside> Store<O> {
     // The body of a sealed file.
     fn read_body(&mut self, name: &FileName) -> Result<FileSlice, TantivyError>
-        ensures body { O.tells → IfOk result (λ body. ReadsBody (O.reads self.old.1 name.now) body) }
-        ensures asks { Asks O.Directory self.old self.new }
-        ensures quiet { OnOk result (O.faults self.new.1 ≡ O.faults self.old.1) }
-        ensures cause { IfErr result (ApplyCause ⊥ (Rose (O.faults self.old.1) (O.faults self.new.1)) (O.faults self.new.1 ≡ O.faults self.old.1) ⊥ (λ error. O.tells → RefusesAt (O.reads self.old.1) name.now error) (λ path. (path ≡ name.now) × (O.tells → O.reads self.old.1 path ≡ None))) }
+        ensures body { O.told.content → IfOk result
+            (ReadsBody ((O.view self.old.1).reads name.now)) }
+        ensures faults { ReadBodyFaults O.Directory self.old.1 self.new.1 name.now result }
+        ensures frame { Asks (OnlyReads O.told) O.view self.old self.new }
     {
         let body = self.files.open_read(name)?;
         Ok(body)
@@ -59,10 +58,11 @@ impl<O: Outside> Store<O> {
 
     // The bodies of some sealed files, in their order.
     fn read_bodies(&mut self, names: &[FileName]) -> Result<Vec<FileSlice>, TantivyError>
-        ensures bodies { O.tells → (s : State) → Holds (O.reads self.old.1) self.old.0 s → AreSealed s names.entry.now → IfOk result (λ bodies. AreBodies s names.entry.now bodies.items) }
-        ensures asks { Asks O.Directory self.old self.new }
-        ensures quiet { OnOk result (O.faults self.new.1 ≡ O.faults self.old.1) }
-        ensures cause { IfErr result (FailsAt O.tells (O.reads self.old.1) names.entry.now (Rose (O.faults self.old.1) (O.faults self.new.1)) (O.faults self.new.1 ≡ O.faults self.old.1)) }
+        ensures bodies { O.told.content → (s : State) → Holds (O.view self.old.1).reads self.old.0 s
+            → AreSealed s names.entry.now
+            → IfOk result (λ bodies. AreBodies s names.entry.now bodies.items) }
+        ensures faults { BodiesFaults O.Directory self.old.1 self.new.1 names.entry.now result }
+        ensures frame { Asks (OnlyReads O.told) O.view self.old self.new }
     {
         let mut bodies = Vec::new(self.alloc);
         for name in names {
@@ -78,10 +78,13 @@ impl<O: Outside> Store<O> {
         id: SegmentId,
         segment: LiveSegment,
     ) -> Result<SegmentReader, TantivyError>
-        ensures reader { O.tells → (s : State) → Holds (O.reads self.old.1) self.old.0 s → AreSealed s (required_names id segment) → IfOk result (λ reader. ReadsSegment s id segment reader.id reader.segment reader.bodies.items) }
-        ensures asks { Asks O.Directory self.old self.new }
-        ensures quiet { OnOk result (O.faults self.new.1 ≡ O.faults self.old.1) }
-        ensures cause { IfErr result (FailsAt O.tells (O.reads self.old.1) (required_names id segment) (Rose (O.faults self.old.1) (O.faults self.new.1)) (O.faults self.new.1 ≡ O.faults self.old.1)) }
+        ensures reader { O.told.content → (s : State) → Holds (O.view self.old.1).reads self.old.0 s
+            → AreSealed s (required_names id segment)
+            → IfOk result (λ reader.
+            ReadsSegment s id segment reader.id reader.segment reader.bodies.items) }
+        ensures faults { BodiesFaults O.Directory self.old.1 self.new.1
+            (required_names id segment) result }
+        ensures frame { Asks (OnlyReads O.told) O.view self.old self.new }
     {
         let names = required_of(self.alloc, id, segment)?;
         let bodies = self.read_bodies(names.as_slice())?;
@@ -90,10 +93,10 @@ impl<O: Outside> Store<O> {
 
     // The current commit with the bodies of its files, under this number, as they read now.
     fn read_snapshot(&mut self, generation: u64) -> Result<Snapshot, TantivyError>
-        ensures shown { O.tells → (s : State) → Holds (O.reads self.old.1) self.old.0 s → IsWhole s → IfOk result (λ shown. (shown ≡ snapshot_in s generation) × CanRead s) }
-        ensures asks { Asks O.Directory self.old self.new }
-        ensures quiet { OnOk result (O.faults self.new.1 ≡ O.faults self.old.1) }
-        ensures cause { IfErr result (ApplyCause ⊥ (Rose (O.faults self.old.1) (O.faults self.new.1)) (O.faults self.new.1 ≡ O.faults self.old.1) ⊥ (LacksIn O.tells (O.reads self.old.1) self.old.0) (λ path. HoldsNone O.tells (O.reads self.old.1) self.old.0)) }
+        ensures shown { O.told.content → (s : State) → Holds (O.view self.old.1).reads self.old.0 s
+            → IsWhole s → IfOk result (λ shown. (shown ≡ snapshot_in s generation) × CanRead s) }
+        ensures faults { CommitFaults O.Directory self.old self.new result }
+        ensures frame { Asks (OnlyReads O.told) O.view self.old self.new }
     {
         let segments = self.commit.segments(self.alloc)?;
         let mut readers = Vec::new(self.alloc);
@@ -109,11 +112,10 @@ impl<O: Outside> Store<O> {
     // The current commit with the bodies of its files, under this number. They are read
     // while the meta lock is held.
     fn snapshot(&mut self, generation: u64) -> Result<Snapshot, TantivyError>
-        ensures shown { O.tells → (s : State) → Holds (O.reads self.old.1) self.old.0 s → IsWhole s → IfOk result (λ shown. (shown ≡ snapshot_in s generation) × CanRead s) }
-        ensures asks { Asks O.Directory self.old self.new }
-        ensures quiet { OnOk result (O.faults self.new.1 ≡ O.faults self.old.1) }
-        ensures free { O.tells_locks → OnOk result (O.locks self.old.1 meta_lock_name ≡ false) }
-        ensures cause { IfErr result (ApplyCause (IsBusy O.tells_locks (O.locks self.old.1 meta_lock_name ≡ true) (Rose (O.faults self.old.1) (O.faults self.new.1))) (Rose (O.faults self.old.1) (O.faults self.new.1)) (O.faults self.new.1 ≡ O.faults self.old.1) ⊥ (LacksIn O.tells (O.reads self.old.1) self.old.0) (λ path. HoldsNone O.tells (O.reads self.old.1) self.old.0)) }
+        ensures shown { O.told.content → (s : State) → Holds (O.view self.old.1).reads self.old.0 s
+            → IsWhole s → IfOk result (λ shown. (shown ≡ snapshot_in s generation) × CanRead s) }
+        ensures faults { SnapshotFaults O.Directory self.old self.new result }
+        ensures frame { Asks (OnlyReads O.told) O.view self.old self.new }
     {
         let lock = self.files.acquire_lock(&meta_lock())?;
         let shown = self.read_snapshot(generation);
@@ -123,16 +125,15 @@ impl<O: Outside> Store<O> {
 
     // A new reader, which shows the current commit.
     pub(crate) fn reader(&mut self, policy: ReloadPolicy) -> Result<Answer, TantivyError>
-        ensures step { O.tells → (s : State) → Holds (O.reads self.old.1) self.old.0 s → IsWhole s → IfOk result (λ answer. (answer ≡ (reader_step s policy).0) × Holds (O.reads self.new.1) self.new.0 (reader_step s policy).1 × CanRead s) }
-        ensures room { IfOk result (λ answer. length answer < O.room self.new.1) }
-        ensures stays { Stays O.Directory self.old self.new }
+        ensures step { StepsReading O.Directory self.old self.new
+            (λ s. reader_step s policy) CanRead result }
+        ensures room { IfOk result (λ answer. length answer < (O.view self.new.1).room) }
         ensures lens { (bound : ℕ) → AtMost bound self.old.0 → AtMost bound self.new.0 }
-        ensures numbers { (bound : ℕ) → FewNumbers bound self.old.0.reading → OnOk result (FewNumbers (bound + 1) self.new.0.reading) }
-        ensures quiet { OnOk result (O.faults self.new.1 ≡ O.faults self.old.1) }
-        ensures free { O.tells_locks → OnOk result (O.locks self.old.1 meta_lock_name ≡ false) }
-        ensures cause { IfErr result (ApplyCause (IsBusy O.tells_locks (O.locks self.old.1 meta_lock_name ≡ true) (Rose (O.faults self.old.1) (O.faults self.new.1))) (Rose (O.faults self.old.1) (O.faults self.new.1)) (O.faults self.new.1 ≡ O.faults self.old.1) ((bound : ℕ) → FewNumbers bound self.old.0.reading → 2 ^ 64 ≤ bound + 1) (BadIn O.tells (O.reads self.old.1) self.old.0 (events.Reader policy)) (λ path. HoldsNone O.tells (O.reads self.old.1) self.old.0)) }
-        ensures meta { O.tells → OnErr result (O.reads self.new.1 meta_name ≡ O.reads self.old.1 meta_name) }
-        ensures refusals { O.refusals self.new.1 ≡ O.refusals self.old.1 }
+        ensures numbers { (bound : ℕ) → FewNumbers bound self.old.0.reading
+            → OnOk result (FewNumbers (bound + 1) self.new.0.reading) }
+        ensures faults { ReadingFaults O.Directory (Unit {0})
+            (NumbersSpent self.old.0.reading) self.old self.new (events.Reader policy) result }
+        ensures frame { Stays (OnlyReads O.told) O.view self.old self.new }
     {
         let number = self.readers.next_reader();
         if number == u64::MAX {
@@ -147,16 +148,16 @@ impl<O: Outside> Store<O> {
 
     // A reader shows the current commit.
     pub(crate) fn reload(&mut self, number: u64) -> Result<Answer, TantivyError>
-        ensures step { O.tells → (s : State) → Holds (O.reads self.old.1) self.old.0 s → IsWhole s → IfOk result (λ answer. (answer ≡ (reload_step s number).0) × Holds (O.reads self.new.1) self.new.0 (reload_step s number).1 × (IsSome (reader_at s number) → CanRead s)) }
-        ensures room { IfOk result (λ answer. length answer < O.room self.new.1) }
-        ensures stays { Stays O.Directory self.old self.new }
+        ensures step { StepsReading O.Directory self.old self.new (λ s. reload_step s number)
+            (λ s. IsSome (reader_at s number) → CanRead s) result }
+        ensures room { IfOk result (λ answer. length answer < (O.view self.new.1).room) }
         ensures lens { (bound : ℕ) → AtMost bound self.old.0 → AtMost bound self.new.0 }
-        ensures numbers { (bound : ℕ) → FewNumbers bound self.old.0.reading → OnOk result (FewNumbers (bound + 1) self.new.0.reading) }
-        ensures quiet { OnOk result (O.faults self.new.1 ≡ O.faults self.old.1) }
-        ensures free { O.tells_locks → IsSome (at_number self.old.0.reading.readers number) → OnOk result (O.locks self.old.1 meta_lock_name ≡ false) }
-        ensures cause { IfErr result (ApplyCause (IsSome (at_number self.old.0.reading.readers number) × IsBusy O.tells_locks (O.locks self.old.1 meta_lock_name ≡ true) (Rose (O.faults self.old.1) (O.faults self.new.1))) (Rose (O.faults self.old.1) (O.faults self.new.1)) (O.faults self.new.1 ≡ O.faults self.old.1) ((bound : ℕ) → FewNumbers bound self.old.0.reading → 2 ^ 64 ≤ bound + 1) (BadIn O.tells (O.reads self.old.1) self.old.0 (events.Reload number)) (λ path. HoldsNone O.tells (O.reads self.old.1) self.old.0)) }
-        ensures meta { O.tells → OnErr result (O.reads self.new.1 meta_name ≡ O.reads self.old.1 meta_name) }
-        ensures refusals { O.refusals self.new.1 ≡ O.refusals self.old.1 }
+        ensures numbers { (bound : ℕ) → FewNumbers bound self.old.0.reading
+            → OnOk result (FewNumbers (bound + 1) self.new.0.reading) }
+        ensures faults { ReadingFaults O.Directory
+            (IsSome (at_number self.old.0.reading.readers number))
+            (NumbersSpent self.old.0.reading) self.old self.new (events.Reload number) result }
+        ensures frame { Stays (OnlyReads O.told) O.view self.old self.new }
     {
         let Some(generation) = self.readers.next_generation(number) else {
             return self.refuse("unknown-reader");
@@ -179,15 +180,14 @@ impl<O: Outside> Store<O> {
 
     // A reader ends.
     pub(crate) fn release_reader(&mut self, number: u64) -> Result<Answer, TantivyError>
-        ensures step { O.tells → (s : State) → Holds (O.reads self.old.1) self.old.0 s → IfOk result (λ answer. (answer ≡ (release_reader_step s number).0) × Holds (O.reads self.new.1) self.new.0 (release_reader_step s number).1) }
-        ensures room { IfOk result (λ answer. length answer < O.room self.new.1) }
-        ensures stays { Stays O.Directory self.old self.new }
+        ensures step { StepsTo O.Directory self.old self.new
+            (λ s. release_reader_step s number) result }
+        ensures room { IfOk result (λ answer. length answer < (O.view self.new.1).room) }
         ensures lens { (bound : ℕ) → AtMost bound self.old.0 → AtMost bound self.new.0 }
-        ensures numbers { (bound : ℕ) → FewNumbers bound self.old.0.reading → OnOk result (FewNumbers bound self.new.0.reading) }
-        ensures quiet { OnOk result (O.faults self.new.1 ≡ O.faults self.old.1) }
-        ensures cause { IfErr result (EventCause (Rose (O.faults self.old.1) (O.faults self.new.1)) (O.faults self.new.1 ≡ O.faults self.old.1) ⊥) }
-        ensures meta { O.tells → OnErr result (O.reads self.new.1 meta_name ≡ O.reads self.old.1 meta_name) }
-        ensures refusals { O.refusals self.new.1 ≡ O.refusals self.old.1 }
+        ensures numbers { (bound : ℕ) → FewNumbers bound self.old.0.reading
+            → OnOk result (FewNumbers bound self.new.0.reading) }
+        ensures faults { EventFaults ⊥ (O.view self.old.1) (O.view self.new.1) result }
+        ensures frame { Stays (OnlyReads O.told) O.view self.old self.new }
     {
         if self.readers.next_generation(number).is_none() {
             return self.refuse("unknown-reader");

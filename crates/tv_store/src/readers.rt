@@ -94,7 +94,12 @@ impl Model for Readers {
 
     ghost Value = { ReadersState };
 
-    ghost view = { λ a. record { readers = a.readers.entries; searchers = a.searchers.entries; next_reader = a.next_reader; next_searcher = a.next_searcher } };
+    ghost view = { λ a. record {
+      readers = a.readers.entries;
+      searchers = a.searchers.entries;
+      next_reader = a.next_reader;
+      next_searcher = a.next_searcher;
+    } };
 }
 
 impl Readers {
@@ -139,8 +144,14 @@ impl Readers {
     /// A new reader, which shows this snapshot. Its next one has the number 1.
     pub(crate) fn add_reader(&mut self, policy: ReloadPolicy, shown: Snapshot) -> Result<(), Memory>
         requires { self.old.next_reader < 18446744073709551615 }
-        ensures added { OnOk result (self.new ≡ record self.old { readers = insert_entry nat_cmp self.old.readers self.old.next_reader (record { policy = policy; next = 1; shown = shown }); next_reader = self.old.next_reader + 1 }) }
-        ensures few { (bound : ℕ) → FewNumbers bound self.old → OnOk result (FewNumbers (bound + 1) self.new) }
+        ensures added { OnOk result (self.new
+            ≡ record self.old {
+              readers = insert_entry nat_cmp self.old.readers
+                  self.old.next_reader (record { policy = policy; next = 1; shown = shown });
+              next_reader = self.old.next_reader + 1;
+            }) }
+        ensures few { (bound : ℕ) → FewNumbers bound self.old
+            → OnOk result (FewNumbers (bound + 1) self.new) }
         ensures err { OnErr result (self.new ≡ self.old) }
     {
         let shown = Searcher::new(self.alloc, shown)?;
@@ -157,9 +168,16 @@ impl Readers {
     /// The reader of this number shows this snapshot from now on.
     pub(crate) fn publish(&mut self, number: u64, shown: Snapshot) -> Result<(), Memory>
         requires there { IsSome (at_number self.old.readers number) }
-        requires room { (reader : ReaderState) → at_number self.old.readers number ≡ Some reader → reader.next < 18446744073709551615 }
-        ensures published { (reader : ReaderState) → at_number self.old.readers number ≡ Some reader → OnOk result (self.new ≡ record self.old { readers = insert_entry nat_cmp self.old.readers number (record reader { next = reader.next + 1; shown = shown }) }) }
-        ensures few { (bound : ℕ) → FewNumbers bound self.old → OnOk result (FewNumbers (bound + 1) self.new) }
+        requires room { (reader : ReaderState) → at_number self.old.readers number ≡ Some reader
+            → reader.next < 18446744073709551615 }
+        ensures published { (reader : ReaderState) → at_number self.old.readers number ≡ Some reader
+            → OnOk result (self.new
+            ≡ record self.old {
+              readers = insert_entry nat_cmp self.old.readers number
+                  (record reader { next = reader.next + 1; shown = shown });
+            }) }
+        ensures few { (bound : ℕ) → FewNumbers bound self.old
+            → OnOk result (FewNumbers (bound + 1) self.new) }
         ensures err { OnErr result (self.new ≡ self.old) }
     {
         let shown = Searcher::new(self.alloc, shown)?;
@@ -176,7 +194,10 @@ impl Readers {
     /// The reader of this number ends; whether there was one. Takes no memory.
     pub(crate) fn release_reader(&mut self, number: u64) -> bool
         ensures there { result ≡ is_some (at_number self.old.readers number) }
-        ensures released { self.new ≡ record self.old { readers = remove_entry (is_at (nat_cmp number)) self.old.readers } }
+        ensures released { self.new ≡ record self.old {
+          readers = remove_entry
+              (is_at (nat_cmp number)) self.old.readers;
+        } }
         ensures absent { IsFalse result → self.new ≡ self.old }
         ensures few { (bound : ℕ) → FewNumbers bound self.old → FewNumbers bound self.new }
     {
@@ -186,7 +207,10 @@ impl Readers {
     /// The searcher of this number ends; whether there was one. Takes no memory.
     pub(crate) fn release_searcher(&mut self, number: u64) -> bool
         ensures there { result ≡ is_some (at_number self.old.searchers number) }
-        ensures released { self.new ≡ record self.old { searchers = remove_entry (is_at (nat_cmp number)) self.old.searchers } }
+        ensures released { self.new ≡ record self.old {
+          searchers = remove_entry
+              (is_at (nat_cmp number)) self.old.searchers;
+        } }
         ensures absent { IsFalse result → self.new ≡ self.old }
         ensures few { (bound : ℕ) → FewNumbers bound self.old → FewNumbers bound self.new }
     {
@@ -195,7 +219,8 @@ impl Readers {
 
     /// The line of the next searcher, where there is a reader of this number.
     pub(crate) fn searcher_line(&self, number: u64) -> Result<Option<Answer>, Memory>
-        ensures { IfOk result (λ found. found ≡ option_map (searcher_line self.now.next_searcher) (at_number self.now.readers number)) }
+        ensures { IfOk result (λ found. found ≡ option_map (searcher_line self.now.next_searcher)
+            (at_number self.now.readers number)) }
     {
         let Some(reader) = self.readers.get(&number) else {
             return Ok(None);
@@ -212,8 +237,15 @@ impl Readers {
     pub(crate) fn add_searcher(&mut self, number: u64) -> Result<(), Memory>
         requires there { IsSome (at_number self.old.readers number) }
         requires room { self.old.next_searcher < 18446744073709551615 }
-        ensures added { (reader : ReaderState) → at_number self.old.readers number ≡ Some reader → OnOk result (self.new ≡ record self.old { searchers = insert_entry nat_cmp self.old.searchers self.old.next_searcher reader.shown; next_searcher = self.old.next_searcher + 1 }) }
-        ensures few { (bound : ℕ) → FewNumbers bound self.old → OnOk result (FewNumbers (bound + 1) self.new) }
+        ensures added { (reader : ReaderState) → at_number self.old.readers number ≡ Some reader
+            → OnOk result (self.new
+            ≡ record self.old {
+              searchers = insert_entry nat_cmp self.old.searchers
+                  self.old.next_searcher reader.shown;
+              next_searcher = self.old.next_searcher + 1;
+            }) }
+        ensures few { (bound : ℕ) → FewNumbers bound self.old
+            → OnOk result (FewNumbers (bound + 1) self.new) }
         ensures err { OnErr result (self.new ≡ self.old) }
     {
         let shown = self.readers.get(&number).unwrap().shown.share()?;
@@ -231,7 +263,8 @@ impl Readers {
 
     /// The line of what the searcher of this number shows, where there is such a searcher.
     pub(crate) fn show(&self, number: u64) -> Result<Option<Answer>, Memory>
-        ensures { IfOk result (λ found. found ≡ option_map (show_line number) (at_number self.now.searchers number)) }
+        ensures { IfOk result (λ found. found ≡ option_map (show_line number)
+            (at_number self.now.searchers number)) }
     {
         let Some(searcher) = self.searchers.get(&number) else {
             return Ok(None);
@@ -248,7 +281,8 @@ impl Readers {
         ord: u32,
         component: SegmentComponent,
     ) -> Result<BodyAnswer, Memory>
-        ensures { IfOk result (λ told. told ≡ bytes_told number ord component (at_number self.now.searchers number)) }
+        ensures { IfOk result (λ told. told ≡ bytes_told number ord component
+            (at_number self.now.searchers number)) }
     {
         let Some(searcher) = self.searchers.get(&number) else {
             return Ok(BodyAnswer::NoSearcher);

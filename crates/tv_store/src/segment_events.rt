@@ -1,16 +1,15 @@
 //! The events on live segments, and the one that reports.
-ghost use Rattle.std.specs.Prelude.{◌≡◌, ◌≤◌, ◌<◌, ◌||◌, [], ◌∷◌, ℕ, length, codes, is_some, IfOk, IfErr, OnOk, map, string_bytes, OnErr};
+ghost use Rattle.std.specs.Prelude.{◌≡◌, ◌<◌, ◌||◌, [], ◌∷◌, ℕ, length, codes, is_some, IfOk, map, string_bytes};
 ghost use Rattle.std.specs.Fmt.{decimal};
 ghost use Rattle.hex.specs.Hex.{encode_lower};
 ghost use Rattle.tv_model.specs.Lines.{line};
-ghost use Rattle.tv_model.specs.Files.{Rose};
-ghost use Rattle.tv_model.specs.State.{State, at};
-ghost use Rattle.tv_store.specs.Kept.{Holds, AtMost};
-ghost use Rattle.tv_store.specs.Stays.{Stays};
-ghost use Rattle.tv_store.specs.StoreCauses.{EventCause};
+ghost use Rattle.tv_model.specs.State.{at};
 ghost use Rattle.tv_model.specs.SegmentEvents.{segment_step, docs_step, is_named};
 ghost use Rattle.tv_model.specs.ReportEvents.{managed_step};
-ghost use Rattle.tv_model.specs.Names.{meta_name};
+ghost use Rattle.tv_directory.specs.View.{OnlyReads};
+ghost use Rattle.tv_store.specs.Kept.{AtMost};
+ghost use Rattle.tv_store.specs.Acting.{StepsTo};
+ghost use Rattle.tv_store.specs.Stays.{KeepsReaders, EventFaults};
 
 use crate::store::Store;
 use std::alloc::Global;
@@ -41,7 +40,8 @@ fn segment_line(alloc: Global, id: SegmentId) -> Result<Answer, Memory>
 
 // The line of how many documents a segment has.
 fn docs_line(alloc: Global, id: SegmentId, max_doc: u32) -> Result<Answer, Memory>
-    ensures { IfOk result (λ answer. answer ≡ line (codes "docs") (encode_lower id ∷ decimal max_doc ∷ [])) }
+    ensures { IfOk result (λ answer. answer
+        ≡ line (codes "docs") (encode_lower id ∷ decimal max_doc ∷ [])) }
 {
     Answer::new(alloc, "docs")?
         .id(id)?
@@ -51,7 +51,9 @@ fn docs_line(alloc: Global, id: SegmentId, max_doc: u32) -> Result<Answer, Memor
 impl<O: Outside> Store<O> {
     // Whether the id is that of a live segment, of one of the commit, or begins a managed name.
     fn is_in_use(&self, id: SegmentId) -> Result<bool, Memory>
-        ensures { IfOk result (λ used. used ≡ (is_some (at self.now.0.live id) || is_some (at self.now.0.commit.segments id) || is_named self.now.0.managed id)) }
+        ensures { IfOk result (λ used. used
+            ≡ (is_some (at self.now.0.live id) || is_some
+            (at self.now.0.commit.segments id) || is_named self.now.0.managed id)) }
     {
         if self.live.contains_key(&id) {
             return Ok(true);
@@ -66,15 +68,11 @@ impl<O: Outside> Store<O> {
 
     // A new live segment.
     pub(crate) fn segment(&mut self, id: SegmentId) -> Result<Answer, TantivyError>
-        ensures step { O.tells → (s : State) → Holds (O.reads self.old.1) self.old.0 s → IfOk result (λ answer. (answer ≡ (segment_step s id).0) × Holds (O.reads self.new.1) self.new.0 (segment_step s id).1) }
-        ensures room { IfOk result (λ answer. length answer < O.room self.new.1) }
-        ensures stays { Stays O.Directory self.old self.new }
+        ensures step { StepsTo O.Directory self.old self.new (λ s. segment_step s id) result }
+        ensures room { IfOk result (λ answer. length answer < (O.view self.new.1).room) }
         ensures lens { (bound : ℕ) → AtMost bound self.old.0 → AtMost bound self.new.0 }
-        ensures quiet { OnOk result (O.faults self.new.1 ≡ O.faults self.old.1) }
-        ensures cause { IfErr result (EventCause (Rose (O.faults self.old.1) (O.faults self.new.1)) (O.faults self.new.1 ≡ O.faults self.old.1) ⊥) }
-        ensures meta { O.tells → OnErr result (O.reads self.new.1 meta_name ≡ O.reads self.old.1 meta_name) }
-        ensures refusals { O.refusals self.new.1 ≡ O.refusals self.old.1 }
-        ensures reading { self.new.0.reading ≡ self.old.0.reading }
+        ensures faults { EventFaults ⊥ (O.view self.old.1) (O.view self.new.1) result }
+        ensures frame { KeepsReaders (OnlyReads O.told) O.view self.old self.new }
     {
         if self.is_in_use(id)? {
             return self.refuse("id-in-use");
@@ -93,15 +91,11 @@ impl<O: Outside> Store<O> {
 
     // How many documents a live segment has.
     pub(crate) fn docs(&mut self, id: SegmentId, max_doc: u32) -> Result<Answer, TantivyError>
-        ensures step { O.tells → (s : State) → Holds (O.reads self.old.1) self.old.0 s → IfOk result (λ answer. (answer ≡ (docs_step s id max_doc).0) × Holds (O.reads self.new.1) self.new.0 (docs_step s id max_doc).1) }
-        ensures room { IfOk result (λ answer. length answer < O.room self.new.1) }
-        ensures stays { Stays O.Directory self.old self.new }
+        ensures step { StepsTo O.Directory self.old self.new (λ s. docs_step s id max_doc) result }
+        ensures room { IfOk result (λ answer. length answer < (O.view self.new.1).room) }
         ensures lens { (bound : ℕ) → AtMost bound self.old.0 → AtMost bound self.new.0 }
-        ensures quiet { OnOk result (O.faults self.new.1 ≡ O.faults self.old.1) }
-        ensures cause { IfErr result (EventCause (Rose (O.faults self.old.1) (O.faults self.new.1)) (O.faults self.new.1 ≡ O.faults self.old.1) ⊥) }
-        ensures meta { O.tells → OnErr result (O.reads self.new.1 meta_name ≡ O.reads self.old.1 meta_name) }
-        ensures refusals { O.refusals self.new.1 ≡ O.refusals self.old.1 }
-        ensures reading { self.new.0.reading ≡ self.old.0.reading }
+        ensures faults { EventFaults ⊥ (O.view self.old.1) (O.view self.new.1) result }
+        ensures frame { KeepsReaders (OnlyReads O.told) O.view self.old self.new }
     {
         let Some(segment) = self.live_segment(id) else {
             return self.refuse("unknown-segment");
@@ -128,15 +122,11 @@ impl<O: Outside> Store<O> {
 
     // The managed names.
     pub(crate) fn managed(&mut self) -> Result<Answer, TantivyError>
-        ensures step { O.tells → (s : State) → Holds (O.reads self.old.1) self.old.0 s → IfOk result (λ answer. (answer ≡ (managed_step s).0) × Holds (O.reads self.new.1) self.new.0 (managed_step s).1) }
-        ensures room { IfOk result (λ answer. length answer < O.room self.new.1) }
-        ensures stays { Stays O.Directory self.old self.new }
+        ensures step { StepsTo O.Directory self.old self.new managed_step result }
+        ensures room { IfOk result (λ answer. length answer < (O.view self.new.1).room) }
         ensures lens { (bound : ℕ) → AtMost bound self.old.0 → AtMost bound self.new.0 }
-        ensures quiet { OnOk result (O.faults self.new.1 ≡ O.faults self.old.1) }
-        ensures cause { IfErr result (EventCause (Rose (O.faults self.old.1) (O.faults self.new.1)) (O.faults self.new.1 ≡ O.faults self.old.1) ⊥) }
-        ensures meta { O.tells → OnErr result (O.reads self.new.1 meta_name ≡ O.reads self.old.1 meta_name) }
-        ensures refusals { O.refusals self.new.1 ≡ O.refusals self.old.1 }
-        ensures reading { self.new.0.reading ≡ self.old.0.reading }
+        ensures faults { EventFaults ⊥ (O.view self.old.1) (O.view self.new.1) result }
+        ensures frame { KeepsReaders (OnlyReads O.told) O.view self.old self.new }
     {
         let answer = self.managed_names()?;
         self.told(answer)

@@ -26,7 +26,8 @@ fn place_of(component: SegmentComponent) -> usize
 
 // The line with the segments, each with how many of its documents are living.
 fn with_segments(answer: Answer, segments: &[SegmentReader]) -> Result<Answer, Memory>
-    ensures { IfOk result (λ whole. whole ≡ line answer (map segment_word (map (λ r. (r.id, r.segment)) segments.now))) }
+    ensures { IfOk result (λ whole. whole
+        ≡ line answer (map segment_word (map (λ r. (r.id, r.segment)) segments.now))) }
 {
     let mut whole = answer;
     for reader in segments {
@@ -78,7 +79,15 @@ impl Model for Snapshot {
 
     ghost Value = { Shown };
 
-    ghost view = { λ a. record { generation = a.generation; commit = record { opstamp = a.opstamp; payload = a.payload; segments = map (λ r. (r.id, r.segment)) a.segments.items }; bodies = map (λ r. r.bodies.items) a.segments.items } };
+    ghost view = { λ a. record {
+      generation = a.generation;
+      commit = record {
+        opstamp = a.opstamp;
+        payload = a.payload;
+        segments = map (λ r. (r.id, r.segment)) a.segments.items;
+      };
+      bodies = map (λ r. r.bodies.items) a.segments.items;
+    } };
 }
 
 impl Snapshot {
@@ -89,7 +98,15 @@ impl Snapshot {
         payload: Option<Text>,
         segments: Vec<SegmentReader>,
     ) -> Snapshot
-        ensures { result ≡ record { generation = generation; commit = record { opstamp = opstamp; payload = payload; segments = map (λ r. (r.id, r.segment)) segments.items }; bodies = map (λ r. r.bodies.items) segments.items } }
+        ensures { result ≡ record {
+          generation = generation;
+          commit = record {
+            opstamp = opstamp;
+            payload = payload;
+            segments = map (λ r. (r.id, r.segment)) segments.items;
+          };
+          bodies = map (λ r. r.bodies.items) segments.items;
+        } }
     {
         Snapshot {
             generation,
@@ -142,7 +159,8 @@ impl Snapshot {
         ord: u32,
         component: SegmentComponent,
     ) -> Result<Option<Answer>, Memory>
-        ensures { IfOk result (λ found. found ≡ option_map (bytes_line number ord component) (body_at self.now ord component)) }
+        ensures { IfOk result (λ found. found ≡ option_map (bytes_line number ord component)
+            (body_at self.now ord component)) }
     {
         let Some(body) = self.body(ord, component) else {
             return Ok(None);

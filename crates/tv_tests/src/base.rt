@@ -8,13 +8,6 @@ use tv_base::{
     TextSource, VInt, VecSink,
 };
 
-// Looks whether this is the spelling of a number.
-fn is_spelled<R: Abort>(rt: &R, alloc: Global, number: u64, spelling: &[u8]) {
-    let mut out = Vec::new(alloc);
-    VInt(number).serialize(&mut out).expect(rt, "memory");
-    assert_eq!(rt; out.as_slice(), spelling);
-}
-
 #[test]
 fn spellings_of_numbers(rt: HostRuntime) {
     let rows: [(u64, &[u8]); 5] = [

@@ -31,20 +31,36 @@ enum Call {
     Tell,
 }
 
+// Of which kind a fault is, which names its file.
+fn fault_at(fault: IoFault, filepath: &str, name: &str) -> Result<Option<IoKind>, Fail> {
+    if filepath == name {
+        Ok(Some(fault.kind))
+    } else {
+        Err(Fail::from("the fault names another file"))
+    }
+}
+
 // Of which kind the fault of a read is, where there is one.
-fn fault_of_read<T: Drop>(answer: Result<T, OpenReadError>) -> Result<Option<IoKind>, Fail> {
+fn fault_of_read<T: Drop>(
+    answer: Result<T, OpenReadError>,
+    name: &str,
+) -> Result<Option<IoKind>, Fail> {
     match answer {
         Ok(_) => Ok(None),
-        Err(OpenReadError::IoError { io_error, .. }) => Ok(Some(io_error.kind)),
+        Err(OpenReadError::IoError { io_error, filepath }) => {
+            fault_at(io_error, filepath.as_str(), name)
+        }
         Err(error) => Err(error.into()),
     }
 }
 
 // Of which kind the fault of a delete is.
-fn fault_of_delete(answer: Result<(), DeleteError>) -> Result<Option<IoKind>, Fail> {
+fn fault_of_delete(answer: Result<(), DeleteError>, name: &str) -> Result<Option<IoKind>, Fail> {
     match answer {
         Ok(()) => Ok(None),
-        Err(DeleteError::IoError { io_error, .. }) => Ok(Some(io_error.kind)),
+        Err(DeleteError::IoError { io_error, filepath }) => {
+            fault_at(io_error, filepath.as_str(), name)
+        }
         Err(error) => Err(error.into()),
     }
 }
@@ -80,7 +96,7 @@ fn lock(bench: &mut TestBench) -> Result<Option<IoKind>, Fail> {
 
 // Writes, flushes and seals a file.
 fn fill(bench: &mut TestBench, writer: RamWriter) -> Result<(), IoError>
-    requires { ⟦<TestBench as Directory>⟧.opened bench.old writer ≡ true }
+    requires { (⟦<TestBench as Directory>⟧.view bench.old).opened writer ≡ true }
 {
     let mut writer = writer;
     bench.write(&mut writer, b"sealed")?;
@@ -93,7 +109,9 @@ fn seal(bench: &mut TestBench, name: &str) -> Result<Option<IoKind>, Fail>
 {
     match bench.open_write(name) {
         Ok(writer) => fault_of_write(fill(bench, writer)),
-        Err(OpenWriteError::IoError { io_error, .. }) => Ok(Some(io_error.kind)),
+        Err(OpenWriteError::IoError { io_error, filepath }) => {
+            fault_at(io_error, filepath.as_str(), name)
+        }
         Err(error) => Err(error.into()),
     }
 }
@@ -121,14 +139,14 @@ fn take(bench: &mut TestBench, call: Call, name: &str) -> Result<Option<IoKind>,
         return Err(Fail::from("no file has this name"));
     }
     match call {
-        Call::Exists => fault_of_read(bench.exists(name)),
-        Call::OpenRead => fault_of_read(bench.open_read(name)),
-        Call::GetFileHandle => fault_of_read(bench.get_file_handle(name)),
-        Call::AtomicRead => fault_of_read(bench.atomic_read(name)),
+        Call::Exists => fault_of_read(bench.exists(name), name),
+        Call::OpenRead => fault_of_read(bench.open_read(name), name),
+        Call::GetFileHandle => fault_of_read(bench.get_file_handle(name), name),
+        Call::AtomicRead => fault_of_read(bench.atomic_read(name), name),
         Call::AtomicWrite => fault_of_write(bench.atomic_write(name, b"new")),
         Call::Seal => seal(bench, name),
         Call::Lose => lose(bench, name),
-        Call::Delete => fault_of_delete(bench.delete(name)),
+        Call::Delete => fault_of_delete(bench.delete(name), name),
         Call::Sync => Ok(fault_of(bench.sync_directory())),
         Call::Lock => lock(bench),
         Call::Tell => tell(bench, b"line"),
@@ -206,12 +224,17 @@ fn first_miss(bench: &mut TestBench) -> Result<Option<usize>, Fail> {
     Ok(None)
 }
 
-// What was told while those rows passed, and how many calls were refused.
-fn told_of_rows(alloc: Global) -> Result<(Vec<u8>, u64, u64), Fail> {
+// A directory with one file, whose device refuses calls.
+fn refusing(alloc: Global) -> Result<TestBench, Fail> {
     let calls = Vec::from_slice(alloc, &REFUSED)?;
-    let mut bench: TestBench = Bench::new(alloc, one_file(alloc)?)?;
+    let mut bench = Bench::new(alloc, one_file(alloc)?)?;
     bench.fail_at(calls);
-    match first_miss(&mut bench)? {
+    Ok(bench)
+}
+
+// What was told while those rows passed, and how many calls were refused.
+fn told_of_rows(bench: &mut TestBench) -> Result<(Vec<u8>, u64, u64), Fail> {
+    match first_miss(bench)? {
         None => Ok((bench.heard_lines()?, bench.faults(), bench.refusals())),
         Some(_) => Err(Fail::from("a call ends otherwise")),
     }
@@ -219,7 +242,8 @@ fn told_of_rows(alloc: Global) -> Result<(Vec<u8>, u64, u64), Fail> {
 
 #[test]
 fn recorded_calls_take_a_moment_and_listed_ones_are_refused(rt: HostRuntime) -> Result<(), Fail> {
-    let (lines, faults, refusals) = told_of_rows(rt.alloc())?;
+    let mut bench = refusing(rt.alloc())?;
+    let (lines, faults, refusals) = told_of_rows(&mut bench)?;
     assert_eq!(rt; lines.as_slice(), b"line\nline\n".as_slice());
     assert_eq!(rt; faults, 12);
     assert_eq!(rt; refusals, 1);

@@ -5,7 +5,7 @@ use std::test::Fail;
 
 // The first file stays while its name lives.
 const LIVING_AND_NOT: [Step; 10] = [
-    Step::On(Call::SealEmpty, "some_path_for_test", ""),
+    Step::On(Call::Seal, "some_path_for_test", ""),
     Step::On(Call::AtomicWrite, "some_path_for_test_2", "\0\u{1}"),
     Step::On(Call::Exists, "some_path_for_test", ""),
     Step::On(Call::Exists, "some_path_for_test_2", ""),

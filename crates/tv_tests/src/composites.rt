@@ -2,7 +2,7 @@
 //! refused.
 ghost use Rattle.std.specs.Prelude.{◌≡◌, [], false};
 
-use crate::written::{Content, file_of, is_written};
+use crate::written::{Content, file_of, is_written, written};
 use std::alloc::Global;
 use std::process::Abort;
 use tv_base::{ByteCount, Field, IoError, IoKind, TerminatingWrite};
@@ -35,9 +35,9 @@ fn field(id: u32) -> Field
 }
 
 fn put_two_fields<W: TerminatingWrite>(rt: &impl Abort, write: &mut CompositeWrite<W>)
-    requires going { W.ended write.old.writer ≡ false }
+    requires going { (W.view write.old.writer).ended ≡ false }
     requires none { write.old.parts ≡ [] }
-    ensures going { W.ended write.new.writer ≡ false }
+    ensures going { (W.view write.new.writer).ended ≡ false }
 {
     write.for_field(field(0)).expect(rt, "memory");
     write.write_all(LARGE).expect(rt, "written");
@@ -46,9 +46,9 @@ fn put_two_fields<W: TerminatingWrite>(rt: &impl Abort, write: &mut CompositeWri
 }
 
 fn put_two_bodies_of_one_field<W: TerminatingWrite>(rt: &impl Abort, write: &mut CompositeWrite<W>)
-    requires going { W.ended write.old.writer ≡ false }
+    requires going { (W.view write.old.writer).ended ≡ false }
     requires none { write.old.parts ≡ [] }
-    ensures going { W.ended write.new.writer ≡ false }
+    ensures going { (W.view write.new.writer).ended ≡ false }
 {
     write.for_field_with_idx(field(1), 0).expect(rt, "memory");
     write.write_all(LARGE).expect(rt, "written");
@@ -63,7 +63,7 @@ pub(crate) fn write_two_fields<W: TerminatingWrite + Drop>(
     alloc: Global,
     writer: W,
 )
-    requires going { W.ended writer ≡ false }
+    requires going { (W.view writer).ended ≡ false }
 {
     let mut write = CompositeWrite::wrap(alloc, writer);
     put_two_fields(rt, &mut write);
@@ -76,7 +76,7 @@ pub(crate) fn write_two_bodies_of_one_field<W: TerminatingWrite + Drop>(
     alloc: Global,
     writer: W,
 )
-    requires going { W.ended writer ≡ false }
+    requires going { (W.view writer).ended ≡ false }
 {
     let mut write = CompositeWrite::wrap(alloc, writer);
     put_two_bodies_of_one_field(rt, &mut write);
@@ -85,7 +85,7 @@ pub(crate) fn write_two_bodies_of_one_field<W: TerminatingWrite + Drop>(
 
 // Writes no bodies.
 pub(crate) fn write_no_fields<W: TerminatingWrite + Drop>(rt: &impl Abort, alloc: Global, writer: W)
-    requires going { W.ended writer ≡ false }
+    requires going { (W.view writer).ended ≡ false }
 {
     CompositeWrite::wrap(alloc, writer)
         .close()
@@ -137,6 +137,13 @@ fn composite_files_are_read(rt: HostRuntime) {
     for row in rows {
         assert_read(&rt, rt.alloc(), row);
     }
+}
+
+#[test]
+fn composite_files_are_read_back(rt: HostRuntime) {
+    let bytes = written(&rt, rt.alloc(), Content::TwoFields);
+    assert_read(&rt, rt.alloc(), (bytes.as_slice(), 0, 0, Some(LARGE)));
+    assert_read(&rt, rt.alloc(), (bytes.as_slice(), 4, 0, Some(TWO)));
 }
 
 // Whether a file of these bytes is refused.

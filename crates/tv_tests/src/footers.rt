@@ -26,7 +26,7 @@ pub(crate) fn write_footer<W: TerminatingWrite + Drop>(
     alloc: Global,
     mut writer: W,
 )
-    requires going { W.ended writer ≡ false }
+    requires going { (W.view writer).ended ≡ false }
 {
     Footer::new(123)
         .append_footer(alloc, &mut writer)
@@ -40,7 +40,7 @@ pub(crate) fn write_nine_bytes<W: TerminatingWrite + Drop>(
     alloc: Global,
     writer: W,
 )
-    requires going { W.ended writer ≡ false }
+    requires going { (W.view writer).ended ≡ false }
 {
     let mut proxy = FooterProxy::<W, Crc32>::new(alloc, writer);
     proxy.write_all(b"1234").expect(rt, "written");
@@ -49,10 +49,24 @@ pub(crate) fn write_nine_bytes<W: TerminatingWrite + Drop>(
     proxy.terminate().expect(rt, "ended");
 }
 
+// Writes four bytes and flushes them, and no footer.
+pub(crate) fn flush_four_bytes<W: TerminatingWrite + Drop>(
+    rt: &impl Abort,
+    alloc: Global,
+    writer: W,
+)
+    requires going { (W.view writer).ended ≡ false }
+{
+    let mut proxy = FooterProxy::<W, Crc32>::new(alloc, writer);
+    proxy.write_all(b"1234").expect(rt, "written");
+    proxy.flush().expect(rt, "flushed");
+}
+
 #[test]
 fn footers_are_written(rt: HostRuntime) {
     let rows = [
         (Content::Footer, FOOTER_OF_123),
+        (Content::FourBytes, b"1234"),
         (Content::NineBytes, NINE_BYTES),
     ];
     for (content, want) in rows {

@@ -1,113 +1,162 @@
-//! Results that come later.
+//! Results that come later: by which way they come, and who looks at them.
 ghost use Rattle.std.specs.Prelude.{◌≡◌, false};
 
 use futures::executor::block_on;
 use futures::future::Future;
 use futures::task::{Context, Poll};
-use std::alloc::Global;
-use std::process::Abort;
+use std::alloc::{AllocGlobal, Global};
+use std::random::RandomSource;
 use std::sync::Wait;
+use std::test::Fail;
 use std::thread;
-use tv_base::{FutureResult, Sender, TantivyError};
+use std::thread::Threads;
+use tv_base::{FutureResult, Memory, Sender, TantivyError};
 
-type Answer = Result<u8, TantivyError>;
+// What an answer is.
+#[derive(Clone, Copy, Debug, PartialEq, Eq)]
+enum Outcome {
+    Number(u8),
+    Poisoned,
+    // The error of a future whose sender is gone.
+    Failed,
+    Other,
+}
 
-// One look at a future.
-#[derive(Drop)]
-struct Look(FutureResult<u8>);
-
-impl Future for Look {
-    type Output = Poll<Answer>;
-
-    ghost use Rattle.std.specs.Prelude.{◌≡◌, false};
-
-    ghost can_poll = { λ l. l.0.answered ≡ false };
-
-    fn poll(&mut self, cx: &mut Context<'_>) -> Poll<Poll<Answer>> {
-        Poll::Ready(self.0.poll(cx))
+fn seen(answer: Result<u8, TantivyError>) -> Outcome {
+    match answer {
+        Ok(number) => Outcome::Number(number),
+        Err(error) => failure(&error),
     }
 }
 
-// A future and its sender, for which there is memory.
-fn made<R: Abort>(rt: &R, alloc: Global) -> (FutureResult<u8>, Sender<u8>)
-    ensures { result.0.answered ≡ false }
-{
-    FutureResult::create(alloc, "failed").expect(rt, "memory")
+fn failure(error: &TantivyError) -> Outcome {
+    match error {
+        TantivyError::Poisoned => Outcome::Poisoned,
+        TantivyError::SystemError(text) if text.as_str() == "failed" => Outcome::Failed,
+        _ => Outcome::Other,
+    }
 }
 
-// The error of a future that was made, where its sender is gone.
-fn failed<R: Abort>(rt: &R, alloc: Global) -> TantivyError {
-    TantivyError::SystemError(String::from_str(alloc, "failed").expect(rt, "memory"))
+// What becomes of a sender.
+#[derive(Clone, Copy)]
+enum Way {
+    Sends(u8),
+    SendsError,
+    Goes,
+}
+
+// Whether a sender reaches its future. One that goes always does.
+fn reaches(sender: Sender<u8>, way: Way) -> bool {
+    match way {
+        Way::Sends(number) => sender.send(Ok(number)).is_ok(),
+        Way::SendsError => sender.send(Err(TantivyError::Poisoned)).is_ok(),
+        Way::Goes => true,
+    }
+}
+
+// A future, and its sender, which goes its way once the future was looked at without an answer.
+#[derive(Drop)]
+struct Look {
+    future: FutureResult<u8>,
+    sender: Option<Sender<u8>>,
+    way: Way,
+    // How often it was looked at before.
+    looks: u8,
+}
+
+impl Future for Look {
+    type Output = (u8, Outcome);
+
+    ghost use Rattle.std.specs.Prelude.{◌≡◌, false};
+
+    ghost can_poll = { λ l. l.future.answered ≡ false };
+
+    fn poll(&mut self, cx: &mut Context<'_>) -> Poll<(u8, Outcome)> {
+        match self.future.poll(cx) {
+            Poll::Ready(answer) => Poll::Ready((self.looks, seen(answer))),
+            Poll::Pending => {
+                self.looks = self.looks.saturating_add(1);
+                self.sender.take().map(|sender| reaches(sender, self.way));
+                Poll::Pending
+            }
+        }
+    }
+}
+
+// The sender, if it is to go its way later.
+fn kept(sender: Sender<u8>, way: Way, is_later: bool) -> Option<Sender<u8>> {
+    if is_later {
+        return Some(sender);
+    }
+    reaches(sender, way);
+    None
+}
+
+// How often a future was looked at without an answer, and the answer.
+fn polled<R: Wait + RandomSource + AllocGlobal>(
+    rt: &R,
+    way: Way,
+    is_later: bool,
+) -> Result<Option<(u8, Outcome)>, Memory> {
+    let (future, sender) = FutureResult::create(rt.alloc(), "failed")?;
+    let look = Look {
+        future,
+        sender: kept(sender, way, is_later),
+        way,
+        looks: 0,
+    };
+    Ok(block_on(rt, look).ok())
 }
 
 #[test]
-fn finished_ones(rt: HostRuntime) {
-    let future = FutureResult::<u8>::done(Err(TantivyError::Poisoned));
-    assert_eq!(rt; future.wait(&rt), Err(TantivyError::Poisoned));
-    let future = FutureResult::<u8>::from(TantivyError::Poisoned);
-    assert_eq!(rt; future.wait(&rt), Err(TantivyError::Poisoned));
+fn answers_are_polled(rt: HostRuntime) -> Result<(), Fail> {
+    let rows = [
+        (Way::Sends(2), false, (0, Outcome::Number(2))),
+        (Way::SendsError, false, (0, Outcome::Poisoned)),
+        (Way::Goes, false, (0, Outcome::Failed)),
+        (Way::Sends(2), true, (1, Outcome::Number(2))),
+        (Way::Goes, true, (1, Outcome::Failed)),
+    ];
+    for (way, is_later, want) in rows {
+        assert_eq!(rt; polled(&rt, way, is_later)?, Some(want));
+    }
+    Ok(())
+}
+
+// Whether another thread's sender reaches the future, and the answer that is waited for.
+fn waited<R: Threads + Wait + AllocGlobal>(rt: &R, way: Way) -> Result<(bool, Outcome), Memory> {
+    let (future, sender) = FutureResult::create(rt.alloc(), "failed")?;
+    Ok(thread::join(
+        rt,
+        move || reaches(sender, way),
+        move || seen(future.wait(rt)),
+    ))
 }
 
 #[test]
-fn one_whose_sender_is_gone(rt: HostRuntime) {
-    let (future, sender) = made(&rt, rt.alloc());
-    drop(sender);
-    assert_eq!(rt; future.wait(&rt), Err(failed(&rt, rt.alloc())));
+fn answers_are_waited_for(rt: HostRuntime) -> Result<(), Fail> {
+    let rows = [
+        (Way::Sends(2), Outcome::Number(2)),
+        (Way::SendsError, Outcome::Poisoned),
+        (Way::Goes, Outcome::Failed),
+    ];
+    for (way, want) in rows {
+        assert_eq!(rt; waited(&rt, way)?, (true, want));
+    }
+    Ok(())
 }
 
-// A future to which this is sent answers it.
-fn is_answered<R: Abort + Wait>(rt: &R, alloc: Global, sent: Answer, want: Answer) {
-    let (future, sender) = made(rt, alloc);
-    assert!(rt; sender.send(sent).is_ok());
-    assert_eq!(rt; future.wait(rt), want);
-}
-
-#[test]
-fn ones_that_are_sent(rt: HostRuntime) {
-    is_answered(&rt, rt.alloc(), Ok(2), Ok(2));
-    is_answered(
-        &rt,
-        rt.alloc(),
-        Err(TantivyError::Poisoned),
-        Err(TantivyError::Poisoned),
-    );
-}
-
-#[test]
-fn one_that_nobody_waits_for(rt: HostRuntime) {
-    let (future, sender) = made(&rt, rt.alloc());
+// Whether a sender reaches a future that is gone.
+fn reaches_nobody(alloc: Global) -> Result<bool, Memory> {
+    let (future, sender) = FutureResult::create(alloc, "failed")?;
     drop(future);
-    assert_eq!(rt; sender.send(Ok(2)), Err(Ok(2)));
+    Ok(reaches(sender, Way::Sends(2)))
 }
 
 #[test]
-fn one_is_polled_before_the_send(rt: HostRuntime) {
-    let (future, sender) = made(&rt, rt.alloc());
-    assert_eq!(rt; block_on(&rt, Look(future)).ok(), Some(Poll::Pending));
-    drop(sender);
-}
-
-#[test]
-fn finished_ones_are_polled(rt: HostRuntime) {
-    let future = FutureResult::done(Ok(2));
-    assert_eq!(rt; block_on(&rt, Look(future)).ok(), Some(Poll::Ready(Ok(2))));
-    let (future, sender) = made(&rt, rt.alloc());
-    assert!(rt; sender.send(Ok(3)).is_ok());
-    assert_eq!(rt; block_on(&rt, Look(future)).ok(), Some(Poll::Ready(Ok(3))));
-}
-
-#[test]
-fn one_is_polled_whose_sender_is_gone(rt: HostRuntime) {
-    let (future, sender) = made(&rt, rt.alloc());
-    drop(sender);
-    let want = Poll::Ready(Err(failed(&rt, rt.alloc())));
-    assert_eq!(rt; block_on(&rt, Look(future)).ok(), Some(want));
-}
-
-#[test]
-fn one_is_sent_by_another_thread(rt: HostRuntime) {
-    let (future, sender) = made(&rt, rt.alloc());
-    let child = thread::spawn(&rt, move || sender.send(Ok(3)).is_ok()).expect(&rt, "a thread");
-    assert_eq!(rt; future.wait(&rt), Ok(3));
-    assert!(rt; child.join(&rt));
+fn one_that_nobody_waits_for(rt: HostRuntime) -> Result<(), Fail> {
+    assert!(rt; !reaches_nobody(rt.alloc())?);
+    let future = FutureResult::from(TantivyError::Poisoned);
+    assert_eq!(rt; seen(future.wait(&rt)), Outcome::Poisoned);
+    Ok(())
 }

@@ -1,6 +1,6 @@
 //! Values that are kept as long as a ticket of theirs is out.
-use std::process::Abort;
-use tv_base::{Inventory, Ticket, Visit};
+use std::test::Fail;
+use tv_base::{Inventory, Memory, Ticket, Visit};
 
 #[derive(Drop, PartialEq, Eq)]
 struct Letter(char);
@@ -13,37 +13,40 @@ impl Visit for Letter {
     }
 }
 
-fn tracked<R: Abort>(rt: &R, inventory: &mut Inventory<Letter>, value: char) -> Ticket {
-    inventory.track(Letter(value)).expect(rt, "memory")
+// Whether these are the values.
+fn lists(inventory: &Inventory<Letter>, want: &[char]) -> Result<bool, Memory> {
+    let values = inventory.list()?;
+    Ok(
+        values.len() == want.len()
+            && values
+                .iter()
+                .zip(want.iter())
+                .all(|(letter, want)| letter.0 == *want),
+    )
 }
 
-fn shared<R: Abort>(rt: &R, inventory: &mut Inventory<Letter>, ticket: &Ticket) -> Ticket {
-    inventory.share(ticket).expect(rt, "a count")
+// The second of two tickets of a value, of which the first one is given back.
+fn track(inventory: &mut Inventory<Letter>, value: char) -> Result<Ticket, Fail> {
+    let ticket = inventory.track(Letter(value))?;
+    let other = inventory.share(&ticket)?;
+    inventory.release(ticket);
+    Ok(other)
 }
 
-// Looks whether these are the values.
-fn lists<R: Abort>(rt: &R, inventory: &Inventory<Letter>, want: &[char]) {
-    let values = inventory.list().expect(rt, "memory");
-    assert!(rt;
-        values
-            .iter()
-            .map(|letter| letter.0)
-            .eq(want.iter().copied())
-    );
+// Whether a value is visited, and gone with its last ticket.
+fn visits(inventory: &mut Inventory<Letter>) -> Result<bool, Fail> {
+    let ticket = track(inventory, 'x')?;
+    inventory.visit_all();
+    let is_visited = lists(inventory, &['X'])?;
+    inventory.release(ticket);
+    Ok(is_visited && lists(inventory, &[])?)
 }
 
 #[test]
-fn tickets_keep_their_values(rt: HostRuntime) {
+fn tickets_keep_their_values(rt: HostRuntime) -> Result<(), Fail> {
     let mut inventory = Inventory::new(rt.alloc());
-    let x = tracked(&rt, &mut inventory, 'x');
-    let _y = tracked(&rt, &mut inventory, 'y');
-    let other = shared(&rt, &mut inventory, &x);
-    inventory.release(x);
-    lists(&rt, &inventory, &['x', 'y']);
-    inventory.visit_all();
-    lists(&rt, &inventory, &['X', 'Y']);
-    inventory.release(other);
-    lists(&rt, &inventory, &['Y']);
+    assert!(rt; visits(&mut inventory)?);
+    Ok(())
 }
 
 #[test]

@@ -1,5 +1,5 @@
 //! A managed directory, one call after the other, over a directory that fails.
-ghost use Rattle.std.specs.Prelude.{◌≡◌, ◌≢◌, true, IfOk, None};
+ghost use Rattle.std.specs.Prelude.{◌≡◌, ◌≢◌, ◌+◌, ◌<◌, ◌^◌, true, length, OnOk};
 ghost use Rattle.tv_model.specs.Names.{is_file_name, list_name};
 
 use std::alloc::Global;
@@ -10,7 +10,7 @@ use tv_base::{
     TantivyError, is_plain_name,
 };
 use tv_directory::{Bench, Directory, NoWatch, meta_lock};
-use tv_managed::{GarbageCollectionResult, ManagedDirectory, Refused};
+use tv_managed::{GarbageCollectionResult, ManagedDirectory, ManagedWriter, Refused};
 use tv_model::Memory;
 
 pub(crate) type TestDirectory = ManagedDirectory<Bench<NoWatch>>;
@@ -19,10 +19,8 @@ pub(crate) type TestDirectory = ManagedDirectory<Bench<NoWatch>>;
 #[derive(Clone, Copy)]
 pub(crate) enum Call {
     AtomicWrite,
-    /// The file is made, `123456789` is written and flushed, and the file is sealed.
+    /// The file is made, the text is written and flushed, and the file is sealed.
     Seal,
-    /// The file is made and sealed.
-    SealEmpty,
     /// The device refuses an atomic write, or the making of a file.
     IsNotWritten,
     IsNotMade,
@@ -48,8 +46,10 @@ pub(crate) enum Step {
     Sync,
     /// The lock of the readers is busy until it is released.
     Lock,
-    /// A new commit is noticed once.
-    Notice,
+    /// Somebody is registered, and at once not any more.
+    Watch,
+    /// There is a notice to deliver, and one alone.
+    Deliver,
     /// The stored list.
     List(&'static str),
     /// The managed names, in any order.
@@ -89,7 +89,7 @@ fn finds_none<T: Drop>(answer: Result<T, OpenReadError>, name: &str) -> bool {
     }
 }
 
-fn is_not_deleted(managed: &mut TestDirectory, name: &str) -> bool
+fn is_not_deleted<D: Directory>(managed: &mut ManagedDirectory<D>, name: &str) -> bool
     requires name { is_file_name name.now ≡ true }
     requires other { name.now ≢ list_name }
 {
@@ -106,38 +106,73 @@ fn is_not_written(answer: Result<(), IoError>) -> bool {
     }
 }
 
-fn is_not_made(managed: &mut TestDirectory, name: &str) -> bool
-    requires name { is_file_name name.now ≡ true }
-    requires other { name.now ≢ list_name }
-{
-    match managed.open_write(name) {
-        Err(OpenWriteError::IoError { io_error, .. }) => io_error.kind == IoKind::Device,
+fn is_not_made<W: Drop>(answer: Result<W, OpenWriteError>, name: &str) -> bool {
+    match answer {
+        Err(OpenWriteError::IoError { io_error, filepath }) => {
+            io_error.kind == IoKind::Device && filepath.as_str() == name
+        }
         _ => false,
     }
 }
 
-fn seal(managed: &mut TestDirectory, name: &str) -> Result<bool, Fail>
+fn write<D: Directory>(
+    managed: &mut ManagedDirectory<D>,
+    name: &str,
+    text: &str,
+) -> Result<bool, Fail>
+    requires name { is_file_name name.now ≡ true }
+    requires other { name.now ≢ list_name }
+{
+    managed.atomic_write(name, text.as_bytes())?;
+    Ok(true)
+}
+
+// Writes a text, and flushes it.
+fn fill<D: Directory>(
+    managed: &mut ManagedDirectory<D>,
+    writer: &mut ManagedWriter<D>,
+    text: &str,
+) -> Result<(), IoError>
+    requires opened { (D.view managed.old.0).opened writer.old.writer ≡ true }
+    requires fits { length (D.state_of writer.old.writer).written + length text.now < 2 ^ 64 }
+    ensures opened { OnOk result ((D.view managed.new.0).opened writer.new.writer ≡ true) }
+{
+    managed.write(writer, text.as_bytes())?;
+    managed.flush(writer)
+}
+
+fn seal<D: Directory>(
+    managed: &mut ManagedDirectory<D>,
+    name: &str,
+    text: &str,
+) -> Result<bool, Fail>
     requires name { is_file_name name.now ≡ true }
     requires other { name.now ≢ list_name }
 {
     let mut writer = managed.open_write(name)?;
-    managed.write(&mut writer, b"123456789")?;
-    managed.flush(&mut writer)?;
+    fill(managed, &mut writer, text)?;
     managed.terminate(writer)?;
     Ok(true)
 }
 
-fn seal_empty(managed: &mut TestDirectory, name: &str) -> Result<bool, Fail>
-    requires name { is_file_name name.now ≡ true }
-    requires other { name.now ≢ list_name }
+fn exists<D: Directory>(managed: &mut ManagedDirectory<D>, name: &str) -> Result<bool, Fail>
+    requires { is_file_name name.now ≡ true }
 {
-    let writer = managed.open_write(name)?;
-    managed.terminate(writer)?;
-    Ok(true)
+    Ok(managed.exists(name)?)
+}
+
+fn is_absent<D: Directory>(managed: &mut ManagedDirectory<D>, name: &str) -> Result<bool, Fail>
+    requires { is_file_name name.now ≡ true }
+{
+    Ok(!managed.exists(name)?)
 }
 
 // Whether the body of a file is this text.
-fn reads(managed: &mut TestDirectory, name: &str, text: &str) -> Result<bool, Fail>
+fn reads<D: Directory>(
+    managed: &mut ManagedDirectory<D>,
+    name: &str,
+    text: &str,
+) -> Result<bool, Fail>
     requires { is_file_name name.now ≡ true }
 {
     let body = managed.get_file_handle(name)?;
@@ -145,75 +180,119 @@ fn reads(managed: &mut TestDirectory, name: &str, text: &str) -> Result<bool, Fa
 }
 
 // Whether all bytes of a file are this text.
-fn stores(managed: &mut TestDirectory, name: &str, text: &str) -> Result<bool, Fail>
+fn stores<D: Directory>(
+    managed: &mut ManagedDirectory<D>,
+    name: &str,
+    text: &str,
+) -> Result<bool, Fail>
     requires { is_file_name name.now ≡ true }
 {
     let bytes = managed.atomic_read(name)?;
     Ok(bytes.as_slice() == text.as_bytes())
 }
 
-// Makes a call on a file, and answers whether it ended as it is to end.
-fn on_file(managed: &mut TestDirectory, call: Call, name: &str, text: &str) -> Result<bool, Fail> {
-    if !is_plain_name(name) || name == MANAGED_FILEPATH {
-        return Err(Fail::from("no file has this name"));
-    }
+fn delete<D: Directory>(managed: &mut ManagedDirectory<D>, name: &str) -> Result<bool, Fail>
+    requires name { is_file_name name.now ≡ true }
+    requires other { name.now ≢ list_name }
+{
+    managed.delete(name)?;
+    Ok(true)
+}
+
+// Makes a call on a file of this name, and answers whether it ended as it is to end.
+fn take_on<D: Directory>(
+    managed: &mut ManagedDirectory<D>,
+    call: Call,
+    name: &str,
+    text: &str,
+) -> Result<bool, Fail>
+    requires name { is_file_name name.now ≡ true }
+    requires other { name.now ≢ list_name }
+{
     match call {
-        Call::AtomicWrite => {
-            managed.atomic_write(name, text.as_bytes())?;
-            Ok(true)
-        }
-        Call::Seal => seal(managed, name),
-        Call::SealEmpty => seal_empty(managed, name),
+        Call::AtomicWrite => write(managed, name, text),
+        Call::Seal => seal(managed, name, text),
         Call::IsNotWritten => Ok(is_not_written(managed.atomic_write(name, b"new"))),
-        Call::IsNotMade => Ok(is_not_made(managed, name)),
-        Call::Exists => Ok(managed.exists(name)?),
+        Call::IsNotMade => Ok(is_not_made(managed.open_write(name), name)),
+        Call::Exists => exists(managed, name),
         Call::Reads => reads(managed, name, text),
         Call::Stores => stores(managed, name, text),
-        Call::IsAbsent => Ok(!managed.exists(name)?),
+        Call::IsAbsent => is_absent(managed, name),
         Call::IsNotOpened => Ok(finds_none(managed.open_read(name), name)),
         Call::HasNoHandle => Ok(finds_none(managed.get_file_handle(name), name)),
         Call::IsNotChecked => Ok(finds_none(managed.validate_checksum(name), name)),
         Call::IsNotRead => Ok(finds_none(managed.atomic_read(name), name)),
         Call::IsNotDeleted => Ok(is_not_deleted(managed, name)),
-        Call::Delete => {
-            managed.delete(name)?;
-            Ok(true)
-        }
+        Call::Delete => delete(managed, name),
     }
 }
 
-fn locks(managed: &mut TestDirectory) -> Result<bool, Fail> {
-    let token = managed.acquire_lock(&meta_lock())?;
-    let is_busy = match managed.acquire_lock(&meta_lock()) {
+fn on_file(managed: &mut TestDirectory, call: Call, name: &str, text: &str) -> Result<bool, Fail> {
+    if !is_plain_name(name) || name == MANAGED_FILEPATH {
+        return Err(Fail::from("no file has this name"));
+    }
+    take_on(managed, call, name, text)
+}
+
+fn is_locked<D: Directory>(managed: &mut ManagedDirectory<D>) -> bool {
+    match managed.acquire_lock(&meta_lock()) {
         Err(LockError::LockBusy) => true,
         _ => false,
-    };
-    managed.release(token);
-    Ok(is_busy)
+    }
 }
 
-// Whether a write of `meta.json` is noticed, and once.
-fn notices(managed: &mut TestDirectory) -> Result<bool, Fail> {
+fn lock<D: Directory>(managed: &mut ManagedDirectory<D>) -> Result<bool, Fail> {
+    let token = managed.acquire_lock(&meta_lock())?;
+    let is_locked = is_locked(managed);
+    managed.release(token);
+    Ok(is_locked)
+}
+
+fn watch(managed: &mut TestDirectory) -> Result<bool, Fail> {
     let handle = managed.watch(NoWatch)?;
     managed.unwatch(handle);
-    managed.atomic_write("meta.json", b"{}")?;
-    let is_first = managed.deliver();
-    let is_second = managed.deliver();
-    Ok(is_first && !is_second)
+    Ok(true)
 }
 
-fn are_managed(managed: &TestDirectory, names: &[&str]) -> bool {
+// Whether there is a notice, and one alone.
+fn deliver<D: Directory>(managed: &mut ManagedDirectory<D>) -> bool {
+    let is_first = managed.deliver();
+    let is_second = managed.deliver();
+    is_first && !is_second
+}
+
+fn sync<D: Directory>(managed: &mut ManagedDirectory<D>) -> Result<bool, Fail> {
+    managed.sync_directory()?;
+    Ok(true)
+}
+
+fn are_managed<D: Directory>(managed: &ManagedDirectory<D>, names: &[&str]) -> bool {
     let managed = managed.list_managed_files();
     managed.len() == names.len() && names.iter().all(|name| managed.contains(*name))
 }
 
-fn collect(
-    managed: &mut TestDirectory,
+fn collect<D: Directory>(
+    managed: &mut ManagedDirectory<D>,
     alloc: Global,
     living: &[&str],
 ) -> Result<GarbageCollectionResult, TantivyError> {
     let living = set_of(alloc, living)?;
     managed.garbage_collect(|| living)
+}
+
+// Whether a collection deletes these names, and fails to delete those.
+fn collects<D: Directory>(
+    managed: &mut ManagedDirectory<D>,
+    alloc: Global,
+    living: &[&str],
+    deleted: &[&str],
+    failed: &[&str],
+) -> Result<bool, Fail> {
+    let result = collect(managed, alloc, living)?;
+    Ok(
+        are(result.deleted_files.as_slice(), deleted)
+            && are(result.failed_to_delete_files.as_slice(), failed),
+    )
 }
 
 // Whether the device ends a collection.
@@ -224,29 +303,29 @@ fn is_not_collected(answer: Result<GarbageCollectionResult, TantivyError>) -> bo
     }
 }
 
+fn fails_to_collect<D: Directory>(managed: &mut ManagedDirectory<D>, alloc: Global) -> bool {
+    is_not_collected(collect(managed, alloc, &[]))
+}
+
+fn lists<D: Directory>(managed: &mut ManagedDirectory<D>, text: &str) -> Result<bool, Fail> {
+    stores(managed, MANAGED_FILEPATH, text)
+}
+
 fn take(managed: &mut TestDirectory, alloc: Global, step: Step) -> Result<bool, Fail> {
     match step {
         Step::On(call, name, text) => on_file(managed, call, name, text),
-        Step::Sync => {
-            managed.sync_directory()?;
-            Ok(true)
-        }
-        Step::Lock => locks(managed),
-        Step::Notice => notices(managed),
-        Step::List(text) => stores(managed, MANAGED_FILEPATH, text),
+        Step::Sync => sync(managed),
+        Step::Lock => lock(managed),
+        Step::Watch => watch(managed),
+        Step::Deliver => Ok(deliver(managed)),
+        Step::List(text) => lists(managed, text),
         Step::Names(names) => Ok(are_managed(managed, names)),
         Step::Collect {
             living,
             deleted,
             failed,
-        } => {
-            let result = collect(managed, alloc, living)?;
-            Ok(
-                are(result.deleted_files.as_slice(), deleted)
-                    && are(result.failed_to_delete_files.as_slice(), failed),
-            )
-        }
-        Step::CollectFails => Ok(is_not_collected(collect(managed, alloc, &[]))),
+        } => collects(managed, alloc, living, deleted, failed),
+        Step::CollectFails => Ok(fails_to_collect(managed, alloc)),
     }
 }
 
@@ -310,14 +389,14 @@ pub(crate) fn miss_of(
 const SEALED: &str =
     "123456789{\"version\":{\"major\":0,\"minor\":26,\"patch\":2,\"index_format_version\":7},\"crc\":3421780262}\x56\x00\x00\x00\x39\x05\x00\x00";
 
-const FILES: [Step; 22] = [
+const FILES: [Step; 24] = [
     Step::On(Call::IsAbsent, "a.idx", ""),
     Step::On(Call::IsNotOpened, "a.idx", ""),
     Step::On(Call::HasNoHandle, "a.idx", ""),
     Step::On(Call::IsNotChecked, "a.idx", ""),
     Step::On(Call::IsNotRead, "a.idx", ""),
     Step::On(Call::IsNotDeleted, "a.idx", ""),
-    Step::On(Call::Seal, "a.idx", ""),
+    Step::On(Call::Seal, "a.idx", "123456789"),
     Step::List("[\"a.idx\"]\n"),
     Step::On(Call::Reads, "a.idx", "123456789"),
     Step::On(Call::Stores, "a.idx", SEALED),
@@ -332,7 +411,9 @@ const FILES: [Step; 22] = [
     Step::Names(&["a.idx", "meta.json"]),
     Step::Lock,
     Step::Lock,
-    Step::Notice,
+    Step::Watch,
+    Step::On(Call::AtomicWrite, "meta.json", "{}"),
+    Step::Deliver,
     Step::On(Call::Exists, "meta.json", ""),
 ];
 
@@ -354,7 +435,7 @@ const REFUSED: [Step; 10] = [
     // The name was registered before the making of the file was refused.
     Step::Names(&["a.idx"]),
     Step::On(Call::IsAbsent, "a.idx", ""),
-    Step::On(Call::Seal, "a.idx", ""),
+    Step::On(Call::Seal, "a.idx", "123456789"),
     Step::On(Call::Reads, "a.idx", "123456789"),
 ];
 

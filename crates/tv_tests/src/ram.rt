@@ -117,7 +117,7 @@ fn reads<D: Directory>(directory: &mut D, name: &str, text: &str) -> Result<bool
 
 // Writes a text, and flushes it.
 fn fill<D: Directory>(directory: &mut D, writer: &mut D::Writer, text: &str) -> Result<(), IoError>
-    requires { D.opened directory.old writer.old ≡ true }
+    requires { (D.view directory.old).opened writer.old ≡ true }
 {
     directory.write(writer, text.as_bytes())?;
     directory.flush(writer)
@@ -133,7 +133,7 @@ fn flush<D: Directory>(directory: &mut D, name: &str, text: &str) -> Result<bool
 
 // Writes a text, and seals it.
 fn finish<W: TerminatingWrite>(writer: &mut W, text: &str) -> Result<(), IoError>
-    requires { W.ended writer.old ≡ false }
+    requires { (W.view writer.old).ended ≡ false }
 {
     writer.write_all(text.as_bytes())?;
     writer.flush()?;
@@ -152,8 +152,8 @@ fn seal<D: Directory>(directory: &mut D, name: &str, text: &str) -> Result<bool,
 // Writes to a file, deletes it, and flushes it.
 fn lose<D: Directory>(directory: &mut D, writer: &mut D::Writer, name: &str) -> Result<(), Fail>
     requires name { is_file_name name.now ≡ true }
-    requires opened { D.opened directory.old writer.old ≡ true }
-    ensures { OnOk result (D.opened directory.new writer.new ≡ true) }
+    requires opened { (D.view directory.old).opened writer.old ≡ true }
+    ensures { OnOk result ((D.view directory.new).opened writer.new ≡ true) }
 {
     directory.write(writer, b"lost")?;
     directory.delete(name)?;

@@ -2,9 +2,11 @@
 //! agree.
 
 use crate::managed::{TestDirectory, failing};
+use crate::written::{Content, written};
 use std::alloc::Global;
 use std::test::Fail;
-use tv_base::{Incompatibility, IoKind, OpenReadError};
+use tv_base::{Field, FileSlice, Incompatibility, IoKind, OpenReadError};
+use tv_framing::CompositeFile;
 
 // What a call answers that reads a file.
 #[derive(Clone, Copy)]
@@ -204,5 +206,41 @@ fn miss_of(alloc: Global) -> Result<Option<usize>, Fail> {
 #[test]
 fn footers_are_taken_or_refused(rt: HostRuntime) -> Result<(), Fail> {
     assert_eq!(rt; miss_of(rt.alloc())?, None);
+    Ok(())
+}
+
+fn read_back(managed: &mut TestDirectory, bytes: &[u8]) -> Result<FileSlice, Fail> {
+    managed.atomic_write("a.idx", bytes)?;
+    Ok(managed.open_read("a.idx")?)
+}
+
+// The body of a file of these bytes, as a managed directory reads it.
+fn body_of(alloc: Global, bytes: &[u8]) -> Result<FileSlice, Fail> {
+    let mut managed = failing(alloc, &[])?;
+    let body = read_back(&mut managed, bytes);
+    drop(managed.into_directory());
+    body
+}
+
+#[test]
+fn bytes_behind_a_proxy_are_read_back(rt: HostRuntime) -> Result<(), Fail> {
+    let bytes = written(&rt, rt.alloc(), Content::NineBytes);
+    let body = body_of(rt.alloc(), bytes.as_slice())?;
+    assert_eq!(rt; body.read_bytes()?.as_slice(), b"123456789".as_slice());
+    Ok(())
+}
+
+// The spelling of 2, which is the body of field 4.
+const TWO: &[u8] = &[0x82];
+
+#[test]
+fn fields_behind_a_proxy_are_read_back(rt: HostRuntime) -> Result<(), Fail> {
+    let bytes = written(&rt, rt.alloc(), Content::SealedFields);
+    let body = body_of(rt.alloc(), bytes.as_slice())?;
+    let file = CompositeFile::open(rt.alloc(), &body)?;
+    match file.open_read(Field::from_field_id(4))? {
+        Some(two) => assert_eq!(rt; two.read_bytes()?.as_slice(), TWO),
+        None => panic!(rt; "no field 4"),
+    }
     Ok(())
 }

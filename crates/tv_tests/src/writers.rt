@@ -12,13 +12,15 @@ struct Page {
 }
 
 impl TerminatingWrite for Page {
-    ghost taken = { λ p. p.bytes.items };
-
-    ghost faults = { λ _. 0 };
-
-    ghost ended = { λ p. p.ended };
+    ghost view = { λ p. record { taken = p.bytes.items; faults = 0; ended = p.ended } };
 
     ghost keeps = { Unit {0} };
+
+    ghost stays = { λ _ _. Unit {0} };
+
+    ghost flushed = { λ _ new. new.ended ≡ false };
+
+    ghost sealed = { λ _ new bytes. new.bytes.items ≡ bytes };
 
     fn write_all(&mut self, bytes: &[u8]) -> Result<(), IoError> {
         self.bytes.extend_from_slice(bytes)?;
@@ -37,7 +39,7 @@ impl TerminatingWrite for Page {
 
 // Writes a page in two pieces, to its end.
 fn writes_a_page<R: Abort, W: TerminatingWrite>(rt: &R, writer: &mut W)
-    requires { W.ended writer.old ≡ false }
+    requires { (W.view writer.old).ended ≡ false }
 {
     writer.write_all(b"abc").expect(rt, "memory");
     writer.write_all(b"de").expect(rt, "memory");

@@ -2,31 +2,41 @@
 ghost use Rattle.std.specs.Prelude.{◌≡◌, false};
 
 use crate::composites::{write_no_fields, write_two_bodies_of_one_field, write_two_fields};
-use crate::footers::{write_footer, write_nine_bytes};
+use crate::footers::{flush_four_bytes, write_footer, write_nine_bytes};
 use std::alloc::Global;
 use std::process::Abort;
 use tv_base::{FileSlice, OwnedBytes, TerminatingWrite};
+use tv_checksum::Crc32;
 use tv_directory::{Bench, DirWriter, Directory, NoWatch};
+use tv_framing::FooterProxy;
 
 /// What a file gets.
 #[derive(Clone, Copy)]
 pub(crate) enum Content {
     Footer,
+    /// Flushed, and not sealed.
+    FourBytes,
     NineBytes,
     TwoFields,
     TwoBodiesOfOneField,
     NoFields,
+    /// The same as `TwoFields`, and a footer.
+    SealedFields,
 }
 
 fn write<W: TerminatingWrite + Drop>(rt: &impl Abort, alloc: Global, writer: W, content: Content)
-    requires going { W.ended writer ≡ false }
+    requires going { (W.view writer).ended ≡ false }
 {
     match content {
         Content::Footer => write_footer(rt, alloc, writer),
+        Content::FourBytes => flush_four_bytes(rt, alloc, writer),
         Content::NineBytes => write_nine_bytes(rt, alloc, writer),
         Content::TwoFields => write_two_fields(rt, alloc, writer),
         Content::TwoBodiesOfOneField => write_two_bodies_of_one_field(rt, alloc, writer),
         Content::NoFields => write_no_fields(rt, alloc, writer),
+        Content::SealedFields => {
+            write_two_fields(rt, alloc, FooterProxy::<W, Crc32>::new(alloc, writer))
+        }
     }
 }
 
@@ -35,16 +45,20 @@ fn write_file<D: Directory>(rt: &impl Abort, alloc: Global, directory: &mut D, c
     write(rt, alloc, DirWriter::new(directory, writer), content);
 }
 
-fn is_file<D: Directory>(rt: &impl Abort, directory: &mut D, want: &[u8]) -> bool {
-    let bytes = directory.atomic_read("a.idx").expect(rt, "the file");
-    bytes.as_slice() == want
+fn read_file<D: Directory>(rt: &impl Abort, directory: &mut D) -> Vec<u8> {
+    directory.atomic_read("a.idx").expect(rt, "the file")
+}
+
+/// The bytes of a file with this content.
+pub(crate) fn written(rt: &impl Abort, alloc: Global, content: Content) -> Vec<u8> {
+    let mut bench: Bench<NoWatch> = Bench::new(alloc, Vec::new(alloc)).expect(rt, "memory");
+    write_file(rt, alloc, &mut bench, content);
+    read_file(rt, &mut bench)
 }
 
 /// Whether a file with this content has these bytes.
 pub(crate) fn is_written(rt: &impl Abort, alloc: Global, content: Content, want: &[u8]) -> bool {
-    let mut bench: Bench<NoWatch> = Bench::new(alloc, Vec::new(alloc)).expect(rt, "memory");
-    write_file(rt, alloc, &mut bench, content);
-    is_file(rt, &mut bench, want)
+    written(rt, alloc, content).as_slice() == want
 }
 
 /// The file of these bytes.

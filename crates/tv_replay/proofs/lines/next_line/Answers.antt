@@ -1,4 +1,4 @@
-use Rattle.std.proofs.Common.{arith}
+use Rattle.std.proofs.Common.{arith, ◌∙◌}
 use Rattle.tv_replay.specs.ScriptLines.{pending}
 use Rattle.tv_replay.proofs.LineLemmas.{still_begins, takes_last, takes_line, too_long}
 use Rattle.tv_replay.proofs.lines.next_line.Goals as goal
@@ -6,17 +6,24 @@ use Rattle.tv_replay.proofs.lines.next_line.Goals as goal
 pub returns-then-is_empty-clause-line : goal.returns-then-is_empty-clause-line
 returns-then-is_empty-clause-line g c script told =
     let begun = c.pieces.invariant.begins script told in
-    let b = still_begins script c.pieces.line.items _ (pending c.refill.new.self (g.S.Source.left c.refill.new.source)) begun c.in_ok-refill.ensures.same in
+    let b = still_begins script c.pieces.line.items _ (pending c.refill.new.self (g.S.Source.view c.refill.new.source).left) begun c.in_ok-refill.ensures.same in
     takes_last script c.pieces.line.items _ b (c.in_ok-refill.ensures.end (c.is_empty.ensures.0 c.if-is_empty.true) begun.0 begun.1) c.as_slice.result.now c.as_slice.ensures.value c.if-is_empty-2.ensures
 
-pub returns-then-len-gt-LINE_LIMIT-clause-too_long : goal.returns-then-len-gt-LINE_LIMIT-clause-too_long
-returns-then-len-gt-LINE_LIMIT-clause-too_long g c _ script told =
-    let left = g.S.Source.left c.refill.new.source in
-    let b = still_begins script c.pieces.line.items _ (pending c.refill.new.self left) (c.pieces.invariant.begins script told) c.in_ok-refill.ensures.same in
-    too_long c.in_ok-found.found script c.refill.new.self c.move_line.new.self c.pieces.line.items c.move_line.new.line.items left b c.in_ok-found.ensures (omega arith)
+pub returns-then-len-gt-LINE_LIMIT-clause-faults : goal.returns-then-len-gt-LINE_LIMIT-clause-faults
+returns-then-len-gt-LINE_LIMIT-clause-faults g c =
+    let left = (g.S.Source.view c.refill.new.source).left in
+    record {
+      quiet = tt;
+      cause = (
+        c.in_ok-refill.ensures.faults.quiet ∙ c.pieces.invariant.quiet,
+        λ script told.
+            let b = still_begins script c.pieces.line.items _ (pending c.refill.new.self left) (c.pieces.invariant.begins script told) c.in_ok-refill.ensures.same in
+            too_long c.in_ok-found.found script c.refill.new.self c.move_line.new.self c.pieces.line.items c.move_line.new.line.items left b c.in_ok-found.ensures (omega arith),
+      );
+    }
 
 pub returns-then-found-clause-line : goal.returns-then-found-clause-line
 returns-then-found-clause-line g c script told =
-    let left = g.S.Source.left c.refill.new.source in
+    let left = (g.S.Source.view c.refill.new.source).left in
     let b = still_begins script c.pieces.line.items _ (pending c.refill.new.self left) (c.pieces.invariant.begins script told) c.in_ok-refill.ensures.same in
     takes_line script c.refill.new.self c.move_line.new.self c.pieces.line.items c.move_line.new.line.items left b (rw c.if-found.true at c.in_ok-found.ensures)

@@ -5,11 +5,11 @@ use Rattle.tv_replay.proofs.lines.next_line.Given as goal
 
 abbrev pub invariant-pieces : goal.invariant-pieces
 invariant-pieces g l =
-    let left = g.S.Source.left in
+    let view = g.S.Source.view in
     record {
-      begins : (script : List ℕ) → pending l.fn.held (left l.fn.source) ≡ Some script → Begins script l.line.items (pending l.held (left l.source));
+      begins : (script : List ℕ) → pending l.fn.buffer (view l.fn.source).left ≡ Some script → Begins script l.line.items (pending l.buffer (view l.source).left);
       short : vec_len l.line ≤ line_limit;
-      quiet : g.S.Source.faults l.source ≡ g.S.Source.faults l.fn.source;
+      quiet : (view l.source).faults ≡ (view l.fn.source).faults;
     }
 
 abbrev pub decreases-pieces : goal.decreases-pieces

@@ -1,5 +1,5 @@
 use Rattle.std.proofs.Common.{◌∙◌, ap, map, arith}
-use Rattle.tv_replay.specs.Reading.{event_in}
+use Rattle.tv_replay.specs.EventWords.{event_in}
 use Rattle.tv_replay.proofs.Laws.{line_found, line_only}
 use Rattle.tv_replay.proofs.script.parse_event.Goals as goal
 

@@ -1,41 +1,47 @@
-use Rattle.std.proofs.Common.{◌≡◌, ◌∙◌, sym, refl}
+use Rattle.std.proofs.Common.{◌≡◌, ◌∙◌, sym, refl, rules}
 use Rattle.std.proofs.lemmas.Result.{err_from_is_err_and}
 use Rattle.tv_model.specs.Files.{Rose}
 use Rattle.tv_model.specs.Names.{list_name, meta_name}
 use Rattle.tv_store.proofs.Steps.{opening_of, not_there, later_fault}
 use Rattle.tv_store.proofs.opening.check_empty.Goals as goal
 
-pub returns-in_err-reads_file-clause-cause : goal.returns-in_err-reads_file-clause-cause
-returns-in_err-reads_file-clause-cause g c =
-    let faults = g.O.Directory.faults in
-    let start = faults c.args.outside.now in
-    let before = c.in_ok-sync_directory.ensures.quiet in
+pub returns-in_err-reads_file-clause-faults : goal.returns-in_err-reads_file-clause-faults
+returns-in_err-reads_file-clause-faults g c =
+    let D = g.O.Directory in
+    let start = (D.view c.args.outside.now).faults in
+    let before = c.in_ok-sync_directory.ensures.faults.quiet in
     let e = err_from_is_err_and c.from_residual-in_err-reads_file.result c.from_residual-in_err-reads_file.ensures.1 in
-    rw (e.1, e.2) (opening_of g.O.Directory.tells c.args.schema.now (g.O.Directory.reads c.args.outside.now) ⊥
-    (Rose (faults c.sync_directory.new.self) (faults c.reads_file.new.outside)) (faults c.reads_file.new.outside ≡ faults c.sync_directory.new.self)
-    (Rose start (faults c.reads_file.new.outside)) (faults c.reads_file.new.outside ≡ start)
-    c.in_err-reads_file.field-0.0 c.in_err-reads_file.ensures.cause c.in_err-reads_file.ensures.file (sym c.is_accepted.ensures ∙ c.if-not-is_accepted.false)
-    (later_fault start _ _ _ before refl) (λ quiet. quiet ∙ before))
+    record {
+      quiet = search rules;
+      cause = rw (e.1, e.2) (opening_of g.O.Directory.told.content c.args.schema.now (g.O.Directory.view c.args.outside.now).reads ⊥
+          (Rose (D.view c.sync_directory.new.self).faults (D.view c.reads_file.new.outside).faults) ((D.view c.reads_file.new.outside).faults ≡ (D.view c.sync_directory.new.self).faults)
+          (Rose start (D.view c.reads_file.new.outside).faults) ((D.view c.reads_file.new.outside).faults ≡ start)
+          c.in_err-reads_file.field-0.0 c.in_err-reads_file.ensures.faults.cause c.in_err-reads_file.ensures.faults.file (sym c.is_accepted.ensures ∙ c.if-not-is_accepted.false)
+          (later_fault start _ _ _ before refl) (λ quiet. quiet ∙ before));
+    }
 
-pub returns-in_err-reads_file-2-clause-cause : goal.returns-in_err-reads_file-2-clause-cause
-returns-in_err-reads_file-2-clause-cause g c =
-    let faults = g.O.Directory.faults in
-    let start = faults c.args.outside.now in
-    let before = c.in_ok-reads_file.ensures.quiet ∙ c.in_ok-sync_directory.ensures.quiet in
+pub returns-in_err-reads_file-2-clause-faults : goal.returns-in_err-reads_file-2-clause-faults
+returns-in_err-reads_file-2-clause-faults g c =
+    let D = g.O.Directory in
+    let start = (D.view c.args.outside.now).faults in
+    let before = c.in_ok-reads_file.ensures.faults.quiet ∙ c.in_ok-sync_directory.ensures.faults.quiet in
     let e = err_from_is_err_and c.from_residual-in_err-reads_file-2.result c.from_residual-in_err-reads_file-2.ensures.1 in
-    rw (e.1, e.2) (opening_of g.O.Directory.tells c.args.schema.now (g.O.Directory.reads c.args.outside.now) ⊥
-    (Rose (faults c.reads_file.new.outside) (faults c.reads_file-2.new.outside)) (faults c.reads_file-2.new.outside ≡ faults c.reads_file.new.outside)
-    (Rose start (faults c.reads_file-2.new.outside)) (faults c.reads_file-2.new.outside ≡ start)
-    c.in_err-reads_file-2.field-0.0 c.in_err-reads_file-2.ensures.cause c.in_err-reads_file-2.ensures.file (sym c.is_accepted.ensures ∙ c.if-not-is_accepted.false)
-    (later_fault start _ _ _ before refl) (λ quiet. quiet ∙ before))
+    record {
+      quiet = search rules;
+      cause = rw (e.1, e.2) (opening_of g.O.Directory.told.content c.args.schema.now (g.O.Directory.view c.args.outside.now).reads ⊥
+          (Rose (D.view c.reads_file.new.outside).faults (D.view c.reads_file-2.new.outside).faults) ((D.view c.reads_file-2.new.outside).faults ≡ (D.view c.reads_file.new.outside).faults)
+          (Rose start (D.view c.reads_file-2.new.outside).faults) ((D.view c.reads_file-2.new.outside).faults ≡ start)
+          c.in_err-reads_file-2.field-0.0 c.in_err-reads_file-2.ensures.faults.cause c.in_err-reads_file-2.ensures.faults.file (sym c.is_accepted.ensures ∙ c.if-not-is_accepted.false)
+          (later_fault start _ _ _ before refl) (λ quiet. quiet ∙ before));
+    }
 
 pub returns-clause-none : goal.returns-clause-none
 returns-clause-none g c tells =
-    let reads = g.O.Directory.reads in
-    let synced = c.in_ok-sync_directory.ensures.content tells in
+    let D = g.O.Directory in
+    let synced = c.in_ok-sync_directory.ensures.frame.content tells in
     record {
-      listing = sym (synced list_name) ∙ not_there (reads c.sync_directory.new.self list_name) c.in_ok-reads_file.field-0 (c.in_ok-reads_file.ensures.answer tells) c.if-branch.false;
+      listing = sym (synced list_name) ∙ not_there ((D.view c.sync_directory.new.self).reads list_name) c.in_ok-reads_file.field-0 (c.in_ok-reads_file.ensures.answer tells) c.if-branch.false;
       meta =
-          sym (synced meta_name) ∙ sym (c.in_ok-reads_file.ensures.content tells meta_name)
-          ∙ not_there (reads c.reads_file.new.outside meta_name) c.in_ok-reads_file-2.field-0 (c.in_ok-reads_file-2.ensures.answer tells) c.if-branch-2.false;
+          sym (synced meta_name) ∙ sym (c.in_ok-reads_file.ensures.frame.content tells meta_name)
+          ∙ not_there ((D.view c.reads_file.new.outside).reads meta_name) c.in_ok-reads_file-2.field-0 (c.in_ok-reads_file-2.ensures.answer tells) c.if-branch-2.false;
     }

@@ -9,6 +9,6 @@ use Rattle.tv_framing.proofs.composite_write.CompositeWrite.has.Goals as goal
 pub returns : goal.returns
 returns g c = record {
   has = c.has_start.ensures
-      ∙ ap (λ l. list_any (is_at c.args.addr.now) l) (ap start_addresses c.as_slice.ensures.value ∙ sym (addresses_of (the_last c.self.inside.written (g.W.TerminatingWrite.taken c.self.inside.writer)) c.self.inside.starts.items))
+      ∙ ap (λ l. list_any (is_at c.args.addr.now) l) (ap start_addresses c.as_slice.ensures.value ∙ sym (addresses_of (the_last c.self.inside.written (g.W.TerminatingWrite.view c.self.inside.writer).taken) c.self.inside.starts.items))
       ∙ ap (λ v. has_address c.args.addr.now v.parts) c.self.view_is;
 }

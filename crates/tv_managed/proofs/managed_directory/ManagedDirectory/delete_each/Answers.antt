@@ -1,25 +1,26 @@
-use Rattle.std.proofs.Common.{◌≡◌, ℕ, List, [], ◌∷◌, ◌++◌, refl, sym, ap, ◌∙◌, arith, String, Global}
+use Rattle.std.proofs.Common.{◌≡◌, ℕ, List, [], ◌∷◌, ◌++◌, refl, ap, sym, ◌∙◌, arith, String, Global}
 use Rattle.std.specs.Prelude.{if◌then◌else◌}
 use Rattle.std.specs.Vec.Iter.{into_iter_items}
 use Rattle.std.proofs.lemmas.List.{nil_from_length}
 use Rattle.tv_managed.specs.Collecting.{names_of}
-use Rattle.tv_managed.proofs.Frames.{goes_on_still, goes_on_then}
-use Rattle.tv_managed.proofs.Tried.{none_tried, tried_next, tried_same, added_is, added_else, spares_next, next_plain, leaves_of, tries_of, list_stays, is_another}
+use Rattle.tv_managed.proofs.Frames.{may_delete_still, may_delete_then}
+use Rattle.tv_managed.proofs.Tried.{none_tried, tried_next, tried_same, none_ended, ended_next, ended_same, added_is, added_else, next_plain, leaves_of, tries_of, list_stays}
 use Rattle.tv_managed.proofs.managed_directory.ManagedDirectory.delete_each.Goals as goal
 
 pub loop-name-init : goal.loop-name-init
 loop-name-init g c =
+    let D = g.D.Directory in
+    let none : names_of c.new.result.items ≡ [] = ap (λ (l : List (String Global)). names_of l) c.new.ensures.items in
     record {
       next = tt;
       finite = tt;
       tried =
           none_tried (names_of c.args.names.items) (names_of (into_iter_items c.into_iter-name-iterator.result)) c.args.self.now.1 (names_of c.new.result.items) (names_of c.new-2.result.items)
-          g.D.Directory.tells (g.D.Directory.reads c.args.self.now.0) (g.D.Directory.refusals c.args.self.now.0)
-          (ap (λ (l : List (String Global)). names_of l) c.into_iter-name-iterator.ensures.into_iter_gives.0) (ap (λ (l : List (String Global)). names_of l) c.new.ensures.items) (ap (λ (l : List (String Global)). names_of l) c.new-2.ensures.items) c.requires;
-      spares = λ w h l. l;
-      kept = λ w h l. l;
+          D.told.content (D.view c.args.self.now.0).reads (D.view c.args.self.now.0).refusals
+          (ap (λ (l : List (String Global)). names_of l) c.into_iter-name-iterator.ensures.into_iter_gives.0) none (ap (λ (l : List (String Global)). names_of l) c.new-2.ensures.items) c.requires;
+      writers = none_ended D (names_of c.args.names.items) (names_of c.new.result.items) c.args.self.now.0 none;
       faults = refl;
-      goes_on = goes_on_still g.D.Directory c.args.self.now.0;
+      frame = may_delete_still D.told (D.view c.args.self.now.0);
     }
 
 pub delete_managed-requires : goal.delete_managed-requires
@@ -47,21 +48,27 @@ loop-name-preserved g c =
           tried_next D gone (names_of c.args.names.items) (names_of (into_iter_items c.loop-name.name-iterator)) others (names_of c.loop-name.tried.deleted_files.items) (names_of c.loop-name.tried.failed_to_delete_files.items)
           (names_of c.add.new.self.deleted_files.items) (names_of c.add.new.self.failed_to_delete_files.items) name c.args.self.now c.loop-name.self c.delete_managed.new.self inv.tried next e.tried e.fits
           done (added_else gone c.loop-name.tried.failed_to_delete_files.items c.add.new.self.failed_to_delete_files.items c.in-Some.name name c.in_ok-add.ensures.failed c.as_str.ensures.value);
-      spares = λ w h l. e.alive w (is_another (names_of c.args.names.items) (names_of (into_iter_items c.loop-name.name-iterator)) others c.args.self.now.1 c.loop-name.self.1 (names_of c.loop-name.tried.deleted_files.items) (names_of c.loop-name.tried.failed_to_delete_files.items)
-          D.tells (D.reads c.args.self.now.0) (D.reads c.loop-name.self.0) (D.refusals c.args.self.now.0) (D.refusals c.loop-name.self.0) name (D.name_of w) inv.tried next h) (inv.spares w h l);
-      kept = spares_next D gone name (names_of c.loop-name.tried.deleted_files.items) (names_of c.add.new.self.deleted_files.items) c.args.self.now.0 c.loop-name.self.0 c.delete_managed.new.self.0 inv.kept e.alive e.tried.kept done;
+      writers =
+          ended_next D gone (names_of c.args.names.items) (names_of (into_iter_items c.loop-name.name-iterator)) others (names_of c.loop-name.tried.deleted_files.items) (names_of c.loop-name.tried.failed_to_delete_files.items)
+          (names_of c.add.new.self.deleted_files.items) name c.args.self.now c.loop-name.self c.delete_managed.new.self inv.tried next inv.writers inv.frame e.frame e.tried done;
       faults = e.faults ∙ inv.faults;
-      goes_on = goes_on_then D c.args.self.now.0 c.loop-name.self.0 c.delete_managed.new.self.0 inv.goes_on e.goes_on;
+      frame = may_delete_then D.told (D.view c.args.self.now.0) (D.view c.loop-name.self.0) (D.view c.delete_managed.new.self.0) inv.frame e.frame;
     }
 
-pub returns-in_err-gone-clause-left : goal.returns-in_err-gone-clause-left
-returns-in_err-gone-clause-left g c =
+pub returns-in_err-gone-clause-leaves : goal.returns-in_err-gone-clause-leaves
+returns-in_err-gone-clause-leaves g c =
     let D = g.D.Directory in
     let inv = c.loop-name.invariant in
     let e = c.in_err-gone.ensures in
-    leaves_of _ _ _ _ _ _ _ _ _ _ _ (tried_same (names_of c.args.names.items) (names_of (into_iter_items c.loop-name.name-iterator)) c.args.self.now.1 c.loop-name.self.1 (names_of c.loop-name.tried.deleted_files.items) (names_of c.loop-name.tried.failed_to_delete_files.items)
-    D.tells (D.reads c.args.self.now.0) (D.reads c.loop-name.self.0) (D.refusals c.args.self.now.0) (D.refusals c.loop-name.self.0)
-    c.delete_managed.new.self.1 (D.reads c.delete_managed.new.self.0) (D.refusals c.delete_managed.new.self.0) inv.tried e.err.managed e.err.content e.err.refusals)
+    let names = names_of c.args.names.items in
+    let rest = names_of (into_iter_items c.loop-name.name-iterator) in
+    let deleted = names_of c.loop-name.tried.deleted_files.items in
+    let failed = names_of c.loop-name.tried.failed_to_delete_files.items in
+    leaves_of D names rest deleted failed c.args.self.now c.delete_managed.new.self
+    (tried_same names rest c.args.self.now.1 c.loop-name.self.1 deleted failed
+    D.told.content (D.view c.args.self.now.0).reads (D.view c.loop-name.self.0).reads (D.view c.args.self.now.0).refusals (D.view c.loop-name.self.0).refusals
+    c.delete_managed.new.self.1 (D.view c.delete_managed.new.self.0).reads (D.view c.delete_managed.new.self.0).refusals inv.tried e.err.managed e.err.content e.err.refusals)
+    (ended_same D names deleted c.args.self.now c.loop-name.self c.delete_managed.new.self inv.writers inv.frame e.frame e.err)
 
 pub returns-in_err-gone-clause-list : goal.returns-in_err-gone-clause-list
 returns-in_err-gone-clause-list g c =
@@ -69,41 +76,36 @@ returns-in_err-gone-clause-list g c =
     let inv = c.loop-name.invariant in
     let e = c.in_err-gone.ensures in
     list_stays _ _ _ _ _ _ _ _ _ _ _ (tried_same (names_of c.args.names.items) (names_of (into_iter_items c.loop-name.name-iterator)) c.args.self.now.1 c.loop-name.self.1 (names_of c.loop-name.tried.deleted_files.items) (names_of c.loop-name.tried.failed_to_delete_files.items)
-    D.tells (D.reads c.args.self.now.0) (D.reads c.loop-name.self.0) (D.refusals c.args.self.now.0) (D.refusals c.loop-name.self.0)
-    c.delete_managed.new.self.1 (D.reads c.delete_managed.new.self.0) (D.refusals c.delete_managed.new.self.0) inv.tried e.err.managed e.err.content e.err.refusals)
-
-pub returns-in_err-gone-clause-alive : goal.returns-in_err-gone-clause-alive
-returns-in_err-gone-clause-alive g c =
-    let D = g.D.Directory in
-    let inv = c.loop-name.invariant in
-    let name = c.as_str.result.now in
-    let others = names_of (into_iter_items c.next.new.self) in
-    let next : names_of (into_iter_items c.loop-name.name-iterator) ≡ name ∷ others = ap (λ (l : List (String Global)). names_of l) c.in-Some.ensures.steps.0 ∙ ap (λ (n : List ℕ). n ∷ others) (sym c.as_str.ensures.value) in
-    let e = c.in_err-gone.ensures in
-    λ w h l. e.alive w (is_another (names_of c.args.names.items) (names_of (into_iter_items c.loop-name.name-iterator)) others c.args.self.now.1 c.loop-name.self.1 (names_of c.loop-name.tried.deleted_files.items) (names_of c.loop-name.tried.failed_to_delete_files.items)
-    D.tells (D.reads c.args.self.now.0) (D.reads c.loop-name.self.0) (D.refusals c.args.self.now.0) (D.refusals c.loop-name.self.0) name (D.name_of w) inv.tried next h) (inv.spares w h l)
+    D.told.content (D.view c.args.self.now.0).reads (D.view c.loop-name.self.0).reads (D.view c.args.self.now.0).refusals (D.view c.loop-name.self.0).refusals
+    c.delete_managed.new.self.1 (D.view c.delete_managed.new.self.0).reads (D.view c.delete_managed.new.self.0).refusals inv.tried e.err.managed e.err.content e.err.refusals)
 
 pub returns-in_err-gone-clause-faults : goal.returns-in_err-gone-clause-faults
 returns-in_err-gone-clause-faults g c =
     c.in_err-gone.ensures.faults ∙ c.loop-name.invariant.faults
 
-pub returns-in_err-gone-clause-goes_on : goal.returns-in_err-gone-clause-goes_on
-returns-in_err-gone-clause-goes_on g c =
-    goes_on_then g.D.Directory c.args.self.now.0 c.loop-name.self.0 c.delete_managed.new.self.0 c.loop-name.invariant.goes_on c.in_err-gone.ensures.goes_on
+pub returns-in_err-gone-clause-frame : goal.returns-in_err-gone-clause-frame
+returns-in_err-gone-clause-frame g c =
+    let D = g.D.Directory in
+    may_delete_then D.told (D.view c.args.self.now.0) (D.view c.loop-name.self.0) (D.view c.delete_managed.new.self.0) c.loop-name.invariant.frame c.in_err-gone.ensures.frame
 
-pub returns-in_err-add-clause-left : goal.returns-in_err-add-clause-left
-returns-in_err-add-clause-left g c =
+pub returns-in_err-add-clause-leaves : goal.returns-in_err-add-clause-leaves
+returns-in_err-add-clause-leaves g c =
     let D = g.D.Directory in
     let inv = c.loop-name.invariant in
     let name = c.as_str.result.now in
+    let names = names_of c.args.names.items in
+    let rest = names_of (into_iter_items c.loop-name.name-iterator) in
     let others = names_of (into_iter_items c.next.new.self) in
-    let next : names_of (into_iter_items c.loop-name.name-iterator) ≡ name ∷ others = ap (λ (l : List (String Global)). names_of l) c.in-Some.ensures.steps.0 ∙ ap (λ (n : List ℕ). n ∷ others) (sym c.as_str.ensures.value) in
+    let next : rest ≡ name ∷ others = ap (λ (l : List (String Global)). names_of l) c.in-Some.ensures.steps.0 ∙ ap (λ (n : List ℕ). n ∷ others) (sym c.as_str.ensures.value) in
     let e = c.in_ok-gone.ensures in
     let gone = c.in_ok-gone.gone in
     let deleted = names_of c.loop-name.tried.deleted_files.items in
     let failed = names_of c.loop-name.tried.failed_to_delete_files.items in
-    leaves_of _ _ _ _ _ _ _ _ _ _ _ (tried_next D gone (names_of c.args.names.items) (names_of (into_iter_items c.loop-name.name-iterator)) others (names_of c.loop-name.tried.deleted_files.items) (names_of c.loop-name.tried.failed_to_delete_files.items)
-    (if gone then deleted ++ name ∷ [] else deleted) (if gone then failed else failed ++ name ∷ []) name c.args.self.now c.loop-name.self c.delete_managed.new.self inv.tried next e.tried e.fits refl refl)
+    let deleted2 = if gone then deleted ++ name ∷ [] else deleted in
+    let failed2 = if gone then failed else failed ++ name ∷ [] in
+    leaves_of D names others deleted2 failed2 c.args.self.now c.delete_managed.new.self
+    (tried_next D gone names rest others deleted failed deleted2 failed2 name c.args.self.now c.loop-name.self c.delete_managed.new.self inv.tried next e.tried e.fits refl refl)
+    (ended_next D gone names rest others deleted failed deleted2 name c.args.self.now c.loop-name.self c.delete_managed.new.self inv.tried next inv.writers inv.frame e.frame e.tried refl)
 
 pub returns-in_err-add-clause-list : goal.returns-in_err-add-clause-list
 returns-in_err-add-clause-list g c =
@@ -116,67 +118,37 @@ returns-in_err-add-clause-list g c =
     let gone = c.in_ok-gone.gone in
     let deleted = names_of c.loop-name.tried.deleted_files.items in
     let failed = names_of c.loop-name.tried.failed_to_delete_files.items in
-    list_stays _ _ _ _ _ _ _ _ _ _ _ (tried_next D gone (names_of c.args.names.items) (names_of (into_iter_items c.loop-name.name-iterator)) others (names_of c.loop-name.tried.deleted_files.items) (names_of c.loop-name.tried.failed_to_delete_files.items)
+    list_stays _ _ _ _ _ _ _ _ _ _ _ (tried_next D gone (names_of c.args.names.items) (names_of (into_iter_items c.loop-name.name-iterator)) others deleted failed
     (if gone then deleted ++ name ∷ [] else deleted) (if gone then failed else failed ++ name ∷ []) name c.args.self.now c.loop-name.self c.delete_managed.new.self inv.tried next e.tried e.fits refl refl)
-
-pub returns-in_err-add-clause-alive : goal.returns-in_err-add-clause-alive
-returns-in_err-add-clause-alive g c =
-    let D = g.D.Directory in
-    let inv = c.loop-name.invariant in
-    let name = c.as_str.result.now in
-    let others = names_of (into_iter_items c.next.new.self) in
-    let next : names_of (into_iter_items c.loop-name.name-iterator) ≡ name ∷ others = ap (λ (l : List (String Global)). names_of l) c.in-Some.ensures.steps.0 ∙ ap (λ (n : List ℕ). n ∷ others) (sym c.as_str.ensures.value) in
-    let e = c.in_ok-gone.ensures in
-    λ w h l. e.alive w (is_another (names_of c.args.names.items) (names_of (into_iter_items c.loop-name.name-iterator)) others c.args.self.now.1 c.loop-name.self.1 (names_of c.loop-name.tried.deleted_files.items) (names_of c.loop-name.tried.failed_to_delete_files.items)
-    D.tells (D.reads c.args.self.now.0) (D.reads c.loop-name.self.0) (D.refusals c.args.self.now.0) (D.refusals c.loop-name.self.0) name (D.name_of w) inv.tried next h) (inv.spares w h l)
 
 pub returns-in_err-add-clause-faults : goal.returns-in_err-add-clause-faults
 returns-in_err-add-clause-faults g c =
     c.in_ok-gone.ensures.faults ∙ c.loop-name.invariant.faults
 
-pub returns-in_err-add-clause-goes_on : goal.returns-in_err-add-clause-goes_on
-returns-in_err-add-clause-goes_on g c =
-    goes_on_then g.D.Directory c.args.self.now.0 c.loop-name.self.0 c.delete_managed.new.self.0 c.loop-name.invariant.goes_on c.in_ok-gone.ensures.goes_on
+pub returns-in_err-add-clause-frame : goal.returns-in_err-add-clause-frame
+returns-in_err-add-clause-frame g c =
+    let D = g.D.Directory in
+    may_delete_then D.told (D.view c.args.self.now.0) (D.view c.loop-name.self.0) (D.view c.delete_managed.new.self.0) c.loop-name.invariant.frame c.in_ok-gone.ensures.frame
 
-pub returns-clause-told : goal.returns-clause-told
-returns-clause-told g c =
+pub returns-clause-tries : goal.returns-clause-tries
+returns-clause-tries g c =
     let ok = c.loop-name.name-iterator.rest.ok in
     let zero = c.in-None.ensures.steps.0 in
     let none : into_iter_items c.loop-name.name-iterator ≡ [] = nil_from_length (into_iter_items c.loop-name.name-iterator) (omega arith) in
-    tries_of _ (names_of (into_iter_items c.loop-name.name-iterator)) _ _ _ _ _ _ _ _ _ (ap (λ (l : List (String Global)). names_of l) none) c.loop-name.invariant.tried
+    tries_of g.D.Directory (names_of c.args.names.items) (names_of (into_iter_items c.loop-name.name-iterator)) c.args.self.now c.loop-name.self c.loop-name.tried (ap (λ (l : List (String Global)). names_of l) none) c.loop-name.invariant.tried c.loop-name.invariant.writers
 
-pub returns-clause-left : goal.returns-clause-left
-returns-clause-left g c =
-    leaves_of _ _ _ _ _ _ _ _ _ _ _ (c.loop-name.invariant.tried)
+pub returns-clause-leaves : goal.returns-clause-leaves
+returns-clause-leaves g c =
+    leaves_of g.D.Directory (names_of c.args.names.items) (names_of (into_iter_items c.loop-name.name-iterator)) (names_of c.loop-name.tried.deleted_files.items) (names_of c.loop-name.tried.failed_to_delete_files.items) c.args.self.now c.loop-name.self c.loop-name.invariant.tried c.loop-name.invariant.writers
 
 pub returns-clause-list : goal.returns-clause-list
 returns-clause-list g c =
     list_stays _ _ _ _ _ _ _ _ _ _ _ (c.loop-name.invariant.tried)
 
-pub returns-clause-counted : goal.returns-clause-counted
-returns-clause-counted g c =
-    c.loop-name.invariant.tried.most
-
-pub returns-clause-calm : goal.returns-clause-calm
-returns-clause-calm g c =
-    c.loop-name.invariant.tried.calm
-
-pub returns-clause-fits : goal.returns-clause-fits
-returns-clause-fits g c =
-    c.loop-name.invariant.tried.fits
-
-pub returns-clause-kept : goal.returns-clause-kept
-returns-clause-kept g c =
-    c.loop-name.invariant.kept
-
-pub returns-clause-alive : goal.returns-clause-alive
-returns-clause-alive g c =
-    c.loop-name.invariant.spares
-
 pub returns-clause-faults : goal.returns-clause-faults
 returns-clause-faults g c =
     c.loop-name.invariant.faults
 
-pub returns-clause-goes_on : goal.returns-clause-goes_on
-returns-clause-goes_on g c =
-    c.loop-name.invariant.goes_on
+pub returns-clause-frame : goal.returns-clause-frame
+returns-clause-frame g c =
+    c.loop-name.invariant.frame

@@ -11,14 +11,14 @@ returns-clause-ok g c tells =
     let names = map string_bytes c.self.inside.managed.keys in
     on_ok_weaker c.save_list.result
     (λ saved. subst (λ read. Lists read names) (sym saved.changed) (list_of c.self.inside.managed.keys names refl c.self.invariant))
-    (c.save_list.ensures.ok tells)
+    (c.save_list.ensures.saves.ok tells)
 
 pub returns-clause-covers : goal.returns-clause-covers
 returns-clause-covers g c tells covers =
-    let reads = g.D.Directory.reads in
+    let D = g.D.Directory in
     let names = map string_bytes c.self.inside.managed.keys in
     ⊎_elim
-    (λ saved. covers_saved (reads c.save_list.new.directory list_name) names (subst (λ read. Lists read names) (sym saved) (list_of c.self.inside.managed.keys names refl c.self.invariant)))
-    (λ kept. covers_again (reads c.save_list.new.directory list_name) (reads c.args.self.now.0 list_name) c.args.self.now.1 names
-    (kept ∙ c.in_ok-sync_directory.ensures.content tells list_name ∙ ap (λ v. reads v.0 list_name) c.self.view_is) (ap (λ v. v.1) c.self.view_is) covers)
-    (c.save_list.ensures.err tells).either
+    (λ saved. covers_saved ((D.view c.save_list.new.directory).reads list_name) names (subst (λ read. Lists read names) (sym saved) (list_of c.self.inside.managed.keys names refl c.self.invariant)))
+    (λ kept. covers_again ((D.view c.save_list.new.directory).reads list_name) ((D.view c.args.self.now.0).reads list_name) c.args.self.now.1 names
+    (kept ∙ c.in_ok-sync_directory.ensures.frame.content tells list_name ∙ ap (λ v. (D.view v.0).reads list_name) c.self.view_is) (ap (λ v. v.1) c.self.view_is) covers)
+    (c.save_list.ensures.saves.err tells).either

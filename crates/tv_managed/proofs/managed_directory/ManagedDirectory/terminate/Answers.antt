@@ -1,20 +1,30 @@
-use Rattle.std.proofs.Common.{◌≡◌, ◌++◌, List, ℕ, true, sym, ap, subst, ◌∙◌}
+use Rattle.std.proofs.Common.{rules, ◌≡◌, ◌++◌, List, ℕ, true, sym, ap, subst, ◌∙◌}
+use Rattle.std.specs.Prelude.{OnOk, Some}
 use Rattle.std.proofs.lemmas.Result.{on_ok_weaker}
-use Rattle.tv_model.specs.Files.{KeepsOthers}
-use Rattle.tv_model.specs.Footer.{footer}
+use Rattle.tv_model.specs.Files.{KeepsOthers, Sets}
+use Rattle.tv_model.specs.Footer.{sealed}
+use Rattle.tv_managed.specs.Writers.{IsSummed}
 use Rattle.tv_managed.proofs.Endings.{reads_back, sealed_sets}
 use Rattle.tv_managed.proofs.managed_directory.ManagedDirectory.terminate.Goals as goal
 
-pub returns-clause-ok : goal.returns-clause-ok
-returns-clause-ok g c tells lives summed =
+pub returns-clause-seals : goal.returns-clause-seals
+returns-clause-seals g c =
+    let D = g.D.Directory in
+    let w = c.args.writer in
+    let name = (D.state_of w.writer).name in
+    let body = (D.state_of w.writer).written in
     let same : c.self.inside.directory ≡ c.args.self.now.0 = ap (λ v. v.0) c.self.view_is in
-    let text = c.in_ok-write.ensures.ok.0 ∙ ap (λ (l : List ℕ). g.D.Directory.written c.args.writer.writer ++ l)
-    (c.as_slice.ensures.value ∙ c.in_ok-footer.ensures (g.D.Directory.written c.args.writer.writer) summed) in
-    let lives2 = c.in_ok-write.ensures.lives (subst (λ x. g.D.Directory.lives x c.args.writer.writer ≡ true) (sym same) lives) in
-    on_ok_weaker c.terminate.result (λ sets. sealed_sets (g.D.Directory.reads c.args.self.now.0) (g.D.Directory.reads c.write.new.self) (g.D.Directory.reads c.terminate.new.self) (g.D.Directory.name_of c.args.writer.writer) (g.D.Directory.name_of c.write.new.writer) (g.D.Directory.written c.write.new.writer) (g.D.Directory.written c.args.writer.writer)
-    (subst (λ x. KeepsOthers (g.D.Directory.reads x) (g.D.Directory.reads c.write.new.self) (g.D.Directory.name_of c.args.writer.writer)) same (c.in_ok-write.ensures.content tells))
-    c.in_ok-write.ensures.name text sets) (c.terminate.ensures.ok tells lives2)
-
-pub returns-clause-body : goal.returns-clause-body
-returns-clause-body g c tells lives summed =
-    on_ok_weaker c.terminate.result (λ sets. reads_back (g.D.Directory.reads c.args.self.now.0) (g.D.Directory.reads c.terminate.new.self) (g.D.Directory.name_of c.args.writer.writer) (g.D.Directory.written c.args.writer.writer) sets) (returns-clause-ok g c tells lives summed)
+    let sets : D.told.content → (D.view c.args.self.now.0).lives w.writer ≡ true → IsSummed D.state_of w → OnOk c.terminate.result (Sets (D.view c.args.self.now.0).reads (D.view c.terminate.new.self).reads name (Some (sealed body))) =
+    λ tells lives summed.
+    let text = c.in_ok-write.ensures.appends.ok ∙ ap (λ (l : List ℕ). body ++ l) (c.as_slice.ensures.value ∙ c.in_ok-footer.ensures body summed) in
+    let lives2 = c.in_ok-write.ensures.hands_back.lives tells ∙ subst (λ x. (D.view x).lives w.writer ≡ true) (sym same) lives in
+    on_ok_weaker c.terminate.result (λ sets. sealed_sets (D.view c.args.self.now.0).reads (D.view c.write.new.self).reads (D.view c.terminate.new.self).reads name (D.state_of c.write.new.writer).name (D.state_of c.write.new.writer).written body
+    (subst (λ x. KeepsOthers (D.view x).reads (D.view c.write.new.self).reads name) same (c.in_ok-write.ensures.touches.others tells))
+    c.in_ok-write.ensures.appends.name text sets) (c.terminate.ensures.seals.ok tells lives2) in
+    record {
+      ok = sets;
+      body = λ tells lives summed. on_ok_weaker c.terminate.result (λ done. reads_back (D.view c.args.self.now.0).reads (D.view c.terminate.new.self).reads name body done) (sets tells lives summed);
+      others = search rules;
+      there = search rules;
+      gone = search rules;
+    }

@@ -1,4 +1,4 @@
-use Rattle.std.proofs.Common.{◌==◌, ℕ, ap, ◌∙◌}
+use Rattle.std.proofs.Common.{rules, ◌==◌, ℕ, ap, ◌∙◌}
 use Rattle.std.proofs.lemmas.Result.{IfOk-weaker}
 use Rattle.tv_model.specs.Checksum.{crc32}
 use Rattle.tv_managed.proofs.Handed.{wanted_only}
@@ -20,11 +20,11 @@ returns-clause-answer g c tells =
     ))
     c.is_right.ensures.says
 
-pub returns-clause-err : goal.returns-clause-err
-returns-clause-err g c tells = wanted_only c.is_right.result _ c.is_right.ensures.wanted tt
-
-pub returns-clause-outside : goal.returns-clause-outside
-returns-clause-outside g c tells = wanted_only c.is_right.result _ c.is_right.ensures.wanted tt
-
-pub returns-clause-path : goal.returns-clause-path
-returns-clause-path g c = wanted_only c.is_right.result _ c.is_right.ensures.wanted tt
+pub returns-clause-faults : goal.returns-clause-faults
+returns-clause-faults g c = record {
+  quiet = search rules;
+  path = wanted_only c.is_right.result _ c.is_right.ensures.wanted tt;
+  cause = wanted_only c.is_right.result _ c.is_right.ensures.wanted (search rules);
+  err = λ tells. wanted_only c.is_right.result _ c.is_right.ensures.wanted tt;
+  outside = λ tells. wanted_only c.is_right.result _ c.is_right.ensures.wanted tt;
+}

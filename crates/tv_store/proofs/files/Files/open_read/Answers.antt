@@ -1,4 +1,4 @@
-use Rattle.std.proofs.Common.{◌≡◌, None, ap}
+use Rattle.std.proofs.Common.{◌≡◌, None, ap, rules}
 use Rattle.tv_base.specs.Errors.{of_open_read}
 use Rattle.tv_model.specs.Files.{Rose}
 use Rattle.tv_store.specs.Bodies.{RefusesAt}
@@ -7,22 +7,25 @@ use Rattle.tv_store.proofs.OpenFiles.{still_open}
 use Rattle.tv_store.proofs.ReaderEvents.{body_read, body_fails, failed_as}
 use Rattle.tv_store.proofs.files.Files.open_read.Goals as goal
 
-pub returns-in_err-body-clause-cause : goal.returns-in_err-body-clause-cause
-returns-in_err-body-clause-cause g c =
-    let reads = g.O.Directory.reads in
-    let faults = g.O.Directory.faults in
+pub returns-in_err-body-clause-faults : goal.returns-in_err-body-clause-faults
+returns-in_err-body-clause-faults g c =
+    let D = g.O.Directory in
     let value = c.args.self.now.0 in
     let after = c.open_read.new.self.0 in
-    let why = c.in_err-body.ensures in
-    failed_as c.from_residual.result (of_open_read c.in_err-body.field-0.0)
-    (ApplyCause ⊥ (Rose (faults value) (faults after)) (faults after ≡ faults value) ⊥ (λ error. g.O.Directory.tells → RefusesAt (reads value) c.args.name.now error) (λ path. (path ≡ c.args.name.now) × (g.O.Directory.tells → reads value path ≡ None)))
-    c.from_residual.ensures.1
-    (body_fails g.O.Directory.tells reads faults c.self.inside.directory.0 value after c.args.name.now c.as_str.result.now c.in_err-body.field-0.0
-    (ap (λ v. v.0) c.self.view_is) c.as_str.ensures.text c.as_str.ensures.name why.cause why.path why.err why.outside)
+    let why = c.in_err-body.ensures.faults in
+    record {
+      quiet = search rules;
+      cause =
+          failed_as c.from_residual.result (of_open_read c.in_err-body.field-0.0)
+          (ApplyCause ⊥ (Rose (D.view value).faults (D.view after).faults) ((D.view after).faults ≡ (D.view value).faults) ⊥ (λ error. D.told.content → RefusesAt (D.view value).reads c.args.name.now error) (λ path. (path ≡ c.args.name.now) × (D.told.content → (D.view value).reads path ≡ None)))
+          c.from_residual.ensures.1
+          (body_fails D.told.content (λ d. (D.view d).reads) (λ d. (D.view d).faults) c.self.inside.directory.0 value after c.args.name.now c.as_str.result.now c.in_err-body.field-0.0
+          (ap (λ v. v.0) c.self.view_is) c.as_str.ensures.text c.as_str.ensures.name why.cause why.path why.err why.outside);
+    }
 
 pub invariant_of-self-2 : goal.invariant_of-self-2
-invariant_of-self-2 g c = still_open g.O.Directory.opened g.O.Directory.lives g.O.Directory.name_of g.O.Directory.written c.self.inside.directory.0 c.open_read.new.self.0 c.self.inside.files.entries c.open_read.ensures.writers c.open_read.ensures.alive c.self.invariant
+invariant_of-self-2 g c = still_open g.O.Directory c.self.inside.directory.0 c.open_read.new.self.0 c.self.inside.files.entries c.open_read.ensures.frame.below.kept.frame.tells_none.deletes_none c.self.invariant
 
 pub returns-clause-body : goal.returns-clause-body
 returns-clause-body g c tells =
-    body_read g.O.Directory.reads c.self.inside.directory.0 c.args.self.now.0 c.args.name.now c.as_str.result.now c.in_ok-body.body (ap (λ v. v.0) c.self.view_is) c.as_str.ensures.text (c.in_ok-body.ensures.body tells)
+    body_read (λ d. (g.O.Directory.view d).reads) c.self.inside.directory.0 c.args.self.now.0 c.args.name.now c.as_str.result.now c.in_ok-body.body (ap (λ v. v.0) c.self.view_is) c.as_str.ensures.text (c.in_ok-body.ensures.body tells)

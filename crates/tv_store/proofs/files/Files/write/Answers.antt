@@ -3,69 +3,63 @@ use Rattle.tv_store.proofs.OpenFiles.{still_open, put_open, left_open, found_ope
 use Rattle.tv_store.proofs.files.Files.write.Goals as goal
 
 pub unreachable-requires : goal.unreachable-requires
-unreachable-requires g c = must_be_open g.O.Directory.written c.self.inside.files.entries c.args.self.now.2 c.args.name c.remove.result (ap (λ v. v.2) c.self.view_is) c.remove.ensures.value c.in_default.is c.requires.is_open
+unreachable-requires g c = must_be_open (λ w. (g.O.Directory.state_of w).written) c.self.inside.files.entries c.args.self.now.2 c.args.name c.remove.result (ap (λ v. v.2) c.self.view_is) c.remove.ensures.value c.in_default.is c.requires.is_open
 
 pub write-requires-clause-opened : goal.write-requires-clause-opened
-write-requires-clause-opened g c = (found_open (g.O.Directory.opened c.self.inside.directory.0) (g.O.Directory.lives c.self.inside.directory.0) g.O.Directory.name_of g.O.Directory.written c.self.inside.files.entries c.args.name c.in-Some.file c.in-Some.ensures.value c.self.invariant).opened_is
+write-requires-clause-opened g c = (found_open g.O.Directory c.self.inside.directory.0 c.self.inside.files.entries c.args.name c.in-Some.file c.in-Some.ensures.value c.self.invariant).opened_is
 
 pub write-requires-clause-fits : goal.write-requires-clause-fits
-write-requires-clause-fits g c = c.requires.fits (g.O.Directory.written c.in-Some.file.writer.writer) (body_is g.O.Directory.written c.self.inside.files.entries c.args.self.now.2 c.args.name c.in-Some.file (ap (λ v. v.2) c.self.view_is) c.in-Some.ensures.value)
+write-requires-clause-fits g c = c.requires.fits (g.O.Directory.state_of c.in-Some.file.writer.writer).written (body_is (λ w. (g.O.Directory.state_of w).written) c.self.inside.files.entries c.args.self.now.2 c.args.name c.in-Some.file (ap (λ v. v.2) c.self.view_is) c.in-Some.ensures.value)
 
 pub invariant_of-self : goal.invariant_of-self
-invariant_of-self g c =
-    still_open g.O.Directory.opened g.O.Directory.lives g.O.Directory.name_of g.O.Directory.written c.self.inside.directory.0 c.write.new.self.0 c.remove.new.self.entries c.write.ensures.writers c.write.ensures.alive
-    (left_open (g.O.Directory.opened c.self.inside.directory.0) (g.O.Directory.lives c.self.inside.directory.0) g.O.Directory.name_of g.O.Directory.written c.self.inside.files.entries c.remove.new.self.entries _ c.remove.ensures.entries c.self.invariant)
+invariant_of-self g c = still_open g.O.Directory c.self.inside.directory.0 c.write.new.self.0 c.remove.new.self.entries c.write.ensures.frame.below.frame.tells_none.deletes_none (left_open g.O.Directory c.self.inside.directory.0 c.self.inside.files.entries c.remove.new.self.entries _ c.remove.ensures.entries c.self.invariant)
 
-pub returns-in_err-write-clause-reads : goal.returns-in_err-write-clause-reads
-returns-in_err-write-clause-reads g c tells =
-    let file = found_open (g.O.Directory.opened c.self.inside.directory.0) (g.O.Directory.lives c.self.inside.directory.0) g.O.Directory.name_of g.O.Directory.written c.self.inside.files.entries c.args.name c.in-Some.file c.in-Some.ensures.value c.self.invariant in
-    others_kept g.O.Directory.reads c.self.inside.directory.0 c.args.self.now.0 c.write.new.self.0 (g.O.Directory.name_of c.in-Some.file.writer.writer) c.args.name (ap (λ v. v.0) c.self.view_is) file.name_is (c.write.ensures.content tells)
+pub returns-in_err-write-clause-others : goal.returns-in_err-write-clause-others
+returns-in_err-write-clause-others g c tells =
+    let file = found_open g.O.Directory c.self.inside.directory.0 c.self.inside.files.entries c.args.name c.in-Some.file c.in-Some.ensures.value c.self.invariant in
+    others_kept (λ d. (g.O.Directory.view d).reads) c.self.inside.directory.0 c.args.self.now.0 c.write.new.self.0 (g.O.Directory.state_of c.in-Some.file.writer.writer).name c.args.name (ap (λ v. v.0) c.self.view_is) file.name_is (c.write.ensures.touches.others tells)
 
-pub returns-in_err-write-clause-lens : goal.returns-in_err-write-clause-lens
-returns-in_err-write-clause-lens g c =
-    on_err c.from_residual.result _ (bodies_left g.O.Directory.written c.self.inside.files.entries c.remove.new.self.entries c.args.self.now.2 _ c.remove.ensures.entries (ap (λ v. v.2) c.self.view_is))
+pub returns-in_err-write-clause-closed : goal.returns-in_err-write-clause-closed
+returns-in_err-write-clause-closed g c = on_err c.from_residual.result _ (bodies_left (λ w. (g.O.Directory.state_of w).written) c.self.inside.files.entries c.remove.new.self.entries c.args.self.now.2 _ c.remove.ensures.entries (ap (λ v. v.2) c.self.view_is))
 
 pub overflow_add-len : goal.overflow_add-len
 overflow_add-len g c =
-    let file = found_open (g.O.Directory.opened c.self.inside.directory.0) (g.O.Directory.lives c.self.inside.directory.0) g.O.Directory.name_of g.O.Directory.written c.self.inside.files.entries c.args.name c.in-Some.file c.in-Some.ensures.value c.self.invariant in
-    let sum : c.in-Some.file.len + length c.args.bytes.now < 18446744073709551616 = longer_fits _ _ _ file.len_is (c.requires.fits (g.O.Directory.written c.in-Some.file.writer.writer) (body_is g.O.Directory.written c.self.inside.files.entries c.args.self.now.2 c.args.name c.in-Some.file (ap (λ v. v.2) c.self.view_is) c.in-Some.ensures.value)) in
+    let file = found_open g.O.Directory c.self.inside.directory.0 c.self.inside.files.entries c.args.name c.in-Some.file c.in-Some.ensures.value c.self.invariant in
+    let sum : c.in-Some.file.len + length c.args.bytes.now < 18446744073709551616 = longer_fits _ _ _ file.len_is (c.requires.fits (g.O.Directory.state_of c.in-Some.file.writer.writer).written (body_is (λ w. (g.O.Directory.state_of w).written) c.self.inside.files.entries c.args.self.now.2 c.args.name c.in-Some.file (ap (λ v. v.2) c.self.view_is) c.in-Some.ensures.value)) in
     omega arith
 
 pub invariant_of-self-in_err-insert : goal.invariant_of-self-in_err-insert
-invariant_of-self-in_err-insert g c =
-    same_open (g.O.Directory.opened c.write.new.self.0) (g.O.Directory.lives c.write.new.self.0) g.O.Directory.name_of g.O.Directory.written c.remove.new.self.entries c.insert.new.self.entries c.in_err-insert.ensures.err
-    (still_open g.O.Directory.opened g.O.Directory.lives g.O.Directory.name_of g.O.Directory.written c.self.inside.directory.0 c.write.new.self.0 c.remove.new.self.entries c.write.ensures.writers c.write.ensures.alive
-    (left_open (g.O.Directory.opened c.self.inside.directory.0) (g.O.Directory.lives c.self.inside.directory.0) g.O.Directory.name_of g.O.Directory.written c.self.inside.files.entries c.remove.new.self.entries _ c.remove.ensures.entries c.self.invariant))
+invariant_of-self-in_err-insert g c = same_open g.O.Directory c.write.new.self.0 c.remove.new.self.entries c.insert.new.self.entries c.in_err-insert.ensures.err (still_open g.O.Directory c.self.inside.directory.0 c.write.new.self.0 c.remove.new.self.entries c.write.ensures.frame.below.frame.tells_none.deletes_none (left_open g.O.Directory c.self.inside.directory.0 c.self.inside.files.entries c.remove.new.self.entries _ c.remove.ensures.entries c.self.invariant))
 
-pub returns-in_err-insert-clause-reads : goal.returns-in_err-insert-clause-reads
-returns-in_err-insert-clause-reads g c tells =
-    let file = found_open (g.O.Directory.opened c.self.inside.directory.0) (g.O.Directory.lives c.self.inside.directory.0) g.O.Directory.name_of g.O.Directory.written c.self.inside.files.entries c.args.name c.in-Some.file c.in-Some.ensures.value c.self.invariant in
-    others_kept g.O.Directory.reads c.self.inside.directory.0 c.args.self.now.0 c.write.new.self.0 (g.O.Directory.name_of c.in-Some.file.writer.writer) c.args.name (ap (λ v. v.0) c.self.view_is) file.name_is (c.write.ensures.content tells)
+pub returns-in_err-insert-clause-others : goal.returns-in_err-insert-clause-others
+returns-in_err-insert-clause-others g c tells =
+    let file = found_open g.O.Directory c.self.inside.directory.0 c.self.inside.files.entries c.args.name c.in-Some.file c.in-Some.ensures.value c.self.invariant in
+    others_kept (λ d. (g.O.Directory.view d).reads) c.self.inside.directory.0 c.args.self.now.0 c.write.new.self.0 (g.O.Directory.state_of c.in-Some.file.writer.writer).name c.args.name (ap (λ v. v.0) c.self.view_is) file.name_is (c.write.ensures.touches.others tells)
 
-pub returns-in_err-insert-clause-lens : goal.returns-in_err-insert-clause-lens
-returns-in_err-insert-clause-lens g c =
-    on_err c.from_residual-in_err-insert.result _ (bodies_left g.O.Directory.written c.self.inside.files.entries c.insert.new.self.entries c.args.self.now.2 _ (c.in_err-insert.ensures.err ∙ c.remove.ensures.entries) (ap (λ v. v.2) c.self.view_is))
+pub returns-in_err-insert-clause-closed : goal.returns-in_err-insert-clause-closed
+returns-in_err-insert-clause-closed g c =
+    on_err c.from_residual-in_err-insert.result _ (bodies_left (λ w. (g.O.Directory.state_of w).written) c.self.inside.files.entries c.insert.new.self.entries c.args.self.now.2 _ (c.in_err-insert.ensures.err ∙ c.remove.ensures.entries) (ap (λ v. v.2) c.self.view_is))
 
 pub invariant_of-self-2 : goal.invariant_of-self-2
 invariant_of-self-2 g c =
-    put_open (g.O.Directory.opened c.write.new.self.0) (g.O.Directory.lives c.write.new.self.0) g.O.Directory.name_of g.O.Directory.written c.remove.new.self.entries c.insert.new.self.entries c.args.name _ c.in_ok-insert.ensures.entries
-    (written_open g.O.Directory.opened g.O.Directory.lives g.O.Directory.name_of g.O.Directory.written c.self.inside.directory.0 c.write.new.self.0 c.args.name c.in-Some.file.writer.writer c.write.new.writer.writer _ _ c.in-Some.file.len c.args.bytes.now
-    c.in_ok-write.ensures.ok.0 c.in_ok-write.ensures.ok.1 c.write.ensures.lives c.write.ensures.name c.in_ok-write.ensures.summed (found_open (g.O.Directory.opened c.self.inside.directory.0) (g.O.Directory.lives c.self.inside.directory.0) g.O.Directory.name_of g.O.Directory.written c.self.inside.files.entries c.args.name c.in-Some.file c.in-Some.ensures.value c.self.invariant))
-    (still_open g.O.Directory.opened g.O.Directory.lives g.O.Directory.name_of g.O.Directory.written c.self.inside.directory.0 c.write.new.self.0 c.remove.new.self.entries c.write.ensures.writers c.write.ensures.alive
-    (left_open (g.O.Directory.opened c.self.inside.directory.0) (g.O.Directory.lives c.self.inside.directory.0) g.O.Directory.name_of g.O.Directory.written c.self.inside.files.entries c.remove.new.self.entries _ c.remove.ensures.entries c.self.invariant))
+    put_open g.O.Directory c.write.new.self.0 c.remove.new.self.entries c.insert.new.self.entries c.args.name _ c.in_ok-insert.ensures.entries
+    (written_open g.O.Directory c.self.inside.directory.0 c.write.new.self.0 c.args.name c.in-Some.file.writer c.write.new.writer c.in-Some.file.len c.args.bytes.now
+    c.in_ok-write.ensures.appends.ok c.in_ok-write.ensures.hands_on.hands_back.ok c.in_ok-write.ensures.hands_on.hands_back.lives c.in_ok-write.ensures.appends.name c.in_ok-write.ensures.hands_on.summed
+    (found_open g.O.Directory c.self.inside.directory.0 c.self.inside.files.entries c.args.name c.in-Some.file c.in-Some.ensures.value c.self.invariant))
+    (still_open g.O.Directory c.self.inside.directory.0 c.write.new.self.0 c.remove.new.self.entries c.write.ensures.frame.below.frame.tells_none.deletes_none (left_open g.O.Directory c.self.inside.directory.0 c.self.inside.files.entries c.remove.new.self.entries _ c.remove.ensures.entries c.self.invariant))
 
 pub returns-clause-written : goal.returns-clause-written
 returns-clause-written g c body there =
-    let left = bodies_left g.O.Directory.written c.self.inside.files.entries c.remove.new.self.entries c.args.self.now.2 _ c.remove.ensures.entries (ap (λ v. v.2) c.self.view_is) in
-    let same = same_body_is g.O.Directory.written c.self.inside.files.entries c.args.self.now.2 c.args.name c.in-Some.file body (ap (λ v. v.2) c.self.view_is) c.in-Some.ensures.value there in
-    bodies_put g.O.Directory.written c.remove.new.self.entries c.insert.new.self.entries _ c.args.name _ _ c.in_ok-insert.ensures.entries left (more_is _ _ _ _ c.in_ok-write.ensures.ok.0 same)
+    let left = bodies_left (λ w. (g.O.Directory.state_of w).written) c.self.inside.files.entries c.remove.new.self.entries c.args.self.now.2 _ c.remove.ensures.entries (ap (λ v. v.2) c.self.view_is) in
+    let same = same_body_is (λ w. (g.O.Directory.state_of w).written) c.self.inside.files.entries c.args.self.now.2 c.args.name c.in-Some.file body (ap (λ v. v.2) c.self.view_is) c.in-Some.ensures.value there in
+    bodies_put (λ w. (g.O.Directory.state_of w).written) c.remove.new.self.entries c.insert.new.self.entries _ c.args.name _ _ c.in_ok-insert.ensures.entries left (more_is _ _ _ _ c.in_ok-write.ensures.appends.ok same)
 
-pub returns-clause-reads : goal.returns-clause-reads
-returns-clause-reads g c tells =
-    let file = found_open (g.O.Directory.opened c.self.inside.directory.0) (g.O.Directory.lives c.self.inside.directory.0) g.O.Directory.name_of g.O.Directory.written c.self.inside.files.entries c.args.name c.in-Some.file c.in-Some.ensures.value c.self.invariant in
-    others_kept g.O.Directory.reads c.self.inside.directory.0 c.args.self.now.0 c.write.new.self.0 (g.O.Directory.name_of c.in-Some.file.writer.writer) c.args.name (ap (λ v. v.0) c.self.view_is) file.name_is (c.write.ensures.content tells)
+pub returns-clause-others : goal.returns-clause-others
+returns-clause-others g c tells =
+    let file = found_open g.O.Directory c.self.inside.directory.0 c.self.inside.files.entries c.args.name c.in-Some.file c.in-Some.ensures.value c.self.invariant in
+    others_kept (λ d. (g.O.Directory.view d).reads) c.self.inside.directory.0 c.args.self.now.0 c.write.new.self.0 (g.O.Directory.state_of c.in-Some.file.writer.writer).name c.args.name (ap (λ v. v.0) c.self.view_is) file.name_is (c.write.ensures.touches.others tells)
 
 pub returns-clause-there : goal.returns-clause-there
 returns-clause-there g c tells =
-    let file = found_open (g.O.Directory.opened c.self.inside.directory.0) (g.O.Directory.lives c.self.inside.directory.0) g.O.Directory.name_of g.O.Directory.written c.self.inside.files.entries c.args.name c.in-Some.file c.in-Some.ensures.value c.self.invariant in
-    there_is (g.O.Directory.reads c.write.new.self.0) _ _ file.name_is (c.in_ok-write.ensures.there tells file.lives_is)
+    let file = found_open g.O.Directory c.self.inside.directory.0 c.self.inside.files.entries c.args.name c.in-Some.file c.in-Some.ensures.value c.self.invariant in
+    there_is (g.O.Directory.view c.write.new.self.0).reads _ _ file.name_is (c.in_ok-write.ensures.touches.there tells (file.lives_is tells))

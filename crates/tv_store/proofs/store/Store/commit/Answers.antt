@@ -1,25 +1,25 @@
 use Rattle.std.proofs.Common.{◌≡◌, false, None, Some, ◌==◌, [], ◌∷◌, codes, sym, ap, subst, ◌∙◌}
 use Rattle.std.specs.List.{AllByRecursion}
-use Rattle.hex.specs.Hex.{encode_lower}
 use Rattle.tv_model.specs.Lines.{line}
 use Rattle.tv_model.specs.Commits.{IsSegment}
 use Rattle.tv_model.specs.CommitEvents.{chosen, first_unknown, first_unsealed, commit_sealed, commit_step, last_stamp}
+use Rattle.tv_store.specs.Committing.{unknown_line}
 use Rattle.tv_store.proofs.CommitEvents.{is_left, first_unknown_is, chosen_is, chosen_are_segments}
-use Rattle.tv_store.proofs.Committing.{refuses, commits_as, at_ok, spent_step, numbered_step}
+use Rattle.tv_store.proofs.Committing.{refuses, commits_as, spent_step, numbered_step}
 use Rattle.tv_store.proofs.store.Store.commit.Goals as goal
 
 pub returns-then-self : goal.returns-then-self
 returns-then-self g c =
     let asked = c.refuse.ensures in
     refuses g.O.Directory (Unit {0}) c.args.self.now c.refuse.new.self (λ s. commit_step s c.args.payload.now c.args.ids.now) (line (codes "refused") (codes "stamps-spent" ∷ [])) c.refuse.result
-    asked.stays asked.kept asked.content asked.refusals (record { quiet = at_ok c.refuse.result asked.quiet; cause = asked.cause }) asked.answer asked.room
+    asked.frame asked.faults asked.answer asked.room
     (λ tells s held known. spent_step s c.args.payload.now c.args.ids.now (sym held.next ∙ sym (ap (λ v. v.0.next) c.self.view_is) ∙ c.if-self.true))
 
 pub returns-in-Some : goal.returns-in-Some
 returns-in-Some g c =
     let asked = c.refuse_unknown.ensures in
-    refuses g.O.Directory (Unit {0}) c.args.self.now c.refuse_unknown.new.self (λ s. commit_step s c.args.payload.now c.args.ids.now) (line (codes "refused") (codes "unknown-segment" ∷ encode_lower c.in-Some.id ∷ [])) c.refuse_unknown.result
-    asked.asks.stays asked.asks.kept asked.asks.content asked.asks.refusals asked.faults asked.answer asked.room
+    refuses g.O.Directory (Unit {0}) c.args.self.now c.refuse_unknown.new.self (λ s. commit_step s c.args.payload.now c.args.ids.now) (unknown_line c.in-Some.id) c.refuse_unknown.result
+    asked.frame asked.faults asked.answer asked.room
     (λ tells s held known.
     numbered_step s c.args.payload.now c.args.ids.now (Some c.in-Some.id)
     (is_left c.self.inside.next c.args.self.now.0.next s c.if-self.false (ap (λ v. v.0.next) c.self.view_is) held.next)

@@ -3,15 +3,15 @@ use Rattle.tv_model.specs.State.{file_at}
 use Rattle.tv_model.specs.CommitEvents.{is_sealed}
 use Rattle.tv_model.specs.Index.{IsFileOf}
 use Rattle.tv_store.proofs.Holding.{same_holds}
-use Rattle.tv_store.proofs.Committing.{asks_later}
+use Rattle.tv_store.proofs.Asking.{asks_later}
 use Rattle.tv_store.proofs.CommitEvents.{find_further, find_here, all_at}
 use Rattle.tv_store.proofs.store.Store.first_unsealed.Goals as goal
 
 pub returns-then-branch-clause-found : goal.returns-then-branch-clause-found
 returns-then-branch-clause-found g c tells s held files =
-    let reads = g.O.Directory.reads in
+    let D = g.O.Directory in
     let so_far = c.loop-name.invariant in
-    let now = same_holds (reads c.args.self.now.1) (reads c.loop-name.self.1) c.args.self.now.0 c.loop-name.self.0 s (so_far.asks.content tells) so_far.asks.kept held in
+    let now = same_holds (D.view c.args.self.now.1).reads (D.view c.loop-name.self.1).reads c.args.self.now.0 c.loop-name.self.0 s (so_far.asks.below.content tells) so_far.asks.kept held in
     let within : c.loop-name.name-index < length c.args.names.now = omega arith in
     let file : IsFileOf c.name-item.result = all_at IsFileOf c.args.names.now c.loop-name.name-index c.name-item.result files within c.name-item.is in
     let here : not (is_sealed (file_at s c.name-item.result)) ≡ true = sym (c.in_ok-is_unsealed.ensures.found tells s now file) ∙ c.if-branch.true in
@@ -19,16 +19,16 @@ returns-then-branch-clause-found g c tells s held files =
 
 pub loop-name-preserved : goal.loop-name-preserved
 loop-name-preserved g c =
-    let reads = g.O.Directory.reads in
+    let D = g.O.Directory in
     let so_far = c.loop-name.invariant in
     let asked = c.in_ok-is_unsealed.ensures in
     record {
       found = λ tells s held files.
-          let now = same_holds (reads c.args.self.now.1) (reads c.loop-name.self.1) c.args.self.now.0 c.loop-name.self.0 s (so_far.asks.content tells) so_far.asks.kept held in
+          let now = same_holds (D.view c.args.self.now.1).reads (D.view c.loop-name.self.1).reads c.args.self.now.0 c.loop-name.self.0 s (so_far.asks.below.content tells) so_far.asks.kept held in
           let within : c.loop-name.name-index < length c.args.names.now = omega arith in
           let file : IsFileOf c.name-item.result = all_at IsFileOf c.args.names.now c.loop-name.name-index c.name-item.result files within c.name-item.is in
           let sealed : not (is_sealed (file_at s c.name-item.result)) ≡ false = sym (asked.found tells s now file) ∙ c.if-branch.false in
           find_further (λ name. not (is_sealed (file_at s name))) c.args.names.now c.loop-name.name-index c.name-item.result within c.name-item.is (so_far.found tells s held files) sealed;
-      asks = asks_later g.O.Directory c.args.self.now c.loop-name.self c.is_unsealed.new.self so_far.asks asked.asks;
+      asks = asks_later so_far.asks asked.frame;
       quiet = asked.faults.quiet ∙ so_far.quiet;
     }

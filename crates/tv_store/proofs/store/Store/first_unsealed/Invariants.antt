@@ -5,12 +5,13 @@ use Rattle.tv_model.specs.State.{State, file_at}
 use Rattle.tv_model.specs.CommitEvents.{is_sealed}
 use Rattle.tv_model.specs.Index.{IsFileOf}
 use Rattle.tv_store.specs.Kept.{Holds}
+use Rattle.tv_directory.specs.View.{OnlyReads}
 use Rattle.tv_store.specs.Stays.{Asks}
 use Rattle.tv_store.proofs.store.Store.first_unsealed.Given as goal
 
 abbrev pub invariant-loop-name : goal.invariant-loop-name
 invariant-loop-name g l = record {
-  found : g.O.Directory.tells → (s : State) → Holds (g.O.Directory.reads l.initial.self.1) l.initial.self.0 s → AllByRecursion IsFileOf l.names → find (λ name. not (is_sealed (file_at s name))) (take l.name-index l.names) ≡ None;
-  asks : Asks g.O.Directory l.initial.self l.self;
-  quiet : g.O.Directory.faults l.self.1 ≡ g.O.Directory.faults l.initial.self.1;
+  found : g.O.Directory.told.content → (s : State) → Holds (g.O.Directory.view l.initial.self.1).reads l.initial.self.0 s → AllByRecursion IsFileOf l.names → find (λ name. not (is_sealed (file_at s name))) (take l.name-index l.names) ≡ None;
+  asks : Asks (OnlyReads g.O.Directory.told) g.O.Directory.view l.initial.self l.self;
+  quiet : (g.O.Directory.view l.self.1).faults ≡ (g.O.Directory.view l.initial.self.1).faults;
 }

@@ -6,18 +6,18 @@ use Rattle.tv_store.proofs.CollectionEvents.{collected_told, rose_told}
 use Rattle.tv_store.proofs.store.Store.gc.Goals as goal
 
 pub returns-in_err-deleted-clause-lens : goal.returns-in_err-deleted-clause-lens
-returns-in_err-deleted-clause-lens g c bound h = c.collect.ensures.lens bound (subst (λ v. AtMost bound v.0) (sym c.self.view_is) (subst (AtMost bound) (sym c.ready_for_all.ensures.kept) h))
+returns-in_err-deleted-clause-lens g c bound h = c.collect.ensures.lens bound (subst (λ v. AtMost bound v.0) (sym c.self.view_is) (subst (AtMost bound) (sym c.ready_for_all.ensures.frame.kept) h))
 
 pub returns-in_err-answer-clause-lens : goal.returns-in_err-answer-clause-lens
-returns-in_err-answer-clause-lens g c bound h = c.collect.ensures.lens bound (subst (λ v. AtMost bound v.0) (sym c.self.view_is) (subst (AtMost bound) (sym c.ready_for_all.ensures.kept) h))
+returns-in_err-answer-clause-lens g c bound h = c.collect.ensures.lens bound (subst (λ v. AtMost bound v.0) (sym c.self.view_is) (subst (AtMost bound) (sym c.ready_for_all.ensures.frame.kept) h))
 
 pub returns-in_err-answer-2-clause-lens : goal.returns-in_err-answer-2-clause-lens
 returns-in_err-answer-2-clause-lens g c bound h =
-    subst (AtMost bound) (sym c.ready.ensures.kept) (c.collect.ensures.lens bound (subst (λ v. AtMost bound v.0) (sym c.self.view_is) (subst (AtMost bound) (sym c.ready_for_all.ensures.kept) h)))
+    subst (AtMost bound) (sym c.ready.ensures.frame.kept) (c.collect.ensures.lens bound (subst (λ v. AtMost bound v.0) (sym c.self.view_is) (subst (AtMost bound) (sym c.ready_for_all.ensures.frame.kept) h)))
 
 pub returns-clause-lens : goal.returns-clause-lens
 returns-clause-lens g c bound h =
-    subst (AtMost bound) (sym c.ready.ensures.kept) (c.collect.ensures.lens bound (subst (λ v. AtMost bound v.0) (sym c.self.view_is) (subst (AtMost bound) (sym c.ready_for_all.ensures.kept) h)))
+    subst (AtMost bound) (sym c.ready.ensures.frame.kept) (c.collect.ensures.lens bound (subst (λ v. AtMost bound v.0) (sym c.self.view_is) (subst (AtMost bound) (sym c.ready_for_all.ensures.frame.kept) h)))
 
 pub returns-clause-step : goal.returns-clause-step
 returns-clause-step g c =
@@ -29,16 +29,16 @@ returns-clause-step g c =
     let after : Kept = record inside { managed = c.collect.new.self.1; open_files = c.collect.new.self.2; left = c.remove_all.new.set.keys } in
     let deleted = c.in_ok-deleted.field-0.deleted.items in
     let failed = c.in_ok-deleted.field-0.failed.items in
-    let told = c.in_ok-deleted.ensures.told in (
+    let told = c.in_ok-deleted.ensures.collects.tried in (
       told.outcomes,
-      rose_told needed inside.managed after.managed deleted failed D.tells (D.reads old) (D.reads new) told (D.refusals old) (D.refusals new) (D.refusals c.ready_for_all.new.self.1) (D.refusals c.args.self.now.1) (D.refusals c.ready.new.self.1)
-          (ap (λ v. D.refusals v.1) c.self.view_is) c.ready_for_all.ensures.refusals c.ready.ensures.refusals c.in_ok-deleted.ensures.counted,
+      rose_told needed inside.managed after.managed deleted failed D.told.content (D.view old).reads (D.view new).reads told (D.view old).refusals (D.view new).refusals (D.view c.ready_for_all.new.self.1).refusals (D.view c.args.self.now.1).refusals (D.view c.ready.new.self.1).refusals
+          (ap (λ v. (D.view v.1).refusals) c.self.view_is) c.ready_for_all.ensures.frame.below.kept.frame.tells_none.deletes_none.refusals c.ready.ensures.frame.below.kept.frame.tells_none.deletes_none.refusals c.in_ok-deleted.ensures.collects.counted,
       λ tells s held.
-          let held_before = same_holds (D.reads c.args.self.now.1) (D.reads c.ready_for_all.new.self.1) c.args.self.now.0 c.ready_for_all.new.self.0 s (c.ready_for_all.ensures.content tells) c.ready_for_all.ensures.kept held in
-          let held_inside = inside_holds D.reads _ c.ready_for_all.new.self s c.self.view_is held_before in
+          let held_before = same_holds (D.view c.args.self.now.1).reads (D.view c.ready_for_all.new.self.1).reads c.args.self.now.0 c.ready_for_all.new.self.0 s (c.ready_for_all.ensures.frame.below.content tells) c.ready_for_all.ensures.frame.kept held in
+          let held_inside = inside_holds (λ d. (D.view d).reads) _ c.ready_for_all.new.self s c.self.view_is held_before in
           let step =
-          collected_told (D.reads old) (D.reads new) c.args.self.now.0 c.ready_for_all.new.self.0 inside after s D.tells needed deleted failed c.as_slice.result.now c.as_slice-2.result.now c.as_slice-3.result.now c.in_ok-answer-2.answer c.in_ok-answer.answer
-          tells held_inside (ap (λ v. v.0) c.self.view_is) c.ready_for_all.ensures.kept c.in_ok-living.ensures refl told (c.in_ok-deleted.ensures.list tells) c.in_ok-deleted.ensures.open_files c.remove_all.ensures c.as_slice.ensures.value
+          collected_told (D.view old).reads (D.view new).reads c.args.self.now.0 c.ready_for_all.new.self.0 inside after s D.told.content needed deleted failed c.as_slice.result.now c.as_slice-2.result.now c.as_slice-3.result.now c.in_ok-answer-2.answer c.in_ok-answer.answer
+          tells held_inside (ap (λ v. v.0) c.self.view_is) c.ready_for_all.ensures.frame.kept c.in_ok-living.ensures refl told (c.in_ok-deleted.ensures.list tells) c.in_ok-deleted.ensures.collects.open_files c.remove_all.ensures c.as_slice.ensures.value
           c.in_ok-answer-2.ensures.answer c.in_ok-answer.ensures c.as_slice-2.ensures.value c.as_slice-3.ensures.value in
-          (step.0, same_holds (D.reads new) (D.reads c.ready.new.self.1) after c.ready.new.self.0 _ (c.ready.ensures.content tells) c.ready.ensures.kept step.1),
+          (step.0, same_holds (D.view new).reads (D.view c.ready.new.self.1).reads after c.ready.new.self.0 _ (c.ready.ensures.frame.below.content tells) c.ready.ensures.frame.kept step.1),
     )

@@ -1,4 +1,4 @@
-use Rattle.std.proofs.Common.{◌≡◌, ◌<◌, length, map, ap, ◌∙◌, arith}
+use Rattle.std.proofs.Common.{◌≡◌, ◌<◌, length, map, ap, ◌∙◌, arith, rules}
 use Rattle.std.proofs.lemmas.List.{map_push}
 use Rattle.tv_model.specs.Commits.{Commit}
 use Rattle.tv_model.specs.Files.{Rose}
@@ -11,32 +11,35 @@ use Rattle.tv_store.proofs.Holding.{same_holds}
 use Rattle.tv_store.proofs.ReaderEvents.{failed_as, snapshot_fails, segment_is_sealed, read_more, all_read}
 use Rattle.tv_store.proofs.store.Store.read_snapshot.Goals as goal
 
-pub returns-in_err-reader-clause-cause : goal.returns-in_err-reader-clause-cause
-returns-in_err-reader-clause-cause g c =
-    let tells = g.O.Directory.tells in
-    let reads = g.O.Directory.reads in
-    let faults = g.O.Directory.faults in
+pub returns-in_err-reader-clause-faults : goal.returns-in_err-reader-clause-faults
+returns-in_err-reader-clause-faults g c =
+    let tells = g.O.Directory.told.content in
+    let D = g.O.Directory in
     let so_far = c.loop-entry.invariant in
     let segments = c.deref-entry-items.result.now in
     let within : c.loop-entry.entry-index < length segments = omega arith in
-    failed_as c.from_residual-in_err-reader.result c.in_err-reader.field-0.0
-    (ApplyCause ⊥ (Rose (faults c.args.self.now.1) (faults c.read_segment.new.self.1)) (faults c.read_segment.new.self.1 ≡ faults c.args.self.now.1) ⊥ (LacksIn tells (reads c.args.self.now.1) c.args.self.now.0) (λ path. HoldsNone tells (reads c.args.self.now.1) c.args.self.now.0))
-    c.from_residual-in_err-reader.ensures.1
-    (snapshot_fails tells (reads c.args.self.now.1) (reads c.loop-entry.self.1) c.args.self.now.0 segments c.loop-entry.entry-index c.entry-item.result
-    (faults c.args.self.now.1) (faults c.loop-entry.self.1) (faults c.read_segment.new.self.1) c.in_err-reader.field-0.0
-    so_far.asks.content so_far.quiet (c.deref-entry-items.ensures.value ∙ c.in_ok-segments.ensures ∙ ap (λ v. v.0.commit.segments) c.self.view_is) within c.entry-item.is c.in_err-reader.ensures.cause)
+    record {
+      quiet = search rules;
+      cause =
+          failed_as c.from_residual-in_err-reader.result c.in_err-reader.field-0.0
+          (ApplyCause ⊥ (Rose (D.view c.args.self.now.1).faults (D.view c.read_segment.new.self.1).faults) ((D.view c.read_segment.new.self.1).faults ≡ (D.view c.args.self.now.1).faults) ⊥ (LacksIn tells (D.view c.args.self.now.1).reads c.args.self.now.0) (λ path. HoldsNone tells (D.view c.args.self.now.1).reads c.args.self.now.0))
+          c.from_residual-in_err-reader.ensures.1
+          (snapshot_fails tells (D.view c.args.self.now.1).reads (D.view c.loop-entry.self.1).reads c.args.self.now.0 segments c.loop-entry.entry-index c.entry-item.result
+          (D.view c.args.self.now.1).faults (D.view c.loop-entry.self.1).faults (D.view c.read_segment.new.self.1).faults c.in_err-reader.field-0.0
+          so_far.asks.below.content so_far.quiet (c.deref-entry-items.ensures.value ∙ c.in_ok-segments.ensures ∙ ap (λ v. v.0.commit.segments) c.self.view_is) within c.entry-item.is c.in_err-reader.ensures.faults.cause);
+    }
 
 pub loop-entry-preserved : goal.loop-entry-preserved
 loop-entry-preserved g c =
-    let reads = g.O.Directory.reads in
+    let D = g.O.Directory in
     let so_far = c.loop-entry.invariant in
     let asked = c.in_ok-reader.ensures in
     let segments = c.deref-entry-items.result.now in
     let within : c.loop-entry.entry-index < length segments = omega arith in
     record {
       read = λ tells s held whole are.
-          let now = same_holds (reads c.args.self.now.1) (reads c.loop-entry.self.1) c.args.self.now.0 c.loop-entry.self.0 s (so_far.asks.content tells) so_far.asks.kept held in
-          let sealed = segment_is_sealed (reads c.loop-entry.self.1) c.loop-entry.self.0 s segments c.loop-entry.entry-index c.entry-item.result are within c.entry-item.is whole now in
+          let now = same_holds (D.view c.args.self.now.1).reads (D.view c.loop-entry.self.1).reads c.args.self.now.0 c.loop-entry.self.0 s (so_far.asks.below.content tells) so_far.asks.kept held in
+          let sealed = segment_is_sealed (D.view c.loop-entry.self.1).reads c.loop-entry.self.0 s segments c.loop-entry.entry-index c.entry-item.result are within c.entry-item.is whole now in
           read_more s segments c.loop-entry.entry-index c.entry-item.result c.in_ok-reader.reader.id c.in_ok-reader.reader.segment c.in_ok-reader.reader.bodies.items
           (map (λ (r : SegmentReader). (r.id, r.segment)) c.loop-entry.readers.items) (map (λ (r : SegmentReader). (r.id, r.segment)) c.push.new.self.items)
           (map (λ (r : SegmentReader). r.bodies.items) c.loop-entry.readers.items) (map (λ (r : SegmentReader). r.bodies.items) c.push.new.self.items)
@@ -44,8 +47,8 @@ loop-entry-preserved g c =
           (ap (map (λ (r : SegmentReader). (r.id, r.segment))) c.in_ok-push.ensures.items ∙ map_push (λ (r : SegmentReader). (r.id, r.segment)) c.loop-entry.readers.items c.in_ok-reader.reader)
           (ap (map (λ (r : SegmentReader). r.bodies.items)) c.in_ok-push.ensures.items ∙ map_push (λ (r : SegmentReader). r.bodies.items) c.loop-entry.readers.items c.in_ok-reader.reader)
           (so_far.read tells s held whole are);
-      asks = asks_later so_far.asks asked.asks;
-      quiet = asked.quiet ∙ so_far.quiet;
+      asks = asks_later so_far.asks asked.frame;
+      quiet = asked.faults.quiet ∙ so_far.quiet;
     }
 
 pub returns-clause-shown : goal.returns-clause-shown

@@ -1,6 +1,6 @@
 -- A script replayed: how far a run has come, and what a whole run is.
 use Rattle.std.proofs.Common.{◌≡◌, ◌≢◌, ◌⊎◌, ℕ, ◌+◌, ◌*◌, ◌^◌, ◌≤◌, ◌<◌, true, true≢false, List, [], ◌∷◌, ◌++◌, length, Option, Some, None, refl, sym, ap, subst, ◌∙◌, arith, append_assoc, length-append, inl, inr}
-use Rattle.std.specs.Prelude.{IsSome, is_some, option_map}
+use Rattle.std.specs.Prelude.{Bool, IsSome, is_some, option_map}
 use Rattle.std.specs.List.{AllByRecursion}
 use Rattle.std.specs.List.Sorted.{IsStrictlySortedBy}
 use Rattle.std.specs.BTreeSet.{insert_key}
@@ -15,7 +15,7 @@ use Rattle.tv_base.specs.declared.open_errors.OpenReadError.TheVariants as read
 use Rattle.tv_model.specs.declared.event.Event.{Event}
 use Rattle.tv_model.specs.declared.segment.LiveSegment.{LiveSegment}
 use Rattle.tv_model.specs.Names.{byte_cmp, has, list_name, meta_name}
-use Rattle.tv_model.specs.Files.{Reads, Same, Heard, Rose, RoseBy}
+use Rattle.tv_model.specs.Files.{Reads, Heard, Rose, RoseBy}
 use Rattle.tv_model.specs.Footer.{IsGood}
 use Rattle.tv_managed.specs.Reading.{HasNoBody}
 use Rattle.tv_model.specs.Listing.{Lists}
@@ -24,7 +24,7 @@ use Rattle.tv_model.specs.Segments.{all_required}
 use Rattle.tv_model.specs.State.{State, FileState, Sealed, Open, Left, file_at}
 use Rattle.tv_model.specs.Lines.{opening_of}
 use Rattle.tv_model.specs.Readable.{AllReadGood}
-use Rattle.tv_model.specs.Machine.{Turn, step, answers, after, events_of, refused_in, all_refused}
+use Rattle.tv_model.specs.Machine.{Turn, step, answers, report, after, events_of, refused_in, all_refused}
 use Rattle.tv_model.specs.Index.{FileReads, IsFileOf, DirectoryHolds, OpensWith, OpensTo, IsSound, HasNoIndex, first_state}
 use Rattle.tv_model.specs.Script.{line_limit, lines_of, Fits}
 use Rattle.tv_model.specs.SoundStates.{IsWhole, IsSoundState}
@@ -33,17 +33,21 @@ use Rattle.tv_model.proofs.WholeStates.{after_whole, sealed_since}
 use Rattle.tv_model.proofs.Serving.{serves, serves_as_sealed}
 use Rattle.tv_model.proofs.Collects.{collects_in}
 use Rattle.tv_replay.specs.declared.next_event.ScriptError.{ScriptError}
-use Rattle.tv_replay.specs.declared.next_event.ScriptError.TheVariants as script
+use Rattle.tv_replay.specs.declared.next_event.ScriptError.TheVariants as failed
+use Rattle.tv_replay.specs.declared.lines.LineError.TheVariants as line
+use Rattle.tv_replay.specs.declared.replaying.Tally.{Tally}
 use Rattle.tv_store.specs.Kept.{Kept, FileHolds, Holds, AtMost}
+use Rattle.tv_directory.specs.declared.directory.Directory.{Ghosts}
+use Rattle.tv_store.specs.Opening.{Opens}
 use Rattle.tv_store.specs.Telling.{TellsLine, TellsLines}
-use Rattle.tv_replay.specs.ScriptLines.{pending, TakesEvent, IsNoEvent, IsTooLong}
+use Rattle.tv_replay.specs.ScriptLines.{pending, TakesNextEvent, IsNoEvent, IsTooLong}
 use Rattle.tv_store.specs.ReaderNumbers.{FewNumbers}
 use Rattle.tv_store.specs.ReadCauses.{ReadFault, ApplyCause}
-use Rattle.tv_replay.specs.ScriptCauses.{ScriptCause}
+use Rattle.tv_replay.specs.ScriptCauses.{IsRefused, ScriptCause}
 use Rattle.tv_store.specs.StoreCauses.{WriteFault, OpeningCause, IsRefusal}
 use Rattle.tv_replay.specs.Replays.{Replays, ReplayCause, StopsAt, BeginsWith, LineRefusal, IsTooMany, IsBadFile, NeverOpens, line_refusal, long_refusal}
 use Rattle.tv_store.specs.Applying.{Stepped, Spent, BadIn, HoldsNone, written_by}
-use Rattle.tv_replay.specs.Applying.{Applies, Runs, RunCause, BadSince, IsErrorOf}
+use Rattle.tv_replay.specs.AppliedEvents.{Applies, Runs, RunCause, BadSince, IsErrorOf}
 use Rattle.tv_replay.proofs.LineLemmas.{pending_some}
 use Rattle.tv_replay.proofs.Progress.{after-last, answers-last, events-last, readable-last, refused-last, AreLines-length, ReadSoFar, nothing_read, one_more_read, all_read}
 
@@ -94,14 +98,14 @@ never_spent kept event count few small all numbers (inr spent) = let much : 2 ^ 
 -- ---- how far a run has come
 
 -- these events were applied, and they are the lines that were read
-pub record Progress (tells tells_heard : Type 0) (old_reads new_reads : Reads) (old_kept new_kept : Kept) (old_heard new_heard : Heard) (old_refusals new_refusals : ℕ) (text left : Option (List ℕ)) (count : ℕ) : Type 0 where
+pub record Progress {O W C : Type 0} (g : Ghosts O W C) (old new : Kept × O × Bool) (text left : Option (List ℕ)) (count : ℕ) : Type 0 where
   pub turns : List Turn
   pub counted : count ≡ length turns
   pub read : (whole : List ℕ) → text ≡ Some whole → ReadSoFar whole left (events_of turns)
-  pub applied : Applies tells tells_heard old_reads new_reads old_kept new_kept old_heard new_heard old_refusals new_refusals turns
+  pub applied : Applies g old new turns
 
-pub starts : (tells tells_heard : Type 0) (reads : Reads) (kept : Kept) (heard : Heard) (refusals : ℕ) (held : List ℕ) (text : Option (List ℕ)) → held ≡ [] → Progress tells tells_heard reads reads kept kept heard heard refusals refusals text (pending held text) 0
-starts tells tells_heard reads kept heard refusals held text none =
+pub starts : {O W C : Type 0} (g : Ghosts O W C) (store : Kept × O × Bool) (held : List ℕ) (text : Option (List ℕ)) → held ≡ [] → Progress g store store text (pending held text) 0
+starts g store held text none =
     record {
       turns = [];
       counted = refl;
@@ -110,7 +114,7 @@ starts tells tells_heard reads kept heard refusals held text none =
         fits = tt;
         schema = refl;
         holds = λ t s h w. h;
-        told = λ t th s h w. record { pieces = []; heard = sym (append-nil heard); each = refl };
+        told = λ t th s h w. record { pieces = []; heard = sym (append-nil (g.view store.1).heard); each = refl };
         readable = λ t s h w. tt;
         refused = inl (omega arith);
       };
@@ -122,32 +126,30 @@ rose_more some more old now new (inl a) (inr b) = inr b
 rose_more some more old now new (inr a) (inr b) = inr b
 rose_more some more old now new (inr a) (inl b) = inr (omega arith)
 
-one_more_applied : (tells tells_heard : Type 0) (old_reads now_reads new_reads : Reads) (old_kept now_kept new_kept : Kept) (old_heard now_heard new_heard : Heard) (old_refusals now_refusals new_refusals : ℕ) (turns : List Turn) (e : Event) (answer : List ℕ) (from to : ℕ)
-    → Applies tells tells_heard old_reads now_reads old_kept now_kept old_heard now_heard old_refusals now_refusals turns → Fits e → new_kept.schema ≡ now_kept.schema
-    → (stepped : Stepped tells now_reads new_reads now_kept new_kept now_refusals new_refusals e answer)
-    → (tells_heard → TellsLine now_heard new_heard from to answer)
-    → Applies tells tells_heard old_reads new_reads old_kept new_kept old_heard new_heard old_refusals new_refusals (turns ++ (e, stepped.0) ∷ [])
-one_more_applied tells tells_heard old_reads now_reads new_reads old_kept now_kept new_kept old_heard now_heard new_heard old_refusals now_refusals new_refusals turns e answer from to a fits schema stepped said =
+one_more_applied : {O W C : Type 0} (g : Ghosts O W C) (old now new : Kept × O × Bool) (turns : List Turn) (e : Event) (answer : List ℕ)
+    → Applies g old now turns → Fits e → new.0.schema ≡ now.0.schema → (stepped : Stepped g now new e answer)
+    → (g.told.heard → TellsLine (g.view now.1).heard (g.view new.1).heard (g.view now.1).moment (g.view new.1).moment answer)
+    → Applies g old new (turns ++ (e, stepped.0) ∷ [])
+one_more_applied g old now new turns e answer a fits schema stepped said =
     let t : Turn = (e, stepped.0) in
     record {
       fits = subst (λ (es : List Event). AllByRecursion Fits es) (sym (events-last turns t)) (fits-last (events_of turns) e a.fits fits);
       schema = schema ∙ a.schema;
-      holds = λ tell s h w. subst (Holds new_reads new_kept) (sym (after-last s turns t)) (stepped.2 tell (after s turns) (a.holds tell s h w) (after_whole s turns w)).1;
+      holds = λ tell s h w. subst (Holds (g.view new.1).reads new.0) (sym (after-last s turns t)) (stepped.2 tell (after s turns) (a.holds tell s h w) (after_whole s turns w)).1;
       told = λ tell th s h w.
-          let more = tells_more old_heard now_heard new_heard from to answer (answers s turns) (a.told tell th s h w) (said th) in
+          let more = tells_more (g.view old.1).heard (g.view now.1).heard (g.view new.1).heard (g.view now.1).moment (g.view new.1).moment answer (answers s turns) (a.told tell th s h w) (said th) in
           let is : answer ≡ (step (after s turns) e stepped.0).0 = (stepped.2 tell (after s turns) (a.holds tell s h w) (after_whole s turns w)).0 in
-          subst (TellsLines old_heard new_heard) (ap (λ (line : List ℕ). answers s turns ++ line ∷ []) is ∙ sym (answers-last s turns t)) more;
+          subst (TellsLines (g.view old.1).heard (g.view new.1).heard) (ap (λ (line : List ℕ). answers s turns ++ line ∷ []) is ∙ sym (answers-last s turns t)) more;
       readable = λ tell s h w. readable-last s turns t (a.readable tell s h w) (stepped.2 tell (after s turns) (a.holds tell s h w) (after_whole s turns w)).2;
-      refused = subst (λ (n : ℕ). RoseBy n old_refusals new_refusals) (sym (refused-last turns t)) (rose_more (all_refused turns) (refused_in stepped.0) old_refusals now_refusals new_refusals a.refused stepped.1);
+      refused = subst (λ (n : ℕ). RoseBy n (g.view old.1).refusals (g.view new.1).refusals) (sym (refused-last turns t))
+          (rose_more (all_refused turns) (refused_in stepped.0) (g.view old.1).refusals (g.view now.1).refusals (g.view new.1).refusals a.refused stepped.1);
     }
 
-pub goes_on : (tells tells_heard : Type 0) (old_reads now_reads new_reads : Reads) (old_kept now_kept new_kept : Kept) (old_heard now_heard new_heard : Heard) (old_refusals now_refusals new_refusals : ℕ) (text left later : Option (List ℕ)) (count : ℕ) (e : Event) (answer : List ℕ) (from to : ℕ)
-    → Progress tells tells_heard old_reads now_reads old_kept now_kept old_heard now_heard old_refusals now_refusals text left count
-    → ((rest : List ℕ) → left ≡ Some rest → TakesEvent rest (Some e) later) → Fits e → new_kept.schema ≡ now_kept.schema
-    → Stepped tells now_reads new_reads now_kept new_kept now_refusals new_refusals e answer
-    → (tells_heard → TellsLine now_heard new_heard from to answer)
-    → Progress tells tells_heard old_reads new_reads old_kept new_kept old_heard new_heard old_refusals new_refusals text later (count + 1)
-goes_on tells tells_heard old_reads now_reads new_reads old_kept now_kept new_kept old_heard now_heard new_heard old_refusals now_refusals new_refusals text left later count e answer from to p takes fits schema stepped said =
+pub goes_on : {O W C : Type 0} (g : Ghosts O W C) (old now new : Kept × O × Bool) (text left later : Option (List ℕ)) (count : ℕ) (e : Event) (answer : List ℕ)
+    → Progress g old now text left count → TakesNextEvent left (Some e) later → Fits e → new.0.schema ≡ now.0.schema → Stepped g now new e answer
+    → (g.told.heard → TellsLine (g.view now.1).heard (g.view new.1).heard (g.view now.1).moment (g.view new.1).moment answer)
+    → Progress g old new text later (count + 1)
+goes_on g old now new text left later count e answer p takes fits schema stepped said =
     let t : Turn = (e, stepped.0) in
     record {
       turns = p.turns ++ t ∷ [];
@@ -155,7 +157,7 @@ goes_on tells tells_heard old_reads now_reads new_reads old_kept now_kept new_ke
       read = λ whole told.
           let r = p.read whole told in
           subst (λ (es : List Event). ReadSoFar whole later es) (sym (events-last p.turns t)) (one_more_read whole left later (events_of p.turns) r e (takes r.rest r.left_is));
-      applied = one_more_applied tells tells_heard old_reads now_reads new_reads old_kept now_kept new_kept old_heard now_heard new_heard old_refusals now_refusals new_refusals p.turns e answer from to p.applied fits schema stepped said;
+      applied = one_more_applied g old now new p.turns e answer p.applied fits schema stepped said;
     }
 
 none_after : (held rest : List ℕ) → [] ≡ held ++ rest → rest ≡ []
@@ -169,11 +171,9 @@ none_pending held left e =
     p.1 ∙ ap (λ (xs : List ℕ). Some xs) (none_after held p.0 p.2)
 
 -- at the end of the script
-pub ends : (tells tells_heard : Type 0) (old_reads now_reads : Reads) (old_kept now_kept : Kept) (old_heard now_heard : Heard) (old_refusals now_refusals : ℕ) (text before : Option (List ℕ)) (held : List ℕ) (left : Option (List ℕ)) (count number : ℕ)
-    → Progress tells tells_heard old_reads now_reads old_kept now_kept old_heard now_heard old_refusals now_refusals text before count
-    → ((rest : List ℕ) → before ≡ Some rest → TakesEvent rest None (pending held left)) → number ≡ count
-    → Runs tells tells_heard old_reads now_reads old_kept now_kept old_heard now_heard old_refusals now_refusals text left number
-ends tells tells_heard old_reads now_reads old_kept now_kept old_heard now_heard old_refusals now_refusals text before held left count number p takes is =
+pub ends : {O W C : Type 0} (g : Ghosts O W C) (old now : Kept × O × Bool) (text before : Option (List ℕ)) (held : List ℕ) (left : Option (List ℕ)) (count : ℕ) (tally : Tally)
+    → Progress g old now text before count → TakesNextEvent before None (pending held left) → tally.events ≡ count → Runs g old now text left tally
+ends g old now text before held left count tally p takes is =
     record {
       turns = p.turns;
       counted = is ∙ p.counted;
@@ -198,10 +198,9 @@ as_many : (turns : List Turn) → length (events_of turns) ≡ length turns
 as_many turns = length-map turns (λ (t : Turn). t.0)
 
 -- the next line is no event's
-pub stops_at_line : (tells tells_heard : Type 0) (old_reads now_reads : Reads) (old_kept now_kept : Kept) (old_heard now_heard : Heard) (old_refusals now_refusals : ℕ) (text left : Option (List ℕ)) (count number : ℕ)
-    → Progress tells tells_heard old_reads now_reads old_kept now_kept old_heard now_heard old_refusals now_refusals text left count
-    → ((rest : List ℕ) → left ≡ Some rest → IsNoEvent rest) → number ≡ count + 1 → LineRefusal text (line_refusal number)
-stops_at_line tells tells_heard old_reads now_reads old_kept now_kept old_heard now_heard old_refusals now_refusals text left count number p wrong is = (
+pub stops_at_line : {O W C : Type 0} {g : Ghosts O W C} {old now : Kept × O × Bool} {text left : Option (List ℕ)} {count : ℕ} (number : ℕ)
+    → Progress g old now text left count → IsRefused IsNoEvent left → number ≡ count + 1 → LineRefusal text (line_refusal number)
+stops_at_line {left = left} {count = count} number p wrong is = (
   number,
   inl (
     refl,
@@ -212,10 +211,9 @@ stops_at_line tells tells_heard old_reads now_reads old_kept now_kept old_heard 
 )
 
 -- the next line is too long
-pub stops_at_long : (tells tells_heard : Type 0) (old_reads now_reads : Reads) (old_kept now_kept : Kept) (old_heard now_heard : Heard) (old_refusals now_refusals : ℕ) (text left : Option (List ℕ)) (count number : ℕ)
-    → Progress tells tells_heard old_reads now_reads old_kept now_kept old_heard now_heard old_refusals now_refusals text left count
-    → ((rest : List ℕ) → left ≡ Some rest → IsTooLong rest) → number ≡ count + 1 → LineRefusal text (long_refusal number)
-stops_at_long tells tells_heard old_reads now_reads old_kept now_kept old_heard now_heard old_refusals now_refusals text left count number p long is = (
+pub stops_at_long : {O W C : Type 0} {g : Ghosts O W C} {old now : Kept × O × Bool} {text left : Option (List ℕ)} {count : ℕ} (number : ℕ)
+    → Progress g old now text left count → IsRefused IsTooLong left → number ≡ count + 1 → LineRefusal text (long_refusal number)
+stops_at_long {left = left} {count = count} number p long is = (
   number,
   inr (
     refl,
@@ -226,10 +224,9 @@ stops_at_long tells tells_heard old_reads now_reads old_kept now_kept old_heard 
 )
 
 -- there is a line too many
-pub stops_at_last : (tells tells_heard : Type 0) (old_reads now_reads : Reads) (old_kept now_kept : Kept) (old_heard now_heard : Heard) (old_refusals now_refusals : ℕ) (text left : Option (List ℕ)) (count : ℕ)
-    → Progress tells tells_heard old_reads now_reads old_kept now_kept old_heard now_heard old_refusals now_refusals text left count
-    → count ≡ 4294967295 → ((rest : List ℕ) → left ≡ Some rest → rest ≢ []) → IsTooMany text
-stops_at_last tells tells_heard old_reads now_reads old_kept now_kept old_heard now_heard old_refusals now_refusals text left count p is some whole told =
+pub stops_at_last : {O W C : Type 0} {g : Ghosts O W C} {old now : Kept × O × Bool} {text left : Option (List ℕ)} {count : ℕ}
+    → Progress g old now text left count → count ≡ 4294967295 → IsRefused (λ rest. rest ≢ []) left → IsTooMany text
+stops_at_last {left = left} {count = count} p is some whole told =
     let r = p.read whole told in
     (r.rest, stops whole left (events_of p.turns) count 4294967296 r (p.counted ∙ sym (as_many p.turns)) (omega (arith, is)), some r.rest r.left_is)
 
@@ -274,12 +271,13 @@ refusal_cause busy refusal too_many refused quiet bad absent text errors.Memory 
 refusal_cause busy refusal too_many refused quiet bad absent text other h q r = absurd h
 
 -- a script's
-pub script_cause : (busy : Type 0) (refusal : List ℕ → Type 0) (too_many refused quiet more all : Type 0) (bad : OpenReadError → Type 0) (absent : List ℕ → Type 0) (failed : ScriptError) (number : ℕ) (error : TantivyError) → IsErrorOf failed number error → ScriptCause refused quiet failed → (refused → more) → (quiet → all)
-    → (failed ≡ script.NotAnEvent → refusal (line_refusal number)) → (failed ≡ script.TooLong → refusal (long_refusal number)) → RunCause busy refusal too_many more all bad absent error
-script_cause busy refusal too_many refused quiet more all bad absent script.Memory number error is h f q r l = subst (RunCause busy refusal too_many more all bad absent) (sym is) (q h)
-script_cause busy refusal too_many refused quiet more all bad absent (script.Fault fault) number error is h f q r l = subst (RunCause busy refusal too_many more all bad absent) (sym is) (h.0, f h.1)
-script_cause busy refusal too_many refused quiet more all bad absent script.NotAnEvent number error is h f q r l = refusal_cause busy refusal too_many more all bad absent (line_refusal number) error is (q h) (r refl)
-script_cause busy refusal too_many refused quiet more all bad absent script.TooLong number error is h f q r l = refusal_cause busy refusal too_many more all bad absent (long_refusal number) error is (q h) (l refl)
+pub script_cause : (busy : Type 0) (refusal : List ℕ → Type 0) (too_many refused quiet more all : Type 0) (bad : OpenReadError → Type 0) (absent : List ℕ → Type 0) (left : Option (List ℕ)) (error : ScriptError) (number : ℕ) (answer : TantivyError)
+    → IsErrorOf error number answer → ScriptCause left refused quiet error → (refused → more) → (quiet → all)
+    → (IsRefused IsNoEvent left → refusal (line_refusal number)) → (IsRefused IsTooLong left → refusal (long_refusal number)) → RunCause busy refusal too_many more all bad absent answer
+script_cause busy refusal too_many refused quiet more all bad absent left (failed.Line line.Memory) number answer is h f q r l = subst (RunCause busy refusal too_many more all bad absent) (sym is) (q h)
+script_cause busy refusal too_many refused quiet more all bad absent left (failed.Line (line.Fault fault)) number answer is h f q r l = subst (RunCause busy refusal too_many more all bad absent) (sym is) (h.0, f h.1)
+script_cause busy refusal too_many refused quiet more all bad absent left (failed.Line line.TooLong) number answer is h f q r l = refusal_cause busy refusal too_many more all bad absent (long_refusal number) answer is (q h.0) (l h.1)
+script_cause busy refusal too_many refused quiet more all bad absent left failed.NotAnEvent number answer is h f q r l = refusal_cause busy refusal too_many more all bad absent (line_refusal number) answer is (q h.0) (r h.1)
 
 -- the end's
 pub end_cause : (busy : Type 0) (refusal : List ℕ → Type 0) (some too_many refused quiet more all : Type 0) (bad : OpenReadError → Type 0) (absent : List ℕ → Type 0) (error : TantivyError) → RunCause ⊥ (λ text. ⊥) some refused quiet (λ error. ⊥) (λ path. ⊥) error → (refused → more) → (quiet → all) → (some → too_many) → RunCause busy refusal too_many more all bad absent error
@@ -388,54 +386,41 @@ opens_sorted schema reads s none o =
     let managed : s.managed ≡ meta_name ∷ [] = opened.2 ∙ ap (λ (ns : List (List ℕ)). insert_key byte_cmp ns meta_name) listed in
     subst (IsStrictlySortedBy byte_cmp) (sym managed) (tt, tt)
 
--- a run, seen from after a call that changed nothing
-pub runs_later : (tells tells_heard : Type 0) (old_reads new_reads later_reads : Reads) (old_kept new_kept : Kept) (old_heard new_heard later_heard : Heard) (old_refusals new_refusals later_refusals : ℕ) (text left : Option (List ℕ)) (count : ℕ)
-    → (tells → (s : State) → Holds new_reads new_kept s → Holds later_reads new_kept s) → later_heard ≡ new_heard → later_refusals ≡ new_refusals
-    → Runs tells tells_heard old_reads new_reads old_kept new_kept old_heard new_heard old_refusals new_refusals text left count
-    → Runs tells tells_heard old_reads later_reads old_kept new_kept old_heard later_heard old_refusals later_refusals text left count
-runs_later tells tells_heard old_reads new_reads later_reads old_kept new_kept old_heard new_heard later_heard old_refusals new_refusals later_refusals text left count holds heard refusals r = record {
-  turns = r.turns;
-  counted = r.counted;
-  lines = r.lines;
-  applied = record {
-    fits = r.applied.fits;
-    schema = r.applied.schema;
-    holds = λ t s h w. holds t (after s r.turns) (r.applied.holds t s h w);
-    told = λ t th s h w. subst (λ (x : Heard). TellsLines old_heard x (answers s r.turns)) (sym heard) (r.applied.told t th s h w);
-    readable = r.applied.readable;
-    refused = subst (λ (x : ℕ). RoseBy (all_refused r.turns) old_refusals x) (sym refusals) r.applied.refused;
-  };
-}
-
-pub replays : (tells tells_heard : Type 0) (schema : List ℕ) (old_reads mid_reads new_reads : Reads) (mid_kept new_kept : Kept) (old_heard mid_heard new_heard : Heard) (old_refusals new_refusals from to : ℕ) (text left : Option (List ℕ)) (count : ℕ)
-    → is_schema schema ≡ true → (tells → HasNoIndex old_reads) → mid_kept.schema ≡ schema
-    → (tells → (s : State) → OpensTo default_settings schema old_reads s → Holds mid_reads mid_kept s)
-    → (tells_heard → TellsLine old_heard mid_heard from to (opening_of mid_kept.commit))
-    → Runs tells tells_heard mid_reads new_reads mid_kept new_kept mid_heard new_heard old_refusals new_refusals text left count
-    → Replays tells tells_heard schema text left old_reads new_reads old_heard new_heard old_refusals new_refusals count
-replays tells tells_heard schema old_reads mid_reads new_reads mid_kept new_kept old_heard mid_heard new_heard old_refusals new_refusals from to text left count is none same opened said r =
-    let whole : tells → (s : State) → OpensTo default_settings schema old_reads s → IsWhole s = λ t s o. opens_whole schema old_reads s (none t) o in
-    let holds : tells → (s : State) → OpensTo default_settings schema old_reads s → DirectoryHolds default_settings schema new_reads (after s r.turns) =
-    λ t s o. directory_holds schema new_reads new_kept (after s r.turns) (r.applied.schema ∙ same) (r.applied.holds t s (opened t s o) (whole t s o)) in
+pub replays : {O W C : Type 0} (g : Ghosts O W C) (before : O) (schema : List ℕ) (mid new : Kept × O × Bool) (now : O) (text left : Option (List ℕ)) (tally : Tally)
+    → Opens g before schema mid
+    → (g.told.heard → TellsLine (g.view before).heard (g.view mid.1).heard (g.view before).moment (g.view mid.1).moment (opening_of mid.0.commit))
+    → (g.view mid.1).refusals ≡ (g.view before).refusals
+    → (g.told.content → (s : State) → Holds (g.view new.1).reads new.0 s → Holds (g.view now).reads new.0 s)
+    → (g.view now).heard ≡ (g.view new.1).heard → (g.view now).refusals ≡ (g.view new.1).refusals
+    → Runs g mid new text left tally → Replays g before now schema text tally
+replays g before schema mid new now text left tally opened said refusals holds heard refusals_now r =
+    let old_reads = (g.view before).reads in
+    let whole : g.told.content → (s : State) → OpensTo default_settings schema old_reads s → IsWhole s = λ t s o. opens_whole schema old_reads s (opened.none t) o in
+    let stands : g.told.content → (s : State) → OpensTo default_settings schema old_reads s → DirectoryHolds default_settings schema (g.view now).reads (after s r.turns) =
+    λ t s o. directory_holds schema (g.view now).reads new.0 (after s r.turns) (r.applied.schema ∙ opened.schema_is) (holds t (after s r.turns) (r.applied.holds t s (opened.holds t s o) (whole t s o))) in
     record {
       turns = r.turns;
       counted = r.counted;
-      schema_is = is;
-      lines = r.lines;
-      none = none;
+      schema_is = opened.accepted;
+      lines = λ whole told. (r.lines whole told).0;
+      none = opened.none;
       told = λ t th s o.
-          let h = opened t s o in
-          let first : TellsLine old_heard mid_heard from to (opening_of s.commit) = subst (λ c. TellsLine old_heard mid_heard from to (opening_of c)) h.commit (said th) in
-          tells_first old_heard mid_heard new_heard from to (opening_of s.commit) (answers s r.turns) first (r.applied.told t th s h (whole t s o));
-      holds = holds;
-      readable = λ t s o. r.applied.readable t s (opened t s o) (whole t s o);
+          let h = opened.holds t s o in
+          let first : TellsLine (g.view before).heard (g.view mid.1).heard (g.view before).moment (g.view mid.1).moment (opening_of s.commit) =
+          subst (λ c. TellsLine (g.view before).heard (g.view mid.1).heard (g.view before).moment (g.view mid.1).moment (opening_of c)) h.commit (said th) in
+          subst (λ (later : Heard). TellsLines (g.view before).heard later (report s r.turns)) (sym heard)
+          (tells_first (g.view before).heard (g.view mid.1).heard (g.view new.1).heard (g.view before).moment (g.view mid.1).moment (opening_of s.commit) (answers s r.turns) first (r.applied.told t th s h (whole t s o)));
+      holds = stands;
+      readable = λ t s o. r.applied.readable t s (opened.holds t s o) (whole t s o);
       serves = λ t s o. serves s r.turns o.reading o.next;
-      collects = λ t s o. collects_in s r.turns (opens_sorted schema old_reads s (none t) o);
-      refused = r.applied.refused;
-      first = λ t sound. opens_first schema old_reads (none t) sound;
+      collects = λ t s o. collects_in s r.turns (opens_sorted schema old_reads s (opened.none t) o);
+      refused =
+          subst (λ (n : ℕ). RoseBy (all_refused r.turns) n (g.view now).refusals) refusals
+          (subst (λ (n : ℕ). RoseBy (all_refused r.turns) (g.view mid.1).refusals n) (sym refusals_now) r.applied.refused);
+      first = λ t sound. opens_first schema old_reads (opened.none t) sound;
       as_sealed = λ t sound. serves_as_sealed first_state r.turns first_sound r.applied.fits;
       sound = λ t sound.
-          holds_sound default_settings schema new_reads (after first_state r.turns) (holds t first_state (opens_first schema old_reads (none t) sound))
+          holds_sound default_settings schema (g.view now).reads (after first_state r.turns) (stands t first_state (opens_first schema old_reads (opened.none t) sound))
           (turns_sound first_state r.turns r.applied.fits first_sound);
     }
 
@@ -456,7 +441,7 @@ begins script left events r = record { texts = r.texts; rest = r.rest; each = r.
 -- an event met the file after these turns, which stood so at the start of the run
 pub bad_since : (tells : Type 0) (old_reads now_reads : Reads) (old_kept now_kept : Kept) (text left later : Option (List ℕ)) (turns : List Turn) (event : Event)
     → ((whole : List ℕ) → text ≡ Some whole → ReadSoFar whole left (events_of turns))
-    → ((rest : List ℕ) → left ≡ Some rest → TakesEvent rest (Some event) later)
+    → TakesNextEvent left (Some event) later
     → (tells → (s : State) → Holds old_reads old_kept s → IsWhole s → Holds now_reads now_kept (after s turns))
     → (tells → (s : State) → Holds old_reads old_kept s → IsWhole s → AllReadGood s turns)
     → (error : OpenReadError) → BadIn tells now_reads now_kept event error → BadSince tells old_reads old_kept text error

@@ -1,5 +1,5 @@
 use Rattle.tv_replay.proofs.Feeds.{moves_line, moves_all}
-use Rattle.tv_replay.proofs.held.Held.move_line.Goals as goal
+use Rattle.tv_replay.proofs.script_buffer.ScriptBuffer.move_line.Goals as goal
 
 pub returns-else-len-held : goal.returns-else-len-held
 returns-else-len-held c =

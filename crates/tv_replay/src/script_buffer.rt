@@ -1,9 +1,7 @@
 //! Bytes of a script that were read and are not yet taken.
-ghost use Rattle.std.specs.Prelude.{◌≡◌, ◌<◌, [], ◌≢◌, ◌≤◌, ℕ, length, slice_index, take, IfOk, OnOk, IfErr, IsTrue, ◌↔◌};
-ghost use Rattle.tv_model.specs.Files.{Rose};
+ghost use Rattle.std.specs.Prelude.{◌≡◌, ◌<◌, [], ◌≢◌, ◌≤◌, ℕ, length, slice_index, take, IfOk, OnOk, IsTrue, ◌↔◌};
 ghost use Rattle.tv_model.specs.Script.{line_limit};
-ghost use Rattle.tv_base.specs.Causes.{IsDevice};
-ghost use Rattle.tv_base.specs.Streams.{Reads, Keeps, IsAtEnd};
+ghost use Rattle.tv_base.specs.Streams.{Reads, Keeps, IsAtEnd, SourceFaults};
 ghost use Rattle.tv_replay.specs.ScriptLines.{Moves, pending};
 
 use crate::script::LINE_LIMIT;
@@ -16,13 +14,13 @@ const BLOCK: usize = 8192;
 
 /// Bytes that were read and are not yet taken. To a contract it is these bytes.
 #[derive(Drop)]
-pub(crate) struct Held {
+pub(crate) struct ScriptBuffer {
     buffer: Vec<u8>,
     start: usize,
     end: usize,
 }
 
-impl Model for Held {
+impl Model for ScriptBuffer {
     ghost use Rattle.std.specs.Prelude.{List, ℕ, ◌-◌, ◌≤◌, ◌<◌, take, drop, length};
 
     ghost Value = { List ℕ };
@@ -50,21 +48,21 @@ fn read_block<S: Source>(source: &mut S, block: &mut [u8], len: usize) -> Result
     requires some { 0 < length block.old }
     requires short { len ≤ line_limit }
     ensures count { IfOk result (λ n. n ≤ length block.old) }
-    ensures bytes { IfOk result (λ n. Reads (take n block.new) (S.left source.old) (S.left source.new)) }
-    ensures end { IfOk result (λ n. n ≡ 0 → IsAtEnd (S.left source.old)) }
-    ensures quiet { OnOk result (S.faults source.new ≡ S.faults source.old) }
-    ensures cause { IfErr result (λ fault. IsDevice fault × Rose (S.faults source.old) (S.faults source.new)) }
+    ensures bytes { IfOk result
+        (λ n. Reads (take n block.new) (S.view source.old).left (S.view source.new).left) }
+    ensures end { IfOk result (λ n. n ≡ 0 → IsAtEnd (S.view source.old).left) }
+    ensures faults { SourceFaults (S.view source.old) (S.view source.new) result }
 {
     let room = block.len().min(LINE_LIMIT + 1 - len);
     source.read(&mut block[..room])
 }
 
-impl Held {
+impl ScriptBuffer {
     /// Nothing, with room for a block.
-    pub(crate) fn new(alloc: Global) -> Result<Held, AllocError>
+    pub(crate) fn new(alloc: Global) -> Result<ScriptBuffer, AllocError>
         ensures { IfOk result (λ held. held ≡ []) }
     {
-        Ok(Held {
+        Ok(ScriptBuffer {
             buffer: vec![in alloc; 0; BLOCK]?,
             start: 0,
             end: 0,
@@ -83,10 +81,10 @@ impl Held {
     fn fill<S: Source>(&mut self, source: &mut S, len: usize) -> Result<(), IoFault>
         requires empty { self.old ≡ [] }
         requires short { len ≤ line_limit }
-        ensures bytes { OnOk result (Reads self.new (S.left source.old) (S.left source.new)) }
-        ensures end { OnOk result (self.new ≡ [] → IsAtEnd (S.left source.old)) }
-        ensures quiet { OnOk result (S.faults source.new ≡ S.faults source.old) }
-        ensures cause { IfErr result (λ fault. IsDevice fault × Rose (S.faults source.old) (S.faults source.new)) }
+        ensures bytes { OnOk result
+            (Reads self.new (S.view source.old).left (S.view source.new).left) }
+        ensures end { OnOk result (self.new ≡ [] → IsAtEnd (S.view source.old).left) }
+        ensures faults { SourceFaults (S.view source.old) (S.view source.new) result }
     {
         self.start = 0;
         self.end = 0;
@@ -98,10 +96,12 @@ impl Held {
     /// is held only at the end.
     pub(crate) fn refill<S: Source>(&mut self, source: &mut S, len: usize) -> Result<(), IoFault>
         requires { len ≤ line_limit }
-        ensures same { OnOk result (Keeps (pending self.old (S.left source.old)) (pending self.new (S.left source.new))) }
-        ensures end { OnOk result (self.new ≡ [] → IsAtEnd (pending self.old (S.left source.old))) }
-        ensures quiet { OnOk result (S.faults source.new ≡ S.faults source.old) }
-        ensures cause { IfErr result (λ fault. IsDevice fault × Rose (S.faults source.old) (S.faults source.new)) }
+        ensures same { OnOk result
+            (Keeps (pending self.old (S.view source.old).left)
+            (pending self.new (S.view source.new).left)) }
+        ensures end { OnOk result
+            (self.new ≡ [] → IsAtEnd (pending self.old (S.view source.old).left)) }
+        ensures faults { SourceFaults (S.view source.old) (S.view source.new) result }
     {
         if self.is_empty() {
             self.fill(source, len)?;
@@ -112,7 +112,8 @@ impl Held {
     /// Moves the bytes up to the first line feed to the end of a line, and takes that line feed
     /// out. Without a line feed all bytes are moved.
     pub(crate) fn move_line(&mut self, line: &mut Vec<u8>) -> Result<bool, AllocError>
-        ensures { IfOk result (λ found. Moves found self.old self.new line.old.items line.new.items) }
+        ensures { IfOk result
+            (λ found. Moves found self.old self.new line.old.items line.new.items) }
     {
         let held = &self.buffer[self.start..self.end];
         let len = feed_at(held);
