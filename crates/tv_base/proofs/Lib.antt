@@ -1,2 +1,3 @@
 pub mod VInts
+pub mod VisitLaws
 mod VIntRows

@@ -8,11 +8,7 @@ use Rattle.std.proofs.lemmas.List.Quantifiers.{position-Some}
 use Rattle.std.specs.Int.Digits.{digits_of, number_from_digits, number_from_digits_after, AllBelowBase}
 use Rattle.std.proofs.lemmas.Int.Digits.{digits_of_step, number_push, number_after_ge, first_digits_of}
 use Rattle.tv_model.specs.VInt.{groups, marked, vint}
-use Rattle.tv_base.specs.Bytes.{is_last}
-
--- the number of these groups, lowest first, under a highest one
-abbrev pub of_groups : ℕ → List ℕ → ℕ
-of_groups highest lower = number_from_digits 128 (highest ∷ reverse lower)
+use Rattle.tv_base.specs.Bytes.{is_last, of_groups}
 
 -- what comes next from the groups below is in the number
 pub at_least : (n : ℕ) (xs : List ℕ) (k : ℕ) → k < length xs → n * 128 + get_or xs k 0 ≤ number_from_digits_after 128 n (reverse (take (suc k) xs))

@@ -1,11 +1,19 @@
 -- The entries of an inventory.
-use Rattle.std.specs.Prelude.{ℕ, ◌+◌, ◌-◌, Bool, false, eqb, nat_lt, List, Option, Some, None, if◌then◌else◌, find}
+use Rattle.std.specs.Prelude.{ℕ, ◌≡◌, ◌+◌, ◌-◌, Bool, false, eqb, nat_lt, List, [], ◌∷◌, ◌++◌, Option, Some, None, if◌then◌else◌, find}
 use Rattle.tv_base.specs.declared.inventory.Entry.{Entry}
 use Rattle.tv_base.specs.Places.{change_at, take_out}
 
 -- an entry of this number
 abbrev pub is_at : {T : Type 0} → ℕ → Entry T → Bool
 is_at number e = eqb e.number number
+
+-- the entries after a value was taken in under this number: one share of it is out
+abbrev pub tracked : {T : Type 0} → ℕ → T → List (Entry T) → List (Entry T)
+tracked number value es = es ++ record { number = number; count = 1; value = value } ∷ []
+
+-- as many shares of it are out as can be counted
+abbrev pub IsFull : {T : Type 0} → Entry T → Type 0
+IsFull e = e.count ≡ 18446744073709551615
 
 -- one more, and one fewer, share of an entry
 abbrev pub one_more : {T : Type 0} → Entry T → Entry T
@@ -22,4 +30,5 @@ is_last (Some e) = nat_lt e.count 2
 -- one share of a number less; the last one takes the entry out
 abbrev pub released : {T : Type 0} → ℕ → List (Entry T) → List (Entry T)
 released number es =
-    if is_last (find (is_at number) es) then take_out (is_at number) es else change_at (is_at number) one_fewer es
+    if is_last (find (is_at number) es) then take_out (is_at number) es
+    else change_at (is_at number) one_fewer es

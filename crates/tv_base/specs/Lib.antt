@@ -8,7 +8,6 @@ pub mod PlaceLaws
 pub mod Entries
 pub mod EntryLaws
 pub mod Visits
-pub mod VisitLaws
 pub mod Futures
 pub mod FutureStates
 pub mod Bytes

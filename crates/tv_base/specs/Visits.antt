@@ -1,5 +1,5 @@
 -- Lists whose elements were visited.
-use Rattle.std.specs.Prelude.{◌≡◌, ℕ, zero, suc, List, [], ◌∷◌}
+use Rattle.std.specs.Prelude.{◌≡◌, ℕ, List, slice_index_or, slice_set}
 use Rattle.tv_base.specs.declared.inventory.Entry.{Entry}
 
 -- an entry before and after its value was visited
@@ -8,9 +8,10 @@ pub record IsVisited {T : Type 0} (R : T → T → Type 0) (e f : Entry T) : Typ
   pub same_count : f.count ≡ e.count
   pub value : R e.value f.value
 
--- the first n elements are changed, and the others are as before
-abbrev pub UpTo : {X : Type 0} → (X → X → Type 0) → ℕ → List X → List X → Type 0
-UpTo R zero xs ys = ys ≡ xs
-UpTo R (suc n) [] ys = ys ≡ []
-UpTo R (suc n) (x ∷ xs) [] = ⊥
-UpTo R (suc n) (x ∷ xs) (y ∷ ys) = R x y × UpTo R n xs ys
+-- the entry at this place was visited, and no other one
+pub record IsVisitedAt {T : Type 0} (R : T → T → Type 0) (i : ℕ) (old new : List (Entry T)) : Type 0 where
+  pub before : Entry T
+  pub after : Entry T
+  pub stood : before ≡ slice_index_or old i before
+  pub visited : IsVisited R before after
+  pub set : new ≡ slice_set old i after

@@ -1,11 +1,10 @@
 //! Values that are kept as long as a ticket of theirs is out.
-ghost use Rattle.std.specs.Prelude.{◌≡◌, ◌<◌, ◌++◌, [], ◌∷◌, ◌↔◌, None, IfOk, IfSome, IsSome, IsErr, OnErr, MatchOption, find, map, position, slice_index_or, slice_set, vec_len};
+ghost use Rattle.std.specs.Prelude.{◌≡◌, ◌<◌, [], ◌↔◌, None, IfOk, IfSome, IsSome, IsErr, OnErr, MatchOption, find, map, position, vec_len};
 ghost use Rattle.std.specs.List.{AllZip};
 ghost use Rattle.std.specs.Option.{IsSomeAnd};
-ghost use Rattle.tv_base.specs.declared.inventory.Entry.{Entry};
-ghost use Rattle.tv_base.specs.Entries.{is_at, one_more, released};
+ghost use Rattle.tv_base.specs.Entries.{IsFull, is_at, one_more, released, tracked};
 ghost use Rattle.tv_base.specs.Places.{IsAbsent, IsPlace, change_at};
-ghost use Rattle.tv_base.specs.Visits.{IsVisited};
+ghost use Rattle.tv_base.specs.Visits.{IsVisited, IsVisitedAt};
 
 use crate::exhausted::Exhausted;
 use std::alloc::Global;
@@ -97,7 +96,7 @@ impl<T: Drop> Inventory<T> {
     /// wanted, the value is dropped.
     pub fn track(&mut self, value: T) -> Result<Ticket, Memory>
         ensures fresh { IfOk result (λ ticket. find (is_at ticket) self.old ≡ None) }
-        ensures ok { IfOk result (λ ticket. self.new ≡ self.old ++ record { number = ticket; count = 1; value = value } ∷ []) }
+        ensures ok { IfOk result (λ ticket. self.new ≡ tracked ticket value self.old) }
         ensures err { OnErr result (self.new ≡ self.old) }
     {
         let number = self.next;
@@ -119,7 +118,7 @@ impl<T: Drop> Inventory<T> {
         ensures number { IfOk result (λ other. other ≡ t.now) }
         ensures ok { IfOk result (λ _. self.new ≡ change_at (is_at t.now) one_more self.old) }
         ensures err { OnErr result (self.new ≡ self.old) }
-        ensures full { IsErr result ↔ IsSomeAnd (find (is_at t.now) self.old) (λ e. e.count ≡ 18446744073709551615) }
+        ensures full { IsErr result ↔ IsSomeAnd (find (is_at t.now) self.old) IsFull }
     {
         let number = t.number;
         let Some(i) = place_of(&self.entries, number) else {
@@ -164,7 +163,8 @@ impl<T: Drop> Inventory<T> {
 
     /// The values, in the order in which they were tracked.
     pub fn list(&self) -> Result<Vec<&T>, Memory>
-        ensures values { IfOk result (λ values. map (λ v. v.now) values.items ≡ map (λ e. e.value) self.now) }
+        ensures values { IfOk result
+            (λ values. map (λ v. v.now) values.items ≡ map (λ e. e.value) self.now) }
     {
         let mut values = Vec::new(*self.entries.allocator());
         for e in &self.entries {
@@ -192,7 +192,8 @@ fn position_of<T>(entries: &Vec<Entry<T>>, number: u64) -> Option<usize>
 
 // The same index, and what stands there.
 fn place_of<T>(entries: &Vec<Entry<T>>, number: u64) -> Option<usize>
-    ensures { MatchOption result (IsAbsent (is_at number) entries.now.items) (λ i. IsPlace (is_at number) entries.now.items i) }
+    ensures { MatchOption result (IsAbsent (is_at number) entries.now.items)
+        (IsPlace (is_at number) entries.now.items) }
 {
     position_of(entries, number)
 }
@@ -200,7 +201,7 @@ fn place_of<T>(entries: &Vec<Entry<T>>, number: u64) -> Option<usize>
 // Visits one value.
 fn visit_at<T: Visit>(entries: &mut Vec<Entry<T>>, i: usize)
     requires { i < vec_len entries.old }
-    ensures { (e f : Entry T) × (e ≡ slice_index_or entries.old.items i e) × IsVisited T.visited e f × (entries.new.items ≡ slice_set entries.old.items i f) }
+    ensures { IsVisitedAt T.visited i entries.old.items entries.new.items }
 {
     let entry = &mut entries[i];
     entry.value.visit();

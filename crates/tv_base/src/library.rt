@@ -5,7 +5,12 @@ use crate::versions::{INDEX_FORMAT_VERSION, Version};
 
 /// The version of this library.
 pub fn version() -> Version
-    ensures version { result ≡ record { major = 0; minor = 26; patch = 2; index_format_version = 7 } }
+    ensures version { result ≡ record {
+      major = 0;
+      minor = 26;
+      patch = 2;
+      index_format_version = 7;
+    } }
 {
     Version {
         major: 0,

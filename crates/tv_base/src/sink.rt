@@ -23,7 +23,8 @@ pub trait Sink {
         ensures ok { OnOk result (Takes bytes.now (taken self.old) (taken self.new)) }
         ensures part { OnErr result (TakesPart bytes.now (taken self.old) (taken self.new)) }
         ensures quiet { OnOk result (faults self.new ≡ faults self.old) }
-        ensures cause { IfErr result (λ fault. IsDevice fault × Rose (faults self.old) (faults self.new)) };
+        ensures cause { IfErr result
+            (λ fault. IsDevice fault × Rose (faults self.old) (faults self.new)) };
 }
 
 /// A sink in memory, which has room for so many bytes.
@@ -84,12 +85,17 @@ impl Sink for VecSink {
 
     fn put(&mut self, bytes: &[u8]) -> Result<(), IoFault>
         ensures ok { OnOk result (Takes bytes.now (Some self.old.taken) (Some self.new.taken)) }
-        ensures part { OnErr result (TakesPart bytes.now (Some self.old.taken) (Some self.new.taken)) }
+        ensures part { OnErr result
+            (TakesPart bytes.now (Some self.old.taken) (Some self.new.taken)) }
         ensures quiet { OnOk result (self.new.faults ≡ self.old.faults) }
-        ensures cause { IfErr result (λ fault. IsDevice fault × Rose self.old.faults self.new.faults) }
-        ensures refused { IsErr result ↔ (self.old.room < length self.old.taken + length bytes.now) }
-        ensures took { OnOk result (self.new ≡ record self.old { taken = self.old.taken ++ bytes.now }) }
-        ensures failed { OnErr result (self.new ≡ record self.old { faults = counted self.old.faults }) }
+        ensures cause { IfErr result
+            (λ fault. IsDevice fault × Rose self.old.faults self.new.faults) }
+        ensures refused { IsErr result ↔
+            (self.old.room < length self.old.taken + length bytes.now) }
+        ensures took { OnOk result
+            (self.new ≡ record self.old { taken = self.old.taken ++ bytes.now }) }
+        ensures failed { OnErr result
+            (self.new ≡ record self.old { faults = counted self.old.faults }) }
     {
         if self.room - self.taken.len() < bytes.len() {
             self.faults = self.faults.saturating_add(1);

@@ -15,8 +15,10 @@ pub trait Source {
     /// Reads into the front of `into`, and answers how many bytes came. None come only at the end.
     fn read(&mut self, into: &mut [u8]) -> Result<usize, IoFault>
         ensures count { IfOk result (λ n. n ≤ length into.old) }
-        ensures bytes { IfOk result (λ n. Reads (take n into.new) (view self.old).left (view self.new).left) }
-        ensures end { IfOk result (λ n. n ≡ 0 → 0 < length into.old → IsAtEnd (view self.old).left) }
+        ensures bytes { IfOk result
+            (λ n. Reads (take n into.new) (view self.old).left (view self.new).left) }
+        ensures end { IfOk result
+            (λ n. n ≡ 0 → 0 < length into.old → IsAtEnd (view self.old).left) }
         ensures faults { SourceFaults (view self.old) (view self.new) result };
 }
 
@@ -47,7 +49,12 @@ impl Model for TextSource {
 impl TextSource {
     /// All of a text. Refused are exactly the calls whose numbers are in `fail_at`.
     pub fn new(bytes: Vec<u8>, fail_at: Vec<u64>) -> TextSource
-        ensures { result ≡ record { left = bytes.items; fail_at = fail_at.items; call = 0; faults = 0 } }
+        ensures { result ≡ record {
+          left = bytes.items;
+          fail_at = fail_at.items;
+          call = 0;
+          faults = 0;
+        } }
     {
         TextSource {
             bytes,

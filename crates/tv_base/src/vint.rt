@@ -1,7 +1,6 @@
 //! Numbers in groups of seven bits.
-ghost use Rattle.std.specs.Prelude.{◌≡◌, ◌<◌, ◌^◌, ◌++◌, ◌∷◌, List, ℕ, Some, length, take, reverse, position, IfSome, OnOk, OnErr};
-ghost use Rattle.std.specs.Int.Digits.{number_from_digits};
-ghost use Rattle.tv_base.specs.Bytes.{is_last};
+ghost use Rattle.std.specs.Prelude.{◌≡◌, ◌<◌, ◌^◌, ◌++◌, List, ℕ, Some, length, take, position, IfSome, OnOk, OnErr};
+ghost use Rattle.tv_base.specs.Bytes.{is_last, of_groups};
 ghost use Rattle.tv_model.specs.VInt.{vint};
 
 use tv_model::Memory;
@@ -31,8 +30,10 @@ impl VInt {
     /// The number whose spelling the bytes begin with, and how many bytes that has. `None` where they
     /// begin with no spelling of a number of 64 bits. Takes no memory.
     pub fn deserialize(bytes: &[u8]) -> Option<(VInt, usize)>
-        ensures found { (n : ℕ) (rest : List ℕ) → n < 2 ^ 64 → bytes.now ≡ vint n ++ rest → result ≡ Some (record { 0 = n }, length (vint n)) }
-        ensures only { IfSome result (λ read. (rest : List ℕ) × (bytes.now ≡ vint read.0.0 ++ rest) × (read.1 ≡ length (vint read.0.0))) }
+        ensures found { (n : ℕ) (rest : List ℕ) → n < 2 ^ 64 → bytes.now ≡ vint n ++ rest
+            → result ≡ Some (record { 0 = n }, length (vint n)) }
+        ensures only { IfSome result (λ read. (rest : List ℕ)
+            × (bytes.now ≡ vint read.0.0 ++ rest) × (read.1 ≡ length (vint read.0.0))) }
     {
         let last = last_of(bytes)?;
         let highest = bytes[last] - STOP;
@@ -68,8 +69,9 @@ fn last_of(bytes: &[u8]) -> Option<usize>
 // The number of these groups, which come lowest first, and of the highest one. `None` where it doesn't
 // fit 64 bits.
 fn number_of(lower: &[u8], highest: u8) -> Option<u64>
-    ensures found { number_from_digits 128 (highest ∷ reverse lower.now) < 2 ^ 64 → result ≡ Some (number_from_digits 128 (highest ∷ reverse lower.now)) }
-    ensures only { IfSome result (λ n. n ≡ number_from_digits 128 (highest ∷ reverse lower.now)) }
+    ensures found { of_groups highest lower.now < 2 ^ 64
+        → result ≡ Some (of_groups highest lower.now) }
+    ensures only { IfSome result (λ n. n ≡ of_groups highest lower.now) }
 {
     let mut number = u64::from(highest);
     for i in (0..lower.len()).rev() {

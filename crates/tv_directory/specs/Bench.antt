@@ -6,9 +6,10 @@ use Rattle.tv_base.specs.declared.io.IoError.{IoError}
 use Rattle.tv_base.specs.declared.io.IoFault.{IoFault}
 use Rattle.tv_base.specs.declared.open_errors.DeleteError.{DeleteError}
 use Rattle.tv_directory.specs.Device.{DeviceState, Passed, Faulted, Refused, after_call}
-use Rattle.tv_directory.specs.Ram.{ram_view}
+use Rattle.tv_directory.specs.Ram.{KeepsWriters, SameFile, ram_lives, ram_view}
 use Rattle.tv_directory.specs.View.{View}
 use Rattle.tv_directory.specs.declared.bench.Bench.{Bench}
+use Rattle.tv_directory.specs.declared.ram_directory.RamDirectory.{RamDirectory}
 use Rattle.tv_directory.specs.declared.ram_directory.RamWriter.{RamWriter}
 
 -- all that is said of it
@@ -43,24 +44,47 @@ Untouched old new = new ≡ record old { device = new.device }
 abbrev pub Timed : {C : Type 0} → Bench C → Bench C → Type 0
 Timed old new = new ≡ record old { device = new.device; clock = new.clock }
 
--- nothing changed but the device and the files, locks and watchers
-abbrev pub Untimed : {C : Type 0} → Bench C → Bench C → Type 0
-Untimed old new = new ≡ record old { device = new.device; ram = new.ram }
+-- nothing changed but the device, the clock, and the files, locks and watchers: nothing was told
+abbrev pub Untold : {C : Type 0} → Bench C → Bench C → Type 0
+Untold old new = new ≡ record old { device = new.device; clock = new.clock; ram = new.ram }
 
--- nothing changed but the files, locks and watchers
-abbrev pub OnlyRam : {C : Type 0} → Bench C → Bench C → Type 0
-OnlyRam old new = new ≡ record old { ram = new.ram }
+-- nothing changed but the device, the clock, and what was told
+abbrev pub OnlyTold : {C : Type 0} → Bench C → Bench C → Type 0
+OnlyTold old new = new ≡ record old { device = new.device; clock = new.clock; told = new.told }
 
--- A call takes its number, and is refused exactly where that one is listed: then it is counted as a fault, and nothing changes but the clock. Where `still` holds, the clock stands still.
-pub record Numbered {A C E : Type 0} (still : Type 0) (why : (passed refused quiet : Type 0) → E → Type 0) (old new : Bench C) (result : Result A E) : Type 0 where
+-- nothing changed but the room for a line
+abbrev pub OnlyRoom : {C : Type 0} → Bench C → Bench C → Type 0
+OnlyRoom old new = new ≡ record old { told = new.told }
+
+-- nothing changed but the files, locks and watchers, and of these what the directory below says
+abbrev pub Below : {C : Type 0} → (RamDirectory C → RamDirectory C → Type 0) → Bench C → Bench C → Type 0
+Below keeps old new = (new ≡ record old { ram = new.ram }) × keeps old.ram new.ram
+
+-- the same of a call that has a number: the device changed too
+abbrev pub NumberedBelow : {C : Type 0} → (RamDirectory C → RamDirectory C → Type 0) → Bench C → Bench C → Type 0
+NumberedBelow keeps old new = (new ≡ record old { device = new.device; ram = new.ram }) × keeps old.ram new.ram
+
+-- A write shows nothing before the flush: nothing changed but the device, and of the writer nothing but what was written.
+abbrev pub ShowsNothing : {C : Type 0} → (before after : RamWriter) → Bench C → Bench C → Type 0
+ShowsNothing before after old new = Untouched old new × SameFile before after
+
+-- A call on this writer: nothing was told, and nothing changed but the device where its name was deleted. The writers are as before.
+pub record WritesOut {C : Type 0} (writer : RamWriter) (old new : Bench C) : Type 0 where
+  pub untold : Untold old new
+  pub writers : KeepsWriters writer old.ram new.ram
+  pub gone : ram_lives old.ram writer ≡ false → Untouched old new
+
+-- A call takes its number, and is refused exactly where that one is listed: then it is counted as a fault, and nothing changes but the clock. It changes no more than `keeps` says.
+pub record Numbered {A C E : Type 0} (keeps : Bench C → Bench C → Type 0) (why : (passed refused quiet : Type 0) → E → Type 0) (old new : Bench C) (result : Result A E) : Type 0 where
   pub passed : OnOk result (Passed old.device new.device)
-  pub cause : IfErr result (why (Passed old.device new.device) (Timed old new × Faulted old.device new.device) (new.device ≡ after_call old.device))
-  pub clock : still → Untimed old new
+  pub cause : IfErr result (why (Untouched old new × Passed old.device new.device) (Timed old new × Faulted old.device new.device) (new.device ≡ after_call old.device))
+  pub kept : keeps old new
 
--- the same of a call that deletes, which is counted as a refusal
+-- the same of a call that deletes, which is counted as a refusal, and then leaves the clock too
 pub record NumberedDelete {A C : Type 0} (old new : Bench C) (name : List ℕ) (result : Result A DeleteError) : Type 0 where
   pub passed : OnOk result (Passed old.device new.device)
   pub cause : IfErr result (DeleteCause name (Passed old.device new.device) (Untouched old new × Refused old.device new.device) (new.device ≡ after_call old.device))
+  pub kept : Untold old new
 
 -- why a call gives an error: the device refused it, or memory was wanted
 abbrev pub of_io : (passed refused quiet : Type 0) → IoError → Type 0
@@ -70,6 +94,6 @@ of_io passed refused quiet error = IoCause refused quiet error
 abbrev pub of_write : RamWriter → RamWriter → (passed refused quiet : Type 0) → IoError → Type 0
 of_write before after passed refused quiet error = IoCause ((after ≡ before) × refused) quiet error
 
--- the same of a call that takes no memory
-abbrev pub of_device : (passed refused quiet : Type 0) → IoFault → Type 0
-of_device passed refused quiet fault = IsDevice fault × refused
+-- the same of a call that takes no memory: where it is refused, the clock is left too
+abbrev pub of_device : {C : Type 0} → Bench C → Bench C → (passed refused quiet : Type 0) → IoFault → Type 0
+of_device old new passed refused quiet fault = IsDevice fault × Untouched old new × refused

@@ -62,7 +62,7 @@ Reaches g old new bytes = g.told.content → held_lives g old ≡ true → Sets 
 abbrev pub HeldFilesStay : {D W C A : Type 0} → Ghosts D W C → DirWriter D W C → DirWriter D W C → Result A IoError → Type 0
 HeldFilesStay g old new result = g.told.content → IfErr result (IoCause (Unit {0}) (Same (held_view g old).reads (held_view g new).reads))
 
--- and where the device refused to seal the file, that may have read all that was written
+-- Where the device refused to seal the file, that reads all that was written or what it read, and every other name what it read; where memory was wanted, each name reads what it read.
 abbrev pub MayReach : {D W C A : Type 0} → Ghosts D W C → DirWriter D W C → DirWriter D W C → Result A IoError → Type 0
 MayReach g old new result =
     g.told.content → IfErr result (IoCause (MaySet (held_view g old).reads (held_view g new).reads (held_name g old) (Some (held_bytes g old))) (Same (held_view g old).reads (held_view g new).reads))

@@ -69,7 +69,7 @@ pub record StopsAt {W : Type 0} (told : Told) (old new : View W) (files : List (
   pub persisted : told.content → Persists before old.reads tried
   pub refused : Refuses told old new tried name error
 
--- All files are written, or it stops at one of them.
+-- At Ok the count of faults stands still. At an error it stopped at one of the files.
 pub record PersistFaults {A W : Type 0} (told : Told) (old new : View W) (files : List (List ℕ × List ℕ)) (result : Result A TantivyError) : Type 0 where
   pub quiet : OnOk result (new.faults ≡ old.faults)
   pub cause : IfErr result (StopsAt told old new files)

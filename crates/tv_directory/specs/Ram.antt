@@ -48,6 +48,33 @@ ram_view calls ram = record {
 abbrev pub ram_state : RamWriter → WriterState
 ram_state w = record { name = w.name; written = w.bytes.items }
 
+-- the writer writes the same file: nothing of it changed but what was written
+abbrev pub SameFile : RamWriter → RamWriter → Type 0
+SameFile old new = new ≡ record old { bytes = new.bytes }
+
+-- nothing changed but the files
+abbrev pub OnlyFiles : {C : Type 0} → RamDirectory C → RamDirectory C → Type 0
+OnlyFiles old new = new ≡ record old { files = new.files }
+
+-- nothing changed but the files and whether a notice stands
+abbrev pub OnlyNoted : {C : Type 0} → RamDirectory C → RamDirectory C → Type 0
+OnlyNoted old new = new ≡ record old { files = new.files; watchers = record old.watchers { notice = new.watchers.notice } }
+
+-- nothing changed but which locks are held
+abbrev pub OnlyHeld : {C : Type 0} → RamDirectory C → RamDirectory C → Type 0
+OnlyHeld old new = new ≡ record old { held = new.held }
+
+-- nothing changed but who watches it
+abbrev pub OnlyWatchers : {C : Type 0} → RamDirectory C → RamDirectory C → Type 0
+OnlyWatchers old new = new ≡ record old { watchers = new.watchers }
+
+-- A call on this writer: nothing changed but the files, and nothing at all where its name was deleted. The same writers may be handed in, and each has its file or lost it as before, also those that were never opened here.
+pub record KeepsWriters {C : Type 0} (writer : RamWriter) (old new : RamDirectory C) : Type 0 where
+  pub others : OnlyFiles old new
+  pub opened : (w : RamWriter) → ram_opened new w ≡ ram_opened old w
+  pub lives : (w : RamWriter) → ram_lives new w ≡ ram_lives old w
+  pub gone : ram_lives old writer ≡ false → new ≡ old
+
 -- It reads these files; no writer was opened, no lock is held, and nobody watches it.
 pub record IsNewRam {C : Type 0} (calls : C → ℕ) (files : Reads) (ram : RamDirectory C) : Type 0 where
   pub reads : Same files (ram_reads ram)

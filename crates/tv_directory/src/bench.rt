@@ -55,7 +55,7 @@ impl<C: WatchCall> Bench<C> {
     pub fn fail_at(&mut self, calls: Vec<u64>)
         ensures device { device_in self.new ≡ record (device_in self.old)
             { fail_at = calls.items } }
-        ensures others { self.new ≡ record self.old { device = device_in self.new } }
+        ensures others { Untouched self.old self.new }
     {
         self.device.fail_at(calls);
     }

@@ -1,5 +1,5 @@
 //! The calls of a directory in memory.
-ghost use Rattle.std.specs.Prelude.{◌≡◌, ◌<◌, true, false, length, is_some, Some, IfOk, IfErr, OnOk, OnErr};
+ghost use Rattle.std.specs.Prelude.{◌≡◌, ◌<◌, true, length, is_some, Some, IfOk, IfErr, OnOk, OnErr};
 ghost use Rattle.tv_model.specs.Names.{is_file_name};
 ghost use Rattle.tv_model.specs.Lines.{has_no_feed};
 ghost use Rattle.tv_base.specs.Causes.{OpenReadCause, OpenWriteCause};
@@ -8,8 +8,9 @@ ghost use Rattle.tv_directory.specs.Calls.{AskFaults, ReadFaults, OpenFaults, Io
 ghost use Rattle.tv_directory.specs.Calls.{IsNewWriter, Makes, Appends, HandsBack, Touches, Flushes, Seals, Gives, Notes, Deletes, EndsWriters, Acquires, TellsLineTo};
 ghost use Rattle.tv_directory.specs.Device.{IsSilent};
 ghost use Rattle.tv_directory.specs.Locks.{FreesLock, LockCause};
-ghost use Rattle.tv_directory.specs.Ram.{ram_lives, ram_state};
-ghost use Rattle.tv_directory.specs.Bench.{view_in, OnlyRam, Numbered, NumberedDelete, of_io, of_write, of_device};
+ghost use Rattle.tv_directory.specs.Ram.{OnlyHeld, OnlyWatchers, ram_state};
+ghost use Rattle.tv_directory.specs.Bench.{view_in, Untouched, Timed, Untold, OnlyTold, OnlyRoom, Below, NumberedBelow, ShowsNothing, WritesOut};
+ghost use Rattle.tv_directory.specs.Bench.{Numbered, NumberedDelete, of_io, of_write, of_device};
 ghost use Rattle.tv_directory.specs.Watch.{IsNewWatcher, delivered, unsubscribed};
 
 use crate::bench::Bench;
@@ -44,7 +45,7 @@ impl<C: WatchCall> Directory for Bench<C> {
         ensures faults { AskFaults (view_in C.calls self.old) (view_in C.calls self.new)
             name.now result }
         ensures frame { OnlyReads tells_all (view_in C.calls self.old) (view_in C.calls self.new) }
-        ensures device { Numbered (Unit {0}) (OpenReadCause name.now) self.old self.new result }
+        ensures device { Numbered Untouched (OpenReadCause name.now) self.old self.new result }
     {
         if self.device.refuses() {
             return Err(self.refused_read(name));
@@ -59,7 +60,7 @@ impl<C: WatchCall> Directory for Bench<C> {
         ensures faults { ReadFaults tells_all (view_in C.calls self.old) (view_in C.calls self.new)
             name.now result }
         ensures frame { OnlyReads tells_all (view_in C.calls self.old) (view_in C.calls self.new) }
-        ensures device { Numbered (Unit {0}) (OpenReadCause name.now) self.old self.new result }
+        ensures device { Numbered Untouched (OpenReadCause name.now) self.old self.new result }
     {
         Ok(FileSlice::new(self.get_file_handle(name)?))
     }
@@ -71,7 +72,7 @@ impl<C: WatchCall> Directory for Bench<C> {
         ensures faults { ReadFaults tells_all (view_in C.calls self.old) (view_in C.calls self.new)
             name.now result }
         ensures frame { OnlyReads tells_all (view_in C.calls self.old) (view_in C.calls self.new) }
-        ensures device { Numbered (Unit {0}) (OpenReadCause name.now) self.old self.new result }
+        ensures device { Numbered Untouched (OpenReadCause name.now) self.old self.new result }
     {
         let bytes = self.atomic_read(name)?;
         Ok(OwnedBytes::new(bytes)?)
@@ -86,7 +87,7 @@ impl<C: WatchCall> Directory for Bench<C> {
         ensures faults { OpenFaults tells_all (view_in C.calls self.old) (view_in C.calls self.new)
             name.now result }
         ensures frame { Kept tells_all (view_in C.calls self.old) (view_in C.calls self.new) }
-        ensures device { Numbered ⊥ (OpenWriteCause name.now) self.old self.new result }
+        ensures device { Numbered Untold (OpenWriteCause name.now) self.old self.new result }
     {
         if self.device.refuses() {
             let name = file_name(self.alloc, name)?;
@@ -111,9 +112,9 @@ impl<C: WatchCall> Directory for Bench<C> {
         ensures touches { Touches tells_all (view_in C.calls self.old) (view_in C.calls self.new)
             ram_state writer.old }
         ensures faults { IoFaults (view_in C.calls self.old) (view_in C.calls self.new) result }
-        ensures frame { Kept tells_all (view_in C.calls self.old) (view_in C.calls self.new) }
-        ensures device { Numbered (Unit {0}) (of_write writer.old writer.new)
-            self.old self.new result }
+        ensures frame { OnlyReads tells_all (view_in C.calls self.old) (view_in C.calls self.new) }
+        ensures device { Numbered (ShowsNothing writer.old writer.new)
+            (of_write writer.old writer.new) self.old self.new result }
     {
         if self.device.refuses() {
             return Err(IoError::Fault(self.device.fault()));
@@ -125,13 +126,12 @@ impl<C: WatchCall> Directory for Bench<C> {
         requires { (view_in C.calls self.old).opened writer.old ≡ true }
         ensures flushes { Flushes tells_all (view_in C.calls self.old) (view_in C.calls self.new)
             ram_state writer.old result }
-        ensures state { ram_state writer.new ≡ ram_state writer.old }
+        ensures state { writer.new ≡ writer.old }
         ensures hands_back { HandsBack tells_all (view_in C.calls self.old)
             (view_in C.calls self.new) writer.old writer.new result }
         ensures faults { IoFaults (view_in C.calls self.old) (view_in C.calls self.new) result }
         ensures frame { Kept tells_all (view_in C.calls self.old) (view_in C.calls self.new) }
-        ensures device { Numbered (ram_lives self.old.ram writer.old ≡ false) of_io self.old
-            self.new result }
+        ensures device { Numbered (WritesOut writer.old) of_io self.old self.new result }
     {
         let lives = self.ram.files.is_made(&writer.name, writer.number);
         if self.device.refuses() {
@@ -153,8 +153,7 @@ impl<C: WatchCall> Directory for Bench<C> {
             ram_state writer result }
         ensures faults { IoFaults (view_in C.calls self.old) (view_in C.calls self.new) result }
         ensures frame { Kept tells_all (view_in C.calls self.old) (view_in C.calls self.new) }
-        ensures device { Numbered (ram_lives self.old.ram writer ≡ false)
-            of_io self.old self.new result }
+        ensures device { Numbered (WritesOut writer) of_io self.old self.new result }
     {
         let lives = self.ram.files.is_made(&writer.name, writer.number);
         if self.device.refuses() {
@@ -177,7 +176,7 @@ impl<C: WatchCall> Directory for Bench<C> {
         ensures faults { ReadFaults tells_all (view_in C.calls self.old) (view_in C.calls self.new)
             name.now result }
         ensures frame { OnlyReads tells_all (view_in C.calls self.old) (view_in C.calls self.new) }
-        ensures device { Numbered (Unit {0}) (OpenReadCause name.now) self.old self.new result }
+        ensures device { Numbered Untouched (OpenReadCause name.now) self.old self.new result }
     {
         if self.device.refuses() {
             return Err(self.refused_read(name));
@@ -193,7 +192,7 @@ impl<C: WatchCall> Directory for Bench<C> {
             name.now result }
         ensures faults { IoFaults (view_in C.calls self.old) (view_in C.calls self.new) result }
         ensures frame { Frame tells_all (view_in C.calls self.old) (view_in C.calls self.new) }
-        ensures device { Numbered ⊥ of_io self.old self.new result }
+        ensures device { Numbered Untold of_io self.old self.new result }
     {
         if self.device.refuses() {
             self.clock.tick();
@@ -233,7 +232,7 @@ impl<C: WatchCall> Directory for Bench<C> {
         ensures faults { DeviceFaults (view_in C.calls self.old) (view_in C.calls self.new) result }
         ensures silent { IfErr result IsSilent }
         ensures frame { OnlyReads tells_all (view_in C.calls self.old) (view_in C.calls self.new) }
-        ensures device { Numbered ⊥ of_device self.old self.new result }
+        ensures device { Numbered Timed (of_device self.old self.new) self.old self.new result }
     {
         if self.device.refuses() {
             return Err(self.device.fault());
@@ -250,7 +249,7 @@ impl<C: WatchCall> Directory for Bench<C> {
         ensures faults { LockFaults tells_all (view_in C.calls self.old) (view_in C.calls self.new)
             lock.now.filepath.now result }
         ensures frame { OnlyLocks tells_all (view_in C.calls self.old) (view_in C.calls self.new) }
-        ensures device { Numbered (Unit {0}) LockCause self.old self.new result }
+        ensures device { Numbered (NumberedBelow OnlyHeld) LockCause self.old self.new result }
     {
         if self.device.refuses() {
             return Err(LockError::IoError(self.device.fault()));
@@ -263,7 +262,7 @@ impl<C: WatchCall> Directory for Bench<C> {
             lock }
         ensures faults { (view_in C.calls self.new).faults ≡ (view_in C.calls self.old).faults }
         ensures frame { OnlyLocks tells_all (view_in C.calls self.old) (view_in C.calls self.new) }
-        ensures others { OnlyRam self.old self.new }
+        ensures others { Below OnlyHeld self.old self.new }
     {
         self.ram.release(lock);
     }
@@ -276,7 +275,7 @@ impl<C: WatchCall> Directory for Bench<C> {
         ensures faults { (view_in C.calls self.new).faults ≡ (view_in C.calls self.old).faults }
         ensures frame { OnlyWatches tells_all (view_in C.calls self.old)
             (view_in C.calls self.new) }
-        ensures others { OnlyRam self.old self.new }
+        ensures others { Below OnlyWatchers self.old self.new }
     {
         self.ram.watch(callback)
     }
@@ -287,7 +286,7 @@ impl<C: WatchCall> Directory for Bench<C> {
         ensures faults { (view_in C.calls self.new).faults ≡ (view_in C.calls self.old).faults }
         ensures frame { OnlyWatches tells_all (view_in C.calls self.old)
             (view_in C.calls self.new) }
-        ensures others { OnlyRam self.old self.new }
+        ensures others { Below OnlyWatchers self.old self.new }
     {
         self.ram.unwatch(handle);
     }
@@ -299,7 +298,7 @@ impl<C: WatchCall> Directory for Bench<C> {
         ensures faults { (view_in C.calls self.new).faults ≡ (view_in C.calls self.old).faults }
         ensures frame { OnlyWatches tells_all (view_in C.calls self.old)
             (view_in C.calls self.new) }
-        ensures others { OnlyRam self.old self.new }
+        ensures others { Below OnlyWatchers self.old self.new }
     {
         self.ram.deliver()
     }
@@ -310,7 +309,7 @@ impl<C: WatchCall> Outside for Bench<C> {
         ensures made { OnOk result (len < (view_in C.calls self.new).room) }
         ensures faults { (view_in C.calls self.new).faults ≡ (view_in C.calls self.old).faults }
         ensures frame { OnlyReads tells_all (view_in C.calls self.old) (view_in C.calls self.new) }
-        ensures others { self.new ≡ record self.old { told = self.new.told } }
+        ensures others { OnlyRoom self.old self.new }
     {
         self.told.ready(len)
     }
@@ -322,7 +321,8 @@ impl<C: WatchCall> Outside for Bench<C> {
             line.now result }
         ensures faults { DeviceFaults (view_in C.calls self.old) (view_in C.calls self.new) result }
         ensures frame { OnlyTells tells_all (view_in C.calls self.old) (view_in C.calls self.new) }
-        ensures device { Numbered ⊥ of_device self.old self.new result }
+        ensures device { Numbered OnlyTold (of_device self.old self.new)
+            self.old self.new result }
     {
         if self.device.refuses() {
             return Err(self.device.fault());

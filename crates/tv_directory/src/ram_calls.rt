@@ -1,8 +1,14 @@
 //! The calls of a directory in memory.
-ghost use Rattle.std.specs.Prelude.{◌≡◌, true, IfOk};
+ghost use Rattle.std.specs.Prelude.{◌≡◌, true, is_some, Some, IfOk, IfErr, OnErr};
 ghost use Rattle.tv_model.specs.Names.{is_file_name};
-ghost use Rattle.tv_directory.specs.Ram.{ram_view, ram_state};
-ghost use Rattle.tv_directory.specs.View.{tells_all};
+ghost use Rattle.tv_base.specs.Causes.{OpenWriteCause};
+ghost use Rattle.tv_directory.specs.View.{tells_all, Frame, Kept, MayDelete};
+ghost use Rattle.tv_directory.specs.Calls.{AskFaults, ReadFaults, OpenFaults, IoFaults, DeleteFaults, LockFaults};
+ghost use Rattle.tv_directory.specs.Calls.{IsNewWriter, Makes, Appends, HandsBack, Touches, Flushes, Seals, Gives, Notes, Deletes, EndsWriters, Acquires};
+ghost use Rattle.tv_directory.specs.Locks.{FreesLock, LockCause};
+ghost use Rattle.tv_directory.specs.Ram.{ram_view, ram_state, ram_reads, ram_opened, ram_locks, ram_watched};
+ghost use Rattle.tv_directory.specs.Ram.{SameFile, OnlyFiles, OnlyNoted, OnlyHeld, OnlyWatchers, KeepsWriters};
+ghost use Rattle.tv_directory.specs.Watch.{IsNewWatcher, delivered, unsubscribed};
 
 use crate::directory::Directory;
 use crate::files::Content;
@@ -36,21 +42,50 @@ impl<C: WatchCall> Directory for RamDirectory<C> {
 
     ghost state_of = { ram_state };
 
-    fn exists(&mut self, name: &str) -> Result<bool, OpenReadError> {
+    fn exists(&mut self, name: &str) -> Result<bool, OpenReadError>
+        requires { is_file_name name.now ≡ true }
+        ensures answer { IfOk result (λ found. found ≡ is_some (ram_reads self.old name.now)) }
+        ensures faults { AskFaults (ram_view C.calls self.old) (ram_view C.calls self.new)
+            name.now result }
+        ensures frame { self.new ≡ self.old }
+    {
         let name = file_name(self.alloc, name)?;
         Ok(self.files.has(&name))
     }
 
-    fn open_read(&mut self, name: &str) -> Result<FileSlice, OpenReadError> {
+    fn open_read(&mut self, name: &str) -> Result<FileSlice, OpenReadError>
+        requires { is_file_name name.now ≡ true }
+        ensures bytes { IfOk result (λ file. ram_reads self.old name.now ≡ Some file) }
+        ensures faults { ReadFaults tells_all (ram_view C.calls self.old)
+            (ram_view C.calls self.new) name.now result }
+        ensures frame { self.new ≡ self.old }
+    {
         Ok(FileSlice::new(self.get_file_handle(name)?))
     }
 
-    fn get_file_handle(&mut self, name: &str) -> Result<OwnedBytes, OpenReadError> {
+    fn get_file_handle(&mut self, name: &str) -> Result<OwnedBytes, OpenReadError>
+        requires { is_file_name name.now ≡ true }
+        ensures bytes { IfOk result (λ bytes. ram_reads self.old name.now ≡ Some bytes) }
+        ensures faults { ReadFaults tells_all (ram_view C.calls self.old)
+            (ram_view C.calls self.new) name.now result }
+        ensures frame { self.new ≡ self.old }
+    {
         let bytes = self.atomic_read(name)?;
         Ok(OwnedBytes::new(bytes)?)
     }
 
-    fn open_write(&mut self, name: &str) -> Result<RamWriter, OpenWriteError> {
+    fn open_write(&mut self, name: &str) -> Result<RamWriter, OpenWriteError>
+        requires { is_file_name name.now ≡ true }
+        ensures writer { IfOk result
+            (IsNewWriter tells_all (ram_view C.calls self.new) ram_state name.now) }
+        ensures makes { Makes tells_all (ram_view C.calls self.old) (ram_view C.calls self.new)
+            name.now result }
+        ensures faults { OpenFaults tells_all (ram_view C.calls self.old)
+            (ram_view C.calls self.new) name.now result }
+        ensures frame { Kept tells_all (ram_view C.calls self.old) (ram_view C.calls self.new) }
+        ensures there { IfErr result (OpenWriteCause name.now (self.new ≡ self.old) ⊥ (Unit {0})) }
+        ensures others { OnlyFiles self.old self.new }
+    {
         let key = file_name(self.alloc, name)?;
         if self.files.has(&key) {
             return Err(OpenWriteError::FileAlreadyExists(key.into_string()));
@@ -65,12 +100,32 @@ impl<C: WatchCall> Directory for RamDirectory<C> {
         })
     }
 
-    fn write(&mut self, writer: &mut RamWriter, bytes: &[u8]) -> Result<(), IoError> {
+    fn write(&mut self, writer: &mut RamWriter, bytes: &[u8]) -> Result<(), IoError>
+        requires { ram_opened self.old writer.old ≡ true }
+        ensures appends { Appends (ram_state writer.old) (ram_state writer.new) bytes.now result }
+        ensures hands_back { HandsBack tells_all (ram_view C.calls self.old)
+            (ram_view C.calls self.new) writer.old writer.new result }
+        ensures touches { Touches tells_all (ram_view C.calls self.old) (ram_view C.calls self.new)
+            ram_state writer.old }
+        ensures faults { IoFaults (ram_view C.calls self.old) (ram_view C.calls self.new) result }
+        ensures frame { self.new ≡ self.old }
+        ensures file { SameFile writer.old writer.new }
+    {
         writer.bytes.extend_from_slice(bytes)?;
         Ok(())
     }
 
-    fn flush(&mut self, writer: &mut RamWriter) -> Result<(), IoError> {
+    fn flush(&mut self, writer: &mut RamWriter) -> Result<(), IoError>
+        requires { ram_opened self.old writer.old ≡ true }
+        ensures flushes { Flushes tells_all (ram_view C.calls self.old) (ram_view C.calls self.new)
+            ram_state writer.old result }
+        ensures state { writer.new ≡ writer.old }
+        ensures hands_back { HandsBack tells_all (ram_view C.calls self.old)
+            (ram_view C.calls self.new) writer.old writer.new result }
+        ensures faults { IoFaults (ram_view C.calls self.old) (ram_view C.calls self.new) result }
+        ensures frame { Kept tells_all (ram_view C.calls self.old) (ram_view C.calls self.new) }
+        ensures others { KeepsWriters writer.old self.old self.new }
+    {
         if self.files.is_made(&writer.name, writer.number) {
             let name = file_name(self.alloc, writer.name.as_str())?;
             let bytes = Vec::from_slice(self.alloc, writer.bytes.as_slice())?;
@@ -80,7 +135,14 @@ impl<C: WatchCall> Directory for RamDirectory<C> {
         Ok(())
     }
 
-    fn terminate(&mut self, writer: RamWriter) -> Result<(), IoError> {
+    fn terminate(&mut self, writer: RamWriter) -> Result<(), IoError>
+        requires { ram_opened self.old writer ≡ true }
+        ensures seals { Seals tells_all (ram_view C.calls self.old) (ram_view C.calls self.new)
+            ram_state writer result }
+        ensures faults { IoFaults (ram_view C.calls self.old) (ram_view C.calls self.new) result }
+        ensures frame { Kept tells_all (ram_view C.calls self.old) (ram_view C.calls self.new) }
+        ensures others { KeepsWriters writer self.old self.new }
+    {
         let RamWriter {
             name,
             number,
@@ -94,7 +156,13 @@ impl<C: WatchCall> Directory for RamDirectory<C> {
         Ok(())
     }
 
-    fn atomic_read(&mut self, name: &str) -> Result<Vec<u8>, OpenReadError> {
+    fn atomic_read(&mut self, name: &str) -> Result<Vec<u8>, OpenReadError>
+        requires { is_file_name name.now ≡ true }
+        ensures bytes { IfOk result (λ bytes. ram_reads self.old name.now ≡ Some bytes.items) }
+        ensures faults { ReadFaults tells_all (ram_view C.calls self.old)
+            (ram_view C.calls self.new) name.now result }
+        ensures frame { self.new ≡ self.old }
+    {
         let name = file_name(self.alloc, name)?;
         match self.files.read(self.alloc, &name)? {
             Some(bytes) => Ok(bytes),
@@ -102,7 +170,16 @@ impl<C: WatchCall> Directory for RamDirectory<C> {
         }
     }
 
-    fn atomic_write(&mut self, name: &str, bytes: &[u8]) -> Result<(), IoError> {
+    fn atomic_write(&mut self, name: &str, bytes: &[u8]) -> Result<(), IoError>
+        requires { is_file_name name.now ≡ true }
+        ensures gives { Gives tells_all (ram_view C.calls self.old) (ram_view C.calls self.new)
+            name.now bytes.now result }
+        ensures notes { Notes (ram_view C.calls self.old) (ram_view C.calls self.new)
+            name.now result }
+        ensures faults { IoFaults (ram_view C.calls self.old) (ram_view C.calls self.new) result }
+        ensures frame { Frame tells_all (ram_view C.calls self.old) (ram_view C.calls self.new) }
+        ensures others { OnlyNoted self.old self.new }
+    {
         let key = file_name(self.alloc, name)?;
         let bytes = Vec::from_slice(self.alloc, bytes)?;
         self.files.write(key, Content::Sealed(Blob::new(bytes)))?;
@@ -112,7 +189,18 @@ impl<C: WatchCall> Directory for RamDirectory<C> {
         Ok(())
     }
 
-    fn delete(&mut self, name: &str) -> Result<(), DeleteError> {
+    fn delete(&mut self, name: &str) -> Result<(), DeleteError>
+        requires { is_file_name name.now ≡ true }
+        ensures deletes { Deletes tells_all (ram_view C.calls self.old) (ram_view C.calls self.new)
+            name.now result }
+        ensures writers { EndsWriters tells_all (ram_view C.calls self.old)
+            (ram_view C.calls self.new) ram_state name.now result }
+        ensures faults { DeleteFaults tells_all (ram_view C.calls self.old)
+            (ram_view C.calls self.new) name.now result }
+        ensures frame { MayDelete tells_all (ram_view C.calls self.old)
+            (ram_view C.calls self.new) }
+        ensures others { OnlyFiles self.old self.new }
+    {
         let Ok(name) = file_name(self.alloc, name) else {
             return Err(DeleteError::Memory);
         };
@@ -122,11 +210,23 @@ impl<C: WatchCall> Directory for RamDirectory<C> {
         Ok(())
     }
 
-    fn sync_directory(&mut self) -> Result<(), IoFault> {
+    fn sync_directory(&mut self) -> Result<(), IoFault>
+        ensures faults { OnErr result ⊥ }
+        ensures frame { self.new ≡ self.old }
+    {
         Ok(())
     }
 
-    fn acquire_lock(&mut self, lock: &Lock) -> Result<DirectoryLock, LockError> {
+    fn acquire_lock(&mut self, lock: &Lock) -> Result<DirectoryLock, LockError>
+        requires { is_file_name lock.now.filepath.now ≡ true }
+        ensures token { IfOk result (λ token. token ≡ lock.now.filepath.now) }
+        ensures acquires { Acquires tells_all (ram_view C.calls self.old)
+            (ram_view C.calls self.new) lock.now.filepath.now result }
+        ensures faults { LockFaults tells_all (ram_view C.calls self.old)
+            (ram_view C.calls self.new) lock.now.filepath.now result }
+        ensures busy { IfErr result (LockCause (self.new ≡ self.old) ⊥ (Unit {0})) }
+        ensures frame { OnlyHeld self.old self.new }
+    {
         match self.hold(lock.filepath) {
             Ok(Some(token)) => Ok(token),
             Ok(None) => Err(LockError::LockBusy),
@@ -134,19 +234,35 @@ impl<C: WatchCall> Directory for RamDirectory<C> {
         }
     }
 
-    fn release(&mut self, lock: DirectoryLock) {
+    fn release(&mut self, lock: DirectoryLock)
+        ensures freed { FreesLock (ram_locks self.old) (ram_locks self.new) lock }
+        ensures frame { OnlyHeld self.old self.new }
+    {
         self.held.remove(&lock.into_name());
     }
 
-    fn watch(&mut self, callback: C) -> Result<WatchHandle, Memory> {
+    fn watch(&mut self, callback: C) -> Result<WatchHandle, Memory>
+        ensures ok { IfOk result (IsNewWatcher (ram_watched C.calls self.old)
+            (ram_watched C.calls self.new) (C.calls callback)) }
+        ensures err { OnErr result (ram_watched C.calls self.new ≡ ram_watched C.calls self.old) }
+        ensures frame { OnlyWatchers self.old self.new }
+    {
         self.watchers.watch(callback)
     }
 
-    fn unwatch(&mut self, handle: WatchHandle) {
+    fn unwatch(&mut self, handle: WatchHandle)
+        ensures left { ram_watched C.calls self.new
+            ≡ unsubscribed handle (ram_watched C.calls self.old) }
+        ensures frame { OnlyWatchers self.old self.new }
+    {
         self.watchers.unwatch(handle);
     }
 
-    fn deliver(&mut self) -> bool {
+    fn deliver(&mut self) -> bool
+        ensures answer { result ≡ (ram_watched C.calls self.old).notice }
+        ensures called { ram_watched C.calls self.new ≡ delivered (ram_watched C.calls self.old) }
+        ensures frame { OnlyWatchers self.old self.new }
+    {
         self.watchers.deliver()
     }
 }

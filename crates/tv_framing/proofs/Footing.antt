@@ -1,5 +1,5 @@
 -- How the list of a composite file is found at its end.
-use Rattle.std.proofs.Common.{◌≡◌, ◌≤◌, ◌<◌, ◌+◌, ◌-◌, ◌^◌, ℕ, List, [], ◌∷◌, ◌++◌, length, take, drop, Option, Some, None, refl, sym, ap, ◌∙◌, arith, append_assoc, append-nil, length-append, length-drop}
+use Rattle.std.proofs.Common.{◌≡◌, ◌≤◌, ◌<◌, ◌+◌, ◌-◌, ◌^◌, ℕ, List, [], ◌∷◌, ◌++◌, length, take, drop, refl, sym, ap, ◌∙◌, arith, append_assoc, append-nil, length-append, length-drop}
 use Rattle.std.proofs.lemmas.List.{drop_at, take_at, take_rest, take-take, length-take-le, take-append-drop}
 use Rattle.tv_model.specs.Footer.{four_bytes}
 
@@ -17,12 +17,6 @@ last_of bytes end before last front foot c whole =
       c.front ∙ ap (take end) e ∙ take_at (front ++ foot) (four_bytes (length foot)) end n,
       c.back ∙ ap (drop end) e ∙ drop_at (front ++ foot) (four_bytes (length foot)) end n,
     )
-
-pub none_some : {y : ℕ} → ◌≡◌ {A = Option ℕ} None (Some y) → ⊥
-none_some e = cc
-
-pub some_is : {x y : ℕ} → ◌≡◌ {A = Option ℕ} (Some x) (Some y) → x ≡ y
-some_is e = cc
 
 -- the list isn't longer than what stands before the last four bytes
 pub list_fits : (bytes : List ℕ) (end : ℕ) (before last front foot : List ℕ) → Cut bytes end before last → bytes ≡ front ++ (foot ++ four_bytes (length foot)) → (end ≡ length front + length foot) × (length foot ≤ end)

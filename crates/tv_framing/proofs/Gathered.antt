@@ -1,23 +1,27 @@
 -- Facts on usages that are gathered by name.
 use Rattle.std.proofs.Common.{◌≡◌, ℕ, zero, suc, ◌+◌, ◌≤◌, ◌<◌, Bool, true, false, cond, List, [], ◌∷◌, ◌++◌, length, get_or, set, filter, fold, Option, Some, None, Result, Ok, Err, refl, sym, ap, subst, ◌∙◌, arith, append_assoc, append-nil}
-use Rattle.std.specs.Prelude.{find, insert}
+use Rattle.std.specs.Prelude.{find, insert, MatchResult, OnOk, OnErr}
 use Rattle.std.specs.List.{AllByRecursion}
+use Rattle.std.specs.List.Sorted.{IsBinarySearchResult, IsNonDecreasingBy, IsSearchInRange}
 use Rattle.std.specs.declared.cmp.Ordering.{Ordering}
 use Rattle.std.specs.declared.cmp.Ordering.TheVariants.{Less, Equal, Greater}
-use Rattle.std.specs.Ordering.{is_eq, match_ordering, ordering_reverse}
+use Rattle.std.specs.Ordering.{is_eq, is_lt, match_ordering, ordering_index, ordering_reverse}
 use Rattle.std.proofs.lemmas.Cmp.{nat_list_cmp_total}
+use Rattle.std.proofs.lemmas.List.{set-get_or}
 use Rattle.std.proofs.lemmas.List.Elements.{filter-append}
+use Rattle.std.proofs.lemmas.List.Sorted.{searchable_from_sorted}
 use Rattle.std.proofs.lemmas.List.Sums.{fold-append}
 use Rattle.tv_model.specs.Names.{byte_cmp}
 use Rattle.tv_framing.specs.Fields.{FieldSpace}
 use Rattle.tv_framing.specs.PerField.{AreByName, InNameOrder, IsBelow, all_of, gathered, is_named, joined}
-use Rattle.tv_framing.specs.Places.{later, place_of, with_field}
+use Rattle.tv_framing.specs.Places.{IsGap, IsPlace, by_name, with_field}
+use Rattle.tv_framing.proofs.Parts.{all_get}
 
 below_trans : (a b c : FieldSpace) → IsBelow a b → IsBelow b c → IsBelow a c
 below_trans a b c p q = nat_list_cmp_total.trans a.name b.name c.name p q
 
-above : (a b : FieldSpace) → byte_cmp a.name b.name ≡ Greater → IsBelow b a
-above a b h = nat_list_cmp_total.antisymm b.name a.name ∙ ap ordering_reverse h
+turned : (a b : FieldSpace) (c : Ordering) → byte_cmp a.name b.name ≡ c → byte_cmp b.name a.name ≡ ordering_reverse c
+turned a b c h = nat_list_cmp_total.antisymm b.name a.name ∙ ap ordering_reverse h
 
 all_map : (P Q : FieldSpace → Type 0) → ((x : FieldSpace) → P x → Q x) → (xs : List FieldSpace) → AllByRecursion P xs → AllByRecursion Q xs
 all_map P Q f [] h = tt
@@ -39,7 +43,7 @@ order_by : (f g : FieldSpace) (gs : List FieldSpace) (c : Ordering) → byte_cmp
     → InNameOrder (match_ordering c (f ∷ g ∷ gs) (joined g f ∷ gs) (g ∷ with_field gs f))
 order_by f g gs Less is ih h = ((is, all_map (IsBelow g) (IsBelow f) (λ x p. below_trans f g x is p) gs h.0), h)
 order_by f g gs Equal is ih h = h
-order_by f g gs Greater is ih h = (all_with g f gs (above f g is) h.0, ih h.1)
+order_by f g gs Greater is ih h = (all_with g f gs (turned f g Greater is) h.0, ih h.1)
 
 pub order_with : (f : FieldSpace) (fs : List FieldSpace) → InNameOrder fs → InNameOrder (with_field fs f)
 order_with f [] h = (tt, tt)
@@ -91,9 +95,7 @@ find_by n f g gs Equal is h ih =
   where
     named_same : (n : List ℕ) (f g : FieldSpace) → byte_cmp f.name g.name ≡ Equal → is_named n f ≡ is_named n g
     named_same n f g is =
-        let back : byte_cmp g.name f.name ≡ Equal = nat_list_cmp_total.antisymm g.name f.name ∙ ap ordering_reverse is in
-        let turned : (a b : List ℕ) → byte_cmp a b ≡ ordering_reverse (byte_cmp b a) = λ (a b : List ℕ). nat_list_cmp_total.antisymm a b in
-        ap is_eq (turned n f.name ∙ ap ordering_reverse (nat_list_cmp_total.congr f.name g.name n is) ∙ sym (turned n g.name))
+        ap is_eq (nat_list_cmp_total.antisymm n f.name ∙ ap ordering_reverse (nat_list_cmp_total.congr f.name g.name n is) ∙ sym (nat_list_cmp_total.antisymm n g.name))
 find_by n f g gs Greater is h ih = find_greater n f g gs (is_named n f) (is_named n g) refl refl is ih
 
 find_alone : (f : FieldSpace) (b : Bool) → ◌≡◌ {A = Option FieldSpace} (cond b (Some f) None) (cond b (gathered None f) None)
@@ -127,88 +129,70 @@ by_name_rest given [] fs h = subst (λ (l : List FieldSpace). AreByName l fs) (s
 by_name_rest given (f ∷ rest) fs h =
     subst (λ (l : List FieldSpace). AreByName l (fold with_field (with_field fs f) rest)) (append_assoc given (f ∷ []) rest) (by_name_rest (given ++ f ∷ []) rest (with_field fs f) (by_name_more given fs f h))
 
-pub by_name_all : (given : List FieldSpace) → AreByName given (fold with_field [] given)
+pub by_name_all : (given : List FieldSpace) → AreByName given (by_name given)
 by_name_all given = by_name_rest [] given [] (record { ordered = tt; each = λ n. refl })
 
--- ---- where the code puts it
+-- ---- where a name stands
 
-ok_is : {x y : ℕ} → ◌≡◌ {A = Result ℕ ℕ} (Ok x) (Ok y) → x ≡ y
-ok_is e = cc
+-- what one more makes of a list, by how the first name stands to it
+first_by : (more g : FieldSpace) (gs : List FieldSpace) (c : Ordering) → byte_cmp g.name more.name ≡ c
+    → match_ordering (ordering_reverse c) (more ∷ g ∷ gs) (joined g more ∷ gs) (g ∷ with_field gs more) ≡ with_field (g ∷ gs) more
+first_by more g gs c is =
+    sym (ap (λ (d : Ordering). match_ordering d (more ∷ g ∷ gs) (joined g more ∷ gs) (g ∷ with_field gs more)) (turned g more c is))
 
-err_is : {x y : ℕ} → ◌≡◌ {A = Result ℕ ℕ} (Err x) (Err y) → x ≡ y
-err_is e = cc
-
-later_ok : (r : Result ℕ ℕ) (i : ℕ) → later r ≡ Ok i → (j : ℕ) × (r ≡ Ok j) × (suc j ≡ i)
-later_ok (Ok j) i e = (j, refl, ok_is e)
-later_ok (Err j) i e = absurd (cc)
-
-later_err : (r : Result ℕ ℕ) (i : ℕ) → later r ≡ Err i → (j : ℕ) × (r ≡ Err j) × (suc j ≡ i)
-later_err (Ok j) i e = absurd (cc)
-later_err (Err j) i e = (j, refl, err_is e)
-
-at_by : (f g d : FieldSpace) (gs : List FieldSpace) (i : ℕ) (c : Ordering) → ((j : ℕ) → place_of f.name gs ≡ Ok j → with_field gs f ≡ set gs j (joined (get_or gs j d) f)) → match_ordering c (Err 0) (Ok 0) (later (place_of f.name gs)) ≡ Ok i
-    → match_ordering c (f ∷ g ∷ gs) (joined g f ∷ gs) (g ∷ with_field gs f) ≡ set (g ∷ gs) i (joined (get_or (g ∷ gs) i d) f)
-at_by f g d gs i Less ih e = absurd (cc)
-at_by f g d gs i Equal ih e = subst (λ k. joined g f ∷ gs ≡ set (g ∷ gs) k (joined (get_or (g ∷ gs) k d) f)) (ok_is e) refl
-at_by f g d gs i Greater ih e =
-    let m = later_ok (place_of f.name gs) i e in
-    subst (λ k. g ∷ with_field gs f ≡ set (g ∷ gs) k (joined (get_or (g ∷ gs) k d) f)) m.2 (ap (λ (l : List FieldSpace). g ∷ l) (ih m.0 m.1))
-
-pub at_place : (f d : FieldSpace) (fs : List FieldSpace) (i : ℕ) → place_of f.name fs ≡ Ok i → with_field fs f ≡ set fs i (joined (get_or fs i d) f)
-at_place f d [] i e = absurd (cc)
-at_place f d (g ∷ gs) i e = at_by f g d gs i (byte_cmp f.name g.name) (at_place f d gs) e
-
-before_by : (f g : FieldSpace) (gs : List FieldSpace) (i : ℕ) (c : Ordering) → ((j : ℕ) → place_of f.name gs ≡ Err j → with_field gs f ≡ insert gs j f) → match_ordering c (Err 0) (Ok 0) (later (place_of f.name gs)) ≡ Err i
-    → match_ordering c (f ∷ g ∷ gs) (joined g f ∷ gs) (g ∷ with_field gs f) ≡ insert (g ∷ gs) i f
-before_by f g gs i Less ih e = subst (λ k. f ∷ g ∷ gs ≡ insert (g ∷ gs) k f) (err_is e) refl
-before_by f g gs i Equal ih e = absurd (cc)
-before_by f g gs i Greater ih e =
-    let m = later_err (place_of f.name gs) i e in
-    subst (λ k. g ∷ with_field gs f ≡ insert (g ∷ gs) k f) m.2 (ap (λ (l : List FieldSpace). g ∷ l) (ih m.0 m.1))
-
-pub before_place : (f : FieldSpace) (fs : List FieldSpace) (i : ℕ) → place_of f.name fs ≡ Err i → with_field fs f ≡ insert fs i f
-before_place f [] i e = subst (λ k. f ∷ [] ≡ insert [] k f) (err_is e) refl
-before_place f (g ∷ gs) i e = before_by f g gs i (byte_cmp f.name g.name) (before_place f gs) e
-
-abbrev pub shifted : ℕ → Result ℕ ℕ → Result ℕ ℕ
-shifted k (Ok i) = Ok (k + i)
-shifted k (Err i) = Err (k + i)
-
-below_length_by : (g : FieldSpace) (gs : List FieldSpace) (n : List ℕ) (c : Ordering) → ((j : ℕ) → place_of n gs ≡ Ok j → j < length gs) → (i : ℕ) → match_ordering c (Err 0) (Ok 0) (later (place_of n gs)) ≡ Ok i → i < length (g ∷ gs)
-below_length_by g gs n Less ih i e = absurd (cc)
-below_length_by g gs n Equal ih i e = omega (arith, ok_is e)
-below_length_by g gs n Greater ih i e = let m = later_ok (place_of n gs) i e in omega (arith, m.2, ih m.0 m.1)
-
-pub below_length : (n : List ℕ) (fs : List FieldSpace) (i : ℕ) → place_of n fs ≡ Ok i → i < length fs
-below_length n [] i e = absurd (cc)
-below_length n (g ∷ gs) i e = below_length_by g gs n (byte_cmp n g.name) (below_length n gs) i e
-
-in_length_by : (g : FieldSpace) (gs : List FieldSpace) (n : List ℕ) (c : Ordering) → ((j : ℕ) → place_of n gs ≡ Err j → j ≤ length gs) → (i : ℕ) → match_ordering c (Err 0) (Ok 0) (later (place_of n gs)) ≡ Err i → i ≤ length (g ∷ gs)
-in_length_by g gs n Less ih i e = omega (arith, err_is e)
-in_length_by g gs n Equal ih i e = absurd (cc)
-in_length_by g gs n Greater ih i e = let m = later_err (place_of n gs) i e in omega (arith, m.2, ih m.0 m.1)
-
-pub in_length : (n : List ℕ) (fs : List FieldSpace) (i : ℕ) → place_of n fs ≡ Err i → i ≤ length fs
-in_length n [] i e = omega (arith, err_is e)
-in_length n (g ∷ gs) i e = in_length_by g gs n (byte_cmp n g.name) (in_length n gs) i e
-
-all_set : (P : FieldSpace → Type 0) (x : FieldSpace) (gs : List FieldSpace) (i : ℕ) → P x → AllByRecursion P gs → AllByRecursion P (set gs i x)
-all_set P x [] i p h = tt
-all_set P x (g ∷ gs) zero p h = (p, h.1)
-all_set P x (g ∷ gs) (suc i) p h = (h.0, all_set P x gs i p h.1)
-
-all_get : (P : FieldSpace → Type 0) (gs : List FieldSpace) (i : ℕ) (d : FieldSpace) → i < length gs → AllByRecursion P gs → P (get_or gs i d)
-all_get P [] i d lt h = absurd (omega arith)
-all_get P (g ∷ gs) zero d lt h = h.0
-all_get P (g ∷ gs) (suc i) d lt h = all_get P gs i d (omega (arith, lt)) h.1
-
-pub order_set : (x d : FieldSpace) (fs : List FieldSpace) (i : ℕ) → i < length fs → x.name ≡ (get_or fs i d).name → InNameOrder fs → InNameOrder (set fs i x)
-order_set x d [] i lt e h = tt
-order_set x d (g ∷ gs) zero lt e h = (all_map (IsBelow g) (IsBelow x) (λ y p. ap (λ n. byte_cmp n y.name) e ∙ p) gs h.0, h.1)
-order_set x d (g ∷ gs) (suc i) lt e h =
+-- the usage that has the name stands at i
+at_name : (more one : FieldSpace) (fs : List FieldSpace) (i : ℕ) → InNameOrder fs → i < length fs → one ≡ get_or fs i one → byte_cmp one.name more.name ≡ Equal → set fs i (joined one more) ≡ with_field fs more
+at_name more one [] i order lt at same = absurd (omega (arith, lt))
+at_name more one (g ∷ gs) zero order lt at same =
+    subst (λ (x : FieldSpace). joined x more ∷ gs ≡ with_field (g ∷ gs) more) (sym at)
+    (first_by more g gs Equal (subst (λ (x : FieldSpace). byte_cmp x.name more.name ≡ Equal) at same))
+at_name more one (g ∷ gs) (suc i) order lt at same =
     let short : i < length gs = omega (arith, lt) in
-    (all_set (IsBelow g) x gs i (ap (byte_cmp g.name) e ∙ all_get (IsBelow g) gs i d short h.0) h.0, order_set x d gs i short e h.1)
+    let below : IsBelow g one = subst (IsBelow g) (sym at) (all_get (IsBelow g) gs i one short order.0) in
+    let front : byte_cmp more.name g.name ≡ Greater = sym (nat_list_cmp_total.congr one.name more.name g.name same) ∙ turned g one Less below in
+    ap (λ (l : List FieldSpace). g ∷ l) (at_name more one gs i order.1 short at same) ∙ first_by more g gs Less (turned more g Greater front)
 
-pub no_items : (fs : List FieldSpace) → length fs ≡ 0 → fs ≡ []
-no_items [] h = refl
-no_items (f ∷ fs) h = absurd (omega (arith, h))
+-- none has it, and i parts the lower names from the higher ones
+in_gap : (more : FieldSpace) (fs : List FieldSpace) (i : ℕ) → i ≤ length fs → ((j : ℕ) → j < i → byte_cmp (get_or fs j more).name more.name ≡ Less)
+    → ((j : ℕ) → i ≤ j → j < length fs → byte_cmp (get_or fs j more).name more.name ≡ Greater) → insert fs i more ≡ with_field fs more
+in_gap more [] zero le lower higher = refl
+in_gap more [] (suc i) le lower higher = absurd (omega (arith, le))
+in_gap more (g ∷ gs) zero le lower higher = first_by more g gs Greater (higher 0 (omega arith) (omega arith))
+in_gap more (g ∷ gs) (suc i) le lower higher =
+    ap (λ (l : List FieldSpace). g ∷ l) (in_gap more gs i (omega (arith, le)) (λ j lt. lower (suc j) (omega (arith, lt))) (λ j from lt. higher (suc j) (omega (arith, from)) (omega (arith, lt))))
+    ∙ first_by more g gs Less (lower 0 (omega arith))
+
+next_above : (fs : List FieldSpace) → InNameOrder fs → (k : ℕ) (d : FieldSpace) → suc k < length fs → is_lt (byte_cmp (get_or fs (suc k) d).name (get_or fs k d).name) ≡ false
+next_above [] order k d lt = absurd (omega (arith, lt))
+next_above (f ∷ []) order k d lt = absurd (omega (arith, lt))
+next_above (f ∷ g ∷ gs) order zero d lt = ap is_lt (turned f g Less order.0.0)
+next_above (f ∷ g ∷ gs) order (suc k) d lt = next_above (g ∷ gs) order.1 k d (omega (arith, lt))
+
+-- names in order rise against any name
+rise : (name : List ℕ) (fs : List FieldSpace) → InNameOrder fs → IsNonDecreasingBy (λ (f : FieldSpace). ordering_index (byte_cmp f.name name)) fs
+rise name fs order = searchable_from_sorted nat_list_cmp_total (λ (f : FieldSpace). f.name) fs name (λ k d low lt.
+    let next : suc k ≡ k + 1 = omega arith in
+    subst (λ n. is_lt (byte_cmp (get_or fs n d).name (get_or fs k d).name) ≡ false) next (next_above fs order k d (omega (arith, lt))))
+
+-- what a search under a name finds where the names are in order
+pub found_by : (name : List ℕ) (fs : List FieldSpace) (r : Result ℕ ℕ) → InNameOrder fs → IsSearchInRange r (length fs) → IsBinarySearchResult (λ (f : FieldSpace). byte_cmp f.name name) fs r → MatchResult r (IsPlace name fs) (IsGap name fs)
+found_by name fs (Ok i) order inside equal = record {
+  inside = inside;
+  joins = λ more one named at.
+      at_name more one fs i order inside at (subst (λ n. byte_cmp one.name n ≡ Equal) (sym named) (subst (λ (x : FieldSpace). byte_cmp x.name name ≡ Equal) (sym at) (equal one)));
+}
+found_by name fs (Err i) order inside parted =
+    let split = parted (rise name fs order) in record {
+      inside = inside;
+      goes_in = λ more named. in_gap more fs i inside
+          (λ j lt. subst (λ n. byte_cmp (get_or fs j more).name n ≡ Less) (sym named) (split.0 j more (omega arith) lt))
+          (λ j from lt. subst (λ n. byte_cmp (get_or fs j more).name n ≡ Greater) (sym named) (split.1 j more from lt));
+    }
+
+-- the order stays where one more joined the usage of its name, or where nothing changed
+pub order_joined : {A E : Type 0} (r : Result A E) (name : List ℕ) (fs : List FieldSpace) (i : ℕ) (more one new : FieldSpace) → InNameOrder fs → IsPlace name fs i → more.name ≡ name → one ≡ get_or fs i one
+    → OnOk r (new ≡ joined one more) → OnErr r (new ≡ one) → InNameOrder (set fs i new)
+order_joined (Ok x) name fs i more one new order place named at ok err =
+    subst InNameOrder (sym (ap (set fs i) ok ∙ place.joins more one named at)) (order_with more fs order)
+order_joined (Err e) name fs i more one new order place named at ok err =
+    subst InNameOrder (sym (ap (set fs i) (err ∙ at) ∙ set-get_or fs i one)) order

@@ -3,9 +3,8 @@ pub mod Reading
 pub mod Footing
 pub mod Opening
 pub mod FooterEnds
-pub mod FooterTrees
-pub mod FooterTexts
 pub mod Gathered
+pub mod Joining
 pub mod Reported
 pub mod Summed
 pub mod Proxied

@@ -1,6 +1,7 @@
 -- What is found in a composite file.
 use Rattle.std.proofs.Common.{◌≡◌, ◌≤◌, ◌<◌, ◌^◌, ℕ, List, [], ◌∷◌, ◌++◌, length, take, Option, Some, None, option_map, Vec, Global, sym, ap, subst, ◌∙◌, arith, length-append}
 use Rattle.std.proofs.lemmas.List.{length-take-le, take_at}
+use Rattle.std.proofs.lemmas.Option.{none-some, same_Some}
 use Rattle.std.specs.Prelude.{IfSome}
 use Rattle.std.specs.List.{AllByRecursion}
 use Rattle.tv_model.specs.Footer.{four_bytes}
@@ -39,24 +40,15 @@ told file bytes len foot parts h same small found =
       fits = fits_entries 0 parts (omega arith) (omega (arith, f.0, small)) h.each;
     }
 
-none_some : {y : List Entry} → ◌≡◌ {A = Option (List Entry)} None (Some y) → ⊥
-none_some e = cc
-
-some_is : {x y : List Entry} → ◌≡◌ {A = Option (List Entry)} (Some x) (Some y) → x ≡ y
-some_is e = cc
-
-items : Option (Vec Entry Global) → Option (List Entry)
-items o = option_map (λ (v : Vec Entry Global). v.items) o
-
 pub no_entries : (parts : List Part) (len : ℕ) (foot : List ℕ) (o : Option (Vec Entry Global)) → Told parts len foot
     → ((es : List Entry) → length es < 2 ^ 64 → AllByRecursion EntryFits es → foot ≡ vint (length es) ++ entries_text es → option_map (λ (v : Vec Entry Global). v.items) o ≡ Some es) → o ≡ None → ⊥
 no_entries parts len foot o t found is =
-    none_some (sym (ap (option_map (λ (v : Vec Entry Global). v.items)) is) ∙ found (entries_of 0 parts) t.few t.fits t.text)
+    none-some (entries_of 0 parts) (sym (ap (option_map (λ (v : Vec Entry Global). v.items)) is) ∙ found (entries_of 0 parts) t.few t.fits t.text)
 
 pub same_entries : (parts : List Part) (len : ℕ) (foot : List ℕ) (o : Option (Vec Entry Global)) (v : Vec Entry Global) → Told parts len foot
     → ((es : List Entry) → length es < 2 ^ 64 → AllByRecursion EntryFits es → foot ≡ vint (length es) ++ entries_text es → option_map (λ (v : Vec Entry Global). v.items) o ≡ Some es) → o ≡ Some v → v.items ≡ entries_of 0 parts
 same_entries parts len foot o v t found is =
-    some_is (sym (ap (option_map (λ (v : Vec Entry Global). v.items)) is) ∙ found (entries_of 0 parts) t.few t.fits t.text)
+    same_Some v.items (entries_of 0 parts) (sym (ap (option_map (λ (v : Vec Entry Global). v.items)) is) ∙ found (entries_of 0 parts) t.few t.fits t.text)
 
 pub has_layout : (parts : List Part) (len : ℕ) (foot : List ℕ) (es : List Entry) → Told parts len foot → AreDistinct (addresses parts) → es ≡ entries_of 0 parts → IsLayout es len
 has_layout parts len foot es t distinct is =

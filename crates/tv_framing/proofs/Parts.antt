@@ -1,6 +1,6 @@
 -- Facts on where the bodies of a composite file begin.
-use Rattle.std.proofs.Common.{◌≡◌, ◌≢◌, ◌≤◌, ◌<◌, ◌+◌, ◌-◌, ◌^◌, ℕ, suc, Bool, true, false, ◌&&◌, ◌||◌, eqb, List, [], ◌∷◌, ◌++◌, length, take, drop, get_or, slice_range, Some, if◌then◌else◌, refl, sym, ap, subst, ◌∙◌, arith, append_assoc, append-nil, length-append, length-drop}
-use Rattle.std.proofs.lemmas.List.{take-append-drop, length-take-le, take-append-le, drop-append-le, drop-drop, take_rest, drop_all, drop_more}
+use Rattle.std.proofs.Common.{◌≡◌, ◌≢◌, ◌≤◌, ◌<◌, ◌+◌, ◌-◌, ◌^◌, ℕ, zero, suc, Bool, true, false, ◌&&◌, ◌||◌, eqb, List, [], ◌∷◌, ◌++◌, length, take, drop, get_or, slice_range, Some, if◌then◌else◌, refl, sym, ap, subst, ◌∙◌, arith, append_assoc, append-nil, length-append, length-drop}
+use Rattle.std.proofs.lemmas.List.{map-append, take-append-drop, length-take-le, take-append-le, drop-append-le, drop-drop, take_rest, drop_all, drop_more}
 use Rattle.std.proofs.lemmas.List.Folds.{list_any-append}
 use Rattle.std.proofs.lemmas.Bool.Decides.{nat_tests}
 use Rattle.std.specs.List.{AllByRecursion, list_any}
@@ -129,7 +129,7 @@ turned a b =
     let i : eqb b.idx a.idx ≡ eqb a.idx b.idx = grind (arith, nat_tests) in
     ap (λ c. c && eqb b.idx a.idx) f ∙ ap (λ c. eqb a.field b.field && c) i
 
-or_false : (a b : Bool) → (a || b) ≡ false → (a ≡ false) × (b ≡ false)
+pub or_false : (a b : Bool) → (a || b) ≡ false → (a ≡ false) × (b ≡ false)
 or_false true b h = absurd (cc)
 or_false false b h = (refl, h)
 
@@ -183,20 +183,24 @@ parts_more ss n taken more now b is =
 pub before_same : (n : ℕ) (taken more now : List ℕ) → n ≤ length taken → now ≡ taken ++ more → before_last (n + length more) now ≡ before_last n taken
 before_same n taken more now le is = ap (before_last (n + length more)) is ∙ before_more taken more n le
 
-addresses_push : (ss : List Start) (s : Start) → start_addresses (ss ++ s ∷ []) ≡ start_addresses ss ++ s.addr ∷ []
-addresses_push [] s = refl
-addresses_push (x ∷ xs) s = ap (λ (l : List FileAddr). x.addr ∷ l) (addresses_push xs s)
+pub addresses_push : (ss : List Start) (s : Start) → start_addresses (ss ++ s ∷ []) ≡ start_addresses ss ++ s.addr ∷ []
+addresses_push ss s = map-append (λ (x : Start). x.addr) ss (s ∷ [])
 
-pub each_push : (addrs : List FileAddr) (a : FileAddr) → AllByRecursion IsAddress addrs → IsAddress a → AllByRecursion IsAddress (addrs ++ a ∷ [])
-each_push [] a each h = (h, tt)
-each_push (x ∷ xs) a each h = (each.0, each_push xs a each.1 h)
+pub all_get : {X : Type 0} (P : X → Type 0) (xs : List X) (i : ℕ) (d : X) → i < length xs → AllByRecursion P xs → P (get_or xs i d)
+all_get P [] i d lt h = absurd (omega (arith, lt))
+all_get P (x ∷ xs) zero d lt h = h.0
+all_get P (x ∷ xs) (suc i) d lt h = all_get P xs i d (omega (arith, lt)) h.1
+
+pub all_push : {X : Type 0} (P : X → Type 0) (xs : List X) (x : X) → AllByRecursion P xs → P x → AllByRecursion P (xs ++ x ∷ [])
+all_push P [] x each h = (h, tt)
+all_push P (y ∷ ys) x each h = (each.0, all_push P ys x each.1 h)
 
 pub begun_push : (ss now : List Start) (n : ℕ) (taken : List ℕ) (a : FileAddr) → IsAddress a → IsBegun ss n taken → list_any (is_at a) (addresses (parts_of (the_last n taken) ss)) ≡ false
     → now ≡ ss ++ record { addr = a; offset = n } ∷ [] → IsBegun now n taken
 begun_push ss now n taken a fits b new is = record {
   within = b.within;
   each = subst (λ (l : List Start). AllByRecursion IsAddress (start_addresses l)) (sym is)
-      (subst (AllByRecursion IsAddress) (sym (addresses_push ss (record { addr = a; offset = n }))) (each_push (start_addresses ss) a b.each fits));
+      (subst (AllByRecursion IsAddress) (sym (addresses_push ss (record { addr = a; offset = n }))) (all_push IsAddress (start_addresses ss) a b.each fits));
   fill = subst (λ (l : List Start). Fill l n) (sym is) (fill_push n ss a b.fill);
   distinct = subst (λ (l : List Start). AreDistinct (start_addresses l)) (sym is)
       (subst AreDistinct (sym (addresses_push ss (record { addr = a; offset = n })))
@@ -270,14 +274,3 @@ pub skipped : (addr : FileAddr) (bytes : List ℕ) (ss : List Start) (i : ℕ) (
 skipped addr bytes ss i s front other =
     sym (ap (λ (l : List Start). body_at addr (parts_of bytes l)) front
     ∙ ap (λ b. if b then Some (slice_range bytes s.offset (next_start (length bytes) (drop (i + 1) ss))) else body_at addr (parts_of bytes (drop (i + 1) ss))) other)
-
--- ---- one body more
-
-pub bodies_push : (parts : List Part) (p : Part) → p.body ≡ [] → length (bodies (parts ++ p ∷ [])) ≡ length (bodies parts)
-bodies_push [] p e = ap (λ (l : List ℕ). length (l ++ [])) e
-bodies_push (q ∷ qs) p e = omega (arith, bodies_push qs p e, length-append q.body (bodies (qs ++ p ∷ [])), length-append q.body (bodies qs))
-
-pub grown_push : (parts : List Part) (p : Part) (bytes : List ℕ) → grown (parts ++ p ∷ []) bytes ≡ parts ++ record p { body = p.body ++ bytes } ∷ []
-grown_push [] p bytes = refl
-grown_push (q ∷ []) p bytes = refl
-grown_push (q ∷ r ∷ rs) p bytes = ap (λ (l : List Part). q ∷ l) (grown_push (r ∷ rs) p bytes)

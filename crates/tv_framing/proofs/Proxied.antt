@@ -3,7 +3,6 @@ use Rattle.std.proofs.Common.{◌≡◌, Bool, true, false, ◌||◌, not, ◌++
 use Rattle.std.specs.Prelude.{is_some, Result, Ok, Err}
 use Rattle.std.proofs.lemmas.List.{take_all}
 use Rattle.tv_model.specs.Footer.{footer}
-use Rattle.tv_base.specs.Causes.{IoCause}
 use Rattle.tv_base.specs.Writers.{Ends, TakesNone, WriteFaults}
 use Rattle.tv_base.specs.declared.io.IoError.{IoError}
 use Rattle.tv_base.specs.declared.io.IoError.TheVariants as io
@@ -33,48 +32,39 @@ ended_above below (Some s) none going = absurd (cc)
 ended_above true None none going = absurd (cc)
 ended_above false None none going = absurd (cc)
 
-summed_same : {W C : Type 0} (w : Ghosts W) (c : Sum C) (old new : Proxied W C) → new.sum ≡ old.sum → (w.view new.writer).taken ≡ (w.view old.writer).taken → (front : List ℕ) → HasSummed w c front old → HasSummed w c front new
-summed_same w c old new same is front h = record {
+summed_same : {W C : Type 0} (w : Ghosts W) (c : Sum C) (old new : Proxied W C) → new.sum ≡ old.sum → new.footer_len ≡ old.footer_len → (w.view new.writer).taken ≡ (w.view old.writer).taken → (front : List ℕ) → HasSummed w c front old → HasSummed w c front new
+summed_same w c old new same len is front h = record {
   body = h.body;
   sums = subst (λ s. SumsUp c.has_taken s h.body) (sym same) h.sums;
   taken = is ∙ h.taken;
+  bare = len ∙ h.bare;
 }
 
-summed_still : {W C : Type 0} (w : Ghosts W) (c : Sum C) (old new : Proxied W C) (e : IoError) → new.sum ≡ old.sum → IoCause (Unit {0}) ((w.view new.writer).taken ≡ (w.view old.writer).taken) e
-    → IoCause ((w.view new.writer).ended ≡ true) ((w.view new.writer).ended ≡ false) e → (seen w.view new).ended ≡ false → (front : List ℕ) → HasSummed w c front old → HasSummed w c front new
-summed_still w c old new (io.Fault fault) same takes over going = absurd (ended_below (w.view new.writer).ended (not (is_some new.sum)) over.1 going)
-summed_still w c old new io.Memory same takes over going = summed_same w c old new same takes
-
-summed_kept : {W C A : Type 0} (w : Ghosts W) (c : Sum C) (old new : Proxied W C) (result : Result A IoError) → new.sum ≡ old.sum → TakesNone (w.view old.writer) (w.view new.writer) result
-    → WriteFaults (w.view old.writer) (w.view new.writer) result → (seen w.view new).ended ≡ false → (front : List ℕ) → HasSummed w c front old → HasSummed w c front new
-summed_kept w c old new (Ok x) same takes faults going = summed_same w c old new same takes.ok
-summed_kept w c old new (Err e) same takes faults going = summed_still w c old new e same takes.memory faults.over going
+summed_kept : {W C A : Type 0} (w : Ghosts W) (c : Sum C) (old new : Proxied W C) (result : Result A IoError) → new.sum ≡ old.sum → new.footer_len ≡ old.footer_len → WriteFaults (w.view old.writer) (w.view new.writer) result
+    → TakesNone (w.view old.writer) (w.view new.writer) result → (seen w.view new).ended ≡ false → (front : List ℕ) → HasSummed w c front old → HasSummed w c front new
+summed_kept w c old new (Ok x) same len faults takes going = summed_same w c old new same len takes.ok
+summed_kept w c old new (Err (io.Fault fault)) same len faults takes going = absurd (ended_below (w.view new.writer).ended (not (is_some new.sum)) faults.over.1 going)
+summed_kept w c old new (Err io.Memory) same len faults takes going = summed_same w c old new same len takes.memory
 
 -- ---- what each call leaves, where the proxy is seen so before it
 
 pub stays_more : {W C : Type 0} (w : Ghosts W) (c : Sum C) (was old new : Proxied W C) (bytes : List ℕ) → was ≡ old → w.stays was.writer new.writer → ((body : List ℕ) → SumsUp c.has_taken was.sum body → SumsUp c.has_taken new.sum (body ++ bytes))
-    → (w.view new.writer).taken ≡ (w.view was.writer).taken ++ bytes → ProxyStays w c old new
-stays_more w c was old new bytes seen_so stays sums is = subst (λ v. ProxyStays w c v new) seen_so (record {
+    → new.footer_len ≡ was.footer_len → (w.view new.writer).taken ≡ (w.view was.writer).taken ++ bytes → ProxyStays w c old new
+stays_more w c was old new bytes seen_so stays sums len is = subst (λ v. ProxyStays w c v new) seen_so (record {
   below = one_step w.stays was.writer new.writer stays;
   summed = λ going front h. record {
     body = h.body ++ bytes;
     sums = sums h.body h.sums;
     taken = is ∙ ap (λ (l : List ℕ). l ++ bytes) h.taken ∙ append_assoc front h.body bytes;
+    bare = len ∙ h.bare;
   };
 })
 
-pub stays_still : {W C : Type 0} (w : Ghosts W) (c : Sum C) (was old new : Proxied W C) (e : IoError) → was ≡ old → w.stays was.writer new.writer → new.sum ≡ was.sum → IoCause (Unit {0}) ((w.view new.writer).taken ≡ (w.view was.writer).taken) e
-    → IoCause ((w.view new.writer).ended ≡ true) ((w.view new.writer).ended ≡ false) e → ProxyStays w c old new
-stays_still w c was old new e seen_so stays same takes over = subst (λ v. ProxyStays w c v new) seen_so (record {
+pub stays_same : {W C A : Type 0} (w : Ghosts W) (c : Sum C) (was old new : Proxied W C) (result : Result A IoError) → was ≡ old → w.stays was.writer new.writer → new.sum ≡ was.sum → new.footer_len ≡ was.footer_len → WriteFaults (w.view was.writer) (w.view new.writer) result
+    → TakesNone (w.view was.writer) (w.view new.writer) result → ProxyStays w c old new
+stays_same w c was old new result seen_so stays same len faults takes = subst (λ v. ProxyStays w c v new) seen_so (record {
   below = one_step w.stays was.writer new.writer stays;
-  summed = summed_still w c was new e same takes over;
-})
-
-pub stays_same : {W C A : Type 0} (w : Ghosts W) (c : Sum C) (was old new : Proxied W C) (result : Result A IoError) → was ≡ old → w.stays was.writer new.writer → new.sum ≡ was.sum → TakesNone (w.view was.writer) (w.view new.writer) result
-    → WriteFaults (w.view was.writer) (w.view new.writer) result → ProxyStays w c old new
-stays_same w c was old new result seen_so stays same takes faults = subst (λ v. ProxyStays w c v new) seen_so (record {
-  below = one_step w.stays was.writer new.writer stays;
-  summed = summed_kept w c was new result same takes faults;
+  summed = summed_kept w c was new result same len faults takes;
 })
 
 pub stays_ended : {W C : Type 0} (w : Ghosts W) (c : Sum C) (was old new : Proxied W C) → was ≡ old → new.sum ≡ None → Steps w.stays was.writer new.writer → ProxyStays w c old new

@@ -1,6 +1,6 @@
 -- How the list of a composite file and its bodies agree.
 use Rattle.std.proofs.Common.{◌≡◌, ◌≤◌, ◌<◌, ◌+◌, ◌-◌, ◌^◌, ℕ, suc, Bool, true, false, ◌||◌, ◌&&◌, cond, eqb, List, [], ◌∷◌, ◌++◌, length, take, drop, get_or, slice_range, Option, Some, None, refl, sym, ap, subst, ◌∙◌, arith, append_assoc, append-nil, length-append, length-drop}
-use Rattle.std.proofs.lemmas.List.{drop_at, drop_more, take_at, length-take-le}
+use Rattle.std.proofs.lemmas.List.{drop_at, drop_more, take_at, take_more, length-take-le}
 use Rattle.std.specs.List.{AllByRecursion, list_any}
 use Rattle.tv_model.specs.Footer.{four_bytes}
 use Rattle.tv_model.specs.VInt.{vint}
@@ -14,12 +14,13 @@ use Rattle.std.specs.declared.cmp.Ordering.{Ordering}
 use Rattle.std.specs.declared.cmp.Ordering.TheVariants.{Less, Equal, Greater}
 use Rattle.std.proofs.lemmas.Bool.Decides.{nat_tests}
 use Rattle.std.proofs.lemmas.List.Folds.{list_any-append}
+use Rattle.std.proofs.lemmas.Option.{none-some, same_Some}
 use Rattle.tv_framing.specs.contracts.address.FileAddrOrd.TheImpl as order
 use Rattle.tv_framing.specs.Composite.{Part, AreDistinct, IsAddress, IsComposite, addresses, bodies, footing, is_at, listed}
 use Rattle.tv_framing.specs.Entries.{BeginsAtFirst, IsLayout, entries_text, entry_addresses, entry_text, gaps, starts_after}
 use Rattle.tv_framing.specs.Fitting.{EntryFits}
 use Rattle.tv_framing.specs.Starts.{Ascend, Fill, next_start, parts_of, start_addresses}
-use Rattle.tv_framing.proofs.Parts.{addresses_of, bodies_whole, distinct_push, turned}
+use Rattle.tv_framing.proofs.Parts.{addresses_of, addresses_push, all_get, all_push, bodies_whole, distinct_push, or_false, turned}
 
 -- ---- the entries of some parts
 
@@ -118,50 +119,6 @@ composite_of bytes front foot es whole short list layout fits =
 
 -- ---- reading entry by entry
 
--- the entries go on behind those that were read
-pub record StillReads (entries done : List Entry) (left : List ℕ) : Type 0 where
-  pub rest : List Entry
-  pub whole : entries ≡ done ++ rest
-  pub text : left ≡ entries_text rest
-  pub fits : AllByRecursion EntryFits rest
-
-pub record Next (entries done : List Entry) (left : List ℕ) : Type 0 where
-  pub entry : Entry
-  pub more : List Entry
-  pub whole : entries ≡ done ++ entry ∷ more
-  pub text : left ≡ entry_text entry ++ entries_text more
-  pub fits : EntryFits entry
-  pub rest : AllByRecursion EntryFits more
-
-next_by : (entries done rest : List Entry) (left : List ℕ) → entries ≡ done ++ rest → left ≡ entries_text rest → AllByRecursion EntryFits rest → length done < length entries → Next entries done left
-next_by entries done [] left whole text fits lt = absurd (omega (arith, ap length whole, length-append done []))
-next_by entries done (e ∷ more) left whole text fits lt = record {
-  entry = e;
-  more = more;
-  whole = whole;
-  text = text;
-  fits = fits.0;
-  rest = fits.1;
-}
-
-pub next_of : (entries done : List Entry) (left : List ℕ) → StillReads entries done left → length done < length entries → Next entries done left
-next_of entries done left s lt = next_by entries done s.rest left s.whole s.text s.fits lt
-
-some_is : {x y : Entry} → ◌≡◌ {A = Option Entry} (Some x) (Some y) → x ≡ y
-some_is e = cc
-
-pub step_on : (entries done now : List Entry) (left after : List ℕ) (n : Next entries done left) (x : Entry) → ◌≡◌ {A = Option Entry} (Some x) (Some n.entry) → after ≡ entries_text n.more → now ≡ done ++ x ∷ [] → StillReads entries now after
-step_on entries done now left after n x is left_is now_is = record {
-  rest = n.more;
-  whole = n.whole ∙ ap (λ (e : Entry). done ++ e ∷ n.more) (sym (some_is is)) ∙ sym (append_assoc done (x ∷ []) n.more) ∙ ap (λ (l : List Entry). l ++ n.more) (sym now_is);
-  text = left_is;
-  fits = n.rest;
-}
-
-pub fits_push : (es : List Entry) (e : Entry) → AllByRecursion EntryFits es → EntryFits e → AllByRecursion EntryFits (es ++ e ∷ [])
-fits_push [] e each h = (h, tt)
-fits_push (x ∷ xs) e each h = (each.0, fits_push xs e each.1 h)
-
 text_push : (es : List Entry) (e : Entry) → entries_text (es ++ e ∷ []) ≡ entries_text es ++ entry_text e
 text_push [] e = append-nil (entry_text e)
 text_push (x ∷ xs) e = ap (λ (l : List ℕ). entry_text x ++ l) (text_push xs e) ∙ sym (append_assoc (entry_text x) (entries_text xs) (entry_text e))
@@ -180,38 +137,35 @@ pub record IsReading (bytes : List ℕ) (count i : ℕ) (done : List Entry) (lef
   pub within : i ≤ count
   pub text : bytes ≡ vint count ++ (entries_text done ++ left)
   pub each : AllByRecursion EntryFits done
-  pub goes_on : (entries : List Entry) → length entries < 2 ^ 64 → AllByRecursion EntryFits entries → bytes ≡ vint (length entries) ++ entries_text entries → (count ≡ length entries) × StillReads entries done left
-
-next_in : (bytes : List ℕ) (count i : ℕ) (done : List Entry) (left : List ℕ) (r : IsReading bytes count i done left) → i < count → (entries : List Entry) → length entries < 2 ^ 64 → AllByRecursion EntryFits entries
-    → bytes ≡ vint (length entries) ++ entries_text entries → Next entries done left
-next_in bytes count i done left r lt entries short fits whole =
-    let g = r.goes_on entries short fits whole in
-    next_of entries done left g.1 (omega (arith, g.0, r.number, lt))
+  pub goes_on : (entries : List Entry) → length entries < 2 ^ 64 → AllByRecursion EntryFits entries → bytes ≡ vint (length entries) ++ entries_text entries → (count ≡ length entries) × (done ≡ take i entries) × (left ≡ entries_text (drop i entries))
 
 pub reads_on : (bytes : List ℕ) (count i : ℕ) (done now : List Entry) (left after : List ℕ) (x : Entry) → IsReading bytes count i done left → i < count
     → ((e : Entry) (rest : List ℕ) → EntryFits e → left ≡ entry_text e ++ rest → (◌≡◌ {A = Option Entry} (Some x) (Some e)) × (after ≡ rest))
     → left ≡ entry_text x ++ after → EntryFits x → now ≡ done ++ x ∷ [] → IsReading bytes count (i + 1) now after
-reads_on bytes count i done now left after x r lt found is fits_x now_is = record {
+reads_on bytes count i done now left after x r below found is fits_x now_is = record {
   number = omega (arith, ap length now_is, length-append done (x ∷ []), r.number);
-  within = omega (arith, lt);
+  within = omega (arith, below);
   text = read_more bytes (vint count) done now x left after r.text is now_is;
-  each = subst (AllByRecursion EntryFits) (sym now_is) (fits_push done x r.each fits_x);
+  each = subst (AllByRecursion EntryFits) (sym now_is) (all_push EntryFits done x r.each fits_x);
   goes_on = λ entries short fits whole.
-      let n = next_in bytes count i done left r lt entries short fits whole in
-      let f = found n.entry (entries_text n.more) n.fits n.text in
-      ((r.goes_on entries short fits whole).0, step_on entries done now left after n x f.0 f.1 now_is);
+      let g = r.goes_on entries short fits whole in
+      let lt : i < length entries = omega (arith, g.0, below) in
+      let f = found (get_or entries i x) (entries_text (drop (i + 1) entries)) (all_get EntryFits entries i x lt fits) (g.2 ∙ ap entries_text (drop_more entries i x lt)) in (
+        g.0,
+        now_is ∙ ap (λ (l : List Entry). l ++ x ∷ []) g.1 ∙ ap (λ (e : Entry). take i entries ++ e ∷ []) (same_Some x (get_or entries i x) f.0) ∙ sym (take_more entries i x lt),
+        f.1,
+      );
 }
 
 -- no entry comes next where the list would go on
 pub stops_short : (bytes : List ℕ) (count i : ℕ) (done : List Entry) (left after : List ℕ) → IsReading bytes count i done left → i < count
     → ((e : Entry) (rest : List ℕ) → EntryFits e → left ≡ entry_text e ++ rest → (◌≡◌ {A = Option Entry} None (Some e)) × (after ≡ rest))
     → (entries : List Entry) → length entries < 2 ^ 64 → AllByRecursion EntryFits entries → bytes ≡ vint (length entries) ++ entries_text entries → ⊥
-stops_short bytes count i done left after r lt found entries short fits whole =
-    let n = next_in bytes count i done left r lt entries short fits whole in
-    none_some (found n.entry (entries_text n.more) n.fits n.text).0
-  where
-    none_some : {y : Entry} → ◌≡◌ {A = Option Entry} None (Some y) → ⊥
-    none_some e = cc
+stops_short bytes count i done left after r below found entries short fits whole =
+    let none : Entry = record { gap = 0; addr = record { field = 0; idx = 0 } } in
+    let g = r.goes_on entries short fits whole in
+    let lt : i < length entries = omega (arith, g.0, below) in
+    none-some (get_or entries i none) (found (get_or entries i none) (entries_text (drop (i + 1) entries)) (all_get EntryFits entries i none lt fits) (g.2 ∙ ap entries_text (drop_more entries i none lt))).0
 
 -- ---- adding up the gaps
 
@@ -226,10 +180,6 @@ pub record IsSoFar (entries : List Entry) (i offset len : ℕ) (starts : List St
 
 pub at_front : (entries : List Entry) (i : ℕ) (e : Entry) → i < length entries → e ≡ get_or entries i e → drop i entries ≡ e ∷ drop (i + 1) entries
 at_front entries i e lt is = drop_more entries i e lt ∙ ap (λ (x : Entry). x ∷ drop (i + 1) entries) (sym is)
-
-addresses_push : (ss : List Start) (s : Start) → start_addresses (ss ++ s ∷ []) ≡ start_addresses ss ++ s.addr ∷ []
-addresses_push [] s = refl
-addresses_push (x ∷ xs) s = ap (λ (l : List FileAddr). x.addr ∷ l) (addresses_push xs s)
 
 pub so_far_more : (entries : List Entry) (i offset len : ℕ) (starts now : List Start) (e : Entry) → IsSoFar entries i offset len starts → drop i entries ≡ e ∷ drop (i + 1) entries → e.gap ≤ len - offset
     → list_any (is_at e.addr) (start_addresses starts) ≡ false → now ≡ starts ++ record { addr = e.addr; offset = offset + e.gap } ∷ [] → IsSoFar entries (i + 1) (offset + e.gap) len now
@@ -249,32 +199,19 @@ so_far_more entries i offset len starts now e s front le new is =
       first = s.first;
     }
 
-or_left : (a b : Bool) → (a || b) ≡ false → a ≡ false
-or_left true b h = absurd (cc)
-or_left false b h = refl
-
-same_way : (a b : FileAddr) → is_at a b ≡ true → is_at b a ≡ true
-same_way a b e = turned b a ∙ e
-
-or_right : (a b : Bool) → (a || b) ≡ false → b ≡ false
-or_right true b h = absurd (cc)
-or_right false b h = h
-
-true_false : true ≡ false → ⊥
-true_false e = cc
-
 here : (xs : List FileAddr) (a : FileAddr) (rest : List FileAddr) (x : FileAddr) → is_at x a ≡ true → list_any (is_at x) (xs ++ a ∷ rest) ≡ false → ⊥
-here [] a rest x e h = true_false (sym e ∙ or_left (is_at x a) (list_any (is_at x) rest) h)
-here (y ∷ ys) a rest x e h = here ys a rest x e (or_right (is_at x y) _ h)
+here xs a rest x e h =
+    let behind = or_false (list_any (is_at x) xs) (is_at x a || list_any (is_at x) rest) (sym (list_any-append (is_at x) xs (a ∷ rest)) ∙ h) in
+    let both : true ≡ false = sym e ∙ (or_false (is_at x a) (list_any (is_at x) rest) behind.1).0 in cc
 
 twice_by : (x : FileAddr) (xs : List FileAddr) (a : FileAddr) (rest : List FileAddr) (b : Bool) → (list_any (is_at a) xs ≡ true → AreDistinct (xs ++ a ∷ rest) → ⊥)
     → is_at a x ≡ b → (b || list_any (is_at a) xs) ≡ true → AreDistinct (x ∷ (xs ++ a ∷ rest)) → ⊥
-twice_by x xs a rest true later e is h = here xs a rest x (same_way a x e) h.0
+twice_by x xs a rest true later e is h = here xs a rest x (turned x a ∙ e) h.0
 twice_by x xs a rest false later e is h = later is h.1
 
 -- an address that stands before stands twice
 twice : (front : List FileAddr) (a : FileAddr) (rest : List FileAddr) → list_any (is_at a) front ≡ true → AreDistinct (front ++ a ∷ rest) → ⊥
-twice [] a rest is h = true_false (sym is)
+twice [] a rest is h = cc
 twice (x ∷ xs) a rest is h = twice_by x xs a rest (is_at a x) (twice xs a rest) refl is h
 
 pub stands_twice : (entries : List Entry) (i offset len : ℕ) (starts : List Start) (e : Entry) → IsSoFar entries i offset len starts → drop i entries ≡ e ∷ drop (i + 1) entries → list_any (is_at e.addr) (start_addresses starts) ≡ true → IsLayout entries len → ⊥

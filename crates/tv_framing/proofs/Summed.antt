@@ -1,19 +1,20 @@
 -- Facts on totals of usages that are gathered by name.
-use Rattle.std.proofs.Common.{◌≡◌, ℕ, zero, suc, ◌+◌, ◌≤◌, List, [], ◌∷◌, length, take, get_or, map, fold, sum_by, max, Option, Some, None, refl, ap, subst, ◌∙◌, arith}
+use Rattle.std.proofs.Common.{◌≡◌, ℕ, zero, suc, ◌+◌, List, [], ◌∷◌, length, take, get_or, map, fold, sum_by, max, inl, inr, Option, Some, None, refl, sym, ap, subst, ◌∙◌, arith}
 use Rattle.std.specs.List.{range_with_len}
 use Rattle.std.specs.declared.cmp.Ordering.{Ordering}
 use Rattle.std.specs.declared.cmp.Ordering.TheVariants.{Less, Equal, Greater}
 use Rattle.std.specs.Ordering.{match_ordering}
-use Rattle.std.proofs.lemmas.List.{take_all}
+use Rattle.std.proofs.lemmas.Bool.{cases_lt}
+use Rattle.std.proofs.lemmas.List.{get_or_past, take_all}
 use Rattle.std.proofs.lemmas.List.FromFn.{sum_by-map-range_with_len_more}
-use Rattle.std.proofs.lemmas.List.Sums.{sum_by-cons}
+use Rattle.std.proofs.lemmas.List.Sums.{sum_by-cons, sum_by_more}
 use Rattle.tv_model.specs.Names.{byte_cmp}
 use Rattle.tv_base.specs.declared.byte_count.ByteCount.{ByteCount}
 use Rattle.tv_framing.specs.declared.column_usage.ColumnSpaceUsage.{ColumnSpaceUsage}
 use Rattle.tv_framing.specs.Usage.{bytes_of, capped, together}
 use Rattle.tv_framing.specs.Fields.{FieldSpace, column_bytes, field_sum}
 use Rattle.tv_framing.specs.PerField.{fields_sum, joined, joined_columns, joined_parts}
-use Rattle.tv_framing.specs.Places.{with_field}
+use Rattle.tv_framing.specs.Places.{by_name, with_field}
 
 -- ---- one usage with another
 
@@ -22,17 +23,11 @@ together_sum None b = omega arith
 together_sum (Some a) None = omega arith
 together_sum (Some a) (Some b) = omega arith
 
-one_more : (ps : List (Option ByteCount)) (n : ℕ) → sum_by bytes_of (take (suc n) ps) ≡ sum_by bytes_of (take n ps) + bytes_of (get_or ps n None)
-one_more [] n =
-    let short : length {A = Option ByteCount} [] ≤ n = omega arith in
-    omega (arith, ap (sum_by bytes_of) (take_all n [] short))
-one_more (p ∷ ps) zero = omega arith
-one_more (p ∷ ps) (suc n) = omega (arith, sum_by-cons bytes_of p (take (suc n) ps), sum_by-cons bytes_of p (take n ps), one_more ps n)
-
 one_part : (ps : List (Option ByteCount)) (n : ℕ) → sum_by bytes_of (take (n + 1) ps) ≡ sum_by bytes_of (take n ps) + bytes_of (get_or ps n None)
-one_part ps n =
-    let e : n + 1 ≡ suc n = omega arith in
-    ap (λ k. sum_by bytes_of (take k ps)) e ∙ one_more ps n
+one_part ps n = elim (cases_lt n (length ps)) [
+  | inl lt ↦ sum_by_more bytes_of ps n None lt
+  | inr le ↦ omega (arith, ap (sum_by bytes_of) (take_all (n + 1) ps (omega (arith, le)) ∙ sym (take_all n ps le)), ap bytes_of (get_or_past ps n None le))
+]
 
 parts_to : (ps qs : List (Option ByteCount)) (n : ℕ) → capped (sum_by bytes_of (map (λ i. together (get_or ps i None) (get_or qs i None)) (range_with_len 0 n))) ≡ capped (sum_by bytes_of (take n ps) + sum_by bytes_of (take n qs))
 parts_to ps qs zero = refl
@@ -73,5 +68,5 @@ rest_sum [] fs = omega arith
 rest_sum (f ∷ given) fs = omega (arith, rest_sum given (with_field fs f), with_sum f fs, sum_by-cons field_sum f given)
 
 -- the total of the usages by name is the sum of those that were given
-pub same_total : (given : List FieldSpace) → capped (fields_sum (fold with_field [] given)) ≡ capped (fields_sum given)
+pub same_total : (given : List FieldSpace) → capped (fields_sum (by_name given)) ≡ capped (fields_sum given)
 same_total given = omega (arith, rest_sum given [])

@@ -1,8 +1,8 @@
 -- How many bytes the fields of a segment take.
-use Rattle.std.specs.Prelude.{ℕ, ◌+◌, ◌-◌, List, ◌++◌, length, replicate, slice_set, Option, Some, None, sum_by}
+use Rattle.std.specs.Prelude.{ℕ, ◌+◌, ◌-◌, List, [], ◌++◌, length, get_or, replicate, slice_set, Option, Some, None, sum_by}
 use Rattle.tv_base.specs.declared.byte_count.ByteCount.{ByteCount}
 use Rattle.tv_framing.specs.declared.column_usage.ColumnSpaceUsage.{ColumnSpaceUsage}
-use Rattle.tv_framing.specs.Usage.{bytes_of, column_sum}
+use Rattle.tv_framing.specs.Usage.{bytes_of, column_sum, together}
 
 -- a field's name, its parts by their index, and its column
 pub record FieldSpace : Type 0 where
@@ -18,9 +18,21 @@ column_bytes (Some usage) = column_sum usage
 abbrev pub field_sum : FieldSpace → ℕ
 field_sum field = sum_by bytes_of field.parts + column_bytes field.column
 
--- the parts with one more at this index; indexes before it that weren't there are without a part
+-- the parts up to this index at least; indexes that weren't there are without a part
+abbrev pub up_to : ℕ → List (Option ByteCount) → List (Option ByteCount)
+up_to idx parts = parts ++ replicate (idx + 1 - length parts) None
+
+-- the parts with one more at this index
 abbrev pub with_part : ℕ → ByteCount → List (Option ByteCount) → List (Option ByteCount)
-with_part idx size parts = slice_set (parts ++ replicate (idx + 1 - length parts) None) idx (Some size)
+with_part idx size parts = slice_set (up_to idx parts) idx (Some size)
+
+-- the parts where this size joins the one at this index
+abbrev pub with_joined : ℕ → ByteCount → List (Option ByteCount) → List (Option ByteCount)
+with_joined idx size parts = slice_set (up_to idx parts) idx (together (get_or parts idx None) (Some size))
 
 abbrev pub with_usage : ℕ → ByteCount → FieldSpace → FieldSpace
 with_usage idx size field = record field { parts = with_part idx size field.parts }
+
+-- a field that has this part alone
+abbrev pub part_alone : (name : List ℕ) → ℕ → ByteCount → FieldSpace
+part_alone name idx size = record { name = name; parts = with_part idx size []; column = None }

@@ -1,17 +1,12 @@
--- How the JSON of a footer is read, field by field.
-use Rattle.std.specs.Prelude.{codes, Option, option_map, option_and_then}
+-- How the version of a footer stands in its JSON.
+use Rattle.std.specs.Prelude.{◌≡◌, codes, Some}
 use Rattle.serde_json.specs.Data.{Data}
-use Rattle.serde_json.specs.Find.{get}
 use Rattle.tv_model.specs.FooterForm.{u32_at}
 use Rattle.tv_base.specs.declared.versions.Version.{Version}
-use Rattle.tv_framing.specs.declared.footer.Footer.{Footer}
 
-abbrev pub version_of : Data → Option Version
-version_of d =
-    option_and_then (λ a. option_and_then (λ b. option_and_then (λ c. option_map (λ f. record { major = a; minor = b; patch = c; index_format_version = f })
-    (u32_at (codes "index_format_version") d)) (u32_at (codes "patch") d)) (u32_at (codes "minor") d)) (u32_at (codes "major") d)
-
-abbrev pub footer_of : Data → Option Footer
-footer_of d =
-    option_and_then (λ v. option_map (λ c. record { version = v; crc = c }) (u32_at (codes "crc") d))
-    (option_and_then version_of (get (codes "version") d))
+-- the tree is an object that has the fields of the version, whatever else it has
+pub record IsVersion (d : Data) (version : Version) : Type 0 where
+  pub major : u32_at (codes "major") d ≡ Some version.major
+  pub minor : u32_at (codes "minor") d ≡ Some version.minor
+  pub patch : u32_at (codes "patch") d ≡ Some version.patch
+  pub format : u32_at (codes "index_format_version") d ≡ Some version.index_format_version

@@ -1,20 +1,26 @@
 -- Where a field's usage stands among others that are in name order.
-use Rattle.std.specs.Prelude.{ℕ, suc, List, [], ◌∷◌, Result, Ok, Err}
+use Rattle.std.specs.Prelude.{ℕ, ◌≡◌, ◌≤◌, ◌<◌, List, [], ◌∷◌, fold, insert, length, slice_index_or, slice_set}
 use Rattle.std.specs.Ordering.{match_ordering}
 use Rattle.tv_model.specs.Names.{byte_cmp}
 use Rattle.tv_framing.specs.Fields.{FieldSpace}
 use Rattle.tv_framing.specs.PerField.{joined}
 
-abbrev pub later : Result ℕ ℕ → Result ℕ ℕ
-later (Ok i) = Ok (suc i)
-later (Err i) = Err (suc i)
-
--- the place of this name, or where it would stand
-abbrev pub place_of : List ℕ → List FieldSpace → Result ℕ ℕ
-place_of name [] = Err 0
-place_of name (field ∷ fields) = match_ordering (byte_cmp name field.name) (Err 0) (Ok 0) (later (place_of name fields))
-
 -- the usages with one more, which joins that of its name
 abbrev pub with_field : List FieldSpace → FieldSpace → List FieldSpace
 with_field [] field = field ∷ []
-with_field (one ∷ more) field = match_ordering (byte_cmp field.name one.name) (field ∷ one ∷ more) (joined one field ∷ more) (one ∷ with_field more field)
+with_field (one ∷ more) field =
+    match_ordering (byte_cmp field.name one.name) (field ∷ one ∷ more) (joined one field ∷ more) (one ∷ with_field more field)
+
+-- all of these usages, gathered by name
+abbrev pub by_name : List FieldSpace → List FieldSpace
+by_name fields = fold with_field [] fields
+
+-- the usage of this name stands there: one more of the name joins it
+pub record IsPlace (name : List ℕ) (fields : List FieldSpace) (i : ℕ) : Type 0 where
+  pub inside : i < length fields
+  pub joins : (more one : FieldSpace) → more.name ≡ name → one ≡ slice_index_or fields i one → slice_set fields i (joined one more) ≡ with_field fields more
+
+-- there is none, and it would stand there
+pub record IsGap (name : List ℕ) (fields : List FieldSpace) (i : ℕ) : Type 0 where
+  pub inside : i ≤ length fields
+  pub goes_in : (more : FieldSpace) → more.name ≡ name → insert fields i more ≡ with_field fields more

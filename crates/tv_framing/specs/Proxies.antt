@@ -33,11 +33,12 @@ pub record AddsUp {C A : Type 0} (c : Sum C) (old new : Option C) (bytes : List 
   pub ok : (body : List ℕ) → SumsUp c.has_taken old body → OnOk result (SumsUp c.has_taken new (body ++ bytes))
   pub memory : IfErr result (IoCause (Unit {0}) (new ≡ old))
 
--- the writer below was given these bytes, and then a body of which this is the checksum
+-- The writer below was given these bytes, and then a body of which this is the checksum. The footer isn't begun.
 pub record HasSummed {W C : Type 0} (w : Ghosts W) (c : Sum C) (front : List ℕ) (p : Proxied W C) : Type 0 where
   pub body : List ℕ
   pub sums : SumsUp c.has_taken p.sum body
   pub taken : (w.view p.writer).taken ≡ front ++ body
+  pub bare : p.footer_len ≡ 0
 
 -- Only calls were made on the writer below; and as long as it goes on, the checksum is that of all that came behind the same bytes.
 pub record ProxyStays {W C : Type 0} (w : Ghosts W) (c : Sum C) (old new : Proxied W C) : Type 0 where
@@ -53,7 +54,7 @@ SealedWithFooter w c old new bytes =
 abbrev pub SealsProxy : {W C : Type 0} → Ghosts W → Sum C → Proxied W C → Proxied W C → Type 0
 SealsProxy w c old new = SealedWithFooter w c old new (seen w.view old).taken
 
--- The writer below has ended, and what it keeps ends with the footer of the body.
+-- At Ok the writer below has ended; and if it keeps what was taken, that is what it had taken before and the footer of the body that was summed up.
 pub record EndsWithFooter {W C A : Type 0} (w : Ghosts W) (c : Sum C) (old new : Proxied W C) (result : Result A IoError) : Type 0 where
   pub ended : OnOk result ((w.view new.writer).ended ≡ true)
   pub kept : w.keeps → (body : List ℕ) → SumsUp c.has_taken old.sum body → OnOk result ((w.view new.writer).taken ≡ (w.view old.writer).taken ++ footer (c.checksum body))

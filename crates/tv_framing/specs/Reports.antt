@@ -1,12 +1,12 @@
 -- How much space the bodies of a composite file take.
-use Rattle.std.specs.Prelude.{ℕ, Bool, nat_le, List, [], None, length, map, get_or, codes}
+use Rattle.std.specs.Prelude.{ℕ, Bool, nat_le, List, [], length, map, get_or, codes}
 use Rattle.std.specs.List.{list_all}
 use Rattle.tv_framing.specs.Composite.{Part, addresses}
-use Rattle.tv_framing.specs.Fields.{FieldSpace, with_part}
+use Rattle.tv_framing.specs.Fields.{FieldSpace, part_alone}
 
 -- what a body takes, under the name of its field
 abbrev pub usage_of : List (List ℕ) → Part → FieldSpace
-usage_of names part = record { name = get_or names part.addr.field []; parts = with_part part.addr.idx (record { 0 = length part.body }) []; column = None }
+usage_of names part = part_alone (get_or names part.addr.field []) part.addr.idx (record { 0 = length part.body })
 
 abbrev pub usages : List (List ℕ) → List Part → List FieldSpace
 usages names parts = map (usage_of names) parts

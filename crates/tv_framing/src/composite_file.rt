@@ -14,7 +14,7 @@ use crate::entries::{entries_in, starts_of};
 use crate::faults::refusal;
 use crate::per_field_usage::PerFieldSpaceUsage;
 use crate::ranges::range_of;
-use crate::reports::usages_of;
+use crate::reports::usage_by_name;
 use crate::starts::{Start, are_below, are_small};
 use std::alloc::Global;
 use std::marker::Model;
@@ -111,8 +111,8 @@ impl CompositeFile {
                 "An index of the composite file is above 65535.",
             ));
         }
-        let usages = usages_of(alloc, self.starts.as_slice(), self.bytes.len(), names)?;
-        Ok(PerFieldSpaceUsage::new(alloc, usages)?)
+        let end = self.bytes.len();
+        Ok(usage_by_name(alloc, self.starts.as_slice(), end, names)?)
     }
 }
 

@@ -2,7 +2,7 @@
 ghost use Rattle.std.specs.Prelude.{◌≡◌, ◌≤◌, [], None, Some, IfOk, OnOk, OnErr, get_or, string_bytes, option_and_then, option_copied, option_map, sum_by};
 ghost use Rattle.tv_framing.specs.Usage.{bytes_of, capped};
 ghost use Rattle.tv_framing.specs.PerField.{joined, joined_columns, joined_parts};
-ghost use Rattle.tv_framing.specs.Fields.{column_bytes, field_sum, with_usage};
+ghost use Rattle.tv_framing.specs.Fields.{column_bytes, field_sum, with_joined, with_usage};
 
 use crate::column_usage::{ColumnSpaceUsage, size_of, together};
 use std::alloc::Global;
@@ -46,10 +46,20 @@ impl FieldUsage {
         ensures ok { OnOk result (self.new ≡ with_usage idx size self.old) }
         ensures err { OnErr result (self.new ≡ self.old) }
     {
+        self.join_part(idx, size)
+    }
+
+    // Joins this size to the part of this index. Where memory is wanted, nothing changes.
+    pub(crate) fn join_part(&mut self, idx: usize, size: ByteCount) -> Result<(), Memory>
+        requires small { idx ≤ 65535 }
+        ensures ok { OnOk result
+            (self.new ≡ record self.old { parts = with_joined idx size self.old.parts }) }
+        ensures err { OnErr result (self.new ≡ self.old) }
+    {
         if self.sub_num_bytes.len() <= idx {
             self.sub_num_bytes.resize(idx + 1, None)?;
         }
-        self.sub_num_bytes[idx] = Some(size);
+        self.sub_num_bytes[idx] = together(self.sub_num_bytes[idx], Some(size));
         Ok(())
     }
 

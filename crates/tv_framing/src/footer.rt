@@ -1,5 +1,5 @@
 //! The footer of a file.
-ghost use Rattle.std.specs.Prelude.{◌≡◌, List, ℕ, false, IfOk, IfErr, OnOk};
+ghost use Rattle.std.specs.Prelude.{◌≡◌, ℕ, false, IfOk, IfErr, OnOk};
 ghost use Rattle.tv_model.specs.Footer.{IsOtherFormat, IsReadFormat, footer};
 ghost use Rattle.tv_base.specs.Writers.{TakesAll, WriteFaults};
 ghost use Rattle.tv_framing.specs.Faults.{OfFault};

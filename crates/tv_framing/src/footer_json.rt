@@ -4,8 +4,8 @@ ghost use Rattle.std.specs.Fmt.{decimal};
 ghost use Rattle.serde_json.specs.View.{view};
 ghost use Rattle.tv_model.specs.FooterForm.{u32_at};
 ghost use Rattle.tv_framing.specs.declared.footer.Footer.{Footer};
-ghost use Rattle.tv_framing.specs.Footers.{Spells, footer_json};
-ghost use Rattle.tv_framing.specs.FooterTrees.{footer_of, version_of};
+ghost use Rattle.tv_framing.specs.Footers.{IsFooter, Spells, footer_json};
+ghost use Rattle.tv_framing.specs.FooterTrees.{IsVersion};
 
 use crate::footer::Footer;
 use serde_json::Value;
@@ -32,7 +32,8 @@ pub(crate) fn read_footer(alloc: Global, bytes: &[u8]) -> Result<Option<Footer>,
 
 // The footer that a tree holds, if it has its fields.
 fn footer_of(tree: &Value) -> Option<Footer>
-    ensures { result ≡ footer_of (view tree.now) }
+    ensures some { IfSome result (IsFooter (view tree.now)) }
+    ensures none { IfNone result ((footer : Footer) → IsFooter (view tree.now) footer → ⊥) }
 {
     Some(Footer {
         version: version_of(tree.get("version")?)?,
@@ -42,7 +43,8 @@ fn footer_of(tree: &Value) -> Option<Footer>
 
 // The version that a tree holds, if it has its fields.
 fn version_of(tree: &Value) -> Option<Version>
-    ensures { result ≡ version_of (view tree.now) }
+    ensures some { IfSome result (IsVersion (view tree.now)) }
+    ensures none { IfNone result ((version : Version) → IsVersion (view tree.now) version → ⊥) }
 {
     Some(Version {
         major: number_at(tree, "major")?,

@@ -1,13 +1,13 @@
 //! How much space the fields of a segment take.
-ghost use Rattle.std.specs.Prelude.{◌≡◌, IfOk, OnOk};
+ghost use Rattle.std.specs.Prelude.{◌≡◌, ◌≤◌, [], IfOk, MatchResult, OnOk};
 ghost use Rattle.std.specs.Slice.Iter.{iter_rest};
 ghost use Rattle.tv_framing.specs.Usage.{capped};
 ghost use Rattle.tv_framing.specs.PerField.{AreByName, UsesBytes, fields_sum};
-ghost use Rattle.tv_framing.specs.Places.{place_of, with_field};
+ghost use Rattle.tv_framing.specs.Fields.{part_alone};
+ghost use Rattle.tv_framing.specs.Places.{IsGap, IsPlace, with_field};
 
 use crate::field_usage::FieldUsage;
 use std::alloc::Global;
-use std::cmp::Ordering;
 use std::marker::Model;
 use tv_base::{ByteCount, Memory};
 
@@ -38,20 +38,27 @@ impl PerFieldSpaceUsage {
         ensures by_name { IfOk result (AreByName fields.items) }
         ensures total { IfOk result (λ usage. UsesBytes usage (fields_sum fields.items)) }
     {
-        let mut usage = PerFieldSpaceUsage {
-            fields: Vec::new(alloc),
-        };
+        let mut usage = PerFieldSpaceUsage::empty(alloc);
         for field in fields {
             usage.add(field)?;
         }
         Ok(usage)
     }
 
+    // No usages.
+    pub(crate) fn empty(alloc: Global) -> PerFieldSpaceUsage
+        ensures { result ≡ [] }
+    {
+        PerFieldSpaceUsage {
+            fields: Vec::new(alloc),
+        }
+    }
+
     // One usage more. It joins that of its name.
     fn add(&mut self, field: FieldUsage) -> Result<(), Memory>
         ensures ok { OnOk result (self.new ≡ with_field self.old field) }
     {
-        match place_of(self.fields.as_slice(), field.field_name()) {
+        match self.place_of(field.field_name()) {
             Ok(i) => {
                 let one = &mut self.fields[i];
                 one.join(&field)
@@ -61,6 +68,34 @@ impl PerFieldSpaceUsage {
                 Ok(())
             }
         }
+    }
+
+    // One part more of the field of this name.
+    pub(crate) fn add_part(&mut self, name: &str, idx: usize, size: ByteCount) -> Result<(), Memory>
+        requires small { idx ≤ 65535 }
+        ensures ok { OnOk result (self.new ≡ with_field self.old (part_alone name.now idx size)) }
+    {
+        match self.place_of(name) {
+            Ok(i) => {
+                let one = &mut self.fields[i];
+                one.join_part(idx, size)
+            }
+            Err(i) => {
+                let alloc = *self.fields.allocator();
+                let mut field = FieldUsage::empty(alloc, String::from_str(alloc, name)?);
+                field.add_field_idx(idx, size)?;
+                self.fields.insert(i, field)?;
+                Ok(())
+            }
+        }
+    }
+
+    // The place of the usage of this name, or where it would stand.
+    fn place_of(&self, name: &str) -> Result<usize, usize>
+        ensures { MatchResult result (IsPlace name.now self.now) (IsGap name.now self.now) }
+    {
+        self.fields
+            .binary_search_by(|field| field.field_name().cmp(name))
     }
 
     /// The usages, in name order.
@@ -84,20 +119,6 @@ impl PerFieldSpaceUsage {
         let fields = copies(*self.fields.allocator(), self.fields.as_slice())?;
         Ok(PerFieldSpaceUsage { fields })
     }
-}
-
-// The place of the usage of this name, or where it would stand.
-fn place_of(fields: &[FieldUsage], name: &str) -> Result<usize, usize>
-    ensures { result ≡ place_of name.now fields.now }
-{
-    for (i, field) in fields.iter().enumerate() {
-        match name.cmp(field.field_name()) {
-            Ordering::Less => return Err(i),
-            Ordering::Equal => return Ok(i),
-            Ordering::Greater => {}
-        }
-    }
-    Err(fields.len())
 }
 
 // The sum of these usages.

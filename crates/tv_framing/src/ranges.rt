@@ -12,7 +12,8 @@ pub(crate) fn range_of(starts: &[Start], addr: &FileAddr, end: usize) -> Option<
     requires { Fill starts.now end }
     ensures body { (bytes : List ℕ) → length bytes ≡ end
         → MatchOption result (body_at addr.now (parts_of bytes starts.now) ≡ None)
-        (λ r. body_at addr.now (parts_of bytes starts.now) ≡ Some (slice_range bytes r.start r.end)) }
+        (λ r. body_at addr.now (parts_of bytes starts.now)
+        ≡ Some (slice_range bytes r.start r.end)) }
     ensures inside { IfSome result (λ r. (r.start ≤ r.end) × (r.end ≤ end)) }
 {
     for (i, start) in starts.iter().enumerate() {

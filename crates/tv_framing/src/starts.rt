@@ -71,8 +71,8 @@ pub(crate) fn footing_of(alloc: Global, starts: &[Start], end: u64) -> Result<Ve
 // Adds a start to the list, as its distance from the one before.
 fn put_start(bytes: &mut Vec<u8>, start: &Start, before: u64) -> Result<(), Memory>
     requires { before ≤ start.now.offset }
-    ensures { OnOk result (bytes.new.items ≡ bytes.old.items
-        ++ (vint (start.now.offset - before) ++ (four_bytes start.now.addr.field ++ vint start.now.addr.idx))) }
+    ensures { OnOk result (bytes.new.items ≡ bytes.old.items ++ (vint (start.now.offset - before)
+        ++ (four_bytes start.now.addr.field ++ vint start.now.addr.idx))) }
 {
     VInt(start.offset - before).serialize(bytes)?;
     bytes.extend_from_slice(&start.addr.field.field_id().to_le_bytes())?;

@@ -2,6 +2,7 @@
 use Rattle.std.proofs.Common.{◌≡◌, ℕ, List, Option, Some, Result, Ok, Err, ⊎_elim, inl, inr, sym, ap, subst, ◌∙◌}
 use Rattle.std.specs.Prelude.{IfErr}
 use Rattle.std.specs.Result.{IsErrAnd}
+use Rattle.std.proofs.lemmas.Result.{IfErr-weaker}
 use Rattle.tv_model.specs.Files.{KeepsOthers, Reads, Sets}
 use Rattle.tv_model.specs.Footer.{HasBody, IsFramed, IsOtherFormat, IsReadFormat, sealed}
 use Rattle.tv_model.specs.FooterForm.{FooterNumbers}
@@ -46,6 +47,10 @@ one_body was first second h k =
 pub handed_on : {T E : Type 0} (result : Result T E) (error : E) (P : E → Type 0) → IsErrAnd result (λ e. e ≡ error) → P error → IfErr result P
 handed_on (Ok x) error P h k = tt
 handed_on (Err e) error P h k = subst P (sym h) k
+
+-- an error that came for want of memory
+pub wanted_only : {T : Type 0} (result : Result T OpenReadError) (P : OpenReadError → Type 0) → IfErr result (λ e. e ≡ read.Memory) → P read.Memory → IfErr result P
+wanted_only result P h k = IfErr-weaker result _ P (λ e is. subst P (sym is) k) h
 
 -- a file is sealed where its footer was written behind its body and nothing else was changed
 pub sealed_sets : (old mid new : Reads) (name given text body : List ℕ) → KeepsOthers old mid name → given ≡ name → text ≡ sealed body → Sets mid new given (Some text) → Sets old new name (Some (sealed body))

@@ -4,5 +4,3 @@ pub mod Saves
 pub mod Removals
 pub mod Tried
 pub mod Endings
-pub mod Frames
-pub mod Handed

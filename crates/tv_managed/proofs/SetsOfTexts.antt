@@ -12,7 +12,7 @@ use Rattle.std.specs.Set.{remove_key}
 use Rattle.std.proofs.lemmas.Str.{IsUtf8-string_bytes}
 use Rattle.tv_model.specs.Names.{byte_cmp, has, is_plain}
 use Rattle.tv_model.specs.Listing.{IsListed, IsListOf, list_text}
-use Rattle.tv_model.proofs.Entries.{is_by_order, remove_inserted, sorted_put}
+use Rattle.tv_model.proofs.Entries.{is_by_order, sorted_put}
 use Rattle.tv_model.proofs.PlainNames.{both}
 use Rattle.tv_managed.specs.Managed.{AreManaged}
 
@@ -66,12 +66,6 @@ pub inserted_is : (keys new : List (String Global)) (copy : String Global) (old 
     → map string_bytes new ≡ insert_key byte_cmp old name
 inserted_is keys new copy old name put is e =
     ap (λ (ks : List (String Global)). map string_bytes ks) put ∙ bytes_inserted keys copy ∙ ap (λ (n : List ℕ). insert_key byte_cmp (map string_bytes keys) n) is ∙ ap (λ (ns : List (List ℕ)). insert_key byte_cmp ns name) e
-
--- a text that was put, and was taken out again
-pub removed_is : (keys new : List (String Global)) (old : List (List ℕ)) (name : List ℕ) → new ≡ remove_key (is_at (λ k. byte_cmp name (string_bytes k))) keys → map string_bytes keys ≡ insert_key byte_cmp old name → has old name ≡ false
-    → map string_bytes new ≡ old
-removed_is keys new old name cut e none =
-    ap (λ (ks : List (String Global)). map string_bytes ks) cut ∙ bytes_removed keys name ∙ ap (λ (ns : List (List ℕ)). remove_key (is_at (byte_cmp name)) ns) e ∙ remove_inserted old name none
 
 -- whether a text is in the set
 pub had_is : (keys : List (String Global)) (old : List (List ℕ)) (name : List ℕ) (b : Bool) → b ≡ list_any (is_at (λ k. byte_cmp name (string_bytes k))) keys → map string_bytes keys ≡ old → has old name ≡ b

@@ -7,7 +7,7 @@ use Rattle.tv_base.specs.Causes.{IsDevice}
 use Rattle.tv_base.specs.declared.error.TantivyError.{TantivyError}
 use Rattle.tv_base.specs.declared.error.TantivyError.TheVariants as errors
 use Rattle.tv_directory.specs.Locks.{LockCause}
-use Rattle.tv_directory.specs.View.{View, WriterState, OnlyReads}
+use Rattle.tv_directory.specs.View.{View, WriterState, MayDelete, OnlyReads}
 use Rattle.tv_directory.specs.declared.directory.Directory.{Ghosts}
 use Rattle.tv_managed.specs.Frames.{KeepsNames}
 use Rattle.tv_managed.specs.declared.collecting.GarbageCollectionResult.{GarbageCollectionResult}
@@ -83,12 +83,31 @@ pub record TriesName {D W C : Type 0} (g : Ghosts D W C) (name : List ℕ) (old 
   pub kept : g.told.content → is_gone ≡ false → (w : W) → (g.view old.0).lives w ≡ true → (g.view new.0).lives w ≡ true
   pub ended : g.told.content → is_gone ≡ true → IsSome ((g.view old.0).reads name) → (w : W) → (g.state_of w).name ≡ name → (g.view new.0).lives w ≡ false
 
--- a name wasn't tried: the same names are managed, each reads what it read, every writer lives as it did, and no delete was refused
-pub record TriesNothing {D W C : Type 0} (g : Ghosts D W C) (old new : D × List (List ℕ)) : Type 0 where
-  pub managed : new.1 ≡ old.1
-  pub content : g.told.content → Same (g.view old.0).reads (g.view new.0).reads
-  pub alive : g.told.content → (w : W) → (g.view old.0).lives w ≡ true → (g.view new.0).lives w ≡ true
-  pub refusals : (g.view new.0).refusals ≡ (g.view old.0).refusals
+-- What trying these names gave, one after another: the deleted ones don't read and aren't managed any more; those that failed, and all else but the list, are as they were.
+pub record Tried {D W C : Type 0} (g : Ghosts D W C) (names : List (List ℕ)) (old new : D × List (List ℕ)) (deleted failed : List (List ℕ)) : Type 0 where
+  pub outcomes : List Bool
+  pub each : length outcomes ≡ length names
+  pub deleted_is : deleted ≡ done_of names outcomes
+  pub failed_is : failed ≡ failed_of names outcomes
+  pub hasnt_list : has deleted list_name ≡ false
+  pub managed : new.1 ≡ without deleted old.1
+  pub gone : g.told.content → (n : List ℕ) → has deleted n ≡ true → (g.view new.0).reads n ≡ None
+  pub others : g.told.content → (n : List ℕ) → has deleted n ≡ false → n ≢ list_name → (g.view new.0).reads n ≡ (g.view old.0).reads n
+  pub alive : g.told.content → SparesWriters deleted g.state_of (g.view old.0).lives (g.view new.0).lives
+  pub ended : g.told.content → EndsTheirWriters deleted g.state_of (g.view old.0) (g.view new.0)
+  pub counted : FailsAtMost (length failed) (g.view old.0).refusals (g.view new.0).refusals
+  pub calm : failed ≡ [] → (g.view new.0).refusals ≡ (g.view old.0).refusals
+  pub fits : (g.view old.0).refusals ≤ 18446744073709551615 → (g.view new.0).refusals ≤ 18446744073709551615
+  pub frame : MayDelete g.told (g.view old.0) (g.view new.0)
+
+-- some first ones of these names were tried
+pub record TriesSome {D W C : Type 0} (g : Ghosts D W C) (names : List (List ℕ)) (old new : D × List (List ℕ)) : Type 0 where
+  pub front : List (List ℕ)
+  pub rest : List (List ℕ)
+  pub deleted : List (List ℕ)
+  pub failed : List (List ℕ)
+  pub split : names ≡ front ++ rest
+  pub tried : Tried g front old new deleted failed
 
 -- the lock that is held while the living names are asked for
 abbrev pub meta_lock_name : List ℕ

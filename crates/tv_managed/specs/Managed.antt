@@ -46,11 +46,6 @@ pub record MakesFile (old new : Reads) (name : List ℕ) : Type 0 where
 abbrev pub ListsNew : Reads → Reads → Type 0
 ListsNew old new = (n : List ℕ) → is_undotted n ≡ true → IsSome (new n) → old n ≡ None → IsOnList (new list_name) n
 
--- the list was saved with one name more, or it wasn't, or the name was on it already; no other file was changed
-pub record MaySave (old new : Reads) (names : List (List ℕ)) (name : List ℕ) : Type 0 where
-  pub either : (new list_name ≡ Some (list_text (insert_key byte_cmp names name))) ⊎ (new list_name ≡ old list_name)
-  pub others : KeepsOthers old new list_name
-
 -- A name without a dot in front is managed afterwards. After an error the managed names are as they were, or there is this one more.
 pub record Registers {A E : Type 0} (old new : List (List ℕ)) (name : List ℕ) (result : Result A E) : Type 0 where
   pub ok : OnOk result (new ≡ registered old name)

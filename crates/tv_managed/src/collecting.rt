@@ -3,15 +3,14 @@ ghost use Rattle.std.specs.Prelude.{◌≡◌, ◌≢◌, ◌≤◌, [], ◌∷�
 ghost use Rattle.std.specs.List.{list_all};
 ghost use Rattle.tv_model.specs.Names.{is_file_name, is_plain, list_name};
 ghost use Rattle.tv_model.specs.Listing.{Lists};
-ghost use Rattle.tv_model.specs.Collections.{collectable, without};
+ghost use Rattle.tv_model.specs.Collections.{collectable};
 ghost use Rattle.tv_model.specs.Files.{KeepsOthers};
 ghost use Rattle.tv_directory.specs.View.{Kept, MayDelete, OnlyReads};
 ghost use Rattle.tv_directory.specs.Calls.{DeleteFaults, Deletes, EndsWriters, IoFaults};
 ghost use Rattle.tv_managed.specs.Managed.{Covers, SavesList};
 ghost use Rattle.tv_managed.specs.Frames.{KeepsNames};
-ghost use Rattle.tv_managed.specs.Collecting.{Among, names_of, Leaves, Tries, TriesName, TriesNothing, CollectFaults, UnlockedFaults};
+ghost use Rattle.tv_managed.specs.Collecting.{Among, names_of, Leaves, Tries, Tried, TriesName, TriesSome, CollectFaults, UnlockedFaults};
 
-use crate::list::save_list;
 use crate::managed_directory::ManagedDirectory;
 use std::alloc::Global;
 use std::collections::BTreeSet;
@@ -81,8 +80,24 @@ impl<D: Directory> ManagedDirectory<D> {
         ensures faults { CollectFaults D.Directory self.old self.new result }
         ensures frame { MayDelete D.told (D.view self.old.0) (D.view self.new.0) }
     {
+        let names = self.unneeded(living)?;
+        self.collect(names)
+    }
+
+    // The managed names that nothing needs. The living ones are asked for while the meta lock is held.
+    fn unneeded<L: FnOnce() -> BTreeSet<String>>(
+        &mut self,
+        living: L,
+    ) -> Result<Vec<String>, TantivyError>
+        requires { L.IsAlwaysCallable living }
+        ensures names { IfOk result (λ names. (set : _) × L.post living set
+            × (names_of names.items ≡ collectable (names_of set.keys) self.old.1)) }
+        ensures plain { IfOk result (λ names. list_all is_plain (names_of names.items) ≡ true) }
+        ensures faults { CollectFaults D.Directory self.old self.new result }
+        ensures frame { KeepsNames (OnlyReads D.told) D.view self.old self.new }
+    {
         let living = self.under_meta_lock(living)?;
-        self.collect(&living)
+        Ok(names_to_collect(self.alloc, &living, &self.managed)?)
     }
 
     // What a call answers that is made while the meta lock is held.
@@ -98,21 +113,16 @@ impl<D: Directory> ManagedDirectory<D> {
         Ok(answer)
     }
 
-    // Deletes the managed names that aren't among these.
-    fn collect(
-        &mut self,
-        living: &BTreeSet<String>,
-    ) -> Result<GarbageCollectionResult, TantivyError>
-        ensures tries { IfOk result
-            (Tries D.Directory (collectable (names_of living.now.keys) self.old.1)
-            self.old self.new) }
-        ensures leaves { Leaves D.Directory (collectable (names_of living.now.keys) self.old.1)
-            self.old self.new }
+    // Deletes these names, and saves the list where something was deleted.
+    fn collect(&mut self, names: Vec<String>) -> Result<GarbageCollectionResult, TantivyError>
+        requires { list_all is_plain (names_of names.items) ≡ true }
+        ensures tries { IfOk result (λ r. Tried D.Directory (names_of names.items) self.old self.new
+            (names_of r.deleted_files.items) (names_of r.failed_to_delete_files.items)) }
+        ensures leaves { TriesSome D.Directory (names_of names.items) self.old self.new }
         ensures list { SavesList D.Directory self.old self.new result }
         ensures faults { UnlockedFaults D.Directory self.old.0 self.new.0 result }
         ensures frame { MayDelete D.told (D.view self.old.0) (D.view self.new.0) }
     {
-        let names = names_to_collect(self.alloc, living, &self.managed)?;
         self.sync_directory()?;
         let result = self.delete_each(names)?;
         self.save_where_deleted(result.deleted_files.as_slice())?;
@@ -122,8 +132,9 @@ impl<D: Directory> ManagedDirectory<D> {
     // Tries each of these names.
     fn delete_each(&mut self, names: Vec<String>) -> Result<GarbageCollectionResult, Memory>
         requires { list_all is_plain (names_of names.items) ≡ true }
-        ensures tries { IfOk result (Tries D.Directory (names_of names.items) self.old self.new) }
-        ensures leaves { Leaves D.Directory (names_of names.items) self.old self.new }
+        ensures tries { IfOk result (λ r. Tried D.Directory (names_of names.items) self.old self.new
+            (names_of r.deleted_files.items) (names_of r.failed_to_delete_files.items)) }
+        ensures leaves { TriesSome D.Directory (names_of names.items) self.old self.new }
         ensures list { D.told.content
             → (D.view self.new.0).reads list_name ≡ (D.view self.old.0).reads list_name }
         ensures faults { (D.view self.new.0).faults ≡ (D.view self.old.0).faults }
@@ -144,7 +155,9 @@ impl<D: Directory> ManagedDirectory<D> {
     fn delete_managed(&mut self, name: &str) -> Result<bool, Memory>
         requires { is_plain name.now ≡ true }
         ensures tried { IfOk result (TriesName D.Directory name.now self.old self.new) }
-        ensures err { OnErr result (TriesNothing D.Directory self.old self.new) }
+        ensures err { OnErr result (KeepsNames (OnlyReads D.told) D.view self.old self.new) }
+        ensures list { D.told.content
+            → (D.view self.new.0).reads list_name ≡ (D.view self.old.0).reads list_name }
         ensures fits { (D.view self.new.0).refusals ≤ 18446744073709551615 }
         ensures faults { (D.view self.new.0).faults ≡ (D.view self.old.0).faults }
         ensures frame { MayDelete D.told (D.view self.old.0) (D.view self.new.0) }
@@ -166,14 +179,6 @@ impl<D: Directory> ManagedDirectory<D> {
             ) => Ok(false),
             Err(DeleteError::Memory) => Err(Memory),
         }
-    }
-
-    // Takes the name out of the managed ones.
-    fn forget(&mut self, name: &str)
-        ensures names { self.new.1 ≡ without (name.now ∷ []) self.old.1 }
-        ensures directory { self.new.0 ≡ self.old.0 }
-    {
-        self.managed.remove(name);
     }
 
     // Saves the list where these names were deleted, and there are some.
@@ -205,8 +210,8 @@ impl<D: Directory> ManagedDirectory<D> {
         ensures faults { IoFaults (D.view self.old.0) (D.view self.new.0) result }
         ensures frame { KeepsNames (Kept D.told) D.view self.old self.new }
     {
-        self.directory.sync_directory()?;
-        save_list(self.alloc, &mut self.directory, &self.managed)
+        self.sync_directory()?;
+        self.save()
     }
 }
 

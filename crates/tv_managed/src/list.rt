@@ -41,7 +41,7 @@ fn list_text(alloc: Global, names: &BTreeSet<String>) -> Result<Vec<u8>, Memory>
 }
 
 /// Writes the list of these names, and waits until the device has kept it.
-pub(crate) fn save_list<D: Directory>(
+pub(crate) fn save_managed_paths<D: Directory>(
     alloc: Global,
     directory: &mut D,
     names: &BTreeSet<String>,

@@ -1,8 +1,10 @@
 //! A directory that writes down the name of each file before it makes the file.
-ghost use Rattle.std.specs.Prelude.{List, ℕ, ◌≡◌, ◌≢◌, ◌<◌, ◌+◌, ◌^◌, [], true, length, Some, None, is_some, IfOk, IfErr, OnOk, OnErr, IsOkAnd, map, string_bytes};
+ghost use Rattle.std.specs.Prelude.{List, ℕ, ◌≡◌, ◌≢◌, ◌<◌, ◌+◌, ◌^◌, ◌⊎◌, [], ◌∷◌, true, length, Some, None, is_some, IfOk, IfErr, OnOk, OnErr, IsOkAnd, map, string_bytes};
 ghost use Rattle.std.specs.List.{list_all};
 ghost use Rattle.std.specs.BTreeSet.{insert_key};
 ghost use Rattle.tv_model.specs.Names.{byte_cmp, is_file_name, is_plain, is_undotted, list_name};
+ghost use Rattle.tv_model.specs.Listing.{Lists};
+ghost use Rattle.tv_model.specs.Collections.{without};
 ghost use Rattle.tv_model.specs.Checksum.{crc32};
 ghost use Rattle.tv_model.specs.Footer.{footer};
 ghost use Rattle.tv_model.specs.Files.{KeepsOthers};
@@ -11,10 +13,10 @@ ghost use Rattle.tv_directory.specs.View.{Frame, Kept, OnlyReads};
 ghost use Rattle.tv_directory.specs.Calls.{AskFaults, ReadFaults, OpenFaults, IoFaults, DeviceFaults, Appends, HandsBack, Touches, Flushes, Notes};
 ghost use Rattle.tv_directory.specs.Device.{IsSilent};
 ghost use Rattle.tv_managed.specs.Writers.{HandsOn, IsNewManaged, IsSummed};
-ghost use Rattle.tv_managed.specs.Managed.{registered, MaySave, HasListed, Registers, KeepsList, Creates, GivesFile, SealsBody};
+ghost use Rattle.tv_managed.specs.Managed.{registered, HasListed, Registers, KeepsList, Creates, GivesFile, SealsBody};
 ghost use Rattle.tv_managed.specs.Frames.{KeepsNames, MakeFaults};
 
-use crate::list::save_list;
+use crate::list::save_managed_paths;
 use crate::writer::ManagedWriter;
 use std::alloc::Global;
 use std::collections::BTreeSet;
@@ -50,8 +52,8 @@ pub struct Refused<D> {
     pub directory: D,
 }
 
-// A name without a dot in front is managed.
-fn has_no_dot(name: &str) -> bool
+// Whether a file of this name is managed: it has no dot in front.
+fn is_managed(name: &str) -> bool
     ensures { result ≡ is_undotted name.now }
 {
     match name.as_bytes() {
@@ -102,7 +104,7 @@ impl<D: Directory> ManagedDirectory<D> {
     }
 
     // Adds a name without a dot in front to the list, where it isn't there yet.
-    fn register_undotted(&mut self, name: &str) -> Result<(), IoError>
+    fn register_file_as_managed(&mut self, name: &str) -> Result<(), IoError>
         requires { is_file_name name.now ≡ true }
         ensures names { OnOk result (self.new.1 ≡ registered self.old.1 name.now) }
         ensures kept { OnErr result (self.new.1 ≡ self.old.1) }
@@ -112,19 +114,19 @@ impl<D: Directory> ManagedDirectory<D> {
         ensures faults { IoFaults (D.view self.old.0) (D.view self.new.0) result }
         ensures frame { Kept D.told (D.view self.old.0) (D.view self.new.0) }
     {
-        if !has_no_dot(name) {
+        if !is_managed(name) {
             return Ok(());
         }
-        self.register(name)
+        self.register_plain(name)
     }
 
     // Adds the name to the list, where it isn't there yet. A refused save leaves the names as they were.
-    fn register(&mut self, name: &str) -> Result<(), IoError>
+    fn register_plain(&mut self, name: &str) -> Result<(), IoError>
         requires { is_plain name.now ≡ true }
         ensures names { OnOk result (self.new.1 ≡ insert_key byte_cmp self.old.1 name.now) }
         ensures kept { OnErr result (self.new.1 ≡ self.old.1) }
         ensures saved { D.told.content
-            → MaySave (D.view self.old.0).reads (D.view self.new.0).reads self.old.1 name.now }
+            → KeepsOthers (D.view self.old.0).reads (D.view self.new.0).reads list_name }
         ensures list { HasListed D.Directory self.old self.new name.now result }
         ensures faults { IoFaults (D.view self.old.0) (D.view self.new.0) result }
         ensures frame { Kept D.told (D.view self.old.0) (D.view self.new.0) }
@@ -132,15 +134,48 @@ impl<D: Directory> ManagedDirectory<D> {
         if self.managed.contains(name) {
             return Ok(());
         }
-        let copy = String::from_str(self.alloc, name)?;
-        self.managed.insert(copy)?;
-        match save_list(self.alloc, &mut self.directory, &self.managed) {
+        self.add(name)?;
+        match self.save() {
             Ok(()) => Ok(()),
             Err(error) => {
-                self.managed.remove(name);
+                self.forget(name);
                 Err(error)
             }
         }
+    }
+
+    // Adds a name to the managed ones.
+    fn add(&mut self, name: &str) -> Result<(), Memory>
+        requires { is_plain name.now ≡ true }
+        ensures names { OnOk result (self.new.1 ≡ insert_key byte_cmp self.old.1 name.now) }
+        ensures kept { OnErr result (self.new.1 ≡ self.old.1) }
+        ensures directory { self.new.0 ≡ self.old.0 }
+    {
+        let copy = String::from_str(self.alloc, name)?;
+        self.managed.insert(copy)?;
+        Ok(())
+    }
+
+    // Takes a name out of the managed ones.
+    pub(crate) fn forget(&mut self, name: &str)
+        ensures names { self.new.1 ≡ without (name.now ∷ []) self.old.1 }
+        ensures directory { self.new.0 ≡ self.old.0 }
+    {
+        self.managed.remove(name);
+    }
+
+    // Saves the list of the managed names, and waits until the device has kept it.
+    pub(crate) fn save(&mut self) -> Result<(), IoError>
+        ensures lists { D.told.content
+            → OnOk result (Lists ((D.view self.new.0).reads list_name) self.new.1) }
+        ensures either { D.told.content → Lists ((D.view self.new.0).reads list_name) self.new.1
+            ⊎ ((D.view self.new.0).reads list_name ≡ (D.view self.old.0).reads list_name) }
+        ensures saved { D.told.content
+            → KeepsOthers (D.view self.old.0).reads (D.view self.new.0).reads list_name }
+        ensures faults { IoFaults (D.view self.old.0) (D.view self.new.0) result }
+        ensures frame { KeepsNames (Kept D.told) D.view self.old self.new }
+    {
+        save_managed_paths(self.alloc, &mut self.directory, &self.managed)
     }
 }
 
@@ -222,7 +257,7 @@ impl<D: Directory> ManagedDirectory<D> {
         ensures frame { Kept D.told (D.view self.old.0) (D.view self.new.0) }
     {
         let filepath = String::from_str(self.alloc, name)?;
-        match self.register_undotted(name) {
+        match self.register_file_as_managed(name) {
             Ok(()) => Ok(()),
             Err(IoError::Memory) => Err(OpenWriteError::Memory),
             Err(IoError::Fault(io_error)) => Err(OpenWriteError::IoError { io_error, filepath }),
@@ -301,7 +336,7 @@ impl<D: Directory> ManagedDirectory<D> {
         ensures faults { IoFaults (D.view self.old.0) (D.view self.new.0) result }
         ensures frame { Frame D.told (D.view self.old.0) (D.view self.new.0) }
     {
-        self.register_undotted(name)?;
+        self.register_file_as_managed(name)?;
         self.directory.atomic_write(name, bytes)
     }
 

@@ -93,7 +93,8 @@ fn delete_opstamp(deletes: Option<DeleteMeta>) -> Opstamp
 
 // The name of a file that isn't a delete file.
 fn file_name(alloc: Global, id: SegmentId, extension: &str) -> Result<String, Memory>
-    ensures { IfOk result (λ text. string_bytes text ≡ encode_lower id ++ codes "." ++ extension.now) }
+    ensures { IfOk result (λ text. string_bytes text
+        ≡ encode_lower id ++ codes "." ++ extension.now) }
 {
     let mut text = id.uuid_string(alloc)?;
     text.push_str(".")?;
@@ -103,7 +104,8 @@ fn file_name(alloc: Global, id: SegmentId, extension: &str) -> Result<String, Me
 
 // The name of a delete file.
 fn delete_file_name(alloc: Global, id: SegmentId, opstamp: Opstamp) -> Result<String, Memory>
-    ensures name { IfOk result (λ text. string_bytes text ≡ encode_lower id ++ codes "." ++ decimal opstamp ++ codes ".del") }
+    ensures name { IfOk result (λ text. string_bytes text
+        ≡ encode_lower id ++ codes "." ++ decimal opstamp ++ codes ".del") }
     ensures small { opstamp < 2 ^ 64 }
 {
     let mut text = id.uuid_string(alloc)?;

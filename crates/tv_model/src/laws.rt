@@ -18,15 +18,19 @@ ghost use Rattle.tv_model.specs.Telling.{Determined, Tells, are_plain};
 /// and a reader never shows an older commit than it showed before. From a sound state on, what is
 /// shown of a file is the body with which it was sealed.
 pub fn searchers_keep_their_commit()
-    ensures serves { (s : State) (turns : List Turn) → s.reading ≡ no_readers → s.next ≡ next_after s.commit.opstamp → Serves s turns }
-    ensures as_sealed { (s : State) (turns : List Turn) → IsSoundState s → AllByRecursion Fits (events_of turns) → ServesAsSealed s turns }
+    ensures serves { (s : State) (turns : List Turn) → s.reading ≡ no_readers
+        → s.next ≡ next_after s.commit.opstamp → Serves s turns }
+    ensures as_sealed { (s : State) (turns : List Turn) → IsSoundState s
+        → AllByRecursion Fits (events_of turns) → ServesAsSealed s turns }
 {}
 
 /// A collection takes exactly the managed names that nothing needs. Each of them is told as done or
 /// as failed, and those that failed stay managed. So does each collection of a run.
 pub fn collections_take_what_nothing_needs()
-    ensures collects { (s : State) (outcomes : List Bool) → IsStrictlySortedBy byte_cmp s.managed → Collects s outcomes }
-    ensures in_runs { (s : State) (turns : List Turn) → IsStrictlySortedBy byte_cmp s.managed → CollectsIn s turns }
+    ensures collects { (s : State) (outcomes : List Bool)
+        → IsStrictlySortedBy byte_cmp s.managed → Collects s outcomes }
+    ensures in_runs { (s : State) (turns : List Turn)
+        → IsStrictlySortedBy byte_cmp s.managed → CollectsIn s turns }
 {}
 
 /// The line of a collection tells which names were done and which failed, since no plain name has a
@@ -46,5 +50,7 @@ pub fn files_keep_their_body()
     ensures has_body { (body : List ℕ) → HasBody (sealed body) body }
     ensures sealed { (body : List ℕ) → body_of (sealed body) ≡ body }
     ensures good { (bytes body : List ℕ) → HasBody bytes body → body_of bytes ≡ body }
-    ensures one { (bytes : List ℕ) (first second : FooterNumbers) (body other : List ℕ) → IsFramed bytes first body → IsFramed bytes second other → (first ≡ second) × (body ≡ other) }
+    ensures one { (bytes : List ℕ) (first second : FooterNumbers) (body other : List ℕ)
+        → IsFramed bytes first body → IsFramed bytes second other
+        → (first ≡ second) × (body ≡ other) }
 {}

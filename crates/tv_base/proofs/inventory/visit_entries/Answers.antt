@@ -1,12 +1,12 @@
 use Rattle.std.proofs.Common.{rules, length-set}
 use Rattle.tv_base.specs.Visits.{IsVisited}
-use Rattle.tv_base.specs.VisitLaws.{step, done}
+use Rattle.tv_base.proofs.VisitLaws.{step, done}
 use Rattle.tv_base.proofs.inventory.visit_entries.Goals as goal
 
 pub loop-i-preserved : goal.loop-i-preserved
 loop-i-preserved g c =
     let one = c.visit_at.ensures in
-    rw one.4 (step (IsVisited g.T.Visit.visited) c.loop-i.i _ _ one.0 one.1 c.loop-i.invariant.0 (search rules) one.2 one.3, search (rules, length-set))
+    rw one.set (step (IsVisited g.T.Visit.visited) c.loop-i.i _ _ one.before one.after c.loop-i.invariant.0 (search rules) one.stood one.visited, search (rules, length-set))
 
 pub returns : goal.returns
 returns g c =

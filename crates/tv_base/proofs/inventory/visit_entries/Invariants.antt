@@ -1,5 +1,6 @@
 use Rattle.std.proofs.Common.{◌≡◌, length}
-use Rattle.tv_base.specs.Visits.{IsVisited, UpTo}
+use Rattle.tv_base.specs.Visits.{IsVisited}
+use Rattle.tv_base.proofs.VisitLaws.{UpTo}
 use Rattle.tv_base.proofs.inventory.visit_entries.Given as goal
 
 abbrev pub invariant-loop-i : goal.invariant-loop-i

@@ -1,8 +1,10 @@
-use Rattle.tv_framing.proofs.FooterTexts.{own_reads_back, reads_back}
+use Rattle.std.proofs.Common.{refl}
+use Rattle.tv_model.proofs.FooterTexts.{json_short, own_framed, spells_itself}
+use Rattle.tv_framing.specs.Footers.{footer_json, numbers_of}
 use Rattle.tv_framing.proofs.laws.footers_are_read_back.Goals as goal
 
 pub returns : goal.returns
 returns c = record {
-  framed = λ footer body h. reads_back footer body h;
-  sealed = λ crc body h. own_reads_back crc body h;
+  framed = λ footer body h. record { json = footer_json footer; whole = refl; short = json_short (numbers_of footer) h; spells = spells_itself (numbers_of footer) h };
+  sealed = λ crc body h. own_framed crc body h;
 }

@@ -1,8 +1,9 @@
-use Rattle.std.proofs.Common.{rules, ◌≡◌, ◌∷◌, ◌++◌, List, ℕ, map, string_bytes, sym, ap, ◌∙◌}
+use Rattle.std.proofs.Common.{rules, ◌≡◌, ◌∷◌, ◌++◌, [], List, ℕ, map, string_bytes, sym, ap, ◌∙◌}
 use Rattle.std.specs.List.{join_with_byte}
 use Rattle.std.proofs.lemmas.Map.Iter.{iter_end}
+use Rattle.std.proofs.lemmas.Simd.{map-map}
 use Rattle.tv_model.specs.Listing.{quoted}
-use Rattle.tv_managed.proofs.Texts.{separator, is_nil_append, join_last, map_map, list_ends}
+use Rattle.tv_managed.proofs.Texts.{separator, is_nil_append, join_last}
 use Rattle.tv_managed.proofs.list.list_text.Goals as goal
 
 pub loop-name-preserved : goal.loop-name-preserved
@@ -19,5 +20,5 @@ pub returns : goal.returns
 returns c =
     let all : map (λ name. name.now) c.loop-name.yielded ≡ c.args.names.now.keys = search (rules, iter_end) in
     let texts : map (λ name. quoted (string_bytes name.now)) c.loop-name.yielded ≡ map quoted (map string_bytes c.args.names.now.keys) =
-    sym (ap (map quoted) (map_map string_bytes (λ name. name.now) c.loop-name.yielded) ∙ map_map quoted (λ name. string_bytes name.now) c.loop-name.yielded) ∙ ap (λ names. map quoted (map string_bytes names)) all in
-    list_ends (map string_bytes c.args.names.now.keys) c.loop-name.text.items _ (c.loop-name.invariant.text ∙ ap (λ (t : List (List ℕ)). 91 ∷ join_with_byte 44 t) texts) c.in_ok-extend_from_slice.ensures.items
+    sym (ap (map quoted) (map-map string_bytes (λ name. name.now) c.loop-name.yielded) ∙ map-map quoted (λ name. string_bytes name.now) c.loop-name.yielded) ∙ ap (λ names. map quoted (map string_bytes names)) all in
+    c.in_ok-extend_from_slice.ensures.items ∙ ap (λ (t : List ℕ). t ++ 93 ∷ 10 ∷ []) (c.loop-name.invariant.text ∙ ap (λ (t : List (List ℕ)). 91 ∷ join_with_byte 44 t) texts)

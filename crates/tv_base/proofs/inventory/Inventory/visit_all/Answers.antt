@@ -1,4 +1,4 @@
-use Rattle.tv_base.specs.VisitLaws.{numbers_stay}
+use Rattle.tv_base.proofs.VisitLaws.{numbers_stay}
 use Rattle.tv_base.proofs.inventory.Inventory.visit_all.Goals as goal
 
 pub invariant_of-self : goal.invariant_of-self

@@ -4,4 +4,4 @@ use Rattle.tv_framing.proofs.footer_proxy.FooterProxyTerminatingWrite.flush.Goal
 
 pub returns-clause-stays : goal.returns-clause-stays
 returns-clause-stays g c =
-    stays_same g.W.TerminatingWrite g.C.Checksum _ _ _ c.flush.result c.self.view_is c.flush.ensures.stays refl c.flush.ensures.takes c.flush.ensures.faults
+    stays_same g.W.TerminatingWrite g.C.Checksum _ _ _ c.flush.result c.self.view_is c.flush.ensures.stays refl refl c.flush.ensures.faults c.flush.ensures.takes

@@ -1,7 +1,7 @@
 use Rattle.std.proofs.Common.{rules, ℕ, List, sym, subst, ◌∙◌}
 use Rattle.std.proofs.lemmas.Result.{IfOk-weaker}
 use Rattle.tv_managed.specs.Reading.{ReadsBody}
-use Rattle.tv_managed.proofs.Handed.{wanted_only}
+use Rattle.tv_managed.proofs.Endings.{wanted_only}
 use Rattle.tv_managed.proofs.managed_directory.ManagedDirectory.get_file_handle.Goals as goal
 
 pub returns-clause-body : goal.returns-clause-body

@@ -1,5 +1,4 @@
-use Rattle.std.proofs.Common.{rules, ◌≡◌, ◌≢◌, ◌∙◌, ℕ, List, ap, subst}
-use Rattle.tv_model.specs.Files.{KeepsOthers}
+use Rattle.std.proofs.Common.{rules, ◌≡◌, ◌≢◌, ◌∙◌, ℕ, List, ap}
 use Rattle.tv_model.specs.Names.{list_name}
 use Rattle.tv_managed.proofs.Endings.{handed_on}
 use Rattle.tv_managed.proofs.Saves.{NotMade, isnt_some, lists_new, not_made, others_of_refused, still_covers, still_not_made}
@@ -68,26 +67,22 @@ pub returns-in_err-writer-clause-list : goal.returns-in_err-writer-clause-list
 returns-in_err-writer-clause-list g c =
     let D = g.D.Directory in
     let asked = c.in_ok-refuse_existing.ensures.frame in
-    let same : c.self.inside.directory ≡ c.list.new.self.0 = ap (λ v. v.0) c.self.view_is in
     record {
       saves = search rules;
       listed = λ tells covers.
-          let covers1 = still_covers (λ d. (D.view d).reads) c.args.self.now.0 c.refuse_existing.new.self.0 c.args.self.now.1 c.refuse_existing.new.self.1 (asked.below.content tells) asked.names covers in
-          let made = others_of_refused (D.view c.self.inside.directory).reads (D.view c.open_write.new.self).reads c.args.name.now c.in_err-writer.field-0.0 (c.in_err-writer.ensures.makes.err tells) in
-          lists_new (D.view c.args.self.now.0).reads (D.view c.refuse_existing.new.self.0).reads (D.view c.list.new.self.0).reads (D.view c.open_write.new.self).reads c.args.name.now
-          (asked.below.content tells) (c.in_ok-list.ensures.saved tells) (subst (λ d. KeepsOthers (D.view d).reads (D.view c.open_write.new.self).reads c.args.name.now) same made) c.requires.other (c.in_ok-list.ensures.list.on_list tells covers1);
+          lists_new (λ d. (D.view d).reads) c.args.self.now.0 c.refuse_existing.new.self.0 c.list.new.self.0 c.self.inside.directory c.open_write.new.self c.args.name.now (ap (λ v. v.0) c.self.view_is) (asked.below.content tells) (c.in_ok-list.ensures.saved tells)
+          (others_of_refused (D.view c.self.inside.directory).reads (D.view c.open_write.new.self).reads c.args.name.now c.in_err-writer.field-0.0 (c.in_err-writer.ensures.makes.err tells)) c.requires.other
+          (c.in_ok-list.ensures.list.on_list tells (still_covers (λ d. (D.view d).reads) c.args.self.now.0 c.refuse_existing.new.self.0 c.args.self.now.1 c.refuse_existing.new.self.1 (asked.below.content tells) asked.names covers));
     }
 
 pub returns-clause-list : goal.returns-clause-list
 returns-clause-list g c =
     let D = g.D.Directory in
     let asked = c.in_ok-refuse_existing.ensures.frame in
-    let same : c.self.inside.directory ≡ c.list.new.self.0 = ap (λ v. v.0) c.self.view_is in
     record {
       saves = search rules;
       listed = λ tells covers.
-          let covers1 = still_covers (λ d. (D.view d).reads) c.args.self.now.0 c.refuse_existing.new.self.0 c.args.self.now.1 c.refuse_existing.new.self.1 (asked.below.content tells) asked.names covers in
-          let made = (c.in_ok-writer.ensures.makes.ok tells).1.others in
-          lists_new (D.view c.args.self.now.0).reads (D.view c.refuse_existing.new.self.0).reads (D.view c.list.new.self.0).reads (D.view c.open_write.new.self).reads c.args.name.now
-          (asked.below.content tells) (c.in_ok-list.ensures.saved tells) (subst (λ d. KeepsOthers (D.view d).reads (D.view c.open_write.new.self).reads c.args.name.now) same made) c.requires.other (c.in_ok-list.ensures.list.on_list tells covers1);
+          lists_new (λ d. (D.view d).reads) c.args.self.now.0 c.refuse_existing.new.self.0 c.list.new.self.0 c.self.inside.directory c.open_write.new.self c.args.name.now (ap (λ v. v.0) c.self.view_is) (asked.below.content tells) (c.in_ok-list.ensures.saved tells)
+          (c.in_ok-writer.ensures.makes.ok tells).1.others c.requires.other
+          (c.in_ok-list.ensures.list.on_list tells (still_covers (λ d. (D.view d).reads) c.args.self.now.0 c.refuse_existing.new.self.0 c.args.self.now.1 c.refuse_existing.new.self.1 (asked.below.content tells) asked.names covers));
     }

@@ -1,7 +1,7 @@
 use Rattle.std.proofs.Common.{rules, ◌==◌, ℕ, ap, ◌∙◌}
 use Rattle.std.proofs.lemmas.Result.{IfOk-weaker}
 use Rattle.tv_model.specs.Checksum.{crc32}
-use Rattle.tv_managed.proofs.Handed.{wanted_only}
+use Rattle.tv_managed.proofs.Endings.{wanted_only}
 use Rattle.tv_managed.proofs.managed_directory.ManagedDirectory.validate_checksum.Goals as goal
 
 pub returns-clause-answer : goal.returns-clause-answer

@@ -3,7 +3,14 @@ use Rattle.std.proofs.Common.{◌≡◌, ℕ, zero, suc, ◌<◌, ◌≤◌, ◌
 use Rattle.std.proofs.lemmas.List.Elements.{AllZip-get_or, length_all_zip}
 use Rattle.std.specs.List.{AllZip}
 use Rattle.tv_base.specs.declared.inventory.Entry.{Entry}
-use Rattle.tv_base.specs.Visits.{IsVisited, UpTo}
+use Rattle.tv_base.specs.Visits.{IsVisited}
+
+-- the first n elements are changed, and the others are as before
+abbrev pub UpTo : {X : Type 0} → (X → X → Type 0) → ℕ → List X → List X → Type 0
+UpTo R zero xs ys = ys ≡ xs
+UpTo R (suc n) [] ys = ys ≡ []
+UpTo R (suc n) (x ∷ xs) [] = ⊥
+UpTo R (suc n) (x ∷ xs) (y ∷ ys) = R x y × UpTo R n xs ys
 
 pub empty : {X : Type 0} (ys : List X) (n : ℕ) → ys ≡ [] → n < length ys → ⊥
 empty [] n is lt = grind (arith, lt)

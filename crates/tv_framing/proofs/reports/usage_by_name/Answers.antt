@@ -1,0 +1,33 @@
+use Rattle.std.proofs.Common.{[], get_or, length, map, string_bytes, ap, subst, sym, ◌∙◌, arith, ◌<◌, ◌-◌}
+use Rattle.std.proofs.lemmas.List.{get_or-map}
+use Rattle.tv_framing.specs.Fields.{part_alone}
+use Rattle.tv_framing.specs.Places.{with_field}
+use Rattle.tv_framing.proofs.Parts.{range_inside, start_front}
+use Rattle.tv_framing.proofs.Reported.{IsReporting, next_fits, reports_first, reports_on}
+use Rattle.tv_framing.proofs.reports.usage_by_name.Goals as goal
+
+pub loop-i-init : goal.loop-i-init
+loop-i-init c =
+    subst (IsReporting (map string_bytes c.args.names.now) c.args.starts.now (length c.args.names.now) 0 c.args.end) (sym c.empty-usage.ensures)
+    (reports_first (map string_bytes c.args.names.now) c.args.starts.now (length c.args.names.now) c.args.end c.requires.fill c.requires.below c.requires.small)
+
+pub overflow_sub-size : goal.overflow_sub-size
+overflow_sub-size c =
+    let front = start_front c.args.starts.now c.loop-i.i c.index-starts-i.result c.loop-i-test.true c.index-starts-i.is in
+    (range_inside c.args.starts.now c.loop-i.i c.loop-i.invariant.from c.args.end c.end_of.result c.index-starts-i.result front c.loop-i.invariant.ascend c.end_of.ensures).0
+
+pub add_part-requires : goal.add_part-requires
+add_part-requires c =
+    let front = start_front c.args.starts.now c.loop-i.i c.index-starts-i.result c.loop-i-test.true c.index-starts-i.is in
+    record { small = (next_fits _ _ _ _ _ _ _ c.loop-i.invariant front).1 }
+
+pub loop-i-preserved : goal.loop-i-preserved
+loop-i-preserved c =
+    let names = map string_bytes c.args.names.now in
+    let s = c.index-starts-i.result in
+    let front = start_front c.args.starts.now c.loop-i.i c.index-starts-i.result c.loop-i-test.true c.index-starts-i.is in
+    let fits = (next_fits _ _ _ _ _ _ _ c.loop-i.invariant front).0 in
+    let lt : c.field_id.result < length c.args.names.now = omega (arith, fits, c.field_id.ensures.number) in
+    let name = c.as_str-name.ensures.value ∙ ap string_bytes c.index-names-field_id.is ∙ sym (get_or-map string_bytes c.args.names.now c.field_id.result c.index-names-field_id.result [] lt) ∙ ap (λ n. get_or names n []) c.field_id.ensures.number in
+    reports_on names c.args.starts.now (length c.args.names.now) c.loop-i.i c.args.end c.end_of.result c.loop-i.usage c.add_part.new.self s c.loop-i.invariant front c.end_of.ensures
+    (c.in_ok-add_part.ensures.ok ∙ ap (λ n. with_field c.loop-i.usage (part_alone n s.addr.idx (record { 0 = c.end_of.result - s.offset }))) name)
