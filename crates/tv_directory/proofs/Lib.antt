@@ -1,6 +1,7 @@
 pub mod StoredFiles
 pub mod LockNames
 pub mod CopiedFiles
+pub mod CutTexts
 pub mod WatchLists
 pub mod PersistedFiles
 pub mod Views

@@ -1,6 +1,6 @@
 -- What calls keep, one after the other.
 use Rattle.std.proofs.Common.{◌∙◌, arith}
-use Rattle.tv_directory.specs.View.{View, Told, GoesOn, DeletesNone, TellsNone, Frame, Kept, OnlyReads}
+use Rattle.tv_directory.specs.View.{View, Told, GoesOn, DeletesNone, TellsNone, Frame, Kept}
 
 pub goes_then : {W : Type 0} {told : Told} {first next last : View W} → GoesOn told first next → GoesOn told next last → GoesOn told first last
 goes_then before after = record {
@@ -33,10 +33,4 @@ pub kept_then : {W : Type 0} {told : Told} {first next last : View W} → Kept t
 kept_then before after = record {
   frame = frame_then before.frame after.frame;
   watched = after.watched ∙ before.watched;
-}
-
-pub reads_then : {W : Type 0} {told : Told} {first next last : View W} → OnlyReads told first next → OnlyReads told next last → OnlyReads told first last
-reads_then before after = record {
-  kept = kept_then before.kept after.kept;
-  content = λ t n. after.content t n ∙ before.content t n;
 }

@@ -1,5 +1,6 @@
 -- What is heard, and the room for it.
-use Rattle.std.specs.Prelude.{ℕ, ◌≡◌, ◌⊎◌, List, [], ◌∷◌, ◌++◌, flat_map, nat_lt, if◌then◌else◌}
+use Rattle.std.specs.Prelude.{ℕ, ◌≡◌, ◌⊎◌, List, [], ◌∷◌, ◌++◌, drop, flat_map, nat_lt, take, if◌then◌else◌}
+use Rattle.std.specs.List.{sum_by}
 use Rattle.tv_model.specs.Files.{Heard}
 
 -- of a line whose telling was refused: nothing, or a first part of the line without its line feed
@@ -14,3 +15,12 @@ bytes_heard heard = flat_map (λ piece. piece.1) heard
 -- the room for one more piece among so many of so many places: what was prepared, where there is a place
 abbrev pub room_of : (pieces places prepared : ℕ) → ℕ
 room_of pieces places prepared = if nat_lt pieces places then prepared else 0
+
+-- a text, cut into pieces of these moments and lengths
+abbrev pub cut : List (ℕ × ℕ) → List ℕ → Heard
+cut [] text = []
+cut ((moment, len) ∷ others) text = (moment, take len text) ∷ cut others (drop len text)
+
+-- the length of a text that is cut into these
+abbrev pub cut_length : List (ℕ × ℕ) → ℕ
+cut_length pieces = sum_by (λ piece. piece.1) pieces

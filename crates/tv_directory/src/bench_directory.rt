@@ -74,8 +74,10 @@ impl<C: WatchCall> Directory for Bench<C> {
         ensures frame { OnlyReads tells_all (view_in C.calls self.old) (view_in C.calls self.new) }
         ensures device { Numbered Untouched (OpenReadCause name.now) self.old self.new result }
     {
-        let bytes = self.atomic_read(name)?;
-        Ok(OwnedBytes::new(bytes)?)
+        if self.device.refuses() {
+            return Err(self.refused_read(name));
+        }
+        self.ram.get_file_handle(name)
     }
 
     fn open_write(&mut self, name: &str) -> Result<RamWriter, OpenWriteError>

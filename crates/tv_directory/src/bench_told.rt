@@ -4,29 +4,29 @@ ghost use Rattle.tv_directory.specs.Telling.{bytes_heard};
 
 use std::alloc::Global;
 use std::marker::Model;
-use std::mem;
-use tv_model::{Blob, Memory};
+use tv_model::Memory;
 
 /// The pieces that were told, each with its moment, and the room for one more.
 /// To a contract it is these pieces, and how many bytes the next may have.
 #[derive(Drop)]
 pub struct Told {
     alloc: Global,
-    pieces: Vec<(u64, Blob)>,
-    // The next piece: no byte yet, but the room for some.
-    next: Vec<u8>,
+    // One text for all, since room that is made for a long piece then serves the short ones too.
+    text: Vec<u8>,
+    // The moment of each piece, and how many bytes of the text it is.
+    pieces: Vec<(u64, usize)>,
 }
 
 impl Model for Told {
-    ghost use Rattle.std.specs.Prelude.{ℕ, ◌≡◌, [], vec_len, vec_capacity};
+    ghost use Rattle.std.specs.Prelude.{ℕ, ◌≡◌, ◌-◌, length, vec_len, vec_capacity};
     ghost use Rattle.tv_model.specs.Files.{Heard};
-    ghost use Rattle.tv_directory.specs.Telling.{room_of};
+    ghost use Rattle.tv_directory.specs.Telling.{cut, cut_length, room_of};
 
     ghost Value = { Heard × ℕ };
 
-    ghost view = { λ a. (a.pieces.items, room_of (vec_len a.pieces) (vec_capacity a.pieces) (vec_capacity a.next)) };
+    ghost view = { λ a. (cut a.pieces.items a.text.items, room_of (vec_len a.pieces) (vec_capacity a.pieces) (vec_capacity a.text - vec_len a.text)) };
 
-    ghost invariant = { λ a. a.next.items ≡ [] };
+    ghost invariant = { λ a. cut_length a.pieces.items ≡ length a.text.items };
 }
 
 impl Told {
@@ -36,8 +36,8 @@ impl Told {
     {
         Told {
             alloc,
+            text: Vec::new(alloc),
             pieces: Vec::new(alloc),
-            next: Vec::new(alloc),
         }
     }
 
@@ -48,7 +48,7 @@ impl Told {
         ensures room { self.old.1 ≤ self.new.1 }
     {
         let needed = len.checked_add(1).ok_or(Memory)?;
-        self.next.reserve(needed)?;
+        self.text.reserve(needed)?;
         self.pieces.reserve(1)?;
         Ok(())
     }
@@ -58,20 +58,15 @@ impl Told {
         requires { length line.now < self.old.1 }
         ensures { self.new.0 ≡ self.old.0 ++ (moment, line.now ++ 10 ∷ []) ∷ [] }
     {
-        let mut piece = mem::replace(&mut self.next, Vec::new(self.alloc));
-        piece.extend_from_slice(line).unwrap();
-        piece.push(b'\n').unwrap();
-        self.pieces.push((moment, Blob::new(piece))).unwrap();
+        self.text.extend_from_slice(line).unwrap();
+        self.text.push(b'\n').unwrap();
+        self.pieces.push((moment, line.len() + 1)).unwrap();
     }
 
     /// All pieces, one after the other.
     pub fn bytes(&self) -> Result<Vec<u8>, Memory>
         ensures { IfOk result (λ bytes. bytes.items ≡ bytes_heard self.now.0) }
     {
-        let mut bytes = Vec::new(self.alloc);
-        for (_, piece) in &self.pieces {
-            bytes.extend_from_slice(piece.as_slice())?;
-        }
-        Ok(bytes)
+        Ok(Vec::from_slice(self.alloc, self.text.as_slice())?)
     }
 }

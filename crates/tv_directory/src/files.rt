@@ -9,13 +9,15 @@ ghost use Rattle.tv_directory.specs.StoredFiles.{bytes_of, reads_of, is_there, n
 
 use std::alloc::Global;
 use std::collections::BTreeMap;
-use tv_model::{Blob, FileName, Memory};
+use tv_base::OwnedBytes;
+use tv_model::{FileName, Memory};
 
-/// What a file holds: of one that isn't sealed, what was flushed.
+/// What a file holds: of one that isn't sealed, what was flushed. The bytes never change, so that
+/// those who read the file own them too.
 #[derive(Drop)]
 pub enum Content {
-    Unsealed(Blob),
-    Sealed(Blob),
+    Unsealed(OwnedBytes),
+    Sealed(OwnedBytes),
 }
 
 impl Content {
@@ -35,14 +37,23 @@ impl Content {
         self.as_slice().len() as u64
     }
 
-    /// The same content.
-    pub fn copied(&self, alloc: Global) -> Result<Content, Memory>
-        ensures { IfOk result (λ copy. bytes_of copy ≡ bytes_of self.now) }
+    /// One more owner of the bytes that it reads.
+    pub fn share_bytes(&self) -> Result<OwnedBytes, Memory>
+        ensures { IfOk result (λ bytes. bytes ≡ bytes_of self.now) }
     {
-        let bytes = Vec::from_slice(alloc, self.as_slice())?;
         match self {
-            Content::Unsealed(_) => Ok(Content::Unsealed(Blob::new(bytes))),
-            Content::Sealed(_) => Ok(Content::Sealed(Blob::new(bytes))),
+            Content::Unsealed(bytes) | Content::Sealed(bytes) => bytes.share(),
+        }
+    }
+
+    /// The same content, whose bytes aren't copied.
+    pub fn share(&self) -> Result<Content, Memory>
+        ensures { IfOk result (λ other. bytes_of other ≡ bytes_of self.now) }
+    {
+        let bytes = self.share_bytes()?;
+        match self {
+            Content::Unsealed(_) => Ok(Content::Unsealed(bytes)),
+            Content::Sealed(_) => Ok(Content::Sealed(bytes)),
         }
     }
 }
@@ -122,6 +133,16 @@ impl Files {
         }
     }
 
+    /// What the name reads. Its bytes aren't copied.
+    pub fn share(&self, name: &FileName) -> Result<Option<OwnedBytes>, Memory>
+        ensures { IfOk result (λ found. found ≡ reads_of self.now.map.entries name.now) }
+    {
+        match self.map.get(name) {
+            Some(file) => Ok(Some(file.content.share_bytes()?)),
+            None => Ok(None),
+        }
+    }
+
     /// Makes a file of a name that has none, and answers its number.
     pub fn make(&mut self, name: FileName, content: Content) -> Result<u64, Memory>
         ensures ok { OnOk result
@@ -158,7 +179,7 @@ impl Files {
         Ok(())
     }
 
-    /// The same files, under no number of a writer's.
+    /// The same files, under no number of a writer's. Their bytes aren't copied.
     pub fn copied(&self, alloc: Global) -> Result<Files, Memory>
         ensures files { IfOk result
             (λ files. Same (reads_of self.now.map.entries) (reads_of files.map.entries)) }
@@ -169,7 +190,7 @@ impl Files {
             let text = String::from_str(alloc, name.as_str())?;
             let copy = StoredFile {
                 number: 0,
-                content: file.content.copied(alloc)?,
+                content: file.content.share()?,
             };
             put(&mut map, FileName::new(text), copy)?;
         }
@@ -236,7 +257,7 @@ fn sealed_files(
     for (name, bytes) in files {
         let file = StoredFile {
             number: 0,
-            content: Content::Sealed(Blob::new(bytes)),
+            content: Content::Sealed(OwnedBytes::new(bytes)?),
         };
         put(&mut map, FileName::new(name), file)?;
     }

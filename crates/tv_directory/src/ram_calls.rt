@@ -20,7 +20,7 @@ use tv_base::{
     DeleteError, FileSlice, IoError, IoFault, LockError, META_FILEPATH, OpenReadError,
     OpenWriteError, OwnedBytes,
 };
-use tv_model::{Blob, FileName, Memory};
+use tv_model::{FileName, Memory};
 
 // A name with this text.
 pub(crate) fn file_name(alloc: Global, name: &str) -> Result<FileName, Memory>
@@ -70,8 +70,11 @@ impl<C: WatchCall> Directory for RamDirectory<C> {
             (ram_view C.calls self.new) name.now result }
         ensures frame { self.new ≡ self.old }
     {
-        let bytes = self.atomic_read(name)?;
-        Ok(OwnedBytes::new(bytes)?)
+        let name = file_name(self.alloc, name)?;
+        match self.files.share(&name)? {
+            Some(bytes) => Ok(bytes),
+            None => Err(OpenReadError::FileDoesNotExist(name.into_string())),
+        }
     }
 
     fn open_write(&mut self, name: &str) -> Result<RamWriter, OpenWriteError>
@@ -91,7 +94,7 @@ impl<C: WatchCall> Directory for RamDirectory<C> {
             return Err(OpenWriteError::FileAlreadyExists(key.into_string()));
         }
         let name = file_name(self.alloc, name)?;
-        let empty = Content::Unsealed(Blob::new(Vec::new(self.alloc)));
+        let empty = Content::Unsealed(OwnedBytes::empty());
         let number = self.files.make(key, empty)?;
         Ok(RamWriter {
             name,
@@ -129,7 +132,7 @@ impl<C: WatchCall> Directory for RamDirectory<C> {
         if self.files.is_made(&writer.name, writer.number) {
             let name = file_name(self.alloc, writer.name.as_str())?;
             let bytes = Vec::from_slice(self.alloc, writer.bytes.as_slice())?;
-            let flushed = Content::Unsealed(Blob::new(bytes));
+            let flushed = Content::Unsealed(OwnedBytes::new(bytes)?);
             self.files.replace(name, writer.number, flushed)?;
         }
         Ok(())
@@ -149,9 +152,9 @@ impl<C: WatchCall> Directory for RamDirectory<C> {
             bytes,
         } = writer;
         if self.files.is_made(&name, number) {
-            // The name has its place, so this takes no memory.
-            self.files
-                .replace(name, number, Content::Sealed(Blob::new(bytes)))?;
+            // The name has its place, so this takes memory for the count of owners alone.
+            let sealed = Content::Sealed(OwnedBytes::new(bytes)?);
+            self.files.replace(name, number, sealed)?;
         }
         Ok(())
     }
@@ -181,8 +184,8 @@ impl<C: WatchCall> Directory for RamDirectory<C> {
         ensures others { OnlyNoted self.old self.new }
     {
         let key = file_name(self.alloc, name)?;
-        let bytes = Vec::from_slice(self.alloc, bytes)?;
-        self.files.write(key, Content::Sealed(Blob::new(bytes)))?;
+        let bytes = OwnedBytes::new(Vec::from_slice(self.alloc, bytes)?)?;
+        self.files.write(key, Content::Sealed(bytes))?;
         if name == META_FILEPATH {
             self.watchers.note();
         }

@@ -6,7 +6,8 @@ use Rattle.tv_model.specs.declared.event.Event.TheVariants as events
 use Rattle.tv_model.specs.declared.reload_policy.ReloadPolicy.TheVariants.{Manual}
 use Rattle.tv_model.specs.declared.segment.SegmentComponent.TheVariants.{Postings, Positions}
 use Rattle.tv_model.specs.Machine.{answers, after}
-use Rattle.tv_model.proofs.Samples.{id_a, first_state, first_script, unrefused}
+use Rattle.tv_model.specs.Index.{first_state}
+use Rattle.tv_model.proofs.Samples.{id_a, first_script, unrefused}
 
 -- the files of a commit are collected, and its searcher shows them still
 pub snapshot_told : answers (after first_state first_script) (unrefused (

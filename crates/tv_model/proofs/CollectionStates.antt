@@ -10,9 +10,9 @@ use Rattle.tv_model.specs.declared.segment.DeleteMeta.{DeleteMeta}
 use Rattle.tv_model.specs.declared.segment.LiveSegment.{LiveSegment}
 use Rattle.tv_model.specs.declared.segment.SegmentComponent.TheVariants.{Postings, Positions, FastFields, FieldNorms, Terms, Store, Delete}
 use Rattle.tv_model.specs.Names.{byte_cmp, is, has, meta_name}
-use Rattle.tv_model.specs.Segments.{name_of, required_names, all_required}
+use Rattle.tv_model.specs.Segments.{components, name_of, required_names, all_required}
 use Rattle.tv_model.specs.Collections.{done_of, collectable, without}
-use Rattle.tv_model.specs.Living.{all_components, segment_names, living}
+use Rattle.tv_model.specs.Living.{segment_names, living}
 use Rattle.tv_model.specs.State.{State, FileState, at}
 use Rattle.tv_model.specs.CollectionEvents.{garbage, left, with_left}
 use Rattle.tv_model.proofs.Entries.{is_text, text_at}
@@ -48,7 +48,7 @@ both_not : (a b : Bool) → (not a && b) ≡ true → a ≡ true → ⊥
 both_not true b h e = true≢false (sym h)
 both_not false b h e = true≢false (sym e)
 
-unless : (b : Bool) → (b ≡ true → ⊥) → b ≡ false
+pub unless : (b : Bool) → (b ≡ true → ⊥) → b ≡ false
 unless true f = absurd (f refl)
 unless false f = refl
 
@@ -59,11 +59,11 @@ needed_spared needed managed outcomes n h =
     let tried : has (collectable needed managed) n ≡ true = done_within (collectable needed managed) outcomes n e in
     both_not (has needed n) (has managed n) (sym (has_without needed managed n) ∙ tried) h)
 
-pub living_spared : (s : State) (outcomes : List Bool) (n : List ℕ) → has (living s) n ≡ true → has (done_of (garbage s) outcomes) n ≡ false
-living_spared s outcomes n h = needed_spared (living s) s.managed outcomes n h
+pub living_spared : (s : State) (outcomes : List Bool) (n : List ℕ) → has (living s.catalog) n ≡ true → has (done_of (garbage s) outcomes) n ≡ false
+living_spared s outcomes n h = needed_spared (living s.catalog) s.managed outcomes n h
 
 -- `meta.json` is needed
-pub meta_living : (s : State) → has (living s) meta_name ≡ true
+pub meta_living : (s : State) → has (living s.catalog) meta_name ≡ true
 meta_living s = refl
 
 has_append : (names others : List (List ℕ)) (n : List ℕ) → has (names ++ others) n ≡ (has names n || has others n)
@@ -75,7 +75,7 @@ first false b h = absurd (true≢false (sym h))
 
 -- the required files are among those of their segment
 required_among : (id : List ℕ) (deletes : Option DeleteMeta) (b : Bool) (n : List ℕ)
-    → has (map (name_of id deletes) (Postings ∷ Positions ∷ FastFields ∷ FieldNorms ∷ Terms ∷ Store ∷ (cond b (Delete ∷ []) []))) n ≡ true → has (map (name_of id deletes) all_components) n ≡ true
+    → has (map (name_of id deletes) (Postings ∷ Positions ∷ FastFields ∷ FieldNorms ∷ Terms ∷ Store ∷ (cond b (Delete ∷ []) []))) n ≡ true → has (map (name_of id deletes) components) n ≡ true
 required_among id deletes true n h = h
 required_among id deletes false n h =
     more (is (name_of id deletes Postings) n) _ _
@@ -100,8 +100,8 @@ required_of (e ∷ segments) others n h =
     (sym (has_append (required_names e.0 e.1) (all_required segments) n) ∙ h))
 
 -- the required files of the commit are needed
-pub required_living : (s : State) (n : List ℕ) → has (all_required s.commit.segments) n ≡ true → has (living s) n ≡ true
-required_living s n h = also (is meta_name n) _ (required_of s.commit.segments s.live n h)
+pub required_living : (s : State) (n : List ℕ) → has (all_required s.catalog.commit.segments) n ≡ true → has (living s.catalog) n ≡ true
+required_living s n h = also (is meta_name n) _ (required_of s.catalog.commit.segments s.catalog.live n h)
 
 -- what stands at a name after the open files among some names were left
 pub at_left : (names : List (List ℕ)) (files : List (List ℕ × FileState)) (n : List ℕ) → at (with_left names files) n ≡ option_map (λ f. cond (has names n) (left f) f) (at files n)

@@ -1,8 +1,5 @@
 -- A collection takes what nothing needs, and what failed stays.
-use Rattle.std.proofs.Common.{◌≡◌, ℕ, ◌≤◌, Bool, true, false, true≢false, not, ◌&&◌, ◌||◌, cond, List, [], ◌∷◌, length, filter, refl, sym, ap, ◌∙◌, arith}
-use Rattle.std.specs.declared.cmp.Ordering.TheVariants.{Less}
-use Rattle.std.specs.Ordering.{is_eq}
-use Rattle.std.specs.List.{AllByRecursion}
+use Rattle.std.proofs.Common.{◌≡◌, ℕ, ◌≤◌, Bool, true, false, true≢false, not, ◌&&◌, ◌||◌, cond, List, [], ◌∷◌, length, filter, refl, sym, ◌∙◌, arith}
 use Rattle.std.specs.List.Sorted.{IsStrictlySortedBy}
 use Rattle.tv_model.specs.Names.{byte_cmp, is, has}
 use Rattle.tv_model.specs.Collections.{done_of, failed_of}
@@ -11,18 +8,14 @@ use Rattle.tv_model.specs.State.{State}
 use Rattle.tv_model.specs.CollectionEvents.{garbage}
 use Rattle.tv_model.specs.Machine.{Turn, after, refused_in}
 use Rattle.tv_model.specs.Collecting.{Collects, CollectsIn}
-use Rattle.tv_model.proofs.Entries.{is_text, is_by_order}
+use Rattle.tv_model.proofs.Entries.{is_text, below_absent}
 use Rattle.tv_model.proofs.ManagedStates.{sorted_after}
-use Rattle.tv_model.proofs.CollectionStates.{has_without, done_within}
+use Rattle.tv_model.proofs.CollectionStates.{has_without, done_within, unless}
 
 -- each name stands once
 abbrev Once : List (List ℕ) → Type 0
 Once [] = Unit {0}
 Once (name ∷ names) = (has names name ≡ false) × Once names
-
-below_absent : (names : List (List ℕ)) (name : List ℕ) → AllByRecursion (λ other. byte_cmp name other ≡ Less) names → has names name ≡ false
-below_absent [] name h = refl
-below_absent (x ∷ xs) name h = rw (is_by_order name x ∙ ap is_eq h.0, below_absent xs name h.1) refl
 
 once_sorted : (names : List (List ℕ)) → IsStrictlySortedBy byte_cmp names → Once names
 unfolding IsStrictlySortedBy
@@ -77,10 +70,6 @@ failed_within names outcomes n h = told names outcomes n ∙ (rw h (last (has (d
   last true = refl
   last false = refl
 
-unless : (b : Bool) → (b ≡ true → ⊥) → b ≡ false
-unless true f = absurd (f refl)
-unless false f = refl
-
 -- and not both, where names stand once
 one_way : (names : List (List ℕ)) (outcomes : List Bool) (n : List ℕ) → Once names → has (done_of names outcomes) n ≡ true → has (failed_of names outcomes) n ≡ false
 one_way [] outcomes n once h = refl
@@ -113,19 +102,19 @@ second_of false b e = absurd (true≢false (sym e))
 -- what a collection takes, tells and leaves
 pub collects : (s : State) (outcomes : List Bool) → IsStrictlySortedBy byte_cmp s.managed → Collects s outcomes
 collects s outcomes sorted = record {
-  taken = λ n. has_without (living s) s.managed n ∙ swapped (not (has (living s) n)) (has s.managed n);
+  taken = λ n. has_without (living s.catalog) s.managed n ∙ swapped (not (has (living s.catalog) n)) (has s.managed n);
   each = told (garbage s) outcomes;
   apart = λ n h. one_way (garbage s) outcomes n once h;
   gone = λ n h. rw (has_without (done_of (garbage s) outcomes) s.managed n, h) refl;
   stay = λ n h.
-      let managed : has s.managed n ≡ true = second_of (not (has (living s) n)) (has s.managed n) (sym (has_without (living s) s.managed n) ∙ failed_within (garbage s) outcomes n h) in
+      let managed : has s.managed n ≡ true = second_of (not (has (living s.catalog) n)) (has s.managed n) (sym (has_without (living s.catalog) s.managed n) ∙ failed_within (garbage s) outcomes n h) in
       let spared : has (done_of (garbage s) outcomes) n ≡ false = unless _ (λ d. true≢false (sym h ∙ one_way (garbage s) outcomes n once d)) in
       rw (has_without (done_of (garbage s) outcomes) s.managed n, spared) managed;
   counted = few_failed (garbage s) outcomes;
 }
   where
     once : Once (garbage s)
-    once = once_filter (λ name. not (has (living s) name)) s.managed (once_sorted s.managed sorted)
+    once = once_filter (λ name. not (has (living s.catalog) name)) s.managed (once_sorted s.managed sorted)
 
 -- and so does each collection of a run
 pub collects_in : (s : State) (turns : List Turn) → IsStrictlySortedBy byte_cmp s.managed → CollectsIn s turns

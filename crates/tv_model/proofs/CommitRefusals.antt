@@ -5,20 +5,22 @@ use Rattle.hex.specs.Hex.{encode_with}
 use Rattle.tv_model.specs.declared.event.Event.TheVariants as events
 use Rattle.tv_model.specs.declared.segment.SegmentComponent.TheVariants.{Postings, Positions, FastFields, FieldNorms}
 use Rattle.tv_model.specs.Names.{meta_name}
-use Rattle.tv_model.specs.Index.{next_after}
+use Rattle.tv_model.specs.Index.{first_state, next_after}
 use Rattle.tv_model.specs.State.{State, no_readers}
 use Rattle.tv_model.specs.Machine.{Turn, report, answers, after}
-use Rattle.tv_model.proofs.Samples.{id_a, id_b, id_c, first_state, first_script, unrefused}
+use Rattle.tv_model.proofs.Samples.{id_a, id_b, id_c, first_script, unrefused}
 
 -- the state of an index whose commit has the last number
 abbrev spent_state : State
 spent_state = record {
+  catalog = record {
+    live = [];
+    next = next_after 18446744073709551615;
+    commit = record { opstamp = 18446744073709551615; payload = None; segments = [] };
+    reading = no_readers;
+  };
   files = [];
   managed = meta_name ∷ [];
-  live = [];
-  next = next_after 18446744073709551615;
-  commit = record { opstamp = 18446744073709551615; payload = None; segments = [] };
-  reading = no_readers;
 }
 
 -- nothing more is committed there, and other events go on

@@ -2,7 +2,7 @@
 use Rattle.std.proofs.Common.{◌≡◌, [], ◌∷◌, refl, codes}
 use Rattle.std.specs.Fmt.{digits}
 use Rattle.tv_model.specs.Machine.{report}
-use Rattle.tv_model.proofs.Samples.{first_state}
+use Rattle.tv_model.specs.Index.{first_state}
 
 -- only the current commit is told
 pub empty_told : report first_state [] ≡ codes "open 0 0" ∷ []

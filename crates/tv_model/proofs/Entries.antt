@@ -110,7 +110,7 @@ pub is_by_order : (name x : List ℕ) → is x name ≡ is_eq (byte_cmp name x)
 is_by_order name x = texts_ties x name ∙ same_at x name
 
 -- a text below all of some others isn't among them
-below_absent : (xs : List (List ℕ)) (name : List ℕ) → AllByRecursion (λ y. byte_cmp name y ≡ Less) xs → has xs name ≡ false
+pub below_absent : (xs : List (List ℕ)) (name : List ℕ) → AllByRecursion (λ y. byte_cmp name y ≡ Less) xs → has xs name ≡ false
 below_absent [] name h = refl
 below_absent (x ∷ xs) name h = rw (is_by_order name x ∙ ap is_eq h.0, below_absent xs name h.1) refl
 

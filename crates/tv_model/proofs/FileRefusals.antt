@@ -5,7 +5,8 @@ use Rattle.hex.specs.Hex.{encode_with}
 use Rattle.tv_model.specs.declared.event.Event.TheVariants as events
 use Rattle.tv_model.specs.declared.segment.SegmentComponent.TheVariants.{Postings, Delete}
 use Rattle.tv_model.specs.Machine.{answers, after}
-use Rattle.tv_model.proofs.Samples.{id_a, id_b, first_state, first_script, unrefused}
+use Rattle.tv_model.specs.Index.{first_state}
+use Rattle.tv_model.proofs.Samples.{id_a, id_b, first_script, unrefused}
 
 -- a file of a segment that isn't live, one that isn't there, and one that is there already
 pub files_refused : answers first_state (unrefused (events.Write id_b Postings (0 ∷ []) ∷ events.Segment id_b ∷ events.Write id_b Postings (0 ∷ []) ∷ events.Open id_b Postings ∷ events.Open id_b Postings ∷ [])) ≡

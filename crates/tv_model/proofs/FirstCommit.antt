@@ -3,7 +3,8 @@ use Rattle.std.proofs.Common.{◌≡◌, [], ◌∷◌, refl, codes}
 use Rattle.std.specs.Fmt.{digits}
 use Rattle.hex.specs.Hex.{encode_with}
 use Rattle.tv_model.specs.Machine.{report}
-use Rattle.tv_model.proofs.Samples.{first_state, first_script}
+use Rattle.tv_model.specs.Index.{first_state}
+use Rattle.tv_model.proofs.Samples.{first_script}
 
 pub first_told : report first_state first_script ≡
     codes "open 0 0"

@@ -8,7 +8,7 @@ use Rattle.tv_model.specs.Script.{Fits}
 use Rattle.tv_model.specs.Serving.{Serves, ServesAsSealed}
 use Rattle.tv_model.specs.Collecting.{CollectsIn}
 use Rattle.tv_model.specs.Telling.{Determined}
-use Rattle.tv_model.proofs.Samples.{first_state}
+use Rattle.tv_model.specs.Index.{first_state}
 use Rattle.tv_model.proofs.SoundStates.{first_sound}
 use Rattle.tv_model.proofs.Serving.{serves, serves_as_sealed}
 use Rattle.tv_model.proofs.Collects.{collects_in}

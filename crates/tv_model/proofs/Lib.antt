@@ -1,5 +1,6 @@
 pub mod Apart
 pub mod Bodies
+pub mod Changes
 pub mod ChecksumFits
 pub mod Checksums
 pub mod Collecting
@@ -20,6 +21,7 @@ pub mod Payload
 pub mod PlainNames
 pub mod ManagedStates
 pub mod PrintedMeta
+pub mod Refusals
 pub mod RefusedDelete
 pub mod Samples
 pub mod SealedFile

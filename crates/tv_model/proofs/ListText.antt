@@ -4,7 +4,8 @@ use Rattle.std.specs.Fmt.{digits}
 use Rattle.hex.specs.Hex.{encode_with}
 use Rattle.tv_model.specs.Listing.{list_text}
 use Rattle.tv_model.specs.Machine.{after}
-use Rattle.tv_model.proofs.Samples.{first_state, first_script}
+use Rattle.tv_model.specs.Index.{first_state}
+use Rattle.tv_model.proofs.Samples.{first_script}
 
 -- that of an index that was just made
 pub first_list : list_text first_state.managed ≡ codes "[\"meta.json\"]" ++ 10 ∷ []

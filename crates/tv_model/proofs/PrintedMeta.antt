@@ -5,7 +5,8 @@ use Rattle.hex.specs.Hex.{encode_with}
 use Rattle.uuid.specs.Text.{by_index}
 use Rattle.tv_model.specs.Commits.{printed, segment_text, settings_text, first_commit, default_settings, text_schema}
 use Rattle.tv_model.specs.Machine.{after}
-use Rattle.tv_model.proofs.Samples.{id_b, first_state, first_script}
+use Rattle.tv_model.specs.Index.{first_state}
+use Rattle.tv_model.proofs.Samples.{id_b, first_script}
 
 -- the commit of an index that was just made
 pub first_printed : printed default_settings text_schema first_commit ≡
@@ -14,7 +15,7 @@ unfolding digits
 first_printed = refl
 
 -- a commit of one segment of three documents
-pub committed_printed : printed default_settings text_schema (after first_state first_script).commit ≡
+pub committed_printed : printed default_settings text_schema (after first_state first_script).catalog.commit ≡
     codes "{\"index_settings\":{\"docstore_compression\":\"none\",\"docstore_blocksize\":16384},\"segments\":[{\"segment_id\":\"a5c4dfcb-dfe6-4508-9129-e308e26d5523\",\"max_doc\":3,\"deletes\":null}],\"schema\":[{\"name\":\"text\",\"type\":\"text\",\"options\":{\"indexing\":{\"record\":\"position\",\"fieldnorms\":true,\"tokenizer\":\"default\"},\"stored\":false,\"fast\":false}}],\"opstamp\":1}"
 unfolding encode_with digits by_index
 committed_printed = refl

@@ -5,7 +5,8 @@ use Rattle.hex.specs.Hex.{encode_with}
 use Rattle.tv_model.specs.declared.event.Event.TheVariants as events
 use Rattle.tv_model.specs.declared.segment.SegmentComponent.TheVariants.{Postings}
 use Rattle.tv_model.specs.Machine.{answers}
-use Rattle.tv_model.proofs.Samples.{id_b, first_state, unrefused}
+use Rattle.tv_model.specs.Index.{first_state}
+use Rattle.tv_model.proofs.Samples.{id_b, unrefused}
 
 -- the name whose delete was refused stays managed, and the next collection takes it
 pub refused_told : answers first_state (unrefused (events.Segment id_b ∷ events.Open id_b Postings ∷ events.ReleaseSegment id_b ∷ []) ++ (events.Gc, false ∷ []) ∷ unrefused (events.Managed ∷ events.Gc ∷ events.Managed ∷ [])) ≡

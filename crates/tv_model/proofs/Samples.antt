@@ -1,11 +1,8 @@
--- Ids, states and scripts that the computed examples share.
+-- Ids and scripts that the computed examples share.
 use Rattle.std.proofs.Common.{ℕ, List, [], ◌∷◌, map, codes, None}
 use Rattle.tv_model.specs.declared.event.Event.{Event}
 use Rattle.tv_model.specs.declared.event.Event.TheVariants as events
 use Rattle.tv_model.specs.declared.segment.SegmentComponent.TheVariants.{Postings, Positions, FastFields, FieldNorms, Terms, Store}
-use Rattle.tv_model.specs.Names.{meta_name}
-use Rattle.tv_model.specs.Commits.{first_commit}
-use Rattle.tv_model.specs.State.{State, no_readers}
 use Rattle.tv_model.specs.Machine.{Turn}
 
 -- `a5c4dfcbdfe645089129e308e26d5523`
@@ -23,10 +20,6 @@ id_c = 0 ∷ 0 ∷ 0 ∷ 0 ∷ 0 ∷ 0 ∷ 0 ∷ 0 ∷ 0 ∷ 0 ∷ 0 ∷ 0 ∷ 0
 -- a run of these events, none of whose deletes is refused
 abbrev pub unrefused : List Event → List Turn
 unrefused events = map (λ event. (event, [])) events
-
--- the state of an index that was just made
-abbrev pub first_state : State
-first_state = record { files = []; managed = meta_name ∷ []; live = []; next = 1; commit = first_commit; reading = no_readers }
 
 -- a segment, its postings of nine bytes, and its other files, which are empty; it is committed, and the managed names are asked for
 abbrev pub first_script : List Turn

@@ -5,7 +5,8 @@ use Rattle.hex.specs.Hex.{encode_with}
 use Rattle.tv_model.specs.Footer.{footer, sealed}
 use Rattle.tv_model.specs.State.{Sealed, file_at}
 use Rattle.tv_model.specs.Machine.{after}
-use Rattle.tv_model.proofs.Samples.{first_state, first_script}
+use Rattle.tv_model.specs.Index.{first_state}
+use Rattle.tv_model.proofs.Samples.{first_script}
 
 -- a footer: its JSON, the length of that, and the number 1337, each number in four bytes
 pub footer_of_123 : footer 123 ≡ codes "{\"version\":{\"major\":0,\"minor\":26,\"patch\":2,\"index_format_version\":7},\"crc\":123}" ++ 79 ∷ 0 ∷ 0 ∷ 0 ∷ 57 ∷ 5 ∷ 0 ∷ 0 ∷ []

@@ -4,7 +4,8 @@ use Rattle.std.specs.Fmt.{digits}
 use Rattle.hex.specs.Hex.{encode_with}
 use Rattle.tv_model.specs.declared.event.Event.TheVariants as events
 use Rattle.tv_model.specs.Machine.{answers, after}
-use Rattle.tv_model.proofs.Samples.{id_a, id_b, first_state, first_script, unrefused}
+use Rattle.tv_model.specs.Index.{first_catalog, first_state}
+use Rattle.tv_model.proofs.Samples.{id_a, id_b, first_script, unrefused}
 
 -- the id of a live segment
 pub live_in_use : answers first_state (unrefused (events.Segment id_b ∷ events.Segment id_b ∷ [])) ≡
@@ -15,7 +16,7 @@ unfolding encode_with digits
 live_in_use = refl
 
 -- the id of a segment of the current commit, which isn't live and has no managed file here
-pub committed_in_use : answers (record first_state { commit = (after first_state first_script).commit }) (unrefused (events.Segment id_a ∷ [])) ≡ codes "refused id-in-use" ∷ []
+pub committed_in_use : answers (record first_state { catalog = record first_catalog { commit = (after first_state first_script).catalog.commit } }) (unrefused (events.Segment id_a ∷ [])) ≡ codes "refused id-in-use" ∷ []
 unfolding encode_with digits
 committed_in_use = refl
 

@@ -6,10 +6,10 @@ use Rattle.std.specs.BTreeMap.{is_at}
 use Rattle.std.specs.Ordering.{nat_cmp}
 use Rattle.tv_model.specs.declared.event.Event.TheVariants as events
 use Rattle.tv_model.specs.Footer.{HasBody, IsGood}
-use Rattle.tv_model.specs.State.{State, FileState, Sealed, Open, Left, Readers, Reader, Snapshot, file_at, reader_at, searcher_at, no_readers}
+use Rattle.tv_model.specs.State.{Catalog, State, FileState, Sealed, Open, Left, Readers, Reader, Snapshot, file_at, reader_at, searcher_at, no_readers}
 use Rattle.tv_model.specs.CommitEvents.{last_stamp, is_sealed}
 use Rattle.tv_model.specs.ReaderEvents.{body_in, snapshot_in}
-use Rattle.tv_model.specs.SearcherEvents.{searcher_of, searcher_step}
+use Rattle.tv_model.specs.SearcherEvents.{searcher_step}
 use Rattle.tv_model.specs.Machine.{Turn, step, after, events_of}
 use Rattle.tv_model.specs.Index.{next_after}
 use Rattle.tv_model.specs.Script.{Fits}
@@ -18,7 +18,8 @@ use Rattle.tv_model.specs.Serving.{Shows, Serves, ShowsAsSealed, ServesAsSealed}
 use Rattle.tv_model.proofs.Bodies.{body_of_good}
 use Rattle.tv_model.proofs.Numbered.{Rises, found, put_all, gone_all, rises_put, rises_gone, only, put_found}
 use Rattle.tv_model.proofs.SoundStates.{step_sound}
-use Rattle.tv_model.proofs.Moves.{ReadersMove, Comes, Reloads, Leaves, Searches, Ends, Moves, Stays, Commits, Reads, step_moves}
+use Rattle.tv_model.proofs.Changes.{ReadersMove, Comes, Reloads, Leaves, Searches, Ends, after_kept}
+use Rattle.tv_model.proofs.Moves.{Moves, Stays, Commits, Reads, step_moves}
 
 -- a run and one more run
 pub after_append : (s : State) (front rest : List Turn) → after s (front ++ rest) ≡ after (after s front) rest
@@ -36,33 +37,33 @@ pub record Holds (P : ℕ × Snapshot → Type 0) (R : ℕ × Reader → Type 0)
 
 -- it holds of those that come in a step
 pub record Spreads (P : ℕ × Snapshot → Type 0) (R : ℕ × Reader → Type 0) (t : State) : Type 0 where
-  pub comes : (reader : Reader) → reader.shown ≡ snapshot_in t 0 → R (t.reading.next_reader, reader)
+  pub comes : (reader : Reader) → reader.shown ≡ snapshot_in t 0 → R (t.catalog.reading.next_reader, reader)
   pub reloads : (n : ℕ) (old new : Reader) → new.shown ≡ snapshot_in t old.next → R (n, old) → R (n, new)
-  pub searches : (n : ℕ) (reader : Reader) → R (n, reader) → P (t.reading.next_searcher, reader.shown)
+  pub searches : (n : ℕ) (reader : Reader) → R (n, reader) → P (t.catalog.reading.next_searcher, reader.shown)
 
-readers_hold : (P : ℕ × Snapshot → Type 0) (R : ℕ × Reader → Type 0) (t : State) (now : Readers) → ReadersMove t now → Spreads P R t → Holds P R t.reading → Holds P R now
+readers_hold : (P : ℕ × Snapshot → Type 0) (R : ℕ × Reader → Type 0) (t : State) (now : Readers) → ReadersMove t now → Spreads P R t → Holds P R t.catalog.reading → Holds P R now
 readers_hold P R t now (Comes policy e) spreads h =
-    subst (Holds P R) (sym e) (record { searchers = h.searchers; readers = put_all R t.reading.readers t.reading.next_reader _ h.readers (spreads.comes _ refl) })
+    subst (Holds P R) (sym e) (record { searchers = h.searchers; readers = put_all R t.catalog.reading.readers t.catalog.reading.next_reader _ h.readers (spreads.comes _ refl) })
 readers_hold P R t now (Reloads n reader is e) spreads h =
     subst (Holds P R) (sym e) (record {
       searchers = h.searchers;
-      readers = put_all R t.reading.readers n _ h.readers (spreads.reloads n reader _ refl (found R t.reading.readers n reader h.readers is));
+      readers = put_all R t.catalog.reading.readers n _ h.readers (spreads.reloads n reader _ refl (found R t.catalog.reading.readers n reader h.readers is));
     })
 readers_hold P R t now (Leaves n e) spreads h =
-    subst (Holds P R) (sym e) (record { searchers = h.searchers; readers = gone_all R (is_at (nat_cmp n)) t.reading.readers h.readers })
+    subst (Holds P R) (sym e) (record { searchers = h.searchers; readers = gone_all R (is_at (nat_cmp n)) t.catalog.reading.readers h.readers })
 readers_hold P R t now (Searches n reader is e) spreads h =
     subst (Holds P R) (sym e) (record {
-      searchers = put_all P t.reading.searchers t.reading.next_searcher _ h.searchers (spreads.searches n reader (found R t.reading.readers n reader h.readers is));
+      searchers = put_all P t.catalog.reading.searchers t.catalog.reading.next_searcher _ h.searchers (spreads.searches n reader (found R t.catalog.reading.readers n reader h.readers is));
       readers = h.readers;
     })
 readers_hold P R t now (Ends n e) spreads h =
-    subst (Holds P R) (sym e) (record { searchers = gone_all P (is_at (nat_cmp n)) t.reading.searchers h.searchers; readers = h.readers })
+    subst (Holds P R) (sym e) (record { searchers = gone_all P (is_at (nat_cmp n)) t.catalog.reading.searchers h.searchers; readers = h.readers })
 
 -- what holds of all who read, and of those that come in a step, holds of all after it
-pub moves_hold : (P : ℕ × Snapshot → Type 0) (R : ℕ × Reader → Type 0) (t u : State) → Moves t u → Spreads P R t → Holds P R t.reading → Holds P R u.reading
+pub moves_hold : (P : ℕ × Snapshot → Type 0) (R : ℕ × Reader → Type 0) (t u : State) → Moves t u → Spreads P R t → Holds P R t.catalog.reading → Holds P R u.catalog.reading
 moves_hold P R t u (Stays e c n) spreads h = subst (Holds P R) (sym e) h
 moves_hold P R t u (Commits e last c n) spreads h = subst (Holds P R) (sym e) h
-moves_hold P R t u (Reads move c n) spreads h = readers_hold P R t u.reading move spreads h
+moves_hold P R t u (Reads move c n) spreads h = readers_hold P R t u.catalog.reading move spreads h
 
 -- numbers are given once, and no reader shows a commit that is yet to come
 pub record InOrder (who : Readers) (opstamp : ℕ) : Type 0 where
@@ -75,64 +76,64 @@ pub record InOrder (who : Readers) (opstamp : ℕ) : Type 0 where
 given_more : {X : Type 0} (n : ℕ) (es : List (ℕ × X)) → AllByRecursion (λ e. e.0 < n) es → AllByRecursion (λ e. e.0 < n + 1) es
 given_more n es h = all_weaker (λ e. e.0 < n) (λ e. e.0 < n + 1) es (λ e lt. omega (arith, lt)) h
 
-readers_in_order : (t : State) (now : Readers) → ReadersMove t now → InOrder t.reading t.commit.opstamp → InOrder now t.commit.opstamp
+readers_in_order : (t : State) (now : Readers) → ReadersMove t now → InOrder t.catalog.reading t.catalog.commit.opstamp → InOrder now t.catalog.commit.opstamp
 readers_in_order t now (Comes policy e) h =
-    subst (λ who. InOrder who t.commit.opstamp) (sym e) (record {
+    subst (λ who. InOrder who t.catalog.commit.opstamp) (sym e) (record {
       searchers = h.searchers;
-      readers = rises_put t.reading.readers t.reading.next_reader _ h.readers;
+      readers = rises_put t.catalog.reading.readers t.catalog.reading.next_reader _ h.readers;
       searchers_given = h.searchers_given;
-      readers_given = put_all (λ e. e.0 < t.reading.next_reader + 1) t.reading.readers t.reading.next_reader _ (given_more t.reading.next_reader t.reading.readers h.readers_given) (omega arith);
-      shown = put_all (λ e. e.1.shown.commit.opstamp ≤ t.commit.opstamp) t.reading.readers t.reading.next_reader _ h.shown (omega arith);
+      readers_given = put_all (λ e. e.0 < t.catalog.reading.next_reader + 1) t.catalog.reading.readers t.catalog.reading.next_reader _ (given_more t.catalog.reading.next_reader t.catalog.reading.readers h.readers_given) (omega arith);
+      shown = put_all (λ e. e.1.shown.commit.opstamp ≤ t.catalog.commit.opstamp) t.catalog.reading.readers t.catalog.reading.next_reader _ h.shown (omega arith);
     })
 readers_in_order t now (Reloads n reader is e) h =
-    subst (λ who. InOrder who t.commit.opstamp) (sym e) (record {
+    subst (λ who. InOrder who t.catalog.commit.opstamp) (sym e) (record {
       searchers = h.searchers;
-      readers = rises_put t.reading.readers n _ h.readers;
+      readers = rises_put t.catalog.reading.readers n _ h.readers;
       searchers_given = h.searchers_given;
-      readers_given = put_all (λ e. e.0 < t.reading.next_reader) t.reading.readers n _ h.readers_given (found (λ e. e.0 < t.reading.next_reader) t.reading.readers n reader h.readers_given is);
-      shown = put_all (λ e. e.1.shown.commit.opstamp ≤ t.commit.opstamp) t.reading.readers n _ h.shown (omega arith);
+      readers_given = put_all (λ e. e.0 < t.catalog.reading.next_reader) t.catalog.reading.readers n _ h.readers_given (found (λ e. e.0 < t.catalog.reading.next_reader) t.catalog.reading.readers n reader h.readers_given is);
+      shown = put_all (λ e. e.1.shown.commit.opstamp ≤ t.catalog.commit.opstamp) t.catalog.reading.readers n _ h.shown (omega arith);
     })
 readers_in_order t now (Leaves n e) h =
-    subst (λ who. InOrder who t.commit.opstamp) (sym e) (record {
+    subst (λ who. InOrder who t.catalog.commit.opstamp) (sym e) (record {
       searchers = h.searchers;
-      readers = rises_gone (is_at (nat_cmp n)) t.reading.readers h.readers;
+      readers = rises_gone (is_at (nat_cmp n)) t.catalog.reading.readers h.readers;
       searchers_given = h.searchers_given;
-      readers_given = gone_all (λ e. e.0 < t.reading.next_reader) (is_at (nat_cmp n)) t.reading.readers h.readers_given;
-      shown = gone_all (λ e. e.1.shown.commit.opstamp ≤ t.commit.opstamp) (is_at (nat_cmp n)) t.reading.readers h.shown;
+      readers_given = gone_all (λ e. e.0 < t.catalog.reading.next_reader) (is_at (nat_cmp n)) t.catalog.reading.readers h.readers_given;
+      shown = gone_all (λ e. e.1.shown.commit.opstamp ≤ t.catalog.commit.opstamp) (is_at (nat_cmp n)) t.catalog.reading.readers h.shown;
     })
 readers_in_order t now (Searches n reader is e) h =
-    subst (λ who. InOrder who t.commit.opstamp) (sym e) (record {
-      searchers = rises_put t.reading.searchers t.reading.next_searcher _ h.searchers;
+    subst (λ who. InOrder who t.catalog.commit.opstamp) (sym e) (record {
+      searchers = rises_put t.catalog.reading.searchers t.catalog.reading.next_searcher _ h.searchers;
       readers = h.readers;
-      searchers_given = put_all (λ e. e.0 < t.reading.next_searcher + 1) t.reading.searchers t.reading.next_searcher _ (given_more t.reading.next_searcher t.reading.searchers h.searchers_given) (omega arith);
+      searchers_given = put_all (λ e. e.0 < t.catalog.reading.next_searcher + 1) t.catalog.reading.searchers t.catalog.reading.next_searcher _ (given_more t.catalog.reading.next_searcher t.catalog.reading.searchers h.searchers_given) (omega arith);
       readers_given = h.readers_given;
       shown = h.shown;
     })
 readers_in_order t now (Ends n e) h =
-    subst (λ who. InOrder who t.commit.opstamp) (sym e) (record {
-      searchers = rises_gone (is_at (nat_cmp n)) t.reading.searchers h.searchers;
+    subst (λ who. InOrder who t.catalog.commit.opstamp) (sym e) (record {
+      searchers = rises_gone (is_at (nat_cmp n)) t.catalog.reading.searchers h.searchers;
       readers = h.readers;
-      searchers_given = gone_all (λ e. e.0 < t.reading.next_searcher) (is_at (nat_cmp n)) t.reading.searchers h.searchers_given;
+      searchers_given = gone_all (λ e. e.0 < t.catalog.reading.next_searcher) (is_at (nat_cmp n)) t.catalog.reading.searchers h.searchers_given;
       readers_given = h.readers_given;
       shown = h.shown;
     })
 
 -- the number that the next commit gets is above the current one, or no commit is possible
 abbrev pub IsAhead : State → Type 0
-IsAhead t = (t.next ≡ last_stamp) ⊎ (t.commit.opstamp < t.next)
+IsAhead t = (t.catalog.next ≡ last_stamp) ⊎ (t.catalog.commit.opstamp < t.catalog.next)
 
 pub record Orderly (t : State) : Type 0 where
-  pub who : InOrder t.reading t.commit.opstamp
+  pub who : InOrder t.catalog.reading t.catalog.commit.opstamp
   pub ahead : IsAhead t
 
 -- a step doesn't lower the current number
-rises : (t u : State) → Moves t u → IsAhead t → t.commit.opstamp ≤ u.commit.opstamp
+rises : (t u : State) → Moves t u → IsAhead t → t.catalog.commit.opstamp ≤ u.catalog.commit.opstamp
 rises t u (Stays e c n) h = omega (arith, ap (λ k. k.opstamp) c)
 rises t u (Commits e last c n) (inl is) = absurd (last is)
 rises t u (Commits e last c n) (inr above) = omega (arith, c, above)
 rises t u (Reads move c n) h = omega (arith, ap (λ k. k.opstamp) c)
 
-ahead_same : (t u : State) → u.commit ≡ t.commit → u.next ≡ t.next → IsAhead t → IsAhead u
+ahead_same : (t u : State) → u.catalog.commit ≡ t.catalog.commit → u.catalog.next ≡ t.catalog.next → IsAhead t → IsAhead u
 ahead_same t u c n (inl is) = inl (n ∙ is)
 ahead_same t u c n (inr above) = inr (omega (arith, n, ap (λ k. k.opstamp) c, above))
 
@@ -150,21 +151,20 @@ later_shown who opstamp more le h = record {
   shown = all_weaker (λ e. e.1.shown.commit.opstamp ≤ opstamp) (λ e. e.1.shown.commit.opstamp ≤ more) who.readers (λ e l. omega (arith, l, le)) h.shown;
 }
 
-who_in_order : (t u : State) → Moves t u → InOrder t.reading t.commit.opstamp → InOrder u.reading t.commit.opstamp
-who_in_order t u (Stays e c n) h = subst (λ who. InOrder who t.commit.opstamp) (sym e) h
-who_in_order t u (Commits e last c n) h = subst (λ who. InOrder who t.commit.opstamp) (sym e) h
-who_in_order t u (Reads move c n) h = readers_in_order t u.reading move h
+who_in_order : (t u : State) → Moves t u → InOrder t.catalog.reading t.catalog.commit.opstamp → InOrder u.catalog.reading t.catalog.commit.opstamp
+who_in_order t u (Stays e c n) h = subst (λ who. InOrder who t.catalog.commit.opstamp) (sym e) h
+who_in_order t u (Commits e last c n) h = subst (λ who. InOrder who t.catalog.commit.opstamp) (sym e) h
+who_in_order t u (Reads move c n) h = readers_in_order t u.catalog.reading move h
 
 orderly : (t u : State) → Moves t u → Orderly t → Orderly u
 orderly t u move h = record {
-  who = later_shown u.reading t.commit.opstamp u.commit.opstamp (rises t u move h.ahead) (who_in_order t u move h.who);
+  who = later_shown u.catalog.reading t.catalog.commit.opstamp u.catalog.commit.opstamp (rises t u move h.ahead) (who_in_order t u move h.who);
   ahead = ahead t u move h.ahead;
 }
 
 -- states of a run stay orderly
 pub orderly_after : (t : State) (turns : List Turn) → Orderly t → Orderly (after t turns)
-orderly_after t [] h = h
-orderly_after t (turn ∷ turns) h = orderly_after (step t turn.0 turn.1).1 turns (orderly t (step t turn.0 turn.1).1 (step_moves t turn.0 turn.1) h)
+orderly_after t turns h = after_kept Orderly (λ u event outcomes k. orderly u (step u event outcomes).1 (step_moves u event outcomes) k) t turns h
 
 first_in_order : (opstamp : ℕ) → InOrder no_readers opstamp
 first_in_order opstamp = record { searchers = tt; readers = tt; searchers_given = tt; readers_given = tt; shown = tt }
@@ -173,8 +173,8 @@ first_in_order opstamp = record { searchers = tt; readers = tt; searchers_given 
 next_ahead : (opstamp next : ℕ) → next ≡ next_after opstamp → (next ≡ last_stamp) ⊎ (opstamp < next)
 next_ahead opstamp next e = grind (arith, nat_tests)
 
-pub first_orderly : (s : State) → s.reading ≡ no_readers → s.next ≡ next_after s.commit.opstamp → Orderly s
-first_orderly s e n = record { who = subst (λ who. InOrder who s.commit.opstamp) (sym e) (first_in_order s.commit.opstamp); ahead = next_ahead s.commit.opstamp s.next n }
+pub first_orderly : (s : State) → s.catalog.reading ≡ no_readers → s.catalog.next ≡ next_after s.catalog.commit.opstamp → Orderly s
+first_orderly s e n = record { who = subst (λ who. InOrder who s.catalog.commit.opstamp) (sym e) (first_in_order s.catalog.commit.opstamp); ahead = next_ahead s.catalog.commit.opstamp s.catalog.next n }
 
 -- what a run's readers and searchers show at a part of it
 abbrev Sees : State → List Turn → Readers → Type 0
@@ -187,38 +187,38 @@ sees_spreads s turns before rest e = record {
   searches = λ n reader h. h;
 }
 
-sees_run : (s : State) (turns before rest : List Turn) → turns ≡ before ++ rest → Sees s turns (after s before).reading → Sees s turns (after s turns).reading
-sees_run s turns before [] e h = subst (λ (l : List Turn). Sees s turns (after s l).reading) (sym (e ∙ append_nil before)) h where
+sees_run : (s : State) (turns before rest : List Turn) → turns ≡ before ++ rest → Sees s turns (after s before).catalog.reading → Sees s turns (after s turns).catalog.reading
+sees_run s turns before [] e h = subst (λ (l : List Turn). Sees s turns (after s l).catalog.reading) (sym (e ∙ append_nil before)) h where
   append_nil : (l : List Turn) → l ++ [] ≡ l
   append_nil [] = refl
   append_nil (x ∷ l) = ap (λ (r : List Turn). x ∷ r) (append_nil l)
 sees_run s turns before (turn ∷ rest) e h =
     sees_run s turns (before ++ turn ∷ []) rest (e ∙ sym (append_assoc before (turn ∷ []) rest))
-    (subst (λ (t : State). Sees s turns t.reading) (sym (after_append s before (turn ∷ [])))
+    (subst (λ (t : State). Sees s turns t.catalog.reading) (sym (after_append s before (turn ∷ [])))
     (moves_hold _ _ (after s before) (step (after s before) turn.0 turn.1).1 (step_moves (after s before) turn.0 turn.1) (sees_spreads s turns before (turn ∷ rest) e) h))
 
-shows_one : (s : State) (turns : List Turn) (n : ℕ) (shown : Snapshot) → s.reading ≡ no_readers → searcher_at (after s turns) n ≡ Some shown → Shows s turns shown
+shows_one : (s : State) (turns : List Turn) (n : ℕ) (shown : Snapshot) → s.catalog.reading ≡ no_readers → searcher_at (after s turns).catalog n ≡ Some shown → Shows s turns shown
 shows_one s turns n shown e is =
-    let first : Sees s turns s.reading = subst (Sees s turns) (sym e) (record { searchers = tt; readers = tt }) in
-    found (λ e. Shows s turns e.1) (after s turns).reading.searchers n shown (sees_run s turns [] turns refl first).searchers is
+    let first : Sees s turns s.catalog.reading = subst (Sees s turns) (sym e) (record { searchers = tt; readers = tt }) in
+    found (λ e. Shows s turns e.1) (after s turns).catalog.reading.searchers n shown (sees_run s turns [] turns refl first).searchers is
 
 -- numbers that are given stay given
-readers_counted : (t : State) (now : Readers) → ReadersMove t now → (t.reading.next_reader ≤ now.next_reader) × (t.reading.next_searcher ≤ now.next_searcher)
+readers_counted : (t : State) (now : Readers) → ReadersMove t now → (t.catalog.reading.next_reader ≤ now.next_reader) × (t.catalog.reading.next_searcher ≤ now.next_searcher)
 readers_counted t now (Comes policy e) = omega (arith, ap (λ k. k.next_reader) e, ap (λ k. k.next_searcher) e)
 readers_counted t now (Reloads n reader is e) = omega (arith, ap (λ k. k.next_reader) e, ap (λ k. k.next_searcher) e)
 readers_counted t now (Leaves n e) = omega (arith, ap (λ k. k.next_reader) e, ap (λ k. k.next_searcher) e)
 readers_counted t now (Searches n reader is e) = omega (arith, ap (λ k. k.next_reader) e, ap (λ k. k.next_searcher) e)
 readers_counted t now (Ends n e) = omega (arith, ap (λ k. k.next_reader) e, ap (λ k. k.next_searcher) e)
 
-counted : (t u : State) → Moves t u → (t.reading.next_reader ≤ u.reading.next_reader) × (t.reading.next_searcher ≤ u.reading.next_searcher)
+counted : (t u : State) → Moves t u → (t.catalog.reading.next_reader ≤ u.catalog.reading.next_reader) × (t.catalog.reading.next_searcher ≤ u.catalog.reading.next_searcher)
 counted t u (Stays e c n) = omega (arith, ap (λ k. k.next_reader) e, ap (λ k. k.next_searcher) e)
 counted t u (Commits e last c n) = omega (arith, ap (λ k. k.next_reader) e, ap (λ k. k.next_searcher) e)
-counted t u (Reads move c n) = readers_counted t u.reading move
+counted t u (Reads move c n) = readers_counted t u.catalog.reading move
 
 -- a searcher that was given this number shows this, as long as it is there
 record Searcher (t : State) (n : ℕ) (first : Snapshot) : Type 0 where
-  given : n < t.reading.next_searcher
-  one : Holds (λ e. e.0 ≡ n → e.1 ≡ first) (λ e. Unit {0}) t.reading
+  given : n < t.catalog.reading.next_searcher
+  one : Holds (λ e. e.0 ≡ n → e.1 ≡ first) (λ e. Unit {0}) t.catalog.reading
 
 stays_searcher : (t u : State) (n : ℕ) (first : Snapshot) → Moves t u → Searcher t n first → Searcher u n first
 stays_searcher t u n first move h = record {
@@ -227,27 +227,26 @@ stays_searcher t u n first move h = record {
 }
 
 searcher_after : (t : State) (turns : List Turn) (n : ℕ) (first : Snapshot) → Searcher t n first → Searcher (after t turns) n first
-searcher_after t [] n first h = h
-searcher_after t (turn ∷ turns) n first h = searcher_after (step t turn.0 turn.1).1 turns n first (stays_searcher t (step t turn.0 turn.1).1 n first (step_moves t turn.0 turn.1) h)
+searcher_after t turns n first h = after_kept (λ u. Searcher u n first) (λ u event outcomes k. stays_searcher u (step u event outcomes).1 n first (step_moves u event outcomes) k) t turns h
 
 nothing : {X : Type 0} (es : List X) → AllByRecursion (λ e. Unit {0}) es
 nothing [] = tt
 nothing (e ∷ es) = (tt, nothing es)
 
-same_for_life : (t : State) (turns : List Turn) (n : ℕ) (first later : Snapshot) → Orderly t → searcher_at t n ≡ Some first → searcher_at (after t turns) n ≡ Some later → later ≡ first
+same_for_life : (t : State) (turns : List Turn) (n : ℕ) (first later : Snapshot) → Orderly t → searcher_at t.catalog n ≡ Some first → searcher_at (after t turns).catalog n ≡ Some later → later ≡ first
 same_for_life t turns n first later h is then =
     let start : Searcher t n first = record {
-      given = found (λ e. e.0 < t.reading.next_searcher) t.reading.searchers n first h.who.searchers_given is;
-      one = record { searchers = only t.reading.searchers n first h.who.searchers is; readers = nothing t.reading.readers };
+      given = found (λ e. e.0 < t.catalog.reading.next_searcher) t.catalog.reading.searchers n first h.who.searchers_given is;
+      one = record { searchers = only t.catalog.reading.searchers n first h.who.searchers is; readers = nothing t.catalog.reading.readers };
     } in
-    found (λ e. e.0 ≡ n → e.1 ≡ first) (after t turns).reading.searchers n later (searcher_after t turns n first start).one.searchers then refl
+    found (λ e. e.0 ≡ n → e.1 ≡ first) (after t turns).catalog.reading.searchers n later (searcher_after t turns n first start).one.searchers then refl
 
 -- a reader that was given this number shows no commit below this one
 record Reading (t : State) (n opstamp : ℕ) : Type 0 where
-  given : n < t.reading.next_reader
+  given : n < t.catalog.reading.next_reader
   ahead : IsAhead t
-  reached : opstamp ≤ t.commit.opstamp
-  one : Holds (λ e. Unit {0}) (λ e. e.0 ≡ n → opstamp ≤ e.1.shown.commit.opstamp) t.reading
+  reached : opstamp ≤ t.catalog.commit.opstamp
+  one : Holds (λ e. Unit {0}) (λ e. e.0 ≡ n → opstamp ≤ e.1.shown.commit.opstamp) t.catalog.reading
 
 reading_step : (t u : State) (n opstamp : ℕ) → Moves t u → Reading t n opstamp → Reading u n opstamp
 reading_step t u n opstamp move h = record {
@@ -262,35 +261,34 @@ reading_step t u n opstamp move h = record {
 }
 
 reading_after : (t : State) (turns : List Turn) (n opstamp : ℕ) → Reading t n opstamp → Reading (after t turns) n opstamp
-reading_after t [] n opstamp h = h
-reading_after t (turn ∷ turns) n opstamp h = reading_after (step t turn.0 turn.1).1 turns n opstamp (reading_step t (step t turn.0 turn.1).1 n opstamp (step_moves t turn.0 turn.1) h)
+reading_after t turns n opstamp h = after_kept (λ u. Reading u n opstamp) (λ u event outcomes k. reading_step u (step u event outcomes).1 n opstamp (step_moves u event outcomes) k) t turns h
 
-goes_on : (t : State) (turns : List Turn) (n : ℕ) (first later : Reader) → Orderly t → reader_at t n ≡ Some first → reader_at (after t turns) n ≡ Some later
+goes_on : (t : State) (turns : List Turn) (n : ℕ) (first later : Reader) → Orderly t → reader_at t.catalog n ≡ Some first → reader_at (after t turns).catalog n ≡ Some later
     → first.shown.commit.opstamp ≤ later.shown.commit.opstamp
 goes_on t turns n first later h is then =
-    let at_first : AllByRecursion (λ e. e.0 ≡ n → first.shown.commit.opstamp ≤ e.1.shown.commit.opstamp) t.reading.readers =
-    all_weaker _ _ t.reading.readers (λ e one same. omega (arith, ap (λ r. r.shown.commit.opstamp) (one same))) (only t.reading.readers n first h.who.readers is) in
+    let at_first : AllByRecursion (λ e. e.0 ≡ n → first.shown.commit.opstamp ≤ e.1.shown.commit.opstamp) t.catalog.reading.readers =
+    all_weaker _ _ t.catalog.reading.readers (λ e one same. omega (arith, ap (λ r. r.shown.commit.opstamp) (one same))) (only t.catalog.reading.readers n first h.who.readers is) in
     let start : Reading t n first.shown.commit.opstamp = record {
-      given = found (λ e. e.0 < t.reading.next_reader) t.reading.readers n first h.who.readers_given is;
+      given = found (λ e. e.0 < t.catalog.reading.next_reader) t.catalog.reading.readers n first h.who.readers_given is;
       ahead = h.ahead;
-      reached = found (λ e. e.1.shown.commit.opstamp ≤ t.commit.opstamp) t.reading.readers n first h.who.shown is;
-      one = record { searchers = nothing t.reading.searchers; readers = at_first };
+      reached = found (λ e. e.1.shown.commit.opstamp ≤ t.catalog.commit.opstamp) t.catalog.reading.readers n first h.who.shown is;
+      one = record { searchers = nothing t.catalog.reading.searchers; readers = at_first };
     } in
-    found (λ e. e.0 ≡ n → first.shown.commit.opstamp ≤ e.1.shown.commit.opstamp) (after t turns).reading.readers n later
+    found (λ e. e.0 ≡ n → first.shown.commit.opstamp ≤ e.1.shown.commit.opstamp) (after t turns).catalog.reading.readers n later
     (reading_after t turns n first.shown.commit.opstamp start).one.readers then refl
 
-new_searcher : (t : State) (n : ℕ) (reader : Reader) → reader_at t n ≡ Some reader → searcher_at (searcher_step t n).1 t.reading.next_searcher ≡ Some reader.shown
-new_searcher t n reader is = ap (λ (r : Option Reader). searcher_at (searcher_of t r).1 t.reading.next_searcher) is ∙ put_found t.reading.searchers t.reading.next_searcher reader.shown
+new_searcher : (c : Catalog) (n : ℕ) (reader : Reader) → reader_at c n ≡ Some reader → searcher_at (searcher_step c n).1 c.reading.next_searcher ≡ Some reader.shown
+new_searcher c n reader is = rw is (put_found c.reading.searchers c.reading.next_searcher reader.shown)
 
 -- what a run's readers and searchers show
-pub serves : (s : State) (turns : List Turn) → s.reading ≡ no_readers → s.next ≡ next_after s.commit.opstamp → Serves s turns
+pub serves : (s : State) (turns : List Turn) → s.catalog.reading ≡ no_readers → s.catalog.next ≡ next_after s.catalog.commit.opstamp → Serves s turns
 serves s turns none next = record {
   one_commit = λ front rest n shown e is. shows_one s front n shown none is;
   for_life = λ front middle rest n first later e is then.
       same_for_life (after s front) middle n first later (orderly_after s front (first_orderly s none next)) is (rw (after_append s front middle) at then);
   never_back = λ front middle rest n first later e is then.
       goes_on (after s front) middle n first later (orderly_after s front (first_orderly s none next)) is (rw (after_append s front middle) at then);
-  as_reader = λ front rest n outcomes reader e is. rw (after_append s front ((events.Searcher n, outcomes) ∷ [])) (new_searcher (after s front) n reader is);
+  as_reader = λ front rest n outcomes reader e is. rw (after_append s front ((events.Searcher n, outcomes) ∷ [])) (new_searcher (after s front).catalog n reader is);
 }
 
 -- states of a run stay sound

@@ -137,22 +137,8 @@ tells names h a b e = line_tells _ _ _ _ (done_plain names a h) (failed_plain na
 
 -- events that tell the same come to the same state
 same_step : (s : State) (event : Event) (a b : List Bool) → are_plain s.managed ≡ true → (step s event a).0 ≡ (step s event b).0 → (step s event a).1 ≡ (step s event b).1
-same_step s (events.Segment id) a b h e = refl
-same_step s (events.Open id component) a b h e = refl
-same_step s (events.Write id component bytes) a b h e = refl
-same_step s (events.Seal id component) a b h e = refl
-same_step s (events.Docs id n) a b h e = refl
-same_step s (events.Commit payload ids) a b h e = refl
-same_step s events.Gc a b h e = ap (without_files s) (tells (garbage s) (plain_filter (λ name. not (has (living s) name)) s.managed h) a b e).0
-same_step s (events.Reader policy) a b h e = refl
-same_step s (events.Reload number) a b h e = refl
-same_step s (events.Searcher number) a b h e = refl
-same_step s (events.Show number) a b h e = refl
-same_step s (events.Bytes number ord component) a b h e = refl
-same_step s (events.ReleaseSegment id) a b h e = refl
-same_step s (events.ReleaseReader number) a b h e = refl
-same_step s (events.ReleaseSearcher number) a b h e = refl
-same_step s events.Managed a b h e = refl
+same_step s events.Gc a b h e = ap (without_files s) (tells (garbage s) (plain_filter (λ name. not (has (living s.catalog) name)) s.managed h) a b e).0
+same_step s other a b h e = refl
 
 same_run : (s : State) (a b : List Turn) → are_plain s.managed ≡ true → AllByRecursion Fits (events_of a) → events_of a ≡ events_of b → answers s a ≡ answers s b → after s a ≡ after s b
 same_run s [] [] h fits e k = refl

@@ -1,5 +1,5 @@
 -- The events on files.
-use Rattle.std.specs.Prelude.{ℕ, List, [], ◌∷◌, ◌++◌, length, codes, Option, Some, None, is_some, nat_lt, not, ◌&&◌, if◌then◌else◌}
+use Rattle.std.specs.Prelude.{ℕ, Bool, List, [], ◌∷◌, ◌++◌, length, codes, Option, Some, None, is_some, nat_lt, not, ◌&&◌}
 use Rattle.std.specs.Fmt.{decimal}
 use Rattle.std.specs.BTreeSet.{insert_key}
 use Rattle.tv_model.specs.declared.segment.LiveSegment.{LiveSegment}
@@ -7,54 +7,54 @@ use Rattle.tv_model.specs.declared.segment.SegmentComponent.{SegmentComponent}
 use Rattle.tv_model.specs.Names.{byte_cmp}
 use Rattle.tv_model.specs.Footer.{sealed}
 use Rattle.tv_model.specs.Segments.{name_of, is_delete, num_deleted}
-use Rattle.tv_model.specs.State.{State, Told, FileState, Sealed, Open, Left, live_at, file_at, with_file}
-use Rattle.tv_model.specs.Lines.{line, refuse}
+use Rattle.tv_model.specs.State.{State, StepResult, FileState, Sealed, Open, Left, live_at, file_at, with_file}
+use Rattle.tv_model.specs.Lines.{line, unless, given}
 
 -- a new open file, whose name is managed
-abbrev pub open_name : State → List ℕ → Told
-open_name s name =
-    if is_some (file_at s name)
-    then refuse s (codes "exists")
-    else (line (codes "opened") (name ∷ []), record (with_file s name (Open [])) { managed = insert_key byte_cmp s.managed name })
+abbrev pub opened : State → List ℕ → StepResult State
+opened s name = (line (codes "opened") (name ∷ []), record (with_file s name (Open [])) { managed = insert_key byte_cmp s.managed name })
 
-abbrev pub open_of : State → List ℕ → SegmentComponent → Option LiveSegment → Told
-open_of s id component None = refuse s (codes "unknown-segment")
-open_of s id component (Some segment) =
-    if is_delete component && not (nat_lt 0 (num_deleted segment.deletes))
-    then refuse s (codes "no-deletes")
-    else open_name s (name_of id segment.deletes component)
+-- it is the delete file of a segment without deletes
+abbrev pub lacks_deletes : LiveSegment → SegmentComponent → Bool
+lacks_deletes segment component = is_delete component && not (nat_lt 0 (num_deleted segment.deletes))
 
-abbrev pub open_step : State → List ℕ → SegmentComponent → Told
-open_step s id component = open_of s id component (live_at s id)
+abbrev pub open_name : State → LiveSegment → SegmentComponent → List ℕ → StepResult State
+open_name s segment component name =
+    unless s ((lacks_deletes segment component, codes "no-deletes" ∷ []) ∷ (is_some (file_at s name), codes "exists" ∷ []) ∷ [])
+    (opened s name)
+
+-- a live segment's file is opened
+abbrev pub open_step : State → List ℕ → SegmentComponent → StepResult State
+open_step s id component =
+    given s (live_at s.catalog id) (codes "unknown-segment") (λ segment. open_name s segment component (name_of id segment.deletes component))
+
+-- what was written to a file, where it is open
+abbrev pub written_to : Option FileState → Option (List ℕ)
+written_to None = None
+written_to (Some (Sealed bytes)) = None
+written_to (Some (Open body)) = Some body
+written_to (Some Left) = None
+
+-- the file has these bytes more
+abbrev pub wrote : State → List ℕ → (bytes body : List ℕ) → StepResult State
+wrote s name bytes body = (line (codes "wrote") (name ∷ decimal (length (body ++ bytes)) ∷ []), with_file s name (Open (body ++ bytes)))
+
+abbrev pub write_name : State → List ℕ → List ℕ → StepResult State
+write_name s name bytes = given s (written_to (file_at s name)) (codes "not-open") (wrote s name bytes)
 
 -- more bytes of an open file
-abbrev pub write_name : State → List ℕ → List ℕ → Option FileState → Told
-write_name s name bytes (Some (Open body)) =
-    (line (codes "wrote") (name ∷ decimal (length (body ++ bytes)) ∷ []), with_file s name (Open (body ++ bytes)))
-write_name s name bytes (Some (Sealed body)) = refuse s (codes "not-open")
-write_name s name bytes (Some Left) = refuse s (codes "not-open")
-write_name s name bytes None = refuse s (codes "not-open")
+abbrev pub write_step : State → List ℕ → SegmentComponent → List ℕ → StepResult State
+write_step s id component bytes =
+    given s (live_at s.catalog id) (codes "unknown-segment") (λ segment. write_name s (name_of id segment.deletes component) bytes)
 
-abbrev pub write_of : State → List ℕ → SegmentComponent → List ℕ → Option LiveSegment → Told
-write_of s id component bytes None = refuse s (codes "unknown-segment")
-write_of s id component bytes (Some segment) =
-    write_name s (name_of id segment.deletes component) bytes (file_at s (name_of id segment.deletes component))
+-- the file is sealed, with this body
+abbrev pub sealed_as : State → List ℕ → (body : List ℕ) → StepResult State
+sealed_as s name body = (line (codes "sealed") (name ∷ decimal (length body) ∷ []), with_file s name (Sealed (sealed body)))
 
-abbrev pub write_step : State → List ℕ → SegmentComponent → List ℕ → Told
-write_step s id component bytes = write_of s id component bytes (live_at s id)
+abbrev pub seal_name : State → List ℕ → StepResult State
+seal_name s name = given s (written_to (file_at s name)) (codes "not-open") (sealed_as s name)
 
 -- an open file is sealed
-abbrev pub seal_name : State → List ℕ → Option FileState → Told
-seal_name s name (Some (Open body)) =
-    (line (codes "sealed") (name ∷ decimal (length body) ∷ []), with_file s name (Sealed (sealed body)))
-seal_name s name (Some (Sealed body)) = refuse s (codes "not-open")
-seal_name s name (Some Left) = refuse s (codes "not-open")
-seal_name s name None = refuse s (codes "not-open")
-
-abbrev pub seal_of : State → List ℕ → SegmentComponent → Option LiveSegment → Told
-seal_of s id component None = refuse s (codes "unknown-segment")
-seal_of s id component (Some segment) =
-    seal_name s (name_of id segment.deletes component) (file_at s (name_of id segment.deletes component))
-
-abbrev pub seal_step : State → List ℕ → SegmentComponent → Told
-seal_step s id component = seal_of s id component (live_at s id)
+abbrev pub seal_step : State → List ℕ → SegmentComponent → StepResult State
+seal_step s id component =
+    given s (live_at s.catalog id) (codes "unknown-segment") (λ segment. seal_name s (name_of id segment.deletes component))

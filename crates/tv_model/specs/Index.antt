@@ -8,7 +8,7 @@ use Rattle.tv_model.specs.Listing.{Lists}
 use Rattle.tv_model.specs.Segments.{all_required}
 use Rattle.tv_model.specs.Commits.{Commit, Settings, default_settings, Means, first_commit}
 use Rattle.tv_model.specs.CommitEvents.{last_stamp}
-use Rattle.tv_model.specs.State.{State, FileState, Sealed, Open, Left, file_at, no_readers}
+use Rattle.tv_model.specs.State.{Catalog, State, FileState, Sealed, Open, Left, file_at, no_readers}
 
 -- a file of the machine, next to what its name reads
 abbrev pub FileReads : Option FileState → Option (List ℕ) → Type 0
@@ -25,7 +25,7 @@ IsFileOf name = (is_undotted name ≡ true) × (name ≢ meta_name)
 pub record DirectoryHolds (settings : Settings) (schema : List ℕ) (reads : Reads) (s : State) : Type 0 where
   pub names : (n : List ℕ) → is_some (file_at s n) ≡ true → IsFileOf n
   pub files : (n : List ℕ) → IsFileOf n → FileReads (file_at s n) (reads n)
-  pub meta : (text : List ℕ) × (reads meta_name ≡ Some text) × Means settings schema text s.commit
+  pub meta : (text : List ℕ) × (reads meta_name ≡ Some text) × Means settings schema text s.catalog.commit
   pub listing : Lists (reads list_name) s.managed
 
 -- the commit's required files are there and can be read
@@ -50,17 +50,17 @@ next_after opstamp = if opstamp == last_stamp then last_stamp else opstamp + 1
 
 -- the commit and the managed names with which an index opens; where there is no `meta.json`, an empty commit is made
 abbrev pub OpensWith : Settings → List ℕ → Option (List ℕ) → List (List ℕ) → State → Type 0
-OpensWith settings schema None listed s = (settings ≡ default_settings) × (s.commit ≡ first_commit) × (s.managed ≡ insert_key byte_cmp listed meta_name)
-OpensWith settings schema (Some text) listed s = Means settings schema text s.commit × (s.managed ≡ listed)
+OpensWith settings schema None listed s = (settings ≡ default_settings) × (s.catalog.commit ≡ first_commit) × (s.managed ≡ insert_key byte_cmp listed meta_name)
+OpensWith settings schema (Some text) listed s = Means settings schema text s.catalog.commit × (s.managed ≡ listed)
 
 -- a directory that reads so opens to this state
 pub record OpensTo (settings : Settings) (schema : List ℕ) (reads : Reads) (s : State) : Type 0 where
   pub listed : List (List ℕ)
   pub listing : Lists (reads list_name) listed
   pub opened : OpensWith settings schema (reads meta_name) listed s
-  pub live : s.live ≡ s.commit.segments
-  pub next : s.next ≡ next_after s.commit.opstamp
-  pub reading : s.reading ≡ no_readers
+  pub live : s.catalog.live ≡ s.catalog.commit.segments
+  pub next : s.catalog.next ≡ next_after s.catalog.commit.opstamp
+  pub reading : s.catalog.reading ≡ no_readers
   pub names : (n : List ℕ) → is_some (file_at s n) ≡ true → IsFileOf n
   pub files : (n : List ℕ) → IsFileOf n → file_at s n ≡ option_map Sealed (reads n)
 
@@ -69,6 +69,10 @@ pub record HasNoIndex (reads : Reads) : Type 0 where
   pub listing : reads list_name ≡ None
   pub meta : reads meta_name ≡ None
 
+-- the catalog of an index that was just made
+abbrev pub first_catalog : Catalog
+first_catalog = record { live = []; next = 1; commit = first_commit; reading = no_readers }
+
 -- the state of an index that was just made in a directory without files
 abbrev pub first_state : State
-first_state = record { files = []; managed = meta_name ∷ []; live = []; next = 1; commit = first_commit; reading = no_readers }
+first_state = record { catalog = first_catalog; files = []; managed = meta_name ∷ [] }

@@ -1,35 +1,47 @@
 -- The machine: one step, and a run of steps.
-use Rattle.std.specs.Prelude.{ℕ, ◌+◌, Bool, not, List, [], ◌∷◌, map, filter, length}
+use Rattle.std.specs.Prelude.{ℕ, ◌+◌, Bool, not, List, [], ◌∷◌, map, filter, length, Option, Some, None}
 use Rattle.tv_model.specs.declared.event.Event.{Event}
 use Rattle.tv_model.specs.declared.event.Event.TheVariants as events
-use Rattle.tv_model.specs.State.{State, Told}
+use Rattle.tv_model.specs.State.{Catalog, State, StepResult, on_catalog}
 use Rattle.tv_model.specs.Lines.{opening_line}
 use Rattle.tv_model.specs.SegmentEvents.{segment_step, docs_step}
 use Rattle.tv_model.specs.FileEvents.{open_step, write_step, seal_step}
 use Rattle.tv_model.specs.CommitEvents.{commit_step}
 use Rattle.tv_model.specs.CollectionEvents.{gc_step, release_segment_step}
-use Rattle.tv_model.specs.ReaderEvents.{reader_step, reload_step, release_reader_step}
+use Rattle.tv_model.specs.ReaderEvents.{bodies_in, reader_step, reload_step, release_reader_step}
 use Rattle.tv_model.specs.SearcherEvents.{searcher_step, show_step, bytes_step, release_searcher_step}
 use Rattle.tv_model.specs.ReportEvents.{managed_step}
 
+-- the step of an event that touches no file, beside these managed names; none where the event touches files
+abbrev pub catalog_step : Catalog → (managed : List (List ℕ)) → Event → Option (StepResult Catalog)
+catalog_step c managed (events.Segment id) = Some (segment_step c managed id)
+catalog_step c managed (events.Docs id n) = Some (docs_step c id n)
+catalog_step c managed (events.Searcher number) = Some (searcher_step c number)
+catalog_step c managed (events.Show number) = Some (show_step c number)
+catalog_step c managed (events.Bytes number ord component) = Some (bytes_step c number ord component)
+catalog_step c managed (events.ReleaseReader number) = Some (release_reader_step c number)
+catalog_step c managed (events.ReleaseSearcher number) = Some (release_searcher_step c number)
+catalog_step c managed events.Managed = Some (managed_step c managed)
+catalog_step c managed other = None
+
 -- What an event tells, and the state after it. The outcomes say which deletes that it asks for are refused; only a collection asks for some.
-abbrev pub step : State → Event → List Bool → Told
-step s (events.Segment id) outcomes = segment_step s id
+abbrev pub step : State → Event → List Bool → StepResult State
+step s (events.Segment id) outcomes = on_catalog s (segment_step s.catalog s.managed id)
 step s (events.Open id component) outcomes = open_step s id component
 step s (events.Write id component bytes) outcomes = write_step s id component bytes
 step s (events.Seal id component) outcomes = seal_step s id component
-step s (events.Docs id n) outcomes = docs_step s id n
+step s (events.Docs id n) outcomes = on_catalog s (docs_step s.catalog id n)
 step s (events.Commit payload ids) outcomes = commit_step s payload ids
 step s events.Gc outcomes = gc_step s outcomes
-step s (events.Reader policy) outcomes = reader_step s policy
-step s (events.Reload number) outcomes = reload_step s number
-step s (events.Searcher number) outcomes = searcher_step s number
-step s (events.Show number) outcomes = show_step s number
-step s (events.Bytes number ord component) outcomes = bytes_step s number ord component
+step s (events.Reader policy) outcomes = on_catalog s (reader_step s.catalog policy (bodies_in s s.catalog.commit))
+step s (events.Reload number) outcomes = on_catalog s (reload_step s.catalog number (bodies_in s s.catalog.commit))
+step s (events.Searcher number) outcomes = on_catalog s (searcher_step s.catalog number)
+step s (events.Show number) outcomes = on_catalog s (show_step s.catalog number)
+step s (events.Bytes number ord component) outcomes = on_catalog s (bytes_step s.catalog number ord component)
 step s (events.ReleaseSegment id) outcomes = release_segment_step s id
-step s (events.ReleaseReader number) outcomes = release_reader_step s number
-step s (events.ReleaseSearcher number) outcomes = release_searcher_step s number
-step s events.Managed outcomes = managed_step s
+step s (events.ReleaseReader number) outcomes = on_catalog s (release_reader_step s.catalog number)
+step s (events.ReleaseSearcher number) outcomes = on_catalog s (release_searcher_step s.catalog number)
+step s events.Managed outcomes = on_catalog s (managed_step s.catalog s.managed)
 
 -- an event of a run, with the outcomes of its deletes
 abbrev pub Turn : Type 0

@@ -14,12 +14,12 @@ IsGoodFile s name = (bytes : List ℕ) × (file_at s name ≡ Some (Sealed bytes
 
 -- so is each file that the commit requires
 pub record CanRead (s : State) : Type 0 where
-  pub each : (n : List ℕ) → has (all_required s.commit.segments) n ≡ true → IsGoodFile s n
+  pub each : (n : List ℕ) → has (all_required s.catalog.commit.segments) n ≡ true → IsGoodFile s n
 
 -- an event that reads the commit's files can do so
 abbrev pub ReadsGood : State → Event → Type 0
 ReadsGood s (events.Reader policy) = CanRead s
-ReadsGood s (events.Reload number) = IsSome (reader_at s number) → CanRead s
+ReadsGood s (events.Reload number) = IsSome (reader_at s.catalog number) → CanRead s
 ReadsGood s other = Unit {0}
 
 -- so can each event of a run

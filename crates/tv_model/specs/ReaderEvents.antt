@@ -8,8 +8,8 @@ use Rattle.tv_model.specs.declared.reload_policy.ReloadPolicy.{ReloadPolicy}
 use Rattle.tv_model.specs.Footer.{body_of}
 use Rattle.tv_model.specs.Segments.{required_names}
 use Rattle.tv_model.specs.Commits.{Commit}
-use Rattle.tv_model.specs.State.{State, Told, FileState, Sealed, Open, Left, Snapshot, Reader, file_at, reader_at}
-use Rattle.tv_model.specs.Lines.{line, refuse}
+use Rattle.tv_model.specs.State.{Catalog, State, StepResult, FileState, Sealed, Open, Left, Snapshot, Reader, file_at, reader_at}
+use Rattle.tv_model.specs.Lines.{line, given}
 
 -- the body of a sealed file
 abbrev pub body_in : Option FileState → List ℕ
@@ -24,39 +24,44 @@ bodies_in s commit = map (λ e. map (λ name. body_in (file_at s name)) (require
 
 -- the current commit, shown under this number
 abbrev pub snapshot_in : State → ℕ → Snapshot
-snapshot_in s generation = record { generation = generation; commit = s.commit; bodies = bodies_in s s.commit }
+snapshot_in s generation = record { generation = generation; commit = s.catalog.commit; bodies = bodies_in s s.catalog.commit }
 
-abbrev pub with_reader : State → ℕ → Reader → State
-with_reader s number reader = record s { reading = record s.reading { readers = insert_entry nat_cmp s.reading.readers number reader } }
+-- a new reader, which shows this
+abbrev pub with_new_reader : Catalog → ReloadPolicy → Snapshot → Catalog
+with_new_reader c policy shown = record c {
+  reading = record c.reading {
+    readers = insert_entry nat_cmp c.reading.readers c.reading.next_reader (record { policy = policy; next = 1; shown = shown });
+    next_reader = c.reading.next_reader + 1;
+  };
+}
 
--- a new reader, which shows the current commit
-abbrev pub reader_step : State → ReloadPolicy → Told
-reader_step s policy = (
-  line (codes "reader") (decimal s.reading.next_reader ∷ decimal 0 ∷ decimal s.commit.opstamp ∷ []),
-  record s {
-    reading = record s.reading {
-      readers = insert_entry nat_cmp s.reading.readers s.reading.next_reader (record { policy = policy; next = 1; shown = snapshot_in s 0 });
-      next_reader = s.reading.next_reader + 1;
-    };
-  },
+-- a new reader shows the current commit, with the bodies of its files
+abbrev pub reader_step : Catalog → ReloadPolicy → (bodies : List (List (List ℕ))) → StepResult Catalog
+reader_step c policy bodies = (
+  line (codes "reader") (decimal c.reading.next_reader ∷ decimal 0 ∷ decimal c.commit.opstamp ∷ []),
+  with_new_reader c policy (record { generation = 0; commit = c.commit; bodies = bodies }),
 )
 
-abbrev pub reload_of : State → ℕ → Option Reader → Told
-reload_of s number None = refuse s (codes "unknown-reader")
-reload_of s number (Some reader) = (
-  line (codes "published") (decimal number ∷ decimal reader.next ∷ decimal s.commit.opstamp ∷ []),
-  with_reader s number (record reader { next = reader.next + 1; shown = snapshot_in s reader.next }),
+-- this reader shows this from now on
+abbrev pub with_reloaded : Catalog → ℕ → Reader → Snapshot → Catalog
+with_reloaded c number reader shown = record c {
+  reading = record c.reading { readers = insert_entry nat_cmp c.reading.readers number (record reader { next = reader.next + 1; shown = shown }) };
+}
+
+abbrev pub reloaded : Catalog → ℕ → (bodies : List (List (List ℕ))) → Reader → StepResult Catalog
+reloaded c number bodies reader = (
+  line (codes "published") (decimal number ∷ decimal reader.next ∷ decimal c.commit.opstamp ∷ []),
+  with_reloaded c number reader (record { generation = reader.next; commit = c.commit; bodies = bodies }),
 )
 
--- a reader shows the current commit
-abbrev pub reload_step : State → ℕ → Told
-reload_step s number = reload_of s number (reader_at s number)
+-- a reader shows the current commit, with the bodies of its files
+abbrev pub reload_step : Catalog → ℕ → (bodies : List (List (List ℕ))) → StepResult Catalog
+reload_step c number bodies = given c (reader_at c number) (codes "unknown-reader") (reloaded c number bodies)
 
-abbrev pub release_reader_of : State → ℕ → Option Reader → Told
-release_reader_of s number None = refuse s (codes "unknown-reader")
-release_reader_of s number (Some reader) =
-    (codes "released", record s { reading = record s.reading { readers = remove_entry (is_at (nat_cmp number)) s.reading.readers } })
+abbrev pub without_reader : Catalog → ℕ → Catalog
+without_reader c number = record c { reading = record c.reading { readers = remove_entry (is_at (nat_cmp number)) c.reading.readers } }
 
 -- a reader ends
-abbrev pub release_reader_step : State → ℕ → Told
-release_reader_step s number = release_reader_of s number (reader_at s number)
+abbrev pub release_reader_step : Catalog → ℕ → StepResult Catalog
+release_reader_step c number =
+    given c (reader_at c number) (codes "unknown-reader") (λ reader. (codes "released", without_reader c number))

@@ -10,28 +10,26 @@ use Rattle.tv_model.specs.declared.segment.LiveSegment.{LiveSegment}
 use Rattle.tv_model.specs.declared.segment.SegmentComponent.{SegmentComponent}
 use Rattle.tv_model.specs.declared.segment.SegmentComponent.TheVariants.{Postings, Positions, FastFields, FieldNorms, Terms, Store, Delete}
 use Rattle.tv_model.specs.Segments.{num_docs, extension}
-use Rattle.tv_model.specs.State.{State, Told, Snapshot, Reader, reader_at, searcher_at}
-use Rattle.tv_model.specs.Lines.{line, refuse}
+use Rattle.tv_model.specs.State.{Catalog, StepResult, Snapshot, Reader, reader_at, searcher_at}
+use Rattle.tv_model.specs.Lines.{line, given}
 
 -- the searcher that gets this number shows what the reader shows
 abbrev pub searcher_line : ℕ → Reader → List ℕ
 searcher_line number reader = line (codes "searcher") (decimal number ∷ decimal reader.shown.generation ∷ decimal reader.shown.commit.opstamp ∷ [])
 
-abbrev pub searcher_of : State → Option Reader → Told
-searcher_of s None = refuse s (codes "unknown-reader")
-searcher_of s (Some reader) = (
-  searcher_line s.reading.next_searcher reader,
-  record s {
-    reading = record s.reading {
-      searchers = insert_entry nat_cmp s.reading.searchers s.reading.next_searcher reader.shown;
-      next_searcher = s.reading.next_searcher + 1;
-    };
-  },
-)
+-- a new searcher, which shows this
+abbrev pub with_searcher : Catalog → Snapshot → Catalog
+with_searcher c shown = record c {
+  reading = record c.reading {
+    searchers = insert_entry nat_cmp c.reading.searchers c.reading.next_searcher shown;
+    next_searcher = c.reading.next_searcher + 1;
+  };
+}
 
 -- a new searcher, which shows for life what a reader shows now
-abbrev pub searcher_step : State → ℕ → Told
-searcher_step s number = searcher_of s (reader_at s number)
+abbrev pub searcher_step : Catalog → ℕ → StepResult Catalog
+searcher_step c number =
+    given c (reader_at c number) (codes "unknown-reader") (λ reader. (searcher_line c.reading.next_searcher reader, with_searcher c reader.shown))
 
 -- a payload: `-` where there is none, else `+` and its bytes in lower-case digits
 abbrev pub payload_word : Option (List ℕ) → List ℕ
@@ -47,13 +45,9 @@ abbrev pub show_line : ℕ → Snapshot → List ℕ
 show_line number shown =
     line (codes "show") (decimal number ∷ decimal shown.commit.opstamp ∷ payload_word shown.commit.payload ∷ map segment_word shown.commit.segments)
 
-abbrev pub show_of : State → ℕ → Option Snapshot → Told
-show_of s number None = refuse s (codes "unknown-searcher")
-show_of s number (Some shown) = (show_line number shown, s)
-
 -- the commit that a searcher shows
-abbrev pub show_step : State → ℕ → Told
-show_step s number = show_of s number (searcher_at s number)
+abbrev pub show_step : Catalog → ℕ → StepResult Catalog
+show_step c number = given c (searcher_at c number) (codes "unknown-searcher") (λ shown. (show_line number shown, c))
 
 -- the place of a component in their order
 abbrev pub place_of : SegmentComponent → ℕ
@@ -82,23 +76,16 @@ bytes_word (b ∷ bytes) = encode_lower (b ∷ bytes)
 abbrev pub bytes_line : ℕ → ℕ → SegmentComponent → List ℕ → List ℕ
 bytes_line number ord component body = line (codes "bytes") (decimal number ∷ decimal ord ∷ extension component ∷ bytes_word body ∷ [])
 
-abbrev pub bytes_found : State → ℕ → ℕ → SegmentComponent → Option (List ℕ) → Told
-bytes_found s number ord component None = refuse s (codes "unknown-file")
-bytes_found s number ord component (Some body) = (bytes_line number ord component body, s)
-
-abbrev pub bytes_of : State → ℕ → ℕ → SegmentComponent → Option Snapshot → Told
-bytes_of s number ord component None = refuse s (codes "unknown-searcher")
-bytes_of s number ord component (Some shown) = bytes_found s number ord component (body_at shown ord component)
-
 -- the body of a file that a searcher shows
-abbrev pub bytes_step : State → ℕ → ℕ → SegmentComponent → Told
-bytes_step s number ord component = bytes_of s number ord component (searcher_at s number)
+abbrev pub bytes_step : Catalog → ℕ → ℕ → SegmentComponent → StepResult Catalog
+bytes_step c number ord component =
+    given c (searcher_at c number) (codes "unknown-searcher") (λ shown.
+    given c (body_at shown ord component) (codes "unknown-file") (λ body. (bytes_line number ord component body, c)))
 
-abbrev pub release_searcher_of : State → ℕ → Option Snapshot → Told
-release_searcher_of s number None = refuse s (codes "unknown-searcher")
-release_searcher_of s number (Some shown) =
-    (codes "released", record s { reading = record s.reading { searchers = remove_entry (is_at (nat_cmp number)) s.reading.searchers } })
+abbrev pub without_searcher : Catalog → ℕ → Catalog
+without_searcher c number = record c { reading = record c.reading { searchers = remove_entry (is_at (nat_cmp number)) c.reading.searchers } }
 
 -- a searcher ends
-abbrev pub release_searcher_step : State → ℕ → Told
-release_searcher_step s number = release_searcher_of s number (searcher_at s number)
+abbrev pub release_searcher_step : Catalog → ℕ → StepResult Catalog
+release_searcher_step c number =
+    given c (searcher_at c number) (codes "unknown-searcher") (λ shown. (codes "released", without_searcher c number))

@@ -1,34 +1,36 @@
 -- The events on live segments.
-use Rattle.std.specs.Prelude.{ℕ, List, [], ◌∷◌, codes, Option, Some, None, Bool, is_some, is_none, nat_eq, if◌then◌else◌, ◌==◌, ◌||◌, ◌&&◌}
+use Rattle.std.specs.Prelude.{ℕ, List, [], ◌∷◌, codes, None, Bool, not, is_some, nat_eq, ◌==◌, ◌||◌}
 use Rattle.std.specs.Fmt.{decimal}
 use Rattle.std.specs.List.{list_any, starts_with}
 use Rattle.hex.specs.Hex.{encode_lower}
 use Rattle.tv_model.specs.declared.segment.LiveSegment.{LiveSegment}
-use Rattle.tv_model.specs.State.{State, Told, at, live_at, with_live}
-use Rattle.tv_model.specs.Lines.{line, refuse}
+use Rattle.tv_model.specs.State.{Catalog, StepResult, at, live_at, with_live}
+use Rattle.tv_model.specs.Lines.{line, unless, given}
 
 -- some managed name begins with the id
 abbrev pub is_named : List (List ℕ) → List ℕ → Bool
 is_named managed id = list_any (λ name. starts_with nat_eq name (encode_lower id)) managed
+
+-- the id is that of a live segment or of one of the commit, or a managed name begins with it
+abbrev pub is_in_use : Catalog → (managed : List (List ℕ)) → List ℕ → Bool
+is_in_use c managed id = is_some (live_at c id) || is_some (at c.commit.segments id) || is_named managed id
 
 -- a segment without documents and deletes
 abbrev pub fresh_segment : LiveSegment
 fresh_segment = record { max_doc = 0; deletes = None }
 
 -- a new live segment
-abbrev pub segment_step : State → List ℕ → Told
-segment_step s id =
-    if is_some (live_at s id) || is_some (at s.commit.segments id) || is_named s.managed id
-    then refuse s (codes "id-in-use")
-    else (line (codes "segment") (encode_lower id ∷ []), with_live s id fresh_segment)
+abbrev pub segment_step : Catalog → (managed : List (List ℕ)) → List ℕ → StepResult Catalog
+segment_step c managed id =
+    unless c ((is_in_use c managed id, codes "id-in-use" ∷ []) ∷ [])
+    (line (codes "segment") (encode_lower id ∷ []), with_live c id fresh_segment)
 
-abbrev pub docs_of : State → List ℕ → ℕ → Option LiveSegment → Told
-docs_of s id n None = refuse s (codes "unknown-segment")
-docs_of s id n (Some segment) =
-    if (segment.max_doc == 0) && is_none segment.deletes
-    then (line (codes "docs") (encode_lower id ∷ decimal n ∷ []), with_live s id (record segment { max_doc = n }))
-    else refuse s (codes "wrong-docs")
+-- a segment has documents, or deletes
+abbrev pub has_docs : LiveSegment → Bool
+has_docs segment = not (segment.max_doc == 0) || is_some segment.deletes
 
--- the number of a live segment's documents, said once
-abbrev pub docs_step : State → List ℕ → ℕ → Told
-docs_step s id n = docs_of s id n (live_at s id)
+-- the number of documents of a live segment that has none yet
+abbrev pub docs_step : Catalog → List ℕ → ℕ → StepResult Catalog
+docs_step c id n = given c (live_at c id) (codes "unknown-segment") (λ segment.
+    unless c ((has_docs segment, codes "wrong-docs" ∷ []) ∷ [])
+    (line (codes "docs") (encode_lower id ∷ decimal n ∷ []), with_live c id (record segment { max_doc = n })))

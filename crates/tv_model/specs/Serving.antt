@@ -4,9 +4,10 @@ use Rattle.tv_model.specs.declared.event.Event.TheVariants as events
 use Rattle.tv_model.specs.Names.{has}
 use Rattle.tv_model.specs.Segments.{all_required}
 use Rattle.tv_model.specs.Footer.{HasBody}
-use Rattle.tv_model.specs.State.{State, Sealed, Snapshot, Reader, file_at, reader_at, searcher_at}
+use Rattle.tv_model.specs.State.{State, Sealed, Snapshot, Reader, file_at, reader_at, searcher_at, no_readers}
 use Rattle.tv_model.specs.ReaderEvents.{body_in, snapshot_in}
 use Rattle.tv_model.specs.Machine.{Turn, after}
+use Rattle.tv_model.specs.Index.{next_after}
 
 -- a snapshot shows the commit of a state that the run came to, with the bodies of its files as they were then
 abbrev pub Shows : State → List Turn → Snapshot → Type 0
@@ -14,23 +15,35 @@ Shows s turns shown = (front : List Turn) × (rest : List Turn) × (turns ≡ fr
 
 -- each file that the current commit requires is sealed, and what is shown of it is the body with which it was sealed
 abbrev pub ShowsAsSealed : State → Type 0
-ShowsAsSealed s = (n : List ℕ) → has (all_required s.commit.segments) n ≡ true
+ShowsAsSealed s = (n : List ℕ) → has (all_required s.catalog.commit.segments) n ≡ true
     → (bytes : List ℕ) × (body : List ℕ) × (file_at s n ≡ Some (Sealed bytes)) × HasBody bytes body × (body_in (file_at s n) ≡ body)
+
+-- a state as it is when an index was just opened: nobody reads, and the next commit gets the number after the current one
+pub record IsJustOpened (s : State) : Type 0 where
+  pub reading : s.catalog.reading ≡ no_readers
+  pub next : s.catalog.next ≡ next_after s.catalog.commit.opstamp
 
 -- what the readers and searchers of a run show
 pub record Serves (s : State) (turns : List Turn) : Type 0 where
   -- a searcher shows one commit of the run
-  pub one_commit : (front rest : List Turn) (n : ℕ) (shown : Snapshot) → turns ≡ front ++ rest → searcher_at (after s front) n ≡ Some shown → Shows s front shown
+  pub one_commit : (front rest : List Turn) (n : ℕ) (shown : Snapshot) → turns ≡ front ++ rest
+      → searcher_at (after s front).catalog n ≡ Some shown → Shows s front shown
   -- the same for life
-  pub for_life : (front middle rest : List Turn) (n : ℕ) (first later : Snapshot) → turns ≡ front ++ middle ++ rest → searcher_at (after s front) n ≡ Some first
-      → searcher_at (after s (front ++ middle)) n ≡ Some later → later ≡ first
+  pub for_life : (front middle rest : List Turn) (n : ℕ) (first later : Snapshot)
+      → turns ≡ front ++ middle ++ rest → searcher_at (after s front).catalog n ≡ Some first
+      → searcher_at (after s (front ++ middle)).catalog n ≡ Some later → later ≡ first
   -- a reader never goes back
-  pub never_back : (front middle rest : List Turn) (n : ℕ) (first later : Reader) → turns ≡ front ++ middle ++ rest → reader_at (after s front) n ≡ Some first
-      → reader_at (after s (front ++ middle)) n ≡ Some later → first.shown.commit.opstamp ≤ later.shown.commit.opstamp
+  pub never_back : (front middle rest : List Turn) (n : ℕ) (first later : Reader)
+      → turns ≡ front ++ middle ++ rest → reader_at (after s front).catalog n ≡ Some first
+      → reader_at (after s (front ++ middle)).catalog n ≡ Some later
+      → first.shown.commit.opstamp ≤ later.shown.commit.opstamp
   -- a new searcher shows what its reader shows
-  pub as_reader : (front rest : List Turn) (n : ℕ) (outcomes : List Bool) (reader : Reader) → turns ≡ front ++ (events.Searcher n, outcomes) ∷ rest → reader_at (after s front) n ≡ Some reader
-      → searcher_at (after s (front ++ (events.Searcher n, outcomes) ∷ [])) (after s front).reading.next_searcher ≡ Some reader.shown
+  pub as_reader : (front rest : List Turn) (n : ℕ) (outcomes : List Bool) (reader : Reader)
+      → turns ≡ front ++ (events.Searcher n, outcomes) ∷ rest
+      → reader_at (after s front).catalog n ≡ Some reader
+      → searcher_at (after s (front ++ (events.Searcher n, outcomes) ∷ [])).catalog (after s front).catalog.reading.next_searcher ≡ Some reader.shown
 
 -- and each state of a run, whose commit readers may come to show, shows bodies as they were sealed
 abbrev pub ServesAsSealed : State → List Turn → Type 0
-ServesAsSealed s turns = (front rest : List Turn) → turns ≡ front ++ rest → ShowsAsSealed (after s front)
+ServesAsSealed s turns = (front rest : List Turn) → turns ≡ front ++ rest
+    → ShowsAsSealed (after s front)

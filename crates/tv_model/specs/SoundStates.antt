@@ -9,7 +9,8 @@ use Rattle.tv_model.specs.Index.{IsFileOf}
 
 -- the files that the commit requires are sealed
 pub record IsWhole (s : State) : Type 0 where
-  pub each : (n : List ℕ) → has (all_required s.commit.segments) n ≡ true → is_sealed (file_at s n) ≡ true
+  pub each : (n : List ℕ) → has (all_required s.catalog.commit.segments) n ≡ true
+      → is_sealed (file_at s n) ≡ true
 
 -- every file is managed and has a name of its own kind, each sealed file opens, and the commit's required files are sealed
 pub record IsSoundState (s : State) : Type 0 where

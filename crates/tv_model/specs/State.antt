@@ -37,31 +37,35 @@ pub record Readers : Type 0 where
 abbrev pub no_readers : Readers
 no_readers = record { readers = []; searchers = []; next_reader = 0; next_searcher = 0 }
 
--- the files whose names have no dot in front, `meta.json` apart; the managed names; the live segments; the number that the next commit gets; the current commit; who reads
-pub record State : Type 0 where
-  pub files : List (List ℕ × FileState)
-  pub managed : List (List ℕ)
+-- what is known of an index beside its files and their names: the live segments, the number that the next commit gets, the current commit, and who reads
+pub record Catalog : Type 0 where
   pub live : List (List ℕ × LiveSegment)
   pub next : ℕ
   pub commit : Commit
   pub reading : Readers
 
--- an answer line, and the state after it
-abbrev pub Told : Type 0
-Told = List ℕ × State
+-- the catalog of an index; its files, whose names have no dot in front, `meta.json` apart; and the managed names
+pub record State : Type 0 where
+  pub catalog : Catalog
+  pub files : List (List ℕ × FileState)
+  pub managed : List (List ℕ)
+
+-- an answer line, and what stands after it
+abbrev pub StepResult : Type 0 → Type 0
+StepResult S = List ℕ × S
 
 -- what stands at a key
 abbrev pub at : {X : Type 0} → List (List ℕ × X) → List ℕ → Option X
 at entries key = lookup (is_at (byte_cmp key)) entries
 
-abbrev pub live_at : State → List ℕ → Option LiveSegment
-live_at s id = at s.live id
+abbrev pub live_at : Catalog → List ℕ → Option LiveSegment
+live_at c id = at c.live id
 
 abbrev pub file_at : State → List ℕ → Option FileState
 file_at s name = at s.files name
 
-abbrev pub with_live : State → List ℕ → LiveSegment → State
-with_live s id segment = record s { live = insert_entry byte_cmp s.live id segment }
+abbrev pub with_live : Catalog → List ℕ → LiveSegment → Catalog
+with_live c id segment = record c { live = insert_entry byte_cmp c.live id segment }
 
 abbrev pub with_file : State → List ℕ → FileState → State
 with_file s name file = record s { files = insert_entry byte_cmp s.files name file }
@@ -70,8 +74,12 @@ with_file s name file = record s { files = insert_entry byte_cmp s.files name fi
 abbrev pub at_number : {X : Type 0} → List (ℕ × X) → ℕ → Option X
 at_number entries number = lookup (is_at (nat_cmp number)) entries
 
-abbrev pub reader_at : State → ℕ → Option Reader
-reader_at s number = at_number s.reading.readers number
+abbrev pub reader_at : Catalog → ℕ → Option Reader
+reader_at c number = at_number c.reading.readers number
 
-abbrev pub searcher_at : State → ℕ → Option Snapshot
-searcher_at s number = at_number s.reading.searchers number
+abbrev pub searcher_at : Catalog → ℕ → Option Snapshot
+searcher_at c number = at_number c.reading.searchers number
+
+-- what a step of the catalog tells, and the state with the catalog after it
+abbrev pub on_catalog : State → StepResult Catalog → StepResult State
+on_catalog s result = (result.0, record s { catalog = result.1 })

@@ -14,8 +14,11 @@ are_plain names = list_all is_plain names
 
 -- the line of a collection tells which of these names were done and which failed
 abbrev pub Tells : List (List ℕ) → Type 0
-Tells names = (a b : List Bool) → collected_line (done_of names a) (failed_of names a) ≡ collected_line (done_of names b) (failed_of names b) → (done_of names a ≡ done_of names b) × (failed_of names a ≡ failed_of names b)
+Tells names = (a b : List Bool)
+    → collected_line (done_of names a) (failed_of names a) ≡ collected_line (done_of names b) (failed_of names b)
+    → (done_of names a ≡ done_of names b) × (failed_of names a ≡ failed_of names b)
 
 -- the lines of a run from this state, and its events, determine the state that it comes to
 abbrev pub Determined : State → Type 0
-Determined s = (a b : List Turn) → AllByRecursion Fits (events_of a) → events_of a ≡ events_of b → report s a ≡ report s b → after s a ≡ after s b
+Determined s = (a b : List Turn) → AllByRecursion Fits (events_of a) → events_of a ≡ events_of b
+    → report s a ≡ report s b → after s a ≡ after s b

@@ -2,6 +2,7 @@
 ghost use Rattle.std.specs.Prelude.{◌≡◌, ◌∷◌, ◌++◌, true, IfOk};
 ghost use Rattle.std.specs.Fmt.{decimal};
 ghost use Rattle.hex.specs.Hex.{encode_lower};
+ghost use Rattle.tv_model.specs.Ids.{IsId};
 ghost use Rattle.tv_model.specs.Lines.{has_no_feed};
 ghost use Rattle.tv_model.specs.SearcherEvents.{payload_word, segment_word, bytes_word};
 
@@ -53,7 +54,8 @@ impl Answer {
 
     /// The line with an id, in lower-case digits.
     pub fn id(self, id: SegmentId) -> Result<Answer, Memory>
-        ensures { IfOk result (λ line. line ≡ self ++ 32 ∷ encode_lower id) }
+        ensures line { IfOk result (λ line. line ≡ self ++ 32 ∷ encode_lower id) }
+        ensures id { IsId id }
     {
         let mut digits = [0; 32];
         id.write_digits(&mut digits);

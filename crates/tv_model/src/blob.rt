@@ -85,8 +85,8 @@ impl Model for IdList {
 impl IdList {
     /// These ids, where none of them stands twice.
     ///
-    /// With memory for a set of them the time grows as that of a sort. Where memory is wanting, each
-    /// id is compared with all after it: slower, and the answer is the same.
+    /// With memory for a set of them the time grows as that of a sort. Where memory is wanting,
+    /// each id is compared with all after it: slower, and the answer is the same.
     pub fn new(ids: Vec<SegmentId>) -> Option<IdList>
         ensures distinct { IsSome result ↔ (are_distinct ids.items ≡ true) }
         ensures list { IfSome result (λ list. list ≡ ids.items) }

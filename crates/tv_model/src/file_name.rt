@@ -1,11 +1,13 @@
 //! The names of files.
-ghost use Rattle.std.specs.Prelude.{◌≡◌, ◌<◌, ◌^◌, ◌++◌, true, nat_eq, codes, string_bytes, IfOk};
+ghost use Rattle.std.specs.Prelude.{◌≡◌, ◌<◌, ◌^◌, ◌++◌, true, nat_eq, codes};
+ghost use Rattle.std.specs.Prelude.{string_bytes, IfOk};
 ghost use Rattle.std.specs.Fmt.{decimal};
 ghost use Rattle.hex.specs.Hex.{encode_lower};
 ghost use Rattle.std.proofs.Common.{rules};
 ghost use Rattle.std.specs.Cmp.Rules.{comparing};
 ghost use Rattle.std.specs.Cmp.Lexicographic.{pointwise, slice_cmp};
 ghost use Rattle.std.specs.Ordering.{nat_cmp, as_partial_cmp};
+ghost use Rattle.tv_model.specs.Ids.{IsId};
 ghost use Rattle.tv_model.specs.Names.{is_file_name, is_plain};
 ghost use Rattle.tv_model.specs.Segments.{name_of, delete_opstamp};
 
@@ -70,8 +72,8 @@ pub fn segment_file_name(
 ) -> Result<FileName, Memory>
     ensures name { IfOk result (λ name. name ≡ name_of id deletes component) }
     ensures plain { IfOk result (λ name. is_plain name ≡ true) }
+    ensures id { IsId id }
 {
-    let _id = id.as_bytes();
     if component == SegmentComponent::Delete {
         let opstamp = delete_opstamp(deletes);
         let text = delete_file_name(alloc, id, opstamp)?;
@@ -93,8 +95,9 @@ fn delete_opstamp(deletes: Option<DeleteMeta>) -> Opstamp
 
 // The name of a file that isn't a delete file.
 fn file_name(alloc: Global, id: SegmentId, extension: &str) -> Result<String, Memory>
-    ensures { IfOk result (λ text. string_bytes text
+    ensures name { IfOk result (λ text. string_bytes text
         ≡ encode_lower id ++ codes "." ++ extension.now) }
+    ensures id { IsId id }
 {
     let mut text = id.uuid_string(alloc)?;
     text.push_str(".")?;
@@ -106,6 +109,7 @@ fn file_name(alloc: Global, id: SegmentId, extension: &str) -> Result<String, Me
 fn delete_file_name(alloc: Global, id: SegmentId, opstamp: Opstamp) -> Result<String, Memory>
     ensures name { IfOk result (λ text. string_bytes text
         ≡ encode_lower id ++ codes "." ++ decimal opstamp ++ codes ".del") }
+    ensures id { IsId id }
     ensures small { opstamp < 2 ^ 64 }
 {
     let mut text = id.uuid_string(alloc)?;

@@ -45,7 +45,8 @@ impl SegmentId {
     /// Writes its 32 lower-case hexadecimal digits.
     pub fn write_digits(&self, digits: &mut [u8])
         requires { length digits.old ≡ 32 }
-        ensures { digits.new ≡ encode_lower self.now }
+        ensures digits { digits.new ≡ encode_lower self.now }
+        ensures id { IsId self.now }
     {
         let bytes: &[u8; 16] = self.as_bytes();
         let _ = hex::encode_to_slice(bytes.as_slice(), digits);
@@ -54,8 +55,9 @@ impl SegmentId {
     /// Its 32 lower-case hexadecimal digits.
     pub fn uuid_string(&self, alloc: Global) -> Result<String, Memory>
         ensures digits { IfOk result (λ text. string_bytes text ≡ encode_lower self.now) }
+        ensures id { IsId self.now }
     {
-        let text = hex::encode(alloc, self.0.as_bytes())?;
+        let text = hex::encode(alloc, self.as_bytes())?;
         Ok(text)
     }
 

@@ -5,21 +5,19 @@ ghost use Rattle.std.specs.List.Sorted.{IsStrictlySortedBy};
 ghost use Rattle.tv_model.specs.Collecting.{Collects, CollectsIn};
 ghost use Rattle.tv_model.specs.Footer.{HasBody, IsFramed, body_of, sealed};
 ghost use Rattle.tv_model.specs.FooterForm.{FooterNumbers};
-ghost use Rattle.tv_model.specs.Index.{next_after};
 ghost use Rattle.tv_model.specs.Machine.{Turn, events_of};
 ghost use Rattle.tv_model.specs.Names.{byte_cmp};
 ghost use Rattle.tv_model.specs.Script.{Fits};
-ghost use Rattle.tv_model.specs.Serving.{Serves, ServesAsSealed};
+ghost use Rattle.tv_model.specs.Serving.{IsJustOpened, Serves, ServesAsSealed};
 ghost use Rattle.tv_model.specs.SoundStates.{IsSoundState};
-ghost use Rattle.tv_model.specs.State.{State, no_readers};
+ghost use Rattle.tv_model.specs.State.{State};
 ghost use Rattle.tv_model.specs.Telling.{Determined, Tells, are_plain};
 
 /// In each run of an index that was just opened, a searcher shows one commit of the run for life,
 /// and a reader never shows an older commit than it showed before. From a sound state on, what is
 /// shown of a file is the body with which it was sealed.
 pub fn searchers_keep_their_commit()
-    ensures serves { (s : State) (turns : List Turn) → s.reading ≡ no_readers
-        → s.next ≡ next_after s.commit.opstamp → Serves s turns }
+    ensures serves { (s : State) (turns : List Turn) → IsJustOpened s → Serves s turns }
     ensures as_sealed { (s : State) (turns : List Turn) → IsSoundState s
         → AllByRecursion Fits (events_of turns) → ServesAsSealed s turns }
 {}

@@ -1,6 +1,6 @@
 -- A script replayed: how far a run has come, and what a whole run is.
 use Rattle.std.proofs.Common.{◌≡◌, ◌≢◌, ◌⊎◌, ℕ, ◌+◌, ◌*◌, ◌^◌, ◌≤◌, ◌<◌, true, true≢false, List, [], ◌∷◌, ◌++◌, length, Option, Some, None, refl, sym, ap, subst, ◌∙◌, arith, append_assoc, length-append, inl, inr}
-use Rattle.std.specs.Prelude.{Bool, IsSome, is_some, option_map}
+use Rattle.std.specs.Prelude.{IsSome, is_some, option_map}
 use Rattle.std.specs.List.{AllByRecursion}
 use Rattle.std.specs.List.Sorted.{IsStrictlySortedBy}
 use Rattle.std.specs.BTreeSet.{insert_key}
@@ -21,7 +21,7 @@ use Rattle.tv_managed.specs.Reading.{HasNoBody}
 use Rattle.tv_model.specs.Listing.{Lists}
 use Rattle.tv_model.specs.Commits.{Commit, is_schema, default_settings, Means}
 use Rattle.tv_model.specs.Segments.{all_required}
-use Rattle.tv_model.specs.State.{State, FileState, Sealed, Open, Left, file_at}
+use Rattle.tv_model.specs.State.{Catalog, State, FileState, Sealed, Open, Left, file_at}
 use Rattle.tv_model.specs.Lines.{opening_of}
 use Rattle.tv_model.specs.Readable.{AllReadGood}
 use Rattle.tv_model.specs.Machine.{Turn, step, answers, report, after, events_of, refused_in, all_refused}
@@ -36,7 +36,7 @@ use Rattle.tv_replay.specs.declared.next_event.ScriptError.{ScriptError}
 use Rattle.tv_replay.specs.declared.next_event.ScriptError.TheVariants as failed
 use Rattle.tv_replay.specs.declared.lines.LineError.TheVariants as line
 use Rattle.tv_replay.specs.declared.replaying.Tally.{Tally}
-use Rattle.tv_store.specs.Kept.{Kept, FileHolds, Holds, AtMost}
+use Rattle.tv_store.specs.Kept.{Kept, StoreState, FileHolds, Holds, AtMost}
 use Rattle.tv_directory.specs.declared.directory.Directory.{Ghosts}
 use Rattle.tv_store.specs.Opening.{Opens}
 use Rattle.tv_store.specs.Telling.{TellsLine, TellsLines}
@@ -91,20 +91,20 @@ pub one_more_line : (count : ℕ) → count * line_limit + line_limit ≡ (count
 one_more_line count = omega arith
 
 -- files stay far shorter than 64 bits of bytes, and numbers far below
-pub never_spent : (kept : Kept) (event : Event) (count : ℕ) → count < 2 ^ 32 → written_by event ≤ line_limit → AtMost (count * line_limit) kept → FewNumbers (count * line_limit) kept.reading → Spent kept event → ⊥
+pub never_spent : (kept : Kept) (event : Event) (count : ℕ) → count < 2 ^ 32 → written_by event ≤ line_limit → AtMost (count * line_limit) kept → FewNumbers (count * line_limit) kept.catalog.reading → Spent kept event → ⊥
 never_spent kept event count few small all numbers (inl spent) = let much : 2 ^ 64 ≤ count * line_limit + written_by event = spent (count * line_limit) all in omega arith
 never_spent kept event count few small all numbers (inr spent) = let much : 2 ^ 64 ≤ count * line_limit + written_by event = spent (count * line_limit) numbers in omega arith
 
 -- ---- how far a run has come
 
 -- these events were applied, and they are the lines that were read
-pub record Progress {O W C : Type 0} (g : Ghosts O W C) (old new : Kept × O × Bool) (text left : Option (List ℕ)) (count : ℕ) : Type 0 where
+pub record Progress {O W C : Type 0} (g : Ghosts O W C) (old new : StoreState O) (text left : Option (List ℕ)) (count : ℕ) : Type 0 where
   pub turns : List Turn
   pub counted : count ≡ length turns
   pub read : (whole : List ℕ) → text ≡ Some whole → ReadSoFar whole left (events_of turns)
   pub applied : Applies g old new turns
 
-pub starts : {O W C : Type 0} (g : Ghosts O W C) (store : Kept × O × Bool) (held : List ℕ) (text : Option (List ℕ)) → held ≡ [] → Progress g store store text (pending held text) 0
+pub starts : {O W C : Type 0} (g : Ghosts O W C) (store : StoreState O) (held : List ℕ) (text : Option (List ℕ)) → held ≡ [] → Progress g store store text (pending held text) 0
 starts g store held text none =
     record {
       turns = [];
@@ -114,7 +114,7 @@ starts g store held text none =
         fits = tt;
         schema = refl;
         holds = λ t s h w. h;
-        told = λ t th s h w. record { pieces = []; heard = sym (append-nil (g.view store.1).heard); each = refl };
+        told = λ t th s h w. record { pieces = []; heard = sym (append-nil (g.view store.outside).heard); each = refl };
         readable = λ t s h w. tt;
         refused = inl (omega arith);
       };
@@ -126,28 +126,28 @@ rose_more some more old now new (inl a) (inr b) = inr b
 rose_more some more old now new (inr a) (inr b) = inr b
 rose_more some more old now new (inr a) (inl b) = inr (omega arith)
 
-one_more_applied : {O W C : Type 0} (g : Ghosts O W C) (old now new : Kept × O × Bool) (turns : List Turn) (e : Event) (answer : List ℕ)
-    → Applies g old now turns → Fits e → new.0.schema ≡ now.0.schema → (stepped : Stepped g now new e answer)
-    → (g.told.heard → TellsLine (g.view now.1).heard (g.view new.1).heard (g.view now.1).moment (g.view new.1).moment answer)
+one_more_applied : {O W C : Type 0} (g : Ghosts O W C) (old now new : StoreState O) (turns : List Turn) (e : Event) (answer : List ℕ)
+    → Applies g old now turns → Fits e → new.kept.schema ≡ now.kept.schema → (stepped : Stepped g now new e answer)
+    → (g.told.heard → TellsLine (g.view now.outside).heard (g.view new.outside).heard (g.view now.outside).moment (g.view new.outside).moment answer)
     → Applies g old new (turns ++ (e, stepped.0) ∷ [])
 one_more_applied g old now new turns e answer a fits schema stepped said =
     let t : Turn = (e, stepped.0) in
     record {
       fits = subst (λ (es : List Event). AllByRecursion Fits es) (sym (events-last turns t)) (fits-last (events_of turns) e a.fits fits);
       schema = schema ∙ a.schema;
-      holds = λ tell s h w. subst (Holds (g.view new.1).reads new.0) (sym (after-last s turns t)) (stepped.2 tell (after s turns) (a.holds tell s h w) (after_whole s turns w)).1;
+      holds = λ tell s h w. subst (Holds (g.view new.outside).reads new.kept) (sym (after-last s turns t)) (stepped.2 tell (after s turns) (a.holds tell s h w) (after_whole s turns w)).1;
       told = λ tell th s h w.
-          let more = tells_more (g.view old.1).heard (g.view now.1).heard (g.view new.1).heard (g.view now.1).moment (g.view new.1).moment answer (answers s turns) (a.told tell th s h w) (said th) in
+          let more = tells_more (g.view old.outside).heard (g.view now.outside).heard (g.view new.outside).heard (g.view now.outside).moment (g.view new.outside).moment answer (answers s turns) (a.told tell th s h w) (said th) in
           let is : answer ≡ (step (after s turns) e stepped.0).0 = (stepped.2 tell (after s turns) (a.holds tell s h w) (after_whole s turns w)).0 in
-          subst (TellsLines (g.view old.1).heard (g.view new.1).heard) (ap (λ (line : List ℕ). answers s turns ++ line ∷ []) is ∙ sym (answers-last s turns t)) more;
+          subst (TellsLines (g.view old.outside).heard (g.view new.outside).heard) (ap (λ (line : List ℕ). answers s turns ++ line ∷ []) is ∙ sym (answers-last s turns t)) more;
       readable = λ tell s h w. readable-last s turns t (a.readable tell s h w) (stepped.2 tell (after s turns) (a.holds tell s h w) (after_whole s turns w)).2;
-      refused = subst (λ (n : ℕ). RoseBy n (g.view old.1).refusals (g.view new.1).refusals) (sym (refused-last turns t))
-          (rose_more (all_refused turns) (refused_in stepped.0) (g.view old.1).refusals (g.view now.1).refusals (g.view new.1).refusals a.refused stepped.1);
+      refused = subst (λ (n : ℕ). RoseBy n (g.view old.outside).refusals (g.view new.outside).refusals) (sym (refused-last turns t))
+          (rose_more (all_refused turns) (refused_in stepped.0) (g.view old.outside).refusals (g.view now.outside).refusals (g.view new.outside).refusals a.refused stepped.1);
     }
 
-pub goes_on : {O W C : Type 0} (g : Ghosts O W C) (old now new : Kept × O × Bool) (text left later : Option (List ℕ)) (count : ℕ) (e : Event) (answer : List ℕ)
-    → Progress g old now text left count → TakesNextEvent left (Some e) later → Fits e → new.0.schema ≡ now.0.schema → Stepped g now new e answer
-    → (g.told.heard → TellsLine (g.view now.1).heard (g.view new.1).heard (g.view now.1).moment (g.view new.1).moment answer)
+pub goes_on : {O W C : Type 0} (g : Ghosts O W C) (old now new : StoreState O) (text left later : Option (List ℕ)) (count : ℕ) (e : Event) (answer : List ℕ)
+    → Progress g old now text left count → TakesNextEvent left (Some e) later → Fits e → new.kept.schema ≡ now.kept.schema → Stepped g now new e answer
+    → (g.told.heard → TellsLine (g.view now.outside).heard (g.view new.outside).heard (g.view now.outside).moment (g.view new.outside).moment answer)
     → Progress g old new text later (count + 1)
 goes_on g old now new text left later count e answer p takes fits schema stepped said =
     let t : Turn = (e, stepped.0) in
@@ -171,7 +171,7 @@ none_pending held left e =
     p.1 ∙ ap (λ (xs : List ℕ). Some xs) (none_after held p.0 p.2)
 
 -- at the end of the script
-pub ends : {O W C : Type 0} (g : Ghosts O W C) (old now : Kept × O × Bool) (text before : Option (List ℕ)) (held : List ℕ) (left : Option (List ℕ)) (count : ℕ) (tally : Tally)
+pub ends : {O W C : Type 0} (g : Ghosts O W C) (old now : StoreState O) (text before : Option (List ℕ)) (held : List ℕ) (left : Option (List ℕ)) (count : ℕ) (tally : Tally)
     → Progress g old now text before count → TakesNextEvent before None (pending held left) → tally.events ≡ count → Runs g old now text left tally
 ends g old now text before held left count tally p takes is =
     record {
@@ -198,7 +198,7 @@ as_many : (turns : List Turn) → length (events_of turns) ≡ length turns
 as_many turns = length-map turns (λ (t : Turn). t.0)
 
 -- the next line is no event's
-pub stops_at_line : {O W C : Type 0} {g : Ghosts O W C} {old now : Kept × O × Bool} {text left : Option (List ℕ)} {count : ℕ} (number : ℕ)
+pub stops_at_line : {O W C : Type 0} {g : Ghosts O W C} {old now : StoreState O} {text left : Option (List ℕ)} {count : ℕ} (number : ℕ)
     → Progress g old now text left count → IsRefused IsNoEvent left → number ≡ count + 1 → LineRefusal text (line_refusal number)
 stops_at_line {left = left} {count = count} number p wrong is = (
   number,
@@ -211,7 +211,7 @@ stops_at_line {left = left} {count = count} number p wrong is = (
 )
 
 -- the next line is too long
-pub stops_at_long : {O W C : Type 0} {g : Ghosts O W C} {old now : Kept × O × Bool} {text left : Option (List ℕ)} {count : ℕ} (number : ℕ)
+pub stops_at_long : {O W C : Type 0} {g : Ghosts O W C} {old now : StoreState O} {text left : Option (List ℕ)} {count : ℕ} (number : ℕ)
     → Progress g old now text left count → IsRefused IsTooLong left → number ≡ count + 1 → LineRefusal text (long_refusal number)
 stops_at_long {left = left} {count = count} number p long is = (
   number,
@@ -224,7 +224,7 @@ stops_at_long {left = left} {count = count} number p long is = (
 )
 
 -- there is a line too many
-pub stops_at_last : {O W C : Type 0} {g : Ghosts O W C} {old now : Kept × O × Bool} {text left : Option (List ℕ)} {count : ℕ}
+pub stops_at_last : {O W C : Type 0} {g : Ghosts O W C} {old now : StoreState O} {text left : Option (List ℕ)} {count : ℕ}
     → Progress g old now text left count → count ≡ 4294967295 → IsRefused (λ rest. rest ≢ []) left → IsTooMany text
 stops_at_last {left = left} {count = count} p is some whole told =
     let r = p.read whole told in
@@ -336,7 +336,7 @@ directory_holds : (schema : List ℕ) (reads : Reads) (kept : Kept) (s : State) 
 directory_holds schema reads kept s is h = record {
   names = h.names;
   files = λ n file. file_reads (file_at s n) (reads n) _ (h.files n file);
-  meta = (h.meta.0, h.meta.1, subst (λ (x : List ℕ). Means default_settings x h.meta.0 s.commit) is h.meta.2);
+  meta = (h.meta.0, h.meta.1, subst (λ (x : List ℕ). Means default_settings x h.meta.0 s.catalog.commit) is h.meta.2);
   listing = h.listing;
 }
 
@@ -375,7 +375,7 @@ no_files segments n none h = true≢false (sym h ∙ ap (λ (es : List (List ℕ
 pub opens_whole : (schema : List ℕ) (reads : Reads) (s : State) → HasNoIndex reads → OpensTo default_settings schema reads s → IsWhole s
 opens_whole schema reads s none o =
     let opened : OpensWith default_settings schema None o.listed s = subst (λ (r : Option (List ℕ)). OpensWith default_settings schema r o.listed s) none.meta o.opened in
-    record { each = λ n h. absurd (no_files s.commit.segments n (ap (λ (c : Commit). c.segments) opened.1) h) }
+    record { each = λ n h. absurd (no_files s.catalog.commit.segments n (ap (λ (c : Commit). c.segments) opened.1) h) }
 
 -- an index that opens where none stood lists `meta.json` alone
 opens_sorted : (schema : List ℕ) (reads : Reads) (s : State) → HasNoIndex reads → OpensTo default_settings schema reads s → IsStrictlySortedBy byte_cmp s.managed
@@ -386,18 +386,18 @@ opens_sorted schema reads s none o =
     let managed : s.managed ≡ meta_name ∷ [] = opened.2 ∙ ap (λ (ns : List (List ℕ)). insert_key byte_cmp ns meta_name) listed in
     subst (IsStrictlySortedBy byte_cmp) (sym managed) (tt, tt)
 
-pub replays : {O W C : Type 0} (g : Ghosts O W C) (before : O) (schema : List ℕ) (mid new : Kept × O × Bool) (now : O) (text left : Option (List ℕ)) (tally : Tally)
+pub replays : {O W C : Type 0} (g : Ghosts O W C) (before : O) (schema : List ℕ) (mid new : StoreState O) (now : O) (text left : Option (List ℕ)) (tally : Tally)
     → Opens g before schema mid
-    → (g.told.heard → TellsLine (g.view before).heard (g.view mid.1).heard (g.view before).moment (g.view mid.1).moment (opening_of mid.0.commit))
-    → (g.view mid.1).refusals ≡ (g.view before).refusals
-    → (g.told.content → (s : State) → Holds (g.view new.1).reads new.0 s → Holds (g.view now).reads new.0 s)
-    → (g.view now).heard ≡ (g.view new.1).heard → (g.view now).refusals ≡ (g.view new.1).refusals
+    → (g.told.heard → TellsLine (g.view before).heard (g.view mid.outside).heard (g.view before).moment (g.view mid.outside).moment (opening_of mid.kept.catalog.commit))
+    → (g.view mid.outside).refusals ≡ (g.view before).refusals
+    → (g.told.content → (s : State) → Holds (g.view new.outside).reads new.kept s → Holds (g.view now).reads new.kept s)
+    → (g.view now).heard ≡ (g.view new.outside).heard → (g.view now).refusals ≡ (g.view new.outside).refusals
     → Runs g mid new text left tally → Replays g before now schema text tally
 replays g before schema mid new now text left tally opened said refusals holds heard refusals_now r =
     let old_reads = (g.view before).reads in
     let whole : g.told.content → (s : State) → OpensTo default_settings schema old_reads s → IsWhole s = λ t s o. opens_whole schema old_reads s (opened.none t) o in
     let stands : g.told.content → (s : State) → OpensTo default_settings schema old_reads s → DirectoryHolds default_settings schema (g.view now).reads (after s r.turns) =
-    λ t s o. directory_holds schema (g.view now).reads new.0 (after s r.turns) (r.applied.schema ∙ opened.schema_is) (holds t (after s r.turns) (r.applied.holds t s (opened.holds t s o) (whole t s o))) in
+    λ t s o. directory_holds schema (g.view now).reads new.kept (after s r.turns) (r.applied.schema ∙ opened.schema_is) (holds t (after s r.turns) (r.applied.holds t s (opened.holds t s o) (whole t s o))) in
     record {
       turns = r.turns;
       counted = r.counted;
@@ -406,17 +406,17 @@ replays g before schema mid new now text left tally opened said refusals holds h
       none = opened.none;
       told = λ t th s o.
           let h = opened.holds t s o in
-          let first : TellsLine (g.view before).heard (g.view mid.1).heard (g.view before).moment (g.view mid.1).moment (opening_of s.commit) =
-          subst (λ c. TellsLine (g.view before).heard (g.view mid.1).heard (g.view before).moment (g.view mid.1).moment (opening_of c)) h.commit (said th) in
+          let first : TellsLine (g.view before).heard (g.view mid.outside).heard (g.view before).moment (g.view mid.outside).moment (opening_of s.catalog.commit) =
+          subst (λ c. TellsLine (g.view before).heard (g.view mid.outside).heard (g.view before).moment (g.view mid.outside).moment (opening_of c)) (ap (λ (catalog : Catalog). catalog.commit) h.catalog) (said th) in
           subst (λ (later : Heard). TellsLines (g.view before).heard later (report s r.turns)) (sym heard)
-          (tells_first (g.view before).heard (g.view mid.1).heard (g.view new.1).heard (g.view before).moment (g.view mid.1).moment (opening_of s.commit) (answers s r.turns) first (r.applied.told t th s h (whole t s o)));
+          (tells_first (g.view before).heard (g.view mid.outside).heard (g.view new.outside).heard (g.view before).moment (g.view mid.outside).moment (opening_of s.catalog.commit) (answers s r.turns) first (r.applied.told t th s h (whole t s o)));
       holds = stands;
       readable = λ t s o. r.applied.readable t s (opened.holds t s o) (whole t s o);
       serves = λ t s o. serves s r.turns o.reading o.next;
       collects = λ t s o. collects_in s r.turns (opens_sorted schema old_reads s (opened.none t) o);
       refused =
           subst (λ (n : ℕ). RoseBy (all_refused r.turns) n (g.view now).refusals) refusals
-          (subst (λ (n : ℕ). RoseBy (all_refused r.turns) (g.view mid.1).refusals n) (sym refusals_now) r.applied.refused);
+          (subst (λ (n : ℕ). RoseBy (all_refused r.turns) (g.view mid.outside).refusals n) (sym refusals_now) r.applied.refused);
       first = λ t sound. opens_first schema old_reads (opened.none t) sound;
       as_sealed = λ t sound. serves_as_sealed first_state r.turns first_sound r.applied.fits;
       sound = λ t sound.

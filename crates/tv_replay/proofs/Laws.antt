@@ -10,7 +10,7 @@ use Rattle.tv_replay.specs.EventWords.{event_in}
 use Rattle.tv_replay.proofs.Numbers.{number_again}
 use Rattle.tv_replay.proofs.Spelling.{NoSpace, is_space, split_joined, id_again, id_has_no_space, number_has_no_space}
 use Rattle.tv_replay.proofs.WordLaws.{Reads, named, either, component_again, extension_has_no_space, bytes_again, bytes_have_no_space, ids_again, ids_have_no_space}
-use Rattle.tv_replay.proofs.SegmentLines.{segment_found, open_found, write_found, seal_found, docs_found, commit_found, gc_found, managed_found}
+use Rattle.tv_replay.proofs.SegmentLines.{segment_found, open_found, write_found, seal_found, docs_found, commit_found, alone_found}
 use Rattle.tv_replay.proofs.ReaderLines.{reader_event_found}
 
 -- ---- all events
@@ -23,8 +23,8 @@ event_found word args e h =
     either _ _ _ e h (λ t h. named word (codes "seal") args e t (seal_found args e h)) (λ h.
     either _ _ _ e h (λ t h. named word (codes "docs") args e t (docs_found args e h)) (λ h.
     either _ _ _ e h (λ t h. named word (codes "commit") args e t (commit_found args e h)) (λ h.
-    either _ _ _ e h (λ t h. named word (codes "gc") args e t (gc_found args e h)) (λ h.
-    either _ _ _ e h (λ t h. named word (codes "managed") args e t (managed_found args e h)) (λ h.
+    either _ _ _ e h (λ t h. named word (codes "gc") args e t (alone_found events.Gc args e tt refl h)) (λ h.
+    either _ _ _ e h (λ t h. named word (codes "managed") args e t (alone_found events.Managed args e tt refl h)) (λ h.
     reader_event_found word args e h))))))))
 
 event_again : (e : Event) (args : List (List ℕ)) → Fits e → AreArguments e args → event_in (keyword e ∷ args) ≡ Some e

@@ -6,8 +6,9 @@ use Rattle.tv_model.specs.declared.event.Event.{Event}
 use Rattle.tv_model.specs.declared.event.Event.TheVariants as events
 use Rattle.tv_model.specs.Ids.{are_distinct}
 use Rattle.tv_model.specs.Names.{is}
+use Rattle.tv_model.specs.Script.{Fits, AreArguments, keyword}
 use Rattle.tv_replay.specs.Fields.{id_at, number_at, component_at, bytes_at}
-use Rattle.tv_replay.specs.EventWords.{◌>>=◌, segment_in, open_in, write_in, seal_in, docs_in, ids_in, commit_of, commit_in, gc_in, managed_in}
+use Rattle.tv_replay.specs.EventWords.{◌>>=◌, segment_in, open_in, write_in, seal_in, docs_in, ids_in, commit_of, commit_in, alone_in}
 use Rattle.tv_replay.proofs.Numbers.{chosen, number_found}
 use Rattle.tv_replay.proofs.Spelling.{id_found}
 use Rattle.tv_replay.proofs.WordLaws.{Reads, bind_some, some_is, either, same_one, same_two, same_three, same_front, component_found, bytes_found, ids_found}
@@ -79,10 +80,6 @@ commit_found (payload ∷ words) e h =
     subst (Reads (codes "commit") (payload ∷ words)) c.1 (record { fits = (refl, f.1, c.0); name = refl; are = same_front _ _ _ _ dash f.0 }))
     (λ h. absurd cc)
 
-pub gc_found : (args : List (List ℕ)) (e : Event) → gc_in args ≡ Some e → Reads (codes "gc") args e
-gc_found [] e h = subst (Reads (codes "gc") []) (some_is events.Gc e h) (record { fits = tt; name = refl; are = refl })
-gc_found (x ∷ args) e h = absurd cc
-
-pub managed_found : (args : List (List ℕ)) (e : Event) → managed_in args ≡ Some e → Reads (codes "managed") args e
-managed_found [] e h = subst (Reads (codes "managed") []) (some_is events.Managed e h) (record { fits = tt; name = refl; are = refl })
-managed_found (x ∷ args) e h = absurd cc
+pub alone_found : (event : Event) (args : List (List ℕ)) (e : Event) → Fits event → AreArguments event [] → alone_in event args ≡ Some e → Reads (keyword event) args e
+alone_found event [] e fits are h = subst (Reads (keyword event) []) (some_is event e h) (record { fits = fits; name = refl; are = are })
+alone_found event (x ∷ args) e fits are h = absurd cc

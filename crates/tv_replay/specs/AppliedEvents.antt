@@ -1,5 +1,5 @@
 -- The events of a script, applied to a store that is open, one after the other.
-use Rattle.std.specs.Prelude.{ℕ, ◌≡◌, ◌≢◌, Bool, true, List, [], length, Option, Some, None, Result, IfErr, OnOk, string_bytes}
+use Rattle.std.specs.Prelude.{ℕ, ◌≡◌, ◌≢◌, true, List, [], length, Option, Some, None, Result, IfErr, OnOk, string_bytes}
 use Rattle.std.specs.List.{AllByRecursion}
 use Rattle.tv_base.specs.Causes.{IsDevice}
 use Rattle.tv_base.specs.Streams.{SourceView}
@@ -15,7 +15,7 @@ use Rattle.tv_model.specs.Script.{lines_of, Fits, AreLines}
 use Rattle.tv_directory.specs.Locks.{LockCause}
 use Rattle.tv_directory.specs.declared.directory.Directory.{Ghosts}
 use Rattle.tv_managed.specs.Collecting.{meta_lock_name}
-use Rattle.tv_store.specs.Kept.{Kept, Holds}
+use Rattle.tv_store.specs.Kept.{Kept, StoreState, Holds}
 use Rattle.tv_store.specs.Applying.{HoldsNone}
 use Rattle.tv_store.specs.StoreCauses.{WriteFault, IsBusy, IsRefusal}
 use Rattle.tv_store.specs.ReadCauses.{ReadFault}
@@ -28,16 +28,16 @@ use Rattle.tv_replay.specs.Replays.{MeetsBadFile, MeetsLock, LineRefusal, IsTooM
 
 -- These events were applied: from each state that was held before, the state after them is held now, and their answers were told; those that read a commit's
 -- files could do so; and no more deletes were refused than their count rose.
-pub record Applies {O W C : Type 0} (g : Ghosts O W C) (old new : Kept × O × Bool) (turns : List Turn) : Type 0 where
+pub record Applies {O W C : Type 0} (g : Ghosts O W C) (old new : StoreState O) (turns : List Turn) : Type 0 where
   pub fits : AllByRecursion Fits (events_of turns)
-  pub schema : new.0.schema ≡ old.0.schema
-  pub holds : g.told.content → (s : State) → Holds (g.view old.1).reads old.0 s → IsWhole s → Holds (g.view new.1).reads new.0 (after s turns)
-  pub told : g.told.content → g.told.heard → (s : State) → Holds (g.view old.1).reads old.0 s → IsWhole s → TellsLines (g.view old.1).heard (g.view new.1).heard (answers s turns)
-  pub readable : g.told.content → (s : State) → Holds (g.view old.1).reads old.0 s → IsWhole s → AllReadGood s turns
-  pub refused : RoseBy (all_refused turns) (g.view old.1).refusals (g.view new.1).refusals
+  pub schema : new.kept.schema ≡ old.kept.schema
+  pub holds : g.told.content → (s : State) → Holds (g.view old.outside).reads old.kept s → IsWhole s → Holds (g.view new.outside).reads new.kept (after s turns)
+  pub told : g.told.content → g.told.heard → (s : State) → Holds (g.view old.outside).reads old.kept s → IsWhole s → TellsLines (g.view old.outside).heard (g.view new.outside).heard (answers s turns)
+  pub readable : g.told.content → (s : State) → Holds (g.view old.outside).reads old.kept s → IsWhole s → AllReadGood s turns
+  pub refused : RoseBy (all_refused turns) (g.view old.outside).refusals (g.view new.outside).refusals
 
 -- the events of a whole script were applied, and nothing is left of it
-pub record Runs {O W C : Type 0} (g : Ghosts O W C) (old new : Kept × O × Bool) (text left : Option (List ℕ)) (tally : Tally) : Type 0 where
+pub record Runs {O W C : Type 0} (g : Ghosts O W C) (old new : StoreState O) (text left : Option (List ℕ)) (tally : Tally) : Type 0 where
   pub turns : List Turn
   pub counted : tally.events ≡ length turns
   pub lines : (whole : List ℕ) → text ≡ Some whole → AreLines (lines_of whole) (events_of turns) × (left ≡ Some [])
@@ -59,21 +59,21 @@ RunCause busy refusal too_many refused quiet bad absent errors.Memory = quiet
 RunCause busy refusal too_many refused quiet bad absent other = ⊥
 
 -- Why a run stopped, between these two stores and these two views of the script.
-abbrev pub StopsRun : {O W C : Type 0} → Ghosts O W C → (old new : Kept × O × Bool) → (script script_now : SourceView) → TantivyError → Type 0
+abbrev pub StopsRun : {O W C : Type 0} → Ghosts O W C → (old new : StoreState O) → (script script_now : SourceView) → TantivyError → Type 0
 StopsRun g old new script script_now =
-    RunCause (MeetsLock script.left × IsBusy g.told.locks ((g.view old.1).locks meta_lock_name ≡ true) (Rose (g.view old.1).faults (g.view new.1).faults))
-    (LineRefusal script.left) (IsTooMany script.left) (IsRefusedAt (g.view old.1) (g.view new.1) script script_now) (IsQuietAt (g.view old.1) (g.view new.1) script script_now)
-    (BadSince g.told.content (g.view old.1).reads old.0 script.left) (λ path. HoldsNone g.told.content (g.view old.1).reads old.0)
+    RunCause (MeetsLock script.left × IsBusy g.told.locks ((g.view old.outside).locks meta_lock_name ≡ true) (Rose (g.view old.outside).faults (g.view new.outside).faults))
+    (LineRefusal script.left) (IsTooMany script.left) (IsRefusedAt (g.view old.outside) (g.view new.outside) script script_now) (IsQuietAt (g.view old.outside) (g.view new.outside) script script_now)
+    (BadSince g.told.content (g.view old.outside).reads old.kept script.left) (λ path. HoldsNone g.told.content (g.view old.outside).reads old.kept)
 
 -- No call but deletes was refused where the whole script was run; and why it wasn't.
-pub record RunFaults {A O W C : Type 0} (g : Ghosts O W C) (old new : Kept × O × Bool) (script script_now : SourceView) (result : Result A TantivyError) : Type 0 where
-  pub quiet : OnOk result (IsQuietAt (g.view old.1) (g.view new.1) script script_now)
+pub record RunFaults {A O W C : Type 0} (g : Ghosts O W C) (old new : StoreState O) (script script_now : SourceView) (result : Result A TantivyError) : Type 0 where
+  pub quiet : OnOk result (IsQuietAt (g.view old.outside) (g.view new.outside) script script_now)
   pub cause : IfErr result (StopsRun g old new script script_now)
 
 -- what a run leaves that stopped with this error, from each state that was held before
-abbrev pub LeavesStopped : {O W C : Type 0} → Ghosts O W C → (old new : Kept × O × Bool) → (script : Option (List ℕ)) → TantivyError → Type 0
+abbrev pub LeavesStopped : {O W C : Type 0} → Ghosts O W C → (old new : StoreState O) → (script : Option (List ℕ)) → TantivyError → Type 0
 LeavesStopped g old new script error =
-    g.told.content → (s : State) → Holds (g.view old.1).reads old.0 s → IsWhole s → LeavesRun g.told old.0.schema script answers s (g.view old.1) (g.view new.1) error
+    g.told.content → (s : State) → Holds (g.view old.outside).reads old.kept s → IsWhole s → LeavesRun g.told old.kept.schema script answers s (g.view old.outside) (g.view new.outside) error
 
 -- why the end of a script isn't met where as many lines were taken as may be: a line too many stands there, a read was refused, or memory was wanted
 pub record EndFaults {A : Type 0} (ahead : Option (List ℕ)) (old new : SourceView) (result : Result A TantivyError) : Type 0 where

@@ -67,9 +67,10 @@ commit_in (payload ∷ words) =
       commit_of ids)
     else None
 
-abbrev pub gc_in : List (List ℕ) → Option Event
-gc_in [] = Some events.Gc
-gc_in args = None
+-- an event without arguments
+abbrev pub alone_in : Event → List (List ℕ) → Option Event
+alone_in event [] = Some event
+alone_in event args = None
 
 -- so far a reader reloads where it is asked to
 abbrev pub reader_in : List (List ℕ) → Option Event
@@ -120,10 +121,6 @@ abbrev pub release_in : List (List ℕ) → Option Event
 release_in (kind ∷ subject ∷ []) = released_in kind subject
 release_in args = None
 
-abbrev pub managed_in : List (List ℕ) → Option Event
-managed_in [] = Some events.Managed
-managed_in args = None
-
 -- the event about a reader or a searcher, or the release, that these words stand for
 abbrev pub reader_event_in : List ℕ → List (List ℕ) → Option Event
 reader_event_in word args =
@@ -145,6 +142,6 @@ event_in (word ∷ args) =
     else if is word (codes "seal") then seal_in args
     else if is word (codes "docs") then docs_in args
     else if is word (codes "commit") then commit_in args
-    else if is word (codes "gc") then gc_in args
-    else if is word (codes "managed") then managed_in args
+    else if is word (codes "gc") then alone_in events.Gc args
+    else if is word (codes "managed") then alone_in events.Managed args
     else reader_event_in word args

@@ -113,7 +113,7 @@ pub record MeetsBadFile (script : Option (List ℕ)) (reads : Reads) (s : State)
   pub reading : Reading (after s turns) event
   -- this file is one of them
   pub path : List ℕ
-  pub required : has (all_required (after s turns).commit.segments) path ≡ true
+  pub required : has (all_required (after s turns).catalog.commit.segments) path ≡ true
   -- it was sealed at the start, with these bytes
   pub bytes : List ℕ
   pub sealed : file_at s path ≡ Some (Sealed bytes)
@@ -149,7 +149,7 @@ pub record LeavesRun {W : Type 0} (told : Told) (schema : List ℕ) (script : Op
   -- the commit that stands
   pub text : List ℕ
   pub reads : now.reads meta_name ≡ Some text
-  pub means : Means default_settings schema text (after s (turns ++ ahead)).commit
+  pub means : Means default_settings schema text (after s (turns ++ ahead)).catalog.commit
 
 -- What an opening that was refused leaves: no whole line was told, an index that was being made has its first commit or none, and an argument that was refused changed nothing.
 pub record RefusesOpening {W : Type 0} (told : Told) (schema : List ℕ) (before now : View W) (error : TantivyError) : Type 0 where

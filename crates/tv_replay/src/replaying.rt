@@ -78,16 +78,16 @@ fn apply_all<O: Outside, R: Source>(
     store: &mut IndexStore<O>,
     script: &mut R,
 ) -> Result<Tally, TantivyError>
-    requires open { store.old.2 ≡ true }
-    requires short { AtMost 0 store.old.0 }
-    requires few { FewNumbers 0 store.old.0.reading }
+    requires open { store.old.is_open ≡ true }
+    requires short { AtMost 0 store.old.kept }
+    requires few { FewNumbers 0 store.old.kept.catalog.reading }
     ensures done { IfOk result
         (Runs O.Directory store.old store.new (R.view script.old).left (R.view script.new).left) }
     ensures leaves { IfErr result
         (LeavesStopped O.Directory store.old store.new (R.view script.old).left) }
     ensures faults { RunFaults O.Directory store.old store.new (R.view script.old)
         (R.view script.new) result }
-    ensures frame { ReplayFrame O.told (O.view store.old.1) (O.view store.new.1) }
+    ensures frame { ReplayFrame O.told (O.view store.old.outside) (O.view store.new.outside) }
 {
     let mut buffer = ScriptBuffer::new(alloc)?;
     for events in 0..u32::MAX {

@@ -3,7 +3,7 @@ ghost use Rattle.std.specs.Prelude.{◌≡◌, ◌==◌, IfOk, IfSome, map, opti
 ghost use Rattle.std.specs.List.{slice_split};
 ghost use Rattle.tv_model.specs.declared.event.Event.{Event};
 ghost use Rattle.tv_model.specs.Script.{IsLine};
-ghost use Rattle.tv_replay.specs.EventWords.{event_in, segment_in, open_in, write_in, seal_in, docs_in, ids_in, commit_in, gc_in, managed_in};
+ghost use Rattle.tv_replay.specs.EventWords.{event_in, segment_in, open_in, write_in, seal_in, docs_in, ids_in, commit_in, alone_in};
 
 use crate::reader_lines::reader_event_of;
 use crate::words::{bytes_of, component_of, id_of, number_of};
@@ -111,20 +111,12 @@ fn commit_of(alloc: Global, args: &[&[u8]]) -> Result<Option<Event>, Memory>
     }
 }
 
-fn gc_of(args: &[&[u8]]) -> Option<Event>
-    ensures { result ≡ gc_in (map (λ w. w.now) args.now) }
+// An event without arguments.
+fn alone(event: Event, args: &[&[u8]]) -> Option<Event>
+    ensures { result ≡ alone_in event (map (λ w. w.now) args.now) }
 {
     match args {
-        [] => Some(Event::Gc),
-        _ => None,
-    }
-}
-
-fn managed_of(args: &[&[u8]]) -> Option<Event>
-    ensures { result ≡ managed_in (map (λ w. w.now) args.now) }
-{
-    match args {
-        [] => Some(Event::Managed),
+        [] => Some(event),
         _ => None,
     }
 }
@@ -151,9 +143,9 @@ fn event_of(alloc: Global, words: &[&[u8]]) -> Result<Option<Event>, Memory>
         let found = commit_of(alloc, args)?;
         Ok(found)
     } else if *word == b"gc".as_slice() {
-        Ok(gc_of(args))
+        Ok(alone(Event::Gc, args))
     } else if *word == b"managed".as_slice() {
-        Ok(managed_of(args))
+        Ok(alone(Event::Managed, args))
     } else {
         Ok(reader_event_of(word, args))
     }

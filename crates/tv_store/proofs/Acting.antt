@@ -1,26 +1,32 @@
 -- What the calls of the events do, put together.
-use Rattle.std.proofs.Common.{ℕ, ◌≡◌, ◌<◌, ◌+◌, Bool, true, List, [], length, Result, Ok, Err, refl, sym, subst}
+use Rattle.std.proofs.Common.{ℕ, ◌≡◌, ◌<◌, ◌+◌, true, List, [], length, Result, Ok, Err, Some, refl, sym, ap, subst, ◌∙◌, inl, inr, arith}
 use Rattle.std.specs.Prelude.{IfOk, OnOk, OnErr}
 use Rattle.std.proofs.lemmas.Result.{on_err_weaker}
 use Rattle.tv_base.specs.declared.error.TantivyError.{TantivyError}
+use Rattle.tv_base.specs.declared.error.TantivyError.TheVariants as errors
 use Rattle.tv_directory.specs.View.{View, Told as ToldParts, Kept as KeptView, OnlyReads, MayDelete}
 use Rattle.tv_directory.specs.Watch.{WatchState}
 use Rattle.tv_directory.specs.declared.directory.Directory.{Ghosts}
 use Rattle.tv_managed.specs.Collecting.{meta_lock_name}
 use Rattle.tv_model.specs.Names.{meta_name}
+use Rattle.tv_model.proofs.Changes.{lifted}
 use Rattle.tv_model.specs.Files.{Rose}
-use Rattle.tv_model.specs.State.{State}
-use Rattle.tv_model.specs.Machine.{step}
+use Rattle.tv_model.specs.State.{Catalog, State, StepResult, on_catalog}
+use Rattle.tv_model.specs.Machine.{catalog_step, step}
 use Rattle.tv_model.specs.Readable.{ReadsGood}
 use Rattle.tv_model.specs.declared.event.Event.{Event}
-use Rattle.tv_store.specs.Kept.{Kept, AtMost}
-use Rattle.tv_store.specs.ReaderNumbers.{FewNumbers}
+use Rattle.tv_model.specs.declared.event.Event.TheVariants as events
+use Rattle.tv_store.specs.Kept.{Kept, StoreState, Holds, AtMost}
+use Rattle.tv_store.specs.ReaderNumbers.{FewNumbers, NumbersSpent}
 use Rattle.tv_store.specs.StoreCauses.{IsBusy}
 use Rattle.tv_store.specs.ReadCauses.{TakesMetaLock}
-use Rattle.tv_store.specs.Applying.{Stepped, ApplyFaults, MayNoteAt, Spent, BadIn, HoldsNone, written_by}
-use Rattle.tv_store.specs.Stays.{Stays, KeepsReaders, EventFaults, FrameNotes}
+use Rattle.tv_store.specs.Applying.{Stepped, ActCause, ApplyFaults, MayNoteAt, Spent, BadIn, HoldsNone, written_by}
+use Rattle.tv_store.specs.Stays.{Asks, Stays, KeepsReaders, EventFaults, FrameNotes}
 use Rattle.tv_store.specs.Committing.{Commits}
 use Rattle.tv_store.specs.Acting.{Acts, KeepsMeta, LeavesStep, Passes, StepsTo, StepsReading, StepsDeleting}
+use Rattle.tv_store.specs.Catalogs.{CatalogCause, FitsCatalog}
+use Rattle.tv_store.proofs.Holding.{same_holds}
+use Rattle.tv_store.proofs.Lifting.{catalog_held, numbers_grow, plain_event}
 use Rattle.tv_store.proofs.Steps.{cause_in, leaves_old, old_at_memory, stepped, stepped_reading, stepped_deleting, at_most, numbers_stay, same_lens}
 
 -- nothing noted anything
@@ -48,12 +54,12 @@ on_err : {A E : Type 0} (result : Result A E) (P : Type 0) → P → OnErr resul
 on_err (Ok a) P h = tt
 on_err (Err e) P h = h
 
-module _ {O W C : Type 0} (g : Ghosts O W C) (old new : Kept × O × Bool) (event shown : Event) (is : event ≡ shown) (result : Result (List ℕ) TantivyError) where
+module _ {O W C : Type 0} (g : Ghosts O W C) (old new : StoreState O) (event shown : Event) (is : event ≡ shown) (result : Result (List ℕ) TantivyError) where
   abbrev pub RefusedOne : Type 0
-  RefusedOne = Rose (g.view old.1).faults (g.view new.1).faults
+  RefusedOne = Rose (g.view old.outside).faults (g.view new.outside).faults
 
   abbrev pub RefusedNone : Type 0
-  RefusedNone = (g.view new.1).faults ≡ (g.view old.1).faults
+  RefusedNone = (g.view new.outside).faults ≡ (g.view old.outside).faults
 
   abbrev pub Steps : Type 0
   Steps = IfOk result (Stepped g old new shown)
@@ -64,13 +70,13 @@ module _ {O W C : Type 0} (g : Ghosts O W C) (old new : Kept × O × Bool) (even
   -- what an event leaves that leaves `meta.json` alone at an error
   leaves : KeepsMeta g old new result → LeavesStep g old new shown result
   leaves meta = record {
-    meta = λ tells s held whole. leaves_old result ((g.view old.1).reads meta_name) ((g.view new.1).reads meta_name) old.0.schema s shown (meta tells);
-    memory = λ tells. old_at_memory result ((g.view old.1).reads meta_name) ((g.view new.1).reads meta_name) (meta tells);
+    meta = λ tells s held whole. leaves_old result ((g.view old.outside).reads meta_name) ((g.view new.outside).reads meta_name) old.kept.schema s shown (meta tells);
+    memory = λ tells. old_at_memory result ((g.view old.outside).reads meta_name) ((g.view new.outside).reads meta_name) (meta tells);
   }
 
-  pub acts : Steps → IfOk result (λ answer. length answer < (g.view new.1).room)
-      → ((bound : ℕ) → AtMost bound old.0 → AtMost (bound + written_by shown) new.0)
-      → ((bound : ℕ) → FewNumbers bound old.0.reading → OnOk result (FewNumbers (bound + written_by shown) new.0.reading))
+  pub acts : Steps → IfOk result (λ answer. length answer < (g.view new.outside).room)
+      → ((bound : ℕ) → AtMost bound old.kept → AtMost (bound + written_by shown) new.kept)
+      → ((bound : ℕ) → FewNumbers bound old.kept.catalog.reading → OnOk result (FewNumbers (bound + written_by shown) new.kept.catalog.reading))
       → ApplyFaults g old new shown result → KeepsMeta g old new result → Frames
       → Acts g old new event result
   acts step room lens numbers faults meta frame =
@@ -85,88 +91,78 @@ module _ {O W C : Type 0} (g : Ghosts O W C) (old new : Kept × O × Bool) (even
       })
 
   -- one that takes no lock and reads no commit's files
-  faults_alone : (spent : Type 0) → (spent → Spent old.0 shown) → (TakesMetaLock old.0 shown → ⊥) → EventFaults spent (g.view old.1) (g.view new.1) result → ApplyFaults g old new shown result
+  faults_alone : (spent : Type 0) → (spent → Spent old.kept shown) → (TakesMetaLock old.kept shown → ⊥) → EventFaults spent (g.view old.outside) (g.view new.outside) result → ApplyFaults g old new shown result
   faults_alone spent all free faults = record {
     quiet = faults.quiet;
     free = λ told takes. absurd (free takes);
     cause =
-        cause_in (List ℕ) (TakesMetaLock old.0 shown × IsBusy g.told.locks ((g.view old.1).locks meta_lock_name ≡ true) RefusedOne) RefusedOne RefusedNone spent (Spent old.0 shown)
-        (BadIn g.told.content (g.view old.1).reads old.0 shown) (λ path. HoldsNone g.told.content (g.view old.1).reads old.0) result faults.cause all;
+        cause_in (List ℕ) (TakesMetaLock old.kept shown × IsBusy g.told.locks ((g.view old.outside).locks meta_lock_name ≡ true) RefusedOne) RefusedOne RefusedNone spent (Spent old.kept shown)
+        (BadIn g.told.content (g.view old.outside).reads old.kept shown) (λ path. HoldsNone g.told.content (g.view old.outside).reads old.kept) result faults.cause all;
   }
 
-  step_alone : ((s : State) → ReadsGood s shown) → (g.view new.1).refusals ≡ (g.view old.1).refusals → StepsTo g old new (λ s. step s shown []) result → Steps
+  step_alone : ((s : State) → ReadsGood s shown) → (g.view new.outside).refusals ≡ (g.view old.outside).refusals → StepsTo g old new (λ s. step s shown []) result → Steps
   step_alone good refusals h = stepped g old new shown (λ s. step s shown []) result refusals (λ s. refl) good h
 
   -- one that only wrote files
-  pub acts_on_files : NotesNothing shown → (spent : Type 0) → (spent → Spent old.0 shown) → ((s : State) → ReadsGood s shown) → (TakesMetaLock old.0 shown → ⊥)
-      → StepsTo g old new (λ s. step s shown []) result → IfOk result (λ answer. length answer < (g.view new.1).room)
-      → ((bound : ℕ) → AtMost bound old.0 → AtMost (bound + written_by shown) new.0)
-      → EventFaults spent (g.view old.1) (g.view new.1) result → KeepsMeta g old new result → KeepsReaders (KeptView g.told) g.view old new
+  pub acts_on_files : NotesNothing shown → (spent : Type 0) → (spent → Spent old.kept shown) → ((s : State) → ReadsGood s shown) → (TakesMetaLock old.kept shown → ⊥)
+      → StepsTo g old new (λ s. step s shown []) result → IfOk result (λ answer. length answer < (g.view new.outside).room)
+      → ((bound : ℕ) → AtMost bound old.kept → AtMost (bound + written_by shown) new.kept)
+      → EventFaults spent (g.view old.outside) (g.view new.outside) result → KeepsMeta g old new result → KeepsReaders (KeptView g.told) g.view old new
       → Acts g old new event result
   acts_on_files none spent all good free step room lens faults meta frame =
       let below = frame.stays.below in
       acts (step_alone good below.frame.tells_none.deletes_none.refusals step) room lens
-      (λ bound h. numbers_stay bound (written_by shown) old.0.reading new.0.reading result frame.reading h) (faults_alone spent all free faults) meta
-      (record { schema = frame.stays.schema; is_open = frame.stays.is_open; below = passed g.told shown (g.view old.1) (g.view new.1) none below })
+      (λ bound h. numbers_stay bound (written_by shown) old.kept.catalog.reading new.kept.catalog.reading result frame.reading h) (faults_alone spent all free faults) meta
+      (record { schema = frame.stays.schema; is_open = frame.stays.is_open; below = passed g.told shown (g.view old.outside) (g.view new.outside) none below })
 
-  -- one that changed nothing of the directory, but may have changed who reads
-  pub acts_alone : NotesNothing shown → (spent : Type 0) → (spent → Spent old.0 shown) → ((s : State) → ReadsGood s shown) → (TakesMetaLock old.0 shown → ⊥)
-      → StepsTo g old new (λ s. step s shown []) result → IfOk result (λ answer. length answer < (g.view new.1).room)
-      → ((bound : ℕ) → AtMost bound old.0 → AtMost (bound + written_by shown) new.0)
-      → ((bound : ℕ) → FewNumbers bound old.0.reading → OnOk result (FewNumbers (bound + written_by shown) new.0.reading))
-      → EventFaults spent (g.view old.1) (g.view new.1) result → Stays (OnlyReads g.told) g.view old new
-      → Acts g old new event result
-  acts_alone none spent all good free step room lens numbers faults frame =
-      let below = frame.below.kept in
-      acts (step_alone good below.frame.tells_none.deletes_none.refusals step) room lens numbers (faults_alone spent all free faults)
-      (λ tells. on_err result ((g.view new.1).reads meta_name ≡ (g.view old.1).reads meta_name) (frame.below.content tells meta_name))
-      (record { schema = frame.schema; is_open = frame.is_open; below = passed g.told shown (g.view old.1) (g.view new.1) none below })
-
-  -- and leaves the numbers of who reads
-  pub acts_plainly : NotesNothing shown → ((s : State) → ReadsGood s shown) → (TakesMetaLock old.0 shown → ⊥)
-      → StepsTo g old new (λ s. step s shown []) result → IfOk result (λ answer. length answer < (g.view new.1).room)
-      → ((bound : ℕ) → AtMost bound old.0 → AtMost bound new.0)
-      → EventFaults ⊥ (g.view old.1) (g.view new.1) result → KeepsReaders (OnlyReads g.told) g.view old new
+  -- one that changed nothing of the directory, and nothing of who reads
+  pub acts_plainly : NotesNothing shown → ((s : State) → ReadsGood s shown) → (TakesMetaLock old.kept shown → ⊥)
+      → StepsTo g old new (λ s. step s shown []) result → IfOk result (λ answer. length answer < (g.view new.outside).room)
+      → ((bound : ℕ) → AtMost bound old.kept → AtMost bound new.kept)
+      → EventFaults ⊥ (g.view old.outside) (g.view new.outside) result → KeepsReaders (OnlyReads g.told) g.view old new
       → Acts g old new event result
   acts_plainly none good free step room lens faults frame =
-      acts_alone none ⊥ (λ never. absurd never) good free step room (λ bound h. at_most bound (written_by shown) new.0 (lens bound h))
-      (λ bound h. numbers_stay bound (written_by shown) old.0.reading new.0.reading result frame.reading h) faults frame.stays
+      let below = frame.stays.below.kept in
+      acts (step_alone good below.frame.tells_none.deletes_none.refusals step) room (λ bound h. at_most bound (written_by shown) new.kept (lens bound h))
+      (λ bound h. numbers_stay bound (written_by shown) old.kept.catalog.reading new.kept.catalog.reading result frame.reading h) (faults_alone ⊥ (λ never. absurd never) free faults)
+      (λ tells. on_err result ((g.view new.outside).reads meta_name ≡ (g.view old.outside).reads meta_name) (frame.stays.below.content tells meta_name))
+      (record { schema = frame.stays.schema; is_open = frame.stays.is_open; below = passed g.told shown (g.view old.outside) (g.view new.outside) none below })
 
   -- one that reads a commit's files
   pub acts_reading : NotesNothing shown → (good : State → Type 0) → ((s : State) → good s → ReadsGood s shown)
-      → StepsReading g old new (λ s. step s shown []) good result → IfOk result (λ answer. length answer < (g.view new.1).room)
-      → ((bound : ℕ) → AtMost bound old.0 → AtMost (bound + written_by shown) new.0)
-      → ((bound : ℕ) → FewNumbers bound old.0.reading → OnOk result (FewNumbers (bound + written_by shown) new.0.reading))
+      → StepsReading g old new (λ s. step s shown []) good result → IfOk result (λ answer. length answer < (g.view new.outside).room)
+      → ((bound : ℕ) → AtMost bound old.kept → AtMost (bound + written_by shown) new.kept)
+      → ((bound : ℕ) → FewNumbers bound old.kept.catalog.reading → OnOk result (FewNumbers (bound + written_by shown) new.kept.catalog.reading))
       → ApplyFaults g old new shown result → Stays (OnlyReads g.told) g.view old new
       → Acts g old new event result
   acts_reading none good reads did room lens numbers faults frame =
       let below = frame.below.kept in
       acts (stepped_reading g old new shown (λ s. step s shown []) good result below.frame.tells_none.deletes_none.refusals (λ s. refl) reads did) room lens numbers faults
-      (λ tells. on_err result ((g.view new.1).reads meta_name ≡ (g.view old.1).reads meta_name) (frame.below.content tells meta_name))
-      (record { schema = frame.schema; is_open = frame.is_open; below = passed g.told shown (g.view old.1) (g.view new.1) none below })
+      (λ tells. on_err result ((g.view new.outside).reads meta_name ≡ (g.view old.outside).reads meta_name) (frame.below.content tells meta_name))
+      (record { schema = frame.schema; is_open = frame.is_open; below = passed g.told shown (g.view old.outside) (g.view new.outside) none below })
 
   -- one that deletes files
   pub acts_deleting : NotesNothing shown → ((s : State) → ReadsGood s shown)
-      → IfOk result (StepsDeleting g old new (λ s outcomes. step s shown outcomes)) → IfOk result (λ answer. length answer < (g.view new.1).room)
-      → ((bound : ℕ) → AtMost bound old.0 → AtMost (bound + written_by shown) new.0)
+      → IfOk result (StepsDeleting g old new (λ s outcomes. step s shown outcomes)) → IfOk result (λ answer. length answer < (g.view new.outside).room)
+      → ((bound : ℕ) → AtMost bound old.kept → AtMost (bound + written_by shown) new.kept)
       → ApplyFaults g old new shown result → KeepsMeta g old new result → KeepsReaders (MayDelete g.told) g.view old new
       → Acts g old new event result
   acts_deleting none good did room lens faults meta frame =
       acts (stepped_deleting g old new shown (λ s outcomes. step s shown outcomes) result (λ s outcomes. refl) good did) room lens
-      (λ bound h. numbers_stay bound (written_by shown) old.0.reading new.0.reading result frame.reading h) faults meta
-      (record { schema = frame.stays.schema; is_open = frame.stays.is_open; below = passed_deleting g.told shown (g.view old.1) (g.view new.1) none frame.stays.below })
+      (λ bound h. numbers_stay bound (written_by shown) old.kept.catalog.reading new.kept.catalog.reading result frame.reading h) faults meta
+      (record { schema = frame.stays.schema; is_open = frame.stays.is_open; below = passed_deleting g.told shown (g.view old.outside) (g.view new.outside) none frame.stays.below })
 
   -- one that commits
-  pub acts_committing : ((s : State) → ReadsGood s shown) → (TakesMetaLock old.0 shown → ⊥)
-      → (FrameNotes g.told (g.view old.1) (g.view new.1) → MayNoteAt shown (g.view old.1).watched (g.view new.1).watched)
+  pub acts_committing : ((s : State) → ReadsGood s shown) → (TakesMetaLock old.kept shown → ⊥)
+      → (FrameNotes g.told (g.view old.outside) (g.view new.outside) → MayNoteAt shown (g.view old.outside).watched (g.view new.outside).watched)
       → Commits g (Unit {0}) old new (λ s. step s shown []) result → Acts g old new event result
   acts_committing good free notes h =
       let below = h.frame.stays.below in
       subst (λ (e : Event). Acts g old new e result) (sym is) (record {
         step = step_alone good below.frame.tells_none.deletes_none.refusals (λ tells s held. h.step tells s held tt);
         room = h.room;
-        lens = λ bound all. at_most bound (written_by shown) new.0 (same_lens bound old.0 new.0.open_files h.frame.open_files all);
-        numbers = λ bound few. numbers_stay bound (written_by shown) old.0.reading new.0.reading result h.frame.reading few;
+        lens = λ bound all. at_most bound (written_by shown) new.kept (same_lens bound old.kept new.kept.open_files h.frame.open_files all);
+        numbers = λ bound few. numbers_stay bound (written_by shown) old.kept.catalog.reading new.kept.catalog.reading result h.frame.reading few;
         faults = faults_alone ⊥ (λ never. absurd never) free h.faults;
         leaves = record {
           meta = λ tells s held whole. on_err_weaker result (λ left. ([], left)) (h.meta tells s held tt);
@@ -183,3 +179,68 @@ module _ {O W C : Type 0} (g : Ghosts O W C) (old new : Kept × O × Bool) (even
           };
         };
       })
+
+-- an event that touches no file, whose answer was told in room that was made for it
+pub acts_known : {O W C : Type 0} (g : Ghosts O W C) (old mid new : StoreState O) (event : Event) (known : StepResult Catalog) (result : Result (List ℕ) TantivyError)
+    → catalog_step old.kept.catalog old.kept.managed event ≡ Some known → FitsCatalog event
+    → mid.kept ≡ record old.kept { catalog = known.1 } → mid.outside ≡ old.outside → mid.is_open ≡ old.is_open
+    → IfOk result (λ answer. answer ≡ known.0) → IfOk result (λ answer. length answer < (g.view new.outside).room)
+    → EventFaults ⊥ (g.view mid.outside) (g.view new.outside) result → Asks (OnlyReads g.told) g.view mid new
+    → Acts g old new event result
+acts_known g old mid new event known result steps fits kept outside is_open answer room faults frame =
+    let plain = plain_event old.kept.catalog old.kept.managed event known steps in
+    let below : OnlyReads g.told (g.view old.outside) (g.view new.outside) = subst (λ o. OnlyReads g.told (g.view o) (g.view new.outside)) outside frame.below in
+    let now : new.kept ≡ record old.kept { catalog = known.1 } = frame.kept ∙ kept in
+    acts g old new event event refl result
+    (step_alone g old new event event refl result plain.reads below.kept.frame.tells_none.deletes_none.refusals (λ tells s held. weaker result answer (λ a said.
+    let is = lifted s event [] known (here s held) in (
+      said ∙ ap (λ (t : StepResult State). t.0) (sym is),
+      subst (λ (t : StepResult State). Holds (g.view new.outside).reads new.kept t.1) (sym is)
+          (same_holds (g.view old.outside).reads (g.view new.outside).reads (record old.kept { catalog = known.1 }) new.kept (on_catalog s known).1 (below.content tells) now
+          (catalog_held (g.view old.outside).reads old.kept s event known fits steps held)),
+    ))))
+    room
+    (λ bound h. at_most bound (written_by event) new.kept (subst (AtMost bound) (sym now) h))
+    (λ bound few. ok_result result (subst (λ (k : Kept). FewNumbers (bound + written_by event) k.catalog.reading) (sym now) (numbers_grow bound old.kept.catalog old.kept.managed event known few steps)))
+    (faults_alone g old new event event refl result ⊥ (λ never. absurd never) (plain.free old.kept) (subst (λ o. EventFaults ⊥ (g.view o) (g.view new.outside) result) outside faults))
+    (λ tells. on_err result ((g.view new.outside).reads meta_name ≡ (g.view old.outside).reads meta_name) (below.content tells meta_name))
+    (record { schema = ap (λ (k : Kept). k.schema) now; is_open = frame.is_open ∙ is_open; below = passed g.told event (g.view old.outside) (g.view new.outside) plain.notes below.kept }) where
+      here : (s : State) → Holds (g.view old.outside).reads old.kept s → catalog_step s.catalog s.managed event ≡ Some known
+      here s h = subst (λ (c : Catalog). catalog_step c s.managed event ≡ Some known) h.catalog (subst (λ (names : List (List ℕ)). catalog_step old.kept.catalog names event ≡ Some known) h.managed steps)
+
+      weaker : (r : Result (List ℕ) TantivyError) {P Q : List ℕ → Type 0} → IfOk r P → ((a : List ℕ) → P a → Q a) → IfOk r Q
+      weaker (Ok a) h f = f a h
+      weaker (Err e) h f = tt
+
+      ok_result : (r : Result (List ℕ) TantivyError) {P : Type 0} → P → OnOk r P
+      ok_result (Ok a) h = h
+      ok_result (Err e) h = tt
+
+-- one that wasn't made, for want of memory or for a number that is spent
+pub acts_unknown : {O W C : Type 0} (g : Ghosts O W C) (store : StoreState O) (event : Event) (error : TantivyError) → CatalogCause (NumbersSpent store.kept.catalog.reading (written_by event)) error → Acts g store store event (Err error)
+acts_unknown g store event error why = record {
+  step = tt;
+  room = tt;
+  lens = λ bound h. at_most bound (written_by event) store.kept h;
+  numbers = λ bound few. tt;
+  faults = record { quiet = tt; free = λ told takes. tt; cause = cause error why };
+  leaves = record { meta = λ tells s held whole. ([], inl refl); memory = λ tells wanted. refl };
+  frame = record {
+    schema = refl;
+    is_open = refl;
+    below = record {
+      goes_on = record { writers = λ w o. o; ended = λ t w o l. l; clock = omega arith };
+      heard = refl;
+      locks = λ told n. refl;
+      watched = quiet_notes event;
+    };
+  };
+} where
+  cause : (e : TantivyError) → CatalogCause (NumbersSpent store.kept.catalog.reading (written_by event)) e → ActCause g store store event e
+  cause errors.Memory h = refl
+  cause errors.Exhausted h = (refl, inr h)
+  cause other h = absurd h
+
+  quiet_notes : (e : Event) → MayNoteAt e (g.view store.outside).watched (g.view store.outside).watched
+  quiet_notes (events.Commit payload ids) = inl refl
+  quiet_notes other = refl

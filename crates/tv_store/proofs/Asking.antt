@@ -1,13 +1,14 @@
 -- What two calls leave alone, one after the other.
-use Rattle.std.proofs.Common.{◌≡◌, Bool, sym, subst, ◌∙◌, arith}
+use Rattle.std.proofs.Common.{◌≡◌, ℕ, List, subst, ◌∙◌, arith}
 use Rattle.tv_model.specs.Names.{meta_name}
+use Rattle.tv_model.specs.State.{Catalog}
 use Rattle.tv_directory.specs.View.{View, Told, GoesOn, DeletesNone, Frame, OnlyReads}
 use Rattle.tv_directory.specs.Watch.{WatchState, MayNote}
-use Rattle.tv_store.specs.Kept.{Kept}
-use Rattle.tv_store.specs.Stays.{Asks, FrameNotes, MayNotify}
+use Rattle.tv_store.specs.Kept.{FilesState, StoreState, kept_of}
+use Rattle.tv_store.specs.Stays.{Asks, FrameNotes, KeepsFiles}
 
 module _ {W : Type 0} {told : Told} {first now next : View W} where
-  goes_later : GoesOn told first now → GoesOn told now next → GoesOn told first next
+  pub goes_later : GoesOn told first now → GoesOn told now next → GoesOn told first next
   goes_later before after = record {
     writers = λ w o. after.writers w (before.writers w o);
     ended = λ t w o l. after.ended t w (before.writers w o) (before.ended t w o l);
@@ -44,14 +45,15 @@ module _ {W : Type 0} {told : Told} {first now next : View W} where
     watched = subst (λ (w : WatchState). MayNote meta_name w next.watched) before.kept.watched after.watched;
   }
 
-  -- or with the first
-  pub noted_before : MayNotify told first now → DeletesNone told now next → next.watched ≡ now.watched → MayNotify told first next
-  noted_before before after same = record {
-    deletes_none = deletes_later before.deletes_none after;
-    watched = subst (λ (w : WatchState). MayNote meta_name first.watched w) (sym same) before.watched;
-  }
+-- what is kept stays where the files do
+pub kept_by_files : {O W : Type 0} {keeps : View W → View W → Type 0} {view : O → View W} {old new : FilesState O} (schema : List ℕ) (catalog : Catalog) → KeepsFiles keeps view old new → kept_of schema catalog new ≡ kept_of schema catalog old
+kept_by_files {O} {W} {keeps} {view} {old} {new} schema catalog frame =
+    let names : new.managed ≡ old.managed = frame.managed.names in
+    let open_files : new.open_files ≡ old.open_files = frame.open_files in
+    let left : new.left ≡ old.left = frame.managed.left in
+    cc
 
-pub asks_later : {O W : Type 0} {told : Told} {view : O → View W} {first now next : Kept × O × Bool} → Asks (OnlyReads told) view first now → Asks (OnlyReads told) view now next → Asks (OnlyReads told) view first next
+pub asks_later : {O W : Type 0} {told : Told} {view : O → View W} {first now next : StoreState O} → Asks (OnlyReads told) view first now → Asks (OnlyReads told) view now next → Asks (OnlyReads told) view first next
 asks_later before after = record {
   kept = after.kept ∙ before.kept;
   is_open = after.is_open ∙ before.is_open;

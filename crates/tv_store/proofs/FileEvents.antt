@@ -1,6 +1,6 @@
 -- What is held after an event on a file.
-use Rattle.std.proofs.Common.{◌≡◌, ◌≢◌, ℕ, ◌+◌, ◌≤◌, ◌<◌, Bool, true, false, true≢false, cond, not, ◌&&◌, nat_lt, List, [], ◌∷◌, ◌++◌, length, length-append, append_assoc, codes, Option, Some, None, option_map, is_some, refl, sym, ap, subst, ◌∙◌, arith}
-use Rattle.std.specs.Prelude.{IsSome, SomeIff}
+use Rattle.std.proofs.Common.{◌≡◌, ◌≢◌, ℕ, ◌+◌, ◌≤◌, ◌<◌, Bool, true, false, true≢false, cond, List, [], ◌∷◌, ◌++◌, length, length-append, append_assoc, codes, Option, Some, None, option_map, is_some, Result, Ok, Err, refl, sym, ap, subst, ◌∙◌, arith}
+use Rattle.std.specs.Prelude.{IfOk, IsSome, SomeIff}
 use Rattle.std.specs.Fmt.{decimal}
 use Rattle.std.specs.List.{AllByRecursion}
 use Rattle.std.specs.Map.{remove_entry}
@@ -14,17 +14,20 @@ use Rattle.tv_model.specs.declared.segment.SegmentComponent.{SegmentComponent}
 use Rattle.tv_model.specs.Names.{byte_cmp, has, is_undotted, list_name, meta_name}
 use Rattle.tv_model.specs.Ids.{IsId}
 use Rattle.tv_model.specs.Footer.{sealed}
-use Rattle.tv_model.specs.Files.{Reads, Same, KeepsOthers, Sets}
+use Rattle.tv_model.specs.Files.{Reads, KeepsOthers, Sets}
 use Rattle.tv_model.specs.Listing.{Lists}
-use Rattle.tv_model.specs.Segments.{name_of, extension, is_delete, delete_opstamp, num_deleted}
-use Rattle.tv_model.specs.State.{State, Told, FileState, Sealed, Open, Left, at, live_at, file_at, with_file}
-use Rattle.tv_model.specs.Lines.{line, refuse}
-use Rattle.tv_model.specs.FileEvents.{open_name, open_of, open_step, write_name, write_of, write_step, seal_name, seal_of, seal_step}
+use Rattle.tv_model.specs.Segments.{name_of, extension, is_delete, delete_opstamp}
+use Rattle.tv_model.specs.State.{Catalog, State, StepResult, FileState, Sealed, Open, Left, at, live_at, file_at, with_file}
+use Rattle.tv_model.specs.Lines.{line, refuse, unless, given}
+use Rattle.tv_model.specs.FileEvents.{lacks_deletes, open_name, open_step, opened, seal_name, seal_step, sealed_as, write_name, write_step, written_to, wrote}
 use Rattle.tv_model.specs.Index.{IsFileOf}
 use Rattle.tv_model.proofs.Entries.{same_at, at_itself, text_at, lookup_put, has_kept}
 use Rattle.tv_model.proofs.PlainNames.{undotted}
-use Rattle.tv_managed.specs.Managed.{MakesFile}
-use Rattle.tv_store.specs.Kept.{Kept, FileHolds, is_left, Holds, AtMost}
+use Rattle.tv_directory.specs.View.{Kept as KeptView, OnlyReads}
+use Rattle.tv_directory.specs.declared.directory.Directory.{Ghosts}
+use Rattle.tv_store.specs.Kept.{Kept, StoreState, FilesState, kept_of, FileHolds, is_left, Holds}
+use Rattle.tv_store.specs.FileCalls.{OpensFile, FindsFile}
+use Rattle.tv_store.specs.Stays.{Asks, KeepsManaged}
 use Rattle.tv_store.proofs.Holding.{same_holds}
 use Rattle.tv_store.proofs.OpenFiles.{all_put, all_left, all_found}
 
@@ -49,22 +52,67 @@ named_file id name deletes component h is =
     subst IsFileOf (sym is)
     (elim (is_delete component) as (λ b. IsFileOf (cond b (digits ++ codes "." ++ number ++ codes ".del") (digits ++ codes "." ++ extension component))) [ true ↦ delete | false ↦ other ])
 
--- what is told and held, by what the step computes to
-told_is : (told right : Told) (answer : List ℕ) (reads : Reads) (kept : Kept) → told ≡ right → (answer ≡ right.0) × Holds reads kept right.1 → (answer ≡ told.0) × Holds reads kept told.1
-told_is told right answer reads kept e h = subst (λ (t : Told). (answer ≡ t.0) × Holds reads kept t.1) (sym e) h
+-- ---- how the steps go on
 
--- what a store holds is held by its fields
-pub inside_holds : {D : Type 0} (reads : D → Reads) (inside value : Kept × D × Bool) (s : State) → inside ≡ value → Holds (reads value.1) value.0 s → Holds (reads inside.1) inside.0 s
-inside_holds reads inside value s e h = subst (λ v. Holds (reads v.1) v.0 s) (sym e) h
+-- what is told and held after a step
+abbrev pub Told : List ℕ → Reads → Kept → StepResult State → Type 0
+Told answer reads kept told = (answer ≡ told.0) × Holds reads kept told.1
+
+told_is : (answer : List ℕ) (reads : Reads) (kept : Kept) (told right : StepResult State) → told ≡ right → Told answer reads kept right → Told answer reads kept told
+told_is answer reads kept told right e h = subst (Told answer reads kept) (sym e) h
+
+-- the step of a file of a live segment, under the name that the segment gives it
+abbrev pub file_step : State → List ℕ → SegmentComponent → (LiveSegment → List ℕ → StepResult State) → StepResult State
+file_step s id component step = given s (live_at s.catalog id) (codes "unknown-segment") (λ segment. step segment (name_of id segment.deletes component))
+
+pub file_unknown : (s : State) (id : List ℕ) (component : SegmentComponent) (step : LiveSegment → List ℕ → StepResult State) → live_at s.catalog id ≡ None → file_step s id component step ≡ refuse s (codes "unknown-segment" ∷ [])
+file_unknown s id component step none = ap (λ (o : Option LiveSegment). given s o (codes "unknown-segment") (λ segment. step segment (name_of id segment.deletes component))) none
+
+pub file_known : (s : State) (id name : List ℕ) (component : SegmentComponent) (segment : LiveSegment) (step : LiveSegment → List ℕ → StepResult State)
+    → live_at s.catalog id ≡ Some segment → name ≡ name_of id segment.deletes component → file_step s id component step ≡ step segment name
+file_known s id name component segment step found is =
+    ap (λ (o : Option LiveSegment). given s o (codes "unknown-segment") (λ x. step x (name_of id x.deletes component))) found ∙ ap (step segment) (sym is)
 
 -- the live segment that is found is that of the state
-pub live_found : {reads : Reads} {kept : Kept} {s : State} {result found : Option LiveSegment} (id : List ℕ) → Holds reads kept s → result ≡ at kept.live id → result ≡ found → live_at s id ≡ found
-live_found id h looked is = sym (ap (λ (l : List (List ℕ × LiveSegment)). at l id) h.live) ∙ sym looked ∙ is
+pub live_found : {result found : Option LiveSegment} (c : Catalog) (s : State) (id : List ℕ) → c ≡ s.catalog → result ≡ live_at c id → result ≡ found → live_at s.catalog id ≡ found
+live_found c s id same looked is = sym (ap (λ (k : Catalog). live_at k id) same) ∙ sym looked ∙ is
 
--- where neither the managed names nor the open files changed, all is kept
-pub same_kept : (kept : Kept) (managed : List (List ℕ)) (open_files : List (List ℕ × List ℕ)) → managed ≡ kept.managed → open_files ≡ kept.open_files → record kept { managed = managed; open_files = open_files } ≡ kept
-same_kept kept managed open_files e f =
-    ap (λ (m : List (List ℕ)). record kept { managed = m; open_files = open_files }) e ∙ ap (λ (o : List (List ℕ × List ℕ)). record kept { managed = kept.managed; open_files = o }) f
+-- what was written to a file of the state is what was written to it here
+written_is : (file : Option FileState) (read written : Option (List ℕ)) → FileHolds file read written → written_to file ≡ written
+written_is None read written h = sym h.1
+written_is (Some (Sealed bytes)) read written h = sym h.1
+written_is (Some (Open body)) read written h = sym h.1
+written_is (Some Left) read written h = sym h.1
+
+-- the step of an open file, by what was written to it here
+pub body_step : (s : State) (name : List ℕ) (step : List ℕ → StepResult State) (reads : Reads) (kept : Kept) (written : Option (List ℕ)) → Holds reads kept s → IsFileOf name → at kept.open_files name ≡ written
+    → given s (written_to (file_at s name)) (codes "not-open") step ≡ given s written (codes "not-open") step
+body_step s name step reads kept written h fits e =
+    ap (λ (o : Option (List ℕ)). given s o (codes "not-open") step) (written_is (file_at s name) (reads name) (at kept.open_files name) (h.files name fits) ∙ e)
+
+-- the step of a file that is to be opened
+pub open_by : (s : State) (segment : LiveSegment) (component : SegmentComponent) (name : List ℕ) (lacks there : Bool) → lacks_deletes segment component ≡ lacks → is_some (file_at s name) ≡ there
+    → open_name s segment component name ≡ unless s ((lacks, codes "no-deletes" ∷ []) ∷ (there, codes "exists" ∷ []) ∷ []) (opened s name)
+open_by s segment component name lacks there a b =
+    ap (λ (l : Bool). unless s ((l, codes "no-deletes" ∷ []) ∷ (is_some (file_at s name), codes "exists" ∷ []) ∷ []) (opened s name)) a
+    ∙ ap (λ (t : Bool). unless s ((lacks, codes "no-deletes" ∷ []) ∷ (t, codes "exists" ∷ []) ∷ []) (opened s name)) b
+
+-- ---- what is held
+
+-- what a store holds is held by its fields
+pub inside_holds : {O : Type 0} (reads : O → Reads) (inside value : StoreState O) (s : State) → inside ≡ value → Holds (reads value.outside) value.kept s → Holds (reads inside.outside) inside.kept s
+inside_holds {O} reads inside value s e h = subst (λ (v : StoreState O). Holds (reads v.outside) v.kept s) (sym e) h
+
+-- what was held is held after room was made
+pub asked_holds : {O W C : Type 0} (g : Ghosts O W C) (old new : StoreState O) (s : State) → g.told.content → Asks (OnlyReads g.told) g.view old new → Holds (g.view old.outside).reads old.kept s → Holds (g.view new.outside).reads new.kept s
+asked_holds g old new s tells frame h = same_holds (g.view old.outside).reads (g.view new.outside).reads old.kept new.kept s (frame.below.content tells) frame.kept h
+
+-- an event is refused with these words
+pub refused : {O W C E : Type 0} (g : Ghosts O W C) (old new : StoreState O) (s : State) (words : List (List ℕ)) (told : StepResult State) (result : Result (List ℕ) E)
+    → told ≡ refuse s words → g.told.content → Asks (OnlyReads g.told) g.view old new → IfOk result (λ answer. answer ≡ line (codes "refused") words) → Holds (g.view old.outside).reads old.kept s
+    → IfOk result (λ answer. Told answer (g.view new.outside).reads new.kept told)
+refused g old new s words told (Ok answer) is tells frame said h = told_is answer (g.view new.outside).reads new.kept told (refuse s words) is (said, asked_holds g old new s tells frame h)
+refused g old new s words told (Err error) is tells frame said h = tt
 
 -- entries but the one that was taken out
 left_at : {X : Type 0} (es : List (List ℕ × X)) (k q : List ℕ) → is_at (byte_cmp k) q ≡ false → at (remove_entry (is_at (byte_cmp k)) es) q ≡ at es q
@@ -95,32 +143,30 @@ left_put true left file old here now was = here refl ∙ sym now
 left_put false left file old here now was = was
 
 -- what is held where one file changed
-changed : (reads reads2 : Reads) (kept : Kept) (s : State) (name : List ℕ) (file : FileState) (managed : List (List ℕ)) (open_files : List (List ℕ × List ℕ))
-    → IsFileOf name → ((n : List ℕ) → n ≢ name → n ≢ list_name → reads2 n ≡ reads n) → Lists (reads2 list_name) managed → has managed meta_name ≡ true
-    → FileHolds (Some file) (reads2 name) (at open_files name) → ((n : List ℕ) → is_at (byte_cmp name) n ≡ false → at open_files n ≡ at kept.open_files n)
-    → is_left (file_at s name) ≡ false → is_left (Some file) ≡ false
-    → Holds reads kept s → Holds reads2 (record kept { managed = managed; open_files = open_files }) (record (with_file s name file) { managed = managed })
-changed reads reads2 kept s name file managed open_files fits others listing listed here rest was now h = record {
-  live = h.live;
-  next = h.next;
-  commit = h.commit;
-  managed = refl;
+changed : {O : Type 0} (schema : List ℕ) (c : Catalog) (reads reads2 : Reads) (old new : FilesState O) (s : State) (name : List ℕ) (file : FileState) (managed : List (List ℕ))
+    → IsFileOf name → ((n : List ℕ) → n ≢ name → n ≢ list_name → reads2 n ≡ reads n) → new.managed ≡ managed → Lists (reads2 list_name) managed → has managed meta_name ≡ true
+    → FileHolds (Some file) (reads2 name) (at new.open_files name) → ((n : List ℕ) → is_at (byte_cmp name) n ≡ false → at new.open_files n ≡ at old.open_files n)
+    → new.left ≡ old.left → is_left (file_at s name) ≡ false → is_left (Some file) ≡ false
+    → Holds reads (kept_of schema c old) s → Holds reads2 (kept_of schema c new) (record (with_file s name file) { managed = managed })
+changed schema c reads reads2 old new s name file managed fits others names listing listed here rest left was now h = record {
+  catalog = h.catalog;
+  managed = names;
   segments = h.segments;
   names = λ n is.
       named {P = IsFileOf n} (is_at (byte_cmp name) n) file (file_at s n) (λ e. subst IsFileOf (text_at name n e) fits) (h.names n)
       (subst (λ (o : Option FileState). is_some o ≡ true) (lookup_put s.files name n file) is);
   files = λ n it.
-      subst (λ (o : Option FileState). FileHolds o (reads2 n) (at open_files n)) (sym (lookup_put s.files name n file))
-      (chosen (is_at (byte_cmp name) n) file (file_at s n) (reads2 n) (at open_files n)
-      (λ e. subst (λ (m : List ℕ). FileHolds (Some file) (reads2 m) (at open_files m)) (text_at name n e) here)
+      subst (λ (o : Option FileState). FileHolds o (reads2 n) (at new.open_files n)) (sym (lookup_put s.files name n file))
+      (chosen (is_at (byte_cmp name) n) file (file_at s n) (reads2 n) (at new.open_files n)
+      (λ e. subst (λ (m : List ℕ). FileHolds (Some file) (reads2 m) (at new.open_files m)) (text_at name n e) here)
       (λ e.
       let undotted_isnt : n ≢ list_name = λ same. true≢false (sym it.0 ∙ ap is_undotted same) in
-      subst (λ (r : Option (List ℕ)). FileHolds (file_at s n) r (at open_files n)) (sym (others n (apart name n e) undotted_isnt))
+      subst (λ (r : Option (List ℕ)). FileHolds (file_at s n) r (at new.open_files n)) (sym (others n (apart name n e) undotted_isnt))
       (subst (λ (w : Option (List ℕ)). FileHolds (file_at s n) (reads n) w) (sym (rest n e)) (h.files n it))));
   left = λ n.
-      subst (λ (o : Option FileState). has kept.left n ≡ is_left o) (sym (lookup_put s.files name n file))
-      (left_put (is_at (byte_cmp name) n) (has kept.left n) file (file_at s n) (λ e. h.left n ∙ ap (λ (m : List ℕ). is_left (file_at s m)) (sym (text_at name n e)) ∙ was) now (h.left n));
-  reading = h.reading;
+      let still : has new.left n ≡ is_left (file_at s n) = ap (λ (names : List (List ℕ)). has names n) left ∙ h.left n in
+      subst (λ (o : Option FileState). has new.left n ≡ is_left o) (sym (lookup_put s.files name n file))
+      (left_put (is_at (byte_cmp name) n) (has new.left n) file (file_at s n) (λ e. still ∙ ap (λ (m : List ℕ). is_left (file_at s m)) (sym (text_at name n e)) ∙ was) now still);
   meta = (h.meta.0, others meta_name (λ e. fits.1 (sym e)) (λ e. absurd cc) ∙ h.meta.1, h.meta.2);
   listing = listing;
   listed = listed;
@@ -141,122 +187,21 @@ absent_isnt_left : (file : Option FileState) → is_some file ≡ false → is_l
 absent_isnt_left None e = refl
 absent_isnt_left (Some file) e = absurd (true≢false e)
 
--- a file that was written to is open, and one that wasn't isn't
-is_open_file : (file : Option FileState) (read written : Option (List ℕ)) (body : List ℕ) → FileHolds file read written → written ≡ Some body → file ≡ Some (Open body)
-is_open_file None read written body h e = absurd cc
-is_open_file (Some (Sealed bytes)) read written body h e = absurd cc
-is_open_file (Some (Open text)) read written body h e = let same : Some text ≡ Some body = sym h.1 ∙ e in cc
-is_open_file (Some Left) read written body h e = absurd cc
-
-write_refused : (s : State) (name bytes : List ℕ) (file : Option FileState) (read written : Option (List ℕ)) → FileHolds file read written → written ≡ None → write_name s name bytes file ≡ refuse s (codes "not-open")
-write_refused s name bytes None read written h e = refl
-write_refused s name bytes (Some (Sealed body)) read written h e = refl
-write_refused s name bytes (Some (Open body)) read written h e = absurd cc
-write_refused s name bytes (Some Left) read written h e = refl
-
-seal_refused : (s : State) (name : List ℕ) (file : Option FileState) (read written : Option (List ℕ)) → FileHolds file read written → written ≡ None → seal_name s name file ≡ refuse s (codes "not-open")
-seal_refused s name None read written h e = refl
-seal_refused s name (Some (Sealed body)) read written h e = refl
-seal_refused s name (Some (Open body)) read written h e = absurd cc
-seal_refused s name (Some Left) read written h e = refl
+-- a file that was written to isn't left
+open_isnt_left : (file : Option FileState) (read written : Option (List ℕ)) (body : List ℕ) → FileHolds file read written → written ≡ Some body → is_left file ≡ false
+open_isnt_left None read written body h e = refl
+open_isnt_left (Some (Sealed bytes)) read written body h e = refl
+open_isnt_left (Some (Open text)) read written body h e = refl
+open_isnt_left (Some Left) read written body h e = let k : None ≡ Some body = sym h.1 ∙ e in absurd cc
 
 -- a file whose length is told has a body of that length
 has_body : (o : Option (List ℕ)) (len : ℕ) → Some len ≡ option_map length o → (body : List ℕ) × (o ≡ Some body) × (len ≡ length body)
 has_body None len e = absurd cc
 has_body (Some body) len e = (body, refl, cc)
 
-has_none : (o : Option (List ℕ)) → None ≡ option_map length o → o ≡ None
+pub has_none : (o : Option (List ℕ)) → None ≡ option_map length o → o ≡ None
 has_none None e = refl
 has_none (Some body) e = absurd cc
-
--- the id is of no live segment
-pub open_unknown : (reads : Reads) (kept : Kept) (s : State) (id : List ℕ) (component : SegmentComponent) (answer : List ℕ) → live_at s id ≡ None → answer ≡ line (codes "refused") (codes "unknown-segment" ∷ [])
-    → Holds reads kept s → (answer ≡ (open_step s id component).0) × Holds reads kept (open_step s id component).1
-open_unknown reads kept s id component answer unknown said h =
-    told_is (open_step s id component) (refuse s (codes "unknown-segment")) answer reads kept (ap (λ (o : Option LiveSegment). open_of s id component o) unknown) (said, h)
-
-pub write_unknown : (reads : Reads) (kept : Kept) (s : State) (id : List ℕ) (component : SegmentComponent) (bytes answer : List ℕ) → live_at s id ≡ None → answer ≡ line (codes "refused") (codes "unknown-segment" ∷ [])
-    → Holds reads kept s → (answer ≡ (write_step s id component bytes).0) × Holds reads kept (write_step s id component bytes).1
-write_unknown reads kept s id component bytes answer unknown said h =
-    told_is (write_step s id component bytes) (refuse s (codes "unknown-segment")) answer reads kept (ap (λ (o : Option LiveSegment). write_of s id component bytes o) unknown) (said, h)
-
-pub seal_unknown : (reads : Reads) (kept : Kept) (s : State) (id : List ℕ) (component : SegmentComponent) (answer : List ℕ) → live_at s id ≡ None → answer ≡ line (codes "refused") (codes "unknown-segment" ∷ [])
-    → Holds reads kept s → (answer ≡ (seal_step s id component).0) × Holds reads kept (seal_step s id component).1
-seal_unknown reads kept s id component answer unknown said h =
-    told_is (seal_step s id component) (refuse s (codes "unknown-segment")) answer reads kept (ap (λ (o : Option LiveSegment). seal_of s id component o) unknown) (said, h)
-
--- how an event on a live segment goes on
-open_found : (s : State) (id name : List ℕ) (component : SegmentComponent) (segment : LiveSegment) (b : Bool) → live_at s id ≡ Some segment → b ≡ (is_delete component && not (nat_lt 0 (num_deleted segment.deletes))) → name ≡ name_of id segment.deletes component
-    → open_step s id component ≡ cond b (refuse s (codes "no-deletes")) (open_name s name)
-open_found s id name component segment b found lacks is =
-    ap (λ (o : Option LiveSegment). open_of s id component o) found
-    ∙ ap (λ (d : Bool). cond d (refuse s (codes "no-deletes")) (open_name s (name_of id segment.deletes component))) (sym lacks)
-    ∙ ap (λ (n : List ℕ). cond b (refuse s (codes "no-deletes")) (open_name s n)) (sym is)
-
-write_found : (s : State) (id name : List ℕ) (component : SegmentComponent) (bytes : List ℕ) (segment : LiveSegment) → live_at s id ≡ Some segment → name ≡ name_of id segment.deletes component → write_step s id component bytes ≡ write_name s name bytes (file_at s name)
-write_found s id name component bytes segment found is =
-    ap (λ (o : Option LiveSegment). write_of s id component bytes o) found ∙ ap (λ (n : List ℕ). write_name s n bytes (file_at s n)) (sym is)
-
-seal_found : (s : State) (id name : List ℕ) (component : SegmentComponent) (segment : LiveSegment) → live_at s id ≡ Some segment → name ≡ name_of id segment.deletes component → seal_step s id component ≡ seal_name s name (file_at s name)
-seal_found s id name component segment found is =
-    ap (λ (o : Option LiveSegment). seal_of s id component o) found ∙ ap (λ (n : List ℕ). seal_name s n (file_at s n)) (sym is)
-
--- a delete file without deletes
-pub open_lacks : (reads : Reads) (kept : Kept) (s : State) (id : List ℕ) (component : SegmentComponent) (segment : LiveSegment) (answer : List ℕ)
-    → live_at s id ≡ Some segment → true ≡ (is_delete component && not (nat_lt 0 (num_deleted segment.deletes))) → answer ≡ line (codes "refused") (codes "no-deletes" ∷ [])
-    → Holds reads kept s → (answer ≡ (open_step s id component).0) × Holds reads kept (open_step s id component).1
-open_lacks reads kept s id component segment answer found lacks said h =
-    told_is (open_step s id component) (refuse s (codes "no-deletes")) answer reads kept (open_found s id (name_of id segment.deletes component) component segment true found lacks refl) (said, h)
-
--- a file that is there
-pub open_exists : (reads reads2 : Reads) (kept kept2 : Kept) (s : State) (id name : List ℕ) (component : SegmentComponent) (segment : LiveSegment) (answer : List ℕ)
-    → live_at s id ≡ Some segment → false ≡ (is_delete component && not (nat_lt 0 (num_deleted segment.deletes))) → name ≡ name_of id segment.deletes component → IsFileOf name
-    → IsSome (reads name) → answer ≡ line (codes "refused") (codes "exists" ∷ [])
-    → Same reads reads2 → kept2 ≡ kept → Holds reads kept s → (answer ≡ (open_step s id component).0) × Holds reads2 kept2 (open_step s id component).1
-open_exists reads reads2 kept kept2 s id name component segment answer found lacks is fits some said same e h =
-    let there : is_some (file_at s name) ≡ true = is_there (file_at s name) (reads name) (at kept.open_files name) (h.files name fits) some in
-    told_is (open_step s id component) (refuse s (codes "exists")) answer reads2 kept2
-    (open_found s id name component segment false found lacks is
-    ∙ ap (λ (b : Bool). cond b (refuse s (codes "exists")) (line (codes "opened") (name ∷ []), record (with_file s name (Open [])) { managed = insert_key byte_cmp s.managed name })) there)
-    (said, same_holds reads reads2 kept kept2 s same e h)
-
--- a file that was made
-pub opened : (reads reads2 : Reads) (kept : Kept) (s : State) (id name : List ℕ) (component : SegmentComponent) (segment : LiveSegment) (answer : List ℕ) (managed : List (List ℕ)) (open_files : List (List ℕ × List ℕ))
-    → live_at s id ≡ Some segment → false ≡ (is_delete component && not (nat_lt 0 (num_deleted segment.deletes))) → name ≡ name_of id segment.deletes component → IsFileOf name
-    → MakesFile reads reads2 name → (Lists (reads list_name) kept.managed → Lists (reads2 list_name) managed) → managed ≡ insert_key byte_cmp kept.managed name → open_files ≡ insert_entry byte_cmp kept.open_files name []
-    → answer ≡ line (codes "opened") (name ∷ [])
-    → Holds reads kept s → (answer ≡ (open_step s id component).0) × Holds reads2 (record kept { managed = managed; open_files = open_files }) (open_step s id component).1
-opened reads reads2 kept s id name component segment answer managed open_files found lacks is fits makes lists put opens said h =
-    let gone : is_some (file_at s name) ≡ false = isnt_there (file_at s name) (reads name) (at kept.open_files name) (h.files name fits) makes.absent in
-    let managed_is : managed ≡ insert_key byte_cmp s.managed name = put ∙ ap (λ (m : List (List ℕ)). insert_key byte_cmp m name) h.managed in
-    let after = λ (m : List (List ℕ)). record (with_file s name (Open [])) { managed = m } in
-    let looks : (n : List ℕ) → at open_files n ≡ cond (is_at (byte_cmp name) n) (Some []) (at kept.open_files n) =
-    λ n. ap (λ (es : List (List ℕ × List ℕ)). at es n) opens ∙ lookup_put kept.open_files name n [] in
-    let holds = changed reads reads2 kept s name (Open []) managed open_files fits makes.others
-    (lists (subst (λ (m : List (List ℕ)). Lists (reads list_name) m) (sym h.managed) h.listing))
-    (subst (λ (m : List (List ℕ)). has m meta_name ≡ true) (sym managed_is) (has_kept s.managed name meta_name h.listed))
-    (ap is_some makes.empty, looks name ∙ ap (λ (b : Bool). cond b (Some []) (at kept.open_files name)) (at_itself name))
-    (λ n e. looks n ∙ ap (λ (b : Bool). cond b (Some []) (at kept.open_files n)) e) (absent_isnt_left (file_at s name) gone) refl h in
-    told_is (open_step s id component) (line (codes "opened") (name ∷ []), after (insert_key byte_cmp s.managed name)) answer reads2 (record kept { managed = managed; open_files = open_files })
-    (open_found s id name component segment false found lacks is ∙ ap (λ (b : Bool). cond b (refuse s (codes "exists")) (line (codes "opened") (name ∷ []), after (insert_key byte_cmp s.managed name))) gone)
-    (said, subst (λ (m : List (List ℕ)). Holds reads2 (record kept { managed = managed; open_files = open_files }) (after m)) managed_is holds)
-
--- a file that isn't open
-pub write_closed : (reads : Reads) (kept : Kept) (s : State) (id name : List ℕ) (component : SegmentComponent) (bytes : List ℕ) (segment : LiveSegment) (answer : List ℕ)
-    → live_at s id ≡ Some segment → name ≡ name_of id segment.deletes component → IsFileOf name → None ≡ option_map length (at kept.open_files name) → answer ≡ line (codes "refused") (codes "not-open" ∷ [])
-    → Holds reads kept s → (answer ≡ (write_step s id component bytes).0) × Holds reads kept (write_step s id component bytes).1
-write_closed reads kept s id name component bytes segment answer found is fits none said h =
-    told_is (write_step s id component bytes) (refuse s (codes "not-open")) answer reads kept
-    (write_found s id name component bytes segment found is ∙ write_refused s name bytes (file_at s name) (reads name) (at kept.open_files name) (h.files name fits) (has_none (at kept.open_files name) none))
-    (said, h)
-
-pub seal_closed : (reads : Reads) (kept : Kept) (s : State) (id name : List ℕ) (component : SegmentComponent) (segment : LiveSegment) (answer : List ℕ)
-    → live_at s id ≡ Some segment → name ≡ name_of id segment.deletes component → IsFileOf name → None ≡ option_map length (at kept.open_files name) → answer ≡ line (codes "refused") (codes "not-open" ∷ [])
-    → Holds reads kept s → (answer ≡ (seal_step s id component).0) × Holds reads kept (seal_step s id component).1
-seal_closed reads kept s id name component segment answer found is fits none said h =
-    told_is (seal_step s id component) (refuse s (codes "not-open")) answer reads kept
-    (seal_found s id name component segment found is ∙ seal_refused s name (file_at s name) (reads name) (at kept.open_files name) (h.files name fits) (has_none (at kept.open_files name) none))
-    (said, h)
 
 -- the managed names stay, and so does what the list reads
 kept_list : (reads reads2 : Reads) (name : List ℕ) (names : List (List ℕ)) → IsFileOf name → KeepsOthers reads reads2 name → Lists (reads list_name) names → Lists (reads2 list_name) names
@@ -264,99 +209,120 @@ kept_list reads reads2 name names fits others h =
     let isnt : list_name ≢ name = λ e. true≢false (sym fits.0 ∙ ap is_undotted (sym e)) in
     subst (λ (r : Option (List ℕ)). Lists r names) (sym (others list_name isnt)) h
 
--- more bytes were written
-pub written : (reads reads2 : Reads) (kept : Kept) (s : State) (id name : List ℕ) (component : SegmentComponent) (bytes : List ℕ) (segment : LiveSegment) (len : ℕ) (answer : List ℕ) (managed : List (List ℕ)) (open_files : List (List ℕ × List ℕ))
-    → live_at s id ≡ Some segment → name ≡ name_of id segment.deletes component → IsFileOf name → Some len ≡ option_map length (at kept.open_files name)
-    → KeepsOthers reads reads2 name → IsSome (reads2 name) → managed ≡ kept.managed
-    → ((body : List ℕ) → at kept.open_files name ≡ Some body → open_files ≡ insert_entry byte_cmp (remove_entry (is_at (byte_cmp name)) kept.open_files) name (body ++ bytes))
-    → answer ≡ line (codes "wrote") (name ∷ decimal (len + length bytes) ∷ [])
-    → Holds reads kept s → (answer ≡ (write_step s id component bytes).0) × Holds reads2 (record kept { managed = managed; open_files = open_files }) (write_step s id component bytes).1
-written reads reads2 kept s id name component bytes segment len answer managed open_files found is fits has_len others there same puts said h =
-    let it = has_body (at kept.open_files name) len has_len in
-    let body : List ℕ = it.0 in
-    let longer : len + length bytes ≡ length (body ++ bytes) = ap (λ n. n + length bytes) it.2 ∙ sym (length-append body bytes) in
-    let file : file_at s name ≡ Some (Open body) = is_open_file (file_at s name) (reads name) (at kept.open_files name) body (h.files name fits) it.1 in
-    let looks : (n : List ℕ) → at open_files n ≡ cond (is_at (byte_cmp name) n) (Some (body ++ bytes)) (at (remove_entry (is_at (byte_cmp name)) kept.open_files) n) =
-    λ n. ap (λ (es : List (List ℕ × List ℕ)). at es n) (puts body it.1) ∙ lookup_put (remove_entry (is_at (byte_cmp name)) kept.open_files) name n (body ++ bytes) in
-    let holds = changed reads reads2 kept s name (Open (body ++ bytes)) s.managed open_files fits (λ n isnt _. others n isnt)
-    (kept_list reads reads2 name s.managed fits others h.listing) h.listed
-    (there, looks name ∙ ap (λ (b : Bool). cond b (Some (body ++ bytes)) (at (remove_entry (is_at (byte_cmp name)) kept.open_files) name)) (at_itself name))
-    (λ n e. looks n ∙ ap (λ (b : Bool). cond b (Some (body ++ bytes)) (at (remove_entry (is_at (byte_cmp name)) kept.open_files) n)) e ∙ left_at kept.open_files name n e) (ap is_left file) refl h in
-    told_is (write_step s id component bytes) (line (codes "wrote") (name ∷ decimal (length (body ++ bytes)) ∷ []), with_file s name (Open (body ++ bytes))) answer reads2 (record kept { managed = managed; open_files = open_files })
-    (write_found s id name component bytes segment found is ∙ ap (λ (f : Option FileState). write_name s name bytes f) file)
-    (said ∙ ap (λ (n : ℕ). line (codes "wrote") (name ∷ decimal n ∷ [])) longer, subst (λ (m : List (List ℕ)). Holds reads2 (record kept { managed = m; open_files = open_files }) (with_file s name (Open (body ++ bytes)))) (sym (same ∙ h.managed)) holds)
+-- a file of a live segment, by its step under this name
+module _ {O W C : Type 0} (g : Ghosts O W C) (schema : List ℕ) (c : Catalog) (old new : FilesState O) (s : State) (id name : List ℕ) (component : SegmentComponent) (segment : LiveSegment) (answer : List ℕ) where
+  -- that is there
+  pub open_exists : g.told.content → live_at s.catalog id ≡ Some segment → lacks_deletes segment component ≡ false → name ≡ name_of id segment.deletes component → IsFileOf name
+      → FindsFile g old new name → answer ≡ line (codes "refused") (codes "exists" ∷ [])
+      → Holds (g.view old.outside).reads (kept_of schema c old) s → Told answer (g.view new.outside).reads (kept_of schema c new) (open_step s id component)
+  open_exists tells found lacks is fits finds said h =
+      let there : is_some (file_at s name) ≡ true = is_there (file_at s name) ((g.view old.outside).reads name) (at old.open_files name) (h.files name fits) (finds.there tells) in
+      let kept : kept_of schema c new ≡ kept_of schema c old = rw (finds.names tells, finds.open_files, finds.left) refl in
+      told_is answer (g.view new.outside).reads (kept_of schema c new) (open_step s id component) (refuse s (codes "exists" ∷ []))
+      (file_known s id name component segment (λ x n. open_name s x component n) found is ∙ open_by s segment component name false true lacks there)
+      (said, same_holds (g.view old.outside).reads (g.view new.outside).reads (kept_of schema c old) (kept_of schema c new) s (finds.same tells) kept h)
 
--- a file was sealed
-pub sealed_file : (reads reads2 : Reads) (kept : Kept) (s : State) (id name : List ℕ) (component : SegmentComponent) (segment : LiveSegment) (len : ℕ) (answer : List ℕ) (managed : List (List ℕ)) (open_files : List (List ℕ × List ℕ))
-    → live_at s id ≡ Some segment → name ≡ name_of id segment.deletes component → IsFileOf name → Some len ≡ option_map length (at kept.open_files name)
-    → ((body : List ℕ) → at kept.open_files name ≡ Some body → Sets reads reads2 name (Some (sealed body))) → managed ≡ kept.managed
-    → open_files ≡ remove_entry (is_at (byte_cmp name)) kept.open_files → at open_files name ≡ None
-    → answer ≡ line (codes "sealed") (name ∷ decimal len ∷ [])
-    → Holds reads kept s → (answer ≡ (seal_step s id component).0) × Holds reads2 (record kept { managed = managed; open_files = open_files }) (seal_step s id component).1
-sealed_file reads reads2 kept s id name component segment len answer managed open_files found is fits has_len sets same cut closed said h =
-    let it = has_body (at kept.open_files name) len has_len in
-    let body : List ℕ = it.0 in
-    let file : file_at s name ≡ Some (Open body) = is_open_file (file_at s name) (reads name) (at kept.open_files name) body (h.files name fits) it.1 in
-    let new : Sets reads reads2 name (Some (sealed body)) = sets body it.1 in
-    let holds = changed reads reads2 kept s name (Sealed (sealed body)) s.managed open_files fits (λ n isnt _. new.others n isnt)
-    (kept_list reads reads2 name s.managed fits new.others h.listing) h.listed
-    (new.changed, closed)
-    (λ n e. ap (λ (es : List (List ℕ × List ℕ)). at es n) cut ∙ left_at kept.open_files name n e) (ap is_left file) refl h in
-    told_is (seal_step s id component) (line (codes "sealed") (name ∷ decimal (length body) ∷ []), with_file s name (Sealed (sealed body))) answer reads2 (record kept { managed = managed; open_files = open_files })
-    (seal_found s id name component segment found is ∙ ap (λ (f : Option FileState). seal_name s name f) file)
-    (said ∙ ap (λ (n : ℕ). line (codes "sealed") (name ∷ decimal n ∷ [])) it.2, subst (λ (m : List (List ℕ)). Holds reads2 (record kept { managed = m; open_files = open_files }) (with_file s name (Sealed (sealed body)))) (sym (same ∙ h.managed)) holds)
+  -- that was made
+  pub open_made : g.told.content → live_at s.catalog id ≡ Some segment → lacks_deletes segment component ≡ false → name ≡ name_of id segment.deletes component → IsFileOf name
+      → OpensFile g old new name → answer ≡ line (codes "opened") (name ∷ [])
+      → Holds (g.view old.outside).reads (kept_of schema c old) s → Told answer (g.view new.outside).reads (kept_of schema c new) (open_step s id component)
+  open_made tells found lacks is fits opens said h =
+      let makes = opens.makes tells in
+      let gone : is_some (file_at s name) ≡ false = isnt_there (file_at s name) ((g.view old.outside).reads name) (at old.open_files name) (h.files name fits) makes.absent in
+      let names : new.managed ≡ insert_key byte_cmp s.managed name = opens.names ∙ ap (λ (m : List (List ℕ)). insert_key byte_cmp m name) h.managed in
+      let looks : (n : List ℕ) → at new.open_files n ≡ cond (is_at (byte_cmp name) n) (Some []) (at old.open_files n) =
+      λ n. ap (λ (es : List (List ℕ × List ℕ)). at es n) opens.open_files ∙ lookup_put old.open_files name n [] in
+      told_is answer (g.view new.outside).reads (kept_of schema c new) (open_step s id component) (opened s name)
+      (file_known s id name component segment (λ x n. open_name s x component n) found is ∙ open_by s segment component name false false lacks gone) (
+        said,
+        changed schema c (g.view old.outside).reads (g.view new.outside).reads old new s name (Open []) (insert_key byte_cmp s.managed name) fits makes.others names
+            (subst (Lists ((g.view new.outside).reads list_name)) names (opens.list tells (subst (Lists ((g.view old.outside).reads list_name)) (sym h.managed) h.listing)))
+            (has_kept s.managed name meta_name h.listed)
+            (ap is_some makes.empty, looks name ∙ ap (λ (b : Bool). cond b (Some []) (at old.open_files name)) (at_itself name))
+            (λ n e. looks n ∙ ap (λ (b : Bool). cond b (Some []) (at old.open_files n)) e) opens.left (absent_isnt_left (file_at s name) gone) refl h,
+      )
 
--- what is at most a bound is at most a larger one
-longer : (es : List (List ℕ × List ℕ)) (bound n : ℕ) → AllByRecursion (λ e. length e.1 ≤ bound) es → AllByRecursion (λ e. length e.1 ≤ bound + n) es
-longer [] bound n h = tt
-longer (e ∷ es) bound n h = (omega (arith, h.0), longer es bound n h.1)
+  -- to which bytes were written
+  pub written : (bytes : List ℕ) (len : ℕ) → live_at s.catalog id ≡ Some segment → name ≡ name_of id segment.deletes component → IsFileOf name → Some len ≡ option_map length (at old.open_files name)
+      → KeepsOthers (g.view old.outside).reads (g.view new.outside).reads name → IsSome ((g.view new.outside).reads name) → KeepsManaged (KeptView g.told) g.view old new
+      → ((body : List ℕ) → at old.open_files name ≡ Some body → new.open_files ≡ insert_entry byte_cmp (remove_entry (is_at (byte_cmp name)) old.open_files) name (body ++ bytes))
+      → answer ≡ line (codes "wrote") (name ∷ decimal (len + length bytes) ∷ [])
+      → Holds (g.view old.outside).reads (kept_of schema c old) s → Told answer (g.view new.outside).reads (kept_of schema c new) (write_step s id component bytes)
+  written bytes len found is fits has_len others there frame puts said h =
+      let it = has_body (at old.open_files name) len has_len in
+      let body : List ℕ = it.0 in
+      let rest = remove_entry (is_at (byte_cmp name)) old.open_files in
+      let sum : len + length bytes ≡ length (body ++ bytes) = ap (λ n. n + length bytes) it.2 ∙ sym (length-append body bytes) in
+      let looks : (n : List ℕ) → at new.open_files n ≡ cond (is_at (byte_cmp name) n) (Some (body ++ bytes)) (at rest n) =
+      λ n. ap (λ (es : List (List ℕ × List ℕ)). at es n) (puts body it.1) ∙ lookup_put rest name n (body ++ bytes) in
+      told_is answer (g.view new.outside).reads (kept_of schema c new) (write_step s id component bytes) (wrote s name bytes body)
+      (file_known s id name component segment (λ x n. write_name s n bytes) found is ∙ body_step s name (wrote s name bytes) (g.view old.outside).reads (kept_of schema c old) (Some body) h fits it.1) (
+        said ∙ ap (λ (n : ℕ). line (codes "wrote") (name ∷ decimal n ∷ [])) sum,
+        changed schema c (g.view old.outside).reads (g.view new.outside).reads old new s name (Open (body ++ bytes)) s.managed fits (λ n isnt _. others n isnt) (frame.names ∙ h.managed)
+            (kept_list (g.view old.outside).reads (g.view new.outside).reads name s.managed fits others h.listing) h.listed
+            (there, looks name ∙ ap (λ (b : Bool). cond b (Some (body ++ bytes)) (at rest name)) (at_itself name))
+            (λ n e. looks n ∙ ap (λ (b : Bool). cond b (Some (body ++ bytes)) (at rest n)) e ∙ left_at old.open_files name n e) frame.left
+            (open_isnt_left (file_at s name) ((g.view old.outside).reads name) (at old.open_files name) body (h.files name fits) it.1) refl h,
+      )
 
--- so are open files that stay
-pub most_same : (kept kept2 : Kept) (n : ℕ) → kept2 ≡ kept → (bound : ℕ) → AtMost bound kept → AtMost (bound + n) kept2
-most_same kept kept2 n e bound h = subst (λ (k : Kept). AtMost (bound + n) k) (sym e) (longer kept.open_files bound n h)
+  -- that was sealed
+  pub sealed_file : (len : ℕ) → live_at s.catalog id ≡ Some segment → name ≡ name_of id segment.deletes component → IsFileOf name → Some len ≡ option_map length (at old.open_files name)
+      → ((body : List ℕ) → at old.open_files name ≡ Some body → Sets (g.view old.outside).reads (g.view new.outside).reads name (Some (sealed body))) → KeepsManaged (KeptView g.told) g.view old new
+      → new.open_files ≡ remove_entry (is_at (byte_cmp name)) old.open_files → at new.open_files name ≡ None
+      → answer ≡ line (codes "sealed") (name ∷ decimal len ∷ [])
+      → Holds (g.view old.outside).reads (kept_of schema c old) s → Told answer (g.view new.outside).reads (kept_of schema c new) (seal_step s id component)
+  sealed_file len found is fits has_len sets frame cut closed said h =
+      let it = has_body (at old.open_files name) len has_len in
+      let body : List ℕ = it.0 in
+      let now = sets body it.1 in
+      told_is answer (g.view new.outside).reads (kept_of schema c new) (seal_step s id component) (sealed_as s name body)
+      (file_known s id name component segment (λ x n. seal_name s n) found is ∙ body_step s name (sealed_as s name) (g.view old.outside).reads (kept_of schema c old) (Some body) h fits it.1) (
+        said ∙ ap (λ (n : ℕ). line (codes "sealed") (name ∷ decimal n ∷ [])) it.2,
+        changed schema c (g.view old.outside).reads (g.view new.outside).reads old new s name (Sealed (sealed body)) s.managed fits (λ n isnt _. now.others n isnt) (frame.names ∙ h.managed)
+            (kept_list (g.view old.outside).reads (g.view new.outside).reads name s.managed fits now.others h.listing) h.listed
+            (now.changed, closed) (λ n e. ap (λ (es : List (List ℕ × List ℕ)). at es n) cut ∙ left_at old.open_files name n e) frame.left
+            (open_isnt_left (file_at s name) ((g.view old.outside).reads name) (at old.open_files name) body (h.files name fits) it.1) refl h,
+      )
 
--- so are those after one was opened
-pub most_opened : (bound : ℕ) (old es new : List (List ℕ × List ℕ)) (name : List ℕ) → es ≡ old → new ≡ insert_entry byte_cmp es name []
-    → AllByRecursion (λ e. length e.1 ≤ bound) old → AllByRecursion (λ e. length e.1 ≤ bound) new
-most_opened bound old es new name same opens h =
-    subst (λ (fs : List (List ℕ × List ℕ)). AllByRecursion (λ e. length e.1 ≤ bound) fs) (sym (opens ∙ ap (λ (fs : List (List ℕ × List ℕ)). insert_entry byte_cmp fs name []) same))
-    (all_put (λ e. length e.1 ≤ bound) old name [] (omega arith) h)
+-- ---- how many bytes are open
 
--- so are those after one was closed
-pub most_left : (bound : ℕ) (old es new : List (List ℕ × List ℕ)) (name : List ℕ) → es ≡ old → new ≡ remove_entry (is_at (byte_cmp name)) es
-    → AllByRecursion (λ e. length e.1 ≤ bound) old → AllByRecursion (λ e. length e.1 ≤ bound) new
-most_left bound old es new name same cut h =
-    subst (λ (fs : List (List ℕ × List ℕ)). AllByRecursion (λ e. length e.1 ≤ bound) fs) (sym (cut ∙ ap (λ (fs : List (List ℕ × List ℕ)). remove_entry (is_at (byte_cmp name)) fs) same))
-    (all_left (λ e. length e.1 ≤ bound) old (is_at (byte_cmp name)) h)
+-- no file has more bytes than this
+abbrev pub Short : ℕ → List (List ℕ × List ℕ) → Type 0
+Short bound es = AllByRecursion (λ e. length e.1 ≤ bound) es
 
-pub most_failed : (bound n : ℕ) (old es new : List (List ℕ × List ℕ)) (name : List ℕ) → es ≡ old → new ≡ remove_entry (is_at (byte_cmp name)) es
-    → AllByRecursion (λ e. length e.1 ≤ bound) old → AllByRecursion (λ e. length e.1 ≤ bound + n) new
-most_failed bound n old es new name same cut h = longer new bound n (most_left bound old es new name same cut h)
+longer : (bound n : ℕ) (es : List (List ℕ × List ℕ)) → Short bound es → Short (bound + n) es
+longer bound n [] h = tt
+longer bound n (e ∷ es) h = (omega (arith, h.0), longer bound n es h.1)
 
--- the bytes of an open file are at most the bound
-most_body : (bound : ℕ) (es : List (List ℕ × List ℕ)) (name body : List ℕ) → AllByRecursion (λ e. length e.1 ≤ bound) es → at es name ≡ Some body → length body ≤ bound
-most_body bound es name body h e = all_found (λ e. length e.1 ≤ bound) es name body h e
+-- so are files that stay
+pub short_same : (bound n : ℕ) (es new : List (List ℕ × List ℕ)) → new ≡ es → Short bound es → Short (bound + n) new
+short_same bound n es new same h = subst (Short (bound + n)) (sym same) (longer bound n es h)
 
--- so are those of one to which bytes were written, with these bytes
-pub most_written : (bound len : ℕ) (bytes : List ℕ) (old es new : List (List ℕ × List ℕ)) (name : List ℕ) → es ≡ old → Some len ≡ option_map length (at es name)
-    → ((body : List ℕ) → at es name ≡ Some body → new ≡ insert_entry byte_cmp (remove_entry (is_at (byte_cmp name)) es) name (body ++ bytes))
-    → AllByRecursion (λ e. length e.1 ≤ bound) old → AllByRecursion (λ e. length e.1 ≤ bound + length bytes) new
-most_written bound len bytes old es new name same has_len puts h =
+-- those after one was opened
+pub short_opened : (bound : ℕ) (es new : List (List ℕ × List ℕ)) (name : List ℕ) → new ≡ insert_entry byte_cmp es name [] → Short bound es → Short bound new
+short_opened bound es new name opens h = subst (Short bound) (sym opens) (all_put (λ e. length e.1 ≤ bound) es name [] (omega arith) h)
+
+-- those after one was closed
+pub short_closed : (bound : ℕ) (es new : List (List ℕ × List ℕ)) (name : List ℕ) → new ≡ remove_entry (is_at (byte_cmp name)) es → Short bound es → Short bound new
+short_closed bound es new name cut h = subst (Short bound) (sym cut) (all_left (λ e. length e.1 ≤ bound) es (is_at (byte_cmp name)) h)
+
+-- and those of one to which bytes were written, with these bytes
+pub short_written : (bound len : ℕ) (bytes : List ℕ) (es new : List (List ℕ × List ℕ)) (name : List ℕ) → Some len ≡ option_map length (at es name)
+    → ((body : List ℕ) → at es name ≡ Some body → new ≡ insert_entry byte_cmp (remove_entry (is_at (byte_cmp name)) es) name (body ++ bytes)) → Short bound es → Short (bound + length bytes) new
+short_written bound len bytes es new name has_len puts h =
     let it = has_body (at es name) len has_len in
     let body : List ℕ = it.0 in
-    let all : AllByRecursion (λ e. length e.1 ≤ bound) es = subst (λ (fs : List (List ℕ × List ℕ)). AllByRecursion (λ e. length e.1 ≤ bound) fs) (sym same) h in
-    let short : length body ≤ bound = most_body bound es name body all it.1 in
+    let short : length body ≤ bound = all_found (λ e. length e.1 ≤ bound) es name body h it.1 in
     let fits : length (body ++ bytes) ≤ bound + length bytes = omega (arith, length-append body bytes) in
-    subst (λ (fs : List (List ℕ × List ℕ)). AllByRecursion (λ e. length e.1 ≤ bound + length bytes) fs) (sym (puts body it.1))
-    (all_put (λ e. length e.1 ≤ bound + length bytes) (remove_entry (is_at (byte_cmp name)) es) name (body ++ bytes) fits (most_failed bound (length bytes) es es (remove_entry (is_at (byte_cmp name)) es) name refl refl all))
+    let rest = remove_entry (is_at (byte_cmp name)) es in
+    subst (Short (bound + length bytes)) (sym (puts body it.1))
+    (all_put (λ e. length e.1 ≤ bound + length bytes) rest name (body ++ bytes) fits (short_same bound (length bytes) rest rest refl (short_closed bound es rest name refl h)))
 
--- where the bytes don't fit, neither do those of the bound
-pub is_spent : (bound len n : ℕ) (old es : List (List ℕ × List ℕ)) (name : List ℕ) → es ≡ old → Some len ≡ option_map length (at es name) → 18446744073709551616 ≤ len + n
-    → AllByRecursion (λ e. length e.1 ≤ bound) old → 18446744073709551616 ≤ bound + n
-is_spent bound len n old es name same has_len large h =
+-- where more bytes don't fit in one of them, no bound leaves room for them
+pub is_spent : (bound len n : ℕ) (es : List (List ℕ × List ℕ)) (name : List ℕ) → Some len ≡ option_map length (at es name) → 18446744073709551616 ≤ len + n → Short bound es → 18446744073709551616 ≤ bound + n
+is_spent bound len n es name has_len large h =
     let it = has_body (at es name) len has_len in
-    let all : AllByRecursion (λ e. length e.1 ≤ bound) es = subst (λ (fs : List (List ℕ × List ℕ)). AllByRecursion (λ e. length e.1 ≤ bound) fs) (sym same) h in
-    let short : length it.0 ≤ bound = most_body bound es name it.0 all it.1 in
+    let short : length it.0 ≤ bound = all_found (λ e. length e.1 ≤ bound) es name it.0 h it.1 in
     let is : len ≡ length it.0 = it.2 in
     omega arith
 

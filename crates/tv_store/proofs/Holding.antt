@@ -10,15 +10,12 @@ use Rattle.tv_store.specs.Kept.{Kept, FileHolds, Holds}
 pub same_holds : (old new : Reads) (was now : Kept) (s : State) → Same old new → now ≡ was → Holds old was s → Holds new now s
 same_holds old new was now s same is h =
     subst (λ (kept : Kept). Holds new kept s) (sym is) (record {
-      live = h.live;
-      next = h.next;
-      commit = h.commit;
+      catalog = h.catalog;
       managed = h.managed;
       segments = h.segments;
       names = h.names;
       files = λ n file. subst (λ (read : Option (List ℕ)). FileHolds (file_at s n) read (at was.open_files n)) (sym (same n)) (h.files n file);
       left = h.left;
-      reading = h.reading;
       meta = (h.meta.0, same meta_name ∙ h.meta.1, h.meta.2);
       listing = subst (λ (read : Option (List ℕ)). Lists read s.managed) (sym (same list_name)) h.listing;
       listed = h.listed;

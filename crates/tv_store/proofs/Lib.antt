@@ -1,12 +1,15 @@
 pub mod Printing
 pub mod CollectionEvents
 pub mod OpenFiles
+pub mod Removals
 pub mod Holding
-pub mod SegmentEvents
+pub mod FileNames
+pub mod Named
 pub mod FileEvents
-pub mod Chosen
+pub mod ChosenSegments
 pub mod CommitEvents
 pub mod Creation
+pub mod Lifting
 pub mod Steps
 pub mod FewNumbers
 pub mod ReaderNumbers

@@ -20,6 +20,7 @@ use Rattle.tv_managed.specs.Managed.{registered}
 use Rattle.tv_managed.specs.Writers.{IsNewManaged, IsSummed}
 use Rattle.tv_managed.specs.declared.writer.ManagedWriter.{ManagedWriter}
 use Rattle.tv_store.specs.declared.files.OpenFile.{OpenFile}
+use Rattle.tv_store.specs.Kept.{FilesState}
 use Rattle.tv_store.specs.FileCalls.{Asked}
 use Rattle.tv_store.specs.OpenFiles.{IsOpenFile}
 
@@ -171,19 +172,33 @@ pub bodies_left : {D W C : Type 0} (written : W → List ℕ) (es new : List (Li
 bodies_left {D} {W} {C} written es new old test cut is =
     ap (λ (fs : List (List ℕ × OpenFile D W C)). bodies written fs) cut ∙ cut_seen (λ (file : OpenFile D W C). written file.writer.writer) es test ∙ ap (λ (bs : List (List ℕ × List ℕ)). remove_entry test bs) is
 
+-- the files of a store after one was taken out
+pub one_less : {O D W C : Type 0} (written : W → List ℕ) (outside : O) (managed : List (List ℕ)) (es new : List (List ℕ × OpenFile D W C)) (left : List (List ℕ)) (old : FilesState O) (test : List ℕ → Bool)
+    → new ≡ remove_entry test es → record { outside = outside; managed = managed; open_files = bodies written es; left = left } ≡ old
+    → record { outside = outside; managed = managed; open_files = bodies written new; left = left } ≡ record old { open_files = remove_entry test old.open_files }
+one_less {O} written outside managed es new left old test cut is =
+    ap (λ (open_files : List (List ℕ × List ℕ)). the_files open_files) (bodies_left written es new (bodies written es) test cut refl)
+    ∙ ap (λ (v : FilesState O). record v { open_files = remove_entry test v.open_files }) is where
+      the_files : List (List ℕ × List ℕ) → FilesState O
+      the_files open_files = record { outside = outside; managed = managed; open_files = open_files; left = left }
+
 read_absent : {X : Type 0} (o : Option X) → is_some o ≡ false → o ≡ None
 read_absent None e = refl
 read_absent (Some x) e = absurd (true≢false e)
 
--- whether a file is sealed, by what the directory answers where it isn't open
-pub sealed_answer : {S : Type 0} (reads : S → Reads) (inside old : S) (asked name : List ℕ) (found : Bool) (o : Option (List ℕ)) → inside ≡ old → asked ≡ name → found ≡ is_some (reads inside asked) → is_some o ≡ false → Asked (reads old name) o found
-sealed_answer {S} reads inside old asked name found o same text answer none =
+-- whether a file is sealed, by what the directory answers where it isn't open and wasn't left
+pub sealed_answer : {S : Type 0} (reads : S → Reads) (inside old : S) (asked name : List ℕ) (found left : Bool) (o : Option (List ℕ)) → inside ≡ old → asked ≡ name → found ≡ is_some (reads inside asked) → is_some o ≡ false → left ≡ false
+    → Asked (reads old name) o left found
+sealed_answer {S} reads inside old asked name found left o same text answer none stays =
     let it : found ≡ is_some (reads old name) = answer ∙ ap (λ (s : S). is_some (reads s asked)) same ∙ ap (λ (n : List ℕ). is_some (reads old n)) text in
-    record { yes = λ e. (sym it ∙ e, read_absent o none); no = λ e. inl (read_absent (reads old name) (sym it ∙ e)) }
+    record { yes = λ e. (sym it ∙ e, read_absent o none, stays); no = λ e. inl (read_absent (reads old name) (sym it ∙ e)) }
 
--- an open file isn't sealed
-pub open_answer : (before : Option (List ℕ)) (o : Option (List ℕ)) → is_some o ≡ true → Asked before o false
-open_answer before o h = record { yes = λ e. absurd (true≢false (sym e)); no = λ e. inr h }
+-- an open file isn't sealed, and neither is one that was left
+pub open_answer : (before o : Option (List ℕ)) (left : Bool) → is_some o ≡ true → Asked before o left false
+open_answer before o left h = record { yes = λ e. absurd (true≢false (sym e)); no = λ e. inr (inl h) }
+
+pub left_answer : (before o : Option (List ℕ)) (left : Bool) → left ≡ true → Asked before o left false
+left_answer before o left h = record { yes = λ e. absurd (true≢false (sym e)); no = λ e. inr (inr h) }
 
 -- a claim about an error holds of what holds anyway
 pub on_err : {A E : Type 0} (r : Result A E) (P : Type 0) → P → OnErr r P

@@ -1,32 +1,27 @@
--- The events of readers and of searchers: which files are read, why a read fails, and what is held afterwards.
-use Rattle.std.proofs.Common.{◌≡◌, ◌≢◌, inl, inr, ℕ, zero, suc, ◌+◌, ◌<◌, ◌≤◌, Bool, true, false, true≢false, not, ◌||◌, List, [], ◌∷◌, ◌++◌, map, length, take, get_or, codes, string_bytes, Option, Some, None, is_some, refl, sym, ap, subst, ◌∙◌, arith}
+-- The events of readers: which files are read, why a read fails, and what is held afterwards.
+use Rattle.std.proofs.Common.{◌≡◌, ◌≢◌, inl, inr, ℕ, zero, suc, ◌+◌, ◌<◌, ◌≤◌, Bool, true, false, true≢false, ◌||◌, List, [], ◌∷◌, ◌++◌, map, length, take, get_or, codes, string_bytes, Option, Some, None, is_some, refl, sym, ap, subst, ◌∙◌, arith}
 use Rattle.std.proofs.Math.Logic.{⊎_map}
 use Rattle.std.specs.Prelude.{IsSome, option_map, String, Result, Ok, Err, IfErr, OnOk}
 use Rattle.std.specs.Global.{Global}
 use Rattle.std.specs.Result.{IsErrAnd}
 use Rattle.std.specs.Fmt.{decimal}
 use Rattle.std.specs.List.{AllByRecursion}
-use Rattle.std.specs.Map.{remove_entry}
-use Rattle.std.specs.BTreeMap.{is_at, insert_entry}
-use Rattle.std.specs.Ordering.{nat_cmp}
 use Rattle.std.proofs.lemmas.List.{take_more, take_all, map_push}
 use Rattle.std.proofs.lemmas.List.Folds.{list_any-append}
 use Rattle.tv_model.specs.declared.reload_policy.ReloadPolicy.{ReloadPolicy}
 use Rattle.tv_model.specs.declared.event.Event.{Event}
 use Rattle.tv_model.specs.declared.segment.LiveSegment.{LiveSegment}
-use Rattle.tv_model.specs.declared.segment.SegmentComponent.{SegmentComponent}
 use Rattle.tv_model.specs.Names.{is, has, is_file_name}
 use Rattle.tv_model.specs.Files.{Reads, Same, Rose}
 use Rattle.tv_model.specs.Footer.{HasBody}
 use Rattle.tv_model.specs.Segments.{required_names, all_required}
-use Rattle.tv_model.specs.Commits.{IsSegment}
-use Rattle.tv_model.specs.State.{State, FileState, Sealed, Open, Left, Readers, Reader, Snapshot, at, file_at, at_number, reader_at, searcher_at}
-use Rattle.tv_model.specs.Lines.{line}
+use Rattle.tv_model.specs.Commits.{IsSegment, Means, default_settings}
+use Rattle.tv_model.specs.State.{Catalog, State, StepResult, FileState, Sealed, Open, Left, Reader, Snapshot, at, file_at, on_catalog, reader_at}
+use Rattle.tv_model.specs.Lines.{line, given}
 use Rattle.tv_model.specs.CommitEvents.{is_sealed}
 use Rattle.tv_model.specs.SoundStates.{IsWhole}
 use Rattle.tv_model.specs.Readable.{IsGoodFile, CanRead}
-use Rattle.tv_model.specs.ReaderEvents.{body_in, snapshot_in, reader_step, reload_of, reload_step, release_reader_of, release_reader_step}
-use Rattle.tv_model.specs.SearcherEvents.{searcher_of, searcher_step, show_of, show_step, bytes_of, bytes_step, bytes_found, body_at, release_searcher_of, release_searcher_step, show_line, bytes_line, searcher_line}
+use Rattle.tv_model.specs.ReaderEvents.{bodies_in, body_in, reloaded, snapshot_in, with_new_reader, with_reloaded}
 use Rattle.tv_model.proofs.Entries.{is_itself, is_text}
 use Rattle.tv_model.proofs.Bodies.{body_of_good}
 use Rattle.tv_base.specs.Errors.{of_open_read}
@@ -47,11 +42,11 @@ use Rattle.tv_store.specs.ReadCauses.{Reading, ReadFault, ApplyCause}
 use Rattle.tv_store.specs.Bodies.{RefusesAt, RefusesFile, AreBodies, AreSealed, ReadsSegment, FailsAt}
 use Rattle.tv_store.specs.Kept.{Kept, FileHolds, Holds}
 use Rattle.tv_store.specs.Applying.{LacksIn, BadIn, HoldsNone}
-use Rattle.tv_store.specs.SearcherLines.{body_told, bytes_told}
-use Rattle.tv_store.specs.declared.readers.BodyAnswer.{BodyAnswer}
-use Rattle.tv_store.specs.declared.readers.BodyAnswer.TheVariants.{NoSearcher, NoFile, Line}
+use Rattle.tv_store.specs.Acting.{reader_event, reload_event}
+use Rattle.tv_store.specs.ReaderNumbers.{FewNumbers}
 use Rattle.tv_store.proofs.Holding.{same_holds}
 use Rattle.tv_store.proofs.CommitEvents.{all_at, required_are_files}
+use Rattle.tv_store.proofs.ReaderNumbers.{few_added, few_published}
 
 -- ---- why the body of a file isn't read
 
@@ -264,7 +259,7 @@ has_required (e ∷ es) (suc i) entry n within at_i h =
 
 -- the files of a segment of the commit are sealed
 pub segment_is_sealed : (reads : Reads) (kept : Kept) (s : State) (segments : List (List ℕ × LiveSegment)) (i : ℕ) (entry : List ℕ × LiveSegment)
-    → segments ≡ s.commit.segments → i < length segments → entry ≡ get_or segments i entry → IsWhole s → Holds reads kept s → AreSealed s (required_names entry.0 entry.1)
+    → segments ≡ s.catalog.commit.segments → i < length segments → entry ≡ get_or segments i entry → IsWhole s → Holds reads kept s → AreSealed s (required_names entry.0 entry.1)
 segment_is_sealed reads kept s segments i entry are within at_i whole held =
     let segment : IsSegment entry = all_at IsSegment segments i entry (subst (AllByRecursion IsSegment) (sym are) held.meta.2.is_commit.segments) within at_i in
     record {
@@ -314,27 +309,27 @@ read_more s segments i entry read_id read_segment bodies shown shown_more all al
 
 -- all were: this is what is shown
 pub all_read : (s : State) (segments shown : List (List ℕ × LiveSegment)) (bodies : List (List (List ℕ))) (i generation opstamp : ℕ) (payload : Option (List ℕ))
-    → segments ≡ s.commit.segments → opstamp ≡ s.commit.opstamp → payload ≡ s.commit.payload → length segments ≤ i → AreRead s (take i segments) shown bodies
+    → segments ≡ s.catalog.commit.segments → opstamp ≡ s.catalog.commit.opstamp → payload ≡ s.catalog.commit.payload → length segments ≤ i → AreRead s (take i segments) shown bodies
     → (record { generation = generation; commit = record { opstamp = opstamp; payload = payload; segments = shown }; bodies = bodies } ≡ snapshot_in s generation) × CanRead s
 all_read s segments shown bodies i generation opstamp payload are opstamp_is payload_is h so_far =
-    let whole : AreRead s s.commit.segments shown bodies =
+    let whole : AreRead s s.catalog.commit.segments shown bodies =
     subst (λ (es : List (List ℕ × LiveSegment)). AreRead s es shown bodies) (take_all i segments h ∙ are) so_far in (
       ap (λ (o : ℕ). record { generation = generation; commit = record { opstamp = o; payload = payload; segments = shown }; bodies = bodies }) opstamp_is
-          ∙ ap (λ (p : Option (List ℕ)). record { generation = generation; commit = record { opstamp = s.commit.opstamp; payload = p; segments = shown }; bodies = bodies }) payload_is
-          ∙ ap (λ (es : List (List ℕ × LiveSegment)). record { generation = generation; commit = record { opstamp = s.commit.opstamp; payload = s.commit.payload; segments = es }; bodies = bodies }) whole.are
-          ∙ ap (λ (bs : List (List (List ℕ))). record { generation = generation; commit = s.commit; bodies = bs }) whole.each,
+          ∙ ap (λ (p : Option (List ℕ)). record { generation = generation; commit = record { opstamp = s.catalog.commit.opstamp; payload = p; segments = shown }; bodies = bodies }) payload_is
+          ∙ ap (λ (es : List (List ℕ × LiveSegment)). record { generation = generation; commit = record { opstamp = s.catalog.commit.opstamp; payload = s.catalog.commit.payload; segments = es }; bodies = bodies }) whole.are
+          ∙ ap (λ (bs : List (List (List ℕ))). record { generation = generation; commit = s.catalog.commit; bodies = bs }) whole.each,
       record { each = whole.good },
     )
 
 -- a file of the commit isn't read
 pub snapshot_fails : (tells : Type 0) (first now : Reads) (kept : Kept) (segments : List (List ℕ × LiveSegment)) (i : ℕ) (entry : List ℕ × LiveSegment) (start before after : ℕ) (error : TantivyError)
-    → (tells → Same first now) → before ≡ start → segments ≡ kept.commit.segments → i < length segments → entry ≡ get_or segments i entry
+    → (tells → Same first now) → before ≡ start → segments ≡ kept.catalog.commit.segments → i < length segments → entry ≡ get_or segments i entry
     → FailsAt tells now (required_names entry.0 entry.1) (Rose before after) (after ≡ before) error
     → ApplyCause ⊥ (Rose start after) (after ≡ start) ⊥ (LacksIn tells first kept) (λ path. HoldsNone tells first kept) error
 snapshot_fails tells first now kept segments i entry start before after error same quiet are within at_i h =
-    let required : (s : State) (path : List ℕ) → Holds first kept s → has (required_names entry.0 entry.1) path ≡ true → has (all_required s.commit.segments) path ≡ true =
+    let required : (s : State) (path : List ℕ) → Holds first kept s → has (required_names entry.0 entry.1) path ≡ true → has (all_required s.catalog.commit.segments) path ≡ true =
     λ s path held among.
-    subst (λ (es : List (List ℕ × LiveSegment)). has (all_required es) path ≡ true) (are ∙ ap (λ k. k.segments) held.commit) (has_required segments i entry path within at_i among) in
+    subst (λ (es : List (List ℕ × LiveSegment)). has (all_required es) path ≡ true) (are ∙ ap (λ (c : Catalog). c.commit.segments) held.catalog) (has_required segments i entry path within at_i among) in
     let sealed : (s : State) (path : List ℕ) → Holds first kept s → IsWhole s → has (required_names entry.0 entry.1) path ≡ true → is_sealed (file_at s path) ≡ true =
     λ s path held whole among. whole.each path (required s path held among) in
     cause_weaker ⊥ (Rose before after) (after ≡ before) ⊥ ⊥ (Rose start after) (after ≡ start) ⊥
@@ -385,29 +380,6 @@ later_fails tells first now kept later event reading more busy busy2 start befor
     (λ error b t s held whole. (reading s held, b t s (same_holds first now kept later s (same t) kept_is held) whole))
     (λ path a t s held whole. a t s (same_holds first now kept later s (same t) kept_is held) whole) h
 
--- ---- what is held
-
--- only who reads changed
-reading_holds : (reads : Reads) (kept : Kept) (s : State) (now : Readers) → Holds reads kept s → Holds reads (record kept { reading = now }) (record s { reading = now })
-reading_holds reads kept s now h = record {
-  live = h.live;
-  next = h.next;
-  commit = h.commit;
-  managed = h.managed;
-  segments = h.segments;
-  names = h.names;
-  files = h.files;
-  left = h.left;
-  reading = refl;
-  meta = h.meta;
-  listing = h.listing;
-  listed = h.listed;
-}
-
--- a step that changes only who reads
-changes_readers : (reads : Reads) (kept : Kept) (s : State) (now then : Readers) → now ≡ then → Holds reads kept s → Holds reads (record kept { reading = now }) (record s { reading = then })
-changes_readers reads kept s now then e h = subst (λ (r : Readers). Holds reads (record kept { reading = now }) (record s { reading = r })) e (reading_holds reads kept s now h)
-
 -- ---- the steps
 
 pub mapped : {A B : Type 0} (f : A → B) (o : Option A) (b : B) → Some b ≡ option_map f o → (x : A) × (o ≡ Some x) × (b ≡ f x)
@@ -421,154 +393,65 @@ not_mapped f (Some x) e = absurd cc
 pub isnt_there : {A : Type 0} (o : Option A) → o ≡ None → IsSome o → ⊥
 isnt_there o e h = true≢false (sym h ∙ ap is_some e)
 
--- by a test
-pub has_one : {A : Type 0} (o : Option A) (b : Bool) → b ≡ is_some o → b ≡ true → (x : A) × (o ≡ Some x)
-has_one None b e t = absurd (true≢false (sym t ∙ e))
-has_one (Some x) b e t = (x, refl)
-
-pub has_none : {A : Type 0} (o : Option A) (b : Bool) → b ≡ is_some o → b ≡ false → o ≡ None
-has_none None b e f = refl
-has_none (Some x) b e f = absurd (true≢false (sym e ∙ f))
-
-pub tested_one : {A B : Type 0} (f : A → B) (o : Option A) (n : Option B) (b : Bool) → n ≡ option_map f o → is_some n ≡ not b → b ≡ false → (x : A) × (o ≡ Some x)
-tested_one f None n b e t is_false = absurd (true≢false (sym (ap not is_false) ∙ sym t ∙ ap is_some e))
-tested_one f (Some x) n b e t is_false = (x, refl)
-
-pub tested_none : {A B : Type 0} (f : A → B) (o : Option A) (n : Option B) (b : Bool) → n ≡ option_map f o → is_some n ≡ not b → b ≡ true → o ≡ None
-tested_none f None n b e t is_true = refl
-tested_none f (Some x) n b e t is_true = absurd (true≢false (sym (ap is_some e) ∙ t ∙ ap not is_true))
-
 -- what is so whatever is answered
 pub on_ok : {T E P : Type 0} (result : Result T E) → P → OnOk result P
 on_ok (Ok value) p = p
 on_ok (Err error) p = tt
 
+-- only who reads changed
+changes_readers : (reads : Reads) (kept : Kept) (s : State) (now then : Catalog) → now ≡ then → then.live ≡ s.catalog.live → then.commit ≡ s.catalog.commit
+    → Holds reads kept s → Holds reads (record kept { catalog = now }) (record s { catalog = then })
+changes_readers reads kept s now then is live commit h = record {
+  catalog = is;
+  managed = h.managed;
+  segments = subst (AllByRecursion IsSegment) (sym live) h.segments;
+  names = h.names;
+  files = h.files;
+  left = h.left;
+  meta = (h.meta.0, h.meta.1, subst (Means default_settings kept.schema h.meta.0) (sym commit) h.meta.2);
+  listing = h.listing;
+  listed = h.listed;
+}
+
 -- a new reader
-pub reader_added : (reads : Reads) (kept : Kept) (s : State) (policy : ReloadPolicy) (shown : Snapshot) (now : Readers) (answer : List ℕ)
-    → Holds reads kept s → shown ≡ snapshot_in s 0
-    → now ≡ record kept.reading { readers = insert_entry nat_cmp kept.reading.readers kept.reading.next_reader (record { policy = policy; next = 1; shown = shown }); next_reader = kept.reading.next_reader + 1 }
-    → answer ≡ line (codes "reader") (decimal kept.reading.next_reader ∷ decimal 0 ∷ decimal kept.commit.opstamp ∷ [])
-    → (answer ≡ (reader_step s policy).0) × Holds reads (record kept { reading = now }) (reader_step s policy).1
+pub reader_added : (reads : Reads) (kept : Kept) (s : State) (policy : ReloadPolicy) (shown : Snapshot) (now : Catalog) (answer : List ℕ)
+    → Holds reads kept s → shown ≡ snapshot_in s 0 → now ≡ with_new_reader kept.catalog policy shown
+    → answer ≡ line (codes "reader") (decimal kept.catalog.reading.next_reader ∷ decimal 0 ∷ decimal kept.catalog.commit.opstamp ∷ [])
+    → (answer ≡ (reader_event policy s).0) × Holds reads (record kept { catalog = now }) (reader_event policy s).1
 reader_added reads kept s policy shown now answer held shown_is put said = (
-  said
-      ∙ ap (λ (r : Readers). line (codes "reader") (decimal r.next_reader ∷ decimal 0 ∷ decimal kept.commit.opstamp ∷ [])) held.reading
-      ∙ ap (λ c. line (codes "reader") (decimal s.reading.next_reader ∷ decimal 0 ∷ decimal c.opstamp ∷ [])) held.commit,
-  changes_readers reads kept s now (record s.reading { readers = insert_entry nat_cmp s.reading.readers s.reading.next_reader (record { policy = policy; next = 1; shown = snapshot_in s 0 }); next_reader = s.reading.next_reader + 1 })
-      (put
-      ∙ ap (λ (r : Readers). record r { readers = insert_entry nat_cmp r.readers r.next_reader (record { policy = policy; next = 1; shown = shown }); next_reader = r.next_reader + 1 }) held.reading
-      ∙ ap (λ (x : Snapshot). record s.reading { readers = insert_entry nat_cmp s.reading.readers s.reading.next_reader (record { policy = policy; next = 1; shown = x }); next_reader = s.reading.next_reader + 1 }) shown_is) held,
+  said ∙ ap (λ (c : Catalog). line (codes "reader") (decimal c.reading.next_reader ∷ decimal 0 ∷ decimal c.commit.opstamp ∷ [])) held.catalog,
+  changes_readers reads kept s now (with_new_reader s.catalog policy (snapshot_in s 0)) (put ∙ ap (λ (c : Catalog). with_new_reader c policy shown) held.catalog ∙ ap (with_new_reader s.catalog policy) shown_is) refl refl held,
 )
+
+pub few_with_new : (bound : ℕ) (old now : Catalog) (policy : ReloadPolicy) (shown : Snapshot) → now ≡ with_new_reader old policy shown → FewNumbers bound old.reading → FewNumbers (bound + 1) now.reading
+few_with_new bound old now policy shown put few =
+    subst (λ (c : Catalog). FewNumbers (bound + 1) c.reading) (sym put) (few_added bound old.reading _ old.reading.next_reader (record { policy = policy; next = 1; shown = shown }) refl (omega arith) few)
 
 -- no such reader
 pub reload_unknown : (reads : Reads) (kept : Kept) (s : State) (number : ℕ) (answer : List ℕ)
-    → reader_at s number ≡ None → answer ≡ line (codes "refused") (codes "unknown-reader" ∷ []) → Holds reads kept s
-    → (answer ≡ (reload_step s number).0) × Holds reads kept (reload_step s number).1
-reload_unknown reads kept s number answer none said held = subst (λ (o : Option Reader). (answer ≡ (reload_of s number o).0) × Holds reads kept (reload_of s number o).1) (sym none) (said, held)
-
-pub release_unknown : (reads : Reads) (kept : Kept) (s : State) (number : ℕ) (answer : List ℕ)
-    → reader_at s number ≡ None → answer ≡ line (codes "refused") (codes "unknown-reader" ∷ []) → Holds reads kept s
-    → (answer ≡ (release_reader_step s number).0) × Holds reads kept (release_reader_step s number).1
-release_unknown reads kept s number answer none said held = subst (λ (o : Option Reader). (answer ≡ (release_reader_of s number o).0) × Holds reads kept (release_reader_of s number o).1) (sym none) (said, held)
-
-pub searcher_unknown : (reads : Reads) (kept : Kept) (s : State) (number : ℕ) (answer : List ℕ)
-    → reader_at s number ≡ None → answer ≡ line (codes "refused") (codes "unknown-reader" ∷ []) → Holds reads kept s
-    → (answer ≡ (searcher_step s number).0) × Holds reads kept (searcher_step s number).1
-searcher_unknown reads kept s number answer none said held = subst (λ (o : Option Reader). (answer ≡ (searcher_of s o).0) × Holds reads kept (searcher_of s o).1) (sym none) (said, held)
+    → reader_at s.catalog number ≡ None → answer ≡ line (codes "refused") (codes "unknown-reader" ∷ []) → Holds reads kept s
+    → (answer ≡ (reload_event number s).0) × Holds reads kept (reload_event number s).1
+reload_unknown reads kept s number answer none said held =
+    let is : reload_event number s ≡ (line (codes "refused") (codes "unknown-reader" ∷ []), s) =
+    ap (λ (o : Option Reader). on_catalog s (given s.catalog o (codes "unknown-reader") (reloaded s.catalog number (bodies_in s s.catalog.commit)))) none in
+    subst (λ (t : StepResult State). (answer ≡ t.0) × Holds reads kept t.1) (sym is) (said, held)
 
 -- a reader shows the current commit
-pub reloaded : (reads : Reads) (kept : Kept) (s : State) (number : ℕ) (reader : Reader) (shown : Snapshot) (now : Readers) (answer : List ℕ)
-    → Holds reads kept s → at_number kept.reading.readers number ≡ Some reader → shown ≡ snapshot_in s reader.next
-    → now ≡ record kept.reading { readers = insert_entry nat_cmp kept.reading.readers number (record reader { next = reader.next + 1; shown = shown }) }
-    → answer ≡ line (codes "published") (decimal number ∷ decimal reader.next ∷ decimal kept.commit.opstamp ∷ [])
-    → (answer ≡ (reload_step s number).0) × Holds reads (record kept { reading = now }) (reload_step s number).1
-reloaded reads kept s number reader shown now answer held there shown_is put said =
-    let found : reader_at s number ≡ Some reader = ap (λ (r : Readers). at_number r.readers number) (sym held.reading) ∙ there in
-    subst (λ (o : Option Reader). (answer ≡ (reload_of s number o).0) × Holds reads (record kept { reading = now }) (reload_of s number o).1) (sym found) (
-      said ∙ ap (λ c. line (codes "published") (decimal number ∷ decimal reader.next ∷ decimal c.opstamp ∷ [])) held.commit,
-      changes_readers reads kept s now (record s.reading { readers = insert_entry nat_cmp s.reading.readers number (record reader { next = reader.next + 1; shown = snapshot_in s reader.next }) })
-          (put
-          ∙ ap (λ (r : Readers). record r { readers = insert_entry nat_cmp r.readers number (record reader { next = reader.next + 1; shown = shown }) }) held.reading
-          ∙ ap (λ (x : Snapshot). record s.reading { readers = insert_entry nat_cmp s.reading.readers number (record reader { next = reader.next + 1; shown = x }) }) shown_is) held,
+pub reader_reloaded : (reads : Reads) (kept : Kept) (s : State) (number : ℕ) (reader : Reader) (shown : Snapshot) (now : Catalog) (answer : List ℕ)
+    → Holds reads kept s → reader_at kept.catalog number ≡ Some reader → shown ≡ snapshot_in s reader.next → now ≡ with_reloaded kept.catalog number reader shown
+    → answer ≡ line (codes "published") (decimal number ∷ decimal reader.next ∷ decimal kept.catalog.commit.opstamp ∷ [])
+    → (answer ≡ (reload_event number s).0) × Holds reads (record kept { catalog = now }) (reload_event number s).1
+reader_reloaded reads kept s number reader shown now answer held there shown_is put said =
+    let result = reloaded s.catalog number (bodies_in s s.catalog.commit) in
+    let is : reload_event number s ≡ on_catalog s (result reader) =
+    ap (λ (o : Option Reader). on_catalog s (given s.catalog o (codes "unknown-reader") result)) (ap (λ (c : Catalog). reader_at c number) (sym held.catalog) ∙ there) in
+    subst (λ (t : StepResult State). (answer ≡ t.0) × Holds reads (record kept { catalog = now }) t.1) (sym is) (
+      said ∙ ap (λ (c : Catalog). line (codes "published") (decimal number ∷ decimal reader.next ∷ decimal c.commit.opstamp ∷ [])) held.catalog,
+      changes_readers reads kept s now (with_reloaded s.catalog number reader (snapshot_in s reader.next))
+          (put ∙ ap (λ (c : Catalog). with_reloaded c number reader shown) held.catalog ∙ ap (with_reloaded s.catalog number reader) shown_is) refl refl held,
     )
 
--- a reader ends
-pub reader_released : (reads : Reads) (kept : Kept) (s : State) (number : ℕ) (reader : Reader) (now : Readers) (answer : List ℕ)
-    → Holds reads kept s → at_number kept.reading.readers number ≡ Some reader
-    → now ≡ record kept.reading { readers = remove_entry (is_at (nat_cmp number)) kept.reading.readers } → answer ≡ codes "released"
-    → (answer ≡ (release_reader_step s number).0) × Holds reads (record kept { reading = now }) (release_reader_step s number).1
-reader_released reads kept s number reader now answer held there cut said =
-    let found : reader_at s number ≡ Some reader = ap (λ (r : Readers). at_number r.readers number) (sym held.reading) ∙ there in
-    subst (λ (o : Option Reader). (answer ≡ (release_reader_of s number o).0) × Holds reads (record kept { reading = now }) (release_reader_of s number o).1) (sym found) (
-      said,
-      changes_readers reads kept s now (record s.reading { readers = remove_entry (is_at (nat_cmp number)) s.reading.readers })
-          (cut ∙ ap (λ (r : Readers). record r { readers = remove_entry (is_at (nat_cmp number)) r.readers }) held.reading) held,
-    )
-
--- a new searcher
-pub searcher_added : (reads : Reads) (kept : Kept) (s : State) (number : ℕ) (reader : Reader) (now : Readers) (answer : List ℕ)
-    → Holds reads kept s → at_number kept.reading.readers number ≡ Some reader
-    → now ≡ record kept.reading { searchers = insert_entry nat_cmp kept.reading.searchers kept.reading.next_searcher reader.shown; next_searcher = kept.reading.next_searcher + 1 }
-    → answer ≡ searcher_line kept.reading.next_searcher reader
-    → (answer ≡ (searcher_step s number).0) × Holds reads (record kept { reading = now }) (searcher_step s number).1
-searcher_added reads kept s number reader now answer held there put said =
-    let found : reader_at s number ≡ Some reader = ap (λ (r : Readers). at_number r.readers number) (sym held.reading) ∙ there in
-    subst (λ (o : Option Reader). (answer ≡ (searcher_of s o).0) × Holds reads (record kept { reading = now }) (searcher_of s o).1) (sym found) (
-      said ∙ ap (λ (r : Readers). searcher_line r.next_searcher reader) held.reading,
-      changes_readers reads kept s now (record s.reading { searchers = insert_entry nat_cmp s.reading.searchers s.reading.next_searcher reader.shown; next_searcher = s.reading.next_searcher + 1 })
-          (put ∙ ap (λ (r : Readers). record r { searchers = insert_entry nat_cmp r.searchers r.next_searcher reader.shown; next_searcher = r.next_searcher + 1 }) held.reading) held,
-    )
-
--- what a searcher shows
-pub shown_by : (reads : Reads) (kept : Kept) (s : State) (number : ℕ) (shown : Snapshot) (answer : List ℕ)
-    → Holds reads kept s → searcher_at s number ≡ Some shown → answer ≡ show_line number shown
-    → (answer ≡ (show_step s number).0) × Holds reads kept (show_step s number).1
-shown_by reads kept s number shown answer held found said =
-    subst (λ (o : Option Snapshot). (answer ≡ (show_of s number o).0) × Holds reads kept (show_of s number o).1) (sym found) (said, held)
-
-pub show_unknown : (reads : Reads) (kept : Kept) (s : State) (number : ℕ) (answer : List ℕ)
-    → searcher_at s number ≡ None → answer ≡ line (codes "refused") (codes "unknown-searcher" ∷ []) → Holds reads kept s
-    → (answer ≡ (show_step s number).0) × Holds reads kept (show_step s number).1
-show_unknown reads kept s number answer none said held = subst (λ (o : Option Snapshot). (answer ≡ (show_of s number o).0) × Holds reads kept (show_of s number o).1) (sym none) (said, held)
-
--- a searcher ends
-pub end_unknown : (reads : Reads) (kept : Kept) (s : State) (number : ℕ) (answer : List ℕ)
-    → searcher_at s number ≡ None → answer ≡ line (codes "refused") (codes "unknown-searcher" ∷ []) → Holds reads kept s
-    → (answer ≡ (release_searcher_step s number).0) × Holds reads kept (release_searcher_step s number).1
-end_unknown reads kept s number answer none said held = subst (λ (o : Option Snapshot). (answer ≡ (release_searcher_of s number o).0) × Holds reads kept (release_searcher_of s number o).1) (sym none) (said, held)
-
-pub searcher_released : (reads : Reads) (kept : Kept) (s : State) (number : ℕ) (shown : Snapshot) (now : Readers) (answer : List ℕ)
-    → Holds reads kept s → at_number kept.reading.searchers number ≡ Some shown
-    → now ≡ record kept.reading { searchers = remove_entry (is_at (nat_cmp number)) kept.reading.searchers } → answer ≡ codes "released"
-    → (answer ≡ (release_searcher_step s number).0) × Holds reads (record kept { reading = now }) (release_searcher_step s number).1
-searcher_released reads kept s number shown now answer held there cut said =
-    let found : searcher_at s number ≡ Some shown = ap (λ (r : Readers). at_number r.searchers number) (sym held.reading) ∙ there in
-    subst (λ (o : Option Snapshot). (answer ≡ (release_searcher_of s number o).0) × Holds reads (record kept { reading = now }) (release_searcher_of s number o).1) (sym found) (
-      said,
-      changes_readers reads kept s now (record s.reading { searchers = remove_entry (is_at (nat_cmp number)) s.reading.searchers })
-          (cut ∙ ap (λ (r : Readers). record r { searchers = remove_entry (is_at (nat_cmp number)) r.searchers }) held.reading) held,
-    )
-
--- the line by which a body is told
-abbrev pub Answers : BodyAnswer → List ℕ → Type 0
-Answers NoSearcher answer = answer ≡ line (codes "refused") (codes "unknown-searcher" ∷ [])
-Answers NoFile answer = answer ≡ line (codes "refused") (codes "unknown-file" ∷ [])
-Answers (Line text) answer = answer ≡ text
-
--- what is told of a body is the step's answer
-body_found : (reads : Reads) (kept : Kept) (s : State) (number ord : ℕ) (component : SegmentComponent) (body : Option (List ℕ)) (told : BodyAnswer) (answer : List ℕ)
-    → told ≡ body_told (option_map (bytes_line number ord component) body) → Answers told answer → Holds reads kept s
-    → (answer ≡ (bytes_found s number ord component body).0) × Holds reads kept (bytes_found s number ord component body).1
-body_found reads kept s number ord component None told answer e said held = (subst (λ (t : BodyAnswer). Answers t answer) e said, held)
-body_found reads kept s number ord component (Some body) told answer e said held = (subst (λ (t : BodyAnswer). Answers t answer) e said, held)
-
-body_of : (reads : Reads) (kept : Kept) (s : State) (number ord : ℕ) (component : SegmentComponent) (shown : Option Snapshot) (told : BodyAnswer) (answer : List ℕ)
-    → told ≡ bytes_told number ord component shown → Answers told answer → Holds reads kept s
-    → (answer ≡ (bytes_of s number ord component shown).0) × Holds reads kept (bytes_of s number ord component shown).1
-body_of reads kept s number ord component None told answer e said held = (subst (λ (t : BodyAnswer). Answers t answer) e said, held)
-body_of reads kept s number ord component (Some shown) told answer e said held = body_found reads kept s number ord component (body_at shown ord component) told answer e said held
-
-pub body_said : (reads : Reads) (kept : Kept) (s : State) (number ord : ℕ) (component : SegmentComponent) (searchers : List (ℕ × Snapshot)) (told : BodyAnswer) (answer : List ℕ)
-    → told ≡ bytes_told number ord component (at_number searchers number) → searchers ≡ s.reading.searchers → Answers told answer → Holds reads kept s
-    → (answer ≡ (bytes_step s number ord component).0) × Holds reads kept (bytes_step s number ord component).1
-body_said reads kept s number ord component searchers told answer e same said held =
-    body_of reads kept s number ord component (searcher_at s number) told answer (e ∙ ap (λ (es : List (ℕ × Snapshot)). bytes_told number ord component (at_number es number)) same) said held
+pub few_with_reloaded : (bound : ℕ) (old now : Catalog) (number : ℕ) (reader : Reader) (shown : Snapshot) → reader_at old number ≡ Some reader → now ≡ with_reloaded old number reader shown
+    → FewNumbers bound old.reading → FewNumbers (bound + 1) now.reading
+few_with_reloaded bound old now number reader shown there put few =
+    subst (λ (c : Catalog). FewNumbers (bound + 1) c.reading) (sym put) (few_published bound old.reading _ number reader (record reader { next = reader.next + 1; shown = shown }) there refl refl few)

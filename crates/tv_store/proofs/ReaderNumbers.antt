@@ -1,5 +1,5 @@
 -- How far the numbers of readers, of their snapshots and of searchers come by each change.
-use Rattle.std.proofs.Common.{◌≡◌, ℕ, ◌+◌, ◌≤◌, Bool, true, false, cond, List, [], ◌∷◌, Option, Some, sym, subst, arith}
+use Rattle.std.proofs.Common.{◌≡◌, ℕ, ◌+◌, ◌≤◌, Bool, true, false, cond, List, [], ◌∷◌, Option, Some, arith}
 use Rattle.std.specs.List.{AllByRecursion}
 use Rattle.std.specs.Map.{remove_entry}
 use Rattle.std.specs.BTreeMap.{is_at, insert_entry}
@@ -46,10 +46,6 @@ found bound (x ∷ es) number reader h e = chosen bound (is_at (nat_cmp number) 
 -- the number of a reader's next snapshot
 pub few_found : (bound : ℕ) (reading : Readers) (number : ℕ) (reader : Reader) → FewNumbers bound reading → at_number reading.readers number ≡ Some reader → reader.next ≤ bound
 few_found bound reading number reader few e = found bound reading.readers number reader few.next_snapshots e
-
--- the same numbers
-pub few_same : (bound : ℕ) (reading old : Readers) → reading ≡ old → FewNumbers bound old → FewNumbers bound reading
-few_same bound reading old e few = subst (λ (r : Readers). FewNumbers bound r) (sym e) few
 
 -- one more reader
 pub few_added : (bound : ℕ) (reading : Readers) (readers : List (ℕ × Reader)) (number : ℕ) (reader : Reader) → readers ≡ insert_entry nat_cmp reading.readers number reader → reader.next ≤ bound + 1

@@ -1,27 +1,24 @@
 -- What the steps of the events say, put together.
-use Rattle.std.proofs.Common.{ℕ, ◌≡◌, ◌+◌, ◌≤◌, Bool, true, false, true≢false, inl, List, [], ◌∷◌, length, Option, Some, None, sym, ap, subst, ◌∙◌, arith, refl, Result, Ok, Err, IfErr}
-use Rattle.std.specs.Prelude.{is_some, IfOk, OnOk, OnErr}
+use Rattle.std.proofs.Common.{ℕ, ◌≡◌, ◌+◌, ◌≤◌, Bool, inl, List, [], ◌∷◌, length, Option, sym, ap, subst, ◌∙◌, arith, Result, Ok, Err, IfErr}
+use Rattle.std.specs.Prelude.{IfOk, OnOk, OnErr}
 use Rattle.std.specs.List.{AllByRecursion}
 use Rattle.tv_model.specs.declared.event.Event.{Event}
 use Rattle.tv_base.specs.declared.open_errors.OpenReadError.{OpenReadError}
 use Rattle.tv_base.specs.declared.open_errors.LockError.TheVariants as lock
 use Rattle.tv_base.specs.declared.error.TantivyError.{TantivyError}
 use Rattle.tv_base.specs.declared.error.TantivyError.TheVariants as errors
-use Rattle.tv_store.specs.Kept.{Kept, Holds, AtMost}
+use Rattle.tv_store.specs.Kept.{Kept, StoreState, Holds, AtMost}
 use Rattle.tv_store.specs.ReaderNumbers.{FewNumbers}
 use Rattle.tv_store.specs.Applying.{Stepped, LeavesOldOrNew}
 use Rattle.tv_store.specs.ReadCauses.{ApplyCause}
 use Rattle.tv_store.proofs.FewNumbers.{few_more}
-use Rattle.tv_model.specs.Files.{Reads, Rose}
-use Rattle.tv_model.specs.State.{State, Told, Readers}
+use Rattle.tv_model.specs.State.{State, StepResult, Readers}
 use Rattle.tv_model.specs.Machine.{step}
 use Rattle.tv_model.specs.SoundStates.{IsWhole}
 use Rattle.tv_model.specs.Readable.{ReadsGood}
-use Rattle.tv_model.specs.Commits.{is_schema}
 use Rattle.tv_directory.specs.declared.directory.Directory.{Ghosts}
 use Rattle.tv_store.specs.Acting.{StepsDeleting}
-use Rattle.tv_store.specs.Making.{blank}
-use Rattle.tv_store.specs.StoreCauses.{EventCause, LockingCause, OpeningCause, MakesNoFile}
+use Rattle.tv_store.specs.StoreCauses.{EventCause, LockingCause}
 
 -- ---- what an event did, by what its method says
 
@@ -80,37 +77,37 @@ pub locking_cause_in : (A busy refused quiet spent more : Type 0) (bad : OpenRea
 locking_cause_in A busy refused quiet spent more bad absent (Ok answer) h f = h
 locking_cause_in A busy refused quiet spent more bad absent (Err error) h f = locking_cause busy refused quiet spent more bad absent error h f
 
-module _ {O W C : Type 0} (g : Ghosts O W C) (old new : Kept × O × Bool) (event : Event) where
+module _ {O W C : Type 0} (g : Ghosts O W C) (old new : StoreState O) (event : Event) where
   -- an event that deletes nothing and reads no commit's files
-  pub stepped : {E : Type 0} (told : State → Told) (result : Result (List ℕ) E)
-      → (g.view new.1).refusals ≡ (g.view old.1).refusals → ((s : State) → step s event [] ≡ told s) → ((s : State) → ReadsGood s event)
-      → (g.told.content → (s : State) → Holds (g.view old.1).reads old.0 s → IfOk result (λ answer. (answer ≡ (told s).0) × Holds (g.view new.1).reads new.0 (told s).1))
+  pub stepped : {E : Type 0} (told : State → StepResult State) (result : Result (List ℕ) E)
+      → (g.view new.outside).refusals ≡ (g.view old.outside).refusals → ((s : State) → step s event [] ≡ told s) → ((s : State) → ReadsGood s event)
+      → (g.told.content → (s : State) → Holds (g.view old.outside).reads old.kept s → IfOk result (λ answer. (answer ≡ (told s).0) × Holds (g.view new.outside).reads new.kept (told s).1))
       → IfOk result (Stepped g old new event)
   stepped told (Ok answer) quiet is good h = (
     [],
     inl (omega (arith, quiet)),
     λ t s held whole.
         let k = h t s held in
-        (k.0 ∙ ap (λ (x : Told). x.0) (sym (is s)), subst (λ (x : Told). Holds (g.view new.1).reads new.0 x.1) (sym (is s)) k.1, good s),
+        (k.0 ∙ ap (λ (x : StepResult State). x.0) (sym (is s)), subst (λ (x : StepResult State). Holds (g.view new.outside).reads new.kept x.1) (sym (is s)) k.1, good s),
   )
   stepped told (Err error) quiet is good h = tt
 
   -- one that reads them
-  pub stepped_reading : {E : Type 0} (told : State → Told) (good : State → Type 0) (result : Result (List ℕ) E)
-      → (g.view new.1).refusals ≡ (g.view old.1).refusals → ((s : State) → step s event [] ≡ told s) → ((s : State) → good s → ReadsGood s event)
-      → (g.told.content → (s : State) → Holds (g.view old.1).reads old.0 s → IsWhole s → IfOk result (λ answer. (answer ≡ (told s).0) × Holds (g.view new.1).reads new.0 (told s).1 × good s))
+  pub stepped_reading : {E : Type 0} (told : State → StepResult State) (good : State → Type 0) (result : Result (List ℕ) E)
+      → (g.view new.outside).refusals ≡ (g.view old.outside).refusals → ((s : State) → step s event [] ≡ told s) → ((s : State) → good s → ReadsGood s event)
+      → (g.told.content → (s : State) → Holds (g.view old.outside).reads old.kept s → IsWhole s → IfOk result (λ answer. (answer ≡ (told s).0) × Holds (g.view new.outside).reads new.kept (told s).1 × good s))
       → IfOk result (Stepped g old new event)
   stepped_reading told good (Ok answer) quiet is reads h = (
     [],
     inl (omega (arith, quiet)),
     λ t s held whole.
         let k = h t s held whole in
-        (k.0 ∙ ap (λ (x : Told). x.0) (sym (is s)), subst (λ (x : Told). Holds (g.view new.1).reads new.0 x.1) (sym (is s)) k.1, reads s k.2),
+        (k.0 ∙ ap (λ (x : StepResult State). x.0) (sym (is s)), subst (λ (x : StepResult State). Holds (g.view new.outside).reads new.kept x.1) (sym (is s)) k.1, reads s k.2),
   )
   stepped_reading told good (Err error) quiet is reads h = tt
 
   -- one that deletes
-  pub stepped_deleting : {E : Type 0} (told : State → List Bool → Told) (result : Result (List ℕ) E)
+  pub stepped_deleting : {E : Type 0} (told : State → List Bool → StepResult State) (result : Result (List ℕ) E)
       → ((s : State) (outcomes : List Bool) → step s event outcomes ≡ told s outcomes) → ((s : State) → ReadsGood s event)
       → IfOk result (StepsDeleting g old new told) → IfOk result (Stepped g old new event)
   stepped_deleting told (Ok answer) is good h = (
@@ -118,7 +115,7 @@ module _ {O W C : Type 0} (g : Ghosts O W C) (old new : Kept × O × Bool) (even
     h.1,
     λ t s held whole.
         let k = h.2 t s held in
-        (k.0 ∙ ap (λ (x : Told). x.0) (sym (is s h.0)), subst (λ (x : Told). Holds (g.view new.1).reads new.0 x.1) (sym (is s h.0)) k.1, good s),
+        (k.0 ∙ ap (λ (x : StepResult State). x.0) (sym (is s h.0)), subst (λ (x : StepResult State). Holds (g.view new.outside).reads new.kept x.1) (sym (is s h.0)) k.1, good s),
   )
   stepped_deleting told (Err error) is good h = tt
 
@@ -135,36 +132,9 @@ pub numbers_stay : {A E : Type 0} (bound n : ℕ) (old new : Readers) (result : 
 numbers_stay bound n old new (Ok answer) same h = subst (FewNumbers (bound + n)) (sym same) (few_more bound n old h)
 numbers_stay bound n old new (Err error) same h = tt
 
--- or where they are few after the event
-pub numbers_are : {A E : Type 0} (bound n : ℕ) (new : Readers) (result : Result A E) → OnOk result (FewNumbers bound new) → OnOk result (FewNumbers (bound + n) new)
-numbers_are bound n new (Ok answer) h = few_more bound n new h
-numbers_are bound n new (Err error) h = tt
-
 -- the same bodies are open
 pub same_lens : (bound : ℕ) (kept : Kept) (files : List (List ℕ × List ℕ)) → files ≡ kept.open_files → AtMost bound kept → AllByRecursion (λ e. length e.1 ≤ bound) files
 same_lens bound kept files same h = subst (λ (es : List (List ℕ × List ℕ)). AllByRecursion (λ e. length e.1 ≤ bound) es) (sym same) h
-
--- what is asked of an opening
-pub opening_of : (tells : Type 0) (schema : List ℕ) (reads : Reads) (busy refused quiet more all : Type 0) (error : TantivyError)
-    → EventCause refused quiet ⊥ error → MakesNoFile error → is_schema schema ≡ true → (refused → more) → (quiet → all)
-    → OpeningCause tells schema reads busy more all error
-opening_of tells schema reads busy refused quiet more all (errors.IoError fault) h plain accepted f q = (accepted, h.0, f h.1)
-opening_of tells schema reads busy refused quiet more all (errors.OpenWriteError error) h plain accepted f q = absurd plain
-opening_of tells schema reads busy refused quiet more all errors.Exhausted h plain accepted f q = absurd h.1
-opening_of tells schema reads busy refused quiet more all errors.Memory h plain accepted f q = q h
-opening_of tells schema reads busy refused quiet more all other h plain accepted f q = absurd h
-
--- a file that wasn't found doesn't read
-pub not_there : (read : Option (List ℕ)) (found : Bool) → found ≡ is_some read → found ≡ false → read ≡ None
-not_there None found e absent = refl
-not_there (Some bytes) found e absent = absurd (true≢false (sym e ∙ absent))
-
--- a fault that came after a quiet start
-pub later_fault : (start before after end : ℕ) → before ≡ start → end ≡ after → Rose before after → Rose start end
-later_fault start before after end b e rose = subst (λ (x : ℕ). Rose x end) b (subst (λ (x : ℕ). Rose before x) (sym e) rose)
-
-pub still_blank : (kept : Kept) (schema : List ℕ) → kept ≡ blank schema → kept ≡ blank kept.schema
-still_blank kept schema e = subst (λ (x : List ℕ). kept ≡ blank x) (sym (ap (λ (k : Kept). k.schema) e)) e
 
 -- ---- what an error leaves of the commit
 

@@ -8,33 +8,43 @@ use Rattle.tv_directory.specs.declared.directory.Directory.{Ghosts}
 use Rattle.tv_model.specs.Names.{meta_name}
 use Rattle.tv_model.specs.Files.{RoseBy}
 use Rattle.tv_model.specs.Machine.{refused_in}
+use Rattle.tv_model.specs.ReaderEvents.{bodies_in, reader_step, reload_step}
 use Rattle.tv_model.specs.SoundStates.{IsWhole}
-use Rattle.tv_model.specs.State.{State, Told}
+use Rattle.tv_model.specs.State.{State, StepResult, on_catalog}
 use Rattle.tv_model.specs.declared.event.Event.{Event}
-use Rattle.tv_store.specs.Kept.{Kept, Holds, AtMost}
+use Rattle.tv_model.specs.declared.reload_policy.ReloadPolicy.{ReloadPolicy}
+use Rattle.tv_store.specs.Kept.{StoreState, Holds, AtMost}
 use Rattle.tv_store.specs.ReaderNumbers.{FewNumbers}
 use Rattle.tv_store.specs.Applying.{Stepped, ApplyFaults, LeavesOldOrNew, MayNoteAt, written_by}
 use Rattle.tv_store.specs.Stays.{Stays}
 
 -- from each state that was held, this step's answer is given, and the state after it is held
-abbrev pub StepsTo : {O W C : Type 0} (g : Ghosts O W C) (old new : Kept × O × Bool) (told : State → Told) (result : Result (List ℕ) TantivyError) → Type 0
+abbrev pub StepsTo : {O W C : Type 0} (g : Ghosts O W C) (old new : StoreState O) (told : State → StepResult State) (result : Result (List ℕ) TantivyError) → Type 0
 StepsTo g old new told result =
-    g.told.content → (s : State) → Holds (g.view old.1).reads old.0 s → IfOk result (λ answer. (answer ≡ (told s).0) × Holds (g.view new.1).reads new.0 (told s).1)
+    g.told.content → (s : State) → Holds (g.view old.outside).reads old.kept s → IfOk result (λ answer. (answer ≡ (told s).0) × Holds (g.view new.outside).reads new.kept (told s).1)
 
 -- the same of a step that reads files, where this is true of the state
-abbrev pub StepsReading : {O W C : Type 0} (g : Ghosts O W C) (old new : Kept × O × Bool) (told : State → Told) (good : State → Type 0) (result : Result (List ℕ) TantivyError) → Type 0
+abbrev pub StepsReading : {O W C : Type 0} (g : Ghosts O W C) (old new : StoreState O) (told : State → StepResult State) (good : State → Type 0) (result : Result (List ℕ) TantivyError) → Type 0
 StepsReading g old new told good result =
-    g.told.content → (s : State) → Holds (g.view old.1).reads old.0 s → IsWhole s → IfOk result (λ answer. (answer ≡ (told s).0) × Holds (g.view new.1).reads new.0 (told s).1 × good s)
+    g.told.content → (s : State) → Holds (g.view old.outside).reads old.kept s → IsWhole s → IfOk result (λ answer. (answer ≡ (told s).0) × Holds (g.view new.outside).reads new.kept (told s).1 × good s)
 
 -- the same of a step that deletes, with some outcomes of its deletes: no more were refused than their count rose
-abbrev pub StepsDeleting : {O W C : Type 0} (g : Ghosts O W C) (old new : Kept × O × Bool) (told : State → List Bool → Told) (answer : List ℕ) → Type 0
+abbrev pub StepsDeleting : {O W C : Type 0} (g : Ghosts O W C) (old new : StoreState O) (told : State → List Bool → StepResult State) (answer : List ℕ) → Type 0
 StepsDeleting g old new told answer =
-    (outcomes : List Bool) × RoseBy (refused_in outcomes) (g.view old.1).refusals (g.view new.1).refusals
-    × (g.told.content → (s : State) → Holds (g.view old.1).reads old.0 s → (answer ≡ (told s outcomes).0) × Holds (g.view new.1).reads new.0 (told s outcomes).1)
+    (outcomes : List Bool) × RoseBy (refused_in outcomes) (g.view old.outside).refusals (g.view new.outside).refusals
+    × (g.told.content → (s : State) → Holds (g.view old.outside).reads old.kept s → (answer ≡ (told s outcomes).0) × Holds (g.view new.outside).reads new.kept (told s outcomes).1)
+
+-- the step of a new reader, which reads the files of the current commit
+abbrev pub reader_event : ReloadPolicy → State → StepResult State
+reader_event policy s = on_catalog s (reader_step s.catalog policy (bodies_in s s.catalog.commit))
+
+-- and that of a reload
+abbrev pub reload_event : ℕ → State → StepResult State
+reload_event number s = on_catalog s (reload_step s.catalog number (bodies_in s s.catalog.commit))
 
 -- an error leaves `meta.json` as it was
-abbrev pub KeepsMeta : {O W C : Type 0} (g : Ghosts O W C) (old new : Kept × O × Bool) (result : Result (List ℕ) TantivyError) → Type 0
-KeepsMeta g old new result = g.told.content → OnErr result ((g.view new.1).reads meta_name ≡ (g.view old.1).reads meta_name)
+abbrev pub KeepsMeta : {O W C : Type 0} (g : Ghosts O W C) (old new : StoreState O) (result : Result (List ℕ) TantivyError) → Type 0
+KeepsMeta g old new result = g.told.content → OnErr result ((g.view new.outside).reads meta_name ≡ (g.view old.outside).reads meta_name)
 
 -- What each event keeps of the directory: nothing was told, no lock was taken or freed, and nobody was registered or called.
 pub record Passes {W : Type 0} (told : ToldParts) (event : Event) (old new : View W) : Type 0 where
@@ -44,16 +54,16 @@ pub record Passes {W : Type 0} (told : ToldParts) (event : Event) (old new : Vie
   pub watched : MayNoteAt event old.watched new.watched
 
 -- An error leaves the commit before, or that of the event; want of memory the one before.
-pub record LeavesStep {O W C : Type 0} (g : Ghosts O W C) (old new : Kept × O × Bool) (event : Event) (result : Result (List ℕ) TantivyError) : Type 0 where
-  pub meta : g.told.content → (s : State) → Holds (g.view old.1).reads old.0 s → IsWhole s → OnErr result (LeavesOldOrNew ((g.view old.1).reads meta_name) ((g.view new.1).reads meta_name) old.0.schema s event)
-  pub memory : g.told.content → IfErr result (λ error. error ≡ errors.Memory → (g.view new.1).reads meta_name ≡ (g.view old.1).reads meta_name)
+pub record LeavesStep {O W C : Type 0} (g : Ghosts O W C) (old new : StoreState O) (event : Event) (result : Result (List ℕ) TantivyError) : Type 0 where
+  pub meta : g.told.content → (s : State) → Holds (g.view old.outside).reads old.kept s → IsWhole s → OnErr result (LeavesOldOrNew ((g.view old.outside).reads meta_name) ((g.view new.outside).reads meta_name) old.kept.schema s event)
+  pub memory : g.told.content → IfErr result (λ error. error ≡ errors.Memory → (g.view new.outside).reads meta_name ≡ (g.view old.outside).reads meta_name)
 
 -- An event's step was made, and there is room for its answer.
-pub record Acts {O W C : Type 0} (g : Ghosts O W C) (old new : Kept × O × Bool) (event : Event) (result : Result (List ℕ) TantivyError) : Type 0 where
+pub record Acts {O W C : Type 0} (g : Ghosts O W C) (old new : StoreState O) (event : Event) (result : Result (List ℕ) TantivyError) : Type 0 where
   pub step : IfOk result (Stepped g old new event)
-  pub room : IfOk result (λ answer. length answer < (g.view new.1).room)
-  pub lens : (bound : ℕ) → AtMost bound old.0 → AtMost (bound + written_by event) new.0
-  pub numbers : (bound : ℕ) → FewNumbers bound old.0.reading → OnOk result (FewNumbers (bound + written_by event) new.0.reading)
+  pub room : IfOk result (λ answer. length answer < (g.view new.outside).room)
+  pub lens : (bound : ℕ) → AtMost bound old.kept → AtMost (bound + written_by event) new.kept
+  pub numbers : (bound : ℕ) → FewNumbers bound old.kept.catalog.reading → OnOk result (FewNumbers (bound + written_by event) new.kept.catalog.reading)
   pub faults : ApplyFaults g old new event result
   pub leaves : LeavesStep g old new event result
   pub frame : Stays (Passes g.told event) g.view old new

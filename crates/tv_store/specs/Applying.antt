@@ -1,5 +1,5 @@
 -- An event, applied to a store that is open.
-use Rattle.std.specs.Prelude.{ℕ, ◌≡◌, ◌≤◌, ◌+◌, ◌^◌, ◌⊎◌, Bool, true, false, List, length, Option, Some, Result, IfErr, OnOk, OnErr, is_ok}
+use Rattle.std.specs.Prelude.{ℕ, ◌≡◌, ◌≤◌, ◌+◌, ◌⊎◌, Bool, true, false, List, length, Option, Some, Result, IfErr, OnOk, OnErr, is_ok}
 use Rattle.tv_base.specs.declared.error.TantivyError.{TantivyError}
 use Rattle.tv_base.specs.declared.error.TantivyError.TheVariants as errors
 use Rattle.tv_base.specs.declared.open_errors.OpenReadError.{OpenReadError}
@@ -20,8 +20,8 @@ use Rattle.tv_model.specs.Readable.{ReadsGood}
 use Rattle.tv_managed.specs.Collecting.{meta_lock_name}
 use Rattle.tv_managed.specs.Managed.{KeepsOtherFiles}
 use Rattle.tv_managed.specs.Reading.{HasNoBody}
-use Rattle.tv_store.specs.Kept.{Kept, Holds, AtMost}
-use Rattle.tv_store.specs.ReaderNumbers.{FewNumbers}
+use Rattle.tv_store.specs.Kept.{Kept, StoreState, Holds, AtMost, BytesSpent}
+use Rattle.tv_store.specs.ReaderNumbers.{FewNumbers, NumbersSpent}
 use Rattle.tv_store.specs.Bodies.{RefusesFile}
 use Rattle.tv_store.specs.ReadCauses.{ApplyCause, Reading, TakesMetaLock}
 use Rattle.tv_store.specs.StoreCauses.{IsBusy}
@@ -37,11 +37,11 @@ written_by other = 0
 
 -- One event was applied, with some outcomes of its deletes: from each state that was held before, the state after its step is held now, and this is the step's
 -- answer; where it reads a commit's files it could do so; and no more deletes were refused than their count rose.
-abbrev pub Stepped : {O W C : Type 0} (g : Ghosts O W C) (old new : Kept × O × Bool) (event : Event) (answer : List ℕ) → Type 0
+abbrev pub Stepped : {O W C : Type 0} (g : Ghosts O W C) (old new : StoreState O) (event : Event) (answer : List ℕ) → Type 0
 Stepped g old new event answer =
-    (outcomes : List Bool) × RoseBy (refused_in outcomes) (g.view old.1).refusals (g.view new.1).refusals
-    × (g.told.content → (s : State) → Holds (g.view old.1).reads old.0 s → IsWhole s
-    → (answer ≡ (step s event outcomes).0) × Holds (g.view new.1).reads new.0 (step s event outcomes).1 × ReadsGood s event)
+    (outcomes : List Bool) × RoseBy (refused_in outcomes) (g.view old.outside).refusals (g.view new.outside).refusals
+    × (g.told.content → (s : State) → Holds (g.view old.outside).reads old.kept s → IsWhole s
+    → (answer ≡ (step s event outcomes).0) × Holds (g.view new.outside).reads new.kept (step s event outcomes).1 × ReadsGood s event)
 
 -- what `meta.json` reads after an error: what it read before, or a text that means this commit
 abbrev pub LeavesCommit : (before now : Option (List ℕ)) (schema : List ℕ) → Commit → Type 0
@@ -53,18 +53,17 @@ MakesFirst old new schema = KeepsOtherFiles old new meta_name × LeavesCommit (o
 
 -- an event failed: `meta.json` reads what it read before, or the commit that the event makes
 abbrev pub LeavesOldOrNew : (before now : Option (List ℕ)) (schema : List ℕ) → State → Event → Type 0
-LeavesOldOrNew before now schema s event = (outcomes : List Bool) × LeavesCommit before now schema (step s event outcomes).1.commit
+LeavesOldOrNew before now schema s event = (outcomes : List Bool) × LeavesCommit before now schema (step s event outcomes).1.catalog.commit
 
 -- what an event adds would pass 64 bits: the bytes of a file, or a number of readers, searchers or snapshots
 abbrev pub Spent : Kept → Event → Type 0
-Spent kept event =
-    ((bound : ℕ) → AtMost bound kept → 2 ^ 64 ≤ bound + written_by event) ⊎ ((bound : ℕ) → FewNumbers bound kept.reading → 2 ^ 64 ≤ bound + written_by event)
+Spent kept event = BytesSpent kept (written_by event) ⊎ NumbersSpent kept.catalog.reading (written_by event)
 
 -- a file that the current commit requires is refused with this error
 pub record RefusesRequired (s : State) (error : OpenReadError) : Type 0 where
   pub path : List ℕ
   -- the commit requires it
-  pub required : has (all_required s.commit.segments) path ≡ true
+  pub required : has (all_required s.catalog.commit.segments) path ≡ true
   -- it is sealed, with these bytes
   pub bytes : List ℕ
   pub sealed : file_at s path ≡ Some (Sealed bytes)
@@ -85,16 +84,16 @@ abbrev pub HoldsNone : (tells : Type 0) → Reads → Kept → Type 0
 HoldsNone tells reads kept = tells → (s : State) → Holds reads kept s → IsWhole s → ⊥
 
 -- An event fails where it takes a lock that isn't given, where it meets a file that can't be read, where the device refused a call, where memory was wanted, or where the bytes of a file or a number would pass 64 bits.
-abbrev pub ActCause : {O W C : Type 0} → Ghosts O W C → (old new : Kept × O × Bool) → Event → TantivyError → Type 0
+abbrev pub ActCause : {O W C : Type 0} → Ghosts O W C → (old new : StoreState O) → Event → TantivyError → Type 0
 ActCause g old new event =
-    ApplyCause (TakesMetaLock old.0 event × IsBusy g.told.locks ((g.view old.1).locks meta_lock_name ≡ true) (Rose (g.view old.1).faults (g.view new.1).faults))
-    (Rose (g.view old.1).faults (g.view new.1).faults) ((g.view new.1).faults ≡ (g.view old.1).faults) (Spent old.0 event)
-    (BadIn g.told.content (g.view old.1).reads old.0 event) (λ path. HoldsNone g.told.content (g.view old.1).reads old.0)
+    ApplyCause (TakesMetaLock old.kept event × IsBusy g.told.locks ((g.view old.outside).locks meta_lock_name ≡ true) (Rose (g.view old.outside).faults (g.view new.outside).faults))
+    (Rose (g.view old.outside).faults (g.view new.outside).faults) ((g.view new.outside).faults ≡ (g.view old.outside).faults) (Spent old.kept event)
+    (BadIn g.told.content (g.view old.outside).reads old.kept event) (λ path. HoldsNone g.told.content (g.view old.outside).reads old.kept)
 
 -- At Ok the device refused no call but deletes, and the lock that the event takes was free; and why the event failed.
-pub record ApplyFaults {O W C : Type 0} (g : Ghosts O W C) (old new : Kept × O × Bool) (event : Event) (result : Result (List ℕ) TantivyError) : Type 0 where
-  pub quiet : OnOk result ((g.view new.1).faults ≡ (g.view old.1).faults)
-  pub free : g.told.locks → TakesMetaLock old.0 event → OnOk result ((g.view old.1).locks meta_lock_name ≡ false)
+pub record ApplyFaults {O W C : Type 0} (g : Ghosts O W C) (old new : StoreState O) (event : Event) (result : Result (List ℕ) TantivyError) : Type 0 where
+  pub quiet : OnOk result ((g.view new.outside).faults ≡ (g.view old.outside).faults)
+  pub free : g.told.locks → TakesMetaLock old.kept event → OnOk result ((g.view old.outside).locks meta_lock_name ≡ false)
   pub cause : IfErr result (ActCause g old new event)
 
 -- no more was told than a first part of the event's line
@@ -102,15 +101,15 @@ abbrev pub TellsPartOf : (before now : Heard) → State → Event → Type 0
 TellsPartOf before now s event = (outcomes : List Bool) × TellsFirstPart before now (step s event outcomes).0
 
 -- An error leaves the commit before, or that of the event; want of memory the one before. Of the event's line no more than a first part was told.
-pub record LeavesMeta {O W C : Type 0} (g : Ghosts O W C) (old new : Kept × O × Bool) (event : Event) (result : Result (List ℕ) TantivyError) : Type 0 where
-  pub meta : g.told.content → (s : State) → Holds (g.view old.1).reads old.0 s → IsWhole s → OnErr result (LeavesOldOrNew ((g.view old.1).reads meta_name) ((g.view new.1).reads meta_name) old.0.schema s event)
-  pub memory : g.told.content → IfErr result (λ error. error ≡ errors.Memory → (g.view new.1).reads meta_name ≡ (g.view old.1).reads meta_name)
-  pub part : g.told.content → g.told.heard → (s : State) → Holds (g.view old.1).reads old.0 s → IsWhole s → OnErr result (TellsPartOf (g.view old.1).heard (g.view new.1).heard s event)
+pub record LeavesMeta {O W C : Type 0} (g : Ghosts O W C) (old new : StoreState O) (event : Event) (result : Result (List ℕ) TantivyError) : Type 0 where
+  pub meta : g.told.content → (s : State) → Holds (g.view old.outside).reads old.kept s → IsWhole s → OnErr result (LeavesOldOrNew ((g.view old.outside).reads meta_name) ((g.view new.outside).reads meta_name) old.kept.schema s event)
+  pub memory : g.told.content → IfErr result (λ error. error ≡ errors.Memory → (g.view new.outside).reads meta_name ≡ (g.view old.outside).reads meta_name)
+  pub part : g.told.content → g.told.heard → (s : State) → Holds (g.view old.outside).reads old.kept s → IsWhole s → OnErr result (TellsPartOf (g.view old.outside).heard (g.view new.outside).heard s event)
 
 -- No open file is longer by more than the bytes that the event adds, and at Ok no number of readers, searchers and snapshots is larger by more than it takes.
 pub record Grows (old new : Kept) (event : Event) (result : Result (List ℕ) TantivyError) : Type 0 where
   pub lens : (bound more : ℕ) → written_by event ≤ more → AtMost bound old → AtMost (bound + more) new
-  pub numbers : (bound more : ℕ) → written_by event ≤ more → FewNumbers bound old.reading → OnOk result (FewNumbers (bound + more) new.reading)
+  pub numbers : (bound more : ℕ) → written_by event ≤ more → FewNumbers bound old.catalog.reading → OnOk result (FewNumbers (bound + more) new.catalog.reading)
 
 -- after an event nobody was registered or called; and a notice of a commit may stand after one, but else as before
 abbrev pub MayNoteAt : Event → WatchState → WatchState → Type 0
@@ -118,9 +117,9 @@ MayNoteAt (events.Commit payload ids) old new = MayNote meta_name old new
 MayNoteAt other old new = new ≡ old
 
 -- What each event keeps: the locks, who watches, and the schema. A writer that may be handed in still may. The store is open unless an error came.
-pub record AppliesFrame {O W C : Type 0} (g : Ghosts O W C) (old new : Kept × O × Bool) (event : Event) (result : Result (List ℕ) TantivyError) : Type 0 where
-  pub goes_on : GoesOn g.told (g.view old.1) (g.view new.1)
-  pub locks : g.told.locks → SameLocks (g.view old.1).locks (g.view new.1).locks
-  pub watched : MayNoteAt event (g.view old.1).watched (g.view new.1).watched
-  pub schema : new.0.schema ≡ old.0.schema
-  pub is_open : new.2 ≡ is_ok result
+pub record AppliesFrame {O W C : Type 0} (g : Ghosts O W C) (old new : StoreState O) (event : Event) (result : Result (List ℕ) TantivyError) : Type 0 where
+  pub goes_on : GoesOn g.told (g.view old.outside) (g.view new.outside)
+  pub locks : g.told.locks → SameLocks (g.view old.outside).locks (g.view new.outside).locks
+  pub watched : MayNoteAt event (g.view old.outside).watched (g.view new.outside).watched
+  pub schema : new.kept.schema ≡ old.kept.schema
+  pub is_open : new.is_open ≡ is_ok result

@@ -1,5 +1,5 @@
 -- What a call that commits does.
-use Rattle.std.specs.Prelude.{ℕ, ◌≡◌, ◌<◌, ◌+◌, ◌++◌, [], ◌∷◌, Bool, List, length, codes, Some, Result, IfOk, IfErr, OnErr}
+use Rattle.std.specs.Prelude.{ℕ, ◌≡◌, ◌<◌, ◌+◌, ◌++◌, [], ◌∷◌, List, length, codes, Option, Some, is_some, Result, IfOk, IfErr, OnErr}
 use Rattle.std.specs.BTreeSet.{insert_key}
 use Rattle.std.specs.Fmt.{decimal}
 use Rattle.hex.specs.Hex.{encode_lower}
@@ -10,37 +10,38 @@ use Rattle.tv_directory.specs.View.{View, Told as ToldParts}
 use Rattle.tv_model.specs.Listing.{Lists}
 use Rattle.tv_model.specs.Names.{byte_cmp, list_name, meta_name}
 use Rattle.tv_model.specs.declared.segment.LiveSegment.{LiveSegment}
-use Rattle.tv_model.specs.Lines.{line}
+use Rattle.tv_model.specs.Lines.{line, unless, words_of}
+use Rattle.tv_model.specs.CommitEvents.{committed, first_unsealed}
 use Rattle.tv_model.specs.Commits.{Commit, IsCommit, printed, default_settings}
-use Rattle.tv_model.specs.State.{State, Told}
-use Rattle.tv_store.specs.Kept.{Kept, Holds}
+use Rattle.tv_model.specs.State.{State, StepResult, on_catalog}
+use Rattle.tv_store.specs.Kept.{Kept, StoreState, Holds}
 use Rattle.tv_store.specs.Applying.{LeavesCommit}
 use Rattle.tv_store.specs.Stays.{Stays, FrameNotes, EventFaults}
 
 -- The open files, who reads, the schema and whether the store is open stay; nothing was told, and a notice of a commit may stand.
-pub record KeepsRest {O W : Type 0} (told : ToldParts) (view : O → View W) (old new : Kept × O × Bool) : Type 0 where
+pub record KeepsRest {O W : Type 0} (told : ToldParts) (view : O → View W) (old new : StoreState O) : Type 0 where
   pub stays : Stays (FrameNotes told) view old new
-  pub open_files : new.0.open_files ≡ old.0.open_files
-  pub reading : new.0.reading ≡ old.0.reading
+  pub open_files : new.kept.open_files ≡ old.kept.open_files
+  pub reading : new.kept.catalog.reading ≡ old.kept.catalog.reading
 
 -- A call makes this step of the machine from each state that was held, if this is so. An error leaves the commit before, or that of the step; want of memory the one before.
-pub record Commits {O W C : Type 0} (g : Ghosts O W C) (given : Type 0) (old new : Kept × O × Bool) (told : State → Told) (result : Result (List ℕ) TantivyError) : Type 0 where
-  pub step : g.told.content → (s : State) → Holds (g.view old.1).reads old.0 s → given → IfOk result (λ answer. (answer ≡ (told s).0) × Holds (g.view new.1).reads new.0 (told s).1)
-  pub meta : g.told.content → (s : State) → Holds (g.view old.1).reads old.0 s → given → OnErr result (LeavesCommit ((g.view old.1).reads meta_name) ((g.view new.1).reads meta_name) old.0.schema (told s).1.commit)
-  pub memory : g.told.content → IfErr result (λ error. error ≡ errors.Memory → (g.view new.1).reads meta_name ≡ (g.view old.1).reads meta_name)
-  pub room : IfOk result (λ answer. length answer < (g.view new.1).room)
-  pub faults : EventFaults ⊥ (g.view old.1) (g.view new.1) result
+pub record Commits {O W C : Type 0} (g : Ghosts O W C) (given : Type 0) (old new : StoreState O) (told : State → StepResult State) (result : Result (List ℕ) TantivyError) : Type 0 where
+  pub step : g.told.content → (s : State) → Holds (g.view old.outside).reads old.kept s → given → IfOk result (λ answer. (answer ≡ (told s).0) × Holds (g.view new.outside).reads new.kept (told s).1)
+  pub meta : g.told.content → (s : State) → Holds (g.view old.outside).reads old.kept s → given → OnErr result (LeavesCommit ((g.view old.outside).reads meta_name) ((g.view new.outside).reads meta_name) old.kept.schema (told s).1.catalog.commit)
+  pub memory : g.told.content → IfErr result (λ error. error ≡ errors.Memory → (g.view new.outside).reads meta_name ≡ (g.view old.outside).reads meta_name)
+  pub room : IfOk result (λ answer. length answer < (g.view new.outside).room)
+  pub faults : EventFaults ⊥ (g.view old.outside) (g.view new.outside) result
   pub frame : KeepsRest g.told g.view old new
 
 -- this commit, which gets the next number, is the current one, and this is its text
-pub record Publishes {O W C : Type 0} (g : Ghosts O W C) (old new : Kept × O × Bool) (commit : Commit) (text : List ℕ) : Type 0 where
-  pub kept : new.0 ≡ record old.0 { next = old.0.next + 1; commit = commit; managed = insert_key byte_cmp old.0.managed meta_name }
-  pub saved : g.told.content → (g.view new.1).reads meta_name ≡ Some text
-  pub list : g.told.content → Lists ((g.view old.1).reads list_name) old.0.managed → Lists ((g.view new.1).reads list_name) new.0.managed
+pub record Publishes {O W C : Type 0} (g : Ghosts O W C) (old new : StoreState O) (commit : Commit) (text : List ℕ) : Type 0 where
+  pub kept : new.kept ≡ record old.kept { catalog = record old.kept.catalog { next = old.kept.catalog.next + 1; commit = commit }; managed = insert_key byte_cmp old.kept.managed meta_name }
+  pub saved : g.told.content → (g.view new.outside).reads meta_name ≡ Some text
+  pub list : g.told.content → Lists ((g.view old.outside).reads list_name) old.kept.managed → Lists ((g.view new.outside).reads list_name) new.kept.managed
 
 -- a commit gets the number that comes next, and this is its text
 pub record IsPrinted (kept : Kept) (commit : Commit) (text : List ℕ) : Type 0 where
-  pub opstamp : commit.opstamp ≡ kept.next
+  pub opstamp : commit.opstamp ≡ kept.catalog.next
   pub sound : IsCommit commit
   pub text_is : text ≡ printed default_settings kept.schema commit ++ 10 ∷ []
 
@@ -55,3 +56,9 @@ unknown_line id = line (codes "refused") (codes "unknown-segment" ∷ encode_low
 -- or to one of a file that isn't sealed
 abbrev pub unsealed_line : List ℕ → List ℕ
 unsealed_line name = line (codes "refused") (codes "unsealed" ∷ name ∷ [])
+
+-- these segments are committed, where the files are sealed that they require
+abbrev pub commit_of : State → Option (List ℕ) → List (List ℕ × LiveSegment) → StepResult State
+commit_of s payload segments =
+    unless s ((is_some (first_unsealed s segments), codes "unsealed" ∷ words_of (first_unsealed s segments)) ∷ [])
+    (on_catalog s (committed s.catalog payload segments))

@@ -1,5 +1,5 @@
 -- What the calls on the files of a store do.
-use Rattle.std.specs.Prelude.{ℕ, ◌≡◌, ◌≢◌, ◌⊎◌, Bool, true, false, List, [], length, cond, Option, Some, None, IsSome, Result, IfErr, OnOk, OnErr}
+use Rattle.std.specs.Prelude.{ℕ, ◌≡◌, ◌≢◌, ◌⊎◌, ◌&&◌, ◌||◌, Bool, not, is_some, true, false, List, [], length, cond, Option, Some, None, IsSome, Result, IfErr, OnOk, OnErr}
 use Rattle.std.specs.BTreeMap.{insert_entry}
 use Rattle.std.specs.BTreeSet.{insert_key}
 use Rattle.tv_base.specs.declared.error.TantivyError.{TantivyError}
@@ -14,28 +14,31 @@ use Rattle.tv_model.specs.Listing.{Lists}
 use Rattle.tv_model.specs.Names.{byte_cmp, has, list_name, meta_name}
 use Rattle.tv_model.specs.State.{at}
 use Rattle.tv_store.specs.Bodies.{RefusesAt}
+use Rattle.tv_store.specs.Kept.{FilesState}
 use Rattle.tv_store.specs.ReadCauses.{ApplyCause}
 use Rattle.tv_store.specs.Stays.{FrameNotes}
 use Rattle.tv_store.specs.StoreCauses.{IsBusy, LockingCause}
 
--- Whether a file is there and isn't open, by what its name reads and what was written to it where it is open.
-pub record Asked (read written : Option (List ℕ)) (found : Bool) : Type 0 where
-  pub yes : found ≡ true → IsSome read × (written ≡ None)
-  pub no : found ≡ false → (read ≡ None) ⊎ IsSome written
+-- Whether a file is there, isn't open and wasn't left, by what its name reads, what was written to it where it is open, and whether it was left.
+pub record Asked (read written : Option (List ℕ)) (left found : Bool) : Type 0 where
+  pub yes : found ≡ true → IsSome read × (written ≡ None) × (left ≡ false)
+  pub no : found ≡ false → (read ≡ None) ⊎ IsSome written ⊎ (left ≡ true)
 
 -- An empty file was made that wasn't there; it is on the list, and open.
-pub record OpensFile {O W C : Type 0} (g : Ghosts O W C) (old new : O × List (List ℕ) × List (List ℕ × List ℕ)) (name : List ℕ) : Type 0 where
-  pub names : new.1 ≡ insert_key byte_cmp old.1 name
-  pub open_files : new.2 ≡ insert_entry byte_cmp old.2 name []
-  pub makes : g.told.content → MakesFile (g.view old.0).reads (g.view new.0).reads name
-  pub list : g.told.content → Lists ((g.view old.0).reads list_name) old.1 → Lists ((g.view new.0).reads list_name) new.1
+pub record OpensFile {O W C : Type 0} (g : Ghosts O W C) (old new : FilesState O) (name : List ℕ) : Type 0 where
+  pub names : new.managed ≡ insert_key byte_cmp old.managed name
+  pub open_files : new.open_files ≡ insert_entry byte_cmp old.open_files name []
+  pub left : new.left ≡ old.left
+  pub makes : g.told.content → MakesFile (g.view old.outside).reads (g.view new.outside).reads name
+  pub list : g.told.content → Lists ((g.view old.outside).reads list_name) old.managed → Lists ((g.view new.outside).reads list_name) new.managed
 
 -- The file was there, and nothing changed.
-pub record FindsFile {O W C : Type 0} (g : Ghosts O W C) (old new : O × List (List ℕ) × List (List ℕ × List ℕ)) (name : List ℕ) : Type 0 where
-  pub open_files : new.2 ≡ old.2
-  pub there : g.told.content → IsSome ((g.view old.0).reads name)
-  pub same : g.told.content → Same (g.view old.0).reads (g.view new.0).reads
-  pub names : g.told.content → new.1 ≡ old.1
+pub record FindsFile {O W C : Type 0} (g : Ghosts O W C) (old new : FilesState O) (name : List ℕ) : Type 0 where
+  pub open_files : new.open_files ≡ old.open_files
+  pub left : new.left ≡ old.left
+  pub there : g.told.content → IsSome ((g.view old.outside).reads name)
+  pub same : g.told.content → Same (g.view old.outside).reads (g.view new.outside).reads
+  pub names : g.told.content → new.managed ≡ old.managed
 
 -- A file isn't read where the device refused that, where memory was wanted, where its bytes are refused, or where it isn't there.
 pub record ReadBodyFaults {A O W C : Type 0} (g : Ghosts O W C) (old new : O) (name : List ℕ) (result : Result A TantivyError) : Type 0 where
@@ -55,11 +58,12 @@ pub record Tried (names before after deleted failed : List (List ℕ)) (tells : 
   -- every other name but that of the list reads what it read
   pub others : tells → (n : List ℕ) → has deleted n ≡ false → n ≢ list_name → new n ≡ old n
 
--- The managed files were tried that aren't among these. The open ones that were deleted are open no more, and no more deletes failed than were refused.
-pub record Collects {O W C : Type 0} (g : Ghosts O W C) (living : List (List ℕ)) (old new : O × List (List ℕ) × List (List ℕ × List ℕ)) (deleted failed : List (List ℕ)) : Type 0 where
-  pub tried : Tried (collectable living old.1) old.1 new.1 deleted failed g.told.content (g.view old.0).reads (g.view new.0).reads
-  pub counted : FailsAtMost (length failed) (g.view old.0).refusals (g.view new.0).refusals
-  pub open_files : (n : List ℕ) → at new.2 n ≡ cond (has deleted n) None (at old.2 n)
+-- The managed files were tried that aren't among these. Those that were deleted are neither open nor left any more, and no more deletes failed than were refused.
+pub record Collects {O W C : Type 0} (g : Ghosts O W C) (living : List (List ℕ)) (old new : FilesState O) (deleted failed : List (List ℕ)) : Type 0 where
+  pub tried : Tried (collectable living old.managed) old.managed new.managed deleted failed g.told.content (g.view old.outside).reads (g.view new.outside).reads
+  pub counted : FailsAtMost (length failed) (g.view old.outside).refusals (g.view new.outside).refusals
+  pub open_files : (n : List ℕ) → at new.open_files n ≡ cond (has deleted n) None (at old.open_files n)
+  pub left : (n : List ℕ) → has new.left n ≡ (not (has deleted n) && has old.left n)
 
 -- A collection fails where the meta lock isn't given, where the device refused a call other than a delete, or where memory was wanted. Else the lock was free.
 pub record GcFaults {A O W C : Type 0} (g : Ghosts O W C) (old new : O) (result : Result A TantivyError) : Type 0 where
@@ -68,17 +72,23 @@ pub record GcFaults {A O W C : Type 0} (g : Ghosts O W C) (old new : O) (result 
   pub cause : IfErr result (LockingCause (IsBusy g.told.locks ((g.view old).locks meta_lock_name ≡ true) (Rose (g.view old).faults (g.view new).faults)) (Rose (g.view old).faults (g.view new).faults) ((g.view new).faults ≡ (g.view old).faults) ⊥)
 
 -- The text is that of `meta.json`, which is managed.
-pub record SavesMeta {O W C : Type 0} (g : Ghosts O W C) (old new : O × List (List ℕ) × List (List ℕ × List ℕ)) (text : List ℕ) : Type 0 where
-  pub names : new.1 ≡ insert_key byte_cmp old.1 meta_name
-  pub saved : g.told.content → (g.view new.0).reads meta_name ≡ Some text
-  pub list : g.told.content → Lists ((g.view old.0).reads list_name) old.1 → Lists ((g.view new.0).reads list_name) new.1
+pub record SavesMeta {O W C : Type 0} (g : Ghosts O W C) (old new : FilesState O) (text : List ℕ) : Type 0 where
+  pub names : new.managed ≡ insert_key byte_cmp old.managed meta_name
+  pub saved : g.told.content → (g.view new.outside).reads meta_name ≡ Some text
+  pub list : g.told.content → Lists ((g.view old.outside).reads list_name) old.managed → Lists ((g.view new.outside).reads list_name) new.managed
 
 -- After an error `meta.json` has this text, or what it had; after want of memory what it had.
 pub record LeavesText {A O W C : Type 0} (g : Ghosts O W C) (old new : O) (text : List ℕ) (result : Result A TantivyError) : Type 0 where
   pub either : g.told.content → OnErr result (((g.view new).reads meta_name ≡ Some text) ⊎ ((g.view new).reads meta_name ≡ (g.view old).reads meta_name))
   pub memory : g.told.content → IfErr result (λ error. error ≡ errors.Memory → (g.view new).reads meta_name ≡ (g.view old).reads meta_name)
 
--- No file was opened, written or closed, and no lock was taken or freed; a notice of a commit may stand.
-pub record KeepsOpenFiles {O W : Type 0} (told : Told) (view : O → View W) (old new : O × List (List ℕ) × List (List ℕ × List ℕ)) : Type 0 where
-  pub open_files : new.2 ≡ old.2
-  pub below : FrameNotes told (view old.0) (view new.0)
+-- No file was opened, written, closed or left, and no lock was taken or freed; a notice of a commit may stand.
+pub record KeepsOpenFiles {O W : Type 0} (told : Told) (view : O → View W) (old new : FilesState O) : Type 0 where
+  pub open_files : new.open_files ≡ old.open_files
+  pub left : new.left ≡ old.left
+  pub below : FrameNotes told (view old.outside) (view new.outside)
+
+-- The open ones of these files are left, beside those that were, and no other file is.
+pub record LeavesFiles {O : Type 0} (names : List (List ℕ)) (old new : FilesState O) : Type 0 where
+  pub open_files : (n : List ℕ) → at new.open_files n ≡ cond (has names n) None (at old.open_files n)
+  pub left : (n : List ℕ) → has new.left n ≡ (has old.left n || (has names n && is_some (at old.open_files n)))

@@ -1,24 +1,37 @@
 -- What a store keeps in memory, and the state of the machine that it holds with what its directory reads.
-use Rattle.std.specs.Prelude.{ℕ, ◌≡◌, ◌≤◌, ◌+◌, ◌^◌, Bool, true, false, List, length, Option, Some, None, IsSome, is_some, ◌&&◌, ◌||◌}
+use Rattle.std.specs.Prelude.{ℕ, ◌≡◌, ◌≤◌, ◌+◌, ◌^◌, Bool, true, false, List, length, Option, Some, None, IsSome, is_some}
 use Rattle.std.specs.List.{AllByRecursion}
-use Rattle.tv_model.specs.declared.segment.LiveSegment.{LiveSegment}
 use Rattle.tv_model.specs.Names.{has, list_name, meta_name}
 use Rattle.tv_model.specs.Files.{Reads}
 use Rattle.tv_model.specs.Listing.{Lists}
-use Rattle.tv_model.specs.Commits.{Commit, IsSegment, Means, default_settings}
-use Rattle.tv_model.specs.State.{State, FileState, Sealed, Open, Left, Readers, at, file_at}
+use Rattle.tv_model.specs.Commits.{IsSegment, Means, default_settings}
+use Rattle.tv_model.specs.State.{Catalog, State, FileState, Sealed, Open, Left, at, file_at}
 use Rattle.tv_model.specs.Index.{IsFileOf}
 
--- the schema's text, the live segments, the next number, the current commit, the managed names, what was written to each open file, the files that were left, and who reads
+-- what a store keeps in memory: the schema's text, the catalog, the managed names, what was written to each open file, and the files that were left
 pub record Kept : Type 0 where
   pub schema : List ℕ
-  pub live : List (List ℕ × LiveSegment)
-  pub next : ℕ
-  pub commit : Commit
+  pub catalog : Catalog
   pub managed : List (List ℕ)
   pub open_files : List (List ℕ × List ℕ)
   pub left : List (List ℕ)
-  pub reading : Readers
+
+-- a store: what it keeps in memory, its directory, and whether the next event may be applied
+pub record StoreState (O : Type 0) : Type 0 where
+  pub kept : Kept
+  pub outside : O
+  pub is_open : Bool
+
+-- the files of a store: its directory, the managed names, what was written to each open file, and the files that were left
+pub record FilesState (O : Type 0) : Type 0 where
+  pub outside : O
+  pub managed : List (List ℕ)
+  pub open_files : List (List ℕ × List ℕ)
+  pub left : List (List ℕ)
+
+-- what a store keeps that has this schema, this catalog and these files
+abbrev pub kept_of : {O : Type 0} → (schema : List ℕ) → Catalog → FilesState O → Kept
+kept_of schema catalog files = record { schema = schema; catalog = catalog; managed = files.managed; open_files = files.open_files; left = files.left }
 
 -- a file of the machine, next to what its name reads and what was written to it
 abbrev pub FileHolds : Option FileState → Option (List ℕ) → Option (List ℕ) → Type 0
@@ -36,16 +49,13 @@ is_left (Some Left) = true
 
 -- what is read and what is kept hold this state
 pub record Holds (reads : Reads) (kept : Kept) (s : State) : Type 0 where
-  pub live : kept.live ≡ s.live
-  pub next : kept.next ≡ s.next
-  pub commit : kept.commit ≡ s.commit
+  pub catalog : kept.catalog ≡ s.catalog
   pub managed : kept.managed ≡ s.managed
-  pub segments : AllByRecursion IsSegment s.live
+  pub segments : AllByRecursion IsSegment s.catalog.live
   pub names : (n : List ℕ) → is_some (file_at s n) ≡ true → IsFileOf n
   pub files : (n : List ℕ) → IsFileOf n → FileHolds (file_at s n) (reads n) (at kept.open_files n)
   pub left : (n : List ℕ) → has kept.left n ≡ is_left (file_at s n)
-  pub reading : kept.reading ≡ s.reading
-  pub meta : (text : List ℕ) × (reads meta_name ≡ Some text) × Means default_settings kept.schema text s.commit
+  pub meta : (text : List ℕ) × (reads meta_name ≡ Some text) × Means default_settings kept.schema text s.catalog.commit
   pub listing : Lists (reads list_name) s.managed
   pub listed : has s.managed meta_name ≡ true
 
@@ -56,7 +66,3 @@ AtMost bound kept = AllByRecursion (λ e. length e.1 ≤ bound) kept.open_files
 -- no bound on these lengths is so small that a file can get this many bytes more
 abbrev pub BytesSpent : Kept → ℕ → Type 0
 BytesSpent kept count = (bound : ℕ) → AtMost bound kept → 2 ^ 64 ≤ bound + count
-
--- the open ones of these files are left, beside those that were
-abbrev pub TakesAsLeft : (names : List (List ℕ)) (old new : Kept) → Type 0
-TakesAsLeft names old new = (n : List ℕ) → has new.left n ≡ (has old.left n || (has names n && is_some (at old.open_files n)))

@@ -5,6 +5,7 @@ pub mod StoreCauses
 pub mod OpenFiles
 pub mod ReadCauses
 pub mod Bodies
+pub mod Catalogs
 pub mod ReaderNumbers
 pub mod SearcherLines
 pub mod Applying

@@ -1,7 +1,7 @@
 -- Why an event that reads the files of a commit fails.
 use Rattle.std.specs.Prelude.{ℕ, ◌≡◌, ◌≢◌, ◌⊎◌, true, List, IsSome, string_bytes}
 use Rattle.tv_model.specs.Names.{is_file_name}
-use Rattle.tv_model.specs.State.{State, at_number, reader_at}
+use Rattle.tv_model.specs.State.{State, reader_at}
 use Rattle.tv_model.specs.declared.event.Event.{Event}
 use Rattle.tv_model.specs.declared.event.Event.TheVariants as events
 use Rattle.tv_base.specs.Causes.{IsDevice}
@@ -16,14 +16,14 @@ use Rattle.tv_store.specs.StoreCauses.{LockingCause}
 -- an event that reads the files of the current commit: a new reader, or a reload of a reader that is there
 abbrev pub Reading : State → Event → Type 0
 Reading s (events.Reader policy) = Unit {0}
-Reading s (events.Reload number) = IsSome (reader_at s number)
+Reading s (events.Reload number) = IsSome (reader_at s.catalog number)
 Reading s other = ⊥
 
 -- an event that takes the meta lock: a collection, a new reader, or a reload of a reader that is there
 abbrev pub TakesMetaLock : Kept → Event → Type 0
 TakesMetaLock kept events.Gc = Unit {0}
 TakesMetaLock kept (events.Reader policy) = Unit {0}
-TakesMetaLock kept (events.Reload number) = IsSome (at_number kept.reading.readers number)
+TakesMetaLock kept (events.Reload number) = IsSome (reader_at kept.catalog number)
 TakesMetaLock kept other = ⊥
 
 -- an event that takes the meta lock, or may do so

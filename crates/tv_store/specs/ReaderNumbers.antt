@@ -9,6 +9,6 @@ pub record FewNumbers (bound : ℕ) (reading : Readers) : Type 0 where
   pub next_searcher : reading.next_searcher ≤ bound
   pub next_snapshots : AllByRecursion (λ e. e.1.next ≤ bound) reading.readers
 
--- no bound on these numbers is so small that one of them can rise by one
-abbrev pub NumbersSpent : Readers → Type 0
-NumbersSpent reading = (bound : ℕ) → FewNumbers bound reading → 2 ^ 64 ≤ bound + 1
+-- no bound on these numbers is so small that one of them can rise by this much
+abbrev pub NumbersSpent : Readers → ℕ → Type 0
+NumbersSpent reading count = (bound : ℕ) → FewNumbers bound reading → 2 ^ 64 ≤ bound + count

@@ -1,5 +1,5 @@
 -- Why the calls fail that read the files of a commit.
-use Rattle.std.specs.Prelude.{◌≡◌, Bool, true, false, List, ℕ, Result, IfErr, OnOk}
+use Rattle.std.specs.Prelude.{◌≡◌, true, false, List, ℕ, Result, IfErr, OnOk}
 use Rattle.tv_base.specs.declared.error.TantivyError.{TantivyError}
 use Rattle.tv_directory.specs.declared.directory.Directory.{Ghosts}
 use Rattle.tv_managed.specs.Collecting.{meta_lock_name}
@@ -7,7 +7,7 @@ use Rattle.tv_model.specs.Files.{Rose}
 use Rattle.tv_model.specs.declared.event.Event.{Event}
 use Rattle.tv_store.specs.Applying.{BadIn, HoldsNone, LacksIn}
 use Rattle.tv_store.specs.Bodies.{FailsAt}
-use Rattle.tv_store.specs.Kept.{Kept}
+use Rattle.tv_store.specs.Kept.{StoreState}
 use Rattle.tv_store.specs.ReadCauses.{ApplyCause}
 use Rattle.tv_store.specs.StoreCauses.{IsBusy}
 
@@ -17,18 +17,18 @@ pub record BodiesFaults {A O W C : Type 0} (g : Ghosts O W C) (old new : O) (nam
   pub cause : IfErr result (FailsAt g.told.content (g.view old).reads names (Rose (g.view old).faults (g.view new).faults) ((g.view new).faults ≡ (g.view old).faults))
 
 -- One of the files that the current commit requires isn't read.
-pub record CommitFaults {A O W C : Type 0} (g : Ghosts O W C) (old new : Kept × O × Bool) (result : Result A TantivyError) : Type 0 where
-  pub quiet : OnOk result ((g.view new.1).faults ≡ (g.view old.1).faults)
-  pub cause : IfErr result (ApplyCause ⊥ (Rose (g.view old.1).faults (g.view new.1).faults) ((g.view new.1).faults ≡ (g.view old.1).faults) ⊥ (LacksIn g.told.content (g.view old.1).reads old.0) (λ path. HoldsNone g.told.content (g.view old.1).reads old.0))
+pub record CommitFaults {A O W C : Type 0} (g : Ghosts O W C) (old new : StoreState O) (result : Result A TantivyError) : Type 0 where
+  pub quiet : OnOk result ((g.view new.outside).faults ≡ (g.view old.outside).faults)
+  pub cause : IfErr result (ApplyCause ⊥ (Rose (g.view old.outside).faults (g.view new.outside).faults) ((g.view new.outside).faults ≡ (g.view old.outside).faults) ⊥ (LacksIn g.told.content (g.view old.outside).reads old.kept) (λ path. HoldsNone g.told.content (g.view old.outside).reads old.kept))
 
 -- The same of a call that takes the meta lock, which was free if it is given.
-pub record SnapshotFaults {A O W C : Type 0} (g : Ghosts O W C) (old new : Kept × O × Bool) (result : Result A TantivyError) : Type 0 where
-  pub quiet : OnOk result ((g.view new.1).faults ≡ (g.view old.1).faults)
-  pub free : g.told.locks → OnOk result ((g.view old.1).locks meta_lock_name ≡ false)
-  pub cause : IfErr result (ApplyCause (IsBusy g.told.locks ((g.view old.1).locks meta_lock_name ≡ true) (Rose (g.view old.1).faults (g.view new.1).faults)) (Rose (g.view old.1).faults (g.view new.1).faults) ((g.view new.1).faults ≡ (g.view old.1).faults) ⊥ (LacksIn g.told.content (g.view old.1).reads old.0) (λ path. HoldsNone g.told.content (g.view old.1).reads old.0))
+pub record SnapshotFaults {A O W C : Type 0} (g : Ghosts O W C) (old new : StoreState O) (result : Result A TantivyError) : Type 0 where
+  pub quiet : OnOk result ((g.view new.outside).faults ≡ (g.view old.outside).faults)
+  pub free : g.told.locks → OnOk result ((g.view old.outside).locks meta_lock_name ≡ false)
+  pub cause : IfErr result (ApplyCause (IsBusy g.told.locks ((g.view old.outside).locks meta_lock_name ≡ true) (Rose (g.view old.outside).faults (g.view new.outside).faults)) (Rose (g.view old.outside).faults (g.view new.outside).faults) ((g.view new.outside).faults ≡ (g.view old.outside).faults) ⊥ (LacksIn g.told.content (g.view old.outside).reads old.kept) (λ path. HoldsNone g.told.content (g.view old.outside).reads old.kept))
 
 -- The same of an event that reads them, if it takes the lock; or its number is spent.
-pub record ReadingFaults {A O W C : Type 0} (g : Ghosts O W C) (takes spent : Type 0) (old new : Kept × O × Bool) (event : Event) (result : Result A TantivyError) : Type 0 where
-  pub quiet : OnOk result ((g.view new.1).faults ≡ (g.view old.1).faults)
-  pub free : g.told.locks → takes → OnOk result ((g.view old.1).locks meta_lock_name ≡ false)
-  pub cause : IfErr result (ApplyCause (takes × IsBusy g.told.locks ((g.view old.1).locks meta_lock_name ≡ true) (Rose (g.view old.1).faults (g.view new.1).faults)) (Rose (g.view old.1).faults (g.view new.1).faults) ((g.view new.1).faults ≡ (g.view old.1).faults) spent (BadIn g.told.content (g.view old.1).reads old.0 event) (λ path. HoldsNone g.told.content (g.view old.1).reads old.0))
+pub record ReadingFaults {A O W C : Type 0} (g : Ghosts O W C) (takes spent : Type 0) (old new : StoreState O) (event : Event) (result : Result A TantivyError) : Type 0 where
+  pub quiet : OnOk result ((g.view new.outside).faults ≡ (g.view old.outside).faults)
+  pub free : g.told.locks → takes → OnOk result ((g.view old.outside).locks meta_lock_name ≡ false)
+  pub cause : IfErr result (ApplyCause (takes × IsBusy g.told.locks ((g.view old.outside).locks meta_lock_name ≡ true) (Rose (g.view old.outside).faults (g.view new.outside).faults)) (Rose (g.view old.outside).faults (g.view new.outside).faults) ((g.view new.outside).faults ≡ (g.view old.outside).faults) spent (BadIn g.told.content (g.view old.outside).reads old.kept event) (λ path. HoldsNone g.told.content (g.view old.outside).reads old.kept))

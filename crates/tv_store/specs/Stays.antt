@@ -1,40 +1,40 @@
 -- What a call on a store leaves alone, and why it fails.
-use Rattle.std.specs.Prelude.{◌≡◌, ℕ, Bool, List, Result, OnOk, IfErr}
+use Rattle.std.specs.Prelude.{◌≡◌, Result, OnOk, IfErr}
 use Rattle.tv_model.specs.Files.{Rose}
 use Rattle.tv_model.specs.Names.{meta_name}
 use Rattle.tv_base.specs.declared.error.TantivyError.{TantivyError}
 use Rattle.tv_directory.specs.View.{View, Told, DeletesNone, Frame}
 use Rattle.tv_directory.specs.Watch.{MayNote}
-use Rattle.tv_store.specs.Kept.{Kept}
+use Rattle.tv_store.specs.Kept.{FilesState, StoreState}
 use Rattle.tv_store.specs.StoreCauses.{EventCause, MakesNoFile}
 
--- Of the files of a store: the managed names stay, and of the directory below what such a call keeps.
-pub record KeepsManaged {O W : Type 0} (keeps : View W → View W → Type 0) (view : O → View W) (old new : O × List (List ℕ) × List (List ℕ × List ℕ)) : Type 0 where
-  pub names : new.1 ≡ old.1
-  pub below : keeps (view old.0) (view new.0)
+-- Of the files of a store: the managed names and those that were left stay, and of the directory below what such a call keeps.
+pub record KeepsManaged {O W : Type 0} (keeps : View W → View W → Type 0) (view : O → View W) (old new : FilesState O) : Type 0 where
+  pub names : new.managed ≡ old.managed
+  pub left : new.left ≡ old.left
+  pub below : keeps (view old.outside) (view new.outside)
 
 -- And no file was opened, written or closed.
-pub record KeepsFiles {O W : Type 0} (keeps : View W → View W → Type 0) (view : O → View W) (old new : O × List (List ℕ) × List (List ℕ × List ℕ)) : Type 0 where
-  pub names : new.1 ≡ old.1
-  pub open_files : new.2 ≡ old.2
-  pub below : keeps (view old.0) (view new.0)
+pub record KeepsFiles {O W : Type 0} (keeps : View W → View W → Type 0) (view : O → View W) (old new : FilesState O) : Type 0 where
+  pub managed : KeepsManaged keeps view old new
+  pub open_files : new.open_files ≡ old.open_files
 
 -- Of a store: the schema stays, and whether it is open, and of the directory below what such a call keeps.
-pub record Stays {O W : Type 0} (keeps : View W → View W → Type 0) (view : O → View W) (old new : Kept × O × Bool) : Type 0 where
-  pub schema : new.0.schema ≡ old.0.schema
-  pub is_open : new.2 ≡ old.2
-  pub below : keeps (view old.1) (view new.1)
+pub record Stays {O W : Type 0} (keeps : View W → View W → Type 0) (view : O → View W) (old new : StoreState O) : Type 0 where
+  pub schema : new.kept.schema ≡ old.kept.schema
+  pub is_open : new.is_open ≡ old.is_open
+  pub below : keeps (view old.outside) (view new.outside)
 
 -- And so do those who read, and what they are shown.
-pub record KeepsReaders {O W : Type 0} (keeps : View W → View W → Type 0) (view : O → View W) (old new : Kept × O × Bool) : Type 0 where
+pub record KeepsReaders {O W : Type 0} (keeps : View W → View W → Type 0) (view : O → View W) (old new : StoreState O) : Type 0 where
   pub stays : Stays keeps view old new
-  pub reading : new.0.reading ≡ old.0.reading
+  pub reading : new.kept.catalog.reading ≡ old.kept.catalog.reading
 
 -- And so does all that is kept.
-pub record Asks {O W : Type 0} (keeps : View W → View W → Type 0) (view : O → View W) (old new : Kept × O × Bool) : Type 0 where
-  pub kept : new.0 ≡ old.0
-  pub is_open : new.2 ≡ old.2
-  pub below : keeps (view old.1) (view new.1)
+pub record Asks {O W : Type 0} (keeps : View W → View W → Type 0) (view : O → View W) (old new : StoreState O) : Type 0 where
+  pub kept : new.kept ≡ old.kept
+  pub is_open : new.is_open ≡ old.is_open
+  pub below : keeps (view old.outside) (view new.outside)
 
 -- No writer lost its file, no delete was refused, and nobody was registered or called; a notice of a commit may stand.
 pub record MayNotify {W : Type 0} (told : Told) (old new : View W) : Type 0 where

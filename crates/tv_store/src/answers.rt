@@ -1,15 +1,14 @@
 //! Answers, and the room that is made for them before the device is asked.
 ghost use Rattle.std.specs.Prelude.{◌≡◌, ◌<◌, [], ◌∷◌, true, length, codes, IfOk, OnOk};
 ghost use Rattle.tv_model.specs.Lines.{line, has_no_feed};
-ghost use Rattle.tv_model.specs.State.{at};
 ghost use Rattle.tv_directory.specs.View.{OnlyReads};
 ghost use Rattle.tv_store.specs.Stays.{Asks, EventFaults};
 
-use crate::store::Store;
+use crate::index_store::IndexStore;
 use std::alloc::Global;
 use tv_base::TantivyError;
 use tv_directory::Outside;
-use tv_model::{Answer, LiveSegment, Memory, SegmentId};
+use tv_model::{Answer, Memory};
 
 // The answer to an event that changes nothing.
 pub(crate) fn refused(alloc: Global, word: &str) -> Result<Answer, Memory>
@@ -19,31 +18,24 @@ pub(crate) fn refused(alloc: Global, word: &str) -> Result<Answer, Memory>
     Answer::new(alloc, "refused")?.word(word.as_bytes())
 }
 
-impl<O: Outside> Store<O> {
-    // The live segment of this id.
-    pub(crate) fn live_segment(&self, id: SegmentId) -> Option<LiveSegment>
-        ensures { result ≡ at self.now.0.live id }
-    {
-        self.live.get(&id).copied()
-    }
-
+impl<O: Outside> IndexStore<O> {
     // An answer in room that is made for it.
     pub(crate) fn ready(&mut self, answer: Answer) -> Result<Answer, Memory>
         ensures answer { IfOk result (λ ready. ready ≡ answer) }
-        ensures room { OnOk result (length answer < (O.view self.new.1).room) }
-        ensures faults { (O.view self.new.1).faults ≡ (O.view self.old.1).faults }
+        ensures room { OnOk result (length answer < (O.view self.new.outside).room) }
+        ensures faults { (O.view self.new.outside).faults ≡ (O.view self.old.outside).faults }
         ensures frame { Asks (OnlyReads O.told) O.view self.old self.new }
     {
         self.files.ready(answer.as_slice().len())?;
         Ok(answer)
     }
 
-    // The answer to an event that changes nothing but the room for it.
+    // The answer to an event that asks nothing more of the directory, in room that is made for it.
     pub(crate) fn told(&mut self, answer: Answer) -> Result<Answer, TantivyError>
         ensures answer { IfOk result (λ told. told ≡ answer) }
-        ensures room { IfOk result (λ answer. length answer < (O.view self.new.1).room) }
-        ensures quiet { (O.view self.new.1).faults ≡ (O.view self.old.1).faults }
-        ensures faults { EventFaults ⊥ (O.view self.old.1) (O.view self.new.1) result }
+        ensures room { IfOk result (λ answer. length answer < (O.view self.new.outside).room) }
+        ensures quiet { (O.view self.new.outside).faults ≡ (O.view self.old.outside).faults }
+        ensures faults { EventFaults ⊥ (O.view self.old.outside) (O.view self.new.outside) result }
         ensures frame { Asks (OnlyReads O.told) O.view self.old self.new }
     {
         let ready = self.ready(answer)?;
@@ -54,9 +46,9 @@ impl<O: Outside> Store<O> {
     pub(crate) fn refuse(&mut self, word: &str) -> Result<Answer, TantivyError>
         requires { has_no_feed word.now ≡ true }
         ensures answer { IfOk result (λ answer. answer ≡ line (codes "refused") (word.now ∷ [])) }
-        ensures room { IfOk result (λ answer. length answer < (O.view self.new.1).room) }
-        ensures quiet { (O.view self.new.1).faults ≡ (O.view self.old.1).faults }
-        ensures faults { EventFaults ⊥ (O.view self.old.1) (O.view self.new.1) result }
+        ensures room { IfOk result (λ answer. length answer < (O.view self.new.outside).room) }
+        ensures quiet { (O.view self.new.outside).faults ≡ (O.view self.old.outside).faults }
+        ensures faults { EventFaults ⊥ (O.view self.old.outside) (O.view self.new.outside) result }
         ensures frame { Asks (OnlyReads O.told) O.view self.old self.new }
     {
         let answer = refused(self.alloc, word)?;

@@ -1,47 +1,25 @@
 //! The events on files.
-ghost use Rattle.std.specs.Prelude.{◌≡◌, ◌<◌, ◌+◌, ◌&&◌, [], ◌∷◌, ℕ, true, not, nat_lt, length, codes, option_map, IfOk};
+ghost use Rattle.std.specs.Prelude.{◌≡◌, ◌<◌, ◌+◌, [], ◌∷◌, ℕ, true, length, codes, IfOk};
 ghost use Rattle.std.specs.Fmt.{decimal};
-ghost use Rattle.tv_model.specs.Names.{is_plain};
-ghost use Rattle.tv_model.specs.Segments.{name_of, is_delete, num_deleted};
-ghost use Rattle.tv_model.specs.Index.{IsFileOf};
-ghost use Rattle.tv_model.specs.State.{at};
 ghost use Rattle.tv_model.specs.Lines.{line, has_no_feed};
-ghost use Rattle.tv_model.specs.FileEvents.{open_step, write_step, seal_step};
+ghost use Rattle.tv_model.specs.FileEvents.{lacks_deletes, open_step, write_step, seal_step};
 ghost use Rattle.tv_directory.specs.View.{Kept};
 ghost use Rattle.tv_store.specs.Kept.{AtMost, BytesSpent};
 ghost use Rattle.tv_store.specs.Acting.{StepsTo, KeepsMeta};
 ghost use Rattle.tv_store.specs.Stays.{KeepsReaders, EventFaults};
 
-use crate::store::Store;
+use crate::index_store::IndexStore;
+use crate::names::file_of;
 use std::alloc::Global;
 use tv_base::TantivyError;
 use tv_directory::Outside;
-use tv_model::{
-    Answer, Blob, DeleteMeta, FileName, LiveSegment, Memory, SegmentComponent, SegmentId,
-    segment_file_name,
-};
+use tv_model::{Answer, Blob, FileName, LiveSegment, Memory, SegmentComponent, SegmentId};
 
 // Whether it is the delete file of a segment without deletes: there is none to write.
 fn lacks_deletes(segment: LiveSegment, component: SegmentComponent) -> bool
-    ensures { result ≡ (is_delete component && not (nat_lt 0 (num_deleted segment.deletes))) }
+    ensures { result ≡ lacks_deletes segment component }
 {
     component == SegmentComponent::Delete && !segment.has_deletes()
-}
-
-// The name of a segment's file, which isn't that of the commit or of the list.
-fn file_of(
-    alloc: Global,
-    id: SegmentId,
-    deletes: Option<DeleteMeta>,
-    component: SegmentComponent,
-) -> Result<FileName, Memory>
-    ensures name { IfOk result (λ name. name ≡ name_of id deletes component) }
-    ensures plain { IfOk result (λ name. is_plain name ≡ true) }
-    ensures file { IfOk result (λ name. IsFileOf name) }
-{
-    let _id = id.as_bytes();
-    let name = segment_file_name(alloc, id, deletes, component)?;
-    Ok(name)
 }
 
 // The line of a new open file.
@@ -59,14 +37,7 @@ fn sized_line(alloc: Global, word: &str, name: &FileName, len: u64) -> Result<An
     Answer::new(alloc, word)?.name(name)?.number(len)
 }
 
-impl<O: Outside> Store<O> {
-    // How many bytes were written to a file, where it is open.
-    fn body_len(&self, name: &FileName) -> Option<u64>
-        ensures { result ≡ option_map length (at self.now.0.open_files name.now) }
-    {
-        self.files.body_len(name)
-    }
-
+impl<O: Outside> IndexStore<O> {
     // A new open file.
     pub(crate) fn open_file(
         &mut self,
@@ -75,13 +46,13 @@ impl<O: Outside> Store<O> {
     ) -> Result<Answer, TantivyError>
         ensures step { StepsTo O.Directory self.old self.new
             (λ s. open_step s id component) result }
-        ensures room { IfOk result (λ answer. length answer < (O.view self.new.1).room) }
-        ensures lens { (bound : ℕ) → AtMost bound self.old.0 → AtMost bound self.new.0 }
-        ensures faults { EventFaults ⊥ (O.view self.old.1) (O.view self.new.1) result }
+        ensures room { IfOk result (λ answer. length answer < (O.view self.new.outside).room) }
+        ensures lens { (bound : ℕ) → AtMost bound self.old.kept → AtMost bound self.new.kept }
+        ensures faults { EventFaults ⊥ (O.view self.old.outside) (O.view self.new.outside) result }
         ensures meta { KeepsMeta O.Directory self.old self.new result }
         ensures frame { KeepsReaders (Kept O.told) O.view self.old self.new }
     {
-        let Some(segment) = self.live_segment(id) else {
+        let Some(segment) = self.catalog.live_segment(id) else {
             return self.refuse("unknown-segment");
         };
         if lacks_deletes(segment, component) {
@@ -106,19 +77,19 @@ impl<O: Outside> Store<O> {
     ) -> Result<Answer, TantivyError>
         ensures step { StepsTo O.Directory self.old self.new
             (λ s. write_step s id component bytes.now) result }
-        ensures room { IfOk result (λ answer. length answer < (O.view self.new.1).room) }
-        ensures lens { (bound : ℕ) → AtMost bound self.old.0
-            → AtMost (bound + length bytes.now) self.new.0 }
-        ensures faults { EventFaults (BytesSpent self.old.0 (length bytes.now))
-            (O.view self.old.1) (O.view self.new.1) result }
+        ensures room { IfOk result (λ answer. length answer < (O.view self.new.outside).room) }
+        ensures lens { (bound : ℕ) → AtMost bound self.old.kept
+            → AtMost (bound + length bytes.now) self.new.kept }
+        ensures faults { EventFaults (BytesSpent self.old.kept (length bytes.now))
+            (O.view self.old.outside) (O.view self.new.outside) result }
         ensures meta { KeepsMeta O.Directory self.old self.new result }
         ensures frame { KeepsReaders (Kept O.told) O.view self.old self.new }
     {
-        let Some(segment) = self.live_segment(id) else {
+        let Some(segment) = self.catalog.live_segment(id) else {
             return self.refuse("unknown-segment");
         };
         let name = file_of(self.alloc, id, segment.deletes, component)?;
-        let Some(len) = self.body_len(&name) else {
+        let Some(len) = self.files.body_len(&name) else {
             return self.refuse("not-open");
         };
         let bytes = bytes.as_slice();
@@ -139,17 +110,17 @@ impl<O: Outside> Store<O> {
     ) -> Result<Answer, TantivyError>
         ensures step { StepsTo O.Directory self.old self.new
             (λ s. seal_step s id component) result }
-        ensures room { IfOk result (λ answer. length answer < (O.view self.new.1).room) }
-        ensures lens { (bound : ℕ) → AtMost bound self.old.0 → AtMost bound self.new.0 }
-        ensures faults { EventFaults ⊥ (O.view self.old.1) (O.view self.new.1) result }
+        ensures room { IfOk result (λ answer. length answer < (O.view self.new.outside).room) }
+        ensures lens { (bound : ℕ) → AtMost bound self.old.kept → AtMost bound self.new.kept }
+        ensures faults { EventFaults ⊥ (O.view self.old.outside) (O.view self.new.outside) result }
         ensures meta { KeepsMeta O.Directory self.old self.new result }
         ensures frame { KeepsReaders (Kept O.told) O.view self.old self.new }
     {
-        let Some(segment) = self.live_segment(id) else {
+        let Some(segment) = self.catalog.live_segment(id) else {
             return self.refuse("unknown-segment");
         };
         let name = file_of(self.alloc, id, segment.deletes, component)?;
-        let Some(len) = self.body_len(&name) else {
+        let Some(len) = self.files.body_len(&name) else {
             return self.refuse("not-open");
         };
         let answer = sized_line(self.alloc, "sealed", &name, len)?;

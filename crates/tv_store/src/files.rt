@@ -1,5 +1,6 @@
-//! The files of an index: a managed directory, and the writers of the files that are open.
-ghost use Rattle.std.specs.Prelude.{◌≡◌, ◌≢◌, ◌≤◌, ◌<◌, ◌+◌, ◌^◌, ◌++◌, [], List, ℕ, true, false, length, Option, Some, None, IsSome, is_some, cond, option_map, Contains, IfOk, OnOk, OnErr, map, string_bytes};
+//! The files of an index: a managed directory, the writers of the files that are open, and the names
+//! of those that were left.
+ghost use Rattle.std.specs.Prelude.{◌≡◌, ◌≢◌, ◌&&◌, not, ◌≤◌, ◌<◌, ◌+◌, ◌^◌, ◌++◌, [], List, ℕ, true, false, length, Option, Some, None, IsSome, is_some, cond, option_map, Contains, IfOk, OnOk, OnErr, map, string_bytes};
 ghost use Rattle.std.specs.List.{list_all, AllByRecursion};
 ghost use Rattle.std.specs.Map.{remove_entry};
 ghost use Rattle.std.specs.BTreeMap.{is_at, insert_entry};
@@ -14,7 +15,7 @@ ghost use Rattle.tv_directory.specs.Locks.{FreesLock};
 ghost use Rattle.tv_directory.specs.View.{Kept, OnlyReads, OnlyLocks, OnlyTells, MayDelete};
 ghost use Rattle.tv_managed.specs.Managed.{KeepsOtherFiles};
 ghost use Rattle.tv_managed.specs.Reading.{ReadsBody};
-ghost use Rattle.tv_store.specs.FileCalls.{Asked, OpensFile, FindsFile, ReadBodyFaults, Collects, GcFaults, SavesMeta, LeavesText, KeepsOpenFiles};
+ghost use Rattle.tv_store.specs.FileCalls.{Asked, LeavesFiles, OpensFile, FindsFile, ReadBodyFaults, Collects, GcFaults, SavesMeta, LeavesText, KeepsOpenFiles};
 ghost use Rattle.tv_store.specs.Stays.{KeepsManaged, KeepsFiles, EventFaults, Faults};
 
 use std::alloc::Global;
@@ -41,26 +42,30 @@ pub(crate) struct Collected {
     pub(crate) failed: Vec<FileName>,
 }
 
-/// A managed directory and its open files. To a contract it is the directory, the managed names, and
-/// what was written to each open file.
+/// A managed directory and its open files. To a contract it is the directory, the managed names,
+/// what was written to each open file, and the files that were left.
 pub(crate) struct Files<O: Outside> {
     directory: ManagedDirectory<O>,
     files: BTreeMap<FileName, OpenFile<O>>,
+    // Neither sealed nor written any more.
+    left: BTreeSet<FileName>,
 }
 
 impl<O: Outside> Model for Files<O> {
-    ghost use Rattle.std.specs.Prelude.{List, ℕ, map};
+    ghost use Rattle.std.specs.Prelude.{map};
     ghost use Rattle.std.specs.List.{AllByRecursion};
+    ghost use Rattle.tv_store.specs.Kept.{FilesState};
     ghost use Rattle.tv_store.specs.OpenFiles.{IsOpenFile};
 
-    ghost Value = { O × List (List ℕ) × List (List ℕ × List ℕ) };
+    ghost Value = { FilesState O };
 
-    ghost view = { λ a. (
-      a.directory.0,
-      a.directory.1,
-      map
-          (λ e. (e.0, (O.state_of e.1.writer.writer).written)) a.files.entries,
-    ) };
+    ghost view = { λ a. record {
+      outside = a.directory.0;
+      managed = a.directory.1;
+      open_files = map
+          (λ e. (e.0, (O.state_of e.1.writer.writer).written)) a.files.entries;
+      left = a.left.keys;
+    } };
 
     ghost invariant = { λ a. AllByRecursion
         (λ e. IsOpenFile O.Directory a.directory.0 e.0 e.1.writer e.1.len) a.files.entries };
@@ -89,39 +94,56 @@ fn remove_all<V: Drop>(map: &mut BTreeMap<FileName, V>, names: &[FileName])
     }
 }
 
+// Takes these names out of a set.
+fn remove_names(set: &mut BTreeSet<FileName>, names: &[FileName])
+    ensures { (n : List ℕ) → has set.new.keys n
+        ≡ (not (has names.entry.now n) && has set.old.keys n) }
+{
+    for name in names {
+        let _there = set.remove(name);
+    }
+}
+
 impl<O: Outside> Files<O> {
     /// The files of a directory, none of them open.
     pub(crate) fn new(alloc: Global, directory: ManagedDirectory<O>) -> Files<O>
-        ensures { result ≡ (directory.0, directory.1, []) }
+        ensures { result ≡ record {
+          outside = directory.0;
+          managed = directory.1;
+          open_files = [];
+          left = [];
+        } }
     {
         Files {
             directory,
             files: BTreeMap::new(alloc),
+            left: BTreeSet::new(alloc),
         }
     }
 
     /// The directory.
     pub(crate) fn into_outside(self) -> O
-        ensures { result ≡ self.0 }
+        ensures { result ≡ self.outside }
     {
         let Files {
             directory,
             files: _,
+            left: _,
         } = self;
         directory.into_directory()
     }
 
     /// The managed names.
     pub(crate) fn managed(&self) -> &BTreeSet<String>
-        ensures names { map string_bytes result.now.keys ≡ self.now.1 }
-        ensures plain { list_all is_plain self.now.1 ≡ true }
+        ensures names { map string_bytes result.now.keys ≡ self.now.managed }
+        ensures plain { list_all is_plain self.now.managed ≡ true }
     {
         self.directory.list_managed_files()
     }
 
     /// How many bytes were written to a file, where it is open.
     pub(crate) fn body_len(&self, name: &FileName) -> Option<u64>
-        ensures { result ≡ option_map length (at self.now.2 name.now) }
+        ensures { result ≡ option_map length (at self.now.open_files name.now) }
     {
         match self.files.get(name) {
             Some(file) => Some(file.len),
@@ -131,8 +153,8 @@ impl<O: Outside> Files<O> {
 
     /// Makes room for a line of this length.
     pub(crate) fn ready(&mut self, len: usize) -> Result<(), Memory>
-        ensures made { OnOk result (len < (O.view self.new.0).room) }
-        ensures faults { (O.view self.new.0).faults ≡ (O.view self.old.0).faults }
+        ensures made { OnOk result (len < (O.view self.new.outside).room) }
+        ensures faults { (O.view self.new.outside).faults ≡ (O.view self.old.outside).faults }
         ensures frame { KeepsFiles (OnlyReads O.told) O.view self.old self.new }
     {
         self.directory.ready(len)
@@ -140,10 +162,11 @@ impl<O: Outside> Files<O> {
 
     /// Tells a line, in the room that was made.
     pub(crate) fn tell(&mut self, line: &[u8]) -> Result<(), IoFault>
-        requires room { length line.now < (O.view self.old.0).room }
+        requires room { length line.now < (O.view self.old.outside).room }
         requires feed { has_no_feed line.now ≡ true }
-        ensures tells { TellsLineTo O.told (O.view self.old.0) (O.view self.new.0) line.now result }
-        ensures faults { DeviceFaults (O.view self.old.0) (O.view self.new.0) result }
+        ensures tells { TellsLineTo O.told (O.view self.old.outside) (O.view self.new.outside)
+            line.now result }
+        ensures faults { DeviceFaults (O.view self.old.outside) (O.view self.new.outside) result }
         ensures frame { KeepsFiles (OnlyTells O.told) O.view self.old self.new }
     {
         self.directory.tell(line)
@@ -153,10 +176,10 @@ impl<O: Outside> Files<O> {
     pub(crate) fn acquire_lock(&mut self, lock: &Lock) -> Result<DirectoryLock, LockError>
         requires { is_file_name lock.now.filepath.now ≡ true }
         ensures token { IfOk result (λ token. token ≡ lock.now.filepath.now) }
-        ensures acquires { Acquires O.told (O.view self.old.0)
-            (O.view self.new.0) lock.now.filepath.now result }
-        ensures faults { LockFaults O.told (O.view self.old.0)
-            (O.view self.new.0) lock.now.filepath.now result }
+        ensures acquires { Acquires O.told (O.view self.old.outside)
+            (O.view self.new.outside) lock.now.filepath.now result }
+        ensures faults { LockFaults O.told (O.view self.old.outside)
+            (O.view self.new.outside) lock.now.filepath.now result }
         ensures frame { KeepsFiles (OnlyLocks O.told) O.view self.old self.new }
     {
         self.directory.acquire_lock(lock)
@@ -164,22 +187,23 @@ impl<O: Outside> Files<O> {
 
     /// Frees a lock. Takes no memory.
     pub(crate) fn release(&mut self, lock: DirectoryLock)
-        ensures freed { O.told.locks → FreesLock (O.view self.old.0).locks
-            (O.view self.new.0).locks lock }
-        ensures faults { (O.view self.new.0).faults ≡ (O.view self.old.0).faults }
+        ensures freed { O.told.locks → FreesLock (O.view self.old.outside).locks
+            (O.view self.new.outside).locks lock }
+        ensures faults { (O.view self.new.outside).faults ≡ (O.view self.old.outside).faults }
         ensures frame { KeepsFiles (OnlyLocks O.told) O.view self.old self.new }
     {
         self.directory.release(lock);
     }
 
-    /// Whether a file is there and isn't open.
+    /// Whether a file is there, isn't open and wasn't left.
     pub(crate) fn is_sealed(&mut self, name: &FileName) -> Result<bool, TantivyError>
-        ensures answer { O.told.content → IfOk result (Asked ((O.view self.old.0).reads name.now)
-            (at self.old.2 name.now)) }
-        ensures faults { EventFaults ⊥ (O.view self.old.0) (O.view self.new.0) result }
+        ensures answer { O.told.content → IfOk result
+            (Asked ((O.view self.old.outside).reads name.now)
+            (at self.old.open_files name.now) (has self.old.left name.now)) }
+        ensures faults { EventFaults ⊥ (O.view self.old.outside) (O.view self.new.outside) result }
         ensures frame { KeepsFiles (OnlyReads O.told) O.view self.old self.new }
     {
-        if self.files.contains_key(name) {
+        if self.files.contains_key(name) || self.left.contains(name) {
             return Ok(false);
         }
         match self.directory.exists(name.as_str()) {
@@ -198,11 +222,11 @@ impl<O: Outside> Files<O> {
             → OpensFile O.Directory self.old self.new name) }
         ensures found { IfOk result (λ made. made ≡ false
             → FindsFile O.Directory self.old self.new name) }
-        ensures others { O.told.content → KeepsOtherFiles (O.view self.old.0).reads
-            (O.view self.new.0).reads name }
-        ensures kept { OnErr result (self.new.2 ≡ self.old.2) }
-        ensures faults { EventFaults ⊥ (O.view self.old.0) (O.view self.new.0) result }
-        ensures frame { Kept O.told (O.view self.old.0) (O.view self.new.0) }
+        ensures others { O.told.content → KeepsOtherFiles (O.view self.old.outside).reads
+            (O.view self.new.outside).reads name }
+        ensures kept { OnErr result (self.new.open_files ≡ self.old.open_files) }
+        ensures faults { EventFaults ⊥ (O.view self.old.outside) (O.view self.new.outside) result }
+        ensures frame { Kept O.told (O.view self.old.outside) (O.view self.new.outside) }
     {
         let writer = match self.directory.open_write(name.as_str()) {
             Ok(writer) => writer,
@@ -215,18 +239,19 @@ impl<O: Outside> Files<O> {
 
     /// Adds bytes to an open file.
     pub(crate) fn write(&mut self, name: FileName, bytes: &[u8]) -> Result<(), TantivyError>
-        requires is_open { IsSome (at self.old.2 name) }
-        requires fits { (body : List ℕ) → at self.old.2 name ≡ Some body
+        requires is_open { IsSome (at self.old.open_files name) }
+        requires fits { (body : List ℕ) → at self.old.open_files name ≡ Some body
             → length body + length bytes.now < 2 ^ 64 }
-        ensures written { (body : List ℕ) → at self.old.2 name ≡ Some body
-            → OnOk result (self.new.2 ≡ insert_entry byte_cmp
-            (remove_entry (is_at (byte_cmp name)) self.old.2) name (body ++ bytes.now)) }
-        ensures closed { OnErr result (self.new.2
-            ≡ remove_entry (is_at (byte_cmp name)) self.old.2) }
-        ensures others { O.told.content → KeepsOthers (O.view self.old.0).reads
-            (O.view self.new.0).reads name }
-        ensures there { O.told.content → OnOk result (IsSome ((O.view self.new.0).reads name)) }
-        ensures faults { EventFaults ⊥ (O.view self.old.0) (O.view self.new.0) result }
+        ensures written { (body : List ℕ) → at self.old.open_files name ≡ Some body
+            → OnOk result (self.new.open_files ≡ insert_entry byte_cmp
+            (remove_entry (is_at (byte_cmp name)) self.old.open_files) name (body ++ bytes.now)) }
+        ensures closed { OnErr result (self.new.open_files
+            ≡ remove_entry (is_at (byte_cmp name)) self.old.open_files) }
+        ensures others { O.told.content → KeepsOthers (O.view self.old.outside).reads
+            (O.view self.new.outside).reads name }
+        ensures there { O.told.content
+            → OnOk result (IsSome ((O.view self.new.outside).reads name)) }
+        ensures faults { EventFaults ⊥ (O.view self.old.outside) (O.view self.new.outside) result }
         ensures frame { KeepsManaged (Kept O.told) O.view self.old self.new }
     {
         let Some(file) = self.files.remove(&name) else {
@@ -241,15 +266,17 @@ impl<O: Outside> Files<O> {
 
     /// Seals an open file.
     pub(crate) fn seal(&mut self, name: &FileName) -> Result<(), TantivyError>
-        requires { IsSome (at self.old.2 name.now) }
-        ensures sealed { O.told.content → (body : List ℕ) → at self.old.2 name.now ≡ Some body
-            → OnOk result (Sets (O.view self.old.0).reads (O.view self.new.0).reads name.now
-            (Some (sealed body))) }
-        ensures others { O.told.content → KeepsOthers (O.view self.old.0).reads
-            (O.view self.new.0).reads name.now }
-        ensures open_files { self.new.2 ≡ remove_entry (is_at (byte_cmp name.now)) self.old.2 }
-        ensures closed { at self.new.2 name.now ≡ None }
-        ensures faults { EventFaults ⊥ (O.view self.old.0) (O.view self.new.0) result }
+        requires { IsSome (at self.old.open_files name.now) }
+        ensures sealed { O.told.content
+            → (body : List ℕ) → at self.old.open_files name.now ≡ Some body
+            → OnOk result (Sets (O.view self.old.outside).reads (O.view self.new.outside).reads
+            name.now (Some (sealed body))) }
+        ensures others { O.told.content → KeepsOthers (O.view self.old.outside).reads
+            (O.view self.new.outside).reads name.now }
+        ensures open_files { self.new.open_files
+            ≡ remove_entry (is_at (byte_cmp name.now)) self.old.open_files }
+        ensures closed { at self.new.open_files name.now ≡ None }
+        ensures faults { EventFaults ⊥ (O.view self.old.outside) (O.view self.new.outside) result }
         ensures frame { KeepsManaged (Kept O.told) O.view self.old self.new }
     {
         let Some(file) = self.files.remove(name) else {
@@ -260,29 +287,47 @@ impl<O: Outside> Files<O> {
         Ok(())
     }
 
-    /// Takes an open file as one that is written no more, and answers whether there is one.
-    pub(crate) fn abandon(&mut self, name: &FileName) -> bool
-        ensures found { result ≡ is_some (at self.old.2 name.now) }
-        ensures directory { self.new.0 ≡ self.old.0 }
-        ensures names { self.new.1 ≡ self.old.1 }
-        ensures open_files { self.new.2 ≡ remove_entry (is_at (byte_cmp name.now)) self.old.2 }
-        ensures closed { at self.new.2 name.now ≡ None }
+    // Takes an open file as one that is written no more, and answers whether there is one.
+    fn abandon(&mut self, name: &FileName) -> bool
+        ensures found { result ≡ is_some (at self.old.open_files name.now) }
+        ensures abandoned { self.new ≡ record self.old {
+          open_files = remove_entry (is_at (byte_cmp name.now)) self.old.open_files;
+        } }
+        ensures closed { at self.new.open_files name.now ≡ None }
     {
         self.files.remove(name).is_some()
+    }
+
+    /// The open ones of these files are left: they are written no more.
+    pub(crate) fn leave(&mut self, names: Vec<FileName>) -> Result<(), Memory>
+        ensures left { OnOk result (LeavesFiles names.items self.old self.new) }
+        ensures outside { self.new.outside ≡ self.old.outside }
+        ensures names { self.new.managed ≡ self.old.managed }
+        ensures lens { (bound : ℕ) → AllByRecursion (λ e. length e.1 ≤ bound) self.old.open_files
+            → AllByRecursion (λ e. length e.1 ≤ bound) self.new.open_files }
+    {
+        for name in names {
+            if self.abandon(&name) {
+                self.left.insert(name)?;
+            }
+        }
+        Ok(())
     }
 
     /// The body of a sealed file.
     pub(crate) fn open_read(&mut self, name: &FileName) -> Result<FileSlice, TantivyError>
         ensures body { O.told.content → IfOk result
-            (ReadsBody ((O.view self.old.0).reads name.now)) }
-        ensures faults { ReadBodyFaults O.Directory self.old.0 self.new.0 name.now result }
+            (ReadsBody ((O.view self.old.outside).reads name.now)) }
+        ensures faults { ReadBodyFaults O.Directory self.old.outside self.new.outside
+            name.now result }
         ensures frame { KeepsFiles (OnlyReads O.told) O.view self.old self.new }
     {
         let body = self.directory.open_read(name.as_str())?;
         Ok(body)
     }
 
-    /// Deletes the managed files that aren't among these. An open file that was deleted is open no more.
+    /// Deletes the managed files that aren't among these. One that was deleted is neither open nor
+    /// left any more.
     pub(crate) fn collect(
         &mut self,
         alloc: Global,
@@ -293,13 +338,14 @@ impl<O: Outside> Files<O> {
         // What is living reads what it read.
         ensures spared { O.told.content → (n : List ℕ) → has (map string_bytes living.keys) n ≡ true
             → n ≢ list_name
-            → (O.view self.new.0).reads n ≡ (O.view self.old.0).reads n }
-        ensures list { O.told.content → Lists ((O.view self.old.0).reads list_name) self.old.1
-            → OnOk result (Lists ((O.view self.new.0).reads list_name) self.new.1) }
-        ensures lens { (bound : ℕ) → AllByRecursion (λ e. length e.1 ≤ bound) self.old.2
-            → AllByRecursion (λ e. length e.1 ≤ bound) self.new.2 }
-        ensures faults { GcFaults O.Directory self.old.0 self.new.0 result }
-        ensures frame { MayDelete O.told (O.view self.old.0) (O.view self.new.0) }
+            → (O.view self.new.outside).reads n ≡ (O.view self.old.outside).reads n }
+        ensures list { O.told.content
+            → Lists ((O.view self.old.outside).reads list_name) self.old.managed
+            → OnOk result (Lists ((O.view self.new.outside).reads list_name) self.new.managed) }
+        ensures lens { (bound : ℕ) → AllByRecursion (λ e. length e.1 ≤ bound) self.old.open_files
+            → AllByRecursion (λ e. length e.1 ≤ bound) self.new.open_files }
+        ensures faults { GcFaults O.Directory self.old.outside self.new.outside result }
+        ensures frame { MayDelete O.told (O.view self.old.outside) (O.view self.new.outside) }
     {
         // A contract learns from the managed names that they are plain.
         let _names = self.directory.list_managed_files();
@@ -310,6 +356,7 @@ impl<O: Outside> Files<O> {
         let failed = file_names(alloc, result.failed_to_delete_files)?;
         remove_all(&mut files, deleted.as_slice());
         self.files = files;
+        remove_names(&mut self.left, deleted.as_slice());
         Ok(Collected { deleted, failed })
     }
 
@@ -317,10 +364,10 @@ impl<O: Outside> Files<O> {
     /// text is kept afterwards.
     pub(crate) fn save_meta(&mut self, text: &[u8]) -> Result<(), TantivyError>
         ensures saves { OnOk result (SavesMeta O.Directory self.old self.new text.now) }
-        ensures others { O.told.content → KeepsOtherFiles (O.view self.old.0).reads
-            (O.view self.new.0).reads meta_name }
-        ensures leaves { LeavesText O.Directory self.old.0 self.new.0 text.now result }
-        ensures faults { Faults (O.view self.old.0) (O.view self.new.0) result }
+        ensures others { O.told.content → KeepsOtherFiles (O.view self.old.outside).reads
+            (O.view self.new.outside).reads meta_name }
+        ensures leaves { LeavesText O.Directory self.old.outside self.new.outside text.now result }
+        ensures faults { Faults (O.view self.old.outside) (O.view self.new.outside) result }
         ensures frame { KeepsOpenFiles O.told O.view self.old self.new }
     {
         self.directory.sync_directory()?;

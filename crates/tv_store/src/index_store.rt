@@ -1,39 +1,52 @@
 //! An index that is open, under the lock of the one who writes it.
-ghost use Rattle.std.specs.Prelude.{◌≡◌, ◌<◌, true, length, IfOk, IfErr};
+ghost use Rattle.std.specs.Prelude.{◌≡◌, ◌<◌, is_ok, None, true, length, IfOk, IfErr};
+ghost use Rattle.tv_model.specs.Machine.{catalog_step};
 ghost use Rattle.tv_model.specs.State.{State};
+ghost use Rattle.tv_directory.specs.Calls.{DeviceFaults};
 ghost use Rattle.tv_directory.specs.Locks.{FreesLock};
-ghost use Rattle.tv_directory.specs.View.{OnlyLocks};
-ghost use Rattle.tv_store.specs.Kept.{Holds};
+ghost use Rattle.tv_directory.specs.View.{OnlyLocks, OnlyTells};
+ghost use Rattle.tv_store.specs.Acting.{Acts};
 ghost use Rattle.tv_store.specs.Applying.{Stepped, LeavesMeta, Grows, ApplyFaults, AppliesFrame};
+ghost use Rattle.tv_store.specs.Kept.{Holds};
 ghost use Rattle.tv_store.specs.Making.{Begins, NotBegun};
 ghost use Rattle.tv_store.specs.Opening.{Opens, LeavesFirst, TellsOpening, TakesWriterLock, OpeningFaults, OpeningFrame};
 ghost use Rattle.tv_store.specs.StoreCauses.{writer_lock_name};
-ghost use Rattle.tv_store.specs.Telling.{TellsAnswer};
+ghost use Rattle.tv_store.specs.Telling.{TellsAnswer, TriesLine};
 
-use crate::store::Store;
+use crate::catalog::Catalog;
+use crate::files::Files;
+use crate::opening::{copied, make};
 use std::alloc::Global;
 use std::marker::Model;
-use tv_base::TantivyError;
-use tv_directory::{DirectoryLock, Outside};
+use tv_base::{IoFault, TantivyError};
+use tv_directory::{DirectoryLock, Outside, index_writer_lock};
 use tv_managed::Refused;
-use tv_model::{Answer, Event};
+use tv_model::{Answer, Blob, Event};
 
 /// An index over a directory, whose writer lock it holds. One event after the other is applied to it,
 /// and the line of each is told. To a contract it is what is kept in memory, the directory, and
 /// whether it is open.
 pub struct IndexStore<O: Outside> {
-    store: Store<O>,
-    lock: DirectoryLock,
+    pub(crate) alloc: Global,
+    pub(crate) schema: Blob,
+    pub(crate) catalog: Catalog,
+    pub(crate) files: Files<O>,
+    pub(crate) lock: DirectoryLock,
+    pub(crate) is_open: bool,
 }
 
 impl<O: Outside> Model for IndexStore<O> {
-    ghost use Rattle.std.specs.Prelude.{◌≡◌, Bool};
-    ghost use Rattle.tv_store.specs.Kept.{Kept};
+    ghost use Rattle.std.specs.Prelude.{◌≡◌};
+    ghost use Rattle.tv_store.specs.Kept.{StoreState, kept_of};
     ghost use Rattle.tv_store.specs.StoreCauses.{writer_lock_name};
 
-    ghost Value = { Kept × O × Bool };
+    ghost Value = { StoreState O };
 
-    ghost view = { λ a. a.store };
+    ghost view = { λ a. record {
+      kept = kept_of a.schema a.catalog a.files;
+      outside = a.files.outside;
+      is_open = a.is_open;
+    } };
 
     ghost invariant = { λ a. a.lock ≡ writer_lock_name };
 }
@@ -49,80 +62,135 @@ impl<O: Outside> IndexStore<O> {
         ensures faults { OpeningFaults O.Directory outside schema.now result }
         ensures frame { OpeningFrame O.Directory outside result }
     {
-        let (mut store, line) = Store::make(alloc, outside, schema)?;
-        match store.acquire_writer_lock() {
-            Ok(lock) => IndexStore::begin(store, lock, &line),
+        let (outside, text) = copied(alloc, outside, schema)?;
+        let (mut files, line) = make(alloc, outside, text.as_slice())?;
+        match files.acquire_lock(&index_writer_lock()) {
+            Ok(lock) => IndexStore::begin(alloc, text, files, lock, &line),
             Err(error) => Err(Refused {
                 error: TantivyError::from(error),
-                directory: store.into_outside(),
+                directory: files.into_outside(),
             }),
         }
     }
 
-    // Tells the opening line of a store whose lock was taken.
+    // Tells the opening line of an index that was made, under its lock.
     fn begin(
-        store: Store<O>,
+        alloc: Global,
+        schema: Blob,
+        files: Files<O>,
         lock: DirectoryLock,
         line: &Answer,
     ) -> Result<IndexStore<O>, Refused<O>>
         requires lock { lock ≡ writer_lock_name }
-        requires room { length line.now < (O.view store.1).room }
-        ensures begun { IfOk result (λ begun. Begins O.Directory store begun line.now) }
+        requires room { length line.now < (O.view files.outside).room }
+        ensures begun { IfOk result (Begins O.Directory schema files line.now) }
         ensures refused { IfErr result (λ refused.
-            NotBegun O.Directory store line.now refused.directory refused.error) }
+            NotBegun O.Directory files line.now refused.directory refused.error) }
     {
-        let mut store = store;
-        match store.begin(line) {
-            Ok(()) => Ok(IndexStore { store, lock }),
-            Err(error) => Err(Refused {
-                error,
-                directory: freed(store, lock),
+        let mut store = IndexStore {
+            alloc,
+            schema,
+            catalog: Catalog::new(alloc),
+            files,
+            lock,
+            is_open: false,
+        };
+        match store.tell(line) {
+            Ok(()) => Ok(store),
+            Err(fault) => Err(Refused {
+                error: TantivyError::from(fault),
+                directory: store.into_outside(),
             }),
         }
     }
 
     /// Makes one step of the machine, and tells its line. After an error the store isn't open.
     pub fn apply(&mut self, event: &Event) -> Result<Answer, TantivyError>
-        requires { self.old.2 ≡ true }
+        requires { self.old.is_open ≡ true }
         ensures step { IfOk result (Stepped O.Directory self.old self.new event.now) }
-        ensures tells { TellsAnswer O.Directory self.old.1 self.new.1 result }
+        ensures tells { TellsAnswer O.Directory self.old.outside self.new.outside result }
         ensures leaves { LeavesMeta O.Directory self.old self.new event.now result }
-        ensures grows { Grows self.old.0 self.new.0 event.now result }
+        ensures grows { Grows self.old.kept self.new.kept event.now result }
         ensures faults { ApplyFaults O.Directory self.old self.new event.now result }
         ensures frame { AppliesFrame O.Directory self.old self.new event.now result }
     {
-        self.store.apply(event)
+        self.is_open = false;
+        let answer = self.act(event)?;
+        self.tell(&answer)?;
+        Ok(answer)
+    }
+
+    // Tells an answer, in the room that was made for it. From then on the next event may be applied.
+    fn tell(&mut self, answer: &Answer) -> Result<(), IoFault>
+        requires { length answer.now < (O.view self.old.outside).room }
+        ensures tells { TriesLine O.told (O.view self.old.outside)
+            (O.view self.new.outside) answer.now result }
+        ensures kept { self.new.kept ≡ self.old.kept }
+        ensures open { self.new.is_open ≡ is_ok result }
+        ensures faults { DeviceFaults (O.view self.old.outside) (O.view self.new.outside) result }
+        ensures frame { OnlyTells O.told (O.view self.old.outside) (O.view self.new.outside) }
+    {
+        let told = self.files.tell(answer.as_slice());
+        self.is_open = told.is_ok();
+        told
+    }
+
+    // One step of the machine, whose line is yet to be told, in room that was made for it.
+    fn act(&mut self, event: &Event) -> Result<Answer, TantivyError>
+        ensures { Acts O.Directory self.old self.new event.now result }
+    {
+        match self.catalog.act(self.files.managed(), event)? {
+            Some(answer) => self.told(answer),
+            None => self.act_on_files(event),
+        }
+    }
+
+    // The step of an event that touches files.
+    fn act_on_files(&mut self, event: &Event) -> Result<Answer, TantivyError>
+        requires { catalog_step self.old.kept.catalog self.old.kept.managed event.now ≡ None }
+        ensures { Acts O.Directory self.old self.new event.now result }
+    {
+        match event {
+            Event::Open(id, component) => self.open_file(*id, *component),
+            Event::Write(id, component, bytes) => self.write_file(*id, *component, bytes),
+            Event::Seal(id, component) => self.seal_file(*id, *component),
+            Event::Commit(payload, ids) => self.commit(payload, ids),
+            Event::Gc => self.gc(),
+            Event::Reader(policy) => self.reader(*policy),
+            Event::Reload(number) => self.reload(*number),
+            Event::ReleaseSegment(id) => self.release_segment(*id),
+            _ => unreachable!(),
+        }
     }
 
     /// Whether the next event may be applied: false after an error. Takes no memory.
     pub fn is_open(&self) -> bool
-        ensures { result ≡ self.now.2 }
+        ensures { result ≡ self.now.is_open }
     {
-        self.store.is_open()
+        self.is_open
     }
 
     /// The directory, whose writer lock is free. Takes no memory.
     pub fn into_outside(self) -> O
-        ensures freed { O.told.locks → FreesLock (O.view self.1).locks
+        ensures freed { O.told.locks → FreesLock (O.view self.outside).locks
             (O.view result).locks writer_lock_name }
         // It holds each state that it held.
-        ensures holds { O.told.content → (s : State) → Holds (O.view self.1).reads self.0 s
-            → Holds (O.view result).reads self.0 s }
-        ensures faults { (O.view result).faults ≡ (O.view self.1).faults }
-        ensures frame { OnlyLocks O.told (O.view self.1) (O.view result) }
+        ensures holds { O.told.content → (s : State)
+            → Holds (O.view self.outside).reads self.kept s
+            → Holds (O.view result).reads self.kept s }
+        ensures faults { (O.view result).faults ≡ (O.view self.outside).faults }
+        ensures frame { OnlyLocks O.told (O.view self.outside) (O.view result) }
     {
-        let IndexStore { store, lock } = self;
-        freed(store, lock)
+        let IndexStore {
+            alloc: _,
+            schema: _,
+            catalog: _,
+            files,
+            lock,
+            is_open: _,
+        } = self;
+        let mut directory = files.into_outside();
+        directory.release(lock);
+        directory
     }
-}
-
-// The directory of a store, without this lock.
-fn freed<O: Outside>(store: Store<O>, lock: DirectoryLock) -> O
-    ensures freed { O.told.locks → FreesLock (O.view store.1).locks (O.view result).locks lock }
-    ensures faults { (O.view result).faults ≡ (O.view store.1).faults }
-    ensures frame { OnlyLocks O.told (O.view store.1) (O.view result) }
-{
-    let mut directory = store.into_outside();
-    directory.release(lock);
-    directory
 }

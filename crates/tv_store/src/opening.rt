@@ -1,26 +1,21 @@
 //! How an index is made in a directory where none stands.
-ghost use Rattle.std.specs.Prelude.{◌≡◌, ◌<◌, true, false, length, None, is_some, IfOk, IfErr, OnOk};
-ghost use Rattle.tv_model.specs.Names.{is_file_name, list_name};
+ghost use Rattle.std.specs.Prelude.{◌≡◌, ◌<◌, true, length, is_some, IfOk, IfErr, OnOk};
+ghost use Rattle.tv_model.specs.Names.{is_file_name, meta_name};
 ghost use Rattle.tv_model.specs.Lines.{opening_of};
 ghost use Rattle.tv_model.specs.Commits.{is_schema, first_commit};
 ghost use Rattle.tv_model.specs.Index.{HasNoIndex};
-ghost use Rattle.tv_directory.specs.Calls.{LockFaults, Acquires};
-ghost use Rattle.tv_directory.specs.View.{OnlyReads, OnlyLocks, OnlyTells};
-ghost use Rattle.tv_store.specs.Making.{HoldsOpening, CheckFaults, blank};
-ghost use Rattle.tv_store.specs.StoreCauses.{IsRefusal, writer_lock_name};
-ghost use Rattle.tv_store.specs.Telling.{TriesLine};
-ghost use Rattle.tv_store.specs.Applying.{MakesFirst};
-ghost use Rattle.tv_store.specs.Stays.{Asks, Faults};
-ghost use Rattle.tv_store.specs.Committing.{KeepsRest};
+ghost use Rattle.tv_directory.specs.View.{OnlyReads};
+ghost use Rattle.tv_managed.specs.Managed.{KeepsOtherFiles};
+ghost use Rattle.tv_store.specs.FileCalls.{KeepsOpenFiles, LeavesText, SavesMeta};
+ghost use Rattle.tv_store.specs.Making.{CheckFaults, Made, NotMade, first_text};
+ghost use Rattle.tv_store.specs.StoreCauses.{IsRefusal};
+ghost use Rattle.tv_store.specs.Stays.{Faults};
 
 use crate::commit::Commit;
 use crate::files::Files;
-use crate::readers::Readers;
-use crate::store::Store;
 use std::alloc::Global;
-use std::collections::{BTreeMap, BTreeSet};
-use tv_base::{LockError, MANAGED_FILEPATH, META_FILEPATH, OpenReadError, TantivyError};
-use tv_directory::{DirectoryLock, Outside, index_writer_lock};
+use tv_base::{MANAGED_FILEPATH, META_FILEPATH, OpenReadError, TantivyError};
+use tv_directory::Outside;
 use tv_managed::{ManagedDirectory, Refused};
 use tv_model::{Answer, Blob, Memory};
 
@@ -86,99 +81,84 @@ pub(crate) fn check_empty<O: Outside>(
     Ok(())
 }
 
-impl<O: Outside> Store<O> {
-    // A store whose commit is yet to be written.
-    pub(crate) fn wrap(alloc: Global, outside: O, schema: &[u8]) -> Result<Store<O>, Refused<O>>
-        requires { O.told.content → (O.view outside).reads list_name ≡ None }
-        ensures ok { IfOk result (λ store. store ≡ (blank schema.now, outside, false)) }
-        ensures err { IfErr result (λ refused. (refused.error ≡ TantivyError.Memory)
-            × (refused.directory ≡ outside)) }
-    {
-        let schema = match Vec::from_slice(alloc, schema) {
-            Ok(schema) => Blob::new(schema),
-            Err(_) => {
-                return Err(Refused {
-                    error: TantivyError::Memory,
-                    directory: outside,
-                });
-            }
-        };
-        let directory = ManagedDirectory::wrap(alloc, outside)?;
-        Ok(Store {
-            alloc,
-            schema,
-            files: Files::new(alloc, directory),
-            live: BTreeMap::new(alloc),
-            next: 1,
-            commit: Commit::first(alloc),
-            left: BTreeSet::new(alloc),
-            readers: Readers::new(alloc),
-            open: false,
-        })
+/// A copy of the schema's text, beside the directory, which comes back where memory is wanted.
+pub(crate) fn copied<O: Outside>(
+    alloc: Global,
+    outside: O,
+    schema: &[u8],
+) -> Result<(O, Blob), Refused<O>>
+    ensures ok { IfOk result (λ both. both ≡ (outside, schema.now)) }
+    ensures err { IfErr result (λ refused. (refused.error ≡ TantivyError.Memory)
+        × (refused.directory ≡ outside)) }
+{
+    match Vec::from_slice(alloc, schema) {
+        Ok(text) => Ok((outside, Blob::new(text))),
+        Err(_) => Err(Refused {
+            error: TantivyError::Memory,
+            directory: outside,
+        }),
     }
+}
 
-    // The opening line.
-    fn opening_line(&self) -> Result<Answer, Memory>
-        ensures { IfOk result (λ line. line ≡ opening_of self.now.0.commit) }
-    {
-        Answer::new(self.alloc, "open")?
-            .number(self.commit.opstamp())?
-            .number(self.commit.len() as u64)
+// The opening line of a commit.
+fn opening_line(alloc: Global, commit: &Commit) -> Result<Answer, Memory>
+    ensures { IfOk result (λ line. line ≡ opening_of commit.now) }
+{
+    Answer::new(alloc, "open")?
+        .number(commit.opstamp())?
+        .number(commit.len() as u64)
+}
+
+// Writes the first commit of an index, and answers its opening line, in room that is made for it.
+fn create<O: Outside>(
+    alloc: Global,
+    files: &mut Files<O>,
+    schema: &[u8],
+) -> Result<Answer, TantivyError>
+    ensures line { IfOk result (λ line. (line ≡ opening_of first_commit)
+        × (length line < (O.view files.new.outside).room)) }
+    ensures saves { OnOk result (SavesMeta O.Directory files.old files.new
+        (first_text schema.now)) }
+    ensures others { O.told.content → KeepsOtherFiles (O.view files.old.outside).reads
+        (O.view files.new.outside).reads meta_name }
+    ensures leaves { LeavesText O.Directory files.old.outside files.new.outside
+        (first_text schema.now) result }
+    ensures faults { Faults (O.view files.old.outside) (O.view files.new.outside) result }
+    ensures frame { KeepsOpenFiles O.told O.view files.old files.new }
+{
+    let commit = Commit::first(alloc);
+    let text = commit.print(alloc, schema)?;
+    let line = opening_line(alloc, &commit)?;
+    files.ready(line.as_slice().len())?;
+    files.save_meta(text.as_slice())?;
+    Ok(line)
+}
+
+/// Makes the files of an index with this schema in a directory where none stands. Its opening line is
+/// yet to be told, in room that was made for it. A refusal gives the directory back.
+pub(crate) fn make<O: Outside>(
+    alloc: Global,
+    outside: O,
+    schema: &[u8],
+) -> Result<(Files<O>, Answer), Refused<O>>
+    ensures made { IfOk result (λ made. Made O.Directory outside schema.now made.0 made.1) }
+    ensures refused { IfErr result (λ refused.
+        NotMade O.Directory outside schema.now refused.directory refused.error) }
+{
+    let mut outside = outside;
+    if let Err(error) = check_empty(alloc, &mut outside, schema) {
+        return Err(Refused {
+            error,
+            directory: outside,
+        });
     }
-
-    // The opening line, in room that is made for it.
-    fn ready_to_open(&mut self) -> Result<Answer, Memory>
-        ensures line { IfOk result (λ line. line ≡ opening_of self.old.0.commit) }
-        ensures room { IfOk result (λ line. length line < (O.view self.new.1).room) }
-        ensures faults { (O.view self.new.1).faults ≡ (O.view self.old.1).faults }
-        ensures frame { Asks (OnlyReads O.told) O.view self.old self.new }
-    {
-        let line = self.opening_line()?;
-        self.ready(line)
-    }
-
-    // Writes the commit of an index that is new, and answers the opening line, in room that is made for
-    // it.
-    pub(crate) fn create(&mut self) -> Result<Answer, TantivyError>
-        ensures holds { self.old.0 ≡ blank self.old.0.schema
-            → OnOk result (HoldsOpening O.Directory self.old self.new) }
-        ensures first { O.told.content → self.old.0.commit ≡ first_commit
-            → MakesFirst (O.view self.old.1).reads (O.view self.new.1).reads self.old.0.schema }
-        ensures line { IfOk result (λ line. (line ≡ opening_of self.old.0.commit)
-            × (length line < (O.view self.new.1).room)) }
-        ensures commit { self.new.0.commit ≡ self.old.0.commit }
-        ensures faults { Faults (O.view self.old.1) (O.view self.new.1) result }
-        ensures frame { KeepsRest O.told O.view self.old self.new }
-    {
-        let text = self.commit.print(self.alloc, self.schema.as_slice())?;
-        let line = self.ready_to_open()?;
-        self.files.save_meta(text.as_slice())?;
-        Ok(line)
-    }
-
-    // Tells the opening line, in the room that was made for it. From then on the store is open.
-    pub(crate) fn begin(&mut self, line: &Answer) -> Result<(), TantivyError>
-        requires { length line.now < (O.view self.old.1).room }
-        ensures tells { TriesLine O.told (O.view self.old.1) (O.view self.new.1) line.now result }
-        ensures kept { self.new.0 ≡ self.old.0 }
-        ensures open { OnOk result (self.new.2 ≡ true) }
-        ensures faults { Faults (O.view self.old.1) (O.view self.new.1) result }
-        ensures frame { OnlyTells O.told (O.view self.old.1) (O.view self.new.1) }
-    {
-        self.files.tell(line.as_slice())?;
-        self.open = true;
-        Ok(())
-    }
-
-    // Takes the lock of the one who writes the index.
-    pub(crate) fn acquire_writer_lock(&mut self) -> Result<DirectoryLock, LockError>
-        ensures token { IfOk result (λ token. token ≡ writer_lock_name) }
-        ensures acquires { Acquires O.told (O.view self.old.1)
-            (O.view self.new.1) writer_lock_name result }
-        ensures faults { LockFaults O.told (O.view self.old.1)
-            (O.view self.new.1) writer_lock_name result }
-        ensures frame { Asks (OnlyLocks O.told) O.view self.old self.new }
-    {
-        self.files.acquire_lock(&index_writer_lock())
+    let directory = ManagedDirectory::wrap(alloc, outside)?;
+    let mut files = Files::new(alloc, directory);
+    match create(alloc, &mut files, schema) {
+        Ok(line) => Ok((files, line)),
+        Err(error) => Err(Refused {
+            error,
+            directory: files.into_outside(),
+        }),
     }
 }

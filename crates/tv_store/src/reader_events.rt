@@ -3,24 +3,24 @@ ghost use Rattle.std.specs.Prelude.{◌≡◌, ◌<◌, ◌+◌, [], ◌∷◌, 
 ghost use Rattle.std.specs.Fmt.{decimal};
 ghost use Rattle.tv_model.specs.Lines.{line, has_no_feed};
 ghost use Rattle.tv_model.specs.Segments.{required_names};
-ghost use Rattle.tv_model.specs.State.{State, at_number, reader_at};
+ghost use Rattle.tv_model.specs.State.{State, reader_at};
 ghost use Rattle.tv_model.specs.declared.event.Event.TheVariants as events;
 ghost use Rattle.tv_model.specs.SoundStates.{IsWhole};
 ghost use Rattle.tv_model.specs.Readable.{CanRead};
-ghost use Rattle.tv_model.specs.ReaderEvents.{snapshot_in, reader_step, reload_step, release_reader_step};
+ghost use Rattle.tv_model.specs.ReaderEvents.{snapshot_in};
 ghost use Rattle.tv_directory.specs.View.{OnlyReads};
 ghost use Rattle.tv_managed.specs.Reading.{ReadsBody};
-ghost use Rattle.tv_store.specs.Acting.{StepsTo, StepsReading};
+ghost use Rattle.tv_store.specs.Acting.{StepsReading, reader_event, reload_event};
 ghost use Rattle.tv_store.specs.Bodies.{AreBodies, AreSealed, ReadsSegment};
 ghost use Rattle.tv_store.specs.FileCalls.{ReadBodyFaults};
 ghost use Rattle.tv_store.specs.Kept.{Holds, AtMost};
 ghost use Rattle.tv_store.specs.ReaderNumbers.{FewNumbers, NumbersSpent};
 ghost use Rattle.tv_store.specs.SnapshotCalls.{BodiesFaults, CommitFaults, SnapshotFaults, ReadingFaults};
-ghost use Rattle.tv_store.specs.Stays.{Asks, Stays, EventFaults};
+ghost use Rattle.tv_store.specs.Stays.{Asks, Stays};
 
-use crate::commit_events::required_of;
+use crate::index_store::IndexStore;
+use crate::names::required_of;
 use crate::snapshot::{SegmentReader, Snapshot};
-use crate::store::Store;
 use std::alloc::Global;
 use tv_base::{FileSlice, TantivyError};
 use tv_directory::{Outside, meta_lock};
@@ -44,12 +44,13 @@ fn shown_line(
         .number(opstamp)
 }
 
-impl<O: Outside> Store<O> {
+impl<O: Outside> IndexStore<O> {
     // The body of a sealed file.
     fn read_body(&mut self, name: &FileName) -> Result<FileSlice, TantivyError>
         ensures body { O.told.content → IfOk result
-            (ReadsBody ((O.view self.old.1).reads name.now)) }
-        ensures faults { ReadBodyFaults O.Directory self.old.1 self.new.1 name.now result }
+            (ReadsBody ((O.view self.old.outside).reads name.now)) }
+        ensures faults { ReadBodyFaults O.Directory self.old.outside
+            self.new.outside name.now result }
         ensures frame { Asks (OnlyReads O.told) O.view self.old self.new }
     {
         let body = self.files.open_read(name)?;
@@ -58,10 +59,12 @@ impl<O: Outside> Store<O> {
 
     // The bodies of some sealed files, in their order.
     fn read_bodies(&mut self, names: &[FileName]) -> Result<Vec<FileSlice>, TantivyError>
-        ensures bodies { O.told.content → (s : State) → Holds (O.view self.old.1).reads self.old.0 s
+        ensures bodies { O.told.content → (s : State)
+            → Holds (O.view self.old.outside).reads self.old.kept s
             → AreSealed s names.entry.now
             → IfOk result (λ bodies. AreBodies s names.entry.now bodies.items) }
-        ensures faults { BodiesFaults O.Directory self.old.1 self.new.1 names.entry.now result }
+        ensures faults { BodiesFaults O.Directory self.old.outside
+            self.new.outside names.entry.now result }
         ensures frame { Asks (OnlyReads O.told) O.view self.old self.new }
     {
         let mut bodies = Vec::new(self.alloc);
@@ -78,11 +81,12 @@ impl<O: Outside> Store<O> {
         id: SegmentId,
         segment: LiveSegment,
     ) -> Result<SegmentReader, TantivyError>
-        ensures reader { O.told.content → (s : State) → Holds (O.view self.old.1).reads self.old.0 s
+        ensures reader { O.told.content → (s : State)
+            → Holds (O.view self.old.outside).reads self.old.kept s
             → AreSealed s (required_names id segment)
             → IfOk result (λ reader.
             ReadsSegment s id segment reader.id reader.segment reader.bodies.items) }
-        ensures faults { BodiesFaults O.Directory self.old.1 self.new.1
+        ensures faults { BodiesFaults O.Directory self.old.outside self.new.outside
             (required_names id segment) result }
         ensures frame { Asks (OnlyReads O.told) O.view self.old self.new }
     {
@@ -93,27 +97,30 @@ impl<O: Outside> Store<O> {
 
     // The current commit with the bodies of its files, under this number, as they read now.
     fn read_snapshot(&mut self, generation: u64) -> Result<Snapshot, TantivyError>
-        ensures shown { O.told.content → (s : State) → Holds (O.view self.old.1).reads self.old.0 s
-            → IsWhole s → IfOk result (λ shown. (shown ≡ snapshot_in s generation) × CanRead s) }
+        ensures shown { O.told.content → (s : State)
+            → Holds (O.view self.old.outside).reads self.old.kept s → IsWhole s
+            → IfOk result (λ shown. (shown ≡ snapshot_in s generation) × CanRead s) }
         ensures faults { CommitFaults O.Directory self.old self.new result }
         ensures frame { Asks (OnlyReads O.told) O.view self.old self.new }
     {
-        let segments = self.commit.segments(self.alloc)?;
+        let segments = self.catalog.commit().segments(self.alloc)?;
         let mut readers = Vec::new(self.alloc);
         for entry in &segments {
             let (id, segment) = *entry;
             let reader = self.read_segment(id, segment)?;
             readers.push(reader)?;
         }
-        let payload = self.commit.payload(self.alloc)?;
-        Ok(Snapshot::new(generation, self.commit.opstamp(), payload, readers))
+        let commit = self.catalog.commit();
+        let payload = commit.payload(self.alloc)?;
+        Ok(Snapshot::new(generation, commit.opstamp(), payload, readers))
     }
 
     // The current commit with the bodies of its files, under this number. They are read
     // while the meta lock is held.
     fn snapshot(&mut self, generation: u64) -> Result<Snapshot, TantivyError>
-        ensures shown { O.told.content → (s : State) → Holds (O.view self.old.1).reads self.old.0 s
-            → IsWhole s → IfOk result (λ shown. (shown ≡ snapshot_in s generation) × CanRead s) }
+        ensures shown { O.told.content → (s : State)
+            → Holds (O.view self.old.outside).reads self.old.kept s → IsWhole s
+            → IfOk result (λ shown. (shown ≡ snapshot_in s generation) × CanRead s) }
         ensures faults { SnapshotFaults O.Directory self.old self.new result }
         ensures frame { Asks (OnlyReads O.told) O.view self.old self.new }
     {
@@ -126,40 +133,48 @@ impl<O: Outside> Store<O> {
     // A new reader, which shows the current commit.
     pub(crate) fn reader(&mut self, policy: ReloadPolicy) -> Result<Answer, TantivyError>
         ensures step { StepsReading O.Directory self.old self.new
-            (λ s. reader_step s policy) CanRead result }
-        ensures room { IfOk result (λ answer. length answer < (O.view self.new.1).room) }
-        ensures lens { (bound : ℕ) → AtMost bound self.old.0 → AtMost bound self.new.0 }
-        ensures numbers { (bound : ℕ) → FewNumbers bound self.old.0.reading
-            → OnOk result (FewNumbers (bound + 1) self.new.0.reading) }
+            (reader_event policy) CanRead result }
+        ensures room { IfOk result (λ answer. length answer < (O.view self.new.outside).room) }
+        ensures lens { (bound : ℕ) → AtMost bound self.old.kept → AtMost bound self.new.kept }
+        ensures numbers { (bound : ℕ) → FewNumbers bound self.old.kept.catalog.reading
+            → OnOk result (FewNumbers (bound + 1) self.new.kept.catalog.reading) }
         ensures faults { ReadingFaults O.Directory (Unit {0})
-            (NumbersSpent self.old.0.reading) self.old self.new (events.Reader policy) result }
+            (NumbersSpent self.old.kept.catalog.reading 1) self.old self.new
+            (events.Reader policy) result }
         ensures frame { Stays (OnlyReads O.told) O.view self.old self.new }
     {
-        let number = self.readers.next_reader();
+        let number = self.catalog.next_reader();
         if number == u64::MAX {
             return Err(TantivyError::Exhausted);
         }
-        let answer = shown_line(self.alloc, "reader", number, 0, self.commit.opstamp())?;
+        let answer = shown_line(
+            self.alloc,
+            "reader",
+            number,
+            0,
+            self.catalog.commit().opstamp(),
+        )?;
         let answer = self.ready(answer)?;
         let shown = self.snapshot(0)?;
-        self.readers.add_reader(policy, shown)?;
+        self.catalog.add_reader(policy, shown)?;
         Ok(answer)
     }
 
     // A reader shows the current commit.
     pub(crate) fn reload(&mut self, number: u64) -> Result<Answer, TantivyError>
-        ensures step { StepsReading O.Directory self.old self.new (λ s. reload_step s number)
-            (λ s. IsSome (reader_at s number) → CanRead s) result }
-        ensures room { IfOk result (λ answer. length answer < (O.view self.new.1).room) }
-        ensures lens { (bound : ℕ) → AtMost bound self.old.0 → AtMost bound self.new.0 }
-        ensures numbers { (bound : ℕ) → FewNumbers bound self.old.0.reading
-            → OnOk result (FewNumbers (bound + 1) self.new.0.reading) }
+        ensures step { StepsReading O.Directory self.old self.new (reload_event number)
+            (λ s. IsSome (reader_at s.catalog number) → CanRead s) result }
+        ensures room { IfOk result (λ answer. length answer < (O.view self.new.outside).room) }
+        ensures lens { (bound : ℕ) → AtMost bound self.old.kept → AtMost bound self.new.kept }
+        ensures numbers { (bound : ℕ) → FewNumbers bound self.old.kept.catalog.reading
+            → OnOk result (FewNumbers (bound + 1) self.new.kept.catalog.reading) }
         ensures faults { ReadingFaults O.Directory
-            (IsSome (at_number self.old.0.reading.readers number))
-            (NumbersSpent self.old.0.reading) self.old self.new (events.Reload number) result }
+            (IsSome (reader_at self.old.kept.catalog number))
+            (NumbersSpent self.old.kept.catalog.reading 1) self.old self.new
+            (events.Reload number) result }
         ensures frame { Stays (OnlyReads O.told) O.view self.old self.new }
     {
-        let Some(generation) = self.readers.next_generation(number) else {
+        let Some(generation) = self.catalog.next_generation(number) else {
             return self.refuse("unknown-reader");
         };
         if generation == u64::MAX {
@@ -170,31 +185,11 @@ impl<O: Outside> Store<O> {
             "published",
             number,
             generation,
-            self.commit.opstamp(),
+            self.catalog.commit().opstamp(),
         )?;
         let answer = self.ready(answer)?;
         let shown = self.snapshot(generation)?;
-        self.readers.publish(number, shown)?;
-        Ok(answer)
-    }
-
-    // A reader ends.
-    pub(crate) fn release_reader(&mut self, number: u64) -> Result<Answer, TantivyError>
-        ensures step { StepsTo O.Directory self.old self.new
-            (λ s. release_reader_step s number) result }
-        ensures room { IfOk result (λ answer. length answer < (O.view self.new.1).room) }
-        ensures lens { (bound : ℕ) → AtMost bound self.old.0 → AtMost bound self.new.0 }
-        ensures numbers { (bound : ℕ) → FewNumbers bound self.old.0.reading
-            → OnOk result (FewNumbers bound self.new.0.reading) }
-        ensures faults { EventFaults ⊥ (O.view self.old.1) (O.view self.new.1) result }
-        ensures frame { Stays (OnlyReads O.told) O.view self.old self.new }
-    {
-        if self.readers.next_generation(number).is_none() {
-            return self.refuse("unknown-reader");
-        }
-        let answer = Answer::new(self.alloc, "released")?;
-        let answer = self.ready(answer)?;
-        let _released = self.readers.release_reader(number);
+        self.catalog.publish(number, shown)?;
         Ok(answer)
     }
 }

@@ -1,5 +1,5 @@
 //! The readers, and the searchers that show what a reader showed when they were made.
-ghost use Rattle.std.specs.Prelude.{◌≡◌, ◌<◌, ◌+◌, ℕ, IfOk, OnOk, OnErr, IsFalse, IsSome, is_some, Option, Some};
+ghost use Rattle.std.specs.Prelude.{◌≡◌, ◌<◌, ◌+◌, IfOk, OnOk, OnErr, IsFalse, IsSome, is_some, Option, Some};
 ghost use Rattle.std.specs.Option.{option_map};
 ghost use Rattle.std.specs.Map.{remove_entry};
 ghost use Rattle.std.specs.BTreeMap.{is_at, insert_entry};
@@ -7,7 +7,6 @@ ghost use Rattle.std.specs.Ordering.{nat_cmp};
 ghost use Rattle.tv_model.specs.State.{Reader as ReaderState, no_readers, at_number};
 ghost use Rattle.tv_model.specs.SearcherEvents.{show_line, searcher_line};
 ghost use Rattle.tv_store.specs.SearcherLines.{bytes_told};
-ghost use Rattle.tv_store.specs.ReaderNumbers.{FewNumbers};
 
 use crate::snapshot::Snapshot;
 use std::alloc::Global;
@@ -105,8 +104,7 @@ impl Model for Readers {
 impl Readers {
     /// Nobody reads. Takes no memory.
     pub(crate) fn new(alloc: Global) -> Readers
-        ensures none { result ≡ no_readers }
-        ensures few { FewNumbers 0 result }
+        ensures { result ≡ no_readers }
     {
         Readers {
             alloc,
@@ -150,8 +148,6 @@ impl Readers {
                   self.old.next_reader (record { policy = policy; next = 1; shown = shown });
               next_reader = self.old.next_reader + 1;
             }) }
-        ensures few { (bound : ℕ) → FewNumbers bound self.old
-            → OnOk result (FewNumbers (bound + 1) self.new) }
         ensures err { OnErr result (self.new ≡ self.old) }
     {
         let shown = Searcher::new(self.alloc, shown)?;
@@ -176,8 +172,6 @@ impl Readers {
               readers = insert_entry nat_cmp self.old.readers number
                   (record reader { next = reader.next + 1; shown = shown });
             }) }
-        ensures few { (bound : ℕ) → FewNumbers bound self.old
-            → OnOk result (FewNumbers (bound + 1) self.new) }
         ensures err { OnErr result (self.new ≡ self.old) }
     {
         let shown = Searcher::new(self.alloc, shown)?;
@@ -199,7 +193,6 @@ impl Readers {
               (is_at (nat_cmp number)) self.old.readers;
         } }
         ensures absent { IsFalse result → self.new ≡ self.old }
-        ensures few { (bound : ℕ) → FewNumbers bound self.old → FewNumbers bound self.new }
     {
         self.readers.remove(&number).is_some()
     }
@@ -212,7 +205,6 @@ impl Readers {
               (is_at (nat_cmp number)) self.old.searchers;
         } }
         ensures absent { IsFalse result → self.new ≡ self.old }
-        ensures few { (bound : ℕ) → FewNumbers bound self.old → FewNumbers bound self.new }
     {
         self.searchers.remove(&number).is_some()
     }
@@ -244,21 +236,12 @@ impl Readers {
                   self.old.next_searcher reader.shown;
               next_searcher = self.old.next_searcher + 1;
             }) }
-        ensures few { (bound : ℕ) → FewNumbers bound self.old
-            → OnOk result (FewNumbers (bound + 1) self.new) }
         ensures err { OnErr result (self.new ≡ self.old) }
     {
         let shown = self.readers.get(&number).unwrap().shown.share()?;
         self.searchers.insert(self.next_searcher, shown)?;
         self.next_searcher += 1;
         Ok(())
-    }
-
-    /// Whether there is a searcher of this number. Takes no memory.
-    pub(crate) fn has_searcher(&self, number: u64) -> bool
-        ensures { result ≡ is_some (at_number self.now.searchers number) }
-    {
-        self.searchers.contains_key(&number)
     }
 
     /// The line of what the searcher of this number shows, where there is such a searcher.

@@ -8,6 +8,12 @@ use tv_base::{
     TextSource, VInt, VecSink,
 };
 
+fn assert_written(rt: &impl Abort, alloc: Global, number: u64, spelling: &[u8]) {
+    let mut out = Vec::new(alloc);
+    VInt(number).serialize(&mut out).expect(rt, "memory");
+    assert_eq!(rt; out.as_slice(), spelling);
+}
+
 #[test]
 fn spellings_of_numbers(rt: HostRuntime) {
     let rows: [(u64, &[u8]); 5] = [
@@ -17,13 +23,11 @@ fn spellings_of_numbers(rt: HostRuntime) {
         (1_000_000, &[0x40, 0x04, 0xbd]),
         (32_431_123, &[0x13, 0x38, 0x3b, 0x8f]),
     ];
-    for (number, spelling) in &rows {
-        let mut out = Vec::new(rt.alloc());
-        VInt(*number).serialize(&mut out).expect(&rt, "memory");
-        assert_eq!(rt; out.as_slice(), *spelling);
+    for (number, spelling) in rows {
+        assert_written(&rt, rt.alloc(), number, spelling);
         assert_eq!(rt;
             VInt::deserialize(spelling),
-            Some((VInt(*number), spelling.len()))
+            Some((VInt(number), spelling.len()))
         );
     }
 }
@@ -119,9 +123,7 @@ fn is_refused<S: Sink>(sink: &mut S, bytes: &[u8]) -> bool {
     }
 }
 
-#[test]
-fn what_has_no_room_is_refused(rt: HostRuntime) {
-    let mut sink = VecSink::new(rt.alloc(), 5).expect(&rt, "memory");
+fn assert_puts(rt: &impl Abort, sink: &mut VecSink) {
     let rows: [(&[u8], bool, &[u8], u64); 5] = [
         (b"abc", false, b"abc", 0),
         (b"def", true, b"abc", 1),
@@ -130,10 +132,16 @@ fn what_has_no_room_is_refused(rt: HostRuntime) {
         (b"f", true, b"abcde", 2),
     ];
     for (bytes, refused, taken, faults) in rows {
-        assert_eq!(rt; is_refused(&mut sink, bytes), refused);
+        assert_eq!(rt; is_refused(sink, bytes), refused);
         assert_eq!(rt; sink.as_slice(), taken);
         assert_eq!(rt; sink.faults(), faults);
     }
+}
+
+#[test]
+fn what_has_no_room_is_refused(rt: HostRuntime) {
+    let mut sink = VecSink::new(rt.alloc(), 5).expect(&rt, "memory");
+    assert_puts(&rt, &mut sink);
 }
 
 #[test]

@@ -5,14 +5,13 @@ ghost use Rattle.std.specs.List.{AllByRecursion};
 ghost use Rattle.tv_model.specs.Names.{is_file_name};
 ghost use Rattle.tv_model.specs.Lines.{has_no_feed};
 
+use crate::empty::TestBench;
 use std::alloc::Global;
 use std::test::Fail;
 use tv_base::{
     DeleteError, IoError, IoFault, IoKind, LockError, OpenReadError, OpenWriteError, is_plain_name,
 };
-use tv_directory::{Bench, Directory, NoWatch, Outside, RamWriter, meta_lock};
-
-type TestBench = Bench<NoWatch>;
+use tv_directory::{Bench, Directory, Outside, meta_lock};
 
 #[derive(Clone, Copy)]
 enum Call {
@@ -83,7 +82,7 @@ fn fault_of(answer: Result<(), IoFault>) -> Option<IoKind> {
 }
 
 // Takes a lock and gives it back.
-fn lock(bench: &mut TestBench) -> Result<Option<IoKind>, Fail> {
+fn lock<D: Directory>(bench: &mut D) -> Result<Option<IoKind>, Fail> {
     match bench.acquire_lock(&meta_lock()) {
         Ok(token) => {
             bench.release(token);
@@ -95,8 +94,8 @@ fn lock(bench: &mut TestBench) -> Result<Option<IoKind>, Fail> {
 }
 
 // Writes, flushes and seals a file.
-fn fill(bench: &mut TestBench, writer: RamWriter) -> Result<(), IoError>
-    requires { (⟦<TestBench as Directory>⟧.view bench.old).opened writer ≡ true }
+fn fill<D: Directory>(bench: &mut D, writer: D::Writer) -> Result<(), IoError>
+    requires { (D.view bench.old).opened writer ≡ true }
 {
     let mut writer = writer;
     bench.write(&mut writer, b"sealed")?;
@@ -104,7 +103,7 @@ fn fill(bench: &mut TestBench, writer: RamWriter) -> Result<(), IoError>
     bench.terminate(writer)
 }
 
-fn seal(bench: &mut TestBench, name: &str) -> Result<Option<IoKind>, Fail>
+fn seal<D: Directory>(bench: &mut D, name: &str) -> Result<Option<IoKind>, Fail>
     requires { is_file_name name.now ≡ true }
 {
     match bench.open_write(name) {
@@ -117,7 +116,7 @@ fn seal(bench: &mut TestBench, name: &str) -> Result<Option<IoKind>, Fail>
 }
 
 // Makes and deletes a file, and then flushes and seals it.
-fn lose(bench: &mut TestBench, name: &str) -> Result<Option<IoKind>, Fail>
+fn lose<D: Directory>(bench: &mut D, name: &str) -> Result<Option<IoKind>, Fail>
     requires { is_file_name name.now ≡ true }
 {
     let mut writer = bench.open_write(name)?;
@@ -134,7 +133,7 @@ fn tell<O: Outside>(outside: &mut O, line: &[u8]) -> Result<Option<IoKind>, Fail
 }
 
 // Makes a call, and answers of which kind its fault is.
-fn take(bench: &mut TestBench, call: Call, name: &str) -> Result<Option<IoKind>, Fail> {
+fn take<O: Outside>(bench: &mut O, call: Call, name: &str) -> Result<Option<IoKind>, Fail> {
     if !is_plain_name(name) {
         return Err(Fail::from("no file has this name"));
     }
@@ -226,9 +225,8 @@ fn first_miss(bench: &mut TestBench) -> Result<Option<usize>, Fail> {
 
 // A directory with one file, whose device refuses calls.
 fn refusing(alloc: Global) -> Result<TestBench, Fail> {
-    let calls = Vec::from_slice(alloc, &REFUSED)?;
     let mut bench = Bench::new(alloc, one_file(alloc)?)?;
-    bench.fail_at(calls);
+    bench.fail_at(Vec::from_slice(alloc, &REFUSED)?);
     Ok(bench)
 }
 

@@ -198,11 +198,19 @@ fn size_of(rt: &impl Abort, file: &CompositeFile, names: &[String]) -> ByteCount
     file.space_usage(names).expect(rt, "small indexes").total()
 }
 
+fn assert_size(rt: &impl Abort, alloc: Global, file: &CompositeFile) {
+    let names = five_names(rt, alloc);
+    assert!(rt; size_of(rt, file, names.as_slice()) == ByteCount(5));
+}
+
+fn assert_field_4(rt: &impl Abort, file: &CompositeFile) {
+    assert!(rt; file.open_read(field(4)).expect(rt, "memory").is_some());
+}
+
 #[test]
 fn sizes_of_the_bodies_of_five_fields(rt: HostRuntime) {
     let bytes = file_of(&rt, rt.alloc(), TWO_FIELDS);
     let file = CompositeFile::open(rt.alloc(), &bytes).expect(&rt, "composite");
-    let names = five_names(&rt, rt.alloc());
-    assert!(rt; size_of(&rt, &file, names.as_slice()) == ByteCount(5));
-    assert!(rt; file.open_read(field(4)).expect(&rt, "memory").is_some());
+    assert_size(&rt, rt.alloc(), &file);
+    assert_field_4(&rt, &file);
 }

@@ -4,7 +4,7 @@ ghost use Rattle.std.specs.Prelude.{◌≡◌, false};
 use crate::written::{Content, file_of, is_written};
 use std::alloc::Global;
 use std::process::Abort;
-use tv_base::{IoError, IoKind, TerminatingWrite};
+use tv_base::{FileSlice, IoError, IoKind, TerminatingWrite};
 use tv_checksum::Crc32;
 use tv_framing::{Footer, FooterProxy};
 
@@ -77,13 +77,21 @@ fn footers_are_written(rt: HostRuntime) {
 // What is read of a file: its body, the checksum, and whether its format is good.
 type Row<'a> = (&'a [u8], &'a [u8], u32, bool);
 
+fn assert_footer(rt: &impl Abort, footer: &Footer, crc: u32, is_compatible: bool) {
+    assert_eq!(rt; footer.crc(), crc);
+    assert_eq!(rt; footer.is_compatible().is_ok(), is_compatible);
+}
+
+fn assert_body(rt: &impl Abort, body: &FileSlice, want: &[u8]) {
+    assert_eq!(rt; body.read_bytes().expect(rt, "memory").as_slice(), want);
+}
+
 fn assert_read(rt: &impl Abort, alloc: Global, row: Row<'_>) {
     let (bytes, want, crc, is_compatible) = row;
     let file = file_of(rt, alloc, bytes);
     let (footer, body) = Footer::extract_footer(alloc, file).expect(rt, "a footer");
-    assert_eq!(rt; footer.crc(), crc);
-    assert_eq!(rt; footer.is_compatible().is_ok(), is_compatible);
-    assert_eq!(rt; body.read_bytes().expect(rt, "memory").as_slice(), want);
+    assert_footer(rt, &footer, crc, is_compatible);
+    assert_body(rt, &body, want);
 }
 
 #[test]

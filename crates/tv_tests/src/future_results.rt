@@ -1,6 +1,7 @@
 //! Results that come later: by which way they come, and who looks at them.
 ghost use Rattle.std.specs.Prelude.{◌≡◌, false};
 
+use crate::failures::{Failure, failure_of};
 use futures::executor::block_on;
 use futures::future::Future;
 use futures::task::{Context, Poll};
@@ -25,14 +26,14 @@ enum Outcome {
 fn seen(answer: Result<u8, TantivyError>) -> Outcome {
     match answer {
         Ok(number) => Outcome::Number(number),
-        Err(error) => failure(&error),
+        Err(error) => failed(failure_of(&error)),
     }
 }
 
-fn failure(error: &TantivyError) -> Outcome {
-    match error {
-        TantivyError::Poisoned => Outcome::Poisoned,
-        TantivyError::SystemError(text) if text.as_str() == "failed" => Outcome::Failed,
+fn failed(failure: Failure<'_>) -> Outcome {
+    match failure {
+        Failure::Poisoned => Outcome::Poisoned,
+        Failure::System(text) if text == "failed" => Outcome::Failed,
         _ => Outcome::Other,
     }
 }

@@ -13,7 +13,11 @@ mod collections;
 #[cfg(test)]
 mod composites;
 #[cfg(test)]
+mod empty;
+#[cfg(test)]
 mod error_texts;
+#[cfg(test)]
+mod failures;
 #[cfg(test)]
 mod footers;
 #[cfg(test)]

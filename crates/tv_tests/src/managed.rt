@@ -2,6 +2,9 @@
 ghost use Rattle.std.specs.Prelude.{◌≡◌, ◌≢◌, ◌+◌, ◌<◌, ◌^◌, true, length, OnOk};
 ghost use Rattle.tv_model.specs.Names.{is_file_name, list_name};
 
+use crate::empty::{Empty, TestBench};
+use crate::failures::{Failure, failure_of};
+use crate::sealed_files::{Row, takes};
 use std::alloc::Global;
 use std::collections::BTreeSet;
 use std::test::Fail;
@@ -9,11 +12,11 @@ use tv_base::{
     DeleteError, IoError, IoKind, LockError, MANAGED_FILEPATH, OpenReadError, OpenWriteError,
     TantivyError, is_plain_name,
 };
-use tv_directory::{Bench, Directory, NoWatch, meta_lock};
+use tv_directory::{Bench, Directory, meta_lock};
 use tv_managed::{GarbageCollectionResult, ManagedDirectory, ManagedWriter, Refused};
 use tv_model::Memory;
 
-pub(crate) type TestDirectory = ManagedDirectory<Bench<NoWatch>>;
+pub(crate) type TestDirectory = ManagedDirectory<TestBench>;
 
 /// A call on a file, and how it ends.
 #[derive(Clone, Copy)]
@@ -62,6 +65,8 @@ pub(crate) enum Step {
     },
     /// The device ends a collection that spares no name.
     CollectFails,
+    /// The bytes of a file, and how it reads.
+    Footer(&'static Row),
 }
 
 // Whether these texts are these names.
@@ -227,7 +232,12 @@ fn take_on<D: Directory>(
     }
 }
 
-fn on_file(managed: &mut TestDirectory, call: Call, name: &str, text: &str) -> Result<bool, Fail> {
+fn on_file<D: Directory>(
+    managed: &mut ManagedDirectory<D>,
+    call: Call,
+    name: &str,
+    text: &str,
+) -> Result<bool, Fail> {
     if !is_plain_name(name) || name == MANAGED_FILEPATH {
         return Err(Fail::from("no file has this name"));
     }
@@ -248,8 +258,8 @@ fn lock<D: Directory>(managed: &mut ManagedDirectory<D>) -> Result<bool, Fail> {
     Ok(is_locked)
 }
 
-fn watch(managed: &mut TestDirectory) -> Result<bool, Fail> {
-    let handle = managed.watch(NoWatch)?;
+fn watch<D: Empty>(managed: &mut ManagedDirectory<D>) -> Result<bool, Fail> {
+    let handle = managed.watch(D::nobody())?;
     managed.unwatch(handle);
     Ok(true)
 }
@@ -295,23 +305,34 @@ fn collects<D: Directory>(
     )
 }
 
-// Whether the device ends a collection.
-fn is_not_collected(answer: Result<GarbageCollectionResult, TantivyError>) -> bool {
-    match answer {
-        Err(TantivyError::IoError(fault)) => fault.kind == IoKind::Device,
+fn is_device(failure: Failure<'_>) -> bool {
+    match failure {
+        Failure::Io(kind) => kind == IoKind::Device,
         _ => false,
     }
 }
 
+// Whether the device ends a collection.
+fn is_not_collected(answer: &Result<GarbageCollectionResult, TantivyError>) -> bool {
+    match answer {
+        Ok(_) => false,
+        Err(error) => is_device(failure_of(error)),
+    }
+}
+
 fn fails_to_collect<D: Directory>(managed: &mut ManagedDirectory<D>, alloc: Global) -> bool {
-    is_not_collected(collect(managed, alloc, &[]))
+    is_not_collected(&collect(managed, alloc, &[]))
 }
 
 fn lists<D: Directory>(managed: &mut ManagedDirectory<D>, text: &str) -> Result<bool, Fail> {
     stores(managed, MANAGED_FILEPATH, text)
 }
 
-fn take(managed: &mut TestDirectory, alloc: Global, step: Step) -> Result<bool, Fail> {
+fn take<D: Empty>(
+    managed: &mut ManagedDirectory<D>,
+    alloc: Global,
+    step: Step,
+) -> Result<bool, Fail> {
     match step {
         Step::On(call, name, text) => on_file(managed, call, name, text),
         Step::Sync => sync(managed),
@@ -326,12 +347,13 @@ fn take(managed: &mut TestDirectory, alloc: Global, step: Step) -> Result<bool, 
             failed,
         } => collects(managed, alloc, living, deleted, failed),
         Step::CollectFails => Ok(fails_to_collect(managed, alloc)),
+        Step::Footer(row) => takes(managed, *row),
     }
 }
 
 // The first step that ends otherwise, counted from 0.
-fn first_miss(
-    managed: &mut TestDirectory,
+fn first_miss<D: Empty>(
+    managed: &mut ManagedDirectory<D>,
     alloc: Global,
     steps: &[Step],
 ) -> Result<Option<usize>, Fail> {
@@ -343,8 +365,8 @@ fn first_miss(
     Ok(None)
 }
 
-fn first_miss_behind(
-    managed: &mut TestDirectory,
+fn first_miss_behind<D: Empty>(
+    managed: &mut ManagedDirectory<D>,
     alloc: Global,
     given: &[Step],
     steps: &[Step],

@@ -2,17 +2,15 @@
 ghost use Rattle.std.specs.Prelude.{◌≡◌, true, false, OnOk};
 ghost use Rattle.tv_model.specs.Names.{is_file_name};
 
+use crate::empty::{Empty, TestBench, TestRam};
+use crate::failures::{Failure, failure_of};
 use std::alloc::Global;
 use std::test::Fail;
 use tv_base::{
     DeleteError, IoError, LockError, OpenReadError, OpenWriteError, TantivyError, TerminatingWrite,
     is_plain_name,
 };
-use tv_directory::{
-    Bench, DirWriter, Directory, Lock, NoWatch, RamDirectory, index_writer_lock, meta_lock,
-};
-
-type Ram = RamDirectory<NoWatch>;
+use tv_directory::{DirWriter, Directory, Lock, RamDirectory, index_writer_lock, meta_lock};
 
 // A call on a file, and how it ends.
 #[derive(Clone, Copy)]
@@ -35,6 +33,8 @@ enum Call {
     Delete,
     // The file is made and written, and deleted before it is flushed and sealed.
     Outlive,
+    // Each lock is taken, and given once until it is released.
+    Locks,
     Sync,
 }
 
@@ -67,13 +67,18 @@ fn is_not_made<W: Drop>(answer: Result<W, OpenWriteError>, name: &str) -> bool {
     }
 }
 
-// Whether files aren't persisted since one has this name already.
-fn is_not_persisted(answer: Result<(), TantivyError>, name: &str) -> bool {
-    match answer {
-        Err(TantivyError::OpenWriteError(OpenWriteError::FileAlreadyExists(path))) => {
-            path.as_str() == name
-        }
+fn is_there(failure: Failure<'_>, name: &str) -> bool {
+    match failure {
+        Failure::Exists(path) => path == name,
         _ => false,
+    }
+}
+
+// Whether files aren't persisted since one has this name already.
+fn is_not_persisted(answer: &Result<(), TantivyError>, name: &str) -> bool {
+    match answer {
+        Ok(()) => false,
+        Err(error) => is_there(failure_of(error), name),
     }
 }
 
@@ -116,18 +121,20 @@ fn reads<D: Directory>(directory: &mut D, name: &str, text: &str) -> Result<bool
 }
 
 // Writes a text, and flushes it.
-fn fill<D: Directory>(directory: &mut D, writer: &mut D::Writer, text: &str) -> Result<(), IoError>
-    requires { (D.view directory.old).opened writer.old ≡ true }
+fn fill<W: TerminatingWrite>(writer: &mut W, text: &str) -> Result<(), IoError>
+    requires { (W.view writer.old).ended ≡ false }
+    ensures { OnOk result ((W.view writer.new).ended ≡ false) }
 {
-    directory.write(writer, text.as_bytes())?;
-    directory.flush(writer)
+    writer.write_all(text.as_bytes())?;
+    writer.flush()
 }
 
 fn flush<D: Directory>(directory: &mut D, name: &str, text: &str) -> Result<bool, Fail>
     requires { is_file_name name.now ≡ true }
 {
-    let mut writer = directory.open_write(name)?;
-    fill(directory, &mut writer, text)?;
+    let writer = directory.open_write(name)?;
+    let mut writer = DirWriter::new(directory, writer);
+    fill(&mut writer, text)?;
     Ok(true)
 }
 
@@ -135,8 +142,7 @@ fn flush<D: Directory>(directory: &mut D, name: &str, text: &str) -> Result<bool
 fn finish<W: TerminatingWrite>(writer: &mut W, text: &str) -> Result<(), IoError>
     requires { (W.view writer.old).ended ≡ false }
 {
-    writer.write_all(text.as_bytes())?;
-    writer.flush()?;
+    fill(writer, text)?;
     writer.terminate()
 }
 
@@ -169,6 +175,35 @@ fn outlive<D: Directory>(directory: &mut D, name: &str) -> Result<bool, Fail>
     Ok(true)
 }
 
+fn is_busy<D: Directory>(directory: &mut D, lock: &Lock) -> bool
+    requires { is_file_name lock.now.filepath.now ≡ true }
+{
+    match directory.acquire_lock(lock) {
+        Err(LockError::LockBusy) => true,
+        _ => false,
+    }
+}
+
+// Whether the token of a lock has its name, and the lock is busy until it is released.
+fn lock_twice<D: Directory>(directory: &mut D, lock: &Lock) -> Result<bool, Fail>
+    requires { is_file_name lock.now.filepath.now ≡ true }
+{
+    let token = directory.acquire_lock(lock)?;
+    let is_named = token.name() == lock.filepath;
+    let is_busy = is_busy(directory, lock);
+    directory.release(token);
+    Ok(is_named && is_busy)
+}
+
+// Takes each lock twice, and then once more.
+fn lock_both<D: Directory>(directory: &mut D) -> Result<bool, Fail> {
+    Ok(
+        lock_twice(directory, &meta_lock())?
+            && lock_twice(directory, &index_writer_lock())?
+            && lock_twice(directory, &meta_lock())?,
+    )
+}
+
 // Makes a call, and answers whether it ended as it is to end.
 fn take<D: Directory>(directory: &mut D, (call, name, text): Step) -> Result<bool, Fail> {
     if !is_plain_name(name) {
@@ -194,6 +229,7 @@ fn take<D: Directory>(directory: &mut D, (call, name, text): Step) -> Result<boo
             Ok(true)
         }
         Call::Outlive => outlive(directory, name),
+        Call::Locks => lock_both(directory),
         Call::Sync => {
             directory.sync_directory()?;
             Ok(true)
@@ -211,17 +247,12 @@ fn first_miss<D: Directory>(directory: &mut D, steps: &[Step]) -> Result<Option<
     Ok(None)
 }
 
-fn miss_in_ram(alloc: Global, steps: &[Step]) -> Result<Option<usize>, Fail> {
-    let mut ram: Ram = RamDirectory::create(alloc);
-    first_miss(&mut ram, steps)
+fn miss_in<D: Empty>(alloc: Global, steps: &[Step]) -> Result<Option<usize>, Fail> {
+    let mut directory = D::empty(alloc)?;
+    first_miss(&mut directory, steps)
 }
 
-fn miss_in_bench(alloc: Global, steps: &[Step]) -> Result<Option<usize>, Fail> {
-    let mut bench: Bench<NoWatch> = Bench::new(alloc, Vec::new(alloc))?;
-    first_miss(&mut bench, steps)
-}
-
-const FILES: [Step; 19] = [
+const FILES: [Step; 20] = [
     (Call::IsAbsent, "test", ""),
     (Call::IsNotOpened, "test", ""),
     (Call::HasNoHandle, "test", ""),
@@ -237,6 +268,7 @@ const FILES: [Step; 19] = [
     (Call::Flush, "test", "flushed"),
     (Call::Reads, "test", "flushed"),
     (Call::Seal, "other", "sealed"),
+    (Call::Locks, "other", ""),
     (Call::Sync, "other", ""),
     (Call::Opens, "other", "sealed"),
     (Call::AtomicWrite, "other", ""),
@@ -245,8 +277,8 @@ const FILES: [Step; 19] = [
 
 #[test]
 fn a_file_that_is_there_stays_and_a_deleted_one_is_gone(rt: HostRuntime) -> Result<(), Fail> {
-    assert_eq!(rt; miss_in_ram(rt.alloc(), &FILES)?, None);
-    assert_eq!(rt; miss_in_bench(rt.alloc(), &FILES)?, None);
+    assert_eq!(rt; miss_in::<TestRam>(rt.alloc(), &FILES)?, None);
+    assert_eq!(rt; miss_in::<TestBench>(rt.alloc(), &FILES)?, None);
     Ok(())
 }
 
@@ -260,32 +292,45 @@ const BOTH_READ: [Step; 2] = [
     (Call::Reads, "seq", "sequential is the way"),
 ];
 
-// Persists two files twice, of which the second time is refused.
-fn persist<D: Directory>(ram: &mut Ram, dest: &mut D) -> Result<Option<usize>, Fail> {
-    if first_miss(ram, &TWO_WAYS)?.is_some() {
+// Persists two files, which is refused the second time.
+fn persist_twice<D: Directory>(ram: &mut TestRam, dest: &mut D) -> Result<bool, Fail> {
+    ram.persist(dest)?;
+    Ok(is_not_persisted(&ram.persist(dest), "atomic"))
+}
+
+fn write_both<D: Directory>(directory: &mut D) -> Result<(), Fail> {
+    if first_miss(directory, &TWO_WAYS)?.is_some() {
         return Err(Fail::from("the files aren't written"));
     }
-    ram.persist(dest)?;
-    if !is_not_persisted(ram.persist(dest), "atomic") {
+    Ok(())
+}
+
+fn persist<D: Directory>(ram: &mut TestRam, dest: &mut D) -> Result<(), Fail> {
+    write_both(ram)?;
+    if !persist_twice(ram, dest)? {
         return Err(Fail::from("the files are persisted twice"));
     }
+    Ok(())
+}
+
+fn persist_to<D: Directory>(alloc: Global, dest: &mut D) -> Result<Option<usize>, Fail> {
+    let mut ram = RamDirectory::create(alloc);
+    persist(&mut ram, dest)?;
     first_miss(dest, &BOTH_READ)
 }
 
 // How many bytes of memory two files use that are persisted.
 fn usage_in_ram(alloc: Global) -> Result<u64, Fail> {
-    let mut ram: Ram = RamDirectory::create(alloc);
-    let mut dest: Ram = RamDirectory::create(alloc);
-    match persist(&mut ram, &mut dest)? {
+    let mut dest: TestRam = RamDirectory::create(alloc);
+    match persist_to(alloc, &mut dest)? {
         None => Ok(dest.total_mem_usage()),
         Some(_) => Err(Fail::from("the files don't read")),
     }
 }
 
 fn persists_to_bench(alloc: Global) -> Result<Option<usize>, Fail> {
-    let mut ram: Ram = RamDirectory::create(alloc);
-    let mut bench: Bench<NoWatch> = Bench::new(alloc, Vec::new(alloc))?;
-    persist(&mut ram, &mut bench)
+    let mut bench = TestBench::empty(alloc)?;
+    persist_to(alloc, &mut bench)
 }
 
 #[test]
@@ -319,7 +364,7 @@ const OF_THE_ORIGINAL_AT_LAST: [Step; 2] = [
 ];
 
 // Takes steps in a directory and in its clone.
-fn go_apart(original: &mut Ram, clone: &mut Ram) -> Result<bool, Fail> {
+fn go_apart<D: Directory>(original: &mut D, clone: &mut D) -> Result<bool, Fail> {
     Ok(
         first_miss(original, &OF_THE_ORIGINAL)?.is_none()
             && first_miss(clone, &OF_THE_CLONE)?.is_none()
@@ -327,7 +372,7 @@ fn go_apart(original: &mut Ram, clone: &mut Ram) -> Result<bool, Fail> {
     )
 }
 
-fn clone_and_go_apart(original: &mut Ram) -> Result<bool, Fail> {
+fn clone_and_go_apart(original: &mut TestRam) -> Result<bool, Fail> {
     if first_miss(original, &FIRST_WRITE)?.is_some() {
         return Ok(false);
     }
@@ -336,52 +381,12 @@ fn clone_and_go_apart(original: &mut Ram) -> Result<bool, Fail> {
 }
 
 fn clone_apart(alloc: Global) -> Result<bool, Fail> {
-    let mut original: Ram = RamDirectory::create(alloc);
+    let mut original: TestRam = RamDirectory::create(alloc);
     clone_and_go_apart(&mut original)
 }
 
 #[test]
 fn a_deep_clone_goes_its_own_way(rt: HostRuntime) -> Result<(), Fail> {
     assert!(rt; clone_apart(rt.alloc())?);
-    Ok(())
-}
-
-// Whether the token of a lock has its name, and the lock is busy until it is released.
-fn lock_twice<D: Directory>(directory: &mut D, lock: &Lock) -> Result<bool, Fail>
-    requires { is_file_name lock.now.filepath.now ≡ true }
-{
-    let token = directory.acquire_lock(lock)?;
-    let is_named = token.name() == lock.filepath;
-    let is_busy = match directory.acquire_lock(lock) {
-        Err(LockError::LockBusy) => true,
-        _ => false,
-    };
-    directory.release(token);
-    Ok(is_named && is_busy)
-}
-
-// Takes each lock twice, and then once more.
-fn lock_both<D: Directory>(directory: &mut D) -> Result<bool, Fail> {
-    Ok(
-        lock_twice(directory, &meta_lock())?
-            && lock_twice(directory, &index_writer_lock())?
-            && lock_twice(directory, &meta_lock())?,
-    )
-}
-
-fn locks_of_ram(alloc: Global) -> Result<bool, Fail> {
-    let mut ram: Ram = RamDirectory::create(alloc);
-    lock_both(&mut ram)
-}
-
-fn locks_of_bench(alloc: Global) -> Result<bool, Fail> {
-    let mut bench: Bench<NoWatch> = Bench::new(alloc, Vec::new(alloc))?;
-    lock_both(&mut bench)
-}
-
-#[test]
-fn a_lock_is_given_once_until_it_is_released(rt: HostRuntime) -> Result<(), Fail> {
-    assert!(rt; locks_of_ram(rt.alloc())?);
-    assert!(rt; locks_of_bench(rt.alloc())?);
     Ok(())
 }

@@ -28,9 +28,7 @@ fn field_of(
     field
 }
 
-#[test]
-fn totals_of_added_usages_are_their_sums(rt: HostRuntime) {
-    let alloc = rt.alloc();
+fn three_fields(rt: &impl Abort, alloc: Global) -> Vec<FieldUsage> {
     let mut fields = Vec::new(alloc);
     for (name, part, column) in [
         ("title", (0, 3), 100),
@@ -38,15 +36,25 @@ fn totals_of_added_usages_are_their_sums(rt: HostRuntime) {
         ("title", (0, 4), 200),
     ] {
         fields
-            .push(field_of(&rt, alloc, name, part, column))
-            .expect(&rt, "memory");
+            .push(field_of(rt, alloc, name, part, column))
+            .expect(rt, "memory");
     }
-    let usage = PerFieldSpaceUsage::new(alloc, fields).expect(&rt, "memory");
+    fields
+}
+
+fn assert_totals(rt: &impl Abort, usage: &PerFieldSpaceUsage) {
     assert!(rt; usage.total() == ByteCount(317));
     for (field, (name, total)) in usage.fields().zip([("body", 10), ("title", 307)]) {
         assert_eq!(rt; field.field_name(), name);
         assert!(rt; field.total() == ByteCount(total));
     }
+}
+
+#[test]
+fn totals_of_added_usages_are_their_sums(rt: HostRuntime) {
+    let fields = three_fields(&rt, rt.alloc());
+    let usage = PerFieldSpaceUsage::new(rt.alloc(), fields).expect(&rt, "memory");
+    assert_totals(&rt, &usage);
 }
 
 // The usage of one field of this size.

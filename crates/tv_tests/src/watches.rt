@@ -5,10 +5,9 @@ use std::mem;
 use std::sync::Arc;
 use std::sync::atomic::{AtomicU64, Ordering};
 use std::test::Fail;
-use tv_base::is_plain_name;
+use tv_base::{Memory, is_plain_name};
 use tv_directory::{
-    Bench, Directory, NoWatch, RamDirectory, WatchCall, WatchCallback, WatchCallbackList,
-    WatchHandle,
+    Directory, RamDirectory, WatchCall, WatchCallback, WatchCallbackList, WatchHandle,
 };
 
 // Multiplies a number at each call, and adds to it.
@@ -191,25 +190,22 @@ fn a_shared_handle_keeps_its_callback(rt: HostRuntime) -> Result<(), Fail> {
     Ok(())
 }
 
-// Registers a callback that writes its digit behind the others.
-fn watch(
-    ram: &mut RamDirectory<WatchCallback>,
+// Two callbacks, each of which writes its digit behind the others.
+fn two_boxed(
     alloc: Global,
     number: &Arc<AtomicU64>,
-    digit: u64,
-) -> Result<WatchHandle, Fail> {
-    let callback = boxed(alloc, number, 10, digit)?;
-    Ok(ram.watch(callback)?)
+) -> Result<(WatchCallback, WatchCallback), Fail> {
+    let first = boxed(alloc, number, 10, 2)?;
+    Ok((first, boxed(alloc, number, 10, 1)?))
 }
 
 // Registers two callbacks, and answers the handle of the first one.
-fn watch_both(
-    ram: &mut RamDirectory<WatchCallback>,
-    alloc: Global,
-    number: &Arc<AtomicU64>,
-) -> Result<WatchHandle, Fail> {
-    let first = watch(ram, alloc, number, 2)?;
-    watch(ram, alloc, number, 1)?;
+fn watch_both<D: Directory>(
+    directory: &mut D,
+    (one, other): (D::Callback, D::Callback),
+) -> Result<WatchHandle, Memory> {
+    let first = directory.watch(one)?;
+    directory.watch(other)?;
     Ok(first)
 }
 
@@ -225,41 +221,35 @@ fn is_noticed<D: Directory>(directory: &mut D, name: &str) -> Result<bool, Fail>
 }
 
 // Whether both callbacks are noticed of a new commit, and then the second one alone.
-fn both_and_one(
-    ram: &mut RamDirectory<WatchCallback>,
-    alloc: Global,
-    number: &Arc<AtomicU64>,
+fn both_and_one<D: Directory>(
+    directory: &mut D,
+    callbacks: (D::Callback, D::Callback),
 ) -> Result<bool, Fail> {
-    let first = watch_both(ram, alloc, number)?;
-    let both = is_noticed(ram, "meta.json")?;
-    ram.unwatch(first);
-    let other = is_noticed(ram, "other.json")?;
-    Ok(both && !other && is_noticed(ram, "meta.json")?)
+    let first = watch_both(directory, callbacks)?;
+    let both = is_noticed(directory, "meta.json")?;
+    directory.unwatch(first);
+    let other = is_noticed(directory, "other.json")?;
+    Ok(both && !other && is_noticed(directory, "meta.json")?)
+}
+
+fn is_right_in_ram(alloc: Global, number: &Arc<AtomicU64>) -> Result<bool, Fail> {
+    let callbacks = two_boxed(alloc, number)?;
+    let mut ram = RamDirectory::create(alloc);
+    both_and_one(&mut ram, callbacks)
 }
 
 // The digits of those who were called.
 fn digits_of_ram(alloc: Global) -> Result<u64, Fail> {
     let number = Arc::new(alloc, AtomicU64::new(0))?;
-    let mut ram = RamDirectory::create(alloc);
-    let is_right = both_and_one(&mut ram, alloc, &number)?;
-    if is_right {
+    if is_right_in_ram(alloc, &number)? {
         Ok(number.load(Ordering::SeqCst))
     } else {
         Err(Fail::from("a commit is noticed otherwise"))
     }
 }
 
-// Whether a directory that nobody watches has notices all the same.
-fn bench_notices(alloc: Global) -> Result<bool, Fail> {
-    let mut bench: Bench<NoWatch> = Bench::new(alloc, Vec::new(alloc))?;
-    let handle = bench.watch(NoWatch)?;
-    bench.unwatch(handle);
-    is_noticed(&mut bench, "meta.json")
-}
-
 #[test]
 fn a_notice_reaches_the_first_registered_first(rt: HostRuntime) -> Result<(), Fail> {
     assert_eq!(rt; digits_of_ram(rt.alloc())?, 211);
-    assert!(rt; bench_notices(rt.alloc())?);
     Ok(())
 }

@@ -2,12 +2,13 @@
 ghost use Rattle.std.specs.Prelude.{◌≡◌, false};
 
 use crate::composites::{write_no_fields, write_two_bodies_of_one_field, write_two_fields};
+use crate::empty::{Empty, TestBench};
 use crate::footers::{flush_four_bytes, write_footer, write_nine_bytes};
 use std::alloc::Global;
 use std::process::Abort;
 use tv_base::{FileSlice, OwnedBytes, TerminatingWrite};
 use tv_checksum::Crc32;
-use tv_directory::{Bench, DirWriter, Directory, NoWatch};
+use tv_directory::{DirWriter, Directory};
 use tv_framing::FooterProxy;
 
 /// What a file gets.
@@ -51,7 +52,7 @@ fn read_file<D: Directory>(rt: &impl Abort, directory: &mut D) -> Vec<u8> {
 
 /// The bytes of a file with this content.
 pub(crate) fn written(rt: &impl Abort, alloc: Global, content: Content) -> Vec<u8> {
-    let mut bench: Bench<NoWatch> = Bench::new(alloc, Vec::new(alloc)).expect(rt, "memory");
+    let mut bench = TestBench::empty(alloc).expect(rt, "memory");
     write_file(rt, alloc, &mut bench, content);
     read_file(rt, &mut bench)
 }

@@ -24,7 +24,7 @@ loop-events-init g c = record {
   short = c.requires.short;
   few = c.requires.few;
   quiet = (refl, refl);
-  frame = no_time g.O.Directory.told (g.O.Directory.view c.args.store.now.1);
+  frame = no_time g.O.Directory.told (g.O.Directory.view c.args.store.now.outside);
 }
 
 pub loop-events-preserved : goal.loop-events-preserved
@@ -36,8 +36,8 @@ loop-events-preserved g c =
     record {
       run = goes_on g.O.Directory c.args.store.now c.loop-events.store c.apply.new.self _ _ _ c.loop-events.events c.in-Ok-Some.event c.in_ok-_answer._answer before.run taken line.fits applied.frame.schema applied.step applied.tells.ok;
       is_open = applied.frame.is_open;
-      short = subst (λ (bound : ℕ). AtMost bound c.apply.new.self.0) (one_more_line c.loop-events.events) (applied.grows.lens (c.loop-events.events * line_limit) line_limit line.small before.short);
-      few = subst (λ (bound : ℕ). FewNumbers bound c.apply.new.self.0.reading) (one_more_line c.loop-events.events) (applied.grows.numbers (c.loop-events.events * line_limit) line_limit line.small before.few);
+      short = subst (λ (bound : ℕ). AtMost bound c.apply.new.self.kept) (one_more_line c.loop-events.events) (applied.grows.lens (c.loop-events.events * line_limit) line_limit line.small before.short);
+      few = subst (λ (bound : ℕ). FewNumbers bound c.apply.new.self.kept.catalog.reading) (one_more_line c.loop-events.events) (applied.grows.numbers (c.loop-events.events * line_limit) line_limit line.small before.few);
       quiet = (applied.faults.quiet ∙ before.quiet.0, c.in-Ok-Some.ensures.faults.quiet ∙ before.quiet.1);
       frame = frame_then before.frame (record { goes_on = applied.frame.goes_on; locks = applied.frame.locks; watched = may_note c.in-Ok-Some.event _ _ applied.frame.watched });
     }
@@ -59,14 +59,14 @@ returns-in-Err-clause-faults g c =
     let source = g.R.Source.view in
     let start = source c.args.script.now in
     let before = c.loop-events.invariant in
-    let busy : Type 0 = MeetsLock start.left × IsBusy g.O.Directory.told.locks ((view c.args.store.now.1).locks meta_lock_name ≡ true) (Rose (view c.args.store.now.1).faults (view c.loop-events.store.1).faults) in
+    let busy : Type 0 = MeetsLock start.left × IsBusy g.O.Directory.told.locks ((view c.args.store.now.outside).locks meta_lock_name ≡ true) (Rose (view c.args.store.now.outside).faults (view c.loop-events.store.outside).faults) in
     let now = source c.next_event.new.source in
     record {
       quiet = tt;
       cause =
           script_cause busy (LineRefusal start.left) (IsTooMany start.left) (Rose (source c.loop-events.script).faults now.faults) (now.faults ≡ (source c.loop-events.script).faults)
-          (IsRefusedAt (view c.args.store.now.1) (view c.loop-events.store.1) start now) (IsQuietAt (view c.args.store.now.1) (view c.loop-events.store.1) start now)
-          (BadSince g.O.Directory.told.content (view c.args.store.now.1).reads c.args.store.now.0 start.left) (λ path. HoldsNone g.O.Directory.told.content (view c.args.store.now.1).reads c.args.store.now.0)
+          (IsRefusedAt (view c.args.store.now.outside) (view c.loop-events.store.outside) start now) (IsQuietAt (view c.args.store.now.outside) (view c.loop-events.store.outside) start now)
+          (BadSince g.O.Directory.told.content (view c.args.store.now.outside).reads c.args.store.now.kept start.left) (λ path. HoldsNone g.O.Directory.told.content (view c.args.store.now.outside).reads c.args.store.now.kept)
           (pending c.loop-events.buffer (source c.loop-events.script).left) c.in-Err.error (c.loop-events.events + 1) c.script_error.result c.script_error.ensures c.in-Err.ensures.faults.cause
           (λ rose. inr (rose_from _ _ _ before.quiet.1 rose)) (λ quiet. (before.quiet.0, quiet ∙ before.quiet.1))
           (λ wrong. stops_at_line (c.loop-events.events + 1) before.run wrong refl)
@@ -79,30 +79,30 @@ returns-in_err-_answer-clause-faults g c =
     let source = g.R.Source.view in
     let start = source c.args.script.now in
     let before = c.loop-events.invariant in
-    let busy : Type 0 = MeetsLock start.left × IsBusy g.O.Directory.told.locks ((view c.args.store.now.1).locks meta_lock_name ≡ true) (Rose (view c.args.store.now.1).faults (view c.apply.new.self.1).faults) in
+    let busy : Type 0 = MeetsLock start.left × IsBusy g.O.Directory.told.locks ((view c.args.store.now.outside).locks meta_lock_name ≡ true) (Rose (view c.args.store.now.outside).faults (view c.apply.new.self.outside).faults) in
     let now = source c.next_event.new.source in
     let taken = rw c.in-Ok-Some.field-0-is at c.in-Ok-Some.ensures.event in
     let line = rw c.in-Ok-Some.field-0-is at c.in-Ok-Some.ensures.fits in
     let few : c.loop-events.events < 2 ^ 32 = omega (arith, c.loop-events-test.true) in
     let e = err_from_is_err_and c.from_residual-in_err-_answer.result c.from_residual-in_err-_answer.ensures.1 in
     let applied = before.run.applied in
-    let met : Type 0 = TakesMetaLock c.loop-events.store.0 c.in-Ok-Some.event × IsBusy g.O.Directory.told.locks ((view c.loop-events.store.1).locks meta_lock_name ≡ true) (Rose (view c.loop-events.store.1).faults (view c.apply.new.self.1).faults) in
-    let bad = BadIn g.O.Directory.told.content (view c.loop-events.store.1).reads c.loop-events.store.0 c.in-Ok-Some.event in
-    let none = λ (path : List ℕ). HoldsNone g.O.Directory.told.content (view c.loop-events.store.1).reads c.loop-events.store.0 in
+    let met : Type 0 = TakesMetaLock c.loop-events.store.kept c.in-Ok-Some.event × IsBusy g.O.Directory.told.locks ((view c.loop-events.store.outside).locks meta_lock_name ≡ true) (Rose (view c.loop-events.store.outside).faults (view c.apply.new.self.outside).faults) in
+    let bad = BadIn g.O.Directory.told.content (view c.loop-events.store.outside).reads c.loop-events.store.kept c.in-Ok-Some.event in
+    let none = λ (path : List ℕ). HoldsNone g.O.Directory.told.content (view c.loop-events.store.outside).reads c.loop-events.store.kept in
     rw (e.1, e.2) (record {
       quiet = tt;
       cause =
-          event_cause (LineRefusal start.left) (IsTooMany start.left) met busy (Rose (view c.loop-events.store.1).faults (view c.apply.new.self.1).faults) ((view c.apply.new.self.1).faults ≡ (view c.loop-events.store.1).faults)
-          (Spent c.loop-events.store.0 c.in-Ok-Some.event)
-          (IsRefusedAt (view c.args.store.now.1) (view c.apply.new.self.1) start now) (IsQuietAt (view c.args.store.now.1) (view c.apply.new.self.1) start now)
-          bad (BadSince g.O.Directory.told.content (view c.args.store.now.1).reads c.args.store.now.0 start.left) none (λ path. HoldsNone g.O.Directory.told.content (view c.args.store.now.1).reads c.args.store.now.0)
+          event_cause (LineRefusal start.left) (IsTooMany start.left) met busy (Rose (view c.loop-events.store.outside).faults (view c.apply.new.self.outside).faults) ((view c.apply.new.self.outside).faults ≡ (view c.loop-events.store.outside).faults)
+          (Spent c.loop-events.store.kept c.in-Ok-Some.event)
+          (IsRefusedAt (view c.args.store.now.outside) (view c.apply.new.self.outside) start now) (IsQuietAt (view c.args.store.now.outside) (view c.apply.new.self.outside) start now)
+          bad (BadSince g.O.Directory.told.content (view c.args.store.now.outside).reads c.args.store.now.kept start.left) none (λ path. HoldsNone g.O.Directory.told.content (view c.args.store.now.outside).reads c.args.store.now.kept)
           c.in_err-_answer.field-0.0 c.in_err-_answer.ensures.faults.cause
           (λ b. (
-            meets_lock _ _ _ c.loop-events.store.0 before.run.turns c.in-Ok-Some.event before.run.read taken b.0,
+            meets_lock _ _ _ c.loop-events.store.kept before.run.turns c.in-Ok-Some.event before.run.read taken b.0,
             busy_since _ _ _ _ _ (λ told held. sym (before.frame.locks told meta_lock_name) ∙ held) before.quiet.0 b.1,
           ))
           (λ rose. inl (rose_from _ _ _ before.quiet.0 rose)) (λ quiet. (quiet ∙ before.quiet.0, c.in-Ok-Some.ensures.faults.quiet ∙ before.quiet.1))
-          (never_spent c.loop-events.store.0 c.in-Ok-Some.event c.loop-events.events few line.small before.short before.few)
+          (never_spent c.loop-events.store.kept c.in-Ok-Some.event c.loop-events.events few line.small before.short before.few)
           (λ path b. bad_since _ _ _ _ _ _ _ _ before.run.turns c.in-Ok-Some.event before.run.read taken applied.holds applied.readable path b) (λ path b. none_since _ _ _ _ _ before.run.turns applied.holds b);
     })
 
@@ -112,7 +112,7 @@ returns-in_err-tally-clause-faults g c =
     let source = g.R.Source.view in
     let start = source c.args.script.now in
     let before = c.loop-events.invariant in
-    let busy : Type 0 = MeetsLock start.left × IsBusy g.O.Directory.told.locks ((view c.args.store.now.1).locks meta_lock_name ≡ true) (Rose (view c.args.store.now.1).faults (view c.loop-events.store.1).faults) in
+    let busy : Type 0 = MeetsLock start.left × IsBusy g.O.Directory.told.locks ((view c.args.store.now.outside).locks meta_lock_name ≡ true) (Rose (view c.args.store.now.outside).faults (view c.loop-events.store.outside).faults) in
     let now = source c.end_of.new.script in
     let all : c.loop-events.events ≡ 4294967295 = omega (arith, c.loop-events-test.false, c.loop-events.auto.events-end) in
     let e = err_from_is_err_and c.from_residual-in_err-tally.result c.from_residual-in_err-tally.ensures.1 in
@@ -121,8 +121,8 @@ returns-in_err-tally-clause-faults g c =
       cause =
           end_cause busy (LineRefusal start.left) ((rest : List ℕ) → pending c.loop-events.buffer (source c.loop-events.script).left ≡ Some rest → rest ≢ []) (IsTooMany start.left)
           (Rose (source c.loop-events.script).faults now.faults) (now.faults ≡ (source c.loop-events.script).faults)
-          (IsRefusedAt (view c.args.store.now.1) (view c.loop-events.store.1) start now) (IsQuietAt (view c.args.store.now.1) (view c.loop-events.store.1) start now)
-          (BadSince g.O.Directory.told.content (view c.args.store.now.1).reads c.args.store.now.0 start.left) (λ path. HoldsNone g.O.Directory.told.content (view c.args.store.now.1).reads c.args.store.now.0)
+          (IsRefusedAt (view c.args.store.now.outside) (view c.loop-events.store.outside) start now) (IsQuietAt (view c.args.store.now.outside) (view c.loop-events.store.outside) start now)
+          (BadSince g.O.Directory.told.content (view c.args.store.now.outside).reads c.args.store.now.kept start.left) (λ path. HoldsNone g.O.Directory.told.content (view c.args.store.now.outside).reads c.args.store.now.kept)
           c.in_err-tally.field-0.0 c.in_err-tally.ensures.faults.cause
           (λ rose. inr (rose_from _ _ _ before.quiet.1 rose)) (λ quiet. (before.quiet.0, quiet ∙ before.quiet.1))
           (stops_at_last before.run all);

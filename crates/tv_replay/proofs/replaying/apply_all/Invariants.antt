@@ -13,9 +13,9 @@ invariant-loop-events g l =
     let source = g.R.Source.view in
     record {
       run : Progress g.O.Directory l.fn.store l.store (source l.fn.script).left (pending l.buffer (source l.script).left) l.events;
-      is_open : l.store.2 ≡ true;
-      short : AtMost (l.events * line_limit) l.store.0;
-      few : FewNumbers (l.events * line_limit) l.store.0.reading;
-      quiet : IsQuietAt (view l.fn.store.1) (view l.store.1) (source l.fn.script) (source l.script);
-      frame : ReplayFrame g.O.Directory.told (view l.fn.store.1) (view l.store.1);
+      is_open : l.store.is_open ≡ true;
+      short : AtMost (l.events * line_limit) l.store.kept;
+      few : FewNumbers (l.events * line_limit) l.store.kept.catalog.reading;
+      quiet : IsQuietAt (view l.fn.store.outside) (view l.store.outside) (source l.fn.script) (source l.script);
+      frame : ReplayFrame g.O.Directory.told (view l.fn.store.outside) (view l.store.outside);
     }

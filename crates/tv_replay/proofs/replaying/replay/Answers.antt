@@ -1,8 +1,9 @@
-use Rattle.std.proofs.Common.{◌≡◌, ◌⊎◌, ℕ, true, false, Err, refl, sym, ◌∙◌, inl, inr, subst}
+use Rattle.std.proofs.Common.{◌≡◌, ◌⊎◌, ℕ, true, false, Err, refl, sym, ap, ◌∙◌, inl, inr, subst}
 use Rattle.std.proofs.lemmas.Result.{IfOk-weaker, IfErr-weaker}
 use Rattle.tv_model.specs.Names.{meta_name}
 use Rattle.tv_model.specs.Files.{Rose}
 use Rattle.tv_model.specs.Commits.{Commit}
+use Rattle.tv_model.specs.State.{Catalog}
 use Rattle.tv_model.specs.Lines.{opening_of}
 use Rattle.tv_directory.specs.Watch.{WatchState, MayNote}
 use Rattle.tv_store.specs.Telling.{TellsLine}
@@ -60,8 +61,8 @@ why_stopped g c =
     let D = g.O.Directory in
     let opened = c.in-Ok.ensures in
     let before = D.view c.args.outside in
-    let mid = D.view c.in-Ok.store.1 in
-    let new = D.view c.apply_all-outcome.new.store.1 in
+    let mid = D.view c.in-Ok.store.outside in
+    let new = D.view c.apply_all-outcome.new.store.outside in
     let now = D.view c.into_outside.result in
     let script = g.R.Source.view c.args.script.now in
     let script_now = g.R.Source.view c.apply_all-outcome.new.script in
@@ -78,13 +79,13 @@ why_stopped g c =
           subst (λ (n : ℕ). ReplayCause D.told.content c.args.schema.now before.reads script.left (IsMet D.told.locks script.left before.locks (Rose before.faults n)) (Rose before.faults n ⊎ more) ((n ≡ before.faults) × same) error) (sym faults)
           (run_cause D.told.content c.args.schema.now before.reads script.left busy (IsMet D.told.locks script.left before.locks (Rose before.faults new.faults))
           (IsRefusedAt mid new script script_now) (IsQuietAt mid new script script_now) (IsRefusedAt before new script script_now) (IsQuietAt before new script script_now)
-          (BadSince D.told.content mid.reads c.in-Ok.store.0 script.left) (λ path. HoldsNone D.told.content mid.reads c.in-Ok.store.0)
+          (BadSince D.told.content mid.reads c.in-Ok.store.kept script.left) (λ path. HoldsNone D.told.content mid.reads c.in-Ok.store.kept)
           error cause opened.opens.accepted opened.opens.none
           (met_since_opening D.told.locks script.left before.locks mid.locks before.faults mid.faults new.faults opened.locks.ok opened.faults.quiet)
           (either_rose before.faults mid.faults new.faults more opened.faults.quiet)
           (λ quiet. (quiet.0 ∙ opened.faults.quiet, quiet.1))
-          (bad_at_start D.told.content c.args.schema.now before.reads mid.reads c.in-Ok.store.0 script.left opened.opens.none opened.opens.holds)
-          (λ path. never_at_start D.told.content c.args.schema.now before.reads mid.reads c.in-Ok.store.0 opened.opens.none opened.opens.holds)))
+          (bad_at_start D.told.content c.args.schema.now before.reads mid.reads c.in-Ok.store.kept script.left opened.opens.none opened.opens.holds)
+          (λ path. never_at_start D.told.content c.args.schema.now before.reads mid.reads c.in-Ok.store.kept opened.opens.none opened.opens.holds)))
           c.apply_all-outcome.ensures.faults.cause;
     }
 
@@ -129,16 +130,16 @@ returns-clause-leaves g c =
     let opened = c.in-Ok.ensures in
     let before = D.view c.args.outside in
     let store = c.in-Ok.store in
-    let mid = D.view store.1 in
-    let new = D.view c.apply_all-outcome.new.store.1 in
+    let mid = D.view store.outside in
+    let new = D.view c.apply_all-outcome.new.store.outside in
     let now = D.view c.into_outside.result in
     let script = g.R.Source.view c.args.script.now in
     let freed = c.into_outside.ensures in
     IfErr-weaker c.apply_all-outcome.result (LeavesStopped D store c.apply_all-outcome.new.store script.left) (LeavesReplay D c.args.outside c.into_outside.result c.args.schema.now script.left)
     (λ error left tells s opens.
     let held = opened.opens.holds tells s opens in
-    inr (leaves_report D.told store.0.schema c.args.schema.now script.left s before mid new now error
-    opened.opens.schema_is (λ th. subst (λ (commit : Commit). TellsLine before.heard mid.heard before.moment mid.moment (opening_of commit)) held.commit (opened.tells.ok th))
+    inr (leaves_report D.told store.kept.schema c.args.schema.now script.left s before mid new now error
+    opened.opens.schema_is (λ th. subst (λ (commit : Commit). TellsLine before.heard mid.heard before.moment mid.moment (opening_of commit)) (ap (λ (catalog : Catalog). catalog.commit) held.catalog) (opened.tells.ok th))
     freed.frame.tells_none.heard (freed.frame.content tells meta_name) (left tells s held (opens_whole c.args.schema.now before.reads s (opened.opens.none tells) opens))))
     c.apply_all-outcome.ensures.leaves
 

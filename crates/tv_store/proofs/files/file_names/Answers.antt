@@ -3,7 +3,7 @@ use Rattle.std.specs.List.{list_all}
 use Rattle.std.specs.Vec.Iter.{into_iter_items}
 use Rattle.std.proofs.lemmas.List.{nil_from_length}
 use Rattle.tv_model.specs.Names.{is_plain}
-use Rattle.tv_store.proofs.CollectionEvents.{plain_is_name, first_plain, one_listed}
+use Rattle.tv_store.proofs.Removals.{plain_is_name, first_plain, one_listed}
 use Rattle.tv_store.proofs.files.file_names.Goals as goal
 
 pub loop-text-init : goal.loop-text-init

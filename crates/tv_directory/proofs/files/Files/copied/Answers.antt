@@ -11,5 +11,5 @@ pub loop-name-preserved : goal.loop-name-preserved
 loop-name-preserved c =
     let name : c.new.result ≡ c.in-Some.name.now = search rules in
     let set = rw name at c.in_ok-put.ensures.ok in
-    copies_one c.args.self.now.map.entries c.loop-name.name-iterator c.next.new.self c.loop-name.map.entries c.put.new.files.entries (c.in-Some.name.now, c.in-Some.file.now) (bytes_of c.in_ok-copied.field-0) c.loop-name.invariant
-    (search rules) set c.in_ok-copied.ensures
+    copies_one c.args.self.now.map.entries c.loop-name.name-iterator c.next.new.self c.loop-name.map.entries c.put.new.files.entries (c.in-Some.name.now, c.in-Some.file.now) (bytes_of c.in_ok-share.field-0) c.loop-name.invariant
+    (search rules) set c.in_ok-share.ensures

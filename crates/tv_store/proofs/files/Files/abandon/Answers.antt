@@ -1,5 +1,5 @@
 use Rattle.std.proofs.Common.{refl, sym, ap, is_some, ◌∙◌}
-use Rattle.tv_store.proofs.OpenFiles.{left_open, is_open, isnt_open, bodies_left}
+use Rattle.tv_store.proofs.OpenFiles.{left_open, is_open, isnt_open, one_less}
 use Rattle.tv_store.proofs.files.Files.abandon.Goals as goal
 
 pub invariant_of-self : goal.invariant_of-self
@@ -7,10 +7,11 @@ invariant_of-self g c = left_open g.O.Directory c.self.inside.directory.0 c.self
 
 pub returns-clause-found : goal.returns-clause-found
 returns-clause-found g c =
-    sym (is_open (λ w. (g.O.Directory.state_of w).written) c.self.inside.files.entries c.args.self.now.2 c.args.name.now c.is_some.result (ap (λ v. v.2) c.self.view_is) (c.is_some.ensures ∙ ap is_some c.remove.ensures.value))
+    sym (is_open (λ w. (g.O.Directory.state_of w).written) c.self.inside.files.entries c.args.self.now.open_files c.args.name.now c.is_some.result (ap (λ v. v.open_files) c.self.view_is) (c.is_some.ensures ∙ ap is_some c.remove.ensures.value))
 
-pub returns-clause-open_files : goal.returns-clause-open_files
-returns-clause-open_files g c = bodies_left (λ w. (g.O.Directory.state_of w).written) c.self.inside.files.entries c.remove.new.self.entries c.args.self.now.2 _ c.remove.ensures.entries (ap (λ v. v.2) c.self.view_is)
+pub returns-clause-abandoned : goal.returns-clause-abandoned
+returns-clause-abandoned g c =
+    one_less (λ w. (g.O.Directory.state_of w).written) c.self.inside.directory.0 c.self.inside.directory.1 c.self.inside.files.entries c.remove.new.self.entries c.self.inside.left.keys c.args.self.now _ c.remove.ensures.entries c.self.view_is
 
 pub returns-clause-closed : goal.returns-clause-closed
 returns-clause-closed g c = isnt_open (λ w. (g.O.Directory.state_of w).written) c.remove.new.self.entries _ c.args.name.now refl (sym c.remove.ensures.updates.1)

@@ -1,8 +1,8 @@
-use Rattle.std.proofs.Common.{◌≡◌, ℕ, List, None, cond, sym, ap, subst, ◌∙◌, map, string_bytes, rules}
+use Rattle.std.proofs.Common.{◌≡◌, ℕ, List, None, cond, not, ◌&&◌, sym, ap, subst, ◌∙◌, map, string_bytes, rules}
 use Rattle.tv_model.specs.Names.{has}
 use Rattle.tv_model.specs.State.{at}
 use Rattle.tv_managed.specs.Collecting.{SparesWriters}
-use Rattle.tv_store.proofs.CollectionEvents.{told_plain, tried_as, collected_open, bodies_gone, lens_left, living_stands}
+use Rattle.tv_store.proofs.Removals.{told_plain, tried_as, collected_open, bodies_gone, lens_left, living_stands}
 use Rattle.tv_store.proofs.OpenFiles.{AreOpen, bodies}
 use Rattle.tv_store.proofs.files.Files.collect.Goals as goal
 
@@ -26,38 +26,41 @@ invariant_of-self-2 g c =
 pub returns-clause-collects : goal.returns-clause-collects
 returns-clause-collects g c = record {
   tried =
-      tried_as g.O.Directory _ (map string_bytes c.args.living.keys) (c.self.inside.directory.0, c.self.inside.directory.1) c.garbage_collect.new.self (c.args.self.now.0, c.args.self.now.1) c.in_ok-result.result _ _
-      (ap (λ v. (v.0, v.1)) c.self.view_is) (let answer = c.in_ok-result.ensures.tries.1 in search) c.in_ok-deleted.ensures c.in_ok-failed.ensures c.in_ok-result.ensures.tries.2;
+      tried_as g.O.Directory _ (map string_bytes c.args.living.keys) (c.self.inside.directory.0, c.self.inside.directory.1) c.garbage_collect.new.self (c.args.self.now.outside, c.args.self.now.managed) c.in_ok-result.result _ _
+      (ap (λ v. (v.outside, v.managed)) c.self.view_is) (let answer = c.in_ok-result.ensures.tries.1 in search) c.in_ok-deleted.ensures c.in_ok-failed.ensures c.in_ok-result.ensures.tries.2;
   counted = search rules;
   open_files = λ n.
-      bodies_gone (λ w. (g.O.Directory.state_of w).written) c.replace-files.result.entries c.remove_all.new.map.entries c.args.self.now.2 c.as_slice.result.now n (ap (λ m. bodies (λ w. (g.O.Directory.state_of w).written) m.entries) c.replace-files.ensures.value ∙ ap (λ v. v.2) c.self.view_is) (c.remove_all.ensures.names n)
-      ∙ ap (λ (ns : List (List ℕ)). cond (has ns n) None (at c.args.self.now.2 n)) c.as_slice.ensures.value;
+      bodies_gone (λ w. (g.O.Directory.state_of w).written) c.replace-files.result.entries c.remove_all.new.map.entries c.args.self.now.open_files c.as_slice.result.now n (ap (λ m. bodies (λ w. (g.O.Directory.state_of w).written) m.entries) c.replace-files.ensures.value ∙ ap (λ v. v.open_files) c.self.view_is) (c.remove_all.ensures.names n)
+      ∙ ap (λ (ns : List (List ℕ)). cond (has ns n) None (at c.args.self.now.open_files n)) c.as_slice.ensures.value;
+  left = λ n.
+      c.remove_names.ensures n ∙ ap (λ v. not (has c.as_slice-2.result.now n) && has v.left n) c.self.view_is
+      ∙ ap (λ (ns : List (List ℕ)). not (has ns n) && has c.args.self.now.left n) c.as_slice-2.ensures.value;
 }
 
 pub returns-clause-lens : goal.returns-clause-lens
 returns-clause-lens g c bound h =
-    lens_left (λ w. (g.O.Directory.state_of w).written) c.replace-files.result.entries c.remove_all.new.map.entries c.args.self.now.2 bound (ap (λ m. bodies (λ w. (g.O.Directory.state_of w).written) m.entries) c.replace-files.ensures.value ∙ ap (λ v. v.2) c.self.view_is) c.remove_all.ensures.left h
+    lens_left (λ w. (g.O.Directory.state_of w).written) c.replace-files.result.entries c.remove_all.new.map.entries c.args.self.now.open_files bound (ap (λ m. bodies (λ w. (g.O.Directory.state_of w).written) m.entries) c.replace-files.ensures.value ∙ ap (λ v. v.open_files) c.self.view_is) c.remove_all.ensures.left h
 
 pub returns-in_err-result-clause-spared : goal.returns-in_err-result-clause-spared
 returns-in_err-result-clause-spared g c tells n living other =
     let left = c.garbage_collect.ensures.leaves in
     living_stands g.O.Directory _ _ _ left.0 _ _ n (λ set answer. search) left.2 left.1 tells living other
-    ∙ ap (λ v. (g.O.Directory.view v.0).reads n) c.self.view_is
+    ∙ ap (λ v. (g.O.Directory.view v.outside).reads n) c.self.view_is
 
 pub returns-in_err-deleted-clause-spared : goal.returns-in_err-deleted-clause-spared
 returns-in_err-deleted-clause-spared g c tells n living other =
     let left = c.garbage_collect.ensures.leaves in
     living_stands g.O.Directory _ _ _ left.0 _ _ n (λ set answer. search) left.2 left.1 tells living other
-    ∙ ap (λ v. (g.O.Directory.view v.0).reads n) c.self.view_is
+    ∙ ap (λ v. (g.O.Directory.view v.outside).reads n) c.self.view_is
 
 pub returns-in_err-failed-clause-spared : goal.returns-in_err-failed-clause-spared
 returns-in_err-failed-clause-spared g c tells n living other =
     let left = c.garbage_collect.ensures.leaves in
     living_stands g.O.Directory _ _ _ left.0 _ _ n (λ set answer. search) left.2 left.1 tells living other
-    ∙ ap (λ v. (g.O.Directory.view v.0).reads n) c.self.view_is
+    ∙ ap (λ v. (g.O.Directory.view v.outside).reads n) c.self.view_is
 
 pub returns-clause-spared : goal.returns-clause-spared
 returns-clause-spared g c tells n living other =
     let left = c.garbage_collect.ensures.leaves in
     living_stands g.O.Directory _ _ _ left.0 _ _ n (λ set answer. search) left.2 left.1 tells living other
-    ∙ ap (λ v. (g.O.Directory.view v.0).reads n) c.self.view_is
+    ∙ ap (λ v. (g.O.Directory.view v.outside).reads n) c.self.view_is

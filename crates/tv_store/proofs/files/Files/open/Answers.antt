@@ -18,8 +18,9 @@ invariant_of-self-2 g c =
 
 pub returns-clause-opened : goal.returns-clause-opened
 returns-clause-opened g c made = record {
-  names = plain_registered c.self.inside.directory.1 c.args.self.now.1 c.open_write.new.self.1 c.as_str.result.now c.args.name c.in-Ok.ensures.names.ok (ap (λ v. v.1) c.self.view_is) c.as_str.ensures.text c.requires;
-  open_files = bodies_put (λ w. (g.O.Directory.state_of w).written) c.self.inside.files.entries c.insert.new.self.entries c.args.self.now.2 c.args.name _ [] c.in_ok-insert.ensures.entries (ap (λ v. v.2) c.self.view_is) (ap (λ (s : WriterState). s.written) c.in-Ok.ensures.writer.writer.state);
+  names = plain_registered c.self.inside.directory.1 c.args.self.now.managed c.open_write.new.self.1 c.as_str.result.now c.args.name c.in-Ok.ensures.names.ok (ap (λ v. v.managed) c.self.view_is) c.as_str.ensures.text c.requires;
+  open_files = bodies_put (λ w. (g.O.Directory.state_of w).written) c.self.inside.files.entries c.insert.new.self.entries c.args.self.now.open_files c.args.name _ [] c.in_ok-insert.ensures.entries (ap (λ v. v.open_files) c.self.view_is) (ap (λ (s : WriterState). s.written) c.in-Ok.ensures.writer.writer.state);
+  left = ap (λ v. v.left) c.self.view_is;
   makes = search rules;
   list = search rules;
 }

@@ -10,7 +10,7 @@ use Rattle.tv_store.proofs.files.Files.open_read.Goals as goal
 pub returns-in_err-body-clause-faults : goal.returns-in_err-body-clause-faults
 returns-in_err-body-clause-faults g c =
     let D = g.O.Directory in
-    let value = c.args.self.now.0 in
+    let value = c.args.self.now.outside in
     let after = c.open_read.new.self.0 in
     let why = c.in_err-body.ensures.faults in
     record {
@@ -20,7 +20,7 @@ returns-in_err-body-clause-faults g c =
           (ApplyCause ⊥ (Rose (D.view value).faults (D.view after).faults) ((D.view after).faults ≡ (D.view value).faults) ⊥ (λ error. D.told.content → RefusesAt (D.view value).reads c.args.name.now error) (λ path. (path ≡ c.args.name.now) × (D.told.content → (D.view value).reads path ≡ None)))
           c.from_residual.ensures.1
           (body_fails D.told.content (λ d. (D.view d).reads) (λ d. (D.view d).faults) c.self.inside.directory.0 value after c.args.name.now c.as_str.result.now c.in_err-body.field-0.0
-          (ap (λ v. v.0) c.self.view_is) c.as_str.ensures.text c.as_str.ensures.name why.cause why.path why.err why.outside);
+          (ap (λ v. v.outside) c.self.view_is) c.as_str.ensures.text c.as_str.ensures.name why.cause why.path why.err why.outside);
     }
 
 pub invariant_of-self-2 : goal.invariant_of-self-2
@@ -28,4 +28,4 @@ invariant_of-self-2 g c = still_open g.O.Directory c.self.inside.directory.0 c.o
 
 pub returns-clause-body : goal.returns-clause-body
 returns-clause-body g c tells =
-    body_read (λ d. (g.O.Directory.view d).reads) c.self.inside.directory.0 c.args.self.now.0 c.args.name.now c.as_str.result.now c.in_ok-body.body (ap (λ v. v.0) c.self.view_is) c.as_str.ensures.text (c.in_ok-body.ensures.body tells)
+    body_read (λ d. (g.O.Directory.view d).reads) c.self.inside.directory.0 c.args.self.now.outside c.args.name.now c.as_str.result.now c.in_ok-body.body (ap (λ v. v.outside) c.self.view_is) c.as_str.ensures.text (c.in_ok-body.ensures.body tells)

@@ -3,13 +3,13 @@ use Rattle.tv_store.proofs.OpenFiles.{still_open, put_open, left_open, found_ope
 use Rattle.tv_store.proofs.files.Files.write.Goals as goal
 
 pub unreachable-requires : goal.unreachable-requires
-unreachable-requires g c = must_be_open (λ w. (g.O.Directory.state_of w).written) c.self.inside.files.entries c.args.self.now.2 c.args.name c.remove.result (ap (λ v. v.2) c.self.view_is) c.remove.ensures.value c.in_default.is c.requires.is_open
+unreachable-requires g c = must_be_open (λ w. (g.O.Directory.state_of w).written) c.self.inside.files.entries c.args.self.now.open_files c.args.name c.remove.result (ap (λ v. v.open_files) c.self.view_is) c.remove.ensures.value c.in_default.is c.requires.is_open
 
 pub write-requires-clause-opened : goal.write-requires-clause-opened
 write-requires-clause-opened g c = (found_open g.O.Directory c.self.inside.directory.0 c.self.inside.files.entries c.args.name c.in-Some.file c.in-Some.ensures.value c.self.invariant).opened_is
 
 pub write-requires-clause-fits : goal.write-requires-clause-fits
-write-requires-clause-fits g c = c.requires.fits (g.O.Directory.state_of c.in-Some.file.writer.writer).written (body_is (λ w. (g.O.Directory.state_of w).written) c.self.inside.files.entries c.args.self.now.2 c.args.name c.in-Some.file (ap (λ v. v.2) c.self.view_is) c.in-Some.ensures.value)
+write-requires-clause-fits g c = c.requires.fits (g.O.Directory.state_of c.in-Some.file.writer.writer).written (body_is (λ w. (g.O.Directory.state_of w).written) c.self.inside.files.entries c.args.self.now.open_files c.args.name c.in-Some.file (ap (λ v. v.open_files) c.self.view_is) c.in-Some.ensures.value)
 
 pub invariant_of-self : goal.invariant_of-self
 invariant_of-self g c = still_open g.O.Directory c.self.inside.directory.0 c.write.new.self.0 c.remove.new.self.entries c.write.ensures.frame.below.frame.tells_none.deletes_none (left_open g.O.Directory c.self.inside.directory.0 c.self.inside.files.entries c.remove.new.self.entries _ c.remove.ensures.entries c.self.invariant)
@@ -17,15 +17,15 @@ invariant_of-self g c = still_open g.O.Directory c.self.inside.directory.0 c.wri
 pub returns-in_err-write-clause-others : goal.returns-in_err-write-clause-others
 returns-in_err-write-clause-others g c tells =
     let file = found_open g.O.Directory c.self.inside.directory.0 c.self.inside.files.entries c.args.name c.in-Some.file c.in-Some.ensures.value c.self.invariant in
-    others_kept (λ d. (g.O.Directory.view d).reads) c.self.inside.directory.0 c.args.self.now.0 c.write.new.self.0 (g.O.Directory.state_of c.in-Some.file.writer.writer).name c.args.name (ap (λ v. v.0) c.self.view_is) file.name_is (c.write.ensures.touches.others tells)
+    others_kept (λ d. (g.O.Directory.view d).reads) c.self.inside.directory.0 c.args.self.now.outside c.write.new.self.0 (g.O.Directory.state_of c.in-Some.file.writer.writer).name c.args.name (ap (λ v. v.outside) c.self.view_is) file.name_is (c.write.ensures.touches.others tells)
 
 pub returns-in_err-write-clause-closed : goal.returns-in_err-write-clause-closed
-returns-in_err-write-clause-closed g c = on_err c.from_residual.result _ (bodies_left (λ w. (g.O.Directory.state_of w).written) c.self.inside.files.entries c.remove.new.self.entries c.args.self.now.2 _ c.remove.ensures.entries (ap (λ v. v.2) c.self.view_is))
+returns-in_err-write-clause-closed g c = on_err c.from_residual.result _ (bodies_left (λ w. (g.O.Directory.state_of w).written) c.self.inside.files.entries c.remove.new.self.entries c.args.self.now.open_files _ c.remove.ensures.entries (ap (λ v. v.open_files) c.self.view_is))
 
 pub overflow_add-len : goal.overflow_add-len
 overflow_add-len g c =
     let file = found_open g.O.Directory c.self.inside.directory.0 c.self.inside.files.entries c.args.name c.in-Some.file c.in-Some.ensures.value c.self.invariant in
-    let sum : c.in-Some.file.len + length c.args.bytes.now < 18446744073709551616 = longer_fits _ _ _ file.len_is (c.requires.fits (g.O.Directory.state_of c.in-Some.file.writer.writer).written (body_is (λ w. (g.O.Directory.state_of w).written) c.self.inside.files.entries c.args.self.now.2 c.args.name c.in-Some.file (ap (λ v. v.2) c.self.view_is) c.in-Some.ensures.value)) in
+    let sum : c.in-Some.file.len + length c.args.bytes.now < 18446744073709551616 = longer_fits _ _ _ file.len_is (c.requires.fits (g.O.Directory.state_of c.in-Some.file.writer.writer).written (body_is (λ w. (g.O.Directory.state_of w).written) c.self.inside.files.entries c.args.self.now.open_files c.args.name c.in-Some.file (ap (λ v. v.open_files) c.self.view_is) c.in-Some.ensures.value)) in
     omega arith
 
 pub invariant_of-self-in_err-insert : goal.invariant_of-self-in_err-insert
@@ -34,11 +34,11 @@ invariant_of-self-in_err-insert g c = same_open g.O.Directory c.write.new.self.0
 pub returns-in_err-insert-clause-others : goal.returns-in_err-insert-clause-others
 returns-in_err-insert-clause-others g c tells =
     let file = found_open g.O.Directory c.self.inside.directory.0 c.self.inside.files.entries c.args.name c.in-Some.file c.in-Some.ensures.value c.self.invariant in
-    others_kept (λ d. (g.O.Directory.view d).reads) c.self.inside.directory.0 c.args.self.now.0 c.write.new.self.0 (g.O.Directory.state_of c.in-Some.file.writer.writer).name c.args.name (ap (λ v. v.0) c.self.view_is) file.name_is (c.write.ensures.touches.others tells)
+    others_kept (λ d. (g.O.Directory.view d).reads) c.self.inside.directory.0 c.args.self.now.outside c.write.new.self.0 (g.O.Directory.state_of c.in-Some.file.writer.writer).name c.args.name (ap (λ v. v.outside) c.self.view_is) file.name_is (c.write.ensures.touches.others tells)
 
 pub returns-in_err-insert-clause-closed : goal.returns-in_err-insert-clause-closed
 returns-in_err-insert-clause-closed g c =
-    on_err c.from_residual-in_err-insert.result _ (bodies_left (λ w. (g.O.Directory.state_of w).written) c.self.inside.files.entries c.insert.new.self.entries c.args.self.now.2 _ (c.in_err-insert.ensures.err ∙ c.remove.ensures.entries) (ap (λ v. v.2) c.self.view_is))
+    on_err c.from_residual-in_err-insert.result _ (bodies_left (λ w. (g.O.Directory.state_of w).written) c.self.inside.files.entries c.insert.new.self.entries c.args.self.now.open_files _ (c.in_err-insert.ensures.err ∙ c.remove.ensures.entries) (ap (λ v. v.open_files) c.self.view_is))
 
 pub invariant_of-self-2 : goal.invariant_of-self-2
 invariant_of-self-2 g c =
@@ -50,14 +50,14 @@ invariant_of-self-2 g c =
 
 pub returns-clause-written : goal.returns-clause-written
 returns-clause-written g c body there =
-    let left = bodies_left (λ w. (g.O.Directory.state_of w).written) c.self.inside.files.entries c.remove.new.self.entries c.args.self.now.2 _ c.remove.ensures.entries (ap (λ v. v.2) c.self.view_is) in
-    let same = same_body_is (λ w. (g.O.Directory.state_of w).written) c.self.inside.files.entries c.args.self.now.2 c.args.name c.in-Some.file body (ap (λ v. v.2) c.self.view_is) c.in-Some.ensures.value there in
+    let left = bodies_left (λ w. (g.O.Directory.state_of w).written) c.self.inside.files.entries c.remove.new.self.entries c.args.self.now.open_files _ c.remove.ensures.entries (ap (λ v. v.open_files) c.self.view_is) in
+    let same = same_body_is (λ w. (g.O.Directory.state_of w).written) c.self.inside.files.entries c.args.self.now.open_files c.args.name c.in-Some.file body (ap (λ v. v.open_files) c.self.view_is) c.in-Some.ensures.value there in
     bodies_put (λ w. (g.O.Directory.state_of w).written) c.remove.new.self.entries c.insert.new.self.entries _ c.args.name _ _ c.in_ok-insert.ensures.entries left (more_is _ _ _ _ c.in_ok-write.ensures.appends.ok same)
 
 pub returns-clause-others : goal.returns-clause-others
 returns-clause-others g c tells =
     let file = found_open g.O.Directory c.self.inside.directory.0 c.self.inside.files.entries c.args.name c.in-Some.file c.in-Some.ensures.value c.self.invariant in
-    others_kept (λ d. (g.O.Directory.view d).reads) c.self.inside.directory.0 c.args.self.now.0 c.write.new.self.0 (g.O.Directory.state_of c.in-Some.file.writer.writer).name c.args.name (ap (λ v. v.0) c.self.view_is) file.name_is (c.write.ensures.touches.others tells)
+    others_kept (λ d. (g.O.Directory.view d).reads) c.self.inside.directory.0 c.args.self.now.outside c.write.new.self.0 (g.O.Directory.state_of c.in-Some.file.writer.writer).name c.args.name (ap (λ v. v.outside) c.self.view_is) file.name_is (c.write.ensures.touches.others tells)
 
 pub returns-clause-there : goal.returns-clause-there
 returns-clause-there g c tells =

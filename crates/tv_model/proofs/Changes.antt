@@ -1,0 +1,175 @@
+-- What a step can do to a state: a property that each such change leads to holds after the step.
+use Rattle.std.proofs.Common.{◌≡◌, ◌≢◌, ℕ, Bool, false, List, [], ◌∷◌, ◌++◌, Option, Some, None, refl, sym, ap, subst, codes, arith, ◌==◌}
+use Rattle.std.specs.Prelude.{is_some, option_map}
+use Rattle.std.proofs.lemmas.Bool.Decides.{nat_tests}
+use Rattle.std.specs.Fmt.{decimal}
+use Rattle.hex.specs.Hex.{encode_lower}
+use Rattle.tv_model.specs.declared.event.Event.{Event}
+use Rattle.tv_model.specs.declared.event.Event.TheVariants as events
+use Rattle.tv_model.specs.declared.reload_policy.ReloadPolicy.{ReloadPolicy}
+use Rattle.tv_model.specs.declared.segment.DeleteMeta.{DeleteMeta}
+use Rattle.tv_model.specs.declared.segment.LiveSegment.{LiveSegment}
+use Rattle.tv_model.specs.declared.segment.SegmentComponent.{SegmentComponent}
+use Rattle.tv_model.specs.Footer.{IsGood, sealed}
+use Rattle.tv_model.specs.Segments.{name_of}
+use Rattle.tv_model.specs.State.{Catalog, State, StepResult, FileState, Sealed, Open, Left, Readers, Reader, live_at, file_at, with_file, with_live, reader_at, searcher_at, on_catalog}
+use Rattle.tv_model.specs.Lines.{line, words_of}
+use Rattle.tv_model.specs.SegmentEvents.{is_in_use, fresh_segment, has_docs}
+use Rattle.tv_model.specs.FileEvents.{opened, lacks_deletes, written_to}
+use Rattle.tv_model.specs.CommitEvents.{last_stamp, chosen, first_unknown, first_unsealed, committed}
+use Rattle.tv_model.specs.CollectionEvents.{gc_step, released}
+use Rattle.tv_model.specs.ReaderEvents.{snapshot_in, with_new_reader, with_reloaded, without_reader}
+use Rattle.tv_model.specs.SearcherEvents.{with_searcher, without_searcher, body_at}
+use Rattle.tv_model.specs.Machine.{Turn, catalog_step, step, after}
+use Rattle.tv_model.proofs.Bodies.{sealed_is_good}
+use Rattle.tv_model.proofs.Refusals.{unless_all, given_all}
+
+-- how who reads changes in a step
+pub data ReadersMove (t : State) (now : Readers) : Type 0 where
+  -- a reader comes, and shows the current commit
+  Comes : (policy : ReloadPolicy) → now ≡ (with_new_reader t.catalog policy (snapshot_in t 0)).reading → ReadersMove t now
+  -- a reader shows the current commit
+  Reloads : (n : ℕ) (reader : Reader) → reader_at t.catalog n ≡ Some reader → now ≡ (with_reloaded t.catalog n reader (snapshot_in t reader.next)).reading → ReadersMove t now
+  -- a reader ends
+  Leaves : (n : ℕ) → now ≡ (without_reader t.catalog n).reading → ReadersMove t now
+  -- a searcher comes, and shows what a reader shows
+  Searches : (n : ℕ) (reader : Reader) → reader_at t.catalog n ≡ Some reader → now ≡ (with_searcher t.catalog reader.shown).reading → ReadersMove t now
+  -- a searcher ends
+  Ends : (n : ℕ) → now ≡ (without_searcher t.catalog n).reading → ReadersMove t now
+
+-- what holds of each state to which this event can lead
+pub record OfEachChange (P : State → Type 0) (s : State) (event : Event) : Type 0 where
+  -- nothing changes
+  pub same : P s
+  -- a segment is live, with these numbers
+  pub lives : (id : List ℕ) (segment : LiveSegment) → P (record s { catalog = with_live s.catalog id segment })
+  -- who reads changes
+  pub reads : (now : Readers) → ReadersMove s now → P (record s { catalog = record s.catalog { reading = now } })
+  -- a file comes
+  pub opens : (id : List ℕ) (deletes : Option DeleteMeta) (component : SegmentComponent) → event ≡ events.Open id component → is_some (file_at s (name_of id deletes component)) ≡ false → P (opened s (name_of id deletes component)).1
+  -- an open file is another one, or is sealed with its footer
+  pub puts : (name body : List ℕ) (file : FileState) → file_at s name ≡ Some (Open body) → ((bytes : List ℕ) → file ≡ Sealed bytes → IsGood bytes) → P (with_file s name file)
+  -- segments whose files are sealed are committed
+  pub commits : (payload : Option (List ℕ)) (segments : List (List ℕ × LiveSegment)) → s.catalog.next ≢ last_stamp → first_unsealed s segments ≡ None → P (on_catalog s (committed s.catalog payload segments)).1
+  -- files that nothing needs are gone
+  pub collects : (outcomes : List Bool) → P (gc_step s outcomes).1
+  -- a segment is live no more
+  pub releases : (id : List ℕ) (segment : LiveSegment) → P (released s id segment).1
+
+other : (a b : ℕ) → (a == b) ≡ false → a ≢ b
+other a b e = grind (arith, nat_tests)
+
+none_is : {X : Type 0} (x : Option X) → is_some x ≡ false → x ≡ None
+none_is None e = refl
+none_is (Some x) e = absurd cc
+
+-- what was written is that of an open file
+is_open : (file : Option FileState) (body : List ℕ) → written_to file ≡ Some body → file ≡ Some (Open body)
+is_open None body e = absurd cc
+is_open (Some (Sealed bytes)) body e = absurd cc
+is_open (Some (Open bytes)) body e = cc
+is_open (Some Left) body e = absurd cc
+
+sealed_is : (body bytes : List ℕ) → Sealed (sealed body) ≡ Sealed bytes → bytes ≡ sealed body
+sealed_is body bytes e = cc
+
+-- what holds of each change that an event makes that touches no file
+pub record OfEachCatalog (P : Catalog → Type 0) (c : Catalog) (event : Event) : Type 0 where
+  pub same : P c
+  pub fresh : (id : List ℕ) → event ≡ events.Segment id → P (with_live c id fresh_segment)
+  pub said : (id : List ℕ) (n : ℕ) (segment : LiveSegment) → event ≡ events.Docs id n → live_at c id ≡ Some segment → has_docs segment ≡ false → P (with_live c id (record segment { max_doc = n }))
+  pub shows : (number : ℕ) (reader : Reader) → event ≡ events.Searcher number → reader_at c number ≡ Some reader → P (with_searcher c reader.shown)
+  pub reader : (number : ℕ) → P (without_reader c number)
+  pub searcher : (number : ℕ) → P (without_searcher c number)
+
+pub the_step : {S : Type 0} {a b : S} → Some a ≡ Some b → a ≡ b
+the_step e = cc
+
+-- such an event makes one of these changes
+pub catalog_changes : (P : Catalog → Type 0) (c : Catalog) (managed : List (List ℕ)) (event : Event) (result : StepResult Catalog) → OfEachCatalog P c event → catalog_step c managed event ≡ Some result → P result.1
+catalog_changes P c managed (events.Segment id) result of e =
+    subst (λ (t : StepResult Catalog). P t.1) (the_step e)
+    (unless_all (λ t. P t.1) c ((is_in_use c managed id, codes "id-in-use" ∷ []) ∷ []) (line (codes "segment") (encode_lower id ∷ []), with_live c id fresh_segment) (λ words. of.same) (λ none. of.fresh id refl))
+catalog_changes P c managed (events.Docs id n) result of e =
+    subst (λ (t : StepResult Catalog). P t.1) (the_step e)
+    (given_all (λ t. P t.1) c (live_at c id) _ _ of.same (λ segment there.
+    unless_all (λ t. P t.1) c ((has_docs segment, codes "wrong-docs" ∷ []) ∷ []) (line (codes "docs") (encode_lower id ∷ decimal n ∷ []), with_live c id (record segment { max_doc = n })) (λ words. of.same) (λ none. of.said id n segment refl there none.0)))
+catalog_changes P c managed (events.Searcher number) result of e =
+    subst (λ (t : StepResult Catalog). P t.1) (the_step e) (given_all (λ t. P t.1) c (reader_at c number) _ _ of.same (λ reader there. of.shows number reader refl there))
+catalog_changes P c managed (events.Show number) result of e =
+    subst (λ (t : StepResult Catalog). P t.1) (the_step e) (given_all (λ t. P t.1) c (searcher_at c number) _ _ of.same (λ shown there. of.same))
+catalog_changes P c managed (events.Bytes number ord component) result of e =
+    subst (λ (t : StepResult Catalog). P t.1) (the_step e)
+    (given_all (λ t. P t.1) c (searcher_at c number) _ _ of.same (λ shown there. given_all (λ t. P t.1) c (body_at shown ord component) _ _ of.same (λ body found. of.same)))
+catalog_changes P c managed (events.ReleaseReader number) result of e =
+    subst (λ (t : StepResult Catalog). P t.1) (the_step e) (given_all (λ t. P t.1) c (reader_at c number) _ _ of.same (λ reader there. of.reader number))
+catalog_changes P c managed (events.ReleaseSearcher number) result of e =
+    subst (λ (t : StepResult Catalog). P t.1) (the_step e) (given_all (λ t. P t.1) c (searcher_at c number) _ _ of.same (λ shown there. of.searcher number))
+catalog_changes P c managed events.Managed result of e = subst (λ (t : StepResult Catalog). P t.1) (the_step e) of.same
+catalog_changes P c managed other result of e = absurd cc
+
+-- it is a step of the machine
+pub lifted : (s : State) (event : Event) (outcomes : List Bool) (result : StepResult Catalog) → catalog_step s.catalog s.managed event ≡ Some result → step s event outcomes ≡ on_catalog s result
+lifted s (events.Segment id) outcomes result e = ap (on_catalog s) (the_step e)
+lifted s (events.Docs id n) outcomes result e = ap (on_catalog s) (the_step e)
+lifted s (events.Searcher number) outcomes result e = ap (on_catalog s) (the_step e)
+lifted s (events.Show number) outcomes result e = ap (on_catalog s) (the_step e)
+lifted s (events.Bytes number ord component) outcomes result e = ap (on_catalog s) (the_step e)
+lifted s (events.ReleaseReader number) outcomes result e = ap (on_catalog s) (the_step e)
+lifted s (events.ReleaseSearcher number) outcomes result e = ap (on_catalog s) (the_step e)
+lifted s events.Managed outcomes result e = ap (on_catalog s) (the_step e)
+lifted s other outcomes result e = absurd cc
+
+-- the state after a step of an event that touches files
+abbrev After : (State → Type 0) → StepResult State → Type 0
+After P result = P result.1
+
+file_changes : (P : State → Type 0) (s : State) (event : Event) (outcomes : List Bool) → catalog_step s.catalog s.managed event ≡ None → OfEachChange P s event → P (step s event outcomes).1
+file_changes P s (events.Open id component) outcomes e of =
+    given_all (After P) s (live_at s.catalog id) _ _ of.same (λ segment is.
+    let name = name_of id segment.deletes component in
+    unless_all (After P) s ((lacks_deletes segment component, codes "no-deletes" ∷ []) ∷ (is_some (file_at s name), codes "exists" ∷ []) ∷ []) (opened s name) (λ words. of.same) (λ none.
+    of.opens id segment.deletes component refl none.1.0))
+file_changes P s (events.Write id component bytes) outcomes e of =
+    given_all (After P) s (live_at s.catalog id) _ _ of.same (λ segment is.
+    given_all (After P) s (written_to (file_at s (name_of id segment.deletes component))) _ _ of.same (λ body e.
+    of.puts (name_of id segment.deletes component) body (Open (body ++ bytes)) (is_open _ body e) (λ others k. absurd cc)))
+file_changes P s (events.Seal id component) outcomes e of =
+    given_all (After P) s (live_at s.catalog id) _ _ of.same (λ segment is.
+    given_all (After P) s (written_to (file_at s (name_of id segment.deletes component))) _ _ of.same (λ body e.
+    of.puts (name_of id segment.deletes component) body (Sealed (sealed body)) (is_open _ body e) (λ bytes k. sealed_is_good body bytes (sealed_is body bytes k))))
+file_changes P s (events.Commit payload ids) outcomes e of =
+    let segments = chosen s.catalog ids in
+    unless_all (After P) s (
+    (s.catalog.next == last_stamp, codes "stamps-spent" ∷ [])
+    ∷ (is_some (first_unknown s.catalog ids), codes "unknown-segment" ∷ words_of (option_map encode_lower (first_unknown s.catalog ids)))
+    ∷ (is_some (first_unsealed s segments), codes "unsealed" ∷ words_of (first_unsealed s segments))
+    ∷ []
+    ) (on_catalog s (committed s.catalog payload segments)) (λ words. of.same) (λ none. of.commits payload segments (other s.catalog.next last_stamp none.0) (none_is (first_unsealed s segments) none.1.1.0))
+file_changes P s events.Gc outcomes e of = of.collects outcomes
+file_changes P s (events.Reader policy) outcomes e of = of.reads _ (Comes policy refl)
+file_changes P s (events.Reload number) outcomes e of =
+    given_all (λ (t : StepResult Catalog). P (on_catalog s t).1) s.catalog (reader_at s.catalog number) _ _ of.same (λ reader is. of.reads _ (Reloads number reader is refl))
+file_changes P s (events.ReleaseSegment id) outcomes e of = given_all (After P) s (live_at s.catalog id) _ _ of.same (λ segment is. of.releases id segment)
+file_changes P s other outcomes e of = absurd cc
+
+-- a step makes one of these changes
+pub step_changes : (P : State → Type 0) (s : State) (event : Event) (outcomes : List Bool) → OfEachChange P s event → P (step s event outcomes).1
+step_changes P s event outcomes of = by_half (catalog_step s.catalog s.managed event) refl where
+  by_half : (told : Option (StepResult Catalog)) → catalog_step s.catalog s.managed event ≡ told → P (step s event outcomes).1
+  by_half None e = file_changes P s event outcomes e of
+  by_half (Some result) e =
+      subst (λ (t : StepResult State). P t.1) (sym (lifted s event outcomes result e))
+      (catalog_changes (λ c. P (record s { catalog = c })) s.catalog s.managed event result (record {
+        same = of.same;
+        fresh = λ id is. of.lives id fresh_segment;
+        said = λ id n segment is there none. of.lives id (record segment { max_doc = n });
+        shows = λ number reader is there. of.reads _ (Searches number reader there refl);
+        reader = λ number. of.reads _ (Leaves number refl);
+        searcher = λ number. of.reads _ (Ends number refl);
+      }) e)
+
+-- what each step keeps holds after a run
+pub after_kept : (P : State → Type 0) → ((s : State) (event : Event) (outcomes : List Bool) → P s → P (step s event outcomes).1) → (s : State) (turns : List Turn) → P s → P (after s turns)
+after_kept P kept s [] h = h
+after_kept P kept s (turn ∷ turns) h = after_kept P kept (step s turn.0 turn.1).1 turns (kept s turn.0 turn.1 h)

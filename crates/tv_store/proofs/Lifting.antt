@@ -1,0 +1,108 @@
+-- The events that touch no file, as steps of the machine.
+use Rattle.std.proofs.Common.{ℕ, ◌≡◌, ◌+◌, ◌<◌, ◌^◌, Bool, true, false, true≢false, not, ◌==◌, ◌||◌, List, Option, Some, None, refl, sym, subst, arith}
+use Rattle.std.specs.Prelude.{is_some}
+use Rattle.std.specs.List.{AllByRecursion}
+use Rattle.tv_model.specs.declared.event.Event.{Event}
+use Rattle.tv_model.specs.declared.event.Event.TheVariants as events
+use Rattle.tv_model.specs.declared.segment.DeleteMeta.{DeleteMeta}
+use Rattle.tv_model.specs.declared.segment.LiveSegment.{LiveSegment}
+use Rattle.tv_model.specs.Segments.{num_deleted}
+use Rattle.tv_directory.specs.Watch.{WatchState}
+use Rattle.tv_model.specs.Commits.{Commit, IsSegment, Means, default_settings}
+use Rattle.tv_model.specs.Files.{Reads}
+use Rattle.tv_model.specs.Machine.{catalog_step}
+use Rattle.tv_model.specs.Readable.{ReadsGood}
+use Rattle.tv_model.specs.SearcherEvents.{with_searcher}
+use Rattle.tv_model.specs.SegmentEvents.{fresh_segment, has_docs}
+use Rattle.tv_model.specs.State.{Catalog, State, StepResult, on_catalog}
+use Rattle.tv_model.proofs.Changes.{catalog_changes}
+use Rattle.tv_store.specs.Applying.{MayNoteAt, written_by}
+use Rattle.tv_store.specs.Catalogs.{FitsCatalog}
+use Rattle.tv_store.specs.Kept.{Kept, Holds}
+use Rattle.tv_store.specs.ReadCauses.{TakesMetaLock}
+use Rattle.tv_store.specs.ReaderNumbers.{FewNumbers}
+use Rattle.tv_store.proofs.FewNumbers.{few_more}
+use Rattle.tv_store.proofs.Named.{put_segments, found_segment, fresh_is}
+use Rattle.tv_store.proofs.ReaderNumbers.{few_released}
+
+-- the current commit stays
+pub commit_stays : (c : Catalog) (managed : List (List ℕ)) (event : Event) (result : StepResult Catalog) → catalog_step c managed event ≡ Some result → result.1.commit ≡ c.commit
+commit_stays c managed event result =
+    catalog_changes (λ d. d.commit ≡ c.commit) c managed event result (record {
+      same = refl;
+      fresh = λ id is. refl;
+      said = λ id n segment is there none. refl;
+      shows = λ number reader is there. refl;
+      reader = λ number. refl;
+      searcher = λ number. refl;
+    })
+
+-- a segment without documents has no deletes
+undeleted : (deletes : Option DeleteMeta) (first : Bool) → (first || is_some deletes) ≡ false → num_deleted deletes ≡ 0
+undeleted None first e = refl
+undeleted (Some meta) true e = absurd (true≢false e)
+undeleted (Some meta) false e = absurd (true≢false e)
+
+-- live segments are segments still
+segments_stay : (c : Catalog) (managed : List (List ℕ)) (event : Event) (result : StepResult Catalog) → FitsCatalog event → AllByRecursion IsSegment c.live → catalog_step c managed event ≡ Some result → AllByRecursion IsSegment result.1.live
+segments_stay c managed event result fits all =
+    catalog_changes (λ d. AllByRecursion IsSegment d.live) c managed event result (record {
+      same = all;
+      fresh = λ id is. put_segments c.live id fresh_segment (fresh_is id (subst FitsCatalog is fits)) all;
+      said = λ id n segment is there none.
+          let known = found_segment c.live id segment there all in
+          put_segments c.live id (record segment { max_doc = n }) (numbered segment n id none known (subst FitsCatalog is fits).1) all;
+      shows = λ number reader is there. all;
+      reader = λ number. all;
+      searcher = λ number. all;
+    }) where
+      numbered : (segment : LiveSegment) (n : ℕ) (id : List ℕ) → has_docs segment ≡ false → IsSegment (id, segment) → n < 2 ^ 32 → IsSegment (id, record segment { max_doc = n })
+      numbered segment n id none known small = record { id = known.id; max_doc = small; deletes = omega (arith, undeleted segment.deletes (not (segment.max_doc == 0)) none); opstamp = known.opstamp }
+
+-- the numbers of who reads are few still
+pub numbers_grow : (bound : ℕ) (c : Catalog) (managed : List (List ℕ)) (event : Event) (result : StepResult Catalog) → FewNumbers bound c.reading → catalog_step c managed event ≡ Some result → FewNumbers (bound + written_by event) result.1.reading
+numbers_grow bound c managed event result few =
+    catalog_changes (λ d. FewNumbers (bound + written_by event) d.reading) c managed event result (record {
+      same = more;
+      fresh = λ id is. more;
+      said = λ id n segment is there none. more;
+      shows = λ number reader is there. subst (λ (e : Event). FewNumbers (bound + written_by e) (with_searcher c reader.shown).reading) (sym is) (record {
+        next_reader = omega (arith, few.next_reader);
+        next_searcher = omega (arith, few.next_searcher);
+        next_snapshots = (few_more bound 1 c.reading few).next_snapshots;
+      });
+      reader = λ number. few_released (bound + written_by event) c.reading _ number refl more;
+      searcher = λ number. record { next_reader = more.next_reader; next_searcher = more.next_searcher; next_snapshots = more.next_snapshots };
+    }) where
+      more : FewNumbers (bound + written_by event) c.reading
+      more = few_more bound (written_by event) c.reading few
+
+-- it reads no file, takes no lock and leaves no notice
+pub record Plain (event : Event) : Type 0 where
+  pub reads : (s : State) → ReadsGood s event
+  pub free : (kept : Kept) → TakesMetaLock kept event → ⊥
+  pub notes : (old new : WatchState) → new ≡ old → MayNoteAt event old new
+
+pub plain_event : (c : Catalog) (managed : List (List ℕ)) (event : Event) (result : StepResult Catalog) → catalog_step c managed event ≡ Some result → Plain event
+plain_event c managed (events.Commit payload ids) result e = absurd cc
+plain_event c managed events.Gc result e = absurd cc
+plain_event c managed (events.Reader policy) result e = absurd cc
+plain_event c managed (events.Reload number) result e = absurd cc
+plain_event c managed other result e = record { reads = λ s. tt; free = λ kept takes. takes; notes = λ o n same. same }
+
+-- what is held after it
+pub catalog_held : (reads : Reads) (kept : Kept) (s : State) (event : Event) (result : StepResult Catalog) → FitsCatalog event → catalog_step kept.catalog kept.managed event ≡ Some result → Holds reads kept s
+    → Holds reads (record kept { catalog = result.1 }) (on_catalog s result).1
+catalog_held reads kept s event result fits e h =
+    let here : catalog_step s.catalog s.managed event ≡ Some result = subst (λ (c : Catalog). catalog_step c s.managed event ≡ Some result) h.catalog (subst (λ (names : List (List ℕ)). catalog_step kept.catalog names event ≡ Some result) h.managed e) in
+    record {
+      catalog = refl;
+      managed = h.managed;
+      segments = segments_stay s.catalog s.managed event result fits h.segments here;
+      names = h.names;
+      files = h.files;
+      left = h.left;
+      meta = (h.meta.0, h.meta.1, subst (λ (commit : Commit). Means default_settings kept.schema h.meta.0 commit) (sym (commit_stays s.catalog s.managed event result here)) h.meta.2);
+      listing = h.listing;
+      listed = h.listed;
+    }

@@ -1,0 +1,312 @@
+-- Entries and names that are taken out: of maps, of sets, and of the open files.
+use Rattle.std.proofs.Common.{◌≡◌, ◌≢◌, ℕ, zero, suc, ◌+◌, ◌≤◌, ◌<◌, inl, inr, Bool, true, false, cond, not, ◌&&◌, ◌||◌, List, [], ◌∷◌, ◌++◌, map, length, get_or, drop, drop-cons, Option, Some, None, option_map, is_some, refl, sym, ap, subst, ◌∙◌, arith, append_assoc}
+use Rattle.std.specs.Prelude.{Contains}
+use Rattle.std.specs.List.{AllByRecursion, list_all, list_any}
+use Rattle.std.specs.Map.{remove_entry}
+use Rattle.std.specs.BTreeMap.{is_at}
+use Rattle.std.specs.BTreeSet.{insert_key}
+use Rattle.tv_model.specs.Names.{byte_cmp, is, has, is_plain, is_file_name, list_name}
+use Rattle.tv_model.specs.Collections.{done_of, failed_of, collectable}
+use Rattle.tv_model.specs.State.{at}
+use Rattle.tv_model.proofs.Entries.{same_at, text_at, at_itself, is_text, is_by_order, has_put}
+use Rattle.tv_model.proofs.PlainNames.{both}
+use Rattle.tv_model.proofs.CollectionStates.{has_without}
+use Rattle.tv_directory.specs.View.{GoesOn}
+use Rattle.tv_directory.specs.declared.directory.Directory.{Ghosts}
+use Rattle.tv_managed.specs.Collecting.{Among, Leaves, Tries, SparesWriters, names_of}
+use Rattle.tv_managed.specs.declared.collecting.GarbageCollectionResult.{GarbageCollectionResult}
+use Rattle.tv_managed.proofs.Removals.{all_filtered}
+use Rattle.tv_store.specs.FileCalls.{Tried}
+use Rattle.tv_store.specs.declared.files.OpenFile.{OpenFile}
+use Rattle.tv_store.specs.OpenFiles.{IsOpenFile}
+use Rattle.tv_store.proofs.OpenFiles.{all_left, AreOpen, bodies, at_seen}
+
+-- ---- entries
+
+all_at : {A : Type 0} (P : A → Type 0) (xs : List A) (i : ℕ) (x : A) → AllByRecursion P xs → i < length xs → x ≡ get_or xs i x → P x
+all_at P [] i x h lt is = absurd (omega arith)
+all_at P (y ∷ ys) zero x h lt is = subst P (sym is) h.0
+all_at P (y ∷ ys) (suc i) x h lt is = all_at P ys i x h.1 (omega arith) is
+
+-- what is true of each entry of a list is true of one that it contains
+all_contained : {X : Type 0} (P : X → Type 0) (xs : List X) (x : X) → AllByRecursion P xs → Contains xs x → P x
+all_contained P xs x h c = all_at P xs c.0 x h c.1 (sym c.2)
+
+further : {X : Type 0} (x : X) (xs : List X) (y : X) → Contains xs y → Contains (x ∷ xs) y
+further x xs y c = (suc c.0, omega (arith, c.1), c.2)
+
+all_further : {X : Type 0} (x : X) (xs ys : List X) → AllByRecursion (Contains xs) ys → AllByRecursion (Contains (x ∷ xs)) ys
+all_further x xs [] h = tt
+all_further x xs (y ∷ ys) h = (further x xs y h.0, all_further x xs ys h.1)
+
+-- a list contains what it contains
+pub contains_itself : {X : Type 0} (xs : List X) → AllByRecursion (Contains xs) xs
+contains_itself [] = tt
+contains_itself (x ∷ xs) = ((0, omega arith, refl), all_further x xs xs (contains_itself xs))
+
+-- what is true of each entry is true of those that are left
+all_still : {X : Type 0} (P : X → Type 0) (xs ys : List X) → AllByRecursion P xs → AllByRecursion (Contains xs) ys → AllByRecursion P ys
+all_still P xs [] h k = tt
+all_still P xs (y ∷ ys) h k = (all_contained P xs y h k.0, all_still P xs ys h k.1)
+
+-- what is true of each entry is true of those that are left of them
+pub removed_still : {X : Type 0} (first es new : List (List ℕ × X)) (test : List ℕ → Bool) → new ≡ remove_entry test es → AllByRecursion (Contains first) es → AllByRecursion (Contains first) new
+removed_still first es new test cut h = subst (AllByRecursion (Contains first)) (sym cut) (all_left (Contains first) es test h)
+
+-- the rest of a list begins with the element that comes next
+pub drop_here : {A : Type 0} (xs : List A) (i : ℕ) (x : A) → i < length xs → x ≡ get_or xs i x → drop i xs ≡ x ∷ drop (i + 1) xs
+drop_here {A} xs i x h is =
+    let next : suc i ≡ i + 1 = omega arith in
+    drop-cons xs i x h ∙ ap (λ (n : ℕ). get_or xs i x ∷ drop n xs) next ∙ ap (λ (y : A). y ∷ drop (i + 1) xs) (sym is)
+
+-- entries but one that was taken out
+at_removed : {X : Type 0} (es : List (List ℕ × X)) (k q : List ℕ) → is_at (byte_cmp k) q ≡ false → at (remove_entry (is_at (byte_cmp k)) es) q ≡ at es q
+at_removed [] k q other = refl
+at_removed {X} (e ∷ es) k q other =
+    elim (is_at (byte_cmp k) e.0) as (λ b. is_at (byte_cmp k) e.0 ≡ b → at (cond b es (e ∷ remove_entry (is_at (byte_cmp k)) es)) q ≡ at (e ∷ es) q) [
+      | true ↦ λ here.
+          let missed : is_at (byte_cmp q) e.0 ≡ false = subst (λ (n : List ℕ). is_at (byte_cmp q) n ≡ false) (text_at k e.0 here) (same_at q k ∙ other) in
+          sym (ap (λ (b : Bool). cond b (Some e.1) (at es q)) missed)
+      | false ↦ λ there. ap (λ (o : Option X). cond (is_at (byte_cmp q) e.0) (Some e.1) o) (at_removed es k q other)
+    ] refl
+
+-- two texts that are the same compare alike
+test_is : (x n : List ℕ) → is_at (byte_cmp x) n ≡ is x n
+test_is x n = same_at x n ∙ sym (is_by_order n x)
+
+-- what stands at a name after one was taken out
+pub at_closed : {X : Type 0} (es new : List (List ℕ × X)) (x n : List ℕ) → new ≡ remove_entry (is_at (byte_cmp x)) es → at new x ≡ None → at new n ≡ cond (is x n) None (at es n)
+at_closed {X} es new x n cut closed =
+    elim (is x n) as (λ b. is x n ≡ b → at new n ≡ cond b None (at es n)) [
+      | true ↦ λ e. ap (at new) (sym (is_text x n e)) ∙ closed
+      | false ↦ λ e. ap (λ (fs : List (List ℕ × X)). at fs n) cut ∙ at_removed es x n (test_is x n ∙ e)
+    ] refl
+
+gone_twice : {X : Type 0} (b r : Bool) (o : Option X) → cond r None (cond b None o) ≡ cond (b || r) None o
+gone_twice true true o = refl
+gone_twice true false o = refl
+gone_twice false r o = refl
+
+-- one more name was taken out
+pub one_gone : {X : Type 0} (es new : List (List ℕ × X)) (x : List ℕ) (names rest : List (List ℕ)) (n : List ℕ) (all : Option X) → names ≡ x ∷ rest → at new n ≡ cond (is_at (byte_cmp x) n) None (at es n)
+    → cond (has names n) None (at es n) ≡ all → cond (has rest n) None (at new n) ≡ all
+one_gone {X} es new x names rest n all split cut h =
+    ap (λ (o : Option X). cond (has rest n) None o) (cut ∙ ap (λ (b : Bool). cond b None (at es n)) (test_is x n))
+    ∙ gone_twice (is x n) (has rest n) (at es n) ∙ ap (λ (ns : List (List ℕ)). cond (has ns n) None (at es n)) (sym split) ∙ h
+
+-- whether a list has a name, by the test of a set
+pub had : (names : List (List ℕ)) (n : List ℕ) → list_any (is_at (byte_cmp n)) names ≡ has names n
+had [] n = refl
+had (x ∷ names) n = rw (is_by_order n x, had names n) refl
+
+out_twice : (b r o : Bool) → (not r && (cond b false o)) ≡ (not (b || r) && o)
+out_twice true true o = refl
+out_twice true false o = refl
+out_twice false r o = refl
+
+-- the same of a set of names
+pub one_out : (keys new : List (List ℕ)) (x : List ℕ) (names rest : List (List ℕ)) (n : List ℕ) (all : Bool) → names ≡ x ∷ rest
+    → list_any (is_at (byte_cmp n)) new ≡ cond (is_at (byte_cmp x) n) false (list_any (is_at (byte_cmp n)) keys)
+    → (not (has names n) && has keys n) ≡ all → (not (has rest n) && has new n) ≡ all
+one_out keys new x names rest n all split cut h =
+    let now : has new n ≡ cond (is x n) false (has keys n) =
+    sym (had new n) ∙ cut ∙ ap (λ (b : Bool). cond b false (list_any (is_at (byte_cmp n)) keys)) (test_is x n) ∙ ap (λ (o : Bool). cond (is x n) false o) (had keys n) in
+    ap (λ (b : Bool). not (has rest n) && b) now ∙ out_twice (is x n) (has rest n) (has keys n) ∙ ap (λ (ns : List (List ℕ)). not (has ns n) && has keys n) (sym split) ∙ h
+
+-- the first entry stands at its key
+key_at : {X : Type 0} (e : List ℕ × X) (es : List (List ℕ × X)) → at (e ∷ es) e.0 ≡ Some e.1
+key_at e es = rw (at_itself e.0) refl
+
+-- where nothing stands at some names, no entry has one of them
+keys_away : {X : Type 0} (gone : List (List ℕ)) (es : List (List ℕ × X)) → ((n : List ℕ) → has gone n ≡ true → at es n ≡ None) → AllByRecursion (λ e. has gone e.0 ≡ false) es
+keys_away gone [] h = tt
+keys_away {X} gone (e ∷ es) h = (
+  elim (has gone e.0) as (λ b. has gone e.0 ≡ b → b ≡ false) [
+    | true ↦ λ g. let k : Some e.1 ≡ None = sym (key_at e es) ∙ h e.0 g in absurd cc
+    | false ↦ λ g. refl
+  ] refl,
+  keys_away gone es (λ n g. rest n (h n g)),
+)
+  where
+    rest : (n : List ℕ) → at (e ∷ es) n ≡ None → at es n ≡ None
+    rest n k = elim (is_at (byte_cmp n) e.0) as (λ b. cond b (Some e.1) (at es n) ≡ None → at es n ≡ None) [ true ↦ λ m. absurd cc | false ↦ λ m. m ] k
+
+-- so are the entries that are left
+others_away : {X : Type 0} (gone : List (List ℕ)) (es new : List (List ℕ × X)) → ((n : List ℕ) → at new n ≡ cond (has gone n) None (at es n)) → AllByRecursion (λ e. has gone e.0 ≡ false) new
+others_away {X} gone es new h = keys_away gone new (λ n g. h n ∙ ap (λ (b : Bool). cond b None (at es n)) g)
+
+-- ---- open files after a collection
+
+all_after : {D W C : Type 0} (g : Ghosts D W C) (old new : D) (deleted : List (List ℕ)) (es : List (List ℕ × OpenFile D W C))
+    → GoesOn g.told (g.view old) (g.view new) → (g.told.content → SparesWriters deleted g.state_of (g.view old).lives (g.view new).lives) → AllByRecursion (λ e. has deleted e.0 ≡ false) es
+    → AreOpen g old es → AreOpen g new es
+all_after g old new deleted [] goes_on spared away h = tt
+all_after g old new deleted (e ∷ es) goes_on spared away h = (
+  record {
+    opened_is = goes_on.writers e.1.writer.writer h.0.opened_is;
+    lives_is = λ tells. spared tells e.1.writer.writer (ap (has deleted) h.0.name_is ∙ away.0) (h.0.lives_is tells);
+    name_is = h.0.name_is;
+    len_is = h.0.len_is;
+    summed_is = h.0.summed_is;
+  },
+  all_after g old new deleted es goes_on spared away.1 h.1,
+)
+
+-- files that were open, and whose names weren't deleted, are open
+pub collected_open : {D W C : Type 0} (g : Ghosts D W C) (old new : D) (deleted : List (List ℕ)) (es es2 : List (List ℕ × OpenFile D W C))
+    → GoesOn g.told (g.view old) (g.view new) → (g.told.content → SparesWriters deleted g.state_of (g.view old).lives (g.view new).lives)
+    → ((n : List ℕ) → at es2 n ≡ cond (has deleted n) None (at es n)) → AllByRecursion (Contains es) es2
+    → AreOpen g old es → AreOpen g new es2
+collected_open g old new deleted es es2 goes_on spared gone left h =
+    all_after g old new deleted es2 goes_on spared (others_away deleted es es2 gone)
+    (all_still (λ e. IsOpenFile g old e.0 e.1.writer e.1.len) es es2 h left)
+
+gone_seen : {X Y : Type 0} (f : X → Y) (b : Bool) (o : Option X) → option_map f (cond b None o) ≡ cond b None (option_map f o)
+gone_seen f true o = refl
+gone_seen f false o = refl
+
+-- what was written to them, name by name
+pub bodies_gone : {D W C : Type 0} (written : W → List ℕ) (es es2 : List (List ℕ × OpenFile D W C)) (old : List (List ℕ × List ℕ)) (deleted : List (List ℕ)) (n : List ℕ)
+    → bodies written es ≡ old → at es2 n ≡ cond (has deleted n) None (at es n) → at (bodies written es2) n ≡ cond (has deleted n) None (at old n)
+bodies_gone {D} {W} {C} written es es2 old deleted n is gone =
+    at_seen (λ (file : OpenFile D W C). written file.writer.writer) es2 n
+    ∙ ap (option_map (λ (file : OpenFile D W C). written file.writer.writer)) gone
+    ∙ gone_seen (λ (file : OpenFile D W C). written file.writer.writer) (has deleted n) (at es n)
+    ∙ ap (λ (o : Option (List ℕ)). cond (has deleted n) None o) (sym (at_seen (λ (file : OpenFile D W C). written file.writer.writer) es n) ∙ ap (λ (bs : List (List ℕ × List ℕ)). at bs n) is)
+
+all_of_map : {X Y : Type 0} (P : Y → Type 0) (f : X → Y) (xs : List X) → AllByRecursion P (map f xs) → AllByRecursion (λ x. P (f x)) xs
+all_of_map P f [] h = tt
+all_of_map P f (x ∷ xs) h = (h.0, all_of_map P f xs h.1)
+
+map_of_all : {X Y : Type 0} (P : Y → Type 0) (f : X → Y) (xs : List X) → AllByRecursion (λ x. P (f x)) xs → AllByRecursion P (map f xs)
+map_of_all P f [] h = tt
+map_of_all P f (x ∷ xs) h = (h.0, map_of_all P f xs h.1)
+
+-- and how long that is
+pub lens_left : {D W C : Type 0} (written : W → List ℕ) (es es2 : List (List ℕ × OpenFile D W C)) (old : List (List ℕ × List ℕ)) (bound : ℕ)
+    → bodies written es ≡ old → AllByRecursion (Contains es) es2 → AllByRecursion (λ e. length e.1 ≤ bound) old → AllByRecursion (λ e. length e.1 ≤ bound) (bodies written es2)
+lens_left {D} {W} {C} written es es2 old bound is left h =
+    map_of_all (λ e. length e.1 ≤ bound) (λ (e : List ℕ × OpenFile D W C). (e.0, written e.1.writer.writer)) es2
+    (all_still (λ (e : List ℕ × OpenFile D W C). length (written e.1.writer.writer) ≤ bound) es es2
+    (all_of_map (λ e. length e.1 ≤ bound) (λ (e : List ℕ × OpenFile D W C). (e.0, written e.1.writer.writer)) es (subst (AllByRecursion (λ e. length e.1 ≤ bound)) (sym is) h)) left)
+
+-- ---- names
+
+-- a plain name is one that a file may have
+pub plain_is_name : (name : List ℕ) → is_plain name ≡ true → is_file_name name ≡ true
+plain_is_name name h = rw h refl
+
+-- the first of some names
+pub first_plain : (names rest : List (List ℕ)) (name : List ℕ) → names ≡ name ∷ rest → list_all is_plain names ≡ true → (is_plain name ≡ true) × (list_all is_plain rest ≡ true)
+first_plain names rest name e h = both (is_plain name) (list_all is_plain rest) (subst (λ (ns : List (List ℕ)). list_all is_plain ns ≡ true) e h)
+
+-- one more name behind others
+pub one_listed : (names now whole items rest : List (List ℕ)) (x : List ℕ) → now ≡ names ++ x ∷ [] → items ≡ x ∷ rest → names ++ items ≡ whole → now ++ rest ≡ whole
+one_listed names now whole items rest x more next h = ap (λ (l : List (List ℕ)). l ++ rest) more ∙ append_assoc names (x ∷ []) rest ∙ ap (λ (l : List (List ℕ)). names ++ l) (sym next) ∙ h
+
+-- the names that were done or failed are plain where those that were tried are
+done_plain : (test : List ℕ → Bool) (names : List (List ℕ)) (outcomes : List Bool) → list_all test names ≡ true → list_all test (done_of names outcomes) ≡ true
+done_plain test [] outcomes h = refl
+done_plain test (n ∷ names) [] h = h
+done_plain test (n ∷ names) (true ∷ outcomes) h = let t = both (test n) (list_all test names) h in rw t.0 (done_plain test names outcomes t.1)
+done_plain test (n ∷ names) (false ∷ outcomes) h = done_plain test names outcomes (both (test n) (list_all test names) h).1
+
+failed_plain : (test : List ℕ → Bool) (names : List (List ℕ)) (outcomes : List Bool) → list_all test names ≡ true → list_all test (failed_of names outcomes) ≡ true
+failed_plain test [] outcomes h = refl
+failed_plain test (n ∷ names) [] h = refl
+failed_plain test (n ∷ names) (true ∷ outcomes) h = failed_plain test names outcomes (both (test n) (list_all test names) h).1
+failed_plain test (n ∷ names) (false ∷ outcomes) h = let t = both (test n) (list_all test names) h in rw t.0 (failed_plain test names outcomes t.1)
+
+-- so are those that a collection told
+pub told_plain : {D W C : Type 0} (g : Ghosts D W C) (needed : List (List ℕ)) (old new : D × List (List ℕ)) (result : GarbageCollectionResult) → Tries g (collectable needed old.1) old new result → list_all is_plain old.1 ≡ true
+    → (list_all is_plain (names_of result.deleted_files.items) ≡ true) × (list_all is_plain (names_of result.failed_to_delete_files.items) ≡ true)
+told_plain g needed old new result told h =
+    let tried : list_all is_plain (collectable needed old.1) ≡ true = all_filtered (λ name. not (has needed name)) is_plain old.1 h in
+    (ap (list_all is_plain) told.deleted ∙ done_plain is_plain (collectable needed old.1) told.outcomes tried, ap (list_all is_plain) told.failed ∙ failed_plain is_plain (collectable needed old.1) told.outcomes tried)
+
+-- what a collection told, of the names that it gave
+pub tried_as : {D W C : Type 0} (g : Ghosts D W C) (needed others : List (List ℕ)) (old new first : D × List (List ℕ)) (result : GarbageCollectionResult) (deleted failed : List (List ℕ))
+    → old ≡ first → needed ≡ others → deleted ≡ names_of result.deleted_files.items → failed ≡ names_of result.failed_to_delete_files.items
+    → Tries g (collectable needed old.1) old new result → Tried (collectable others first.1) first.1 new.1 deleted failed g.told.content (g.view first.0).reads (g.view new.0).reads
+tried_as g needed others old new first result deleted failed same living done not_done told =
+    subst (λ (ns : List (List ℕ)). Tried (collectable ns first.1) first.1 new.1 deleted failed g.told.content (g.view first.0).reads (g.view new.0).reads) living
+    (subst (λ (ns : List (List ℕ)). Tried (collectable needed first.1) first.1 new.1 ns failed g.told.content (g.view first.0).reads (g.view new.0).reads) (sym done)
+    (subst (λ (ns : List (List ℕ)). Tried (collectable needed first.1) first.1 new.1 (names_of result.deleted_files.items) ns g.told.content (g.view first.0).reads (g.view new.0).reads) (sym not_done)
+    (subst (λ f. Tried (collectable needed f.1) f.1 new.1 (names_of result.deleted_files.items) (names_of result.failed_to_delete_files.items) g.told.content (g.view f.0).reads (g.view new.0).reads) same
+    (record {
+      outcomes = told.outcomes;
+      each = told.each;
+      deleted_is = told.deleted;
+      failed_is = told.failed;
+      managed = told.managed;
+      gone = told.gone;
+      others = told.others;
+    }))))
+
+-- what is living isn't taken, whichever names were tried
+pub living_stands : {S D W C : Type 0} (g : Ghosts D W C) (answered : S → Type 0) (sets : S → List (List ℕ)) (living names : List (List ℕ)) (old new : D × List (List ℕ)) (n : List ℕ)
+    → ((set : S) → answered set → sets set ≡ living) → Among answered sets old.1 names → Leaves g names old new
+    → g.told.content → has living n ≡ true → n ≢ list_name → (g.view new.0).reads n ≡ (g.view old.0).reads n
+living_stands g answered sets living names old new n is (inl none) l t h other = l.spared t n (ap (λ (ns : List (List ℕ)). has ns n) none) other
+living_stands g answered sets living names old new n is (inr set) l t h other =
+    l.spared t n
+    (ap (λ (ns : List (List ℕ)). has ns n) (set.2 ∙ ap (λ (ns : List (List ℕ)). collectable ns old.1) (is set.0 set.1))
+    ∙ has_without living old.1 n ∙ ap (λ (b : Bool). not b && has old.1 n) h) other
+
+-- ---- open files that are left
+
+or_true : (a : Bool) → (a || true) ≡ true
+or_true true = refl
+or_true false = refl
+
+never_more : (r : Bool) → (r && false) ≡ false
+never_more true = refl
+never_more false = refl
+
+moved : {X : Type 0} (i k r : Bool) (o : Option X) → (i ≡ true → is_some o ≡ true) → ((i || k) || (r && is_some (cond i None o))) ≡ (k || ((i || r) && is_some o))
+moved true k r o h = sym (ap (λ (b : Bool). k || b) (h refl) ∙ or_true k)
+moved false k r o h = refl
+
+missed : {X : Type 0} (i k r : Bool) (o : Option X) → (i ≡ true → is_some o ≡ false) → (k || (r && is_some (cond i None o))) ≡ (k || ((i || r) && is_some o))
+missed true k r o h = ap (λ (b : Bool). k || b) (never_more r ∙ sym (h refl))
+missed false k r o h = refl
+
+-- one more open file was left
+pub one_left : {X : Type 0} (keys new : List (List ℕ)) (es es2 : List (List ℕ × X)) (x : List ℕ) (names rest : List (List ℕ)) (n : List ℕ) (answer all : Bool) → names ≡ x ∷ rest
+    → answer ≡ is_some (at es x) → answer ≡ true → new ≡ insert_key byte_cmp keys x → es2 ≡ remove_entry (is_at (byte_cmp x)) es → at es2 x ≡ None
+    → (has keys n || (has names n && is_some (at es n))) ≡ all → (has new n || (has rest n && is_some (at es2 n))) ≡ all
+one_left {X} keys new es es2 x names rest n answer all split asked found put cut closed h =
+    let now : has new n ≡ (is x n || has keys n) = ap (λ (ks : List (List ℕ)). has ks n) put ∙ has_put keys x n in
+    ap (λ (b : Bool). b || (has rest n && is_some (at es2 n))) now
+    ∙ ap (λ (o : Option X). (is x n || has keys n) || (has rest n && is_some o)) (at_closed es es2 x n cut closed)
+    ∙ moved (is x n) (has keys n) (has rest n) (at es n) (λ e. ap (λ (m : List ℕ). is_some (at es m)) (sym (is_text x n e)) ∙ sym asked ∙ found)
+    ∙ ap (λ (ns : List (List ℕ)). has keys n || (has ns n && is_some (at es n))) (sym split) ∙ h
+
+-- and a name of which none is open changes nothing
+pub none_left : {X : Type 0} (keys : List (List ℕ)) (es es2 : List (List ℕ × X)) (x : List ℕ) (names rest : List (List ℕ)) (n : List ℕ) (answer all : Bool) → names ≡ x ∷ rest
+    → answer ≡ is_some (at es x) → answer ≡ false → es2 ≡ remove_entry (is_at (byte_cmp x)) es → at es2 x ≡ None
+    → (has keys n || (has names n && is_some (at es n))) ≡ all → (has keys n || (has rest n && is_some (at es2 n))) ≡ all
+none_left {X} keys es es2 x names rest n answer all split asked none cut closed h =
+    ap (λ (o : Option X). has keys n || (has rest n && is_some o)) (at_closed es es2 x n cut closed)
+    ∙ missed (is x n) (has keys n) (has rest n) (at es n) (λ e. ap (λ (m : List ℕ). is_some (at es m)) (sym (is_text x n e)) ∙ sym asked ∙ none)
+    ∙ ap (λ (ns : List (List ℕ)). has keys n || (has ns n && is_some (at es n))) (sym split) ∙ h
+
+-- one more name is open no more
+pub one_closed : {X : Type 0} (es new : List (List ℕ × X)) (x : List ℕ) (names rest : List (List ℕ)) (n : List ℕ) (all : Option X) → names ≡ x ∷ rest → new ≡ remove_entry (is_at (byte_cmp x)) es → at new x ≡ None
+    → cond (has names n) None (at es n) ≡ all → cond (has rest n) None (at new n) ≡ all
+one_closed {X} es new x names rest n all split cut closed h =
+    one_gone es new x names rest n all split (at_closed es new x n cut closed ∙ ap (λ (b : Bool). cond b None (at es n)) (sym (test_is x n))) h
+
+-- and those that are left are as long
+pub lens_cut : (bound : ℕ) (es new : List (List ℕ × List ℕ)) (test : List ℕ → Bool) → new ≡ remove_entry test es → AllByRecursion (λ e. length e.1 ≤ bound) es → AllByRecursion (λ e. length e.1 ≤ bound) new
+lens_cut bound es new test cut h = subst (AllByRecursion (λ e. length e.1 ≤ bound)) (sym cut) (all_left (λ e. length e.1 ≤ bound) es test h)
+
+-- before the first name
+pub first_open : {X : Type 0} (items names : List (List ℕ)) (es old : List (List ℕ × X)) (n : List ℕ) → items ≡ names → es ≡ old → cond (has items n) None (at es n) ≡ cond (has names n) None (at old n)
+first_open {X} items names es old n all same = ap (λ (l : List (List ℕ)). cond (has l n) None (at es n)) all ∙ ap (λ (fs : List (List ℕ × X)). cond (has names n) None (at fs n)) same
+
+pub first_left : {X : Type 0} (keys was items names : List (List ℕ)) (es old : List (List ℕ × X)) (n : List ℕ) → keys ≡ was → items ≡ names → es ≡ old
+    → (has keys n || (has items n && is_some (at es n))) ≡ (has was n || (has names n && is_some (at old n)))
+first_left {X} keys was items names es old n left all same =
+    ap (λ (l : List (List ℕ)). has l n || (has items n && is_some (at es n))) left ∙ ap (λ (l : List (List ℕ)). has was n || (has l n && is_some (at es n))) all
+    ∙ ap (λ (fs : List (List ℕ × X)). has was n || (has names n && is_some (at fs n))) same

@@ -1,6 +1,0 @@
-use Rattle.std.proofs.Common.{◌≡◌, ◌++◌, map, take}
-use Rattle.tv_model.specs.Segments.{name_of}
-use Rattle.tv_store.proofs.collection_events.push_names.Given as goal
-
-abbrev pub invariant-loop-component : goal.invariant-loop-component
-invariant-loop-component l = l.names.items ≡ l.initial.names.items ++ map (name_of l.id l.segment.deletes) (take l.component-index l.component-items)

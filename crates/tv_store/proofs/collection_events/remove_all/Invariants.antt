@@ -1,6 +1,0 @@
-use Rattle.std.proofs.Common.{◌≡◌, ℕ, List, not, ◌&&◌, drop}
-use Rattle.tv_model.specs.Names.{has}
-use Rattle.tv_store.proofs.collection_events.remove_all.Given as goal
-
-abbrev pub invariant-loop-name : goal.invariant-loop-name
-invariant-loop-name l = (n : List ℕ) → (not (has (drop l.name-index l.names) n) && has l.set.keys n) ≡ (not (has l.names n) && has l.initial.set.keys n)

@@ -1,6 +1,0 @@
-use Rattle.std.proofs.Common.{◌≡◌, take}
-use Rattle.tv_store.proofs.Chosen.{named_living}
-use Rattle.tv_store.proofs.commit_events.chosen.Given as goal
-
-abbrev pub invariant-loop-id : goal.invariant-loop-id
-invariant-loop-id l = l.segments.entries ≡ named_living (take l.id-index l.ids) l.live.entries

@@ -1,0 +1,102 @@
+use Rattle.std.proofs.Common.{◌≡◌, true, inl, inr}
+use Rattle.tv_managed.specs.Collecting.{meta_lock_name}
+use Rattle.tv_model.specs.Files.{Rose}
+use Rattle.tv_model.specs.declared.event.Event.{Event}
+use Rattle.tv_model.specs.declared.event.Event.TheVariants.{Gc, Reader, Reload}
+use Rattle.tv_store.specs.ReaderNumbers.{NumbersSpent}
+use Rattle.tv_store.specs.StoreCauses.{IsBusy}
+use Rattle.tv_store.specs.ReadCauses.{TakesMetaLock}
+use Rattle.tv_store.specs.Applying.{Spent, BadIn, HoldsNone}
+use Rattle.tv_store.proofs.Steps.{at_most, takes_lock_in, locking_cause_in, read_cause_in}
+use Rattle.tv_store.proofs.Acting.{acts_on_files, acts_plainly, acts_reading, acts_deleting, acts_committing}
+use Rattle.tv_store.proofs.index_store.IndexStore.act_on_files.Goals as goal
+
+pub returns-in-ReleaseSegment : goal.returns-in-ReleaseSegment
+returns-in-ReleaseSegment g c =
+    let did = c.release_segment.ensures in
+    acts_plainly g.O.Directory c.args.self.now c.release_segment.new.self c.args.event.now _ c.in-ReleaseSegment.is c.release_segment.result (λ o n same. same) (λ s. tt) (λ takes. takes)
+    did.step did.room did.lens did.faults did.frame
+
+pub returns-in-Open : goal.returns-in-Open
+returns-in-Open g c =
+    let did = c.open_file.ensures in
+    acts_on_files g.O.Directory c.args.self.now c.open_file.new.self c.args.event.now _ c.in-Open.is c.open_file.result (λ o n same. same) ⊥ (λ never. absurd never) (λ s. tt) (λ takes. takes)
+    did.step did.room (λ bound h. at_most bound 0 c.open_file.new.self.kept (did.lens bound h)) did.faults did.meta did.frame
+
+pub returns-in-Seal : goal.returns-in-Seal
+returns-in-Seal g c =
+    let did = c.seal_file.ensures in
+    acts_on_files g.O.Directory c.args.self.now c.seal_file.new.self c.args.event.now _ c.in-Seal.is c.seal_file.result (λ o n same. same) ⊥ (λ never. absurd never) (λ s. tt) (λ takes. takes)
+    did.step did.room (λ bound h. at_most bound 0 c.seal_file.new.self.kept (did.lens bound h)) did.faults did.meta did.frame
+
+pub returns-in-Write : goal.returns-in-Write
+returns-in-Write g c =
+    let did = c.write_file.ensures in
+    acts_on_files g.O.Directory c.args.self.now c.write_file.new.self c.args.event.now _ c.in-Write.is c.write_file.result (λ o n same. same) _ inl (λ s. tt) (λ takes. takes)
+    did.step did.room did.lens did.faults did.meta did.frame
+
+pub returns-in-Commit : goal.returns-in-Commit
+returns-in-Commit g c =
+    acts_committing g.O.Directory c.args.self.now c.commit.new.self c.args.event.now _ c.in-Commit.is c.commit.result (λ s. tt) (λ takes. takes) (λ below. below.watched) c.commit.ensures
+
+pub returns-in-Gc : goal.returns-in-Gc
+returns-in-Gc g c =
+    let did = c.gc.ensures in
+    let d = g.O.Directory in
+    let old = c.args.self.now in
+    let new = c.gc.new.self in
+    let refused : Type 0 = Rose (d.view old.outside).faults (d.view new.outside).faults in
+    let quiet : Type 0 = (d.view new.outside).faults ≡ (d.view old.outside).faults in
+    let busy : Type 0 = IsBusy d.told.locks ((d.view old.outside).locks meta_lock_name ≡ true) refused in
+    acts_deleting d old new c.args.event.now Gc c.in-Gc.is c.gc.result (λ o n same. same) (λ s. tt)
+    did.step did.room (λ bound h. at_most bound 0 new.kept (did.lens bound h))
+    (record {
+      quiet = did.faults.quiet;
+      free = λ told takes. did.faults.free told;
+      cause =
+          takes_lock_in _ busy (TakesMetaLock old.kept Gc) refused quiet (Spent old.kept Gc) (BadIn d.told.content (d.view old.outside).reads old.kept Gc) (λ path. HoldsNone d.told.content (d.view old.outside).reads old.kept) c.gc.result tt
+          (locking_cause_in _ busy refused quiet ⊥ (Spent old.kept Gc) (BadIn d.told.content (d.view old.outside).reads old.kept Gc) (λ path. HoldsNone d.told.content (d.view old.outside).reads old.kept) c.gc.result did.faults.cause (λ never. absurd never));
+    })
+    did.meta did.frame
+
+pub returns-in-Reader : goal.returns-in-Reader
+returns-in-Reader g c =
+    let did = c.reader.ensures in
+    let d = g.O.Directory in
+    let old = c.args.self.now in
+    let new = c.reader.new.self in
+    let event : Event = Reader c.in-Reader.policy in
+    let refused : Type 0 = Rose (d.view old.outside).faults (d.view new.outside).faults in
+    let quiet : Type 0 = (d.view new.outside).faults ≡ (d.view old.outside).faults in
+    let busy : Type 0 = IsBusy d.told.locks ((d.view old.outside).locks meta_lock_name ≡ true) refused in
+    acts_reading d old new c.args.event.now event c.in-Reader.is c.reader.result (λ o n same. same) _ (λ s good. good)
+    did.step did.room (λ bound h. at_most bound 1 new.kept (did.lens bound h)) did.numbers
+    (record {
+      quiet = did.faults.quiet;
+      free = did.faults.free;
+      cause =
+          read_cause_in _ (TakesMetaLock old.kept event × busy) refused quiet (NumbersSpent old.kept.catalog.reading 1) (Spent old.kept event)
+          (BadIn d.told.content (d.view old.outside).reads old.kept event) (λ path. HoldsNone d.told.content (d.view old.outside).reads old.kept) c.reader.result did.faults.cause inr;
+    })
+    did.frame
+
+pub returns-in-Reload : goal.returns-in-Reload
+returns-in-Reload g c =
+    let did = c.reload.ensures in
+    let d = g.O.Directory in
+    let old = c.args.self.now in
+    let new = c.reload.new.self in
+    let event : Event = Reload c.in-Reload.number in
+    let refused : Type 0 = Rose (d.view old.outside).faults (d.view new.outside).faults in
+    let quiet : Type 0 = (d.view new.outside).faults ≡ (d.view old.outside).faults in
+    let busy : Type 0 = IsBusy d.told.locks ((d.view old.outside).locks meta_lock_name ≡ true) refused in
+    acts_reading d old new c.args.event.now event c.in-Reload.is c.reload.result (λ o n same. same) _ (λ s good. good)
+    did.step did.room (λ bound h. at_most bound 1 new.kept (did.lens bound h)) did.numbers
+    (record {
+      quiet = did.faults.quiet;
+      free = did.faults.free;
+      cause =
+          read_cause_in _ (TakesMetaLock old.kept event × busy) refused quiet (NumbersSpent old.kept.catalog.reading 1) (Spent old.kept event)
+          (BadIn d.told.content (d.view old.outside).reads old.kept event) (λ path. HoldsNone d.told.content (d.view old.outside).reads old.kept) c.reload.result did.faults.cause inr;
+    })
+    did.frame

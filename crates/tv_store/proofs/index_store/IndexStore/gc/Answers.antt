@@ -1,0 +1,55 @@
+use Rattle.std.proofs.Common.{◌≡◌, ℕ, List, map, length, sym, ap, subst, ◌∙◌, string_bytes}
+use Rattle.tv_model.specs.Names.{has}
+use Rattle.tv_model.specs.Living.{living}
+use Rattle.tv_model.specs.State.{Catalog}
+use Rattle.tv_model.specs.CollectionEvents.{collected_line}
+use Rattle.tv_managed.specs.Collecting.{FailsAtMost}
+use Rattle.tv_store.specs.Kept.{Kept, Holds, AtMost}
+use Rattle.tv_store.proofs.Holding.{same_holds}
+use Rattle.tv_store.proofs.CollectionEvents.{collected, refusals_rose}
+use Rattle.tv_store.proofs.index_store.IndexStore.gc.Goals as goal
+
+pub returns-in_err-deleted-clause-lens : goal.returns-in_err-deleted-clause-lens
+returns-in_err-deleted-clause-lens g c bound h = c.collect.ensures.lens bound (subst (λ v. AtMost bound v.kept) (sym c.self-2.view_is) (subst (AtMost bound) (sym c.ready_for_all.ensures.frame.kept) h))
+
+pub returns-in_err-answer-clause-lens : goal.returns-in_err-answer-clause-lens
+returns-in_err-answer-clause-lens g c bound h = c.collect.ensures.lens bound (subst (λ v. AtMost bound v.kept) (sym c.self-2.view_is) (subst (AtMost bound) (sym c.ready_for_all.ensures.frame.kept) h))
+
+pub returns-in_err-answer-2-clause-lens : goal.returns-in_err-answer-2-clause-lens
+returns-in_err-answer-2-clause-lens g c bound h =
+    subst (AtMost bound) (sym c.ready.ensures.frame.kept) (c.collect.ensures.lens bound (subst (λ v. AtMost bound v.kept) (sym c.self-2.view_is) (subst (AtMost bound) (sym c.ready_for_all.ensures.frame.kept) h)))
+
+pub returns-clause-lens : goal.returns-clause-lens
+returns-clause-lens g c bound h =
+    subst (AtMost bound) (sym c.ready.ensures.frame.kept) (c.collect.ensures.lens bound (subst (λ v. AtMost bound v.kept) (sym c.self-2.view_is) (subst (AtMost bound) (sym c.ready_for_all.ensures.frame.kept) h)))
+
+pub returns-clause-step : goal.returns-clause-step
+returns-clause-step g c =
+    let D = g.O.Directory in
+    let old = c.args.self.now in
+    let mid = c.ready_for_all.new.self in
+    let inside = c.self-2.inside in
+    let new = c.collect.new.self in
+    let end = c.ready.new.self in
+    let needed = map string_bytes c.in_ok-living.living.keys in
+    let deleted = c.in_ok-deleted.field-0.deleted.items in
+    let failed = c.in_ok-deleted.field-0.failed.items in
+    let told = c.in_ok-deleted.ensures.collects in
+    let asked = c.ready_for_all.ensures.frame in
+    let made = c.ready.ensures.frame in
+    let first : (D.view inside.files.outside).refusals ≡ (D.view old.outside).refusals = ap (λ v. (D.view v.outside).refusals) c.self-2.view_is ∙ asked.below.kept.frame.tells_none.deletes_none.refusals in
+    let catalog : c.self.inside.catalog ≡ inside.catalog = ap (λ v. v.kept.catalog) c.self.view_is ∙ sym (ap (λ (k : Kept). k.catalog) asked.kept) ∙ sym (ap (λ v. v.kept.catalog) c.self-2.view_is) in (
+      told.tried.outcomes,
+      refusals_rose needed inside.files.managed new.managed deleted failed D.told.content (D.view inside.files.outside).reads (D.view new.outside).reads told.tried (D.view old.outside).refusals (D.view end.outside).refusals
+          (subst (λ (n : ℕ). FailsAtMost (length failed) n (D.view end.outside).refusals) first
+          (subst (λ (n : ℕ). FailsAtMost (length failed) (D.view inside.files.outside).refusals n) (sym made.below.kept.frame.tells_none.deletes_none.refusals) told.counted)),
+      λ tells s held.
+          let now = same_holds (D.view old.outside).reads (D.view mid.outside).reads old.kept mid.kept s (asked.below.content tells) asked.kept held in
+          let step =
+          collected D inside.schema inside.catalog inside.files new s needed deleted failed tells (subst (λ v. Holds (D.view v.outside).reads v.kept s) (sym c.self-2.view_is) now)
+          (λ n. c.in_ok-living.ensures n ∙ ap (λ (k : Catalog). has (living k) n) catalog) told (c.in_ok-deleted.ensures.list tells) in (
+            c.in_ok-answer-2.ensures.answer ∙ c.in_ok-answer.ensures ∙ ap (λ (ns : List (List ℕ)). collected_line ns c.as_slice-2.result.now) c.as_slice.ensures.value
+                ∙ ap (λ (ns : List (List ℕ)). collected_line deleted ns) c.as_slice-2.ensures.value ∙ step.0,
+            same_holds (D.view new.outside).reads (D.view end.outside).reads _ end.kept _ (made.below.content tells) made.kept step.1,
+          ),
+    )

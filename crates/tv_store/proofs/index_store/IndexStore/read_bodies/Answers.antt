@@ -1,0 +1,39 @@
+use Rattle.std.proofs.Common.{◌≡◌, ◌<◌, length, ◌∙◌, arith, rules}
+use Rattle.tv_model.specs.Files.{Rose}
+use Rattle.tv_store.specs.Bodies.{FailsAt}
+use Rattle.tv_store.proofs.Asking.{asks_later}
+use Rattle.tv_store.proofs.Holding.{same_holds}
+use Rattle.tv_store.proofs.ReaderEvents.{failed_as, fails_here, bodies_more}
+use Rattle.tv_store.proofs.index_store.IndexStore.read_bodies.Goals as goal
+
+pub returns-in_err-body-clause-faults : goal.returns-in_err-body-clause-faults
+returns-in_err-body-clause-faults g c =
+    let tells = g.O.Directory.told.content in
+    let D = g.O.Directory in
+    let so_far = c.loop-name.invariant in
+    let within : c.loop-name.name-index < length c.args.names.now = omega arith in
+    record {
+      quiet = search rules;
+      cause =
+          failed_as c.from_residual.result c.in_err-body.field-0.0
+          (FailsAt tells (D.view c.args.self.now.outside).reads c.args.names.now (Rose (D.view c.args.self.now.outside).faults (D.view c.read_body.new.self.outside).faults) ((D.view c.read_body.new.self.outside).faults ≡ (D.view c.args.self.now.outside).faults))
+          c.from_residual.ensures.1
+          (fails_here tells (D.view c.args.self.now.outside).reads (D.view c.loop-name.self.outside).reads c.args.names.now c.loop-name.name-index c.name-item.result
+          (D.view c.args.self.now.outside).faults (D.view c.loop-name.self.outside).faults (D.view c.read_body.new.self.outside).faults c.in_err-body.field-0.0
+          so_far.asks.below.content so_far.quiet within c.name-item.is c.in_err-body.ensures.faults.cause);
+    }
+
+pub loop-name-preserved : goal.loop-name-preserved
+loop-name-preserved g c =
+    let D = g.O.Directory in
+    let so_far = c.loop-name.invariant in
+    let asked = c.in_ok-body.ensures in
+    record {
+      read = λ tells s held sealed.
+          let now = same_holds (D.view c.args.self.now.outside).reads (D.view c.loop-name.self.outside).reads c.args.self.now.kept c.loop-name.self.kept s (so_far.asks.below.content tells) so_far.asks.kept held in
+          let within : c.loop-name.name-index < length c.args.names.now = omega arith in
+          bodies_more (D.view c.loop-name.self.outside).reads c.loop-name.self.kept s c.args.names.now c.loop-name.name-index c.name-item.result c.in_ok-body.body c.loop-name.bodies.items c.push.new.self.items
+          within c.name-item.is sealed now (asked.body tells) c.in_ok-push.ensures.items (so_far.read tells s held sealed);
+      asks = asks_later so_far.asks asked.frame;
+      quiet = asked.faults.quiet ∙ so_far.quiet;
+    }

@@ -1,0 +1,19 @@
+-- The events that touch no file.
+use Rattle.std.specs.Prelude.{◌<◌, ◌^◌}
+use Rattle.tv_base.specs.declared.error.TantivyError.{TantivyError}
+use Rattle.tv_base.specs.declared.error.TantivyError.TheVariants as errors
+use Rattle.tv_model.specs.Ids.{IsId}
+use Rattle.tv_model.specs.declared.event.Event.{Event}
+use Rattle.tv_model.specs.declared.event.Event.TheVariants as events
+
+-- an id has sixteen bytes, and a number of documents 32 bits
+abbrev pub FitsCatalog : Event → Type 0
+FitsCatalog (events.Segment id) = IsId id
+FitsCatalog (events.Docs id n) = IsId id × (n < 2 ^ 32)
+FitsCatalog other = Unit {0}
+
+-- Such an event fails where memory was wanted, or where a number of a searcher would pass 64 bits.
+abbrev pub CatalogCause : (spent : Type 0) → TantivyError → Type 0
+CatalogCause spent errors.Memory = Unit {0}
+CatalogCause spent errors.Exhausted = spent
+CatalogCause spent other = ⊥

@@ -1,0 +1,169 @@
+//! The names of the files of segments.
+ghost use Rattle.std.specs.Prelude.{◌≡◌, ◌++◌, [], ◌∷◌, List, ℕ, IfOk, OnOk, map, not, string_bytes, true};
+ghost use Rattle.std.specs.List.{flat_map};
+ghost use Rattle.tv_model.specs.FileEvents.{lacks_deletes};
+ghost use Rattle.tv_model.specs.Index.{IsFileOf};
+ghost use Rattle.tv_model.specs.Living.{segment_names};
+ghost use Rattle.tv_model.specs.Names.{has, is_plain, meta_name};
+ghost use Rattle.tv_model.specs.Segments.{all_required, name_of, required_names};
+
+use std::alloc::Global;
+use std::collections::{BTreeMap, BTreeSet};
+use tv_base::META_FILEPATH;
+use tv_model::{
+    DeleteMeta, FileName, LiveSegment, Memory, SegmentComponent, SegmentId, segment_file_name,
+};
+
+/// The name of a segment's file, which isn't that of the commit or of the list.
+pub(crate) fn file_of(
+    alloc: Global,
+    id: SegmentId,
+    deletes: Option<DeleteMeta>,
+    component: SegmentComponent,
+) -> Result<FileName, Memory>
+    ensures name { IfOk result (λ name. name ≡ name_of id deletes component) }
+    ensures plain { IfOk result (λ name. is_plain name ≡ true) }
+    ensures file { IfOk result (λ name. IsFileOf name) }
+{
+    segment_file_name(alloc, id, deletes, component)
+}
+
+// Adds the name of one file of a segment.
+fn push_name(
+    alloc: Global,
+    names: &mut Vec<FileName>,
+    id: SegmentId,
+    segment: LiveSegment,
+    component: SegmentComponent,
+) -> Result<(), Memory>
+    ensures { OnOk result (names.new.items ≡ names.old.items
+        ++ name_of id segment.deletes component ∷ []) }
+{
+    let name = segment_file_name(alloc, id, segment.deletes, component)?;
+    names.push(name)?;
+    Ok(())
+}
+
+// Adds the names that a segment has.
+fn push_names(
+    alloc: Global,
+    names: &mut Vec<FileName>,
+    id: SegmentId,
+    segment: LiveSegment,
+) -> Result<(), Memory>
+    ensures { OnOk result (names.new.items ≡ names.old.items ++ segment_names (id, segment)) }
+{
+    for component in SegmentComponent::iterator() {
+        push_name(alloc, names, id, segment, *component)?;
+    }
+    Ok(())
+}
+
+/// The names that a segment has, whether there are such files or not.
+pub(crate) fn names_of(
+    alloc: Global,
+    id: SegmentId,
+    segment: LiveSegment,
+) -> Result<Vec<FileName>, Memory>
+    ensures { IfOk result (λ names. names.items ≡ segment_names (id, segment)) }
+{
+    let mut names = Vec::new(alloc);
+    push_names(alloc, &mut names, id, segment)?;
+    Ok(names)
+}
+
+// Adds the names that some segments have.
+fn push_all(
+    alloc: Global,
+    names: &mut Vec<FileName>,
+    segments: &[(SegmentId, LiveSegment)],
+) -> Result<(), Memory>
+    ensures { OnOk result (names.new.items ≡ names.old.items
+        ++ flat_map segment_names segments.now) }
+{
+    for entry in segments {
+        let (id, segment) = *entry;
+        push_names(alloc, names, id, segment)?;
+    }
+    Ok(())
+}
+
+// The names as a set of texts.
+fn set_of(alloc: Global, names: Vec<FileName>) -> Result<BTreeSet<String>, Memory>
+    ensures { IfOk result (λ set. (n : List ℕ)
+        → has (map string_bytes set.keys) n ≡ has names.items n) }
+{
+    let mut set = BTreeSet::new(alloc);
+    for name in names {
+        set.insert(name.into_string())?;
+    }
+    Ok(set)
+}
+
+/// The names that are needed: `meta.json`, and those of these segments.
+pub(crate) fn needed_names(
+    alloc: Global,
+    committed: &[(SegmentId, LiveSegment)],
+    live: &[(SegmentId, LiveSegment)],
+) -> Result<BTreeSet<String>, Memory>
+    ensures { IfOk result (λ set. (n : List ℕ) → has (map string_bytes set.keys) n
+        ≡ has (meta_name ∷ flat_map segment_names (committed.now ++ live.now)) n) }
+{
+    let meta = String::from_str(alloc, META_FILEPATH)?;
+    let mut names = Vec::new(alloc);
+    names.push(FileName::new(meta))?;
+    push_all(alloc, &mut names, committed)?;
+    push_all(alloc, &mut names, live)?;
+    set_of(alloc, names)
+}
+
+// Whether a segment has to have such a file sealed: each but the delete file where none is deleted.
+fn is_required(segment: LiveSegment, component: SegmentComponent) -> bool
+    ensures { result ≡ not (lacks_deletes segment component) }
+{
+    component != SegmentComponent::Delete || segment.has_deletes()
+}
+
+// Adds the names of the files that a segment has to have sealed.
+fn push_required(
+    alloc: Global,
+    names: &mut Vec<FileName>,
+    id: SegmentId,
+    segment: LiveSegment,
+) -> Result<(), Memory>
+    ensures { OnOk result (names.new.items ≡ names.old.items ++ required_names id segment) }
+{
+    for component in SegmentComponent::iterator() {
+        if is_required(segment, *component) {
+            push_name(alloc, names, id, segment, *component)?;
+        }
+    }
+    Ok(())
+}
+
+/// The names of the files that a segment has to have sealed, in their order.
+pub(crate) fn required_of(
+    alloc: Global,
+    id: SegmentId,
+    segment: LiveSegment,
+) -> Result<Vec<FileName>, Memory>
+    ensures { IfOk result (λ names. names.items ≡ required_names id segment) }
+{
+    let mut names = Vec::new(alloc);
+    push_required(alloc, &mut names, id, segment)?;
+    Ok(names)
+}
+
+/// The names of the files that these segments have to have sealed, in their order.
+pub(crate) fn required_files(
+    alloc: Global,
+    segments: &BTreeMap<SegmentId, LiveSegment>,
+) -> Result<Vec<FileName>, Memory>
+    ensures { IfOk result (λ names. names.items ≡ all_required segments.now.entries) }
+{
+    let mut names = Vec::new(alloc);
+    for (id, segment) in segments {
+        push_required(alloc, &mut names, *id, *segment)?;
+    }
+    Ok(names)
+}

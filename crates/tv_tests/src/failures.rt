@@ -1,0 +1,25 @@
+//! What the library's one large error says, as far as tests look at it.
+use tv_base::{IoKind, OpenWriteError, TantivyError};
+
+#[derive(Clone, Copy)]
+pub(crate) enum Failure<'a> {
+    Io(IoKind),
+    // A file of this name is there.
+    Exists(&'a str),
+    System(&'a str),
+    Poisoned,
+    Other,
+}
+
+/// The one place where tests take this error apart, since each such place is dear to prove.
+pub(crate) fn failure_of(error: &TantivyError) -> Failure<'_> {
+    match error {
+        TantivyError::IoError(fault) => Failure::Io(fault.kind),
+        TantivyError::OpenWriteError(OpenWriteError::FileAlreadyExists(path)) => {
+            Failure::Exists(path.as_str())
+        }
+        TantivyError::SystemError(text) => Failure::System(text.as_str()),
+        TantivyError::Poisoned => Failure::Poisoned,
+        _ => Failure::Other,
+    }
+}
