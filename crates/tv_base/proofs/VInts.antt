@@ -1,9 +1,9 @@
 -- Facts on numbers in groups of seven bits.
-use Rattle.std.proofs.Common.{◌≡◌, ℕ, zero, suc, ◌+◌, ◌*◌, ◌-◌, ◌/◌, ◌%◌, ◌<◌, ◌≤◌, true, false, Some, List, [], ◌∷◌, ◌++◌, length, take, drop, reverse, get_or, position, nat_le, nat_lt, not, unwrap_or, length-append, length-take-le, drop-cons, ⊎_elim, refl, sym, ap, subst, ◌∙◌, arith, append_assoc}
+use Rattle.std.proofs.Common.{◌≡◌, ℕ, zero, suc, ◌+◌, ◌*◌, ◌-◌, ◌/◌, ◌%◌, ◌<◌, ◌≤◌, true, false, cond, Some, None, List, [], ◌∷◌, ◌++◌, length, take, drop, reverse, get_or, position, nat_le, nat_lt, length-append, length-take-le, drop-cons, ⊎_elim, refl, sym, ap, subst, ◌∙◌, arith, append_assoc}
 use Rattle.std.proofs.Math.Seq.{take-suc}
 use Rattle.std.proofs.lemmas.Bool.{cases_lt}
 use Rattle.std.proofs.lemmas.List.{reverse-append, take-append-drop, take-append-le, length-take}
-use Rattle.std.specs.List.{prefix_len}
+use Rattle.std.proofs.lemmas.Option.{same_Some}
 use Rattle.std.proofs.lemmas.List.Quantifiers.{position-Some}
 use Rattle.std.specs.Int.Digits.{digits_of, number_from_digits, number_from_digits_after, AllBelowBase}
 use Rattle.std.proofs.lemmas.Int.Digits.{digits_of_step, number_push, number_after_ge, first_digits_of}
@@ -74,88 +74,49 @@ spelled_back h (g ∷ gs) lt below alone =
     above (suc k) gs some =
         let more : 0 * 128 + suc k ≤ of_groups (suc k) gs = number_after_ge 128 (0 * 128 + suc k) (reverse gs) (omega arith) in omega (arith, more)
 
--- a spelling as its groups
-pub record Shape (n : ℕ) : Type 0 where
-  pub highest : ℕ
-  pub lower : List ℕ
-  pub small : highest < 128
-  pub below : AllBelowBase 128 lower
-  pub alone : highest ≡ 0 → lower ≡ []
-  pub number : of_groups highest lower ≡ n
-  pub spelled : vint n ≡ lower ++ (highest + 128) ∷ []
-
-one_group : (n : ℕ) → n < 128 → Shape n
-one_group n lt = let same : 0 + n ≡ n = omega arith in
-    record { highest = n; lower = []; small = lt; below = tt; alone = λ none. refl; number = same; spelled = spelled_small n lt }
-
-not_alone : (n : ℕ) → 128 ≤ n → (s : Shape (n / 128)) → s.highest ≡ 0 → ⊥
-not_alone n large s none =
-    let z : of_groups s.highest s.lower ≡ 0 = rw (s.alone none, none) refl in
-    omega (arith, large, z, s.number)
-
-more_groups : (n : ℕ) → 128 ≤ n → Shape (n / 128) → Shape n
-more_groups n large s =
-    let whole : n / 128 * 128 + n % 128 ≡ n = omega arith in
-    record {
-      highest = s.highest;
-      lower = n % 128 ∷ s.lower;
-      small = s.small;
-      below = (omega arith, s.below);
-      alone = λ none. absurd (not_alone n large s none);
-      number = one_more_group s.highest (n % 128) s.lower ∙ rw s.number whole;
-      spelled = spelled_large n large ∙ ap (λ r. n % 128 ∷ r) s.spelled;
-    }
-
-pub shape_by : (bound n : ℕ) → n ≤ bound → Shape n
-shape_by zero n le = one_group n (omega arith)
-shape_by (suc bound) n le =
-    ⊎_elim (λ lt. one_group n lt) (λ large. more_groups n large (shape_by bound (n / 128) (omega arith))) (cases_lt n 128)
-
-count_before : (lower : List ℕ) (b : ℕ) (rest : List ℕ) → AllBelowBase 128 lower → 128 ≤ b → prefix_len (λ x. not (is_last x)) (lower ++ b ∷ rest) ≡ length lower
-count_before [] b rest below le = let yes : nat_le 128 b ≡ true = grind (arith, le) in rw yes refl
-count_before (x ∷ xs) b rest below le =
-    let no : nat_le 128 x ≡ false = grind (arith, below.0) in
-    let counts : 1 + length xs ≡ suc (length xs) = omega arith in
-    rw (no, count_before xs b rest below.1 le) counts
-
-first_last : (lower : List ℕ) (b : ℕ) (rest : List ℕ) → AllBelowBase 128 lower → 128 ≤ b → position is_last (lower ++ b ∷ rest) ≡ Some (length lower)
-first_last lower b rest below le =
-    let inside : nat_lt (length lower) (length (lower ++ b ∷ rest)) ≡ true = grind (arith, length-append lower (b ∷ rest)) in
-    rw (count_before lower b rest below le, inside) refl
-
-here : (lower : List ℕ) (b : ℕ) (rest : List ℕ) → get_or (lower ++ b ∷ rest) (length lower) 0 ≡ b
-here [] b rest = refl
-here (x ∷ xs) b rest = here xs b rest
-
-before : (lower rest : List ℕ) → take (length lower) (lower ++ rest) ≡ lower
-before [] rest = refl
-before (x ∷ xs) rest = ap (λ r. x ∷ r) (before xs rest)
-
 -- how the spelling of a number is found at the front of some bytes
-pub record Found (n : ℕ) (bytes : List ℕ) : Type 0 where
-  pub last : ℕ
+pub record Found (n last : ℕ) (bytes : List ℕ) : Type 0 where
   pub is : position is_last bytes ≡ Some last
   pub number : of_groups (get_or bytes last 0 - 128) (take last bytes) ≡ n
   pub alone : get_or bytes last 0 - 128 ≡ 0 → last ≡ 0
   pub size : last + 1 ≡ length (vint n)
 
-found_by : (n : ℕ) (s : Shape n) (rest : List ℕ) → Found n (s.lower ++ (s.highest + 128) ∷ rest)
-found_by n s rest =
-    let b = s.highest + 128 in
-    let less : b - 128 ≡ s.highest = omega arith in
+found_small : (n : ℕ) (rest : List ℕ) → n < 128 → Found n 0 (vint n ++ rest)
+found_small n rest lt =
+    let e = spelled_small n lt in
+    let back : n + 128 - 128 ≡ n = omega arith in
+    let yes : nat_le 128 (n + 128) ≡ true = grind arith in
+    let some : nat_lt 0 (suc (length rest)) ≡ true = grind arith in
+    rw e (record { is = rw (yes, some) refl; number = rw back (omega arith); alone = λ none. refl; size = rw e refl })
+
+next_end : (a n i : ℕ) → cond (nat_lt a n) (Some a) None ≡ Some i → cond (nat_lt (1 + a) (suc n)) (Some (1 + a)) None ≡ Some (suc i)
+next_end a n i is = grind (arith, is)
+
+found_large : (n last : ℕ) (bytes : List ℕ) → 128 ≤ n → Found (n / 128) last bytes → Found n (suc last) (n % 128 ∷ bytes)
+found_large n last bytes large f =
+    let whole : n / 128 * 128 + n % 128 ≡ n = omega arith in
+    let no : nat_le 128 (n % 128) ≡ false = grind arith in
+    let zero_of : get_or bytes last 0 - 128 ≡ 0 → of_groups (get_or bytes last 0 - 128) (take last bytes) ≡ 0 = λ none. rw (none, f.alone none) refl in
     record {
-      last = length s.lower;
-      is = first_last s.lower b rest s.below (omega arith);
-      number = rw (here s.lower b rest, before s.lower (b ∷ rest), less) s.number;
-      alone = λ none. ap length (s.alone (sym less ∙ ap (λ x. x - 128) (sym (here s.lower b rest)) ∙ none));
-      size = sym (ap length s.spelled ∙ length-append s.lower (b ∷ []));
+      is = rw no (next_end _ _ last f.is);
+      number = one_more_group (get_or bytes last 0 - 128) (n % 128) (take last bytes) ∙ rw f.number whole;
+      alone = λ none. absurd (omega (arith, large, zero_of none, f.number));
+      size = omega (arith, f.size, ap length (spelled_large n large));
     }
 
-pub found_in : (n : ℕ) (rest bytes : List ℕ) → bytes ≡ vint n ++ rest → Found n bytes
-found_in n rest bytes is =
-    let s = shape_by n n (omega arith) in
-    let whole : bytes ≡ s.lower ++ (s.highest + 128) ∷ rest = is ∙ ap (λ v. v ++ rest) s.spelled ∙ append_assoc s.lower ((s.highest + 128) ∷ []) rest in
-    subst (Found n) (sym whole) (found_by n s rest)
+found_more : (n : ℕ) (rest : List ℕ) → 128 ≤ n → (last : ℕ) × Found (n / 128) last (vint (n / 128) ++ rest) → (last : ℕ) × Found n last (vint n ++ rest)
+found_more n rest large f = (suc f.0, rw (spelled_large n large) (found_large n f.0 (vint (n / 128) ++ rest) large f.1))
+
+found_by : (bound n : ℕ) (rest : List ℕ) → n ≤ bound → (last : ℕ) × Found n last (vint n ++ rest)
+found_by zero n rest le = (0, found_small n rest (omega arith))
+found_by (suc bound) n rest le =
+    ⊎_elim (λ lt. (0, found_small n rest lt)) (λ large. found_more n rest large (found_by bound (n / 128) rest (omega arith))) (cases_lt n 128)
+
+pub found_in : (n : ℕ) (rest bytes : List ℕ) → bytes ≡ vint n ++ rest → (last : ℕ) × Found n last bytes
+found_in n rest bytes is = let f = found_by n n rest (omega arith) in (f.0, subst (Found n f.0) (sym is) f.1)
+
+pub found_at : (n i : ℕ) (rest bytes : List ℕ) → bytes ≡ vint n ++ rest → position is_last bytes ≡ Some i → Found n i bytes
+found_at n i rest bytes is at = let f = found_in n rest bytes is in subst (λ k. Found n k bytes) (same_Some f.0 i (sym f.1.is ∙ at)) f.1
 
 below_all : (xs : List ℕ) (i : ℕ) → ((k : ℕ) → k < i → nat_le 128 (get_or xs k 0) ≡ false) → AllBelowBase 128 (take i xs)
 below_all xs zero each = tt
@@ -192,20 +153,6 @@ read_only bytes i n is byte alone number =
 
 pub last_large : (bytes : List ℕ) (i : ℕ) → position is_last bytes ≡ Some i → 128 ≤ get_or bytes i 0
 last_large bytes i is = let p = position-Some is_last bytes i 0 is in grind (arith, p.1)
-
-same_last : (n : ℕ) (bytes : List ℕ) (i : ℕ) (f : Found n bytes) → position is_last bytes ≡ Some i → f.last ≡ i
-same_last n bytes i f is = ap (λ o. unwrap_or o 0) (sym f.is ∙ is)
-
-pub alone_at : (n : ℕ) (bytes : List ℕ) (i : ℕ) → Found n bytes → position is_last bytes ≡ Some i → get_or bytes i 0 - 128 ≡ 0 → i ≡ 0
-alone_at n bytes i f is none =
-    let same = same_last n bytes i f is in
-    sym same ∙ f.alone (ap (λ k. get_or bytes k 0 - 128) same ∙ none)
-
-pub number_at : (n : ℕ) (bytes : List ℕ) (i : ℕ) → Found n bytes → position is_last bytes ≡ Some i → of_groups (get_or bytes i 0 - 128) (take i bytes) ≡ n
-number_at n bytes i f is = subst (λ k. of_groups (get_or bytes k 0 - 128) (take k bytes) ≡ n) (same_last n bytes i f is) f.number
-
-pub size_at : (n : ℕ) (bytes : List ℕ) (i : ℕ) → Found n bytes → position is_last bytes ≡ Some i → i + 1 ≡ length (vint n)
-size_at n bytes i f is = subst (λ k. k + 1 ≡ length (vint n)) (same_last n bytes i f is) f.size
 
 -- where the code writes
 

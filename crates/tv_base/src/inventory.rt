@@ -1,5 +1,5 @@
 //! Values that are kept as long as a ticket of theirs is out.
-ghost use Rattle.std.specs.Prelude.{◌≡◌, ◌<◌, [], ◌↔◌, None, IfOk, IfSome, IsSome, IsErr, OnErr, MatchOption, find, map, position, vec_len};
+ghost use Rattle.std.specs.Prelude.{◌≡◌, ◌<◌, ℕ, [], ◌↔◌, None, All, IfOk, IfSome, IsSome, IsErr, OnOk, OnErr, MatchOption, find, map, position, vec_len};
 ghost use Rattle.std.specs.List.{AllZip};
 ghost use Rattle.std.specs.Option.{IsSomeAnd};
 ghost use Rattle.tv_base.specs.Entries.{IsFull, is_at, one_more, released, tracked};
@@ -120,16 +120,8 @@ impl<T: Drop> Inventory<T> {
         ensures err { OnErr result (self.new ≡ self.old) }
         ensures full { IsErr result ↔ IsSomeAnd (find (is_at t.now) self.old) IsFull }
     {
-        let number = t.number;
-        let Some(i) = place_of(&self.entries, number) else {
-            return Ok(Ticket { number });
-        };
-        let entry = &mut self.entries[i];
-        if entry.count == u64::MAX {
-            return Err(Exhausted);
-        }
-        entry.count += 1;
-        Ok(Ticket::new(number))
+        count_more(&mut self.entries, t.number)?;
+        Ok(Ticket::new(t.number))
     }
 
     /// The value of a ticket.
@@ -149,16 +141,7 @@ impl<T: Drop> Inventory<T> {
     pub fn release(&mut self, t: Ticket)
         ensures released { self.new ≡ released t self.old }
     {
-        let number = t.number;
-        let Some(i) = place_of(&self.entries, number) else {
-            return;
-        };
-        if self.entries[i].count < 2 {
-            drop(self.entries.remove(i));
-            return;
-        }
-        let entry = &mut self.entries[i];
-        entry.count -= 1;
+        count_less(&mut self.entries, t.number);
     }
 
     /// The values, in the order in which they were tracked.
@@ -196,6 +179,43 @@ fn place_of<T>(entries: &Vec<Entry<T>>, number: u64) -> Option<usize>
         (IsPlace (is_at number) entries.now.items) }
 {
     position_of(entries, number)
+}
+
+// One share more of the entry of a number, if there is one. The numbers stay.
+fn count_more<T>(entries: &mut Vec<Entry<T>>, number: u64) -> Result<(), Exhausted>
+    ensures ok { OnOk result
+        (entries.new.items ≡ change_at (is_at number) one_more entries.old.items) }
+    ensures err { OnErr result (entries.new.items ≡ entries.old.items) }
+    ensures full { IsErr result ↔ IsSomeAnd (find (is_at number) entries.old.items) IsFull }
+    ensures below { (n : ℕ) → All (λ e. e.number < n) entries.old.items
+        → All (λ e. e.number < n) entries.new.items }
+{
+    let Some(i) = place_of(entries, number) else {
+        return Ok(());
+    };
+    let entry = &mut entries[i];
+    if entry.count == u64::MAX {
+        return Err(Exhausted);
+    }
+    entry.count += 1;
+    Ok(())
+}
+
+// One share less of the entry of a number, if there is one. With the last one it is dropped.
+fn count_less<T: Drop>(entries: &mut Vec<Entry<T>>, number: u64)
+    ensures released { entries.new.items ≡ released number entries.old.items }
+    ensures below { (n : ℕ) → All (λ e. e.number < n) entries.old.items
+        → All (λ e. e.number < n) entries.new.items }
+{
+    let Some(i) = place_of(entries, number) else {
+        return;
+    };
+    if entries[i].count < 2 {
+        drop(entries.remove(i));
+        return;
+    }
+    let entry = &mut entries[i];
+    entry.count -= 1;
 }
 
 // Visits one value.

@@ -1,12 +1,16 @@
 -- Files that are written to another directory, one after the other.
-use Rattle.std.proofs.Common.{◌≡◌, ◌≢◌, ℕ, Bool, true, false, cond, List, [], ◌∷◌, ◌++◌, Option, Some, None, IsSome, refl, sym, ap, subst, ◌∙◌, append_assoc}
+use Rattle.std.proofs.Common.{◌≡◌, ◌≢◌, ℕ, Bool, true, false, cond, List, [], ◌∷◌, ◌++◌, Option, Some, None, refl, sym, ap, subst, ◌∙◌, append_assoc}
 use Rattle.std.specs.BTreeMap.{is_at}
 use Rattle.tv_model.specs.Names.{byte_cmp}
 use Rattle.tv_model.specs.State.{at}
 use Rattle.tv_model.specs.Files.{Reads, Sets, Rose}
 use Rattle.tv_base.specs.declared.error.TantivyError.{TantivyError}
 use Rattle.tv_directory.specs.View.{View, Told}
-use Rattle.tv_directory.specs.Persisting.{Persists, PersistCause, Refuses, StopsAt}
+use Rattle.tv_directory.specs.Persisting.{Persists, PersistCause, Refuses, StopsAt, contents}
+use Rattle.tv_directory.specs.StoredFiles.{bytes_of}
+use Rattle.tv_directory.specs.declared.files.StoredFile.{StoredFile}
+use Rattle.std.specs.Prelude.{is_some}
+use Rattle.std.proofs.lemmas.Option.{none-some}
 use Rattle.tv_directory.proofs.StoredFiles.{same_or, isnt_at}
 use Rattle.tv_model.proofs.Entries.{at_itself, same_at}
 
@@ -16,79 +20,38 @@ pub record PersistsRest (told : Type 0) (all rest : List (List ℕ × List ℕ))
   pub split : all ≡ before ++ rest
   pub persisted : told → Persists before old new
 
-some_isnt_none : {X : Type 0} (o : Option X) → IsSome o → o ≡ None → ⊥
-some_isnt_none None some none = absurd cc
-some_isnt_none (Some x) some none = absurd cc
+-- one more file among some others
+at_other : (before : List (List ℕ × List ℕ)) (e : List ℕ × List ℕ) (n : List ℕ) → n ≢ e.0 → at (before ++ e ∷ []) n ≡ at before n
+at_other [] e n other = ap (λ (b : Bool). cond b (Some e.1) None) (same_at n e.0 ∙ isnt_at e.0 n other)
+at_other (f ∷ before) e n other = ap (λ (o : Option (List ℕ)). cond (is_at (byte_cmp n) f.0) (Some f.1) o) (at_other before e n other)
 
-some_is : (o : Option (List ℕ)) (x : List ℕ) → o ≡ Some x → IsSome o
-some_is None x e = absurd cc
-some_is (Some y) x e = refl
-
-found_before : (before : List (List ℕ × List ℕ)) (e : List ℕ × List ℕ) (n x : List ℕ) → at before n ≡ Some x → at (before ++ e ∷ []) n ≡ Some x
-found_before [] e n x found = absurd cc
-found_before (f ∷ before) e n x found =
-    elim (is_at (byte_cmp n) f.0) as (λ b. cond b (Some f.1) (at before n) ≡ Some x → cond b (Some f.1) (at (before ++ e ∷ []) n) ≡ Some x) [
-      | true ↦ λ h. h
-      | false ↦ λ h. found_before before e n x h
-    ] found
-
-not_before : (before : List (List ℕ × List ℕ)) (e : List ℕ × List ℕ) (n : List ℕ) → at before n ≡ None → at (before ++ e ∷ []) n ≡ cond (is_at (byte_cmp n) e.0) (Some e.1) None
-not_before [] e n none = refl
-not_before (f ∷ before) e n none =
-    elim (is_at (byte_cmp n) f.0) as (λ b. cond b (Some f.1) (at before n) ≡ None → cond b (Some f.1) (at (before ++ e ∷ []) n) ≡ cond (is_at (byte_cmp n) e.0) (Some e.1) None) [
+at_last : (before : List (List ℕ × List ℕ)) (e : List ℕ × List ℕ) → at before e.0 ≡ None → at (before ++ e ∷ []) e.0 ≡ Some e.1
+at_last [] e none = rw (at_itself e.0) refl
+at_last (f ∷ before) e none =
+    elim (is_at (byte_cmp e.0) f.0) as (λ b. cond b (Some f.1) (at before e.0) ≡ None → cond b (Some f.1) (at (before ++ e ∷ []) e.0) ≡ Some e.1) [
       | true ↦ λ h. absurd cc
-      | false ↦ λ h. not_before before e n h
+      | false ↦ λ h. at_last before e h
     ] none
 
--- a name that isn't among the files before, after one more
-pub record IsLast (before : List (List ℕ × List ℕ)) (e : List ℕ × List ℕ) (n : List ℕ) : Type 0 where
-  pub none : at before n ≡ None
-  pub same : n ≡ e.0 → at (before ++ e ∷ []) n ≡ Some e.1
-  pub other : n ≢ e.0 → at (before ++ e ∷ []) n ≡ None
-
-is_last : (before : List (List ℕ × List ℕ)) (e : List ℕ × List ℕ) (n : List ℕ) → at before n ≡ None → IsLast before e n
-is_last before e n none = record {
-  none = none;
-  same = λ is. not_before before e n none ∙ ap (λ (b : Bool). cond b (Some e.1) None) (ap (λ (k : List ℕ). is_at (byte_cmp k) e.0) is ∙ at_itself e.0);
-  other = λ isnt. not_before before e n none ∙ ap (λ (b : Bool). cond b (Some e.1) None) (same_at n e.0 ∙ isnt_at e.0 n isnt);
-}
-
--- where a name is among the files
-found_or : {P : Type 0} (before : List (List ℕ × List ℕ)) (n : List ℕ) → ((x : List ℕ) → at before n ≡ Some x → P) → (at before n ≡ None → P) → P
-found_or {P} before n found none =
-    elim (at before n) as (λ o. at before n ≡ o → P) [
-      | Some x ↦ λ e. found x e
-      | None ↦ λ e. none e
-    ] refl
-
-some_value : (o : Option (List ℕ)) (x y : List ℕ) → o ≡ Some x → o ≡ Some y → x ≡ y
-some_value o x y a b = cc
+unless_some : (o : Option (List ℕ)) → ((x : List ℕ) → o ≡ Some x → ⊥) → o ≡ None
+unless_some None found = refl
+unless_some (Some x) found = absurd (found x refl)
 
 -- one more file was written
 persists_one : (before : List (List ℕ × List ℕ)) (old mid new : Reads) (name bytes : List ℕ) → Persists before old mid → mid name ≡ None → Sets mid new name (Some bytes) → Persists (before ++ (name, bytes) ∷ []) old new
 persists_one before old mid new name bytes p absent set =
     let e : List ℕ × List ℕ = (name, bytes) in
-    let new_here : at before name ≡ None = found_or before name (λ x f. absurd (some_isnt_none (mid name) (some_is (mid name) x (p.written name x f)) absent)) (λ none. none) in
+    let free : at before name ≡ None = unless_some (at before name) (λ x f. none-some x (sym absent ∙ p.written name x f)) in
+    let here : (n : List ℕ) → n ≡ name → at (before ++ e ∷ []) n ≡ Some bytes = λ n same. ap (at (before ++ e ∷ [])) same ∙ at_last before e free in
     record {
-      absent = λ n some.
-          found_or before n
-          (λ x f. p.absent n (some_is (at before n) x f))
-          (λ none. same_or name n
-          (λ same. ap old same ∙ sym (p.others name new_here) ∙ absent)
-          (λ other. absurd (some_isnt_none (at (before ++ e ∷ []) n) some ((is_last before e n none).other other))));
-      written = λ n x is.
-          found_or before n
-          (λ y f. set.others n (λ same. some_isnt_none (at before n) (some_is (at before n) y f) (ap (at before) same ∙ new_here)) ∙ p.written n y f ∙ ap Some (some_value (at (before ++ e ∷ []) n) y x (found_before before e n y f) is))
-          (λ none. same_or name n
-          (λ same. ap new same ∙ set.changed ∙ sym ((is_last before e n none).same same) ∙ is)
-          (λ other. absurd (some_isnt_none (at (before ++ e ∷ []) n) (some_is (at (before ++ e ∷ []) n) x is) ((is_last before e n none).other other))));
-      others = λ n none.
-          found_or before n
-          (λ y f. absurd (some_isnt_none (at (before ++ e ∷ []) n) (some_is (at (before ++ e ∷ []) n) y (found_before before e n y f)) none))
-          (λ no. same_or name n
-          (λ same. absurd (some_isnt_none (at (before ++ e ∷ []) n) (some_is (at (before ++ e ∷ []) n) bytes ((is_last before e n no).same same)) none))
-          (λ other. set.others n other ∙ p.others n no));
+      absent = λ n some. same_or name n (λ same. ap old same ∙ sym (p.others name free) ∙ absent) (λ other. p.absent n (ap is_some (sym (at_other before e n other)) ∙ some));
+      written = λ n x is. same_or name n (λ same. ap new same ∙ set.changed ∙ sym (here n same) ∙ is) (λ other. set.others n other ∙ p.written n x (sym (at_other before e n other) ∙ is));
+      others = λ n none. same_or name n (λ same. absurd (none-some bytes (sym none ∙ here n same))) (λ other. set.others n other ∙ p.others n (sym (at_other before e n other) ∙ none));
     }
+
+-- the first of some files
+pub first_of : (rest others : List (List ℕ × StoredFile)) (file : List ℕ × StoredFile) (name bytes : List ℕ) → rest ≡ file ∷ others → name ≡ file.0 → bytes ≡ bytes_of file.1.content → contents rest ≡ (name, bytes) ∷ contents others
+first_of rest others file name bytes is named held = rw (is, named, held) refl
 
 pub rest_next : (told : Type 0) (all rest others : List (List ℕ × List ℕ)) (old mid new : Reads) (name bytes : List ℕ) → PersistsRest told all rest old mid → rest ≡ (name, bytes) ∷ others → (told → mid name ≡ None) → (told → Sets mid new name (Some bytes)) → PersistsRest told all others old new
 rest_next told all rest others old mid new name bytes r first absent set = record {

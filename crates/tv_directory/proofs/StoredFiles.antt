@@ -1,6 +1,7 @@
 -- What a map of files reads after files were put.
 use Rattle.std.proofs.Common.{◌≡◌, ◌≢◌, ℕ, Bool, true, false, cond, List, [], ◌∷◌, ◌++◌, Option, Some, refl, sym, ap, subst, ◌∙◌, append_assoc, true≢false}
 use Rattle.std.specs.Prelude.{option_map, string_bytes, String, Vec}
+use Rattle.std.proofs.lemmas.Bool.{false_from_ne_true}
 use Rattle.std.proofs.lemmas.List.{reverse-append}
 use Rattle.std.specs.List.{AllByRecursion}
 use Rattle.std.specs.BTreeMap.{is_at}
@@ -13,11 +14,7 @@ use Rattle.tv_directory.specs.StoredFiles.{bytes_of, reads_of, number_at, named,
 
 -- another name isn't at this one's place
 pub isnt_at : (name n : List ℕ) → n ≢ name → is_at (byte_cmp name) n ≡ false
-isnt_at name n other =
-    elim (is_at (byte_cmp name) n) as (λ b. is_at (byte_cmp name) n ≡ b → b ≡ false) [
-      | true ↦ λ e. absurd (other (sym (text_at name n e)))
-      | false ↦ λ e. refl
-    ] refl
+isnt_at name n other = false_from_ne_true _ (λ e. other (sym (text_at name n e)))
 
 -- the files of some names, and of one that was given another file or none
 pub record Gives (old new : List (List ℕ × StoredFile)) (name : List ℕ) (file : Option StoredFile) : Type 0 where

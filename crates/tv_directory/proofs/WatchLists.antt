@@ -1,7 +1,8 @@
 -- Entries of registered callbacks: their numbers, and what is seen of them.
-use Rattle.std.proofs.Common.{◌≡◌, ℕ, ◌-◌, Bool, true, false, cond, List, [], ◌∷◌, ◌++◌, Option, Some, None, find, map, refl, ap, ◌∙◌, eqb, arith}
+use Rattle.std.proofs.Common.{◌≡◌, ℕ, ◌-◌, Bool, true, false, cond, List, [], ◌∷◌, ◌++◌, Option, Some, None, find, map, refl, sym, ap, ◌∙◌, eqb, arith}
 use Rattle.std.specs.Prelude.{option_map}
 use Rattle.std.specs.List.{AllByRecursion, AllZip, IsDistinct}
+use Rattle.std.proofs.lemmas.Bool.{cond_both}
 use Rattle.std.proofs.lemmas.List.{map-append}
 use Rattle.tv_base.specs.declared.inventory.Entry.{Entry}
 use Rattle.tv_base.specs.Entries.{is_at, is_last, one_fewer, one_more, released}
@@ -17,27 +18,15 @@ use Rattle.tv_directory.specs.WatchList.{AreApart, released_by, seen, state_of}
 
 found_in : {X Y : Type 0} (p : Y → Bool) (g : X → Y) (xs : List X) → find p (map g xs) ≡ option_map g (find (λ x. p (g x)) xs)
 found_in p g [] = refl
-found_in p g (x ∷ xs) =
-    elim (p (g x)) as (λ b. cond b (Some (g x)) (find p (map g xs)) ≡ option_map g (cond b (Some x) (find (λ y. p (g y)) xs))) [
-      | true ↦ refl
-      | false ↦ found_in p g xs
-    ]
+found_in p g (x ∷ xs) = grind (arith, found_in p g xs)
 
 changed_in : {X Y : Type 0} (p : Y → Bool) (g : X → Y) (f : X → X) (h : Y → Y) → ((x : X) → h (g x) ≡ g (f x)) → (xs : List X) → change_at p h (map g xs) ≡ map g (change_at (λ x. p (g x)) f xs)
 changed_in p g f h same [] = refl
-changed_in p g f h same (x ∷ xs) =
-    elim (p (g x)) as (λ b. cond b (h (g x) ∷ map g xs) (g x ∷ change_at p h (map g xs)) ≡ map g (cond b (f x ∷ xs) (x ∷ change_at (λ y. p (g y)) f xs))) [
-      | true ↦ ap (λ y. y ∷ map g xs) (same x)
-      | false ↦ ap (λ ys. g x ∷ ys) (changed_in p g f h same xs)
-    ]
+changed_in p g f h same (x ∷ xs) = grind (arith, same x, changed_in p g f h same xs)
 
 taken_in : {X Y : Type 0} (p : Y → Bool) (g : X → Y) (xs : List X) → take_out p (map g xs) ≡ map g (take_out (λ x. p (g x)) xs)
 taken_in p g [] = refl
-taken_in p g (x ∷ xs) =
-    elim (p (g x)) as (λ b. cond b (map g xs) (g x ∷ take_out p (map g xs)) ≡ map g (cond b xs (x ∷ take_out (λ y. p (g y)) xs))) [
-      | true ↦ refl
-      | false ↦ ap (λ ys. g x ∷ ys) (taken_in p g xs)
-    ]
+taken_in p g (x ∷ xs) = grind (arith, taken_in p g xs)
 
 last_of_some : {C : Type 0} (calls_of : C → ℕ) (o : Option (Entry (Watcher C))) → is_last_of (option_map (seen calls_of) o) ≡ is_last o
 last_of_some calls_of None = refl
@@ -53,10 +42,7 @@ less_seen calls_of n es = changed_in (has_number n) (seen calls_of) one_fewer (�
 released_seen : {C : Type 0} (calls_of : C → ℕ) (n : ℕ) (es : List (Entry (Watcher C))) → map (seen calls_of) (released n es) ≡ without_handle n (map (seen calls_of) es)
 released_seen calls_of n es =
     rw (last_seen calls_of n es, taken_in (has_number n) (seen calls_of) es, less_seen calls_of n es)
-    (elim (is_last (find (is_at n) es)) as (λ b. map (seen calls_of) (cond b (take_out (is_at n) es) (change_at (is_at n) one_fewer es)) ≡ cond b (map (seen calls_of) (take_out (is_at n) es)) (map (seen calls_of) (change_at (is_at n) one_fewer es))) [
-      | true ↦ refl
-      | false ↦ refl
-    ])
+    (cond_both (is_last (find (is_at n) es)) _ _ (λ l. map (seen calls_of) (released n es) ≡ l) (λ b. rw b refl) (λ b. rw b refl))
 
 pub unwatched : {C : Type 0} (calls_of : C → ℕ) (w v : Watchers C) (handle : Option ℕ) → v.list ≡ released_by handle w.list → v.notice ≡ w.notice → state_of calls_of v ≡ unsubscribed handle (state_of calls_of w)
 unwatched calls_of w v None list notice = rw (list, notice) refl
@@ -92,10 +78,7 @@ others_more m (d ∷ es) e differs others = (others.0, others_more m es e differ
 others_fewer : {T : Type 0} (m : ℕ) (p : Entry T → Bool) (es : List (Entry T)) → AllByRecursion (λ y. eqb m y ≡ false) (map (λ d. d.number) es) → AllByRecursion (λ y. eqb m y ≡ false) (map (λ d. d.number) (take_out p es))
 others_fewer m p [] others = tt
 others_fewer m p (d ∷ es) others =
-    elim (p d) as (λ b. AllByRecursion (λ y. eqb m y ≡ false) (map (λ d. d.number) (cond b es (d ∷ take_out p es)))) [
-      | true ↦ others.1
-      | false ↦ (others.0, others_fewer m p es others.1)
-    ]
+    cond_both (p d) es (d ∷ take_out p es) (λ l. AllByRecursion (λ y. eqb m y ≡ false) (map (λ d. d.number) l)) (λ b. others.1) (λ b. (others.0, others_fewer m p es others.1))
 
 none_of : {T : Type 0} (n : ℕ) (es : List (Entry T)) → AllByRecursion (λ y. eqb n y ≡ false) (map (λ d. d.number) es) → find (is_at n) es ≡ None
 none_of n [] others = refl
@@ -121,18 +104,11 @@ apart_fewer : {T : Type 0} (p : Entry T → Bool) (es : List (Entry T)) → AreA
 unfolding IsDistinct
 apart_fewer p [] apart = tt
 apart_fewer p (d ∷ es) apart =
-    elim (p d) as (λ b. AreApart (cond b es (d ∷ take_out p es))) [
-      | true ↦ apart.1
-      | false ↦ (others_fewer d.number p es apart.0, apart_fewer p es apart.1)
-    ]
+    cond_both (p d) es (d ∷ take_out p es) AreApart (λ b. apart.1) (λ b. (others_fewer d.number p es apart.0, apart_fewer p es apart.1))
 
 same_numbers : {T : Type 0} (p : Entry T → Bool) (f : Entry T → Entry T) → ((e : Entry T) → (f e).number ≡ e.number) → (es : List (Entry T)) → map (λ d. d.number) (change_at p f es) ≡ map (λ d. d.number) es
 same_numbers p f same [] = refl
-same_numbers {T} p f same (d ∷ es) =
-    elim (p d) as (λ b. map (λ d. d.number) (cond b (f d ∷ es) (d ∷ change_at p f es)) ≡ d.number ∷ map (λ d. d.number) es) [
-      | true ↦ ap (λ n. n ∷ map (λ (e : Entry T). e.number) es) (same d)
-      | false ↦ ap (λ ns. d.number ∷ ns) (same_numbers p f same es)
-    ]
+same_numbers p f same (d ∷ es) = grind (arith, same d, same_numbers p f same es)
 
 visited_numbers : {T : Type 0} (R : T → T → Type 0) (es fs : List (Entry T)) → AllZip (IsVisited R) es fs → map (λ d. d.number) fs ≡ map (λ d. d.number) es
 visited_numbers R [] [] so = refl
@@ -148,10 +124,7 @@ apart_shared n es apart = rw (same_numbers (is_at n) one_more (λ e. refl) es) a
 
 pub apart_released : {T : Type 0} (n : ℕ) (es : List (Entry T)) → AreApart es → AreApart (released n es)
 apart_released n es apart =
-    elim (is_last (find (is_at n) es)) as (λ b. AreApart (cond b (take_out (is_at n) es) (change_at (is_at n) one_fewer es))) [
-      | true ↦ apart_fewer (is_at n) es apart
-      | false ↦ rw (same_numbers (is_at n) one_fewer (λ e. refl) es) apart
-    ]
+    cond_both (is_last (find (is_at n) es)) (take_out (is_at n) es) (change_at (is_at n) one_fewer es) AreApart (λ b. apart_fewer (is_at n) es apart) (λ b. rw (same_numbers (is_at n) one_fewer (λ e. refl) es) apart)
 
 -- where the first of a number goes, none is left
 gone_by : {T : Type 0} (n : ℕ) (d : Entry T) (es : List (Entry T)) (b : Bool) → eqb d.number n ≡ b → AreApart (d ∷ es) → find (is_at n) (take_out (is_at n) es) ≡ None → find (is_at n) (cond b es (d ∷ take_out (is_at n) es)) ≡ None
@@ -171,9 +144,10 @@ last_gone n es apart last = rw last (gone n es apart)
 
 -- who is gone isn't visited
 pub none_visited : {T : Type 0} (R : T → T → Type 0) (n : ℕ) (es fs : List (Entry T)) → AllZip (IsVisited R) es fs → find (is_at n) es ≡ None → find (is_at n) fs ≡ None
-none_visited R n [] [] so none = refl
-none_visited R n [] (f ∷ fs) so none = absurd so
-none_visited R n (e ∷ es) [] so none = absurd so
-none_visited R n (e ∷ es) (f ∷ fs) so none =
-    let differs : eqb e.number n ≡ false = not_first (is_at n) e es (eqb e.number n) refl none in
-    rw (so.0.same_number, differs) (none_visited R n es fs so.1 (passed (is_at n) e es differs none))
+none_visited {T} R n es fs so none =
+    let find_number : (xs : List (Entry T)) → find (λ m. eqb m n) (map (λ e. e.number) xs) ≡ option_map (λ e. e.number) (find (is_at n) xs) = found_in (λ m. eqb m n) (λ e. e.number) in
+    nothing_of (find (is_at n) fs) (sym (find_number fs) ∙ ap (find (λ m. eqb m n)) (visited_numbers R es fs so) ∙ find_number es ∙ ap (option_map (λ e. e.number)) none)
+  where
+    nothing_of : (o : Option (Entry T)) → option_map (λ e. e.number) o ≡ None → o ≡ None
+    nothing_of None is = refl
+    nothing_of (Some e) is = absurd cc

@@ -1,5 +1,5 @@
 -- What the calls of a directory do, and why they fail.
-use Rattle.std.specs.Prelude.{◌≡◌, ◌≢◌, ◌≤◌, ◌⊎◌, ◌++◌, ◌∷◌, ℕ, true, false, List, [], Some, None, IsSome, Result, IfErr, OnOk, OnErr}
+use Rattle.std.specs.Prelude.{◌≡◌, ◌≢◌, ◌≤◌, ◌<◌, ◌⊎◌, ◌++◌, ◌∷◌, ℕ, true, false, List, [], Some, None, IsSome, Result, IfErr, OnOk, OnErr}
 use Rattle.tv_model.specs.Files.{Reads, Same, Sets, MaySet, KeepsOthers, Rose}
 use Rattle.tv_base.specs.Causes.{IsDevice, IoCause, OpenReadCause, OpenWriteCause, DeleteCause}
 use Rattle.tv_base.specs.declared.io.IoFault.{IoFault}
@@ -8,9 +8,9 @@ use Rattle.tv_base.specs.declared.open_errors.OpenReadError.{OpenReadError}
 use Rattle.tv_base.specs.declared.open_errors.OpenWriteError.{OpenWriteError}
 use Rattle.tv_base.specs.declared.open_errors.DeleteError.{DeleteError}
 use Rattle.tv_base.specs.declared.open_errors.LockError.{LockError}
-use Rattle.tv_directory.specs.Locks.{LockCause, SameLocks, TakesLock}
+use Rattle.tv_directory.specs.Locks.{FreesLock, LockCause, SameLocks, TakesLock}
 use Rattle.tv_directory.specs.Telling.{TellsPart}
-use Rattle.tv_directory.specs.View.{View, Told, WriterState}
+use Rattle.tv_directory.specs.View.{View, Told, WriterState, OnlyLocks, OnlyReads}
 use Rattle.tv_directory.specs.Watch.{MayNote, noted}
 
 -- A call fails where the device refused it, and the count rose; or where memory was wanted, and then, as at Ok, the count stands still.
@@ -126,3 +126,15 @@ pub record Acquires {A W : Type 0} (told : Told) (old new : View W) (name : List
 pub record TellsLineTo {A W : Type 0} (told : Told) (old new : View W) (line : List ℕ) (result : Result A IoFault) : Type 0 where
   pub ok : told.heard → OnOk result (new.heard ≡ old.heard ++ (old.moment, line ++ 10 ∷ []) ∷ [])
   pub err : told.heard → OnErr result (TellsPart old.heard new.heard old.moment line)
+
+-- The lock of this name is free. The device refused nothing, and nothing else changed.
+pub record Frees {W : Type 0} (told : Told) (name : List ℕ) (old new : View W) : Type 0 where
+  pub freed : told.locks → FreesLock old.locks new.locks name
+  pub faults : new.faults ≡ old.faults
+  pub frame : OnlyLocks told old new
+
+-- There is room for a line of this length, unless memory was wanted. The device refused nothing, and nothing else changed.
+pub record MakesRoom {A E W : Type 0} (told : Told) (len : ℕ) (result : Result A E) (old new : View W) : Type 0 where
+  pub made : OnOk result (len < new.room)
+  pub faults : new.faults ≡ old.faults
+  pub frame : OnlyReads told old new

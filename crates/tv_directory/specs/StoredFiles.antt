@@ -1,8 +1,9 @@
 -- The files of a directory in memory.
-use Rattle.std.specs.Prelude.{ℕ, ◌==◌, Bool, false, List, Option, Some, None, String, Vec, length, map, reverse, sum, is_some, option_map, string_bytes}
+use Rattle.std.specs.Prelude.{ℕ, ◌≡◌, ◌≢◌, ◌==◌, Bool, false, List, Option, Some, None, Result, OnOk, OnErr, String, Vec, length, map, reverse, sum, is_some, option_map, string_bytes}
 use Rattle.tv_model.specs.State.{at}
-use Rattle.tv_model.specs.Files.{Reads}
+use Rattle.tv_model.specs.Files.{Reads, Sets}
 use Rattle.tv_directory.specs.declared.files.StoredFile.{StoredFile}
+use Rattle.tv_directory.specs.declared.files.Files.{Files}
 use Rattle.tv_directory.specs.declared.files.Content.{Content}
 use Rattle.tv_directory.specs.declared.files.Content.TheVariants.{Unsealed, Sealed}
 
@@ -30,6 +31,20 @@ is_number number (Some other) = other == number
 -- whether the name's file is the one that was made under this number
 abbrev pub is_made : List (List ℕ × StoredFile) → List ℕ → ℕ → Bool
 is_made files name number = is_number number (number_at files name)
+
+-- A name was given this file, and no other name another one. After an error nothing changed.
+pub record PutsFile {A E : Type 0} (old new : List (List ℕ × StoredFile)) (name : List ℕ) (file : StoredFile) (result : Result A E) : Type 0 where
+  pub ok : OnOk result (Sets (reads_of old) (reads_of new) name (Some (bytes_of file.content)))
+  pub number : OnOk result (number_at new name ≡ Some file.number)
+  pub numbers : OnOk result ((n : List ℕ) → n ≢ name → number_at new n ≡ number_at old n)
+  pub err : OnErr result (new ≡ old)
+
+-- The file of this name was given another content, and all files keep their numbers. After an error nothing changed.
+pub record ReplacesFile {A E : Type 0} (old new : Files) (name : List ℕ) (content : Content) (result : Result A E) : Type 0 where
+  pub ok : OnOk result (Sets (reads_of old.map.entries) (reads_of new.map.entries) name (Some (bytes_of content)))
+  pub numbers : (n : List ℕ) → number_at new.map.entries n ≡ number_at old.map.entries n
+  pub last : new.last ≡ old.last
+  pub err : OnErr result (new.map.entries ≡ old.map.entries)
 
 -- pairs of a text and some bytes, as names and what they shall read
 abbrev pub named : {X Y : Type 0} → List (String X × Vec ℕ Y) → List (List ℕ × List ℕ)

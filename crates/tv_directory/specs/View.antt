@@ -80,9 +80,10 @@ pub record OnlyLocks {W : Type 0} (told : Told) (old new : View W) : Type 0 wher
   pub watched : new.watched ≡ old.watched
   pub content : told.content → Same old.reads new.reads
 
--- All of that, but somebody may have been registered or called.
+-- All of that, and the device refused nothing; but somebody may have been registered or called.
 pub record OnlyWatches {W : Type 0} (told : Told) (old new : View W) : Type 0 where
   pub frame : Frame told old new
+  pub faults : new.faults ≡ old.faults
   pub content : told.content → Same old.reads new.reads
 
 -- All of that, but something may have been told, and its room used.

@@ -1,12 +1,12 @@
 -- Those who are registered, as the entries of an inventory.
-use Rattle.std.specs.Prelude.{ℕ, List, Option, Some, None, eqb, map}
+use Rattle.std.specs.Prelude.{ℕ, ◌≡◌, List, Option, Some, None, eqb, find, map}
 use Rattle.std.specs.List.{IsDistinct}
 use Rattle.tv_base.specs.declared.inventory.Entry.{Entry}
 use Rattle.tv_base.specs.Entries.{is_at, one_more, released}
 use Rattle.tv_base.specs.Places.{change_at}
 use Rattle.tv_directory.specs.declared.watch_list.Watcher.{Watcher}
 use Rattle.tv_directory.specs.declared.watch_list.Watchers.{Watchers}
-use Rattle.tv_directory.specs.Watch.{Registration, WatchState}
+use Rattle.tv_directory.specs.Watch.{Registration, WatchState, called_once}
 
 -- an entry as a registration: how often its callback was called is said by `calls_of`
 abbrev pub seen : {C : Type 0} → (C → ℕ) → Entry (Watcher C) → Registration
@@ -28,3 +28,9 @@ released_by (Some number) es = released number es
 -- no two entries have the same number
 abbrev pub AreApart : {T : Type 0} → List (Entry T) → Type 0
 AreApart es = IsDistinct eqb (map (λ e. e.number) es)
+
+-- Everybody was called once. Who was gone stays so, and numbers that were apart stay so.
+pub record CallsAll {C : Type 0} (calls_of : C → ℕ) (old new : List (Entry (Watcher C))) : Type 0 where
+  pub called : map (seen calls_of) new ≡ map called_once (map (seen calls_of) old)
+  pub gone : (n : ℕ) → find (is_at n) old ≡ None → find (is_at n) new ≡ None
+  pub apart : AreApart old → AreApart new

@@ -1,6 +1,6 @@
 //! The clock of a directory in memory.
-ghost use Rattle.std.specs.Prelude.{◌≡◌, ◌≤◌, true, false, if◌then◌else◌};
-ghost use Rattle.tv_directory.specs.Watch.{called};
+ghost use Rattle.std.specs.Prelude.{◌≡◌, ◌≤◌, true, if◌then◌else◌};
+ghost use Rattle.tv_directory.specs.Device.{ticked};
 
 /// Counts the calls that are recorded, as far as 64 bits count.
 #[derive(Clone, Copy)]
@@ -13,8 +13,7 @@ pub struct Clock {
 impl Clock {
     /// Before any call.
     pub fn new() -> Clock
-        ensures moment { result.moment ≡ 0 }
-        ensures settled { result.settled ≡ true }
+        ensures { result ≡ record { moment = 0; settled = true } }
     {
         Clock {
             moment: 0,
@@ -24,20 +23,28 @@ impl Clock {
 
     /// A call that isn't a sync is recorded.
     pub fn tick(&mut self)
-        ensures moment { self.new.moment ≡ called self.old.moment }
+        ensures ticks { self.new ≡ ticked self.old }
         ensures later { self.old.moment ≤ self.new.moment }
-        ensures settled { self.new.settled ≡ false }
     {
         self.moment = self.moment.saturating_add(1);
         self.settled = false;
     }
 
+    /// Such a call is recorded only where it leaves something.
+    pub fn tick_where(&mut self, leaves: bool)
+        ensures ticks { self.new ≡ (if leaves then ticked self.old else self.old) }
+        ensures later { self.old.moment ≤ self.new.moment }
+    {
+        if leaves {
+            self.tick();
+        }
+    }
+
     /// A sync, which is recorded only where there is something to settle.
     pub fn settle(&mut self)
-        ensures moment { self.new.moment
-            ≡ (if self.old.settled then self.old.moment else called self.old.moment) }
+        ensures settles { self.new ≡ (if self.old.settled then self.old
+            else record (ticked self.old) { settled = true }) }
         ensures later { self.old.moment ≤ self.new.moment }
-        ensures settled { self.new.settled ≡ true }
     {
         if !self.settled {
             self.tick();

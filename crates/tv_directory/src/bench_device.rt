@@ -1,6 +1,6 @@
 //! The device of a directory in memory, which refuses the calls that it is told to refuse.
-ghost use Rattle.std.specs.Prelude.{◌≡◌, ◌≤◌, []};
-ghost use Rattle.tv_directory.specs.Device.{is_refused, after_call, after_fault, after_refusal, last, IsSilent};
+ghost use Rattle.std.specs.Prelude.{◌≡◌, []};
+ghost use Rattle.tv_directory.specs.Device.{TakesNumber, after_fault, after_refusal, IsSilent};
 
 use std::alloc::Global;
 use std::marker::Model;
@@ -67,9 +67,7 @@ impl Device {
 
     /// Takes the number of the next call, and answers whether that one is refused. It isn't counted yet.
     pub fn refuses(&mut self) -> bool
-        ensures answer { result ≡ is_refused self.old }
-        ensures number { self.new ≡ after_call self.old }
-        ensures fits { self.old.refusals ≤ last }
+        ensures { TakesNumber self.old self.new result }
     {
         let number = self.call;
         self.call = number.saturating_add(1);

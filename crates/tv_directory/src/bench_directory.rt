@@ -4,10 +4,10 @@ ghost use Rattle.tv_model.specs.Names.{is_file_name};
 ghost use Rattle.tv_model.specs.Lines.{has_no_feed};
 ghost use Rattle.tv_base.specs.Causes.{OpenReadCause, OpenWriteCause};
 ghost use Rattle.tv_directory.specs.View.{tells_all, Frame, Kept, OnlyReads, OnlyLocks, OnlyWatches, OnlyTells, MayDelete};
-ghost use Rattle.tv_directory.specs.Calls.{AskFaults, ReadFaults, OpenFaults, IoFaults, DeviceFaults, DeleteFaults, LockFaults};
+ghost use Rattle.tv_directory.specs.Calls.{AskFaults, ReadFaults, OpenFaults, IoFaults, DeviceFaults, DeleteFaults, LockFaults, Frees, MakesRoom};
 ghost use Rattle.tv_directory.specs.Calls.{IsNewWriter, Makes, Appends, HandsBack, Touches, Flushes, Seals, Gives, Notes, Deletes, EndsWriters, Acquires, TellsLineTo};
 ghost use Rattle.tv_directory.specs.Device.{IsSilent};
-ghost use Rattle.tv_directory.specs.Locks.{FreesLock, LockCause};
+ghost use Rattle.tv_directory.specs.Locks.{LockCause};
 ghost use Rattle.tv_directory.specs.Ram.{OnlyHeld, OnlyWatchers, ram_state};
 ghost use Rattle.tv_directory.specs.Bench.{view_in, Untouched, Timed, Untold, OnlyTold, OnlyRoom, Below, NumberedBelow, ShowsNothing, WritesOut};
 ghost use Rattle.tv_directory.specs.Bench.{Numbered, NumberedDelete, of_io, of_write, of_device};
@@ -137,15 +137,11 @@ impl<C: WatchCall> Directory for Bench<C> {
     {
         let lives = self.ram.files.is_made(&writer.name, writer.number);
         if self.device.refuses() {
-            if lives {
-                self.clock.tick();
-            }
+            self.clock.tick_where(lives);
             return Err(IoError::Fault(self.device.fault()));
         }
         self.ram.flush(writer)?;
-        if lives {
-            self.clock.tick();
-        }
+        self.clock.tick_where(lives);
         Ok(())
     }
 
@@ -159,15 +155,11 @@ impl<C: WatchCall> Directory for Bench<C> {
     {
         let lives = self.ram.files.is_made(&writer.name, writer.number);
         if self.device.refuses() {
-            if lives {
-                self.clock.tick();
-            }
+            self.clock.tick_where(lives);
             return Err(IoError::Fault(self.device.fault()));
         }
         self.ram.terminate(writer)?;
-        if lives {
-            self.clock.tick();
-        }
+        self.clock.tick_where(lives);
         Ok(())
     }
 
@@ -260,10 +252,7 @@ impl<C: WatchCall> Directory for Bench<C> {
     }
 
     fn release(&mut self, lock: DirectoryLock)
-        ensures freed { FreesLock (view_in C.calls self.old).locks (view_in C.calls self.new).locks
-            lock }
-        ensures faults { (view_in C.calls self.new).faults ≡ (view_in C.calls self.old).faults }
-        ensures frame { OnlyLocks tells_all (view_in C.calls self.old) (view_in C.calls self.new) }
+        ensures frees { Frees tells_all lock (view_in C.calls self.old) (view_in C.calls self.new) }
         ensures others { Below OnlyHeld self.old self.new }
     {
         self.ram.release(lock);
@@ -274,7 +263,6 @@ impl<C: WatchCall> Directory for Bench<C> {
             (view_in C.calls self.new).watched (C.calls callback)) }
         ensures err { OnErr result
             ((view_in C.calls self.new).watched ≡ (view_in C.calls self.old).watched) }
-        ensures faults { (view_in C.calls self.new).faults ≡ (view_in C.calls self.old).faults }
         ensures frame { OnlyWatches tells_all (view_in C.calls self.old)
             (view_in C.calls self.new) }
         ensures others { Below OnlyWatchers self.old self.new }
@@ -285,7 +273,6 @@ impl<C: WatchCall> Directory for Bench<C> {
     fn unwatch(&mut self, handle: WatchHandle)
         ensures left { (view_in C.calls self.new).watched
             ≡ unsubscribed handle (view_in C.calls self.old).watched }
-        ensures faults { (view_in C.calls self.new).faults ≡ (view_in C.calls self.old).faults }
         ensures frame { OnlyWatches tells_all (view_in C.calls self.old)
             (view_in C.calls self.new) }
         ensures others { Below OnlyWatchers self.old self.new }
@@ -297,7 +284,6 @@ impl<C: WatchCall> Directory for Bench<C> {
         ensures answer { result ≡ (view_in C.calls self.old).watched.notice }
         ensures called { (view_in C.calls self.new).watched ≡ delivered
             (view_in C.calls self.old).watched }
-        ensures faults { (view_in C.calls self.new).faults ≡ (view_in C.calls self.old).faults }
         ensures frame { OnlyWatches tells_all (view_in C.calls self.old)
             (view_in C.calls self.new) }
         ensures others { Below OnlyWatchers self.old self.new }
@@ -308,9 +294,8 @@ impl<C: WatchCall> Directory for Bench<C> {
 
 impl<C: WatchCall> Outside for Bench<C> {
     fn ready(&mut self, len: usize) -> Result<(), Memory>
-        ensures made { OnOk result (len < (view_in C.calls self.new).room) }
-        ensures faults { (view_in C.calls self.new).faults ≡ (view_in C.calls self.old).faults }
-        ensures frame { OnlyReads tells_all (view_in C.calls self.old) (view_in C.calls self.new) }
+        ensures room { MakesRoom tells_all len result (view_in C.calls self.old)
+            (view_in C.calls self.new) }
         ensures others { OnlyRoom self.old self.new }
     {
         self.told.ready(len)

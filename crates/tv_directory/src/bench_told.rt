@@ -1,6 +1,6 @@
 //! What was told to a directory in memory.
-ghost use Rattle.std.specs.Prelude.{◌≡◌, ◌≤◌, ◌<◌, ◌++◌, [], ◌∷◌, length, IfOk, OnOk};
-ghost use Rattle.tv_directory.specs.Telling.{bytes_heard};
+ghost use Rattle.std.specs.Prelude.{◌≡◌, ◌<◌, ◌++◌, [], ◌∷◌, length, IfOk};
+ghost use Rattle.tv_directory.specs.Telling.{ReservesRoom, bytes_heard};
 
 use std::alloc::Global;
 use std::marker::Model;
@@ -43,9 +43,7 @@ impl Told {
 
     /// Makes room for a line of this length and its line feed.
     pub fn ready(&mut self, len: usize) -> Result<(), Memory>
-        ensures made { OnOk result (len < self.new.1) }
-        ensures pieces { self.new.0 ≡ self.old.0 }
-        ensures room { self.old.1 ≤ self.new.1 }
+        ensures { ReservesRoom len self.old self.new result }
     {
         let needed = len.checked_add(1).ok_or(Memory)?;
         self.text.reserve(needed)?;

@@ -2,10 +2,9 @@
 ghost use Rattle.std.specs.Prelude.{◌≡◌, true, Some, is_some, IfOk, IfErr, OnErr};
 ghost use Rattle.tv_model.specs.Names.{is_file_name};
 ghost use Rattle.tv_directory.specs.View.{View, Told, WriterState, Frame, Kept, OnlyReads, OnlyLocks, OnlyWatches, MayDelete};
-ghost use Rattle.tv_directory.specs.Calls.{AskFaults, ReadFaults, OpenFaults, IoFaults, DeviceFaults, DeleteFaults, LockFaults};
+ghost use Rattle.tv_directory.specs.Calls.{AskFaults, ReadFaults, OpenFaults, IoFaults, DeviceFaults, DeleteFaults, LockFaults, Frees};
 ghost use Rattle.tv_directory.specs.Calls.{IsNewWriter, Makes, Appends, HandsBack, Touches, Flushes, Seals, Gives, Notes, Deletes, EndsWriters, Acquires};
 ghost use Rattle.tv_directory.specs.Device.{IsSilent};
-ghost use Rattle.tv_directory.specs.Locks.{FreesLock};
 ghost use Rattle.tv_directory.specs.Watch.{IsNewWatcher, delivered, unsubscribed};
 
 use crate::lock::{DirectoryLock, Lock};
@@ -141,22 +140,18 @@ pub trait Directory {
 
     /// Frees the lock of this token's name. Takes no memory.
     fn release(&mut self, lock: DirectoryLock)
-        ensures freed { told.locks → FreesLock (view self.old).locks (view self.new).locks lock }
-        ensures faults { (view self.new).faults ≡ (view self.old).faults }
-        ensures frame { OnlyLocks told (view self.old) (view self.new) };
+        ensures frees { Frees told lock (view self.old) (view self.new) };
 
     /// Registers a callback, which each delivered notice calls.
     fn watch(&mut self, callback: Self::Callback) -> Result<WatchHandle, Memory>
         ensures ok { IfOk result (IsNewWatcher (view self.old).watched (view self.new).watched
             (Self.Callback.calls callback)) }
         ensures err { OnErr result ((view self.new).watched ≡ (view self.old).watched) }
-        ensures faults { (view self.new).faults ≡ (view self.old).faults }
         ensures frame { OnlyWatches told (view self.old) (view self.new) };
 
     /// Gives a handle back. With its last one the callback isn't registered any more. Takes no memory.
     fn unwatch(&mut self, handle: WatchHandle)
         ensures left { (view self.new).watched ≡ unsubscribed handle (view self.old).watched }
-        ensures faults { (view self.new).faults ≡ (view self.old).faults }
         ensures frame { OnlyWatches told (view self.old) (view self.new) };
 
     /// Whether a notice stood. If so each registered callback is called once, in the order in which they
@@ -164,6 +159,5 @@ pub trait Directory {
     fn deliver(&mut self) -> bool
         ensures answer { result ≡ (view self.old).watched.notice }
         ensures called { (view self.new).watched ≡ delivered (view self.old).watched }
-        ensures faults { (view self.new).faults ≡ (view self.old).faults }
         ensures frame { OnlyWatches told (view self.old) (view self.new) };
 }

@@ -5,7 +5,7 @@ ghost use Rattle.std.specs.List.{AllByRecursion};
 ghost use Rattle.tv_model.specs.Names.{is_file_name};
 ghost use Rattle.tv_model.specs.Files.{Same, Sets};
 ghost use Rattle.tv_directory.specs.Device.{last};
-ghost use Rattle.tv_directory.specs.StoredFiles.{bytes_of, reads_of, is_there, number_at, is_made, named, last_of, total_len};
+ghost use Rattle.tv_directory.specs.StoredFiles.{PutsFile, ReplacesFile, bytes_of, reads_of, is_there, number_at, is_made, named, last_of, total_len};
 
 use std::alloc::Global;
 use std::collections::BTreeMap;
@@ -167,13 +167,7 @@ impl Files {
     /// Gives the file of this name and number another content.
     pub fn replace(&mut self, name: FileName, number: u64, content: Content) -> Result<(), Memory>
         requires { number_at self.old.map.entries name ≡ Some number }
-        ensures ok { OnOk result
-            (Sets (reads_of self.old.map.entries) (reads_of self.new.map.entries)
-            name (Some (bytes_of content))) }
-        ensures numbers { (n : List ℕ) → number_at self.new.map.entries n
-            ≡ number_at self.old.map.entries n }
-        ensures last { self.new.last ≡ self.old.last }
-        ensures err { OnErr result (self.new.map.entries ≡ self.old.map.entries) }
+        ensures { ReplacesFile self.old self.new name content result }
     {
         put(&mut self.map, name, StoredFile { number, content })?;
         Ok(())
@@ -270,12 +264,7 @@ fn put(
     name: FileName,
     file: StoredFile,
 ) -> Result<(), Memory>
-    ensures ok { OnOk result (Sets (reads_of files.old.entries) (reads_of files.new.entries)
-        name (Some (bytes_of file.content))) }
-    ensures number { OnOk result (number_at files.new.entries name ≡ Some file.number) }
-    ensures numbers { OnOk result ((n : List ℕ) → n ≢ name
-        → number_at files.new.entries n ≡ number_at files.old.entries n) }
-    ensures err { OnErr result (files.new.entries ≡ files.old.entries) }
+    ensures { PutsFile files.old.entries files.new.entries name file result }
 {
     files.insert(name, file)?;
     Ok(())

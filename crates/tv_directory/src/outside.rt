@@ -1,8 +1,8 @@
 //! A directory whose owner is also told lines.
-ghost use Rattle.std.specs.Prelude.{◌≡◌, ◌<◌, true, length, OnOk};
+ghost use Rattle.std.specs.Prelude.{◌≡◌, ◌<◌, true, length};
 ghost use Rattle.tv_model.specs.Lines.{has_no_feed};
-ghost use Rattle.tv_directory.specs.View.{OnlyReads, OnlyTells};
-ghost use Rattle.tv_directory.specs.Calls.{DeviceFaults, TellsLineTo};
+ghost use Rattle.tv_directory.specs.View.{OnlyTells};
+ghost use Rattle.tv_directory.specs.Calls.{DeviceFaults, MakesRoom, TellsLineTo};
 
 use crate::directory::Directory;
 use tv_base::IoFault;
@@ -12,9 +12,7 @@ use tv_model::Memory;
 pub trait Outside: Directory {
     /// Makes room for a line of this length.
     fn ready(&mut self, len: usize) -> Result<(), Memory>
-        ensures made { OnOk result (len < (Self.view self.new).room) }
-        ensures faults { (Self.view self.new).faults ≡ (Self.view self.old).faults }
-        ensures frame { OnlyReads Self.told (Self.view self.old) (Self.view self.new) };
+        ensures room { MakesRoom Self.told len result (Self.view self.old) (Self.view self.new) };
 
     /// Tells a line, to which a line feed is added, in the room that was made. Takes no memory.
     /// Where it is refused, a part of the line may have been told, without the line feed.

@@ -8,6 +8,7 @@ ghost use Rattle.tv_directory.specs.Calls.{IsNewWriter, Makes, Appends, HandsBac
 ghost use Rattle.tv_directory.specs.Locks.{FreesLock, LockCause};
 ghost use Rattle.tv_directory.specs.Ram.{ram_view, ram_state, ram_reads, ram_opened, ram_locks, ram_watched};
 ghost use Rattle.tv_directory.specs.Ram.{SameFile, OnlyFiles, OnlyNoted, OnlyHeld, OnlyWatchers, KeepsWriters};
+ghost use Rattle.tv_directory.specs.StoredFiles.{bytes_of};
 ghost use Rattle.tv_directory.specs.Watch.{IsNewWatcher, delivered, unsubscribed};
 
 use crate::directory::Directory;
@@ -29,6 +30,26 @@ pub(crate) fn file_name(alloc: Global, name: &str) -> Result<FileName, Memory>
 {
     let text = String::from_str(alloc, name)?;
     Ok(FileName::new(text))
+}
+
+// What a flush of this writer gives to its file.
+fn flushed_file(alloc: Global, writer: &RamWriter) -> Result<(FileName, Content), Memory>
+    ensures { IfOk result (λ file. (file.0 ≡ writer.now.name)
+        × (bytes_of file.1 ≡ writer.now.bytes.items)) }
+{
+    let name = file_name(alloc, writer.name.as_str())?;
+    let bytes = Vec::from_slice(alloc, writer.bytes.as_slice())?;
+    Ok((name, Content::Unsealed(OwnedBytes::new(bytes)?)))
+}
+
+// A sealed file of this name and these bytes.
+fn sealed_file(alloc: Global, name: &str, bytes: &[u8]) -> Result<(FileName, Content), Memory>
+    requires { is_file_name name.now ≡ true }
+    ensures { IfOk result (λ file. (file.0 ≡ name.now) × (bytes_of file.1 ≡ bytes.now)) }
+{
+    let name = file_name(alloc, name)?;
+    let bytes = Vec::from_slice(alloc, bytes)?;
+    Ok((name, Content::Sealed(OwnedBytes::new(bytes)?)))
 }
 
 impl<C: WatchCall> Directory for RamDirectory<C> {
@@ -129,12 +150,11 @@ impl<C: WatchCall> Directory for RamDirectory<C> {
         ensures frame { Kept tells_all (ram_view C.calls self.old) (ram_view C.calls self.new) }
         ensures others { KeepsWriters writer.old self.old self.new }
     {
-        if self.files.is_made(&writer.name, writer.number) {
-            let name = file_name(self.alloc, writer.name.as_str())?;
-            let bytes = Vec::from_slice(self.alloc, writer.bytes.as_slice())?;
-            let flushed = Content::Unsealed(OwnedBytes::new(bytes)?);
-            self.files.replace(name, writer.number, flushed)?;
+        if !self.files.is_made(&writer.name, writer.number) {
+            return Ok(());
         }
+        let (name, flushed) = flushed_file(self.alloc, writer)?;
+        self.files.replace(name, writer.number, flushed)?;
         Ok(())
     }
 
@@ -151,11 +171,12 @@ impl<C: WatchCall> Directory for RamDirectory<C> {
             number,
             bytes,
         } = writer;
-        if self.files.is_made(&name, number) {
-            // The name has its place, so this takes memory for the count of owners alone.
-            let sealed = Content::Sealed(OwnedBytes::new(bytes)?);
-            self.files.replace(name, number, sealed)?;
+        if !self.files.is_made(&name, number) {
+            return Ok(());
         }
+        // The name has its place, so this takes memory for the count of owners alone.
+        let sealed = Content::Sealed(OwnedBytes::new(bytes)?);
+        self.files.replace(name, number, sealed)?;
         Ok(())
     }
 
@@ -183,9 +204,8 @@ impl<C: WatchCall> Directory for RamDirectory<C> {
         ensures frame { Frame tells_all (ram_view C.calls self.old) (ram_view C.calls self.new) }
         ensures others { OnlyNoted self.old self.new }
     {
-        let key = file_name(self.alloc, name)?;
-        let bytes = OwnedBytes::new(Vec::from_slice(self.alloc, bytes)?)?;
-        self.files.write(key, Content::Sealed(bytes))?;
+        let (key, sealed) = sealed_file(self.alloc, name, bytes)?;
+        self.files.write(key, sealed)?;
         if name == META_FILEPATH {
             self.watchers.note();
         }

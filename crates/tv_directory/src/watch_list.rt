@@ -3,7 +3,7 @@ ghost use Rattle.std.specs.Prelude.{◌≡◌, ℕ, ◌++◌, [], ◌∷◌, ◌
 ghost use Rattle.std.specs.Option.{IsSomeAnd};
 ghost use Rattle.tv_base.specs.Entries.{is_at, is_last};
 ghost use Rattle.tv_directory.specs.Watch.{called, called_once, delivered, has_number, subscribed, unsubscribed};
-ghost use Rattle.tv_directory.specs.WatchList.{AreApart, released_by, seen, shared_by, state_of};
+ghost use Rattle.tv_directory.specs.WatchList.{CallsAll, released_by, seen, shared_by, state_of};
 
 use crate::watch::{WatchCall, WatchCallback, WatchHandle};
 use std::alloc::Global;
@@ -35,8 +35,7 @@ pub(crate) struct Watchers<C> {
 impl<C> Watchers<C> {
     /// Nobody, and no notice. Takes no memory.
     pub fn new(alloc: Global) -> Watchers<C>
-        ensures list { result.list ≡ [] }
-        ensures notice { result.notice ≡ false }
+        ensures { result ≡ record { list = []; notice = false } }
     {
         Watchers {
             list: Inventory::new(alloc),
@@ -46,8 +45,7 @@ impl<C> Watchers<C> {
 
     /// A notice stands from now on.
     pub fn note(&mut self)
-        ensures list { self.new.list ≡ self.old.list }
-        ensures notice { self.new.notice ≡ true }
+        ensures { self.new ≡ record self.old { notice = true } }
     {
         self.notice = true;
     }
@@ -187,10 +185,7 @@ impl<C: WatchCall> CallbackList<C> {
 
 // Calls everybody once, in order.
 fn call_all<C: WatchCall>(entries: &mut Inventory<Watcher<C>>)
-    ensures called { map (seen C.calls) entries.new ≡ map called_once
-        (map (seen C.calls) entries.old) }
-    ensures gone { (n : ℕ) → find (is_at n) entries.old ≡ None → find (is_at n) entries.new ≡ None }
-    ensures apart { AreApart entries.old → AreApart entries.new }
+    ensures { CallsAll C.calls entries.old entries.new }
 {
     entries.visit_all();
 }

@@ -10,25 +10,14 @@ use Rattle.tv_base.specs.declared.io.IoError.TheVariants as io
 use Rattle.tv_framing.specs.declared.footer.Footer.{Footer}
 use Rattle.tv_base.specs.declared.io.IoKind.TheVariants.{InvalidData}
 use Rattle.tv_framing.specs.Faults.{IsFault, OfFault}
-use Rattle.tv_framing.specs.FooterEnds.{HasEnd}
+use Rattle.tv_framing.specs.FooterEnds.{EndsIn, HasEnd}
 use Rattle.tv_framing.specs.Footers.{HasOtherMagic, IsCutOff, IsFramed, IsNoFooter, IsTooSmall, Refuses, Spells, StatesTooMuch, last_four, stated_json}
 
--- the last eight bytes are these two numbers
-pub record Ends (bytes : List ℕ) (front json magic : ℕ) : Type 0 where
-  pub size : front + 8 ≡ length bytes
-  pub text : drop front bytes ≡ four_bytes json ++ four_bytes magic
-  pub json_small : json < 2 ^ 32
-  pub magic_small : magic < 2 ^ 32
-
-pub stated_is : (bytes : List ℕ) (front json magic : ℕ) → Ends bytes front json magic → stated bytes ≡ json
+pub stated_is : (bytes : List ℕ) (front json magic : ℕ) → EndsIn bytes front json magic → stated bytes ≡ json
 stated_is bytes front json magic e =
-    let at : length bytes - 8 ≡ front = omega (arith, e.size) in
-    ap (λ n. number_of (take 4 (drop n bytes))) at
-    ∙ ap (λ (l : List ℕ). number_of (take 4 l)) e.text
-    ∙ ap number_of (take_at (four_bytes json) (four_bytes magic) 4 refl)
-    ∙ four_spell json e.json_small
+    grind (arith, take_at, four_spell)
 
-pub last_is : (bytes : List ℕ) (front json magic : ℕ) → Ends bytes front json magic → last_four bytes ≡ four_bytes magic
+pub last_is : (bytes : List ℕ) (front json magic : ℕ) → EndsIn bytes front json magic → last_four bytes ≡ four_bytes magic
 last_is bytes front json magic e =
     let at : length bytes - 4 ≡ front + 4 = omega (arith, e.size) in
     ap (λ n. drop n bytes) at ∙ sym (drop-drop 4 front bytes) ∙ ap (drop 4) e.text ∙ drop_at (four_bytes json) (four_bytes magic) 4 refl
@@ -40,7 +29,7 @@ pub of_fault : {P Q : IoFault → Type 0} (e : IoError) → OfFault P e → ((f 
 of_fault (io.Fault f) h to = to f h
 of_fault io.Memory h to = tt
 
-pub has_end : (bytes : List ℕ) (front json magic : ℕ) → Ends bytes front json magic → magic ≡ footer_magic → json ≤ 50000 → json ≤ front → HasEnd bytes (front - json) front
+pub has_end : (bytes : List ℕ) (front json magic : ℕ) → EndsIn bytes front json magic → magic ≡ footer_magic → json ≤ 50000 → json ≤ front → HasEnd bytes (front - json) front
 has_end bytes front json magic e known short fits =
     let n = stated_is bytes front json magic e in
     let start = front - json in
@@ -67,7 +56,7 @@ has_end bytes front json magic e known short fits =
 
 -- ---- a file in four parts
 
-pub ends_of : (bytes : List ℕ) (footer : Footer) (body : List ℕ) (h : IsFramed bytes footer body) → Ends bytes (length body + length h.json) (length h.json) footer_magic
+pub ends_of : (bytes : List ℕ) (footer : Footer) (body : List ℕ) (h : IsFramed bytes footer body) → EndsIn bytes (length body + length h.json) (length h.json) footer_magic
 ends_of bytes footer body h =
     let tail : List ℕ = four_bytes (length h.json) ++ four_bytes footer_magic in
     let e : bytes ≡ (body ++ h.json) ++ (four_bytes (length h.json) ++ four_bytes footer_magic) = h.whole ∙ sym (append_assoc body h.json tail) in
@@ -115,13 +104,3 @@ no_footer file start end fault e none is =
       other = λ footer s. none footer (subst (λ (l : List ℕ). Spells l footer) (sym e.json) s);
       is = is;
     }))))
-
-pub framed_by : (file : List ℕ) (start end : ℕ) (footer : Footer) (body : List ℕ) → HasEnd file start end → Spells (slice_range file start end) footer → body ≡ take start file → IsFramed file footer body
-framed_by file start end footer body e spells is = record {
-  json = slice_range file start end;
-  whole = e.whole
-      ∙ ap (λ n. take start file ++ (slice_range file start end ++ (four_bytes n ++ four_bytes footer_magic))) (sym e.long)
-      ∙ ap (λ (l : List ℕ). l ++ (slice_range file start end ++ (four_bytes (length (slice_range file start end)) ++ four_bytes footer_magic))) (sym is);
-  short = omega (arith, e.long, e.short);
-  spells = spells;
-}

@@ -21,9 +21,7 @@ last_of bytes end before last front foot c whole =
 -- the list isn't longer than what stands before the last four bytes
 pub list_fits : (bytes : List ℕ) (end : ℕ) (before last front foot : List ℕ) → Cut bytes end before last → bytes ≡ front ++ (foot ++ four_bytes (length foot)) → (end ≡ length front + length foot) × (length foot ≤ end)
 list_fits bytes end before last front foot c whole =
-    let e : bytes ≡ (front ++ foot) ++ four_bytes (length foot) = whole ∙ sym (append_assoc front foot (four_bytes (length foot))) in
-    let n : end ≡ length front + length foot = omega (arith, c.at, ap length e, length-append (front ++ foot) (four_bytes (length foot)), length-append front foot) in
-    (n, omega (arith, n))
+    grind (arith, append_assoc, length-append)
 
 pub found_at : (bytes : List ℕ) (end : ℕ) (before last front foot : List ℕ) (start len : ℕ) → Cut bytes end before last → bytes ≡ front ++ (foot ++ four_bytes (length foot)) → len ≡ length foot → end - len ≡ start
     → (start ≡ length front) × (take (length before - start) (drop start before) ≡ foot)

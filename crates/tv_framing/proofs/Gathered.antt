@@ -79,9 +79,7 @@ find_equal n f g gs false e = refl
 find_greater : (n : List ℕ) (f g : FieldSpace) (gs : List FieldSpace) (b d : Bool) → is_named n f ≡ b → is_named n g ≡ d → byte_cmp f.name g.name ≡ Greater → find (is_named n) (with_field gs f) ≡ after n f b gs
     → cond d (Some g) (find (is_named n) (with_field gs f)) ≡ cond b (gathered (cond d (Some g) (find (is_named n) gs)) f) (cond d (Some g) (find (is_named n) gs))
 find_greater n f g gs true true e k is ih =
-    let one : byte_cmp n f.name ≡ Equal = equal_of (byte_cmp n f.name) e in
-    let other : byte_cmp n g.name ≡ Equal = equal_of (byte_cmp n g.name) k in
-    let both : Equal ≡ Greater = sym other ∙ nat_list_cmp_total.congr n f.name g.name one ∙ is in absurd (cc)
+    grind (arith, equal_of, nat_list_cmp_total)
 find_greater n f g gs true false e k is ih = ih
 find_greater n f g gs false true e k is ih = refl
 find_greater n f g gs false false e k is ih = ih

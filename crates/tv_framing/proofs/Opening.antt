@@ -2,7 +2,7 @@
 use Rattle.std.proofs.Common.{◌≡◌, ◌≤◌, ◌<◌, ◌^◌, ℕ, List, [], ◌∷◌, ◌++◌, length, take, Option, Some, None, option_map, Vec, Global, sym, ap, subst, ◌∙◌, arith, length-append}
 use Rattle.std.proofs.lemmas.List.{length-take-le, take_at}
 use Rattle.std.proofs.lemmas.Option.{none-some, same_Some}
-use Rattle.std.specs.Prelude.{IfSome}
+use Rattle.std.specs.Prelude.{MatchOption}
 use Rattle.std.specs.List.{AllByRecursion}
 use Rattle.tv_model.specs.Footer.{four_bytes}
 use Rattle.tv_model.specs.VInt.{vint}
@@ -10,7 +10,7 @@ use Rattle.tv_framing.specs.declared.entries.Entry.{Entry}
 use Rattle.tv_framing.specs.declared.starts.Start.{Start}
 use Rattle.tv_framing.specs.Composite.{Part, AreDistinct, IsComposite, addresses, bodies, footing, listed}
 use Rattle.tv_framing.specs.Entries.{IsLayout, entries_text, entry_text, starts_after}
-use Rattle.tv_framing.specs.Fitting.{EntryFits}
+use Rattle.tv_framing.specs.Fitting.{EntryFits, SpellsEntries}
 use Rattle.tv_framing.specs.Starts.{Fill, parts_of}
 use Rattle.tv_framing.proofs.Reading.{composite_of, count_entries, entries_of, fill_after, fits_entries, layout_of, listed_entries, parts_are}
 
@@ -54,24 +54,22 @@ pub has_layout : (parts : List Part) (len : ℕ) (foot : List ℕ) (es : List En
 has_layout parts len foot es t distinct is =
     subst (λ n. IsLayout es n) (sym t.long) (subst (λ (l : List Entry). IsLayout l (length (bodies parts))) (sym is) (layout_of parts distinct))
 
-pub starts_are : (es : List Entry) (len : ℕ) (o : Option (Vec Start Global)) (v : Vec Start Global) → IfSome o (λ v. IsLayout es len × (v.items ≡ starts_after 0 es)) → o ≡ Some v → IsLayout es len × (v.items ≡ starts_after 0 es)
-starts_are es len o v h is = subst (λ (o : Option (Vec Start Global)). IfSome o (λ v. IsLayout es len × (v.items ≡ starts_after 0 es))) is h
+pub starts_are : (es : List Entry) (len : ℕ) (o : Option (Vec Start Global)) (v : Vec Start Global) → MatchOption o (IsLayout es len → ⊥) (λ v. IsLayout es len × (v.items ≡ starts_after 0 es)) → o ≡ Some v → IsLayout es len × (v.items ≡ starts_after 0 es)
+starts_are es len o v h is = subst (λ (o : Option (Vec Start Global)). MatchOption o (IsLayout es len → ⊥) (λ v. IsLayout es len × (v.items ≡ starts_after 0 es))) is h
 
 pub fills : (file bytes : List ℕ) (len : ℕ) (es : List Entry) (starts : List Start) → IsLayout es len × (starts ≡ starts_after 0 es) → len ≤ length file → bytes ≡ take len file → Fill starts (length bytes)
 fills file bytes len es starts h le is =
-    let long : length bytes ≡ len = ap length is ∙ length-take-le len file le in
-    subst (λ n. Fill starts n) (sym long) (subst (λ (l : List Start). Fill l len) (sym h.1) (fill_after len es h.0))
+    grind (arith, length-take-le, fill_after)
 
 pub opened : (file seen bytes foot : List ℕ) (len : ℕ) (es : List Entry) (starts : List Start) → seen ≡ file → (len ≤ length seen) × (length foot < 2 ^ 32) × (seen ≡ take len seen ++ (foot ++ four_bytes (length foot)))
-    → bytes ≡ take len file → foot ≡ vint (length es) ++ entries_text es → AllByRecursion EntryFits es → IsLayout es len × (starts ≡ starts_after 0 es) → IsComposite file (parts_of bytes starts)
-opened file seen bytes foot len es starts same only is text fits h =
+    → bytes ≡ take len file → SpellsEntries foot es → IsLayout es len × (starts ≡ starts_after 0 es) → IsComposite file (parts_of bytes starts)
+opened file seen bytes foot len es starts same only is spells h =
     let long : len ≡ length bytes = sym (ap length is ∙ length-take-le len file (omega (arith, only.0, ap length same))) in
     let front : take len seen ≡ bytes = ap (take len) same ∙ sym is in
     subst (λ (l : List Start). IsComposite file (parts_of bytes l)) (sym h.1)
-    (composite_of file bytes foot es (sym same ∙ only.2 ∙ ap (λ (l : List ℕ). l ++ (foot ++ four_bytes (length foot))) front) only.1 text (subst (IsLayout es) long h.0) fits)
+    (composite_of file bytes foot es (sym same ∙ only.2 ∙ ap (λ (l : List ℕ). l ++ (foot ++ four_bytes (length foot))) front) only.1 spells.text (subst (IsLayout es) long h.0) spells.fits)
 
 -- the parts that were found are those of the file
 pub only_parts : (file bytes foot : List ℕ) (len : ℕ) (es : List Entry) (starts : List Start) (parts : List Part) → IsComposite file parts → Told parts len foot → es ≡ entries_of 0 parts → starts ≡ starts_after 0 es → bytes ≡ take len file → parts ≡ parts_of bytes starts
 only_parts file bytes foot len es starts parts h t same starts_are is =
-    let front : bytes ≡ bodies parts = is ∙ ap (take len) h.whole ∙ take_at (bodies parts) (footing parts ++ four_bytes (length (footing parts))) len (sym t.long) in
-    sym (ap (parts_of bytes) (starts_are ∙ ap (starts_after 0) same) ∙ parts_are bytes parts front)
+    grind (arith, take_at, starts_are, parts_are)

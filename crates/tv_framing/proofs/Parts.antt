@@ -1,5 +1,5 @@
 -- Facts on where the bodies of a composite file begin.
-use Rattle.std.proofs.Common.{◌≡◌, ◌≢◌, ◌≤◌, ◌<◌, ◌+◌, ◌-◌, ◌^◌, ℕ, zero, suc, Bool, true, false, ◌&&◌, ◌||◌, eqb, List, [], ◌∷◌, ◌++◌, length, take, drop, get_or, slice_range, Some, if◌then◌else◌, refl, sym, ap, subst, ◌∙◌, arith, append_assoc, append-nil, length-append, length-drop}
+use Rattle.std.proofs.Common.{◌≡◌, ◌≢◌, ◌≤◌, ◌<◌, ◌+◌, ◌-◌, ◌^◌, ℕ, zero, suc, Bool, true, false, ◌&&◌, ◌||◌, eqb, List, [], ◌∷◌, ◌++◌, length, take, drop, get_or, slice_range, refl, sym, ap, subst, ◌∙◌, arith, append_assoc, append-nil, length-append, length-drop}
 use Rattle.std.proofs.lemmas.List.{map-append, take-append-drop, length-take-le, take-append-le, drop-append-le, drop-drop, take_rest, drop_all, drop_more}
 use Rattle.std.proofs.lemmas.List.Folds.{list_any-append}
 use Rattle.std.proofs.lemmas.Bool.Decides.{nat_tests}
@@ -8,7 +8,7 @@ use Rattle.tv_model.specs.Footer.{four_bytes}
 use Rattle.tv_model.specs.VInt.{vint}
 use Rattle.tv_framing.specs.declared.address.FileAddr.{FileAddr}
 use Rattle.tv_framing.specs.declared.starts.Start.{Start}
-use Rattle.tv_framing.specs.Composite.{Part, AreDistinct, IsAddress, IsComposite, addresses, bodies, body_at, composite, footing, grown, is_at, listed}
+use Rattle.tv_framing.specs.Composite.{Part, AreDistinct, IsAddress, IsComposite, addresses, bodies, composite, footing, grown, is_at, listed}
 use Rattle.tv_framing.specs.Starts.{Ascend, Fill, footing_text, listed_from, next_start, parts_of, start_addresses}
 use Rattle.std.specs.Prelude.{Result, Ok, Err, OnOk}
 use Rattle.tv_base.specs.declared.io.IoError.{IoError}
@@ -78,9 +78,7 @@ listed_same : (bytes : List ℕ) (before : ℕ) (s : Start) (ss : List Start) �
     → listed_from before (s ∷ ss) ≡ listed (s.offset - before) (parts_of bytes (s ∷ ss))
 listed_same bytes before s [] h = refl
 listed_same bytes before s (t ∷ ts) h =
-    let long : length (slice_range bytes s.offset t.offset) ≡ t.offset - s.offset = body_length bytes s.offset t.offset h.0 (ascend_le t.offset (length bytes) ts h.1) in
-    ap (λ (l : List ℕ). vint (s.offset - before) ++ (four_bytes s.addr.field ++ (vint s.addr.idx ++ l)))
-    (listed_same bytes s.offset t ts h.1 ∙ ap (λ n. listed n (parts_of bytes (t ∷ ts))) (sym long))
+    grind (arith, body_length, ascend_le, listed_same bytes s.offset t ts h.1)
 
 pub listed_whole : (bytes : List ℕ) (ss : List Start) → Fill ss (length bytes) → listed_from 0 ss ≡ listed 0 (parts_of bytes ss)
 listed_whole bytes [] h = refl
@@ -125,9 +123,7 @@ parts_push bytes (s ∷ t ∷ ts) a =
 
 pub turned : (a b : FileAddr) → is_at a b ≡ is_at b a
 turned a b =
-    let f : eqb b.field a.field ≡ eqb a.field b.field = grind (arith, nat_tests) in
-    let i : eqb b.idx a.idx ≡ eqb a.idx b.idx = grind (arith, nat_tests) in
-    ap (λ c. c && eqb b.idx a.idx) f ∙ ap (λ c. eqb a.field b.field && c) i
+    grind (arith, nat_tests)
 
 pub or_false : (a b : Bool) → (a || b) ≡ false → (a ≡ false) × (b ≡ false)
 or_false true b h = absurd (cc)
@@ -146,13 +142,11 @@ distinct_push (x ∷ xs) a h new =
 
 last_more : (taken more : List ℕ) (n : ℕ) → n ≤ length taken → the_last (n + length more) (taken ++ more) ≡ the_last n taken ++ more
 last_more taken more n le =
-    let same : length (taken ++ more) - (n + length more) ≡ length taken - n = omega (arith, length-append taken more) in
-    ap (λ k. drop k (taken ++ more)) same ∙ drop-append-le (length taken - n) taken more (omega arith)
+    grind (arith, length-append, drop-append-le)
 
 before_more : (taken more : List ℕ) (n : ℕ) → n ≤ length taken → before_last (n + length more) (taken ++ more) ≡ before_last n taken
 before_more taken more n le =
-    let same : length (taken ++ more) - (n + length more) ≡ length taken - n = omega (arith, length-append taken more) in
-    ap (λ k. take k (taken ++ more)) same ∙ take-append-le (length taken - n) taken more (omega arith)
+    grind (arith, length-append, take-append-le)
 
 pub last_length : (taken : List ℕ) (n : ℕ) → n ≤ length taken → length (the_last n taken) ≡ n
 last_length taken n le = omega (arith, length-drop (length taken - n) taken)
@@ -269,8 +263,3 @@ later_ascend ss i from end s front h =
 pub range_inside : (ss : List Start) (i from end to : ℕ) (s : Start) → drop i ss ≡ s ∷ drop (i + 1) ss → Ascend from (drop i ss) end → to ≡ next_start end (drop (i + 1) ss) → (s.offset ≤ to) × (to ≤ end)
 range_inside ss i from end to s front h is =
     let between = next_between s.offset end (drop (i + 1) ss) (later_ascend ss i from end s front h) in (omega (arith, between.0, is), omega (arith, between.1, is))
-
-pub skipped : (addr : FileAddr) (bytes : List ℕ) (ss : List Start) (i : ℕ) (s : Start) → drop i ss ≡ s ∷ drop (i + 1) ss → is_at addr s.addr ≡ false → body_at addr (parts_of bytes (drop (i + 1) ss)) ≡ body_at addr (parts_of bytes (drop i ss))
-skipped addr bytes ss i s front other =
-    sym (ap (λ (l : List Start). body_at addr (parts_of bytes l)) front
-    ∙ ap (λ b. if b then Some (slice_range bytes s.offset (next_start (length bytes) (drop (i + 1) ss))) else body_at addr (parts_of bytes (drop (i + 1) ss))) other)

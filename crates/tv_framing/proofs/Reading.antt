@@ -85,11 +85,7 @@ fill_after len (e ∷ es) h =
 entries_back : (bytes : List ℕ) (o : ℕ) (e : Entry) (es : List Entry) → o + (e.gap + gaps es) ≤ length bytes → entries_of e.gap (parts_of bytes (starts_after o (e ∷ es))) ≡ e ∷ es
 entries_back bytes o e [] h = refl
 entries_back bytes o e (f ∷ fs) h =
-    let from = o + e.gap in
-    let to = o + e.gap + f.gap in
-    let long : length (slice_range bytes (o + e.gap) (o + e.gap + f.gap)) ≡ f.gap = length-take-le (to - from) (drop from bytes) (omega (arith, length-drop from bytes, h)) ∙ omega arith in
-    ap (λ (l : List Entry). e ∷ l)
-    (ap (λ n. entries_of n (parts_of bytes (starts_after (o + e.gap) (f ∷ fs)))) long ∙ entries_back bytes (o + e.gap) f fs (omega (arith, h)))
+    grind (arith, length-take-le, length-drop, entries_back bytes (o + e.gap) f fs (omega (arith, h)))
 
 pub entries_whole : (bytes : List ℕ) (es : List Entry) → IsLayout es (length bytes) → entries_of 0 (parts_of bytes (starts_after 0 es)) ≡ es
 entries_whole bytes [] h = refl
@@ -125,11 +121,7 @@ text_push (x ∷ xs) e = ap (λ (l : List ℕ). entry_text x ++ l) (text_push xs
 
 pub read_more : (bytes front : List ℕ) (es now : List Entry) (e : Entry) (left after : List ℕ) → bytes ≡ front ++ (entries_text es ++ left) → left ≡ entry_text e ++ after → now ≡ es ++ e ∷ [] → bytes ≡ front ++ (entries_text now ++ after)
 read_more bytes front es now e left after whole is now_is =
-    whole
-    ∙ ap (λ (l : List ℕ). front ++ (entries_text es ++ l)) is
-    ∙ ap (λ (l : List ℕ). front ++ l) (sym (append_assoc (entries_text es) (entry_text e) after))
-    ∙ ap (λ (l : List ℕ). front ++ (l ++ after)) (sym (text_push es e))
-    ∙ ap (λ (l : List Entry). front ++ (entries_text l ++ after)) (sym now_is)
+    grind (arith, append_assoc, text_push)
 
 -- so many entries were read behind their number
 pub record IsReading (bytes : List ℕ) (count i : ℕ) (done : List Entry) (left : List ℕ) : Type 0 where
@@ -201,8 +193,7 @@ so_far_more entries i offset len starts now e s front le new is =
 
 here : (xs : List FileAddr) (a : FileAddr) (rest : List FileAddr) (x : FileAddr) → is_at x a ≡ true → list_any (is_at x) (xs ++ a ∷ rest) ≡ false → ⊥
 here xs a rest x e h =
-    let behind = or_false (list_any (is_at x) xs) (is_at x a || list_any (is_at x) rest) (sym (list_any-append (is_at x) xs (a ∷ rest)) ∙ h) in
-    let both : true ≡ false = sym e ∙ (or_false (is_at x a) (list_any (is_at x) rest) behind.1).0 in cc
+    grind (arith, or_false, list_any-append)
 
 twice_by : (x : FileAddr) (xs : List FileAddr) (a : FileAddr) (rest : List FileAddr) (b : Bool) → (list_any (is_at a) xs ≡ true → AreDistinct (xs ++ a ∷ rest) → ⊥)
     → is_at a x ≡ b → (b || list_any (is_at a) xs) ≡ true → AreDistinct (x ∷ (xs ++ a ∷ rest)) → ⊥
@@ -216,8 +207,7 @@ twice (x ∷ xs) a rest is h = twice_by x xs a rest (is_at a x) (twice xs a rest
 
 pub stands_twice : (entries : List Entry) (i offset len : ℕ) (starts : List Start) (e : Entry) → IsSoFar entries i offset len starts → drop i entries ≡ e ∷ drop (i + 1) entries → list_any (is_at e.addr) (start_addresses starts) ≡ true → IsLayout entries len → ⊥
 stands_twice entries i offset len starts e s front is h =
-    twice (start_addresses starts) e.addr (entry_addresses (drop (i + 1) entries)) is
-    (subst AreDistinct (sym (ap (λ (l : List Entry). start_addresses starts ++ entry_addresses l) (sym front) ∙ s.named)) h.distinct)
+    grind (arith, twice)
 
 -- ---- the addresses in a set
 

@@ -13,9 +13,9 @@ use Rattle.tv_framing.specs.Places.{by_name, with_field}
 use Rattle.tv_framing.specs.PerField.{fields_sum}
 use Rattle.tv_framing.specs.Usage.{bytes_of}
 use Rattle.tv_framing.specs.Reports.{usage_of, usages}
-use Rattle.tv_framing.specs.Starts.{Ascend, Fill, next_start, parts_of, start_addresses}
+use Rattle.tv_framing.specs.Starts.{Ascend, next_start, parts_of, start_addresses}
 use Rattle.tv_framing.proofs.Joining.{none_added}
-use Rattle.tv_framing.proofs.Parts.{fill_ascend, later_ascend, range_inside}
+use Rattle.tv_framing.proofs.Parts.{later_ascend, range_inside}
 
 -- so many bodies were added
 pub record IsReporting (names : List (List ℕ)) (starts : List Start) (n i end : ℕ) (so_far : List FieldSpace) : Type 0 where
@@ -24,10 +24,6 @@ pub record IsReporting (names : List (List ℕ)) (starts : List Start) (n i end 
   pub below : list_all (λ (a : FileAddr). nat_lt a.field n) (start_addresses (drop i starts)) ≡ true
   pub small : list_all (λ (a : FileAddr). nat_le a.idx 65535) (start_addresses (drop i starts)) ≡ true
   pub made : (bytes : List ℕ) → length bytes ≡ end → fold with_field so_far (usages names (parts_of bytes (drop i starts))) ≡ by_name (usages names (parts_of bytes starts))
-
-pub reports_first : (names : List (List ℕ)) (starts : List Start) (n end : ℕ) → Fill starts end → list_all (λ (a : FileAddr). nat_lt a.field n) (start_addresses starts) ≡ true → list_all (λ (a : FileAddr). nat_le a.idx 65535) (start_addresses starts) ≡ true
-    → IsReporting names starts n 0 end []
-reports_first names starts n end fill below small = record { from = 0; ascend = fill_ascend end starts fill; below = below; small = small; made = λ bytes e. refl }
 
 both_true : (a b : Bool) → (a && b) ≡ true → (a ≡ true) × (b ≡ true)
 both_true true b h = (refl, h)
@@ -40,8 +36,7 @@ all_rest p starts i s front h =
 -- the numbers of the start that comes next
 pub next_fits : (names : List (List ℕ)) (starts : List Start) (n i end : ℕ) (so_far : List FieldSpace) (s : Start) → IsReporting names starts n i end so_far → drop i starts ≡ s ∷ drop (i + 1) starts → (s.addr.field < n) × (s.addr.idx ≤ 65535)
 next_fits names starts n i end so_far s r front =
-    let below = (all_rest (λ (a : FileAddr). nat_lt a.field n) starts i s front r.below).0 in
-    let small = (all_rest (λ (a : FileAddr). nat_le a.idx 65535) starts i s front r.small).0 in (grind (arith, below), grind (arith, small))
+    grind (arith, all_rest)
 
 pub reports_on : (names : List (List ℕ)) (starts : List Start) (n i end to : ℕ) (so_far now : List FieldSpace) (s : Start) → IsReporting names starts n i end so_far → drop i starts ≡ s ∷ drop (i + 1) starts → to ≡ next_start end (drop (i + 1) starts)
     → now ≡ with_field so_far (part_alone (get_or names s.addr.field []) s.addr.idx (record { 0 = to - s.offset })) → IsReporting names starts n (i + 1) end now

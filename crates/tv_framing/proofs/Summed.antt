@@ -39,9 +39,7 @@ parts_to ps qs (suc n) =
 
 parts_sum : (ps qs : List (Option ByteCount)) → capped (sum_by bytes_of (joined_parts ps qs)) ≡ capped (sum_by bytes_of ps + sum_by bytes_of qs)
 parts_sum ps qs =
-    parts_to ps qs (max (length ps) (length qs))
-    ∙ ap (λ l. capped (sum_by bytes_of l + sum_by bytes_of (take (max (length ps) (length qs)) qs))) (take_all (max (length ps) (length qs)) ps (omega arith))
-    ∙ ap (λ l. capped (sum_by bytes_of ps + sum_by bytes_of l)) (take_all (max (length ps) (length qs)) qs (omega arith))
+    grind (arith, parts_to, take_all)
 
 columns_sum : (a b : Option ColumnSpaceUsage) → capped (column_bytes (joined_columns a b)) ≡ capped (column_bytes a + column_bytes b)
 columns_sum None b = omega arith

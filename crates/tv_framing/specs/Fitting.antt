@@ -1,8 +1,16 @@
 -- Numbers that fit.
-use Rattle.std.specs.Prelude.{◌<◌, ◌^◌}
+use Rattle.std.specs.Prelude.{ℕ, ◌≡◌, ◌<◌, ◌^◌, List, ◌++◌, length}
+use Rattle.std.specs.List.{AllByRecursion}
+use Rattle.tv_model.specs.VInt.{vint}
 use Rattle.tv_framing.specs.declared.entries.Entry.{Entry}
 use Rattle.tv_framing.specs.Composite.{IsAddress}
+use Rattle.tv_framing.specs.Entries.{entries_text}
 
 -- the numbers of an entry fit
 abbrev pub EntryFits : Entry → Type 0
 EntryFits entry = (entry.gap < 2 ^ 64) × IsAddress entry.addr
+
+-- the bytes spell these entries behind their number
+pub record SpellsEntries (bytes : List ℕ) (entries : List Entry) : Type 0 where
+  pub fits : AllByRecursion EntryFits entries
+  pub text : bytes ≡ vint (length entries) ++ entries_text entries

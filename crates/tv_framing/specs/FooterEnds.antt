@@ -1,7 +1,14 @@
 -- The end of a file that has a footer.
-use Rattle.std.specs.Prelude.{ℕ, ◌≡◌, ◌≤◌, ◌+◌, List, ◌++◌, length, take, slice_range}
+use Rattle.std.specs.Prelude.{ℕ, ◌≡◌, ◌≤◌, ◌<◌, ◌+◌, ◌^◌, List, ◌++◌, length, take, drop, slice_range}
 use Rattle.tv_model.specs.Footer.{four_bytes, footer_magic, stated}
 use Rattle.tv_framing.specs.Footers.{last_four, stated_json}
+
+-- so many bytes stand before the last eight, which are these two numbers
+pub record EndsIn (bytes : List ℕ) (front json magic : ℕ) : Type 0 where
+  pub size : front + 8 ≡ length bytes
+  pub text : drop front bytes ≡ four_bytes json ++ four_bytes magic
+  pub json_small : json < 2 ^ 32
+  pub magic_small : magic < 2 ^ 32
 
 -- the JSON of the footer lies there, if it is one
 pub record HasEnd (bytes : List ℕ) (start end : ℕ) : Type 0 where

@@ -1,5 +1,5 @@
 //! Reads a composite file.
-ghost use Rattle.std.specs.Prelude.{◌≡◌, ◌≤◌, ◌<◌, ◌^◌, ◌++◌, ℕ, List, [], IfOk, IfErr, IfSome, IfNone, false, true, length, map, string_bytes, take};
+ghost use Rattle.std.specs.Prelude.{◌≡◌, ◌≤◌, ◌<◌, ◌^◌, ◌++◌, ℕ, List, [], IfOk, IfErr, IfSome, MatchOption, false, true, length, map, string_bytes, take};
 ghost use Rattle.tv_model.specs.Footer.{four_bytes};
 ghost use Rattle.tv_base.specs.declared.io.IoKind.TheVariants.{InvalidData};
 ghost use Rattle.tv_framing.specs.Composite.{AreTheParts, IsComposite, IsNotComposite, address, bodies, body_at, fields_below, not_composite};
@@ -118,9 +118,8 @@ impl CompositeFile {
 
 // The parts of the file, if it is made of parts.
 fn parts_in(alloc: Global, file: &FileSlice) -> Result<Option<CompositeFile>, Memory>
-    ensures some { IfOk result (λ found. IfSome found (IsComposite file.now)) }
-    ensures only { IfOk result (λ found. IfSome found (AreTheParts file.now)) }
-    ensures none { IfOk result (λ found. IfNone found (IsNotComposite file.now)) }
+    ensures { IfOk result (λ found. MatchOption found (IsNotComposite file.now)
+        (λ parts. IsComposite file.now parts × AreTheParts file.now parts)) }
 {
     let bytes = file.read_bytes()?;
     let Some((len, footing)) = split_footing(bytes.as_slice()) else {

@@ -1,9 +1,9 @@
 //! Reads the list of a composite file.
-ghost use Rattle.std.specs.Prelude.{◌≡◌, ◌<◌, ◌^◌, ◌++◌, ◌↔◌, ℕ, IsTrue, List, Some, IfOk, IfSome, IfNone, length, option_map};
+ghost use Rattle.std.specs.Prelude.{◌≡◌, ◌<◌, ◌^◌, ◌++◌, ◌↔◌, ℕ, IsTrue, List, Some, IfOk, IfSome, MatchOption, length, option_map};
 ghost use Rattle.std.specs.List.{AllByRecursion};
 ghost use Rattle.tv_model.specs.VInt.{vint};
 ghost use Rattle.tv_framing.specs.Entries.{BeginsAtFirst, IsLayout, entry_text, entries_text, starts_after};
-ghost use Rattle.tv_framing.specs.Fitting.{EntryFits};
+ghost use Rattle.tv_framing.specs.Fitting.{EntryFits, SpellsEntries};
 
 use crate::address::FileAddr;
 use crate::cursor::Cursor;
@@ -24,8 +24,8 @@ fn next_entry(cursor: &mut Cursor<'_>) -> Option<Entry>
     ensures found { (entry : Entry) (rest : List ℕ) → EntryFits entry
         → cursor.old ≡ entry_text entry ++ rest
         → (result ≡ Some entry) × (cursor.new ≡ rest) }
-    ensures only { IfSome result (λ entry. cursor.old ≡ entry_text entry ++ cursor.new) }
-    ensures fits { IfSome result EntryFits }
+    ensures only { IfSome result (λ entry. EntryFits entry
+        × (cursor.old ≡ entry_text entry ++ cursor.new)) }
 {
     let gap = cursor.vint()?;
     let field = Field::from_field_id(cursor.four_bytes()?);
@@ -40,9 +40,7 @@ pub(crate) fn entries_in(alloc: Global, footing: &[u8]) -> Result<Option<Vec<Ent
         → AllByRecursion EntryFits entries
         → footing.now ≡ vint (length entries) ++ entries_text entries
         → IfOk result (λ found. option_map (λ v. v.items) found ≡ Some entries) }
-    ensures fits { IfOk result (λ found. IfSome found (λ v. AllByRecursion EntryFits v.items)) }
-    ensures only { IfOk result (λ found. IfSome found (λ v.
-        footing.now ≡ vint (length v.items) ++ entries_text v.items)) }
+    ensures only { IfOk result (λ found. IfSome found (λ v. SpellsEntries footing.now v.items)) }
 {
     let mut cursor = Cursor::new(footing);
     let Some(count) = cursor.vint() else {
@@ -68,9 +66,8 @@ pub(crate) fn starts_of(
     entries: &[Entry],
     len: u64,
 ) -> Result<Option<Vec<Start>>, Memory>
-    ensures some { IfOk result (λ found. IfSome found (λ v. IsLayout entries.now len
-        × (v.items ≡ starts_after 0 entries.now))) }
-    ensures none { IfOk result (λ found. IfNone found (IsLayout entries.now len → ⊥)) }
+    ensures { IfOk result (λ found. MatchOption found (IsLayout entries.now len → ⊥)
+        (λ v. IsLayout entries.now len × (v.items ≡ starts_after 0 entries.now))) }
 {
     if !begins_at_first(entries, len) {
         return Ok(None);

@@ -1,8 +1,7 @@
 //! Where the footer of a file lies.
-ghost use Rattle.std.specs.Prelude.{◌≡◌, ◌<◌, ◌+◌, ◌^◌, ◌++◌, IfOk, IfErr, IfSome, IfNone, drop, length};
-ghost use Rattle.tv_model.specs.Footer.{four_bytes};
+ghost use Rattle.std.specs.Prelude.{◌<◌, MatchOption, MatchResult, length};
 ghost use Rattle.tv_framing.specs.Faults.{OfFault};
-ghost use Rattle.tv_framing.specs.FooterEnds.{HasEnd};
+ghost use Rattle.tv_framing.specs.FooterEnds.{EndsIn, HasEnd};
 ghost use Rattle.tv_framing.specs.Footers.{Refuses};
 
 use crate::cursor::Cursor;
@@ -22,8 +21,8 @@ const OTHER_MAGIC: &str =
 
 /// Where the JSON of the footer lies. The reasons to refuse a file are looked at in their order.
 pub(crate) fn json_range(alloc: Global, bytes: &[u8]) -> Result<Range<usize>, IoError>
-    ensures ok { IfOk result (λ range. HasEnd bytes.now range.start range.end) }
-    ensures err { IfErr result (OfFault (Refuses bytes.now)) }
+    ensures { MatchResult result (λ range. HasEnd bytes.now range.start range.end)
+        (OfFault (Refuses bytes.now)) }
 {
     let Some((front, stated, magic)) = ending(bytes) else {
         return Err(numbered(
@@ -61,10 +60,7 @@ pub(crate) fn json_range(alloc: Global, bytes: &[u8]) -> Result<Range<usize>, Io
 
 // How many bytes stand before the last eight, and the two numbers in those.
 fn ending(bytes: &[u8]) -> Option<(usize, u32, u32)>
-    ensures some { IfSome result (λ r. (r.0 + 8 ≡ length bytes.now)
-        × (drop r.0 bytes.now ≡ four_bytes r.1 ++ four_bytes r.2)) }
-    ensures small { IfSome result (λ r. (r.1 < 2 ^ 32) × (r.2 < 2 ^ 32)) }
-    ensures none { IfNone result (length bytes.now < 8) }
+    ensures { MatchOption result (length bytes.now < 8) (λ r. EndsIn bytes.now r.0 r.1 r.2) }
 {
     let front = bytes.len().checked_sub(8)?;
     let mut end = Cursor::new(&bytes[front..]);

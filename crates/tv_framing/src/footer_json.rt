@@ -1,5 +1,5 @@
 //! The JSON of a footer.
-ghost use Rattle.std.specs.Prelude.{◌≡◌, ◌++◌, IfOk, IfNone, IfSome, OnOk};
+ghost use Rattle.std.specs.Prelude.{◌≡◌, ◌++◌, IfOk, MatchOption, OnOk};
 ghost use Rattle.std.specs.Fmt.{decimal};
 ghost use Rattle.serde_json.specs.View.{view};
 ghost use Rattle.tv_model.specs.FooterForm.{u32_at};
@@ -14,9 +14,8 @@ use tv_base::{Memory, Version};
 
 /// The footer that the bytes spell, and nothing for all other bytes.
 pub(crate) fn read_footer(alloc: Global, bytes: &[u8]) -> Result<Option<Footer>, Memory>
-    ensures some { IfOk result (λ found. IfSome found (Spells bytes.now)) }
-    ensures none { IfOk result (λ found. IfNone found
-        ((footer : Footer) → Spells bytes.now footer → ⊥)) }
+    ensures { IfOk result (λ found. MatchOption found
+        ((footer : Footer) → Spells bytes.now footer → ⊥) (Spells bytes.now)) }
 {
     match Value::from_slice(alloc, bytes) {
         Ok(tree) => Ok(footer_of(&tree)),
@@ -32,8 +31,8 @@ pub(crate) fn read_footer(alloc: Global, bytes: &[u8]) -> Result<Option<Footer>,
 
 // The footer that a tree holds, if it has its fields.
 fn footer_of(tree: &Value) -> Option<Footer>
-    ensures some { IfSome result (IsFooter (view tree.now)) }
-    ensures none { IfNone result ((footer : Footer) → IsFooter (view tree.now) footer → ⊥) }
+    ensures { MatchOption result ((footer : Footer) → IsFooter (view tree.now) footer → ⊥)
+        (IsFooter (view tree.now)) }
 {
     Some(Footer {
         version: version_of(tree.get("version")?)?,
@@ -43,8 +42,8 @@ fn footer_of(tree: &Value) -> Option<Footer>
 
 // The version that a tree holds, if it has its fields.
 fn version_of(tree: &Value) -> Option<Version>
-    ensures some { IfSome result (IsVersion (view tree.now)) }
-    ensures none { IfNone result ((version : Version) → IsVersion (view tree.now) version → ⊥) }
+    ensures { MatchOption result ((version : Version) → IsVersion (view tree.now) version → ⊥)
+        (IsVersion (view tree.now)) }
 {
     Some(Version {
         major: number_at(tree, "major")?,

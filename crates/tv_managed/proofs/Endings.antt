@@ -1,24 +1,17 @@
 -- What is read at the end of a file, and why it isn't.
 use Rattle.std.proofs.Common.{◌≡◌, ℕ, List, Option, Some, Result, Ok, Err, ⊎_elim, inl, inr, sym, ap, subst, ◌∙◌}
+use Rattle.std.proofs.lemmas.Option.{same_Some}
 use Rattle.std.specs.Prelude.{IfErr}
 use Rattle.std.specs.Result.{IsErrAnd}
-use Rattle.std.proofs.lemmas.Result.{IfErr-weaker}
 use Rattle.tv_model.specs.Files.{KeepsOthers, Reads, Sets}
 use Rattle.tv_model.specs.Footer.{HasBody, IsFramed, IsOtherFormat, IsReadFormat, sealed}
 use Rattle.tv_model.specs.FooterForm.{FooterNumbers}
-use Rattle.tv_model.proofs.Bodies.{body_of_good, one_footer, sealed_has_body}
+use Rattle.tv_model.proofs.Bodies.{body_of_good, one_footer}
 use Rattle.tv_base.specs.declared.open_errors.OpenReadError.{OpenReadError}
 use Rattle.tv_base.specs.declared.open_errors.OpenReadError.TheVariants as read
 use Rattle.tv_framing.specs.declared.footer.Footer.{Footer}
 use Rattle.tv_framing.specs.Footers as framing
 use Rattle.tv_managed.specs.Reading.{HasNoBody, HasNoFooter, OpenBodyCause, ReadsBody, ReadsSuch}
-
-some_is : {A : Type 0} {x y : A} → ◌≡◌ {A = Option A} (Some x) (Some y) → x ≡ y
-some_is e = cc
-
--- bytes without a footer have no body
-pub no_body : (bytes : List ℕ) → HasNoFooter bytes → HasNoBody bytes
-no_body bytes none body h = none h.footer body h.framed
 
 -- what the name read is of no format that is read, so it has no body
 pub other_format : (bytes : List ℕ) (footer : FooterNumbers) (body : List ℕ) → IsFramed bytes footer body → IsOtherFormat footer.format → HasNoBody bytes
@@ -29,7 +22,7 @@ other_format bytes footer body h other found good =
 pub less_known : (was : Option (List ℕ)) (error : OpenReadError) → OpenBodyCause (Unit {0}) (λ _. ReadsSuch was HasNoFooter) (λ _. ⊥) (Unit {0}) (Unit {0}) error
     → OpenBodyCause (Unit {0}) (λ _. ReadsSuch was HasNoBody) (λ _. ReadsSuch was HasNoBody) (Unit {0}) (Unit {0}) error
 less_known was (read.FileDoesNotExist path) h = h
-less_known was (read.IoError fault path) h = ⊎_elim (λ d. inl d) (λ bad. inr (bad.0, bad.1, no_body bad.0 bad.2)) h
+less_known was (read.IoError fault path) h = ⊎_elim (λ d. inl d) (λ bad. inr (bad.0, bad.1, λ body h. bad.2 h.footer body h.framed)) h
 less_known was (read.IncompatibleIndex why) h = absurd h
 less_known was read.Memory h = h
 
@@ -41,16 +34,12 @@ numbered bytes none footer body h =
 -- what is read has one body
 pub one_body : (was : Option (List ℕ)) (first second : List ℕ) → ReadsBody was first → ReadsBody was second → first ≡ second
 one_body was first second h k =
-    sym (body_of_good h.0 first h.2) ∙ body_of_good h.0 second (subst (λ (l : List ℕ). HasBody l second) (some_is (sym k.1 ∙ h.1)) k.2)
+    sym (body_of_good h.0 first h.2) ∙ body_of_good h.0 second (subst (λ (l : List ℕ). HasBody l second) (same_Some _ _ (sym k.1 ∙ h.1)) k.2)
 
 -- an error that was handed on
 pub handed_on : {T E : Type 0} (result : Result T E) (error : E) (P : E → Type 0) → IsErrAnd result (λ e. e ≡ error) → P error → IfErr result P
 handed_on (Ok x) error P h k = tt
 handed_on (Err e) error P h k = subst P (sym h) k
-
--- an error that came for want of memory
-pub wanted_only : {T : Type 0} (result : Result T OpenReadError) (P : OpenReadError → Type 0) → IfErr result (λ e. e ≡ read.Memory) → P read.Memory → IfErr result P
-wanted_only result P h k = IfErr-weaker result _ P (λ e is. subst P (sym is) k) h
 
 -- a file is sealed where its footer was written behind its body and nothing else was changed
 pub sealed_sets : (old mid new : Reads) (name given text body : List ℕ) → KeepsOthers old mid name → given ≡ name → text ≡ sealed body → Sets mid new given (Some text) → Sets old new name (Some (sealed body))
@@ -58,7 +47,3 @@ sealed_sets old mid new name given text body kept same is h = record {
   changed = ap new (sym same) ∙ h.changed ∙ ap (λ (l : List ℕ). Some l) is;
   others = λ n other. h.others n (λ e. other (e ∙ same)) ∙ kept n other;
 }
-
--- and then its body is read back
-pub reads_back : (old new : Reads) (name body : List ℕ) → Sets old new name (Some (sealed body)) → ReadsBody (new name) body
-reads_back old new name body h = (sealed body, h.changed, sealed_has_body body)

@@ -25,12 +25,6 @@ all_filtered p test (x ∷ names) h = let t = both (test x) (list_all test names
   kept true h k = rw h k
   kept false h k = k
 
-pub managed_without : (gone names : List (List ℕ)) → AreManaged names → AreManaged (without gone names)
-managed_without gone names h = record {
-  plain = all_filtered (λ n. not (has gone n)) is_plain names h.plain;
-  ordered = IsStrictlySortedBy-filter byte_cmp (λ n. not (has gone n)) names h.ordered;
-}
-
 -- without no names
 pub without_none : (names : List (List ℕ)) → without [] names ≡ names
 without_none [] = refl
@@ -70,21 +64,17 @@ without_inserted names put left name h none is cut =
     cut ∙ ap (without (name ∷ [])) is ∙ sym (removed_without (insert_key byte_cmp names name) name (sorted_put names name h.ordered)) ∙ remove_inserted names name none
 
 pub texts_without : (keys new : List (String Global)) (name : List ℕ) → new ≡ remove_key (is_at (λ k. byte_cmp name (string_bytes k))) keys → AreManaged (map string_bytes keys) → map string_bytes new ≡ without (name ∷ []) (map string_bytes keys)
-texts_without keys new name cut h =
-    ap (λ (ks : List (String Global)). map string_bytes ks) cut ∙ bytes_removed keys name ∙ removed_without (map string_bytes keys) name h.ordered
+texts_without keys new name cut h = rw cut (bytes_removed keys name ∙ removed_without (map string_bytes keys) name h.ordered)
 
--- what was done of some names and of others after them
-pub done_append : (names : List (List ℕ)) (os : List Bool) (more : List (List ℕ)) (others : List Bool) → length os ≡ length names → done_of (names ++ more) (os ++ others) ≡ done_of names os ++ done_of more others
-done_append [] [] more others e = refl
-done_append (n ∷ names) (true ∷ os) more others e = ap (λ (ns : List (List ℕ)). n ∷ ns) (done_append names os more others (omega arith))
-done_append (n ∷ names) (false ∷ os) more others e = done_append names os more others (omega arith)
-done_append [] (o ∷ os) more others e = absurd (omega arith)
-done_append (n ∷ names) [] more others e = absurd (omega arith)
+pub texts_left : (keys new : List (String Global)) (name : List ℕ) → new ≡ remove_key (is_at (λ k. byte_cmp name (string_bytes k))) keys → AreManaged (map string_bytes keys) → AreManaged (map string_bytes new)
+texts_left keys new name cut h =
+    rw (texts_without keys new name cut h) (record { plain = all_filtered (λ n. not (has (name ∷ []) n)) is_plain _ h.plain; ordered = IsStrictlySortedBy-filter byte_cmp (λ n. not (has (name ∷ []) n)) _ h.ordered })
 
--- and what failed
-pub failed_append : (names : List (List ℕ)) (os : List Bool) (more : List (List ℕ)) (others : List Bool) → length os ≡ length names → failed_of (names ++ more) (os ++ others) ≡ failed_of names os ++ failed_of more others
-failed_append [] [] more others e = refl
-failed_append (n ∷ names) (true ∷ os) more others e = failed_append names os more others (omega arith)
-failed_append (n ∷ names) (false ∷ os) more others e = ap (λ (ns : List (List ℕ)). n ∷ ns) (failed_append names os more others (omega arith))
-failed_append [] (o ∷ os) more others e = absurd (omega arith)
-failed_append (n ∷ names) [] more others e = absurd (omega arith)
+-- what was done of some names and of others after them, and what failed
+pub tried_append : (names : List (List ℕ)) (os : List Bool) (more : List (List ℕ)) (others : List Bool) → length os ≡ length names
+    → (done_of (names ++ more) (os ++ others) ≡ done_of names os ++ done_of more others) × (failed_of (names ++ more) (os ++ others) ≡ failed_of names os ++ failed_of more others)
+tried_append [] [] more others e = (refl, refl)
+tried_append (n ∷ names) (true ∷ os) more others e = let k = tried_append names os more others (omega arith) in (ap (λ (ns : List (List ℕ)). n ∷ ns) k.0, k.1)
+tried_append (n ∷ names) (false ∷ os) more others e = let k = tried_append names os more others (omega arith) in (k.0, ap (λ (ns : List (List ℕ)). n ∷ ns) k.1)
+tried_append [] (o ∷ os) more others e = absurd (omega arith)
+tried_append (n ∷ names) [] more others e = absurd (omega arith)

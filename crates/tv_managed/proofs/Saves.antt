@@ -1,26 +1,25 @@
 -- What a save of the list changes.
-use Rattle.std.proofs.Common.{◌≡◌, ◌≢◌, ◌⊎◌, ℕ, true, false, true≢false, List, [], refl, sym, ap, subst, ◌∙◌, ⊎_elim, inl, inr, Option, Some, None, Result, Ok, Err}
+use Rattle.std.proofs.Common.{◌≡◌, ◌≢◌, ◌⊎◌, ℕ, true, false, true≢false, List, refl, sym, ap, subst, ◌∙◌, ⊎_elim, Option, None, Result, Ok, Err}
 use Rattle.std.specs.Prelude.{IsSome, OnOk, IfErr}
-use Rattle.std.specs.BTreeSet.{insert_key}
-use Rattle.tv_model.specs.Names.{byte_cmp, is, has, is_undotted, list_name}
+use Rattle.tv_model.specs.Names.{is, has, is_undotted, list_name}
 use Rattle.tv_model.specs.Files.{Reads, Same, Sets, MaySet, KeepsOthers}
 use Rattle.tv_model.specs.Listing.{Lists}
-use Rattle.tv_model.proofs.Entries.{is_itself, is_text, has_kept}
+use Rattle.tv_model.proofs.Entries.{is_itself, is_text}
 use Rattle.tv_base.specs.Causes.{IoCause, OpenWriteCause}
 use Rattle.tv_base.specs.declared.io.IoError.{IoError}
 use Rattle.tv_base.specs.declared.io.IoError.TheVariants as io
 use Rattle.tv_base.specs.declared.open_errors.OpenWriteError.{OpenWriteError}
 use Rattle.tv_base.specs.declared.open_errors.OpenWriteError.TheVariants as write
 use Rattle.tv_directory.specs.Calls.{MayMake}
-use Rattle.tv_managed.specs.Managed.{Covers, IsOnList, ListsNew}
+use Rattle.tv_directory.specs.declared.directory.Directory.{Ghosts}
+use Rattle.tv_managed.specs.Managed.{Covers, IsOnList, ListsNew, OnlySaves}
 
--- whatever became of a save with a name more, the list that reads has the names of before
-pub covers_put : (now before : Option (List ℕ)) (names put : List (List ℕ)) (name : List ℕ) → put ≡ insert_key byte_cmp names name → Lists now put ⊎ (now ≡ before) → Covers before names → Covers now names
-covers_put now before names put name is either was =
-    ⊎_elim
-    (λ saved. (put, saved, λ n h. subst (λ ns. has ns n ≡ true) (sym is) (has_kept names name n h)))
-    (λ kept. subst (λ r. Covers r names) (sym kept) was)
-    either
+-- whatever became of a save of names that may be more, the list that reads has the names of before
+pub covers_put : (now before : Option (List ℕ)) (names put : List (List ℕ)) → ((n : List ℕ) → has names n ≡ true → has put n ≡ true) → Lists now put ⊎ (now ≡ before) → Covers before names → Covers now names
+covers_put now before names put more either was = ⊎_elim (λ saved. (put, saved, more)) (λ kept. rw kept was) either
+
+pub covers_saved : {A D W C : Type 0} (g : Ghosts D W C) {old new : D × List (List ℕ)} {result : Result A IoError} → OnlySaves g old new result → g.told.content → Covers ((g.view old.0).reads list_name) old.1 → Covers ((g.view new.0).reads list_name) new.1
+covers_saved g {old} {new} o tells was = rw o.frame.names (covers_put _ _ old.1 new.1 (λ n h. rw o.frame.names h) (o.either tells) was)
 
 pub isnt_some : {X : Type 0} (o : Option X) → IsSome o → o ≡ None → ⊥
 isnt_some o h e = let k = subst IsSome e h in absurd (true≢false (sym k))
@@ -57,30 +56,6 @@ others_of_refused old new name (write.Leaving path) h = absurd h
 others_of_refused old new name (write.IoError fault path) h = ⊎_elim (λ same n ne. same n) (λ made. made.1.others) h.2
 others_of_refused old new name write.Memory h = λ n ne. h n
 
--- the cause of an error where other things are said of it
-cause_with : (name : List ℕ) {A B C A2 B2 C2 : Type 0} → (A → A2) → (B → B2) → (C → C2) → (e : OpenWriteError) → OpenWriteCause name A B C e → OpenWriteCause name A2 B2 C2 e
-cause_with name f g h (write.FileAlreadyExists path) c = (c.0, f c.1)
-cause_with name f g h (write.Leaving path) c = absurd c
-cause_with name f g h (write.IoError fault path) c = (c.0, c.1, g c.2)
-cause_with name f g h write.Memory c = h c
-
--- the file wasn't made: its name reads what it read, or after a refusal of the device an empty file
-abbrev pub NotMade : (old new : Reads) (name : List ℕ) → OpenWriteError → Type 0
-NotMade old new name = OpenWriteCause name (Unit {0}) ((new name ≡ Some []) ⊎ (new name ≡ old name)) (new name ≡ old name)
-
--- so it is after a call that left the name alone
-pub still_not_made : (old new : Reads) (name : List ℕ) (there refused quiet : Type 0) → new name ≡ old name → (e : OpenWriteError) → OpenWriteCause name there refused quiet e → NotMade old new name e
-still_not_made old new name there refused quiet same e h = cause_with name (λ x. tt) (λ x. inr same) (λ x. same) e h
-
--- and after a refused call that makes the file
-pub not_made : (old listed new : Reads) (name : List ℕ) → listed name ≡ old name → (e : OpenWriteError) → OpenWriteCause name (Same listed new) (MayMake listed new name) (Same listed new) e → NotMade old new name e
-not_made old listed new name before e h =
-    cause_with name (λ same. tt) (λ may. ⊎_elim (λ same. inr (same name ∙ before)) (λ made. inl made.1.changed) may) (λ same. same name ∙ before) e h
-
 -- a call that changes nothing
 pub still_covers : {D : Type 0} (reads : D → Reads) (old new : D) (before after : List (List ℕ)) → Same (reads old) (reads new) → after ≡ before → Covers (reads old list_name) before → Covers (reads new list_name) after
 still_covers reads old new before after same is h = subst (Covers (reads new list_name)) (sym is) (subst (λ r. Covers r before) (sym (same list_name)) h)
-
--- the list that reads has fewer names too
-pub covers_fewer : (now before : Option (List ℕ)) (names after : List (List ℕ)) → now ≡ before → ((n : List ℕ) → has after n ≡ true → has names n ≡ true) → Covers before names → Covers now after
-covers_fewer now before names after same fewer was = (was.0, subst (λ read. Lists read was.0) (sym same) was.1, λ n h. was.2 n (fewer n h))

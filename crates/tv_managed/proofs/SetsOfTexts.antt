@@ -54,18 +54,13 @@ pub are_listed : (keys : List (String Global)) → list_all is_plain (map string
 are_listed [] h = tt
 are_listed (k ∷ keys) h = let t = both (is_plain (string_bytes k)) (list_all is_plain (map string_bytes keys)) h in ((t.0, IsUtf8-string_bytes k), are_listed keys t.1)
 
--- a plain name more
-pub managed_inserted : (names : List (List ℕ)) (name : List ℕ) → is_plain name ≡ true → AreManaged names → AreManaged (insert_key byte_cmp names name)
-managed_inserted names name plain h = record {
-  plain = all_inserted is_plain names name plain h.plain;
-  ordered = sorted_put names name h.ordered;
-}
-
 -- the set after a text was put
-pub inserted_is : (keys new : List (String Global)) (copy : String Global) (old : List (List ℕ)) (name : List ℕ) → new ≡ insert_key string_cmp keys copy → string_bytes copy ≡ name → map string_bytes keys ≡ old
-    → map string_bytes new ≡ insert_key byte_cmp old name
-inserted_is keys new copy old name put is e =
-    ap (λ (ks : List (String Global)). map string_bytes ks) put ∙ bytes_inserted keys copy ∙ ap (λ (n : List ℕ). insert_key byte_cmp (map string_bytes keys) n) is ∙ ap (λ (ns : List (List ℕ)). insert_key byte_cmp ns name) e
+pub texts_inserted : (keys new : List (String Global)) (copy : String Global) (name : List ℕ) → new ≡ insert_key string_cmp keys copy → string_bytes copy ≡ name → map string_bytes new ≡ insert_key byte_cmp (map string_bytes keys) name
+texts_inserted keys new copy name put is = rw (put, ← is) (bytes_inserted keys copy)
+
+pub managed_inserted : (keys new : List (String Global)) (copy : String Global) (name : List ℕ) → new ≡ insert_key string_cmp keys copy → string_bytes copy ≡ name → is_plain name ≡ true → AreManaged (map string_bytes keys) → AreManaged (map string_bytes new)
+managed_inserted keys new copy name put is plain h =
+    rw (texts_inserted keys new copy name put is) (record { plain = all_inserted is_plain _ name plain h.plain; ordered = sorted_put _ name h.ordered })
 
 -- whether a text is in the set
 pub had_is : (keys : List (String Global)) (old : List (List ℕ)) (name : List ℕ) (b : Bool) → b ≡ list_any (is_at (λ k. byte_cmp name (string_bytes k))) keys → map string_bytes keys ≡ old → has old name ≡ b
@@ -76,6 +71,6 @@ pub list_of : (keys : List (String Global)) (names : List (List ℕ)) → map st
 list_of keys names e h = subst (λ (ns : List (List ℕ)). IsListOf (list_text ns) ns) e (record { each = are_listed keys h.plain; ordered = h.ordered; text = refl })
 
 -- no names
-pub none_managed : AreManaged []
+pub none_managed : (keys : List (String Global)) → keys ≡ [] → AreManaged (map string_bytes keys)
 unfolding IsStrictlySortedBy
-none_managed = record { plain = refl; ordered = tt }
+none_managed keys e = rw e (record { plain = refl; ordered = tt })

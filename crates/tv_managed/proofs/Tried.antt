@@ -1,5 +1,6 @@
 -- Names that are tried one after another.
-use Rattle.std.proofs.Common.{rules, ◌≡◌, ◌≢◌, ◌≤◌, ◌+◌, ℕ, Bool, true, false, cond, ◌||◌, inl, inr, ⊎_elim, List, [], ◌∷◌, ◌++◌, length, None, refl, sym, ap, subst, ◌∙◌, arith, true≢false, length-append, append-nil, append_assoc, String, Global, string_bytes}
+use Rattle.std.proofs.Common.{rules, ◌≡◌, ◌≢◌, ◌≤◌, ◌+◌, ℕ, Bool, true, false, cond, ◌||◌, inl, inr, ⊎_elim, List, [], ◌∷◌, ◌++◌, length, None, refl, sym, ap, subst, ◌∙◌, arith, true≢false, length-append, append-nil, append_assoc, String, Global, string_bytes, Result}
+use borrow.Table.Steps.{cases}
 use Rattle.std.specs.Prelude.{IsSome, if◌then◌else◌}
 use Rattle.std.proofs.Math.Bool.{or-false}
 use Rattle.std.proofs.lemmas.Bool.{false_from_ne_true}
@@ -12,14 +13,15 @@ use Rattle.tv_model.specs.Files.{KeepsOthers}
 use Rattle.tv_model.proofs.CollectionStates.{done_within, has_without}
 use Rattle.tv_model.proofs.Entries.{is_itself, is_text}
 use Rattle.tv_model.proofs.PlainNames.{both}
+use Rattle.tv_base.specs.declared.io.IoError.{IoError}
 use Rattle.tv_directory.specs.View.{Kept, MayDelete, OnlyReads}
 use Rattle.tv_directory.specs.declared.directory.Directory.{Ghosts}
 use Rattle.tv_managed.specs.declared.collecting.GarbageCollectionResult.{GarbageCollectionResult}
-use Rattle.tv_managed.specs.Collecting.{FailsAtMost, Leaves, Tried, Tries, TriesName, TriesSome, names_of}
+use Rattle.tv_managed.specs.Collecting.{FailsAtMost, Leaves, OnlyDeletes, Tried, Tries, TriesName, TriesSome, names_of}
 use Rattle.tv_managed.specs.Frames.{KeepsNames}
-use Rattle.tv_managed.specs.Managed.{Covers}
-use Rattle.tv_managed.proofs.Saves.{covers_fewer}
-use Rattle.tv_managed.proofs.Removals.{done_append, failed_append, has_or, without_none, without_twice}
+use Rattle.tv_managed.specs.Managed.{Covers, OnlySaves}
+use Rattle.tv_managed.proofs.Saves.{covers_saved}
+use Rattle.tv_managed.proofs.Removals.{has_or, tried_append, without_none, without_twice}
 
 -- no name was tried, and no file but the list changed
 pub tried_none : {D W C : Type 0} (g : Ghosts D W C) (old new : D × List (List ℕ)) → KeepsNames (Kept g.told) g.view old new
@@ -56,9 +58,9 @@ isnt_list : (name : List ℕ) → is_plain name ≡ true → has (name ∷ []) l
 isnt_list name plain = false_from_ne_true _ (λ h. true≢false (sym plain ∙ ap is_plain (only name list_name h)))
 
 -- one name was tried
-pub tried_name : {D W C : Type 0} (g : Ghosts D W C) (gone : Bool) (name : List ℕ) (old new : D × List (List ℕ)) → is_plain name ≡ true → TriesName g name old new gone → (g.view new.0).refusals ≤ 18446744073709551615
+pub tried_name : {D W C : Type 0} (g : Ghosts D W C) (gone : Bool) (name : List ℕ) (old new : D × List (List ℕ)) → is_plain name ≡ true → TriesName g name old new gone
     → MayDelete g.told (g.view old.0) (g.view new.0) → Tried g (name ∷ []) old new (cond gone (name ∷ []) []) (cond gone [] (name ∷ []))
-tried_name g true name old new plain e fits frame = record {
+tried_name g true name old new plain e frame = record {
   outcomes = true ∷ [];
   each = refl;
   deleted_is = refl;
@@ -73,10 +75,10 @@ tried_name g true name old new plain e fits frame = record {
       e.ended tell refl (subst (λ m. IsSome ((g.view old.0).reads m)) (sym it) some) w (sym it);
   counted = inl (omega (arith, e.done refl));
   calm = λ none. e.done refl;
-  fits = λ h. fits;
+  fits = λ h. e.fits;
   frame = frame;
 }
-tried_name g false name old new plain e fits frame = record {
+tried_name g false name old new plain e frame = record {
   outcomes = false ∷ [];
   each = refl;
   deleted_is = refl;
@@ -89,13 +91,9 @@ tried_name g false name old new plain e fits frame = record {
   ended = λ tell w o h. absurd (true≢false (sym h));
   counted = ⊎_elim (λ up. inl (omega (arith, up))) (λ end. inr end) (e.failed refl);
   calm = λ none. absurd cc;
-  fits = λ h. fits;
+  fits = λ h. e.fits;
   frame = frame;
 }
-
-by_test : {P : Type 0} (b : Bool) → (b ≡ true → P) → (b ≡ false → P) → P
-by_test true f g = f refl
-by_test false f g = g refl
 
 either_false : (a b : Bool) → (a || b) ≡ false → (a ≡ false) × (b ≡ false)
 either_false true b e = absurd cc
@@ -113,17 +111,16 @@ pub tried_then : {D W C : Type 0} (g : Ghosts D W C) (names more : List (List �
     → Tried g (names ++ more) old new (deleted ++ deleted2) (failed ++ failed2)
 tried_then g names more old mid new deleted failed deleted2 failed2 a b =
     let none : (n : List ℕ) → has (deleted ++ deleted2) n ≡ false → (has deleted n ≡ false) × (has deleted2 n ≡ false) = λ n h. either_false (has deleted n) (has deleted2 n) (sym (has_or deleted deleted2 n) ∙ h) in
-    let done = done_append names a.outcomes more b.outcomes a.each in
-    let kept = failed_append names a.outcomes more b.outcomes a.each in
+    let both = tried_append names a.outcomes more b.outcomes a.each in
     let count = length-append failed failed2 in
     record {
       outcomes = a.outcomes ++ b.outcomes;
       each = omega (arith, length-append a.outcomes b.outcomes, length-append names more, a.each, b.each);
-      deleted_is = cc (done, a.deleted_is, b.deleted_is);
-      failed_is = cc (kept, a.failed_is, b.failed_is);
+      deleted_is = cc (both.0, a.deleted_is, b.deleted_is);
+      failed_is = cc (both.1, a.failed_is, b.failed_is);
       hasnt_list = has_or deleted deleted2 list_name ∙ rw a.hasnt_list b.hasnt_list;
       managed = b.managed ∙ ap (without deleted2) a.managed ∙ without_twice deleted deleted2 old.1;
-      gone = λ tell n h. by_test (has deleted2 n)
+      gone = λ tell n h. cases (has deleted2 n)
           (λ e. b.gone tell n e)
           (λ e.
           let first : has deleted n ≡ true = sym (has_or deleted deleted2 n ∙ ap (λ c. has deleted n || c) e ∙ or-false (has deleted n)) ∙ h in
@@ -132,7 +129,7 @@ tried_then g names more old mid new deleted failed deleted2 failed2 a b =
       alive = λ tell w h l. b.alive tell w (none (g.state_of w).name h).1 (a.alive tell w (none (g.state_of w).name h).0 l);
       ended = λ tell w o h some.
           let n = (g.state_of w).name in
-          by_test (has deleted n)
+          cases (has deleted n)
           (λ e. b.frame.goes_on.ended tell w (a.frame.goes_on.writers w o) (a.ended tell w o e some))
           (λ e.
           let last : has deleted2 n ≡ true = ap (λ c. c || has deleted2 n) (sym e) ∙ sym (has_or deleted deleted2 n) ∙ h in
@@ -147,78 +144,42 @@ tried_then g names more old mid new deleted failed deleted2 failed2 a b =
     }
 
 -- what was tried, seen from before a call that changed nothing
-pub tried_from : {D W C : Type 0} (g : Ghosts D W C) (names : List (List ℕ)) (first old new : D × List (List ℕ)) (deleted failed : List (List ℕ)) → KeepsNames (OnlyReads g.told) g.view first old → Tried g names old new deleted failed → Tried g names first new deleted failed
-tried_from g names first old new deleted failed k t = tried_then g [] names first old new [] [] deleted failed (tried_quiet g first old k) t
+pub tried_from : {D W C : Type 0} (g : Ghosts D W C) {names deleted failed : List (List ℕ)} {first old new : D × List (List ℕ)} → KeepsNames (OnlyReads g.told) g.view first old → Tried g names old new deleted failed → Tried g names first new deleted failed
+tried_from g k t = tried_then g [] _ _ _ _ [] [] _ _ (tried_quiet g _ _ k) t
 
--- and from after a call that tried nothing
-pub tried_still : {D W C : Type 0} (g : Ghosts D W C) (names : List (List ℕ)) (old mid new : D × List (List ℕ)) (deleted failed : List (List ℕ)) → Tried g names old mid deleted failed → Tried g [] mid new [] [] → Tried g names old new deleted failed
-tried_still g names old mid new deleted failed a b = rw (← append-nil names, ← append-nil deleted, ← append-nil failed) (tried_then g names [] old mid new deleted failed [] [] a b)
+-- and from after a save of the list
+pub tried_amid : {A D W C : Type 0} (g : Ghosts D W C) {names deleted failed : List (List ℕ)} {first old mid new : D × List (List ℕ)} {result : Result A IoError} → KeepsNames (OnlyReads g.told) g.view first old → Tried g names old mid deleted failed
+    → OnlySaves g mid new result → Tried g names first new deleted failed
+tried_amid g {names} {deleted} {failed} {first} {old} {mid} {new} k t o =
+    rw (← append-nil names, ← append-nil deleted, ← append-nil failed) (tried_then g names [] first mid new deleted failed [] [] (tried_from g k t) (tried_none g mid new o.frame o.others))
 
--- some first names were tried, and these are left
-pub some_tried : {D W C : Type 0} (g : Ghosts D W C) (names front rest : List (List ℕ)) (old new : D × List (List ℕ)) (deleted failed : List (List ℕ)) → names ≡ front ++ rest → Tried g front old new deleted failed → TriesSome g names old new
-some_tried g names front rest old new deleted failed split tried = record {
-  front = front;
-  rest = rest;
-  deleted = deleted;
-  failed = failed;
-  split = split;
-  tried = tried;
-}
+-- some first names were tried
+pub some_none : {D W C : Type 0} (g : Ghosts D W C) (names : List (List ℕ)) {old new : D × List (List ℕ)} → KeepsNames (OnlyReads g.told) g.view old new → TriesSome g names old new
+some_none g names {old} {new} k = record { front = []; rest = names; deleted = []; failed = []; split = refl; tried = tried_quiet g old new k }
 
-pub some_none : {D W C : Type 0} (g : Ghosts D W C) (names : List (List ℕ)) (old new : D × List (List ℕ)) → KeepsNames (OnlyReads g.told) g.view old new → TriesSome g names old new
-some_none g names old new k = some_tried g names [] names old new [] [] refl (tried_quiet g old new k)
+pub some_from : {D W C : Type 0} (g : Ghosts D W C) {names : List (List ℕ)} {first old new : D × List (List ℕ)} → KeepsNames (OnlyReads g.told) g.view first old → TriesSome g names old new → TriesSome g names first new
+some_from g k s = record { front = s.front; rest = s.rest; deleted = s.deleted; failed = s.failed; split = s.split; tried = tried_from g k s.tried }
 
-pub some_from : {D W C : Type 0} (g : Ghosts D W C) (names : List (List ℕ)) (first old new : D × List (List ℕ)) → KeepsNames (OnlyReads g.told) g.view first old → TriesSome g names old new → TriesSome g names first new
-some_from g names first old new k s = some_tried g names s.front s.rest first new s.deleted s.failed s.split (tried_from g s.front first old new s.deleted s.failed k s.tried)
-
-pub some_still : {D W C : Type 0} (g : Ghosts D W C) (names : List (List ℕ)) (old mid new : D × List (List ℕ)) → TriesSome g names old mid → Tried g [] mid new [] [] → TriesSome g names old new
-some_still g names old mid new s b = some_tried g names s.front s.rest old new s.deleted s.failed s.split (tried_still g s.front old mid new s.deleted s.failed s.tried b)
+pub some_amid : {A D W C : Type 0} (g : Ghosts D W C) {names : List (List ℕ)} {first old mid new : D × List (List ℕ)} {result : Result A IoError} → KeepsNames (OnlyReads g.told) g.view first old → TriesSome g names old mid → OnlySaves g mid new result → TriesSome g names first new
+some_amid g k s o = record { front = s.front; rest = s.rest; deleted = s.deleted; failed = s.failed; split = s.split; tried = tried_amid g k s.tried o }
 
 -- a name that isn't among those that were to be tried isn't deleted
-pub untried : {D W C : Type 0} (g : Ghosts D W C) (names : List (List ℕ)) (old new : D × List (List ℕ)) (s : TriesSome g names old new) (n : List ℕ) → has names n ≡ false → has s.deleted n ≡ false
-untried g names old new s n h = false_from_ne_true _ (λ e.
-    let tried = done_within s.front s.tried.outcomes n (ap (λ l. has l n) (sym s.tried.deleted_is) ∙ e) in
-    true≢false (ap (λ c. c || has s.rest n) (sym tried) ∙ sym (has_or s.front s.rest n) ∙ ap (λ l. has l n) (sym s.split) ∙ h))
+untried : {D W C : Type 0} (g : Ghosts D W C) {names : List (List ℕ)} {old new : D × List (List ℕ)} (s : TriesSome g names old new) (n : List ℕ) → has names n ≡ false → has s.deleted n ≡ false
+untried g s n h =
+    grind (arith, false_from_ne_true, done_within, has_or)
 
-pub leaves_of : {D W C : Type 0} (g : Ghosts D W C) (names : List (List ℕ)) (old new : D × List (List ℕ)) → TriesSome g names old new → Leaves g names old new
-leaves_of g names old new s =
+pub leaves_of : {D W C : Type 0} (g : Ghosts D W C) {names : List (List ℕ)} {old new : D × List (List ℕ)} → TriesSome g names old new → Leaves g names old new
+leaves_of g {names} {old} {new} s =
     let t = s.tried in
     let had : (n : List ℕ) (c : Bool) → has (done_of s.front t.outcomes) n ≡ c → has s.deleted n ≡ c = λ n c h. ap (λ l. has l n) t.deleted_is ∙ h in
-    record {
-      front = s.front;
-      rest = s.rest;
-      outcomes = t.outcomes;
-      split = s.split;
-      each = t.each;
-      managed = t.managed ∙ ap (λ l. without l old.1) t.deleted_is;
-      gone = λ tell n h. t.gone tell n (had n true h);
-      others = λ tell n h. t.others tell n (had n false h);
-      spared = λ tell n h. t.others tell n (untried g names old new s n h);
-      kept = λ n h. ap (λ l. has l n) t.managed ∙ has_without s.deleted old.1 n ∙ rw (untried g names old new s n h) refl;
-      alive = λ tell w h. t.alive tell w (untried g names old new s (g.state_of w).name h);
-      ended = λ tell w o h. t.ended tell w o (had (g.state_of w).name true h);
-      fits = t.fits;
-    }
+    let missed : (n : List ℕ) → has names n ≡ false → has s.deleted n ≡ false = λ n h. untried g s n h in
+    let managed : new.1 ≡ without (done_of s.front t.outcomes) old.1 = t.managed ∙ ap (λ l. without l old.1) t.deleted_is in
+    let kept : (n : List ℕ) → has names n ≡ false → has new.1 n ≡ has old.1 n = λ n h. ap (λ l. has l n) t.managed ∙ has_without s.deleted old.1 n ∙ rw (untried g s n h) refl in
+    search rules
 
 pub tries_of : {D W C : Type 0} (g : Ghosts D W C) (names : List (List ℕ)) (old new : D × List (List ℕ)) (result : GarbageCollectionResult)
     → Tried g names old new (names_of result.deleted_files.items) (names_of result.failed_to_delete_files.items) → Tries g names old new result
-tries_of g names old new result t = record {
-  outcomes = t.outcomes;
-  each = t.each;
-  deleted = t.deleted_is;
-  failed = t.failed_is;
-  managed = t.managed;
-  gone = t.gone;
-  others = t.others;
-  alive = t.alive;
-  ended = t.ended;
-  counted = t.counted;
-  calm = t.calm;
-}
-
--- what is left of the managed names was there before
-pub fewer_names : {D W C : Type 0} (g : Ghosts D W C) (names : List (List ℕ)) (old new : D × List (List ℕ)) → TriesSome g names old new → (n : List ℕ) → has new.1 n ≡ true → has old.1 n ≡ true
-fewer_names g names old new s n h = (both _ _ (sym (has_without s.deleted old.1 n) ∙ ap (λ l. has l n) (sym s.tried.managed) ∙ h)).1
+tries_of g names old new result t = search rules
 
 -- the names of texts, to which one was added or not
 pub added : (gone : Bool) (texts more : List (String Global)) (text : String Global) → more ≡ (if gone then texts ++ text ∷ [] else texts) → names_of more ≡ names_of texts ++ cond gone (string_bytes text ∷ []) []
@@ -231,23 +192,24 @@ added_else false texts more text is = ap names_of is ∙ map-append string_bytes
 
 -- one more of some texts was tried
 pub tried_next : {D W C : Type 0} (g : Ghosts D W C) (gone : Bool) (texts : List (String Global)) (text : String Global) (name : List ℕ) (first old new : D × List (List ℕ)) (deleted failed : List (List ℕ)) → name ≡ string_bytes text → is_plain (string_bytes text) ≡ true
-    → Tried g (names_of texts) first old deleted failed → TriesName g name old new gone → (g.view new.0).refusals ≤ 18446744073709551615 → MayDelete g.told (g.view old.0) (g.view new.0)
+    → Tried g (names_of texts) first old deleted failed → TriesName g name old new gone → MayDelete g.told (g.view old.0) (g.view new.0)
     → Tried g (names_of (texts ++ text ∷ [])) first new (deleted ++ cond gone (string_bytes text ∷ []) []) (failed ++ cond gone [] (string_bytes text ∷ []))
-tried_next g gone texts text name first old new deleted failed is plain t e fits frame =
-    rw (map-append string_bytes texts (text ∷ []))
-    (tried_then g (names_of texts) (string_bytes text ∷ []) first old new deleted failed _ _ t (tried_name g gone (string_bytes text) old new plain (subst (λ n. TriesName g n old new gone) is e) fits frame))
+tried_next g gone texts text name first old new deleted failed is plain t e frame =
+    grind (arith, map-append, tried_then, tried_name)
 
 pub split_next : (names : List (List ℕ)) (texts rest others : List (String Global)) (text : String Global) → names ≡ names_of texts ++ names_of rest → rest ≡ text ∷ others → names ≡ names_of (texts ++ text ∷ []) ++ names_of others
 split_next names texts rest others text split next = rw (map-append string_bytes texts (text ∷ []), append_assoc) (split ∙ ap (λ (l : List (String Global)). names_of texts ++ names_of l) next)
 
 pub next_plain : (names : List (List ℕ)) (texts rest others : List (String Global)) (text : String Global) → list_all is_plain names ≡ true → names ≡ names_of texts ++ names_of rest → rest ≡ text ∷ others → is_plain (string_bytes text) ≡ true
 next_plain names texts rest others text plain split next =
-    let here = split ∙ ap (λ (l : List (String Global)). names_of texts ++ names_of l) next in
-    let left = both (list_all is_plain (names_of texts)) _ (sym (list_all-append is_plain (names_of texts) (string_bytes text ∷ names_of others)) ∙ ap (list_all is_plain) (sym here) ∙ plain) in
-    (both (is_plain (string_bytes text)) _ left.1).0
+    grind (arith, both, list_all-append)
 
 -- the list that reads has the names that are left
-pub covers_left : {D W C : Type 0} (g : Ghosts D W C) (names : List (List ℕ)) (first old new : D × List (List ℕ)) → KeepsNames (OnlyReads g.told) g.view first old → TriesSome g names old new → (g.view new.0).reads list_name ≡ (g.view old.0).reads list_name
+pub covers_left : {D W C : Type 0} (g : Ghosts D W C) {names : List (List ℕ)} {first old new : D × List (List ℕ)} → KeepsNames (OnlyReads g.told) g.view first old → TriesSome g names old new → OnlyDeletes g old new
     → g.told.content → Covers ((g.view first.0).reads list_name) first.1 → Covers ((g.view new.0).reads list_name) new.1
-covers_left g names first old new k s same tells was =
-    covers_fewer _ _ first.1 new.1 (same ∙ k.below.content tells list_name) (λ n h. ap (λ l. has l n) (sym k.names) ∙ fewer_names g names old new s n h) was
+covers_left g {names} {first} {old} {new} k s only tells was =
+    grind (arith, both, has_without, only)
+
+pub covers_amid : {A D W C : Type 0} (g : Ghosts D W C) {names : List (List ℕ)} {first old mid new : D × List (List ℕ)} {result : Result A IoError} → KeepsNames (OnlyReads g.told) g.view first old → TriesSome g names old mid → OnlyDeletes g old mid → OnlySaves g mid new result
+    → g.told.content → Covers ((g.view first.0).reads list_name) first.1 → Covers ((g.view new.0).reads list_name) new.1
+covers_amid g k s only o tells was = covers_saved g o tells (covers_left g k s only tells was)

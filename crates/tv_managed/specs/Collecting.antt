@@ -10,6 +10,7 @@ use Rattle.tv_directory.specs.Locks.{LockCause}
 use Rattle.tv_directory.specs.View.{View, WriterState, MayDelete, OnlyReads}
 use Rattle.tv_directory.specs.declared.directory.Directory.{Ghosts}
 use Rattle.tv_managed.specs.Frames.{KeepsNames}
+use Rattle.tv_managed.specs.Managed.{SavesList}
 use Rattle.tv_managed.specs.declared.collecting.GarbageCollectionResult.{GarbageCollectionResult}
 
 -- texts, as names
@@ -82,6 +83,18 @@ pub record TriesName {D W C : Type 0} (g : Ghosts D W C) (name : List ℕ) (old 
   pub alive : g.told.content → (w : W) → (g.state_of w).name ≢ name → (g.view old.0).lives w ≡ true → (g.view new.0).lives w ≡ true
   pub kept : g.told.content → is_gone ≡ false → (w : W) → (g.view old.0).lives w ≡ true → (g.view new.0).lives w ≡ true
   pub ended : g.told.content → is_gone ≡ true → IsSome ((g.view old.0).reads name) → (w : W) → (g.state_of w).name ≡ name → (g.view new.0).lives w ≡ false
+  pub fits : (g.view new.0).refusals ≤ 18446744073709551615
+
+-- where no name could be tried all is as it was
+pub record TriesNone {D W C : Type 0} (g : Ghosts D W C) (old new : D × List (List ℕ)) : Type 0 where
+  pub frame : KeepsNames (OnlyReads g.told) g.view old new
+  pub fits : (g.view new.0).refusals ≤ 18446744073709551615
+
+-- What trying managed names leaves alone: the list reads what it read, the device refused no call other than a delete, and all else is as a delete leaves it.
+pub record OnlyDeletes {D W C : Type 0} (g : Ghosts D W C) (old new : D × List (List ℕ)) : Type 0 where
+  pub list : g.told.content → (g.view new.0).reads list_name ≡ (g.view old.0).reads list_name
+  pub faults : (g.view new.0).faults ≡ (g.view old.0).faults
+  pub frame : MayDelete g.told (g.view old.0) (g.view new.0)
 
 -- What trying these names gave, one after another: the deleted ones don't read and aren't managed any more; those that failed, and all else but the list, are as they were.
 pub record Tried {D W C : Type 0} (g : Ghosts D W C) (names : List (List ℕ)) (old new : D × List (List ℕ)) (deleted failed : List (List ℕ)) : Type 0 where
@@ -137,8 +150,9 @@ pub record CollectFaults {A D W C : Type 0} (g : Ghosts D W C) (old new : D × L
   pub cause : IfErr result (CollectCause ((g.told.locks × ((g.view new.0).faults ≡ (g.view old.0).faults)) ⊎ Rose (g.view old.0).faults (g.view new.0).faults) (Rose (g.view old.0).faults (g.view new.0).faults) ((g.view new.0).faults ≡ (g.view old.0).faults))
   pub unchanged : IfErr result (λ e. is_lock_failure e ≡ true → KeepsNames (OnlyReads g.told) g.view old new)
 
--- The same of the part of a collection that takes no lock: it never answers that a lock wasn't given.
-pub record UnlockedFaults {A D W C : Type 0} (g : Ghosts D W C) (old new : D) (result : Result A TantivyError) : Type 0 where
-  pub quiet : OnOk result ((g.view new).faults ≡ (g.view old).faults)
-  pub cause : IfErr result (CollectCause ⊥ (Rose (g.view old).faults (g.view new).faults) ((g.view new).faults ≡ (g.view old).faults))
+-- How the part of a collection ends that takes no lock: the list goes on having each managed name, and the part fails where the device refused a call other than a delete, or where memory was wanted. It never answers that a lock wasn't given.
+pub record EndsUnlocked {A D W C : Type 0} (g : Ghosts D W C) (old new : D × List (List ℕ)) (result : Result A TantivyError) : Type 0 where
+  pub saves : SavesList g old new result
+  pub quiet : OnOk result ((g.view new.0).faults ≡ (g.view old.0).faults)
+  pub cause : IfErr result (CollectCause ⊥ (Rose (g.view old.0).faults (g.view new.0).faults) ((g.view new.0).faults ≡ (g.view old.0).faults))
   pub unlocked : IfErr result (λ e. is_lock_failure e ≡ false)

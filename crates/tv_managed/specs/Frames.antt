@@ -3,12 +3,18 @@ use Rattle.std.specs.Prelude.{◌≡◌, ℕ, List, Result, IfErr, OnOk}
 use Rattle.tv_model.specs.Files.{Rose}
 use Rattle.tv_base.specs.Causes.{OpenWriteCause}
 use Rattle.tv_base.specs.declared.open_errors.OpenWriteError.{OpenWriteError}
-use Rattle.tv_directory.specs.View.{View}
+use Rattle.tv_directory.specs.View.{View, OnlyReads}
+use Rattle.tv_directory.specs.declared.directory.Directory.{Ghosts}
 
 -- the managed names stay, and of the directory below what such a call keeps
 pub record KeepsNames {D W : Type 0} (keeps : View W → View W → Type 0) (view : D → View W) (old new : D × List (List ℕ)) : Type 0 where
   pub names : new.1 ≡ old.1
   pub below : keeps (view old.0) (view new.0)
+
+-- A step that only asks: the managed names stay, and of the directory below what a read keeps; where it fails, it is for these causes.
+pub record OnlyAsks {D W C : Type 0} (g : Ghosts D W C) (old new : D × List (List ℕ)) (causes : Type 0) : Type 0 where
+  pub frame : KeepsNames (OnlyReads g.told) g.view old new
+  pub faults : causes
 
 -- A step towards a file that is made fails where the device refused a call, or where memory was wanted; the error names the file.
 pub record MakeFaults {A W : Type 0} (old new : View W) (name : List ℕ) (result : Result A OpenWriteError) : Type 0 where

@@ -10,7 +10,10 @@ use Rattle.tv_model.specs.Footer.{sealed}
 use Rattle.tv_base.specs.Causes.{IoCause, OpenWriteCause}
 use Rattle.tv_base.specs.declared.io.IoError.{IoError}
 use Rattle.tv_base.specs.declared.open_errors.OpenWriteError.{OpenWriteError}
+use Rattle.tv_directory.specs.Calls.{IoFaults}
+use Rattle.tv_directory.specs.View.{Kept}
 use Rattle.tv_directory.specs.declared.directory.Directory.{Ghosts}
+use Rattle.tv_managed.specs.Frames.{KeepsNames}
 use Rattle.tv_managed.specs.Reading.{ReadsBody}
 use Rattle.tv_managed.specs.Writers.{IsSummed}
 use Rattle.tv_managed.specs.declared.writer.ManagedWriter.{ManagedWriter}
@@ -51,20 +54,33 @@ pub record Registers {A E : Type 0} (old new : List (List ℕ)) (name : List ℕ
   pub ok : OnOk result (new ≡ registered old name)
   pub err : OnErr result ((new ≡ old) ⊎ (new ≡ registered old name))
 
--- The list of these names was saved. Where the call failed, it was saved, or it reads as before. No other file was changed.
-pub record SavesNames {A E D W C : Type 0} (g : Ghosts D W C) (old new : D) (names : List (List ℕ)) (result : Result A E) : Type 0 where
+-- The list of these names was saved. Where the device refused a call, or where memory was wanted, it was saved, or it reads as before. Nothing else was changed.
+pub record SavesNames {A D W C : Type 0} (g : Ghosts D W C) (old new : D) (names : List (List ℕ)) (result : Result A IoError) : Type 0 where
   pub ok : g.told.content → OnOk result (Sets (g.view old).reads (g.view new).reads list_name (Some (list_text names)))
   pub err : g.told.content → MaySet (g.view old).reads (g.view new).reads list_name (Some (list_text names))
+  pub faults : IoFaults (g.view old) (g.view new) result
+  pub frame : Kept g.told (g.view old) (g.view new)
+
+-- What a step that saves the list may change, whatever it answers: the list, which then has the managed names. These stay. It fails where the device refused a call, or where memory was wanted.
+pub record OnlySaves {A D W C : Type 0} (g : Ghosts D W C) (old new : D × List (List ℕ)) (result : Result A IoError) : Type 0 where
+  pub either : g.told.content → Lists ((g.view new.0).reads list_name) new.1 ⊎ ((g.view new.0).reads list_name ≡ (g.view old.0).reads list_name)
+  pub others : g.told.content → KeepsOthers (g.view old.0).reads (g.view new.0).reads list_name
+  pub faults : IoFaults (g.view old.0) (g.view new.0) result
+  pub frame : KeepsNames (Kept g.told) g.view old new
 
 -- The list on the device goes on having each managed name. Where it listed the managed names, it does so at Ok.
 pub record SavesList {A E D W C : Type 0} (g : Ghosts D W C) (old new : D × List (List ℕ)) (result : Result A E) : Type 0 where
   pub list : g.told.content → Lists ((g.view old.0).reads list_name) old.1 → OnOk result (Lists ((g.view new.0).reads list_name) new.1)
   pub covers : g.told.content → Covers ((g.view old.0).reads list_name) old.1 → Covers ((g.view new.0).reads list_name) new.1
 
--- The same of a step that lists a name: at Ok the name is on the list, unless it has a dot in front.
+-- The same of a step that lists a name: at Ok the name is managed and on the list, unless it has a dot in front; after an error the managed names are as they were. Nothing but the list and these names was changed.
 pub record HasListed {A E D W C : Type 0} (g : Ghosts D W C) (old new : D × List (List ℕ)) (name : List ℕ) (result : Result A E) : Type 0 where
   pub saves : SavesList g old new result
   pub on_list : g.told.content → Covers ((g.view old.0).reads list_name) old.1 → is_undotted name ≡ true → OnOk result (IsOnList ((g.view new.0).reads list_name) name)
+  pub names : OnOk result (new.1 ≡ registered old.1 name)
+  pub kept : OnErr result (new.1 ≡ old.1)
+  pub others : g.told.content → KeepsOthers (g.view old.0).reads (g.view new.0).reads list_name
+  pub frame : Kept g.told (g.view old.0) (g.view new.0)
 
 -- The same of a call that makes a file: the list has each undotted file that is made.
 pub record KeepsList {A E D W C : Type 0} (g : Ghosts D W C) (old new : D × List (List ℕ)) (result : Result A E) : Type 0 where

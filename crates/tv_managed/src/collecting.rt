@@ -1,15 +1,14 @@
 //! Deletes the managed files that nothing needs.
-ghost use Rattle.std.specs.Prelude.{◌≡◌, ◌≢◌, ◌≤◌, [], ◌∷◌, ◌++◌, ℕ, List, true, IfOk, OnOk, OnErr, if◌then◌else◌};
+ghost use Rattle.std.specs.Prelude.{◌≡◌, ◌≢◌, [], ◌∷◌, ◌++◌, ℕ, List, true, IfOk, OnOk, OnErr, if◌then◌else◌};
 ghost use Rattle.std.specs.List.{list_all};
 ghost use Rattle.tv_model.specs.Names.{is_file_name, is_plain, list_name};
 ghost use Rattle.tv_model.specs.Listing.{Lists};
 ghost use Rattle.tv_model.specs.Collections.{collectable};
-ghost use Rattle.tv_model.specs.Files.{KeepsOthers};
-ghost use Rattle.tv_directory.specs.View.{Kept, MayDelete, OnlyReads};
-ghost use Rattle.tv_directory.specs.Calls.{DeleteFaults, Deletes, EndsWriters, IoFaults};
-ghost use Rattle.tv_managed.specs.Managed.{Covers, SavesList};
-ghost use Rattle.tv_managed.specs.Frames.{KeepsNames};
-ghost use Rattle.tv_managed.specs.Collecting.{Among, names_of, Leaves, Tries, Tried, TriesName, TriesSome, CollectFaults, UnlockedFaults};
+ghost use Rattle.tv_directory.specs.View.{MayDelete};
+ghost use Rattle.tv_directory.specs.Calls.{DeleteFaults, Deletes, EndsWriters};
+ghost use Rattle.tv_managed.specs.Managed.{OnlySaves, SavesList};
+ghost use Rattle.tv_managed.specs.Frames.{KeepsNames, OnlyAsks};
+ghost use Rattle.tv_managed.specs.Collecting.{Among, names_of, Leaves, Tries, Tried, TriesName, TriesNone, TriesSome, CollectFaults, EndsUnlocked, OnlyDeletes};
 
 use crate::managed_directory::ManagedDirectory;
 use std::alloc::Global;
@@ -93,8 +92,8 @@ impl<D: Directory> ManagedDirectory<D> {
         ensures names { IfOk result (λ names. (set : _) × L.post living set
             × (names_of names.items ≡ collectable (names_of set.keys) self.old.1)) }
         ensures plain { IfOk result (λ names. list_all is_plain (names_of names.items) ≡ true) }
-        ensures faults { CollectFaults D.Directory self.old self.new result }
-        ensures frame { KeepsNames (OnlyReads D.told) D.view self.old self.new }
+        ensures asks { OnlyAsks D.Directory self.old self.new
+            (CollectFaults D.Directory self.old self.new result) }
     {
         let living = self.under_meta_lock(living)?;
         Ok(names_to_collect(self.alloc, &living, &self.managed)?)
@@ -104,8 +103,8 @@ impl<D: Directory> ManagedDirectory<D> {
     fn under_meta_lock<T, F: FnOnce() -> T>(&mut self, call: F) -> Result<T, TantivyError>
         requires { F.IsAlwaysCallable call }
         ensures answer { IfOk result (F.post call) }
-        ensures faults { CollectFaults D.Directory self.old self.new result }
-        ensures frame { KeepsNames (OnlyReads D.told) D.view self.old self.new }
+        ensures asks { OnlyAsks D.Directory self.old self.new
+            (CollectFaults D.Directory self.old self.new result) }
     {
         let lock = self.acquire_lock(&meta_lock())?;
         let answer = call();
@@ -119,9 +118,7 @@ impl<D: Directory> ManagedDirectory<D> {
         ensures tries { IfOk result (λ r. Tried D.Directory (names_of names.items) self.old self.new
             (names_of r.deleted_files.items) (names_of r.failed_to_delete_files.items)) }
         ensures leaves { TriesSome D.Directory (names_of names.items) self.old self.new }
-        ensures list { SavesList D.Directory self.old self.new result }
-        ensures faults { UnlockedFaults D.Directory self.old.0 self.new.0 result }
-        ensures frame { MayDelete D.told (D.view self.old.0) (D.view self.new.0) }
+        ensures ends { EndsUnlocked D.Directory self.old self.new result }
     {
         self.sync_directory()?;
         let result = self.delete_each(names)?;
@@ -135,10 +132,7 @@ impl<D: Directory> ManagedDirectory<D> {
         ensures tries { IfOk result (λ r. Tried D.Directory (names_of names.items) self.old self.new
             (names_of r.deleted_files.items) (names_of r.failed_to_delete_files.items)) }
         ensures leaves { TriesSome D.Directory (names_of names.items) self.old self.new }
-        ensures list { D.told.content
-            → (D.view self.new.0).reads list_name ≡ (D.view self.old.0).reads list_name }
-        ensures faults { (D.view self.new.0).faults ≡ (D.view self.old.0).faults }
-        ensures frame { MayDelete D.told (D.view self.old.0) (D.view self.new.0) }
+        ensures only { OnlyDeletes D.Directory self.old self.new }
     {
         let mut tried = GarbageCollectionResult {
             deleted_files: Vec::new(self.alloc),
@@ -155,12 +149,8 @@ impl<D: Directory> ManagedDirectory<D> {
     fn delete_managed(&mut self, name: &str) -> Result<bool, Memory>
         requires { is_plain name.now ≡ true }
         ensures tried { IfOk result (TriesName D.Directory name.now self.old self.new) }
-        ensures err { OnErr result (KeepsNames (OnlyReads D.told) D.view self.old self.new) }
-        ensures list { D.told.content
-            → (D.view self.new.0).reads list_name ≡ (D.view self.old.0).reads list_name }
-        ensures fits { (D.view self.new.0).refusals ≤ 18446744073709551615 }
-        ensures faults { (D.view self.new.0).faults ≡ (D.view self.old.0).faults }
-        ensures frame { MayDelete D.told (D.view self.old.0) (D.view self.new.0) }
+        ensures err { OnErr result (TriesNone D.Directory self.old self.new) }
+        ensures only { OnlyDeletes D.Directory self.old self.new }
     {
         match self.directory.delete(name) {
             Ok(()) => {
@@ -183,15 +173,10 @@ impl<D: Directory> ManagedDirectory<D> {
 
     // Saves the list where these names were deleted, and there are some.
     fn save_where_deleted(&mut self, deleted: &[String]) -> Result<(), IoError>
-        ensures ok { D.told.content
+        ensures lists { D.told.content
             → (names_of deleted.now ≡ [] → Lists ((D.view self.old.0).reads list_name) self.old.1)
             → OnOk result (Lists ((D.view self.new.0).reads list_name) self.new.1) }
-        ensures saved { D.told.content
-            → KeepsOthers (D.view self.old.0).reads (D.view self.new.0).reads list_name }
-        ensures covers { D.told.content → Covers ((D.view self.old.0).reads list_name) self.old.1
-            → Covers ((D.view self.new.0).reads list_name) self.new.1 }
-        ensures faults { IoFaults (D.view self.old.0) (D.view self.new.0) result }
-        ensures frame { KeepsNames (Kept D.told) D.view self.old self.new }
+        ensures only { OnlySaves D.Directory self.old self.new result }
     {
         if deleted.is_empty() {
             return Ok(());
@@ -201,14 +186,9 @@ impl<D: Directory> ManagedDirectory<D> {
 
     // Waits until the device has kept what was deleted, and saves the list.
     fn save_shorter(&mut self) -> Result<(), IoError>
-        ensures ok { D.told.content
+        ensures lists { D.told.content
             → OnOk result (Lists ((D.view self.new.0).reads list_name) self.new.1) }
-        ensures saved { D.told.content
-            → KeepsOthers (D.view self.old.0).reads (D.view self.new.0).reads list_name }
-        ensures covers { D.told.content → Covers ((D.view self.old.0).reads list_name) self.old.1
-            → Covers ((D.view self.new.0).reads list_name) self.new.1 }
-        ensures faults { IoFaults (D.view self.old.0) (D.view self.new.0) result }
-        ensures frame { KeepsNames (Kept D.told) D.view self.old self.new }
+        ensures only { OnlySaves D.Directory self.old self.new result }
     {
         self.sync_directory()?;
         self.save()

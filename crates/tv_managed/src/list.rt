@@ -1,8 +1,6 @@
 //! The file that lists the managed files.
 ghost use Rattle.std.specs.Prelude.{◌≡◌, [], ◌∷◌, ◌++◌, IfOk, OnOk, map, string_bytes, if◌then◌else◌};
 ghost use Rattle.tv_model.specs.Listing.{list_text, quoted};
-ghost use Rattle.tv_directory.specs.Calls.{IoFaults};
-ghost use Rattle.tv_directory.specs.View.{Kept};
 ghost use Rattle.tv_managed.specs.Managed.{SavesNames};
 
 use std::alloc::Global;
@@ -48,8 +46,6 @@ pub(crate) fn save_managed_paths<D: Directory>(
 ) -> Result<(), IoError>
     ensures saves { SavesNames D.Directory directory.old directory.new
         (map string_bytes names.now.keys) result }
-    ensures faults { IoFaults (D.view directory.old) (D.view directory.new) result }
-    ensures frame { Kept D.told (D.view directory.old) (D.view directory.new) }
 {
     let text = list_text(alloc, names)?;
     directory.atomic_write(MANAGED_FILEPATH, text.as_slice())?;

@@ -1,5 +1,5 @@
 //! A directory that writes down the name of each file before it makes the file.
-ghost use Rattle.std.specs.Prelude.{List, ℕ, ◌≡◌, ◌≢◌, ◌<◌, ◌+◌, ◌^◌, ◌⊎◌, [], ◌∷◌, true, length, Some, None, is_some, IfOk, IfErr, OnOk, OnErr, IsOkAnd, map, string_bytes};
+ghost use Rattle.std.specs.Prelude.{List, ℕ, ◌≡◌, ◌≢◌, ◌<◌, ◌+◌, ◌^◌, [], ◌∷◌, true, length, Some, None, is_some, IfOk, IfErr, OnOk, OnErr, IsOkAnd, map, string_bytes};
 ghost use Rattle.std.specs.List.{list_all};
 ghost use Rattle.std.specs.BTreeSet.{insert_key};
 ghost use Rattle.tv_model.specs.Names.{byte_cmp, is_file_name, is_plain, is_undotted, list_name};
@@ -7,14 +7,13 @@ ghost use Rattle.tv_model.specs.Listing.{Lists};
 ghost use Rattle.tv_model.specs.Collections.{without};
 ghost use Rattle.tv_model.specs.Checksum.{crc32};
 ghost use Rattle.tv_model.specs.Footer.{footer};
-ghost use Rattle.tv_model.specs.Files.{KeepsOthers};
 ghost use Rattle.tv_checksum.specs.Crc32.{HasTaken};
 ghost use Rattle.tv_directory.specs.View.{Frame, Kept, OnlyReads};
 ghost use Rattle.tv_directory.specs.Calls.{AskFaults, ReadFaults, OpenFaults, IoFaults, DeviceFaults, Appends, HandsBack, Touches, Flushes, Notes};
 ghost use Rattle.tv_directory.specs.Device.{IsSilent};
 ghost use Rattle.tv_managed.specs.Writers.{HandsOn, IsNewManaged, IsSummed};
-ghost use Rattle.tv_managed.specs.Managed.{registered, HasListed, Registers, KeepsList, Creates, GivesFile, SealsBody};
-ghost use Rattle.tv_managed.specs.Frames.{KeepsNames, MakeFaults};
+ghost use Rattle.tv_managed.specs.Managed.{HasListed, OnlySaves, Registers, KeepsList, Creates, GivesFile, SealsBody};
+ghost use Rattle.tv_managed.specs.Frames.{KeepsNames, MakeFaults, OnlyAsks};
 
 use crate::list::save_managed_paths;
 use crate::writer::ManagedWriter;
@@ -106,13 +105,8 @@ impl<D: Directory> ManagedDirectory<D> {
     // Adds a name without a dot in front to the list, where it isn't there yet.
     fn register_file_as_managed(&mut self, name: &str) -> Result<(), IoError>
         requires { is_file_name name.now ≡ true }
-        ensures names { OnOk result (self.new.1 ≡ registered self.old.1 name.now) }
-        ensures kept { OnErr result (self.new.1 ≡ self.old.1) }
-        ensures saved { D.told.content
-            → KeepsOthers (D.view self.old.0).reads (D.view self.new.0).reads list_name }
         ensures list { HasListed D.Directory self.old self.new name.now result }
         ensures faults { IoFaults (D.view self.old.0) (D.view self.new.0) result }
-        ensures frame { Kept D.told (D.view self.old.0) (D.view self.new.0) }
     {
         if !is_managed(name) {
             return Ok(());
@@ -122,14 +116,10 @@ impl<D: Directory> ManagedDirectory<D> {
 
     // Adds the name to the list, where it isn't there yet. A refused save leaves the names as they were.
     fn register_plain(&mut self, name: &str) -> Result<(), IoError>
-        requires { is_plain name.now ≡ true }
-        ensures names { OnOk result (self.new.1 ≡ insert_key byte_cmp self.old.1 name.now) }
-        ensures kept { OnErr result (self.new.1 ≡ self.old.1) }
-        ensures saved { D.told.content
-            → KeepsOthers (D.view self.old.0).reads (D.view self.new.0).reads list_name }
+        requires plain { is_plain name.now ≡ true }
+        requires undotted { is_undotted name.now ≡ true }
         ensures list { HasListed D.Directory self.old self.new name.now result }
         ensures faults { IoFaults (D.view self.old.0) (D.view self.new.0) result }
-        ensures frame { Kept D.told (D.view self.old.0) (D.view self.new.0) }
     {
         if self.managed.contains(name) {
             return Ok(());
@@ -145,6 +135,7 @@ impl<D: Directory> ManagedDirectory<D> {
     }
 
     // Adds a name to the managed ones.
+    #[tactic(auto, using(crate::proofs::SetsOfTexts::texts_inserted))]
     fn add(&mut self, name: &str) -> Result<(), Memory>
         requires { is_plain name.now ≡ true }
         ensures names { OnOk result (self.new.1 ≡ insert_key byte_cmp self.old.1 name.now) }
@@ -157,6 +148,7 @@ impl<D: Directory> ManagedDirectory<D> {
     }
 
     // Takes a name out of the managed ones.
+    #[tactic(auto, using(crate::proofs::Removals::texts_without))]
     pub(crate) fn forget(&mut self, name: &str)
         ensures names { self.new.1 ≡ without (name.now ∷ []) self.old.1 }
         ensures directory { self.new.0 ≡ self.old.0 }
@@ -168,12 +160,7 @@ impl<D: Directory> ManagedDirectory<D> {
     pub(crate) fn save(&mut self) -> Result<(), IoError>
         ensures lists { D.told.content
             → OnOk result (Lists ((D.view self.new.0).reads list_name) self.new.1) }
-        ensures either { D.told.content → Lists ((D.view self.new.0).reads list_name) self.new.1
-            ⊎ ((D.view self.new.0).reads list_name ≡ (D.view self.old.0).reads list_name) }
-        ensures saved { D.told.content
-            → KeepsOthers (D.view self.old.0).reads (D.view self.new.0).reads list_name }
-        ensures faults { IoFaults (D.view self.old.0) (D.view self.new.0) result }
-        ensures frame { KeepsNames (Kept D.told) D.view self.old self.new }
+        ensures only { OnlySaves D.Directory self.old self.new result }
     {
         save_managed_paths(self.alloc, &mut self.directory, &self.managed)
     }
@@ -216,8 +203,8 @@ impl<D: Directory> ManagedDirectory<D> {
     fn refuse_existing(&mut self, name: &str) -> Result<(), OpenWriteError>
         requires { is_file_name name.now ≡ true }
         ensures absent { D.told.content → OnOk result ((D.view self.old.0).reads name.now ≡ None) }
-        ensures faults { OpenFaults D.told (D.view self.old.0) (D.view self.new.0) name.now result }
-        ensures frame { KeepsNames (OnlyReads D.told) D.view self.old self.new }
+        ensures asks { OnlyAsks D.Directory self.old self.new
+            (OpenFaults D.told (D.view self.old.0) (D.view self.new.0) name.now result) }
     {
         if !self.is_there(name)? {
             return Ok(());
@@ -231,8 +218,8 @@ impl<D: Directory> ManagedDirectory<D> {
         requires { is_file_name name.now ≡ true }
         ensures answer { D.told.content → IfOk result
             (λ found. found ≡ is_some ((D.view self.old.0).reads name.now)) }
-        ensures faults { MakeFaults (D.view self.old.0) (D.view self.new.0) name.now result }
-        ensures frame { KeepsNames (OnlyReads D.told) D.view self.old self.new }
+        ensures asks { OnlyAsks D.Directory self.old self.new
+            (MakeFaults (D.view self.old.0) (D.view self.new.0) name.now result) }
     {
         match self.directory.exists(name) {
             Ok(found) => Ok(found),
@@ -248,13 +235,8 @@ impl<D: Directory> ManagedDirectory<D> {
     // Adds the name to the list, unless it has a dot in front.
     fn list(&mut self, name: &str) -> Result<(), OpenWriteError>
         requires { is_file_name name.now ≡ true }
-        ensures names { OnOk result (self.new.1 ≡ registered self.old.1 name.now) }
-        ensures kept { OnErr result (self.new.1 ≡ self.old.1) }
-        ensures saved { D.told.content
-            → KeepsOthers (D.view self.old.0).reads (D.view self.new.0).reads list_name }
         ensures list { HasListed D.Directory self.old self.new name.now result }
         ensures faults { MakeFaults (D.view self.old.0) (D.view self.new.0) name.now result }
-        ensures frame { Kept D.told (D.view self.old.0) (D.view self.new.0) }
     {
         let filepath = String::from_str(self.alloc, name)?;
         match self.register_file_as_managed(name) {

@@ -4,7 +4,7 @@ ghost use Rattle.tv_model.specs.Checksum.{crc32};
 ghost use Rattle.tv_model.specs.Names.{is_file_name};
 ghost use Rattle.tv_framing.specs.Footers.{IsFramed, Refuses};
 ghost use Rattle.tv_directory.specs.View.{OnlyReads};
-ghost use Rattle.tv_managed.specs.Frames.{KeepsNames};
+ghost use Rattle.tv_managed.specs.Frames.{KeepsNames, OnlyAsks};
 ghost use Rattle.tv_managed.specs.Reading.{BodyFaults, FooterFaults, HasNoFooter, NamesFile, OpenBodyCause, ReadsBody, ReadsSuch, TellsChecksum};
 
 use crate::managed_directory::ManagedDirectory;
@@ -70,8 +70,8 @@ impl<D: Directory> ManagedDirectory<D> {
         ensures read { D.told.content → IfOk result (λ found.
             ReadsSuch ((D.view self.old.0).reads name.now)
             (λ bytes. IsFramed bytes found.0 found.1)) }
-        ensures faults { FooterFaults D.Directory self.old.0 self.new.0 name.now result }
-        ensures frame { KeepsNames (OnlyReads D.told) D.view self.old self.new }
+        ensures asks { OnlyAsks D.Directory self.old self.new
+            (FooterFaults D.Directory self.old.0 self.new.0 name.now result) }
     {
         let filepath = String::from_str(self.alloc, name)?;
         let file = self.directory.open_read(name)?;

@@ -2,8 +2,7 @@
 ghost use Rattle.std.specs.Prelude.{◌≡◌, true, IfOk, OnErr};
 ghost use Rattle.tv_model.specs.Names.{is_file_name};
 ghost use Rattle.tv_directory.specs.View.{OnlyLocks, OnlyWatches};
-ghost use Rattle.tv_directory.specs.Calls.{Acquires, LockFaults};
-ghost use Rattle.tv_directory.specs.Locks.{FreesLock};
+ghost use Rattle.tv_directory.specs.Calls.{Acquires, Frees, LockFaults};
 ghost use Rattle.tv_directory.specs.Watch.{IsNewWatcher, delivered, unsubscribed};
 ghost use Rattle.tv_managed.specs.Frames.{KeepsNames};
 
@@ -29,10 +28,7 @@ impl<D: Directory> ManagedDirectory<D> {
 
     /// Frees the lock of this token's name. Takes no memory.
     pub fn release(&mut self, lock: DirectoryLock)
-        ensures freed { D.told.locks
-            → FreesLock (D.view self.old.0).locks (D.view self.new.0).locks lock }
-        ensures faults { (D.view self.new.0).faults ≡ (D.view self.old.0).faults }
-        ensures frame { KeepsNames (OnlyLocks D.told) D.view self.old self.new }
+        ensures frees { KeepsNames (Frees D.told lock) D.view self.old self.new }
     {
         self.directory.release(lock);
     }
@@ -43,7 +39,6 @@ impl<D: Directory> ManagedDirectory<D> {
             (IsNewWatcher (D.view self.old.0).watched (D.view self.new.0).watched
             (D.Callback.calls callback)) }
         ensures err { OnErr result ((D.view self.new.0).watched ≡ (D.view self.old.0).watched) }
-        ensures faults { (D.view self.new.0).faults ≡ (D.view self.old.0).faults }
         ensures frame { KeepsNames (OnlyWatches D.told) D.view self.old self.new }
     {
         self.directory.watch(callback)
@@ -53,7 +48,6 @@ impl<D: Directory> ManagedDirectory<D> {
     pub fn unwatch(&mut self, handle: WatchHandle)
         ensures left { (D.view self.new.0).watched
             ≡ unsubscribed handle (D.view self.old.0).watched }
-        ensures faults { (D.view self.new.0).faults ≡ (D.view self.old.0).faults }
         ensures frame { KeepsNames (OnlyWatches D.told) D.view self.old self.new }
     {
         self.directory.unwatch(handle);
@@ -64,7 +58,6 @@ impl<D: Directory> ManagedDirectory<D> {
     pub fn deliver(&mut self) -> bool
         ensures answer { result ≡ (D.view self.old.0).watched.notice }
         ensures called { (D.view self.new.0).watched ≡ delivered (D.view self.old.0).watched }
-        ensures faults { (D.view self.new.0).faults ≡ (D.view self.old.0).faults }
         ensures frame { KeepsNames (OnlyWatches D.told) D.view self.old self.new }
     {
         self.directory.deliver()

@@ -1,8 +1,8 @@
 //! Lines that are told on to the directory's owner.
-ghost use Rattle.std.specs.Prelude.{◌≡◌, ◌<◌, true, length, OnOk};
+ghost use Rattle.std.specs.Prelude.{◌≡◌, ◌<◌, true, length};
 ghost use Rattle.tv_model.specs.Lines.{has_no_feed};
-ghost use Rattle.tv_directory.specs.View.{OnlyReads, OnlyTells};
-ghost use Rattle.tv_directory.specs.Calls.{DeviceFaults, TellsLineTo};
+ghost use Rattle.tv_directory.specs.View.{OnlyTells};
+ghost use Rattle.tv_directory.specs.Calls.{DeviceFaults, MakesRoom, TellsLineTo};
 ghost use Rattle.tv_managed.specs.Frames.{KeepsNames};
 
 use crate::managed_directory::ManagedDirectory;
@@ -13,9 +13,7 @@ use tv_model::Memory;
 impl<O: Outside> ManagedDirectory<O> {
     /// Makes room for a line of this length.
     pub fn ready(&mut self, len: usize) -> Result<(), Memory>
-        ensures made { OnOk result (len < (O.view self.new.0).room) }
-        ensures faults { (O.view self.new.0).faults ≡ (O.view self.old.0).faults }
-        ensures frame { KeepsNames (OnlyReads O.told) O.view self.old self.new }
+        ensures room { KeepsNames (MakesRoom O.told len result) O.view self.old self.new }
     {
         self.directory.ready(len)
     }

@@ -72,12 +72,10 @@ some_is : {A : Type 0} {x y : A} → ◌≡◌ {A = Option A} (Some x) (Some y) 
 some_is e = cc
 
 same_numbers : (f g : FooterNumbers) → f.major ≡ g.major → f.minor ≡ g.minor → f.patch ≡ g.patch → f.format ≡ g.format → f.crc ≡ g.crc → f ≡ g
-same_numbers f g a b c d e =
-    ap (λ (n : ℕ). let r : FooterNumbers = record { major = n; minor = f.minor; patch = f.patch; format = f.format; crc = f.crc } in r) a
-    ∙ ap (λ (n : ℕ). let r : FooterNumbers = record { major = g.major; minor = n; patch = f.patch; format = f.format; crc = f.crc } in r) b
-    ∙ ap (λ (n : ℕ). let r : FooterNumbers = record { major = g.major; minor = g.minor; patch = n; format = f.format; crc = f.crc } in r) c
-    ∙ ap (λ (n : ℕ). let r : FooterNumbers = record { major = g.major; minor = g.minor; patch = g.patch; format = n; crc = f.crc } in r) d
-    ∙ ap (λ (n : ℕ). let r : FooterNumbers = record { major = g.major; minor = g.minor; patch = g.patch; format = g.format; crc = n } in r) e
+same_numbers f g a b c d e = let same : of f.major f.minor f.patch f.format f.crc ≡ of g.major g.minor g.patch g.format g.crc = rw (a, b, c, d, e) refl in same
+  where
+    of : ℕ → ℕ → ℕ → ℕ → ℕ → FooterNumbers
+    of a b c d e = record { major = a; minor = b; patch = c; format = d; crc = e }
 
 one_form : (d : Data) (f g : FooterNumbers) → IsFooter d f → IsFooter d g → f ≡ g
 one_form d f g h k =

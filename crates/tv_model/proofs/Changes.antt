@@ -1,5 +1,5 @@
 -- What a step can do to a state: a property that each such change leads to holds after the step.
-use Rattle.std.proofs.Common.{◌≡◌, ◌≢◌, ℕ, Bool, false, List, [], ◌∷◌, ◌++◌, Option, Some, None, refl, sym, ap, subst, codes, arith, ◌==◌}
+use Rattle.std.proofs.Common.{◌≡◌, ◌≢◌, ℕ, Bool, false, List, [], ◌∷◌, ◌++◌, Option, Some, None, refl, sym, ap, subst, codes, arith, ◌==◌, true, cond}
 use Rattle.std.specs.Prelude.{is_some, option_map}
 use Rattle.std.proofs.lemmas.Bool.Decides.{nat_tests}
 use Rattle.std.specs.Fmt.{decimal}
@@ -13,7 +13,7 @@ use Rattle.tv_model.specs.declared.segment.SegmentComponent.{SegmentComponent}
 use Rattle.tv_model.specs.Footer.{IsGood, sealed}
 use Rattle.tv_model.specs.Segments.{name_of}
 use Rattle.tv_model.specs.State.{Catalog, State, StepResult, FileState, Sealed, Open, Left, Readers, Reader, live_at, file_at, with_file, with_live, reader_at, searcher_at, on_catalog}
-use Rattle.tv_model.specs.Lines.{line, words_of}
+use Rattle.tv_model.specs.Lines.{line, words_of, refuse, unless, given}
 use Rattle.tv_model.specs.SegmentEvents.{is_in_use, fresh_segment, has_docs}
 use Rattle.tv_model.specs.FileEvents.{opened, lacks_deletes, written_to}
 use Rattle.tv_model.specs.CommitEvents.{last_stamp, chosen, first_unknown, first_unsealed, committed}
@@ -22,7 +22,22 @@ use Rattle.tv_model.specs.ReaderEvents.{snapshot_in, with_new_reader, with_reloa
 use Rattle.tv_model.specs.SearcherEvents.{with_searcher, without_searcher, body_at}
 use Rattle.tv_model.specs.Machine.{Turn, catalog_step, step, after}
 use Rattle.tv_model.proofs.Bodies.{sealed_is_good}
-use Rattle.tv_model.proofs.Refusals.{unless_all, given_all}
+use Rattle.std.specs.List.{AllByRecursion}
+
+-- ---- a step that may refuse
+
+-- of each refusal, and of the result where none of their conditions holds
+pub unless_all : {S : Type 0} (P : StepResult S → Type 0) (s : S) (refusals : List (Bool × List (List ℕ))) (result : StepResult S) → ((words : List (List ℕ)) → P (refuse s words)) → (AllByRecursion (λ refusal. refusal.0 ≡ false) refusals → P result) → P (unless s refusals result)
+unless_all P s [] result h k = k tt
+unless_all P s (refusal ∷ refusals) result h k = either refusal.0 (λ e. unless_all P s refusals result h (λ none. k (e, none))) where
+  either : (b : Bool) → (b ≡ false → P (unless s refusals result)) → P (cond b (refuse s refusal.1) (unless s refusals result))
+  either true told = h refusal.1
+  either false told = told refl
+
+-- of the refusal, and of the result where what has to be there is
+pub given_all : {S X : Type 0} (P : StepResult S → Type 0) (s : S) (x : Option X) (word : List ℕ) (result : X → StepResult S) → P (refuse s (word ∷ [])) → ((y : X) → x ≡ Some y → P (result y)) → P (given s x word result)
+given_all P s None word result h k = h
+given_all P s (Some x) word result h k = k x refl
 
 -- how who reads changes in a step
 pub data ReadersMove (t : State) (now : Readers) : Type 0 where

@@ -1,17 +1,18 @@
 -- What a collection takes and spares, and what a file is after its segment was released.
-use Rattle.std.proofs.Common.{◌≡◌, ℕ, Bool, true, false, true≢false, not, ◌&&◌, ◌||◌, cond, List, [], ◌∷◌, ◌++◌, map, filter, Option, Some, None, refl, sym, ap, ◌∙◌}
+use Rattle.std.proofs.Common.{◌≡◌, ℕ, Bool, true, false, true≢false, not, ◌&&◌, ◌||◌, cond, List, [], ◌∷◌, ◌++◌, map, filter, Option, Some, None, refl, sym, ap, ◌∙◌, arith}
 use Rattle.std.specs.Prelude.{option_map}
 use Rattle.std.specs.List.{flat_map}
 use Rattle.std.specs.BTreeMap.{is_at}
 use Rattle.std.proofs.lemmas.List.Folds.{list_any-append}
 use Rattle.std.proofs.lemmas.Map.Entries.{lookup-filter-keys}
 use Rattle.std.proofs.lemmas.Map.Views.{any-filter_same}
+use Rattle.std.proofs.lemmas.Bool.{false_from_ne_true, or_right}
 use Rattle.tv_model.specs.declared.segment.DeleteMeta.{DeleteMeta}
 use Rattle.tv_model.specs.declared.segment.LiveSegment.{LiveSegment}
 use Rattle.tv_model.specs.declared.segment.SegmentComponent.TheVariants.{Postings, Positions, FastFields, FieldNorms, Terms, Store, Delete}
 use Rattle.tv_model.specs.Names.{byte_cmp, is, has, meta_name}
 use Rattle.tv_model.specs.Segments.{components, name_of, required_names, all_required}
-use Rattle.tv_model.specs.Collections.{done_of, collectable, without}
+use Rattle.tv_model.specs.Collections.{done_of, without}
 use Rattle.tv_model.specs.Living.{segment_names, living}
 use Rattle.tv_model.specs.State.{State, FileState, at}
 use Rattle.tv_model.specs.CollectionEvents.{garbage, left, with_left}
@@ -29,38 +30,17 @@ has_without gone names n = any-filter_same (λ m. is m n) (λ m. not (has gone m
 pub at_without : {X : Type 0} (gone : List (List ℕ)) (entries : List (List ℕ × X)) (n : List ℕ) → at (filter (λ e. not (has gone e.0)) entries) n ≡ cond (not (has gone n)) (at entries n) None
 at_without gone entries n = lookup-filter-keys (is_at (byte_cmp n)) (λ m. not (has gone m)) (not (has gone n)) (λ m e. ap (λ (x : List ℕ). not (has gone x)) (sym (text_at n m e))) entries
 
-more : (a b c : Bool) → (b ≡ true → c ≡ true) → (a || b) ≡ true → (a || c) ≡ true
-more true b c f h = refl
-more false b c f h = f h
-
-also : (a b : Bool) → b ≡ true → (a || b) ≡ true
-also true b h = refl
-also false b h = h
-
 -- what was done was tried
 pub done_within : (names : List (List ℕ)) (outcomes : List Bool) (n : List ℕ) → has (done_of names outcomes) n ≡ true → has names n ≡ true
 done_within [] outcomes n h = h
 done_within (name ∷ names) [] n h = h
-done_within (name ∷ names) (true ∷ outcomes) n h = more (is name n) _ _ (done_within names outcomes n) h
-done_within (name ∷ names) (false ∷ outcomes) n h = also (is name n) _ (done_within names outcomes n h)
-
-both_not : (a b : Bool) → (not a && b) ≡ true → a ≡ true → ⊥
-both_not true b h e = true≢false (sym h)
-both_not false b h e = true≢false (sym e)
-
-pub unless : (b : Bool) → (b ≡ true → ⊥) → b ≡ false
-unless true f = absurd (f refl)
-unless false f = refl
+done_within (name ∷ names) (true ∷ outcomes) n h = grind (arith, done_within names outcomes n)
+done_within (name ∷ names) (false ∷ outcomes) n h = or_right (is name n) _ (done_within names outcomes n h)
 
 -- nothing that is needed is taken
-pub needed_spared : (needed managed : List (List ℕ)) (outcomes : List Bool) (n : List ℕ) → has needed n ≡ true → has (done_of (collectable needed managed) outcomes) n ≡ false
-needed_spared needed managed outcomes n h =
-    unless _ (λ e.
-    let tried : has (collectable needed managed) n ≡ true = done_within (collectable needed managed) outcomes n e in
-    both_not (has needed n) (has managed n) (sym (has_without needed managed n) ∙ tried) h)
-
 pub living_spared : (s : State) (outcomes : List Bool) (n : List ℕ) → has (living s.catalog) n ≡ true → has (done_of (garbage s) outcomes) n ≡ false
-living_spared s outcomes n h = needed_spared (living s.catalog) s.managed outcomes n h
+living_spared s outcomes n h =
+    false_from_ne_true _ (λ e. true≢false (sym (done_within (garbage s) outcomes n e) ∙ (rw (has_without (living s.catalog) s.managed n, h) refl)))
 
 -- `meta.json` is needed
 pub meta_living : (s : State) → has (living s.catalog) meta_name ≡ true
@@ -69,39 +49,23 @@ meta_living s = refl
 has_append : (names others : List (List ℕ)) (n : List ℕ) → has (names ++ others) n ≡ (has names n || has others n)
 has_append names others n = list_any-append (λ m. is m n) names others
 
-first : (a b : Bool) → a ≡ true → (a || b) ≡ true
-first true b h = refl
-first false b h = absurd (true≢false (sym h))
-
 -- the required files are among those of their segment
 required_among : (id : List ℕ) (deletes : Option DeleteMeta) (b : Bool) (n : List ℕ)
     → has (map (name_of id deletes) (Postings ∷ Positions ∷ FastFields ∷ FieldNorms ∷ Terms ∷ Store ∷ (cond b (Delete ∷ []) []))) n ≡ true → has (map (name_of id deletes) components) n ≡ true
 required_among id deletes true n h = h
-required_among id deletes false n h =
-    more (is (name_of id deletes Postings) n) _ _
-    (more (is (name_of id deletes Positions) n) _ _
-    (more (is (name_of id deletes FastFields) n) _ _
-    (more (is (name_of id deletes FieldNorms) n) _ _
-    (more (is (name_of id deletes Terms) n) _ _
-    (more (is (name_of id deletes Store) n) false _ (λ e. absurd (true≢false (sym e)))))))) h
+required_among id deletes false n h = grind arith
 
 pub required_names_among : (e : List ℕ × LiveSegment) (n : List ℕ) → has (required_names e.0 e.1) n ≡ true → has (segment_names e) n ≡ true
 required_names_among e n h = required_among e.0 e.1.deletes _ n h
 
-two : (a b c d : Bool) → (a ≡ true → c ≡ true) → (b ≡ true → d ≡ true) → (a || b) ≡ true → (c || d) ≡ true
-two true b c d f g h = first c d (f refl)
-two false b c d f g h = also c d (g h)
-
 required_of : (segments others : List (List ℕ × LiveSegment)) (n : List ℕ) → has (all_required segments) n ≡ true → has (flat_map segment_names (segments ++ others)) n ≡ true
 required_of [] others n h = absurd (true≢false (sym h))
 required_of (e ∷ segments) others n h =
-    rw (has_append (segment_names e) (flat_map segment_names (segments ++ others)) n)
-    (two (has (required_names e.0 e.1) n) (has (all_required segments) n) _ _ (required_names_among e n) (required_of segments others n)
-    (sym (has_append (required_names e.0 e.1) (all_required segments) n) ∙ h))
+    grind (arith, has_append (segment_names e) (flat_map segment_names (segments ++ others)) n, has_append (required_names e.0 e.1) (all_required segments) n, required_names_among e n, required_of segments others n)
 
 -- the required files of the commit are needed
 pub required_living : (s : State) (n : List ℕ) → has (all_required s.catalog.commit.segments) n ≡ true → has (living s.catalog) n ≡ true
-required_living s n h = also (is meta_name n) _ (required_of s.catalog.commit.segments s.catalog.live n h)
+required_living s n h = or_right (is meta_name n) _ (required_of s.catalog.commit.segments s.catalog.live n h)
 
 -- what stands at a name after the open files among some names were left
 pub at_left : (names : List (List ℕ)) (files : List (List ℕ × FileState)) (n : List ℕ) → at (with_left names files) n ≡ option_map (λ f. cond (has names n) (left f) f) (at files n)

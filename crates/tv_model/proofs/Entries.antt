@@ -1,5 +1,5 @@
 -- Entries under texts, and texts, in the order of their bytes.
-use Rattle.std.proofs.Common.{◌≡◌, ℕ, Bool, true, false, cond, ◌||◌, List, [], ◌∷◌, Option, Some, None, refl, sym, ap, ◌∙◌, true≢false}
+use Rattle.std.proofs.Common.{◌≡◌, ℕ, Bool, true, false, cond, ◌||◌, List, [], ◌∷◌, Option, Some, None, refl, sym, ap, ◌∙◌, true≢false, arith}
 use Rattle.std.specs.declared.cmp.Ordering.{Ordering}
 use Rattle.std.specs.declared.cmp.Ordering.TheVariants.{Less, Equal, Greater}
 use Rattle.std.specs.Ordering.{is_eq, match_ordering, ordering_reverse}
@@ -12,6 +12,7 @@ use Rattle.std.specs.Map.{lookup}
 use Rattle.std.specs.Set.{remove_key}
 use Rattle.std.specs.BTreeMap.{is_at, insert_entry}
 use Rattle.std.specs.BTreeSet.{insert_key}
+use Rattle.std.proofs.lemmas.Bool.{false_from_ne_true, or_parts, or_right}
 use Rattle.tv_model.specs.Names.{byte_cmp, is, has}
 
 pub same_at : (q k : List ℕ) → is_at (byte_cmp q) k ≡ is_at (byte_cmp k) q
@@ -45,8 +46,7 @@ apart x y g e =
     let k : false ≡ true = sym (ap is_eq g) ∙ h in absurd cc
 
 chain : {X : Type 0} (a b : Bool) (v w : X) (rest : Option X) → (a ≡ true → b ≡ true → ⊥) → cond a (Some w) (cond b (Some v) rest) ≡ cond b (Some v) (cond a (Some w) rest)
-chain true true v w rest h = absurd (h refl refl)
-chain true false v w rest h = refl
+chain true b v w rest h = let no : b ≡ false = false_from_ne_true b (h refl) in rw no refl
 chain false b v w rest h = refl
 
 over : {X : Type 0} (a : Bool) (v w : X) (rest : Option X) → cond a (Some v) rest ≡ cond a (Some v) (cond a (Some w) rest)
@@ -68,42 +68,21 @@ lookup_put {X} (e ∷ es) k q v =
           ∙ chain (is_at (byte_cmp q) e.0) (is_at (byte_cmp k) q) v e.1 (lookup (is_at (byte_cmp q)) es) (λ a b. apart k e.0 r (text_at k q b ∙ text_at q e.0 a))
     ] refl
 
-twice : (a rest : Bool) → (a || rest) ≡ (a || (a || rest))
-twice true rest = refl
-twice false rest = refl
-
-swapped : (a b rest : Bool) → (a || (b || rest)) ≡ (b || (a || rest))
-swapped true true rest = refl
-swapped true false rest = refl
-swapped false b rest = refl
-
 -- which texts a list has after one was put
 pub has_put : (names : List (List ℕ)) (name n : List ℕ) → has (insert_key byte_cmp names name) n ≡ (is name n || has names n)
 has_put [] name n = refl
 has_put (x ∷ xs) name n =
     elim (byte_cmp name x) as (λ r. byte_cmp name x ≡ r → has (match_ordering r (name ∷ x ∷ xs) (x ∷ xs) (x ∷ insert_key byte_cmp xs name)) n ≡ (is name n || has (x ∷ xs) n)) [
       | Less ↦ λ r. refl
-      | Equal ↦ λ r. rw (text_at name x (ap is_eq r)) (twice (is x n) (has xs n))
-      | Greater ↦ λ r. rw (has_put xs name n) (swapped (is x n) (is name n) (has xs n))
+      | Equal ↦ λ r. rw (text_at name x (ap is_eq r)) (grind arith)
+      | Greater ↦ λ r. rw (has_put xs name n) (grind arith)
     ] refl
-
-either : (a : Bool) → (a || true) ≡ true
-either true = refl
-either false = refl
 
 pub has_inserted : (names : List (List ℕ)) (name : List ℕ) → has (insert_key byte_cmp names name) name ≡ true
 has_inserted names name = rw (has_put names name name, is_itself name) refl
 
 pub has_kept : (names : List (List ℕ)) (name n : List ℕ) → has names n ≡ true → has (insert_key byte_cmp names name) n ≡ true
-has_kept names name n h = rw (has_put names name n, h) (either (is name n))
-
-second : (a b : Bool) → (a || b) ≡ true → a ≡ false → b ≡ true
-second true b h e = absurd cc
-second false b h e = h
-
-neither : (a b : Bool) → (a || b) ≡ false → (a ≡ false) × (b ≡ false)
-neither true b h = absurd cc
-neither false b h = (refl, h)
+has_kept names name n h = has_put names name n ∙ or_right (is name n) _ h
 
 -- the test of two texts, by their order
 pub is_by_order : (name x : List ℕ) → is x name ≡ is_eq (byte_cmp name x)
@@ -128,14 +107,14 @@ insert_present (x ∷ xs) name h o =
           let absent : has (x ∷ xs) name ≡ false = below_absent (x ∷ xs) name (r, below_all xs name x r o.0) in
           absurd (true≢false (sym h ∙ absent))
       | Equal ↦ λ r. refl
-      | Greater ↦ λ r. ap (λ (l : List (List ℕ)). x ∷ l) (insert_present xs name (second (is x name) (has xs name) h (is_by_order name x ∙ ap is_eq r)) o.1)
+      | Greater ↦ λ r. ap (λ (l : List (List ℕ)). x ∷ l) (insert_present xs name (grind (arith, h, is_by_order name x ∙ ap is_eq r)) o.1)
     ] refl
 
 -- a text that was put and is taken out again leaves the list as it was
 pub remove_inserted : (names : List (List ℕ)) (name : List ℕ) → has names name ≡ false → remove_key (is_at (byte_cmp name)) (insert_key byte_cmp names name) ≡ names
 remove_inserted [] name h = rw (at_itself name) refl
 remove_inserted (x ∷ xs) name h =
-    let t = neither (is x name) (has xs name) h in
+    let t = or_parts (is x name) (has xs name) h in
     elim (byte_cmp name x) as (λ r. byte_cmp name x ≡ r → remove_key (is_at (byte_cmp name)) (match_ordering r (name ∷ x ∷ xs) (x ∷ xs) (x ∷ insert_key byte_cmp xs name)) ≡ x ∷ xs) [
       | Less ↦ λ r. rw (at_itself name) refl
       | Equal ↦ λ r. absurd (true≢false (sym (is_by_order name x ∙ ap is_eq r) ∙ t.0))

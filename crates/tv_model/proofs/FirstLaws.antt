@@ -20,12 +20,9 @@ first_serves turns = serves first_state turns refl refl
 pub first_as_sealed : (turns : List Turn) → AllByRecursion Fits (events_of turns) → ServesAsSealed first_state turns
 first_as_sealed turns fits = serves_as_sealed first_state turns first_sound fits
 
-first_sorted : IsStrictlySortedBy byte_cmp first_state.managed
-unfolding IsStrictlySortedBy
-first_sorted = (tt, tt)
-
 pub first_collects : (turns : List Turn) → CollectsIn first_state turns
-first_collects turns = collects_in first_state turns first_sorted
+unfolding IsStrictlySortedBy
+first_collects turns = collects_in first_state turns (tt, tt)
 
 pub first_determined : Determined first_state
 first_determined = determined first_state refl

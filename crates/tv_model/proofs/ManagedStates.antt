@@ -1,11 +1,11 @@
 -- What holds of the managed names stays so: that they are plain, and that they stand in their order.
-use Rattle.std.proofs.Common.{◌≡◌, ℕ, Bool, true, false, not, cond, List, [], ◌∷◌, filter, Option, refl, subst}
-use Rattle.std.specs.declared.cmp.Ordering.{Ordering}
-use Rattle.std.specs.declared.cmp.Ordering.TheVariants.{Less, Equal, Greater}
-use Rattle.std.specs.Ordering.{match_ordering}
+use Rattle.std.proofs.Common.{◌≡◌, ℕ, Bool, true, not, List, filter, Option, subst}
 use Rattle.std.specs.List.Sorted.{IsStrictlySortedBy}
 use Rattle.std.specs.BTreeSet.{insert_key}
 use Rattle.std.proofs.lemmas.List.Kept.{IsStrictlySortedBy-filter}
+use Rattle.std.proofs.lemmas.List.Elements.{All-filter}
+use Rattle.std.proofs.lemmas.List.Sums.{AllPass-from_list_all, list_all-from_AllPass}
+use Rattle.std.proofs.lemmas.Map.Views.{All-insert_key}
 use Rattle.tv_model.specs.declared.event.Event.{Event}
 use Rattle.tv_model.specs.declared.event.Event.TheVariants as events
 use Rattle.tv_model.specs.declared.segment.DeleteMeta.{DeleteMeta}
@@ -21,24 +21,14 @@ use Rattle.tv_model.specs.Script.{IsNamed, Fits}
 use Rattle.tv_model.specs.Telling.{are_plain}
 use Rattle.tv_model.proofs.Changes.{step_changes, after_kept}
 use Rattle.tv_model.proofs.Entries.{sorted_put}
-use Rattle.tv_model.proofs.PlainNames.{both, other_plain}
+use Rattle.tv_model.proofs.PlainNames.{other_plain}
 
--- some of the names
+-- some of the names, and one more
 pub plain_filter : (test : List ℕ → Bool) (names : List (List ℕ)) → are_plain names ≡ true → are_plain (filter test names) ≡ true
-plain_filter test [] h = refl
-plain_filter test (name ∷ names) h = let t = both (is_plain name) (are_plain names) h in either (test name) t.0 (plain_filter test names t.1) where
-  either : (b : Bool) → is_plain name ≡ true → are_plain (filter test names) ≡ true → are_plain (cond b (name ∷ filter test names) (filter test names)) ≡ true
-  either true k rest = rw k rest
-  either false k rest = rest
+plain_filter test names h = list_all-from_AllPass is_plain _ (All-filter test (λ name. is_plain name ≡ true) names (AllPass-from_list_all is_plain names h))
 
--- and one more
 plain_put : (names : List (List ℕ)) (name : List ℕ) → is_plain name ≡ true → are_plain names ≡ true → are_plain (insert_key byte_cmp names name) ≡ true
-plain_put [] name h k = rw h refl
-plain_put (x ∷ xs) name h k = either (byte_cmp name x) (both (is_plain x) (are_plain xs) k).0 (plain_put xs name h (both (is_plain x) (are_plain xs) k).1) where
-  either : (r : Ordering) → is_plain x ≡ true → are_plain (insert_key byte_cmp xs name) ≡ true → are_plain (match_ordering r (name ∷ x ∷ xs) (x ∷ xs) (x ∷ insert_key byte_cmp xs name)) ≡ true
-  either Less e rest = rw h k
-  either Equal e rest = k
-  either Greater e rest = rw e rest
+plain_put names name h k = list_all-from_AllPass is_plain _ (All-insert_key byte_cmp name (λ n. is_plain n ≡ true) names (AllPass-from_list_all is_plain names k) h)
 
 named_plain : (id : List ℕ) (deletes : Option DeleteMeta) (component : SegmentComponent) → IsId id → IsNamed component → is_plain (name_of id deletes component) ≡ true
 named_plain id deletes component h named = rw named (other_plain id component h)

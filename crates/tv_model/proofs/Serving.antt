@@ -1,5 +1,5 @@
 -- A searcher shows one commit of the run for life, and a reader never goes back.
-use Rattle.std.proofs.Common.{◌≡◌, ◌⊎◌, inl, inr, ℕ, ◌+◌, ◌<◌, ◌≤◌, List, [], ◌∷◌, ◌++◌, Option, Some, None, true, true≢false, refl, sym, ap, subst, ◌∙◌, arith, append_assoc}
+use Rattle.std.proofs.Common.{◌≡◌, ◌⊎◌, inl, inr, ℕ, ◌+◌, ◌<◌, ◌≤◌, List, [], ◌∷◌, ◌++◌, Option, Some, None, true, true≢false, refl, sym, ap, subst, ◌∙◌, arith, append_assoc, append-nil, ◌≢◌, Bool}
 use Rattle.std.proofs.lemmas.Bool.Decides.{nat_tests}
 use Rattle.std.specs.List.{AllByRecursion}
 use Rattle.std.specs.BTreeMap.{is_at}
@@ -18,8 +18,27 @@ use Rattle.tv_model.specs.Serving.{Shows, Serves, ShowsAsSealed, ServesAsSealed}
 use Rattle.tv_model.proofs.Bodies.{body_of_good}
 use Rattle.tv_model.proofs.Numbered.{Rises, found, put_all, gone_all, rises_put, rises_gone, only, put_found}
 use Rattle.tv_model.proofs.SoundStates.{step_sound}
-use Rattle.tv_model.proofs.Changes.{ReadersMove, Comes, Reloads, Leaves, Searches, Ends, after_kept}
-use Rattle.tv_model.proofs.Moves.{Moves, Stays, Commits, Reads, step_moves}
+use Rattle.tv_model.proofs.Changes.{ReadersMove, Comes, Reloads, Leaves, Searches, Ends, after_kept, step_changes}
+use Rattle.tv_model.specs.declared.event.Event.{Event}
+
+-- what a step does: nothing to the commit and to who reads, a commit, or a change of who reads
+pub data Moves (t u : State) : Type 0 where
+  Stays : u.catalog.reading ≡ t.catalog.reading → u.catalog.commit ≡ t.catalog.commit → u.catalog.next ≡ t.catalog.next → Moves t u
+  Commits : u.catalog.reading ≡ t.catalog.reading → t.catalog.next ≢ last_stamp → u.catalog.commit.opstamp ≡ t.catalog.next → u.catalog.next ≡ t.catalog.next + 1 → Moves t u
+  Reads : ReadersMove t u.catalog.reading → u.catalog.commit ≡ t.catalog.commit → u.catalog.next ≡ t.catalog.next → Moves t u
+
+-- each step is of one of these kinds
+pub step_moves : (s : State) (event : Event) (outcomes : List Bool) → Moves s (step s event outcomes).1
+step_moves s event outcomes = step_changes (Moves s) s event outcomes (record {
+  same = Stays refl refl refl;
+  lives = λ id segment. Stays refl refl refl;
+  reads = λ now move. Reads move refl refl;
+  opens = λ id deletes component e absent. Stays refl refl refl;
+  puts = λ name body file e good. Stays refl refl refl;
+  commits = λ payload segments last e. Commits refl last refl refl;
+  collects = λ outcomes. Stays refl refl refl;
+  releases = λ id segment. Stays refl refl refl;
+})
 
 -- a run and one more run
 pub after_append : (s : State) (front rest : List Turn) → after s (front ++ rest) ≡ after (after s front) rest
@@ -188,10 +207,7 @@ sees_spreads s turns before rest e = record {
 }
 
 sees_run : (s : State) (turns before rest : List Turn) → turns ≡ before ++ rest → Sees s turns (after s before).catalog.reading → Sees s turns (after s turns).catalog.reading
-sees_run s turns before [] e h = subst (λ (l : List Turn). Sees s turns (after s l).catalog.reading) (sym (e ∙ append_nil before)) h where
-  append_nil : (l : List Turn) → l ++ [] ≡ l
-  append_nil [] = refl
-  append_nil (x ∷ l) = ap (λ (r : List Turn). x ∷ r) (append_nil l)
+sees_run s turns before [] e h = subst (λ (l : List Turn). Sees s turns (after s l).catalog.reading) (sym (e ∙ append-nil before)) h
 sees_run s turns before (turn ∷ rest) e h =
     sees_run s turns (before ++ turn ∷ []) rest (e ∙ sym (append_assoc before (turn ∷ []) rest))
     (subst (λ (t : State). Sees s turns t.catalog.reading) (sym (after_append s before (turn ∷ [])))

@@ -1,11 +1,12 @@
 -- The outcomes of a collection can be read off its line, and so lines and events determine a run.
-use Rattle.std.proofs.Common.{◌≡◌, ℕ, ◌==◌, Bool, true, false, true≢false, not, ◌&&◌, nat_lt, nat_le, length, codes, List, [], ◌∷◌, ◌++◌, refl, sym, ap, ap₂, subst, ◌∙◌, arith, append_assoc}
+use Rattle.std.proofs.Common.{◌≡◌, ℕ, ◌==◌, Bool, true, false, true≢false, not, codes, List, [], ◌∷◌, ◌++◌, refl, sym, ap, ap₂, subst, ◌∙◌, arith, append_assoc, append-nil}
 use Rattle.std.proofs.lemmas.Bool.Decides.{nat_tests}
 use Rattle.std.proofs.lemmas.List.{append_cancel_left}
 use Rattle.std.specs.List.{list_all, AllByRecursion}
+use Rattle.std.proofs.lemmas.List.Folds.{list_all-append}
 use Rattle.tv_model.specs.declared.event.Event.{Event}
 use Rattle.tv_model.specs.declared.event.Event.TheVariants as events
-use Rattle.tv_model.specs.Names.{is, is_name_byte, is_plain, is_undotted, has}
+use Rattle.tv_model.specs.Names.{is, is_name_byte, is_plain, has}
 use Rattle.tv_model.specs.Collections.{done_of, failed_of}
 use Rattle.tv_model.specs.Living.{living}
 use Rattle.tv_model.specs.Lines.{line, opening_line}
@@ -14,7 +15,7 @@ use Rattle.tv_model.specs.CollectionEvents.{garbage, collected_line, without_fil
 use Rattle.tv_model.specs.Machine.{Turn, step, answers, after, events_of}
 use Rattle.tv_model.specs.Script.{Fits}
 use Rattle.tv_model.specs.Telling.{are_plain, Tells, Determined}
-use Rattle.tv_model.proofs.PlainNames.{both}
+use Rattle.tv_model.proofs.PlainNames.{all_more, both, plain_parts}
 use Rattle.tv_model.proofs.ManagedStates.{plain_filter, step_plain}
 
 -- words, each behind a space
@@ -23,10 +24,7 @@ spaced [] = []
 spaced (word ∷ words) = 32 ∷ word ++ spaced words
 
 line_spaced : (text : List ℕ) (words : List (List ℕ)) → line text words ≡ text ++ spaced words
-line_spaced text [] = sym (append_nil text) where
-  append_nil : (l : List ℕ) → l ++ [] ≡ l
-  append_nil [] = refl
-  append_nil (x ∷ l) = ap (λ (r : List ℕ). x ∷ r) (append_nil l)
+line_spaced text [] = sym (append-nil text)
 line_spaced text (word ∷ words) = line_spaced (text ++ 32 ∷ word) words ∙ append_assoc text (32 ∷ word) (spaced words)
 
 spaced_append : (xs ys : List (List ℕ)) → spaced (xs ++ ys) ≡ spaced xs ++ spaced ys
@@ -47,12 +45,9 @@ is_word word = list_all (λ b. not (b == 32)) word
 heads : {X : Type 0} (x y : X) (xs ys : List X) → x ∷ xs ≡ y ∷ ys → (x ≡ y) × (xs ≡ ys)
 heads x y xs ys e = (cc, cc)
 
-no_end : {X : Type 0} (x : X) (xs : List X) → x ∷ xs ≡ [] → ⊥
-no_end x xs e = absurd cc
-
 -- a word ends where the next space stands
 not_space : (b : ℕ) (rest : List ℕ) (words : List (List ℕ)) → not (b == 32) ≡ true → b ∷ rest ≡ spaced words → ⊥
-not_space b rest [] h e = no_end b rest e
+not_space b rest [] h e = cc
 not_space b rest (word ∷ words) h e = true≢false (sym h ∙ ap (λ (n : ℕ). not (n == 32)) (heads b 32 rest (word ++ spaced words) e).0)
 
 words_end : (x y : List ℕ) (xs ys : List (List ℕ)) → is_word x ≡ true → is_word y ≡ true → x ++ spaced xs ≡ y ++ spaced ys → (x ≡ y) × (spaced xs ≡ spaced ys)
@@ -67,39 +62,23 @@ words_end (a ∷ x) (b ∷ y) xs ys h k e =
 -- words without spaces are told by their line
 spaced_tells : (xs ys : List (List ℕ)) → list_all is_word xs ≡ true → list_all is_word ys ≡ true → spaced xs ≡ spaced ys → xs ≡ ys
 spaced_tells [] [] h k e = refl
-spaced_tells [] (y ∷ ys) h k e = absurd (no_end 32 (y ++ spaced ys) (sym e))
-spaced_tells (x ∷ xs) [] h k e = absurd (no_end 32 (x ++ spaced xs) e)
+spaced_tells [] (y ∷ ys) h k e = absurd cc
+spaced_tells (x ∷ xs) [] h k e = absurd cc
 spaced_tells (x ∷ xs) (y ∷ ys) h k e =
     let words_x = both (is_word x) (list_all is_word xs) h in
     let words_y = both (is_word y) (list_all is_word ys) k in
     let parts = words_end x y xs ys words_x.0 words_y.0 (heads 32 32 (x ++ spaced xs) (y ++ spaced ys) e).1 in
     ap₂ (λ (w : List ℕ) (l : List (List ℕ)). w ∷ l) parts.0 (spaced_tells xs ys words_x.1 words_y.1 parts.1)
 
--- a plain name is a word
-name_byte_isnt_space : (b : ℕ) → is_name_byte b ≡ true → not (b == 32) ≡ true
-name_byte_isnt_space b h = let t = both (nat_lt 32 b && not (b == 34) && not (b == 47)) (not (b == 92)) h in let u = both (nat_lt 32 b && not (b == 34)) (not (b == 47)) t.0 in let v = both (nat_lt 32 b) (not (b == 34)) u.0 in above v.0 where
-  above : nat_lt 32 b ≡ true → not (b == 32) ≡ true
-  above lt = grind (arith, nat_tests)
-
-name_is_word : (name : List ℕ) → list_all is_name_byte name ≡ true → is_word name ≡ true
-name_is_word [] h = refl
-name_is_word (b ∷ name) h = let t = both (is_name_byte b) (list_all is_name_byte name) h in rw (name_byte_isnt_space b t.0) (name_is_word name t.1)
-
--- it has bytes of names, and isn't `failed`
-plain_parts : (name : List ℕ) → is_plain name ≡ true → (list_all is_name_byte name ≡ true) × (not (is name (codes "failed")) ≡ true)
-plain_parts name h =
-    let e = both (nat_le 1 (length name) && nat_le (length name) 255 && list_all is_name_byte name && is_undotted name) (not (is name (codes "failed"))) h in
-    let d = both (nat_le 1 (length name) && nat_le (length name) 255 && list_all is_name_byte name) (is_undotted name) e.0 in
-    ((both (nat_le 1 (length name) && nat_le (length name) 255) (list_all is_name_byte name) d.0).1, e.1)
-
 plain_isnt_failed : (name : List ℕ) → is_plain name ≡ true → name ≡ codes "failed" → ⊥
 plain_isnt_failed name h e = true≢false (sym (plain_parts name h).1 ∙ ap (λ (n : List ℕ). not (is n (codes "failed"))) e)
 
--- the words of a collection's line
+-- plain names are words
+plain_words : (names : List (List ℕ)) → are_plain names ≡ true → list_all is_word names ≡ true
+plain_words names h = all_more is_plain is_word names (λ name plain. all_more is_name_byte (λ b. not (b == 32)) name (λ b e. grind (arith, nat_tests)) (plain_parts name plain).0) h
+
 words_plain : (done failed : List (List ℕ)) → are_plain done ≡ true → are_plain failed ≡ true → list_all is_word (done ++ codes "failed" ∷ failed) ≡ true
-words_plain [] [] h k = refl
-words_plain [] (name ∷ failed) h k = let t = both (is_plain name) (are_plain failed) k in rw (name_is_word name (plain_parts name t.0).0) (words_plain [] failed h t.1)
-words_plain (name ∷ done) failed h k = let t = both (is_plain name) (are_plain done) h in rw (name_is_word name (plain_parts name t.0).0) (words_plain done failed t.1 k)
+words_plain done failed h k = rw (list_all-append is_word done (codes "failed" ∷ failed), plain_words done h) (plain_words failed k)
 
 -- the word `failed` stands where the names that were done end
 cut : (xs ys us vs : List (List ℕ)) → are_plain xs ≡ true → are_plain ys ≡ true → xs ++ codes "failed" ∷ us ≡ ys ++ codes "failed" ∷ vs → (xs ≡ ys) × (us ≡ vs)
@@ -119,21 +98,15 @@ line_tells done failed others more p q r u e =
     append_cancel_left (codes "gc deleted") _ _ (sym (collected_spaced done failed) ∙ e ∙ collected_spaced others more) in
     cut done others failed more p r (spaced_tells _ _ (words_plain done failed p q) (words_plain others more r u) words)
 
-done_plain : (names : List (List ℕ)) (outcomes : List Bool) → are_plain names ≡ true → are_plain (done_of names outcomes) ≡ true
-done_plain [] outcomes h = refl
-done_plain (name ∷ names) [] h = h
-done_plain (name ∷ names) (true ∷ outcomes) h = let t = both (is_plain name) (are_plain names) h in rw t.0 (done_plain names outcomes t.1)
-done_plain (name ∷ names) (false ∷ outcomes) h = done_plain names outcomes (both (is_plain name) (are_plain names) h).1
-
-failed_plain : (names : List (List ℕ)) (outcomes : List Bool) → are_plain names ≡ true → are_plain (failed_of names outcomes) ≡ true
-failed_plain [] outcomes h = refl
-failed_plain (name ∷ names) [] h = refl
-failed_plain (name ∷ names) (true ∷ outcomes) h = failed_plain names outcomes (both (is_plain name) (are_plain names) h).1
-failed_plain (name ∷ names) (false ∷ outcomes) h = let t = both (is_plain name) (are_plain names) h in rw t.0 (failed_plain names outcomes t.1)
+parts_plain : (names : List (List ℕ)) (outcomes : List Bool) → are_plain names ≡ true → (are_plain (done_of names outcomes) ≡ true) × (are_plain (failed_of names outcomes) ≡ true)
+parts_plain [] outcomes h = (refl, refl)
+parts_plain (name ∷ names) [] h = (h, refl)
+parts_plain (name ∷ names) (true ∷ outcomes) h = let t = both (is_plain name) (are_plain names) h in rw t.0 (parts_plain names outcomes t.1)
+parts_plain (name ∷ names) (false ∷ outcomes) h = let t = both (is_plain name) (are_plain names) h in rw t.0 (parts_plain names outcomes t.1)
 
 -- the outcomes can be read off a collection's line
 pub tells : (names : List (List ℕ)) → are_plain names ≡ true → Tells names
-tells names h a b e = line_tells _ _ _ _ (done_plain names a h) (failed_plain names a h) (done_plain names b h) (failed_plain names b h) e
+tells names h a b e = let p = parts_plain names a h in let q = parts_plain names b h in line_tells _ _ _ _ p.0 p.1 q.0 q.1 e
 
 -- events that tell the same come to the same state
 same_step : (s : State) (event : Event) (a b : List Bool) → are_plain s.managed ≡ true → (step s event a).0 ≡ (step s event b).0 → (step s event a).1 ≡ (step s event b).1
@@ -142,8 +115,8 @@ same_step s other a b h e = refl
 
 same_run : (s : State) (a b : List Turn) → are_plain s.managed ≡ true → AllByRecursion Fits (events_of a) → events_of a ≡ events_of b → answers s a ≡ answers s b → after s a ≡ after s b
 same_run s [] [] h fits e k = refl
-same_run s [] (y ∷ b) h fits e k = absurd (no_end y.0 (events_of b) (sym e))
-same_run s (x ∷ a) [] h fits e k = absurd (no_end x.0 (events_of a) e)
+same_run s [] (y ∷ b) h fits e k = absurd cc
+same_run s (x ∷ a) [] h fits e k = absurd cc
 same_run s (x ∷ a) (y ∷ b) h fits e k =
     let events_same = heads x.0 y.0 (events_of a) (events_of b) e in
     let lines_same = heads (step s x.0 x.1).0 (step s y.0 y.1).0 (answers (step s x.0 x.1).1 a) (answers (step s y.0 y.1).1 b) k in

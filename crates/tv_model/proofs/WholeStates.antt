@@ -2,6 +2,7 @@
 use Rattle.std.proofs.Common.{◌≡◌, ◌⊎◌, inl, inr, ℕ, Bool, true, false, true≢false, not, ◌||◌, cond, List, [], ◌∷◌, Option, Some, None, refl, sym, ap, subst, ◌∙◌}
 use Rattle.std.specs.Prelude.{is_some, option_map, find}
 use Rattle.std.specs.BTreeMap.{is_at}
+use Rattle.std.proofs.lemmas.Bool.{not-false}
 use Rattle.tv_model.specs.declared.event.Event.{Event}
 use Rattle.tv_model.specs.declared.segment.LiveSegment.{LiveSegment}
 use Rattle.tv_model.specs.Names.{byte_cmp, is, has}
@@ -39,10 +40,6 @@ none_passes test (x ∷ xs) n e h =
           ] refl h
     ] refl e
 
-not_not : (b : Bool) → not b ≡ false → b ≡ true
-not_not true e = refl
-not_not false e = absurd cc
-
 -- a file that is left is sealed if it was
 left_sealed : (b : Bool) (file : Option FileState) → is_sealed (option_map (λ f. cond b (left f) f) file) ≡ is_sealed file
 left_sealed b None = refl
@@ -60,7 +57,7 @@ with_file_whole s name file unsealed h = record {
 -- a commit, all of whose files are sealed
 pub committed_whole : (s : State) (payload : Option (List ℕ)) (segments : List (List ℕ × LiveSegment)) → first_unsealed s segments ≡ None → IsWhole (on_catalog s (committed s.catalog payload segments)).1
 committed_whole s payload segments e = record {
-  each = λ n is. not_not (is_sealed (file_at s n)) (none_passes (λ name. not (is_sealed (file_at s name))) (all_required segments) n e is);
+  each = λ n is. not-false (is_sealed (file_at s n)) (none_passes (λ name. not (is_sealed (file_at s name))) (all_required segments) n e is);
 }
 
 -- files that nothing needs are gone

@@ -1,10 +1,11 @@
 -- A script replayed: how far a run has come, and what a whole run is.
-use Rattle.std.proofs.Common.{◌≡◌, ◌≢◌, ◌⊎◌, ℕ, ◌+◌, ◌*◌, ◌^◌, ◌≤◌, ◌<◌, true, true≢false, List, [], ◌∷◌, ◌++◌, length, Option, Some, None, refl, sym, ap, subst, ◌∙◌, arith, append_assoc, length-append, inl, inr}
+use Rattle.std.proofs.Common.{◌≡◌, ◌≢◌, ◌⊎◌, ℕ, ◌+◌, ◌*◌, ◌^◌, ◌≤◌, ◌<◌, true, true≢false, List, [], ◌∷◌, ◌++◌, map, length, Option, Some, None, Err, refl, sym, ap, subst, ◌∙◌, arith, append_assoc, length-append, inl, inr}
 use Rattle.std.specs.Prelude.{IsSome, is_some, option_map}
 use Rattle.std.specs.List.{AllByRecursion}
 use Rattle.std.specs.List.Sorted.{IsStrictlySortedBy}
 use Rattle.std.specs.BTreeSet.{insert_key}
 use Rattle.std.proofs.lemmas.List.{append-nil, map-append, length-map}
+use Rattle.tv_base.specs.Streams.{SourceView}
 use Rattle.tv_base.specs.declared.error.TantivyError.{TantivyError}
 use Rattle.tv_base.specs.declared.open_errors.LockError.TheVariants as lock
 use Rattle.tv_base.specs.declared.error.TantivyError.TheVariants as errors
@@ -21,7 +22,7 @@ use Rattle.tv_managed.specs.Reading.{HasNoBody}
 use Rattle.tv_model.specs.Listing.{Lists}
 use Rattle.tv_model.specs.Commits.{Commit, is_schema, default_settings, Means}
 use Rattle.tv_model.specs.Segments.{all_required}
-use Rattle.tv_model.specs.State.{Catalog, State, FileState, Sealed, Open, Left, file_at}
+use Rattle.tv_model.specs.State.{Catalog, State, FileState, Sealed, Left, file_at}
 use Rattle.tv_model.specs.Lines.{opening_of}
 use Rattle.tv_model.specs.Readable.{AllReadGood}
 use Rattle.tv_model.specs.Machine.{Turn, step, answers, report, after, events_of, refused_in, all_refused}
@@ -44,36 +45,31 @@ use Rattle.tv_replay.specs.ScriptLines.{pending, TakesNextEvent, IsNoEvent, IsTo
 use Rattle.tv_store.specs.ReaderNumbers.{FewNumbers}
 use Rattle.tv_store.specs.ReadCauses.{ReadFault, ApplyCause}
 use Rattle.tv_replay.specs.ScriptCauses.{IsRefused, ScriptCause}
-use Rattle.tv_store.specs.StoreCauses.{WriteFault, OpeningCause, IsRefusal}
-use Rattle.tv_replay.specs.Replays.{Replays, ReplayCause, StopsAt, BeginsWith, LineRefusal, IsTooMany, IsBadFile, NeverOpens, line_refusal, long_refusal}
+use Rattle.tv_store.specs.StoreCauses.{WriteFault, IsRefusal}
+use Rattle.tv_replay.specs.Replays.{Replays, ReplayCause, StopsAtLine, LineRefusal, IsTooMany, IsBadFile, NeverOpens, line_refusal, long_refusal}
 use Rattle.tv_store.specs.Applying.{Stepped, Spent, BadIn, HoldsNone, written_by}
-use Rattle.tv_replay.specs.AppliedEvents.{Applies, Runs, RunCause, BadSince, IsErrorOf}
+use Rattle.tv_replay.specs.AppliedEvents.{Applies, Runs, RunFaults, Causes, RunCause, run_causes, StopsRun, EndCause, BadSince, IsErrorOf}
 use Rattle.tv_replay.proofs.LineLemmas.{pending_some}
-use Rattle.tv_replay.proofs.Progress.{after-last, answers-last, events-last, readable-last, refused-last, AreLines-length, ReadSoFar, nothing_read, one_more_read, all_read}
+use Rattle.tv_replay.proofs.Progress.{after-last, answers-last, events-last, readable-last, refused-last, AreLines-length, ReadSoFar, HasRead, nothing_read, one_more_read, begins_next, all_read}
 
 -- ---- telling
 
--- one more line after some lines
-tells_more : (before now later : Heard) (from to : ℕ) (line : List ℕ) (lines : List (List ℕ)) → TellsLines before now lines → TellsLine now later from to line → TellsLines before later (lines ++ line ∷ [])
-tells_more before now later from to line lines ts t =
-    let piece : Heard = (t.moment, line ++ 10 ∷ []) ∷ [] in
-    record {
-      pieces = ts.pieces ++ piece;
-      heard = t.heard ∙ ap (λ (h : Heard). h ++ piece) ts.heard ∙ append_assoc before ts.pieces piece;
-      each =
-          map-append (λ (p : ℕ × List ℕ). p.1) ts.pieces piece ∙ ap (λ (ls : List (List ℕ)). ls ++ (line ++ 10 ∷ []) ∷ []) ts.each
-          ∙ sym (map-append (λ (l : List ℕ). l ++ 10 ∷ []) lines (line ∷ []));
-    }
+-- some lines after others
+tells_then : {before now later : Heard} {lines more : List (List ℕ)} → TellsLines before now lines → TellsLines now later more → TellsLines before later (lines ++ more)
+tells_then {before} {now} {later} {lines} {more} ts us = record {
+  pieces = ts.pieces ++ us.pieces;
+  heard = us.heard ∙ ap (λ (h : Heard). h ++ us.pieces) ts.heard ∙ append_assoc before ts.pieces us.pieces;
+  each =
+      map-append (λ (p : ℕ × List ℕ). p.1) ts.pieces us.pieces ∙ ap (λ (ls : List (List ℕ)). ls ++ map (λ (p : ℕ × List ℕ). p.1) us.pieces) ts.each
+      ∙ ap (λ (ls : List (List ℕ)). map (λ (l : List ℕ). l ++ 10 ∷ []) lines ++ ls) us.each ∙ sym (map-append (λ (l : List ℕ). l ++ 10 ∷ []) lines more);
+}
+
+pub tells_one : {before now : Heard} {from to : ℕ} {line : List ℕ} → TellsLine before now from to line → TellsLines before now (line ∷ [])
+tells_one {line = line} t = record { pieces = (t.moment, line ++ 10 ∷ []) ∷ []; heard = t.heard; each = refl }
 
 -- one line before some lines
 pub tells_first : (before now later : Heard) (from to : ℕ) (line : List ℕ) (lines : List (List ℕ)) → TellsLine before now from to line → TellsLines now later lines → TellsLines before later (line ∷ lines)
-tells_first before now later from to line lines t ts =
-    let piece : ℕ × List ℕ = (t.moment, line ++ 10 ∷ []) in
-    record {
-      pieces = piece ∷ ts.pieces;
-      heard = ts.heard ∙ ap (λ (h : Heard). h ++ ts.pieces) t.heard ∙ append_assoc before (piece ∷ []) ts.pieces;
-      each = ap (λ (ls : List (List ℕ)). (line ++ 10 ∷ []) ∷ ls) ts.each;
-    }
+tells_first before now later from to line lines t ts = tells_then (tells_one t) ts
 
 -- ---- events that fit
 
@@ -101,7 +97,7 @@ never_spent kept event count few small all numbers (inr spent) = let much : 2 ^ 
 pub record Progress {O W C : Type 0} (g : Ghosts O W C) (old new : StoreState O) (text left : Option (List ℕ)) (count : ℕ) : Type 0 where
   pub turns : List Turn
   pub counted : count ≡ length turns
-  pub read : (whole : List ℕ) → text ≡ Some whole → ReadSoFar whole left (events_of turns)
+  pub read : HasRead text left turns
   pub applied : Applies g old new turns
 
 pub starts : {O W C : Type 0} (g : Ghosts O W C) (store : StoreState O) (held : List ℕ) (text : Option (List ℕ)) → held ≡ [] → Progress g store store text (pending held text) 0
@@ -137,7 +133,7 @@ one_more_applied g old now new turns e answer a fits schema stepped said =
       schema = schema ∙ a.schema;
       holds = λ tell s h w. subst (Holds (g.view new.outside).reads new.kept) (sym (after-last s turns t)) (stepped.2 tell (after s turns) (a.holds tell s h w) (after_whole s turns w)).1;
       told = λ tell th s h w.
-          let more = tells_more (g.view old.outside).heard (g.view now.outside).heard (g.view new.outside).heard (g.view now.outside).moment (g.view new.outside).moment answer (answers s turns) (a.told tell th s h w) (said th) in
+          let more = tells_then (a.told tell th s h w) (tells_one (said th)) in
           let is : answer ≡ (step (after s turns) e stepped.0).0 = (stepped.2 tell (after s turns) (a.holds tell s h w) (after_whole s turns w)).0 in
           subst (TellsLines (g.view old.outside).heard (g.view new.outside).heard) (ap (λ (line : List ℕ). answers s turns ++ line ∷ []) is ∙ sym (answers-last s turns t)) more;
       readable = λ tell s h w. readable-last s turns t (a.readable tell s h w) (stepped.2 tell (after s turns) (a.holds tell s h w) (after_whole s turns w)).2;
@@ -156,7 +152,7 @@ goes_on g old now new text left later count e answer p takes fits schema stepped
       counted = ap (λ (n : ℕ). n + 1) p.counted ∙ sym (length-append p.turns (t ∷ []));
       read = λ whole told.
           let r = p.read whole told in
-          subst (λ (es : List Event). ReadSoFar whole later es) (sym (events-last p.turns t)) (one_more_read whole left later (events_of p.turns) r e (takes r.rest r.left_is));
+          subst (λ (es : List Event). ReadSoFar whole later es) (sym (events-last p.turns t)) (one_more_read whole left later (events_of p.turns) r e (takes r.begun.rest r.left_is));
       applied = one_more_applied g old now new p.turns e answer p.applied fits schema stepped said;
     }
 
@@ -179,56 +175,33 @@ ends g old now text before held left count tally p takes is =
       counted = is ∙ p.counted;
       lines = λ whole told.
           let r = p.read whole told in
-          let t = takes r.rest r.left_is in
-          (all_read whole before (events_of p.turns) r t.0, none_pending held left t.1);
+          let t = takes r.begun.rest r.left_is in
+          (all_read whole (events_of p.turns) r.begun t.0, none_pending held left t.1);
       applied = p.applied;
     }
 
-stops : (whole : List ℕ) (left : Option (List ℕ)) (events : List Event) (count number : ℕ) (r : ReadSoFar whole left events) → count ≡ length events → number ≡ count + 1 → StopsAt whole number r.rest
-stops whole left events count number r counted is =
-    record {
-      texts = r.texts;
-      events = events;
-      each = r.each;
-      place = omega (arith, AreLines-length r.texts events r.each);
-      split = r.split;
-    }
+module _ {O W C : Type 0} {g : Ghosts O W C} {old now : StoreState O} {text left : Option (List ℕ)} {count : ℕ} (number : ℕ) (p : Progress g old now text left count) (is : number ≡ count + 1) where
+  -- the run stopped before the line of this number
+  stops : (whole : List ℕ) → text ≡ Some whole → (rest : List ℕ) × StopsAtLine whole number rest × (left ≡ Some rest)
+  stops whole told =
+      let r = p.read whole told in
+      let b = r.begun in
+      let as_many : length (events_of p.turns) ≡ length p.turns = length-map p.turns (λ (t : Turn). t.0) in
+      let place : length b.texts + 1 ≡ number = omega (arith, is, as_many, p.counted, AreLines-length b.texts (events_of p.turns) b.each) in
+      (b.rest, record { texts = b.texts; events = events_of p.turns; each = b.each; place = place; split = b.split }, r.left_is)
 
-as_many : (turns : List Turn) → length (events_of turns) ≡ length turns
-as_many turns = length-map turns (λ (t : Turn). t.0)
+  -- which is no event's
+  pub stops_at_line : IsRefused IsNoEvent left → LineRefusal text (line_refusal number)
+  stops_at_line wrong = (number, inl (refl, λ whole told. let s = stops whole told in (s.0, s.1, wrong s.0 s.2)))
 
--- the next line is no event's
-pub stops_at_line : {O W C : Type 0} {g : Ghosts O W C} {old now : StoreState O} {text left : Option (List ℕ)} {count : ℕ} (number : ℕ)
-    → Progress g old now text left count → IsRefused IsNoEvent left → number ≡ count + 1 → LineRefusal text (line_refusal number)
-stops_at_line {left = left} {count = count} number p wrong is = (
-  number,
-  inl (
-    refl,
-    λ whole told.
-        let r = p.read whole told in
-        (r.rest, stops whole left (events_of p.turns) count number r (p.counted ∙ sym (as_many p.turns)) is, wrong r.rest r.left_is),
-  ),
-)
-
--- the next line is too long
-pub stops_at_long : {O W C : Type 0} {g : Ghosts O W C} {old now : StoreState O} {text left : Option (List ℕ)} {count : ℕ} (number : ℕ)
-    → Progress g old now text left count → IsRefused IsTooLong left → number ≡ count + 1 → LineRefusal text (long_refusal number)
-stops_at_long {left = left} {count = count} number p long is = (
-  number,
-  inr (
-    refl,
-    λ whole told.
-        let r = p.read whole told in
-        (r.rest, stops whole left (events_of p.turns) count number r (p.counted ∙ sym (as_many p.turns)) is, long r.rest r.left_is),
-  ),
-)
+  -- which is too long
+  pub stops_at_long : IsRefused IsTooLong left → LineRefusal text (long_refusal number)
+  stops_at_long long = (number, inr (refl, λ whole told. let s = stops whole told in (s.0, s.1, long s.0 s.2)))
 
 -- there is a line too many
 pub stops_at_last : {O W C : Type 0} {g : Ghosts O W C} {old now : StoreState O} {text left : Option (List ℕ)} {count : ℕ}
     → Progress g old now text left count → count ≡ 4294967295 → IsRefused (λ rest. rest ≢ []) left → IsTooMany text
-stops_at_last {left = left} {count = count} p is some whole told =
-    let r = p.read whole told in
-    (r.rest, stops whole left (events_of p.turns) count 4294967296 r (p.counted ∙ sym (as_many p.turns)) (omega (arith, is)), some r.rest r.left_is)
+stops_at_last p is some whole told = let s = stops 4294967296 p (omega (arith, is)) whole told in (s.0, s.1, some s.0 s.2)
 
 -- where a line stands, something is left
 pub some_left : (rest line : List ℕ) (lines : List (List ℕ)) → lines_of rest ≡ line ∷ lines → rest ≢ []
@@ -239,9 +212,7 @@ some_left (b ∷ rest) line lines e none = absurd cc
 
 write_fault : {refused more : Type 0} (error : OpenWriteError) → (refused → more) → WriteFault refused error → WriteFault more error
 write_fault (write.IoError fault path) f h = (h.0, f h.1)
-write_fault (write.FileAlreadyExists path) f h = absurd h
-write_fault (write.Leaving path) f h = absurd h
-write_fault write.Memory f h = absurd h
+write_fault other f h = absurd h
 
 read_fault : {refused quiet more all : Type 0} {bad worse : OpenReadError → Type 0} {absent gone : List ℕ → Type 0} (error : OpenReadError) → (refused → more) → (quiet → all) → ((error : OpenReadError) → bad error → worse error) → ((path : List ℕ) → absent path → gone path)
     → ReadFault refused quiet bad absent error → ReadFault more all worse gone error
@@ -251,70 +222,59 @@ read_fault (read.FileDoesNotExist path) f q b a h = (q h.0, h.1, a _ h.2)
 read_fault (read.IncompatibleIndex why) f q b a h = (q h.0, b _ h.1)
 read_fault other f q b a h = absurd h
 
--- an event's
-pub event_cause : (refusal : List ℕ → Type 0) (too_many busy busy2 refused quiet spent more all : Type 0) (bad worse : OpenReadError → Type 0) (absent gone : List ℕ → Type 0) (error : TantivyError) → ApplyCause busy refused quiet spent bad absent error → (busy → busy2) → (refused → more) → (quiet → all) → (spent → ⊥)
-    → ((error : OpenReadError) → bad error → worse error) → ((path : List ℕ) → absent path → gone path) → RunCause busy2 refusal too_many more all worse gone error
-event_cause refusal too_many busy busy2 refused quiet spent more all bad worse absent gone (errors.IoError fault) h y f q never b a = (h.0, f h.1)
-event_cause refusal too_many busy busy2 refused quiet spent more all bad worse absent gone (errors.OpenWriteError error) h y f q never b a = write_fault error f h
-event_cause refusal too_many busy busy2 refused quiet spent more all bad worse absent gone (errors.OpenReadError error) h y f q never b a = read_fault error f q b a h
-event_cause refusal too_many busy busy2 refused quiet spent more all bad worse absent gone (errors.LockFailure lock.LockBusy text) h y f q never b a = (y h.0, h.1)
-event_cause refusal too_many busy busy2 refused quiet spent more all bad worse absent gone (errors.LockFailure (lock.IoError fault) text) h y f q never b a = ((h.0.0, f h.0.1), h.1)
-event_cause refusal too_many busy busy2 refused quiet spent more all bad worse absent gone (errors.LockFailure lock.Memory text) h y f q never b a = absurd h.0
-event_cause refusal too_many busy busy2 refused quiet spent more all bad worse absent gone errors.Exhausted h y f q never b a = absurd (never h.1)
-event_cause refusal too_many busy busy2 refused quiet spent more all bad worse absent gone errors.Memory h y f q never b a = q h
-event_cause refusal too_many busy busy2 refused quiet spent more all bad worse absent gone other h y f q never b a = absurd h
+-- a run that failed for this cause
+pub fails : {A O W C : Type 0} {g : Ghosts O W C} {old new : StoreState O} {script script_now : SourceView} {error : TantivyError} → StopsRun g old new script script_now error → RunFaults {A = A} g old new script script_now (Err error)
+fails cause = record { quiet = tt; cause = cause }
 
--- a refusal's
-refusal_cause : (busy : Type 0) (refusal : List ℕ → Type 0) (too_many refused quiet : Type 0) (bad : OpenReadError → Type 0) (absent : List ℕ → Type 0) (text : List ℕ) (error : TantivyError) → IsRefusal text error → quiet → refusal text → RunCause busy refusal too_many refused quiet bad absent error
-refusal_cause busy refusal too_many refused quiet bad absent text (errors.InvalidArgument t) h q r = (q, subst refusal (sym h) r)
-refusal_cause busy refusal too_many refused quiet bad absent text errors.Memory h q r = q
-refusal_cause busy refusal too_many refused quiet bad absent text other h q r = absurd h
+module _ (c : Causes) where
+  -- an event's
+  pub event_cause : {busy refused quiet spent : Type 0} {bad : OpenReadError → Type 0} {absent : List ℕ → Type 0} (error : TantivyError) → ApplyCause busy refused quiet spent bad absent error → (busy → c.busy) → (refused → c.refused) → (quiet → c.quiet) → (spent → ⊥)
+      → ((error : OpenReadError) → bad error → c.bad error) → ((path : List ℕ) → absent path → c.absent path) → RunCause c error
+  event_cause (errors.IoError fault) h y f q never b a = (h.0, f h.1)
+  event_cause (errors.OpenWriteError error) h y f q never b a = write_fault error f h
+  event_cause (errors.OpenReadError error) h y f q never b a = read_fault error f q b a h
+  event_cause (errors.LockFailure lock.LockBusy text) h y f q never b a = (y h.0, h.1)
+  event_cause (errors.LockFailure (lock.IoError fault) text) h y f q never b a = ((h.0.0, f h.0.1), h.1)
+  event_cause (errors.LockFailure lock.Memory text) h y f q never b a = absurd h.0
+  event_cause errors.Exhausted h y f q never b a = absurd (never h.1)
+  event_cause errors.Memory h y f q never b a = q h
+  event_cause other h y f q never b a = absurd h
 
--- a script's
-pub script_cause : (busy : Type 0) (refusal : List ℕ → Type 0) (too_many refused quiet more all : Type 0) (bad : OpenReadError → Type 0) (absent : List ℕ → Type 0) (left : Option (List ℕ)) (error : ScriptError) (number : ℕ) (answer : TantivyError)
-    → IsErrorOf error number answer → ScriptCause left refused quiet error → (refused → more) → (quiet → all)
-    → (IsRefused IsNoEvent left → refusal (line_refusal number)) → (IsRefused IsTooLong left → refusal (long_refusal number)) → RunCause busy refusal too_many more all bad absent answer
-script_cause busy refusal too_many refused quiet more all bad absent left (failed.Line line.Memory) number answer is h f q r l = subst (RunCause busy refusal too_many more all bad absent) (sym is) (q h)
-script_cause busy refusal too_many refused quiet more all bad absent left (failed.Line (line.Fault fault)) number answer is h f q r l = subst (RunCause busy refusal too_many more all bad absent) (sym is) (h.0, f h.1)
-script_cause busy refusal too_many refused quiet more all bad absent left (failed.Line line.TooLong) number answer is h f q r l = refusal_cause busy refusal too_many more all bad absent (long_refusal number) answer is (q h.0) (l h.1)
-script_cause busy refusal too_many refused quiet more all bad absent left failed.NotAnEvent number answer is h f q r l = refusal_cause busy refusal too_many more all bad absent (line_refusal number) answer is (q h.0) (r h.1)
+  -- a refusal's
+  refusal_cause : (text : List ℕ) (error : TantivyError) → IsRefusal text error → c.quiet → c.refusal text → RunCause c error
+  refusal_cause text (errors.InvalidArgument t) h q r = (q, subst c.refusal (sym h) r)
+  refusal_cause text errors.Memory h q r = q
+  refusal_cause text other h q r = absurd h
 
--- the end's
-pub end_cause : (busy : Type 0) (refusal : List ℕ → Type 0) (some too_many refused quiet more all : Type 0) (bad : OpenReadError → Type 0) (absent : List ℕ → Type 0) (error : TantivyError) → RunCause ⊥ (λ text. ⊥) some refused quiet (λ error. ⊥) (λ path. ⊥) error → (refused → more) → (quiet → all) → (some → too_many) → RunCause busy refusal too_many more all bad absent error
-end_cause busy refusal some too_many refused quiet more all bad absent (errors.InvalidArgument text) h f q k = absurd h.1
-end_cause busy refusal some too_many refused quiet more all bad absent (errors.IoError fault) h f q k = (h.0, f h.1)
-end_cause busy refusal some too_many refused quiet more all bad absent (errors.OpenWriteError error) h f q k = write_fault error f h
-end_cause busy refusal some too_many refused quiet more all bad absent (errors.OpenReadError error) h f q k = read_fault {worse = bad} {gone = absent} error f q (λ path b. absurd b) (λ path b. absurd b) h
-end_cause busy refusal some too_many refused quiet more all bad absent (errors.LockFailure lock.LockBusy text) h f q k = absurd h.0
-end_cause busy refusal some too_many refused quiet more all bad absent (errors.LockFailure (lock.IoError fault) text) h f q k = ((h.0.0, f h.0.1), h.1)
-end_cause busy refusal some too_many refused quiet more all bad absent (errors.LockFailure lock.Memory text) h f q k = absurd h.0
-end_cause busy refusal some too_many refused quiet more all bad absent errors.Exhausted h f q k = (q h.0, k h.1)
-end_cause busy refusal some too_many refused quiet more all bad absent errors.Memory h f q k = q h
-end_cause busy refusal some too_many refused quiet more all bad absent other h f q k = absurd h
+  -- a script's
+  pub script_cause : {refused quiet : Type 0} (left : Option (List ℕ)) (error : ScriptError) (number : ℕ) (answer : TantivyError) → IsErrorOf error number answer → ScriptCause left refused quiet error → (refused → c.refused) → (quiet → c.quiet)
+      → (IsRefused IsNoEvent left → c.refusal (line_refusal number)) → (IsRefused IsTooLong left → c.refusal (long_refusal number)) → RunCause c answer
+  script_cause left (failed.Line line.Memory) number answer is h f q r l = subst (RunCause c) (sym is) (q h)
+  script_cause left (failed.Line (line.Fault fault)) number answer is h f q r l = subst (RunCause c) (sym is) (h.0, f h.1)
+  script_cause left (failed.Line line.TooLong) number answer is h f q r l = refusal_cause (long_refusal number) answer is (q h.0) (l h.1)
+  script_cause left failed.NotAnEvent number answer is h f q r l = refusal_cause (line_refusal number) answer is (q h.0) (r h.1)
 
--- an opening's, as a replay's
-pub opening_cause : (tells : Type 0) (schema : List ℕ) (reads : Reads) (text : Option (List ℕ)) (busy busy2 refused quiet more all : Type 0) (error : TantivyError) → OpeningCause tells schema reads busy refused quiet error → (busy → busy2) → (refused → more) → (quiet → all) → ReplayCause tells schema reads text busy2 more all error
-opening_cause tells schema reads text busy busy2 refused quiet more all (errors.InvalidArgument t) h y f q = (q h.0, inl h.1)
-opening_cause tells schema reads text busy busy2 refused quiet more all (errors.IoError fault) h y f q = (h.0, h.1, f h.2)
-opening_cause tells schema reads text busy busy2 refused quiet more all (errors.LockFailure lock.LockBusy t) h y f q = (h.0, y h.1, h.2)
-opening_cause tells schema reads text busy busy2 refused quiet more all (errors.LockFailure (lock.IoError fault) t) h y f q = (h.0, (h.1.0, f h.1.1), h.2)
-opening_cause tells schema reads text busy busy2 refused quiet more all (errors.LockFailure lock.Memory t) h y f q = absurd h.1
-opening_cause tells schema reads text busy busy2 refused quiet more all errors.Memory h y f q = q h
-opening_cause tells schema reads text busy busy2 refused quiet more all other h y f q = absurd h
+  -- the end's
+  pub end_cause : {some refused quiet : Type 0} (error : TantivyError) → EndCause some refused quiet error → (refused → c.refused) → (quiet → c.quiet) → (some → c.too_many) → RunCause c error
+  end_cause (errors.IoError fault) h f q k = (h.0, f h.1)
+  end_cause errors.Exhausted h f q k = (q h.0, k h.1)
+  end_cause errors.Memory h f q k = q h
+  end_cause other h f q k = absurd h
 
 -- a run's, as a replay's
-pub run_cause : (tells : Type 0) (schema : List ℕ) (reads : Reads) (text : Option (List ℕ)) (busy busy2 refused quiet more all : Type 0) (bad : OpenReadError → Type 0) (absent : List ℕ → Type 0) (error : TantivyError) → RunCause busy (LineRefusal text) (IsTooMany text) refused quiet bad absent error
-    → is_schema schema ≡ true → (tells → HasNoIndex reads) → (busy → busy2) → (refused → more) → (quiet → all) → ((error : OpenReadError) → bad error → IsBadFile tells schema reads text error) → ((path : List ℕ) → absent path → NeverOpens tells schema reads) → ReplayCause tells schema reads text busy2 more all error
-run_cause tells schema reads text busy busy2 refused quiet more all bad absent (errors.InvalidArgument t) h is none y f q b a = (q h.0, inr (is, none, h.1))
-run_cause tells schema reads text busy busy2 refused quiet more all bad absent (errors.IoError fault) h is none y f q b a = (is, h.0, f h.1)
-run_cause tells schema reads text busy busy2 refused quiet more all bad absent (errors.OpenWriteError error) h is none y f q b a = (is, none, write_fault error f h)
-run_cause tells schema reads text busy busy2 refused quiet more all bad absent (errors.OpenReadError error) h is none y f q b a = (is, none, read_fault error f q b a h)
-run_cause tells schema reads text busy busy2 refused quiet more all bad absent (errors.LockFailure lock.LockBusy t) h is none y f q b a = (is, y h.0, h.1)
-run_cause tells schema reads text busy busy2 refused quiet more all bad absent (errors.LockFailure (lock.IoError fault) t) h is none y f q b a = (is, (h.0.0, f h.0.1), h.1)
-run_cause tells schema reads text busy busy2 refused quiet more all bad absent (errors.LockFailure lock.Memory t) h is none y f q b a = absurd h.0
-run_cause tells schema reads text busy busy2 refused quiet more all bad absent errors.Exhausted h is none y f q b a = (q h.0, is, none, h.1)
-run_cause tells schema reads text busy busy2 refused quiet more all bad absent errors.Memory h is none y f q b a = q h
-run_cause tells schema reads text busy busy2 refused quiet more all bad absent other h is none y f q b a = absurd h
+pub run_cause : {O W C : Type 0} (g : Ghosts O W C) (old new : StoreState O) (script script_now : SourceView) (tells : Type 0) (schema : List ℕ) (reads : Reads) (busy more all : Type 0) (error : TantivyError) → StopsRun g old new script script_now error
+    → is_schema schema ≡ true → (tells → HasNoIndex reads) → ((run_causes g old new script script_now).busy → busy) → ((run_causes g old new script script_now).refused → more) → ((run_causes g old new script script_now).quiet → all)
+    → ((error : OpenReadError) → (run_causes g old new script script_now).bad error → IsBadFile tells schema reads script.left error) → ((path : List ℕ) → (run_causes g old new script script_now).absent path → NeverOpens tells schema reads) → ReplayCause tells schema reads script.left busy more all error
+run_cause g old new script script_now tells schema reads busy more all (errors.InvalidArgument t) h is none y f q b a = (q h.0, inr (is, none, h.1))
+run_cause g old new script script_now tells schema reads busy more all (errors.IoError fault) h is none y f q b a = (is, h.0, f h.1)
+run_cause g old new script script_now tells schema reads busy more all (errors.OpenWriteError error) h is none y f q b a = (is, none, write_fault error f h)
+run_cause g old new script script_now tells schema reads busy more all (errors.OpenReadError error) h is none y f q b a = (is, none, read_fault error f q b a h)
+run_cause g old new script script_now tells schema reads busy more all (errors.LockFailure lock.LockBusy t) h is none y f q b a = (is, y h.0, h.1)
+run_cause g old new script script_now tells schema reads busy more all (errors.LockFailure (lock.IoError fault) t) h is none y f q b a = (is, (h.0.0, f h.0.1), h.1)
+run_cause g old new script script_now tells schema reads busy more all (errors.LockFailure lock.Memory t) h is none y f q b a = absurd h.0
+run_cause g old new script script_now tells schema reads busy more all errors.Exhausted h is none y f q b a = (q h.0, is, none, h.1)
+run_cause g old new script script_now tells schema reads busy more all errors.Memory h is none y f q b a = q h
+run_cause g old new script script_now tells schema reads busy more all other h is none y f q b a = absurd h
 
 -- a count that rose from a later place rose from an earlier one, where it was the same
 pub rose_from : (old now new : ℕ) → now ≡ old → Rose now new → Rose old new
@@ -327,10 +287,8 @@ either_rose old now new more is (inr other) = inr other
 -- ---- the state and the directory
 
 file_reads : (file : Option FileState) (read written : Option (List ℕ)) → FileHolds file read written → FileReads file read
-file_reads None read written h = h.0
-file_reads (Some (Sealed bytes)) read written h = h.0
-file_reads (Some (Open body)) read written h = h.0
 file_reads (Some Left) read written h = h.0
+file_reads other read written h = h.0
 
 directory_holds : (schema : List ℕ) (reads : Reads) (kept : Kept) (s : State) → kept.schema ≡ schema → Holds reads kept s → DirectoryHolds default_settings schema reads s
 directory_holds schema reads kept s is h = record {
@@ -432,16 +390,9 @@ sealed_reads : (read : Option (List ℕ)) (bytes : List ℕ) → option_map Seal
 sealed_reads None bytes e = absurd cc
 sealed_reads (Some other) bytes e = cc
 
-sealed_stands : (file : Option FileState) (read written : Option (List ℕ)) (bytes : List ℕ) → file ≡ Some (Sealed bytes) → FileHolds file read written → read ≡ Some bytes
-sealed_stands file read written bytes e h = (subst (λ (f : Option FileState). FileHolds f read written) e h).0
-
-pub begins : (script : List ℕ) (left : Option (List ℕ)) (events : List Event) → ReadSoFar script left events → BeginsWith script events
-begins script left events r = record { texts = r.texts; rest = r.rest; each = r.each; split = r.split }
-
 -- an event met the file after these turns, which stood so at the start of the run
 pub bad_since : (tells : Type 0) (old_reads now_reads : Reads) (old_kept now_kept : Kept) (text left later : Option (List ℕ)) (turns : List Turn) (event : Event)
-    → ((whole : List ℕ) → text ≡ Some whole → ReadSoFar whole left (events_of turns))
-    → TakesNextEvent left (Some event) later
+    → HasRead text left turns → TakesNextEvent left (Some event) later
     → (tells → (s : State) → Holds old_reads old_kept s → IsWhole s → Holds now_reads now_kept (after s turns))
     → (tells → (s : State) → Holds old_reads old_kept s → IsWhole s → AllReadGood s turns)
     → (error : OpenReadError) → BadIn tells now_reads now_kept event error → BadSince tells old_reads old_kept text error
@@ -454,15 +405,12 @@ bad_since tells old_reads now_reads old_kept now_kept text left later turns even
       turns = turns;
       readable = readable t s h w;
       event = event;
-      lines = λ whole told.
-          let r = read whole told in
-          begins whole later (events_of turns ++ event ∷ []) (one_more_read whole left later (events_of turns) r event (takes r.rest r.left_is));
+      lines = begins_next text left later turns event read takes;
       reading = b.0;
       path = path;
       required = b.1.required;
       bytes = b.1.bytes;
       sealed = sealed;
-      stood = sealed_stands (file_at s path) (old_reads path) _ b.1.bytes sealed (h.files path named);
       undotted = named.0;
       why = b.1.why;
       no_body = b.1.no_body;
@@ -479,21 +427,7 @@ pub bad_at_start : (tells : Type 0) (schema : List ℕ) (old_reads mid_reads : R
     → (error : OpenReadError) → BadSince tells mid_reads mid_kept text error → IsBadFile tells schema old_reads text error
 bad_at_start tells schema old_reads mid_reads mid_kept text none opened error bad t s o =
     let b = bad t s (opened t s o) (opens_whole schema old_reads s (none t) o) in
-    record {
-      turns = b.turns;
-      readable = b.readable;
-      event = b.event;
-      lines = b.lines;
-      reading = b.reading;
-      path = b.path;
-      required = b.required;
-      bytes = b.bytes;
-      sealed = b.sealed;
-      stood = sealed_reads (old_reads b.path) b.bytes (sym (o.files b.path (o.names b.path (ap is_some b.sealed))) ∙ b.sealed);
-      undotted = b.undotted;
-      why = b.why;
-      no_body = b.no_body;
-    }
+    record { file = b; stood = sealed_reads (old_reads b.path) b.bytes (sym (o.files b.path (o.names b.path (ap is_some b.sealed))) ∙ b.sealed) }
 
 pub never_at_start : (tells : Type 0) (schema : List ℕ) (old_reads mid_reads : Reads) (mid_kept : Kept) → (tells → HasNoIndex old_reads)
     → (tells → (s : State) → OpensTo default_settings schema old_reads s → Holds mid_reads mid_kept s)

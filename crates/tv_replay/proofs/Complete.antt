@@ -1,6 +1,6 @@
 -- A replay that is ready stops only for want of memory, or where a device refused a call.
-use Rattle.std.proofs.Common.{◌≡◌, ◌≢◌, ◌⊎◌, inl, inr, ℕ, ◌+◌, ◌≤◌, Bool, cond, true, false, true≢false, List, [], ◌∷◌, ◌++◌, length, length-append, Option, Some, None, Result, Ok, Err, refl, sym, ap, subst, ◌∙◌, arith}
-use Rattle.std.specs.Prelude.{IsSome, is_some, IfErr, string_bytes}
+use Rattle.std.proofs.Common.{◌≡◌, ◌≢◌, ◌⊎◌, inl, inr, ℕ, ◌+◌, ◌≤◌, Bool, cond, true, false, true≢false, List, [], ◌∷◌, ◌++◌, length, length-append, Option, Some, None, refl, sym, ap, subst, ◌∙◌, arith}
+use Rattle.std.specs.Prelude.{IsSome, is_some, string_bytes}
 use Rattle.std.specs.List.{onto_first}
 use Rattle.tv_base.specs.declared.open_errors.OpenReadError.{OpenReadError}
 use Rattle.tv_base.specs.declared.open_errors.OpenReadError.TheVariants as read
@@ -12,62 +12,54 @@ use Rattle.tv_base.specs.declared.error.TantivyError.TheVariants as errors
 use Rattle.tv_model.specs.declared.event.Event.{Event}
 use Rattle.tv_model.specs.Names.{has, list_name}
 use Rattle.tv_model.specs.Files.{Reads}
-use Rattle.tv_model.specs.Listing.{Lists}
 use Rattle.tv_model.specs.Commits.{is_schema}
 use Rattle.tv_model.specs.Index.{IsSound, HasNoIndex, first_state}
 use Rattle.tv_model.specs.Script.{line_limit, lines_of, IsLine, AreLines}
 use Rattle.tv_replay.specs.ScriptLines.{IsNoEvent, IsTooLong}
 use Rattle.tv_store.specs.StoreCauses.{WriteFault, HasIndex, OpeningRefusal}
 use Rattle.tv_store.specs.ReadCauses.{ReadFault}
-use Rattle.tv_replay.specs.Replays.{ReplayCause, StopsAt, LineRefusal, IsBadFile, NeverOpens}
+use Rattle.tv_replay.specs.Replays.{ReplayCause, StopsAtLine, LineRefusal, IsBadFile, NeverOpens}
 use Rattle.tv_replay.specs.Completeness.{IsScript, IsReady}
 use Rattle.tv_replay.proofs.Progress.{AreLines-length}
 use Rattle.tv_replay.proofs.AppliedEvents.{opens_first, no_names}
 
 -- the event whose line stands after some others
 event_there : (texts : List (List ℕ)) (text : List ℕ) (more : List (List ℕ)) (events : List Event) → AreLines (texts ++ text ∷ more) events → (event : Event) × IsLine text event
-event_there [] text more [] h = absurd h
 event_there [] text more (event ∷ events) h = (event, h.0)
-event_there (t ∷ texts) text more [] h = absurd h
 event_there (t ∷ texts) text more (event ∷ events) h = event_there texts text more events h.1
+event_there [] text more [] h = absurd h
+event_there (t ∷ texts) text more [] h = absurd h
 
 -- so it is at the line where a replay stopped
-event_at : (whole : List ℕ) (number : ℕ) (rest text : List ℕ) (more : List (List ℕ)) → IsScript whole → StopsAt whole number rest → lines_of rest ≡ text ∷ more → (event : Event) × IsLine text event
+event_at : (whole : List ℕ) (number : ℕ) (rest text : List ℕ) (more : List (List ℕ)) → IsScript whole → StopsAtLine whole number rest → lines_of rest ≡ text ∷ more → (event : Event) × IsLine text event
 event_at whole number rest text more valid stops first =
     let split : lines_of whole ≡ stops.texts ++ text ∷ more = stops.split ∙ ap (λ (ls : List (List ℕ)). stops.texts ++ ls) first in
     event_there stops.texts text more valid.0 (subst (λ (ls : List (List ℕ)). AreLines ls valid.0) split valid.1)
 
-no_bad_line : (whole : List ℕ) (number : ℕ) (rest : List ℕ) → IsScript whole → StopsAt whole number rest → IsNoEvent rest → ⊥
+no_bad_line : (whole : List ℕ) (number : ℕ) (rest : List ℕ) → IsScript whole → StopsAtLine whole number rest → IsNoEvent rest → ⊥
 no_bad_line whole number rest valid stops bad =
     let there = event_at whole number rest bad.0 bad.1 valid stops bad.2 in
     bad.4 there.0 there.1
 
-no_long_line : (whole : List ℕ) (number : ℕ) (rest : List ℕ) → IsScript whole → StopsAt whole number rest → IsTooLong rest → ⊥
+no_long_line : (whole : List ℕ) (number : ℕ) (rest : List ℕ) → IsScript whole → StopsAtLine whole number rest → IsTooLong rest → ⊥
 no_long_line whole number rest valid stops long =
     let there = event_at whole number rest long.0 long.1 valid stops long.2 in
     let short : length long.0 ≤ line_limit = there.1.short in
     omega (arith, long.3)
 
-onto_some : (b : ℕ) (lines : List (List ℕ)) → 1 ≤ length (onto_first b lines)
-onto_some b [] = omega arith
-onto_some b (line ∷ lines) = omega arith
-
 either_line : (c : Bool) (b : ℕ) (lines : List (List ℕ)) → 1 ≤ length (cond c ([] ∷ lines) (onto_first b lines))
-either_line true b lines = omega arith
-either_line false b lines = onto_some b lines
+either_line false b [] = omega arith
+either_line c b lines = omega arith
 
 some_line : (rest : List ℕ) → rest ≢ [] → 1 ≤ length (lines_of rest)
 some_line [] some = absurd (some refl)
 some_line (b ∷ rest) some = either_line _ b (lines_of rest)
 
-no_more_lines : (whole rest : List ℕ) → IsScript whole → StopsAt whole 4294967296 rest → rest ≢ [] → ⊥
+no_more_lines : (whole rest : List ℕ) → IsScript whole → StopsAtLine whole 4294967296 rest → rest ≢ [] → ⊥
 no_more_lines whole rest valid stops some =
     let all : length (lines_of whole) ≡ length stops.texts + length (lines_of rest) = ap length stops.split ∙ length-append stops.texts (lines_of rest) in
     let events : length (lines_of whole) ≡ length valid.0 = AreLines-length (lines_of whole) valid.0 valid.1 in
     omega (arith, stops.place, some_line rest some, valid.2)
-
-unread_listed : (reads : Reads) (names : List (List ℕ)) → Lists (reads list_name) names → reads list_name ≡ None → names ≡ []
-unread_listed reads names lists none = no_names (reads list_name) names lists none
 
 isnt_absent : {X : Type 0} (o : Option X) → o ≡ None → IsSome o → ⊥
 isnt_absent None e h = true≢false (sym h)
@@ -95,8 +87,8 @@ no_refusal tells schema script reads text t ready (inr h) = no_line_refusal sche
 no_bad_file : (tells : Type 0) (schema : List ℕ) (reads : Reads) (script : Option (List ℕ)) (error : OpenReadError) → tells → IsSound schema reads → HasNoIndex reads → IsBadFile tells schema reads script error → ⊥
 no_bad_file tells schema reads script error t sound none bad =
     let b = bad t first_state (opens_first schema reads none sound) in
-    let listed : has sound.names b.path ≡ true = sound.listed b.path b.undotted (ap is_some b.stood) in
-    true≢false (sym listed ∙ ap (λ (ns : List (List ℕ)). has ns b.path) (unread_listed reads sound.names sound.listing none.listing))
+    let listed : has sound.names b.file.path ≡ true = sound.listed b.file.path b.file.undotted (ap is_some b.stood) in
+    true≢false (sym listed ∙ ap (λ (ns : List (List ℕ)). has ns b.file.path) (no_names (reads list_name) sound.names sound.listing none.listing))
 
 no_read_fault : (tells refused quiet : Type 0) (schema : List ℕ) (reads : Reads) (script : Option (List ℕ)) (error : OpenReadError) → tells → IsSound schema reads → HasNoIndex reads → (refused → ⊥)
     → ReadFault refused quiet (IsBadFile tells schema reads script) (λ path. NeverOpens tells schema reads) error → ⊥
@@ -108,11 +100,9 @@ no_read_fault tells refused quiet schema reads script other t sound none f h = h
 
 no_write_fault : (refused : Type 0) (error : OpenWriteError) → (refused → ⊥) → WriteFault refused error → ⊥
 no_write_fault refused (write.IoError fault path) f h = f h.1
-no_write_fault refused (write.FileAlreadyExists path) f h = h
-no_write_fault refused (write.Leaving path) f h = h
-no_write_fault refused write.Memory f h = h
+no_write_fault refused other f h = h
 
-only_memory : (tells : Type 0) (schema : List ℕ) (reads : Reads) (script : Option (List ℕ)) (busy refused quiet : Type 0) (error : TantivyError) → tells → IsReady schema script reads → (busy → ⊥) → (refused → ⊥)
+pub only_memory : (tells : Type 0) (schema : List ℕ) (reads : Reads) (script : Option (List ℕ)) (busy refused quiet : Type 0) (error : TantivyError) → tells → IsReady schema script reads → (busy → ⊥) → (refused → ⊥)
     → ReplayCause tells schema reads script busy refused quiet error → error ≡ errors.Memory
 only_memory tells schema reads script busy refused quiet (errors.InvalidArgument text) t ready y f h = absurd (no_refusal tells schema script reads (string_bytes text) t ready h.1)
 only_memory tells schema reads script busy refused quiet (errors.IoError fault) t ready y f h = absurd (f h.2)
@@ -126,8 +116,3 @@ only_memory tells schema reads script busy refused quiet errors.Exhausted t read
     absurd (no_more_lines ready.text stop.0 ready.valid stop.1 stop.2)
 only_memory tells schema reads script busy refused quiet errors.Memory t ready y f h = refl
 only_memory tells schema reads script busy refused quiet other t ready y f h = absurd h
-
-pub comes_to_its_end : {A : Type 0} (tells : Type 0) (schema : List ℕ) (reads : Reads) (script : Option (List ℕ)) (busy refused quiet : Type 0) (outcome : Result A TantivyError) → tells → IsReady schema script reads → (busy → ⊥) → (refused → ⊥)
-    → IfErr outcome (ReplayCause tells schema reads script busy refused quiet) → IfErr outcome (λ error. error ≡ errors.Memory)
-comes_to_its_end tells schema reads script busy refused quiet (Ok tally) t ready y f h = h
-comes_to_its_end tells schema reads script busy refused quiet (Err error) t ready y f h = only_memory tells schema reads script busy refused quiet error t ready y f h

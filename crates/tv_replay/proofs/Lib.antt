@@ -1,17 +1,11 @@
 pub mod Numbers
-pub mod Spelling
-pub mod WordLaws
-pub mod SegmentLines
-pub mod ReaderLines
 pub mod Laws
 pub mod Feeds
 pub mod LineLemmas
-pub mod Limits
 pub mod Progress
 pub mod Benches
 pub mod AppliedEvents
 pub mod Stopping
 pub mod Runs
 pub mod Complete
-pub mod StoreLocks
 pub mod ReplayFrames

@@ -1,11 +1,12 @@
 -- The lines of a script that comes in pieces.
-use Rattle.std.proofs.Common.{◌≡◌, ℕ, suc, ◌≤◌, ◌<◌, ◌==◌, Bool, true, false, not, ◌&&◌, List, [], ◌∷◌, ◌++◌, length, Option, Some, None, refl, sym, ap, ◌∙◌, arith, append_assoc}
+use Rattle.std.proofs.Common.{◌≡◌, ℕ, suc, ◌≤◌, ◌<◌, ◌==◌, Bool, true, false, not, List, [], ◌∷◌, ◌++◌, length, Option, Some, None, refl, sym, ap, ◌∙◌, arith, append_assoc}
 use Rattle.std.specs.List.{onto_first}
 use Rattle.std.proofs.lemmas.List.{append-nil}
 use Rattle.tv_base.specs.Streams.{Keeps}
 use Rattle.tv_model.specs.Lines.{has_no_feed}
 use Rattle.tv_model.specs.Script.{line_limit, lines_of}
-use Rattle.tv_replay.specs.ScriptLines.{NoFeed, pending, Moves, Takes, IsTooLong, Begins}
+use Rattle.tv_replay.proofs.Numbers.{isnt, both}
+use Rattle.tv_replay.specs.ScriptLines.{NoFeed, pending, Moves, TakesLine, IsTooLong, BeginsLine}
 
 some_is : {A : Type 0} {x y : A} → ◌≡◌ {A = Option A} (Some x) (Some y) → x ≡ y
 some_is e = cc
@@ -20,14 +21,6 @@ pub pending_is : (held rest : List ℕ) (left : Option (List ℕ)) → left ≡ 
 pending_is held rest left e = rw e refl
 
 -- ---- line feeds
-
-isnt : (b : Bool) → not b ≡ true → b ≡ false
-isnt true e = absurd cc
-isnt false e = refl
-
-both : (a b : Bool) → (a && b) ≡ true → (a ≡ true) × (b ≡ true)
-both true b e = (refl, e)
-both false b e = absurd cc
 
 NoFeed-append : (xs ys : List ℕ) → NoFeed xs → NoFeed ys → NoFeed (xs ++ ys)
 NoFeed-append [] ys h k = k
@@ -65,7 +58,7 @@ lines_of-begins b (c ∷ line) rest h =
 
 -- ---- steps of the loop
 
-pub begins_after : (script held after line more : List ℕ) (left : Option (List ℕ)) → Begins script line (pending held left) → Moves false held after line more → Begins script more (pending after left)
+pub begins_after : (script held after line more : List ℕ) (left : Option (List ℕ)) → BeginsLine script line (pending held left) → Moves false held after line more → BeginsLine script more (pending after left)
 begins_after script held after line more left b m =
     let p = pending_some held b.0 left b.1 in (
       p.0,
@@ -77,7 +70,7 @@ begins_after script held after line more left b m =
 regrouped : (line front after rest : List ℕ) → line ++ ((front ++ 10 ∷ after) ++ rest) ≡ (line ++ front) ++ 10 ∷ (after ++ rest)
 regrouped line front after rest = simp append_assoc
 
-pub takes_line : (script held after line more : List ℕ) (left : Option (List ℕ)) → Begins script line (pending held left) → Moves true held after line more → Takes script (Some more) (pending after left)
+pub takes_line : (script held after line more : List ℕ) (left : Option (List ℕ)) → BeginsLine script line (pending held left) → Moves true held after line more → TakesLine script (Some more) (pending after left)
 takes_line script held after line more left b m =
     let p = pending_some held b.0 left b.1 in
     let whole : script ≡ more ++ 10 ∷ (after ++ p.0) =
@@ -93,7 +86,7 @@ long script (b ∷ more) rest e clean lt =
     let f = lines_of-begins b more rest clean in
     (f.0, f.1, ap lines_of e ∙ f.2, omega (arith, f.3))
 
-pub too_long : (found : Bool) (script held after line more : List ℕ) (left : Option (List ℕ)) → Begins script line (pending held left) → Moves found held after line more → line_limit < length more → IsTooLong script
+pub too_long : (found : Bool) (script held after line more : List ℕ) (left : Option (List ℕ)) → BeginsLine script line (pending held left) → Moves found held after line more → line_limit < length more → IsTooLong script
 too_long true script held after line more left b m lt =
     let t = takes_line script held after line more left b m in
     (more, lines_of t.0, t.2, lt)
@@ -102,11 +95,11 @@ too_long false script held after line more left b m lt =
     long script more t.0 t.2 t.3 lt
 
 -- the whole rest of a script was its last line
-pub takes_last : (script line : List ℕ) (left : Option (List ℕ)) (b : Begins script line left) → b.0 ≡ [] → (shown : List ℕ) → shown ≡ line → false ≡ (length shown == 0) → Takes script (Some line) left
+pub takes_last : (script line : List ℕ) (left : Option (List ℕ)) (b : BeginsLine script line left) → b.0 ≡ [] → (shown : List ℕ) → shown ≡ line → false ≡ (length shown == 0) → TakesLine script (Some line) left
 takes_last script [] left b none shown is some = absurd (let e : false ≡ true = rw is at some in cc)
 takes_last script (x ∷ line) left b none shown is some =
     ([], b.1 ∙ ap (λ (xs : List ℕ). Some xs) none, ap lines_of (b.2 ∙ ap (λ (xs : List ℕ). (x ∷ line) ++ xs) none ∙ append-nil (x ∷ line)) ∙ lines_of-last x line b.3)
 
 -- the bytes that are left stay as they are
-abbrev pub still_begins : (script line : List ℕ) (before after : Option (List ℕ)) → Begins script line before → Keeps before after → Begins script line after
+abbrev pub still_begins : (script line : List ℕ) (before after : Option (List ℕ)) → BeginsLine script line before → Keeps before after → BeginsLine script line after
 still_begins script line before after b keeps = (b.0, keeps b.0 b.1, b.2, b.3)

@@ -6,7 +6,8 @@ use Rattle.tv_model.specs.State.{State}
 use Rattle.tv_model.specs.Machine.{Turn, step, answers, after, events_of, refused_in, all_refused}
 use Rattle.tv_model.specs.Readable.{ReadsGood, AllReadGood}
 use Rattle.tv_model.specs.Script.{lines_of, IsLine, AreLines}
-use Rattle.tv_replay.specs.ScriptLines.{pending, TakesEvent}
+use Rattle.tv_replay.specs.ScriptLines.{pending, TakesEvent, TakesNextEvent}
+use Rattle.tv_replay.specs.Replays.{BeginsWith}
 use Rattle.tv_replay.proofs.LineLemmas.{pending_is}
 
 -- ---- one more event at the end
@@ -33,47 +34,50 @@ refused-last (first ∷ turns) t = omega (arith, refused-last turns t)
 pub AreLines-last : (texts : List (List ℕ)) (events : List Event) (text : List ℕ) (e : Event) → AreLines texts events → IsLine text e → AreLines (texts ++ text ∷ []) (events ++ e ∷ [])
 AreLines-last [] [] text e h l = (l, tt)
 AreLines-last (t ∷ texts) (f ∷ events) text e h l = (h.0, AreLines-last texts events text e h.1 l)
-AreLines-last [] (f ∷ events) text e h l = absurd h
-AreLines-last (t ∷ texts) [] text e h l = absurd h
+AreLines-last texts events text e h l = absurd h
 
 pub AreLines-length : (texts : List (List ℕ)) (events : List Event) → AreLines texts events → length texts ≡ length events
 AreLines-length [] [] h = refl
 AreLines-length (t ∷ texts) (f ∷ events) h = ap suc (AreLines-length texts events h.1)
-AreLines-length [] (f ∷ events) h = absurd h
-AreLines-length (t ∷ texts) [] h = absurd h
+AreLines-length texts events h = absurd h
 
 -- ---- the lines that were read
 
 -- the first lines of a script are these events' lines, and this is left after them
 pub record ReadSoFar (script : List ℕ) (left : Option (List ℕ)) (events : List Event) : Type 0 where
-  pub texts : List (List ℕ)
-  pub rest : List ℕ
-  pub left_is : left ≡ Some rest
-  pub split : lines_of script ≡ texts ++ lines_of rest
-  pub each : AreLines texts events
+  pub begun : BeginsWith script events
+  pub left_is : left ≡ Some begun.rest
+
+-- the same of the events of some turns, where the script is told
+abbrev pub HasRead : (script left : Option (List ℕ)) (turns : List Turn) → Type 0
+HasRead script left turns = (whole : List ℕ) → script ≡ Some whole → ReadSoFar whole left (events_of turns)
 
 pub nothing_read : (script held : List ℕ) (left : Option (List ℕ)) → held ≡ [] → left ≡ Some script → ReadSoFar script (pending held left) []
 nothing_read script held left none is =
+    record { begun = record { texts = []; rest = script; each = tt; split = refl }; left_is = pending_is held script left is ∙ ap (λ (xs : List ℕ). Some (xs ++ script)) none }
+
+pub one_more_read : (script : List ℕ) (left later : Option (List ℕ)) (events : List Event) (r : ReadSoFar script left events) (e : Event) → TakesEvent r.begun.rest (Some e) later → ReadSoFar script later (events ++ e ∷ [])
+one_more_read script left later events r e t =
+    let b = r.begun in
     record {
-      texts = [];
-      rest = script;
-      left_is = pending_is held script left is ∙ ap (λ (xs : List ℕ). Some (xs ++ script)) none;
-      split = refl;
-      each = tt;
+      begun = record {
+        texts = b.texts ++ t.0 ∷ [];
+        rest = t.1;
+        each = AreLines-last b.texts events t.0 e b.each t.4;
+        split = b.split ∙ ap (λ (ls : List (List ℕ)). b.texts ++ ls) t.3 ∙ sym (append_assoc b.texts (t.0 ∷ []) (lines_of t.1));
+      };
+      left_is = t.2;
     }
 
-pub one_more_read : (script : List ℕ) (left later : Option (List ℕ)) (events : List Event) (r : ReadSoFar script left events) (e : Event) → TakesEvent r.rest (Some e) later → ReadSoFar script later (events ++ e ∷ [])
-one_more_read script left later events r e t =
-    record {
-      texts = r.texts ++ t.0 ∷ [];
-      rest = t.1;
-      left_is = t.2;
-      split = r.split ∙ ap (λ (ls : List (List ℕ)). r.texts ++ ls) t.3 ∙ sym (append_assoc r.texts (t.0 ∷ []) (lines_of t.1));
-      each = AreLines-last r.texts events t.0 e r.each t.4;
-    }
+-- so the script begins with the line of the event that comes next
+pub begins_next : (script left later : Option (List ℕ)) (turns : List Turn) (event : Event) → HasRead script left turns → TakesNextEvent left (Some event) later
+    → (whole : List ℕ) → script ≡ Some whole → BeginsWith whole (events_of turns ++ event ∷ [])
+begins_next script left later turns event read takes whole told =
+    let r = read whole told in
+    (one_more_read whole left later (events_of turns) r event (takes r.begun.rest r.left_is)).begun
 
 -- where nothing is left, the lines are all lines
-pub all_read : (script : List ℕ) (left : Option (List ℕ)) (events : List Event) (r : ReadSoFar script left events) → r.rest ≡ [] → AreLines (lines_of script) events
-all_read script left events r none =
-    let whole : r.texts ≡ lines_of script = sym (r.split ∙ ap (λ (xs : List ℕ). r.texts ++ lines_of xs) none ∙ append-nil r.texts) in
-    subst (λ (ls : List (List ℕ)). AreLines ls events) whole r.each
+pub all_read : (script : List ℕ) (events : List Event) (b : BeginsWith script events) → b.rest ≡ [] → AreLines (lines_of script) events
+all_read script events b none =
+    let whole : b.texts ≡ lines_of script = sym (b.split ∙ ap (λ (xs : List ℕ). b.texts ++ lines_of xs) none ∙ append-nil b.texts) in
+    subst (λ (ls : List (List ℕ)). AreLines ls events) whole b.each

@@ -1,6 +1,6 @@
 -- What a run tells or says: no line feed stands in the lines of errors, and what each refusal leads to.
-use Rattle.std.proofs.Common.{◌≡◌, ◌⊎◌, inl, inr, ℕ, zero, suc, ◌+◌, ◌<◌, ◌/◌, ◌%◌, ◌==◌, Bool, true, false, not, nat_lt, if◌then◌else◌, ◌≤◌, List, [], ◌∷◌, ◌++◌, length, get_or, codes, refl, sym, ap, subst, ◌∙◌, arith, string_bytes, Result, Ok, Err}
-use Rattle.std.specs.Prelude.{nat_eq, map, Option, Some, None, IsSome}
+use Rattle.std.proofs.Common.{◌≡◌, ◌≢◌, ◌⊎◌, inl, inr, ℕ, zero, suc, ◌+◌, ◌<◌, ◌/◌, ◌%◌, ◌==◌, Bool, true, false, not, nat_lt, if◌then◌else◌, ◌≤◌, List, [], ◌∷◌, ◌++◌, length, get_or, codes, refl, sym, ap, subst, ◌∙◌, arith, string_bytes, Result, Ok, Err}
+use Rattle.std.specs.Prelude.{nat_eq, map, Option, Some, IsSome}
 use Rattle.std.specs.Cmp.Lexicographic.{pointwise, same_text}
 use Rattle.std.specs.List.{starts_with}
 use Rattle.std.specs.Fmt.{decimal, digits, digits_onto, digit_glyph}
@@ -29,8 +29,8 @@ use Rattle.tv_base.specs.declared.error.TantivyError.TheVariants as errors
 use Rattle.tv_replay.specs.ErrorLines.{argument_line, fault_line, format_line, lock_line, read_line, error_line}
 use Rattle.tv_store.specs.ReadCauses.{ReadFault}
 use Rattle.tv_replay.specs.PlaceView.{PlaceTold, PlaceView, KeepsTexts, KeepsFolders, PlaceKept, LendCause, Says, SayFaults}
-use Rattle.tv_replay.specs.Replays.{ReplayCause, LineRefusal, IsBadFile, NeverOpens, line_refusal, long_refusal}
-use Rattle.tv_replay.specs.Runs.{schema_line, folder_line, replay_words, SaysLine, OnlySays, Refuses, Reports}
+use Rattle.tv_replay.specs.Replays.{ReplayCause, LineRefusal, IsBadFile, NeverOpens}
+use Rattle.tv_replay.specs.Runs.{schema_line, folder_line, replay_words, SaysLine, OnlySays, SaysError, PlaceRefuses, AskedReplay, Reports, ReportsError, Stops, EndsReplay}
 use Rattle.tv_store.specs.StoreCauses.{OpeningRefusal}
 
 -- a digit is no line feed
@@ -54,11 +54,8 @@ decimal_no_feed : (n : ℕ) → has_no_feed (decimal n) ≡ true
 unfolding digits
 decimal_no_feed n = digits_no_feed 64 n [] refl
 
-refusal_no_feed : (number : ℕ) → has_no_feed (line_refusal number) ≡ true
-refusal_no_feed number = no_feed_append (codes "line " ++ decimal number) (codes " is not of the event grammar") (no_feed_append (codes "line ") (decimal number) refl (decimal_no_feed number)) refl
-
-long_no_feed : (number : ℕ) → has_no_feed (long_refusal number) ≡ true
-long_no_feed number = no_feed_append (codes "line " ++ decimal number) (codes " is longer than 1048576 bytes") (no_feed_append (codes "line ") (decimal number) refl (decimal_no_feed number)) refl
+numbered_no_feed : (number : ℕ) (more : List ℕ) → has_no_feed more ≡ true → has_no_feed (codes "line " ++ decimal number ++ more) ≡ true
+numbered_no_feed number more h = no_feed_append (codes "line " ++ decimal number) more (no_feed_append (codes "line ") (decimal number) refl (decimal_no_feed number)) h
 
 argument_no_feed : (text : List ℕ) → has_no_feed text ≡ true → has_no_feed (argument_line text) ≡ true
 argument_no_feed text h = whichever (starts_with nat_eq text (codes "line ")) (codes "error " ++ text) (codes "error argument") (no_feed_append (codes "error ") text refl h) refl
@@ -68,8 +65,8 @@ opening_no_feed tells schema reads text (inl (_, is)) = rw is refl
 opening_no_feed tells schema reads text (inr (_, is, _)) = rw is refl
 
 line_no_feed : (script : Option (List ℕ)) (text : List ℕ) → LineRefusal script text → has_no_feed text ≡ true
-line_no_feed script text (number, inl h) = rw h.0 (refusal_no_feed number)
-line_no_feed script text (number, inr h) = rw h.0 (long_no_feed number)
+line_no_feed script text (number, inl h) = rw h.0 (numbered_no_feed number (codes " is not of the event grammar") refl)
+line_no_feed script text (number, inr h) = rw h.0 (numbered_no_feed number (codes " is longer than 1048576 bytes") refl)
 
 fault_no_feed : (kind : IoKind) (path : List ℕ) → has_no_feed path ≡ true → has_no_feed (fault_line kind path) ≡ true
 fault_no_feed Device path h = refl
@@ -92,8 +89,7 @@ read_no_feed refused quiet bad absent other h = absurd h
 
 lock_no_feed : (why : LockError) → has_no_feed (lock_line why) ≡ true
 lock_no_feed lock.LockBusy = refl
-lock_no_feed (lock.IoError fault) = refl
-lock_no_feed lock.Memory = refl
+lock_no_feed other = refl
 
 -- no line feed stands in the line of an error that a replay answers
 pub error_no_feed : (tells : Type 0) (schema : List ℕ) (reads : Reads) (script : _) (busy refused quiet : Type 0) (error : TantivyError) → ReplayCause tells schema reads script busy refused quiet error → has_no_feed (error_line error) ≡ true
@@ -180,22 +176,38 @@ why_since same (inr (quiet, m)) = inr (quiet ∙ same, m)
 
 -- the place refused a schema or a folder, and then the line of that was said
 pub refuses : {O : Type 0} {told : PlaceTold} {old mid new : PlaceView O} {line whole : List ℕ} (memory : Type 0) → PlaceKept told old mid
-    → Rose old.faults mid.faults ⊎ ((mid.faults ≡ old.faults) × memory) → (memory → ⊥) → line ≡ whole → OnlySays told mid new line → Refuses told old new whole
+    → Rose old.faults mid.faults ⊎ ((mid.faults ≡ old.faults) × memory) → (memory → ⊥) → line ≡ whole → OnlySays told mid new line → PlaceRefuses told old new whole
 refuses {mid = mid} memory kept (inl rose) other is only = record { count = mid.faults; refused = rose; only = says_since kept (says_this is only) }
 refuses memory kept (inr (_, m)) other is only = absurd (other m)
 
 -- memory was wanted for a schema or a folder, or for the line of its refusal
 pub wants : {O X : Type 0} {told : PlaceTold} {old mid new : PlaceView O} {line : List ℕ} (memory : Type 0) → PlaceKept told old mid
-    → Rose old.faults mid.faults ⊎ ((mid.faults ≡ old.faults) × memory) → OnlySays told mid new line → OnlySays told old new line ⊎ (Refuses told old new line ⊎ X)
+    → Rose old.faults mid.faults ⊎ ((mid.faults ≡ old.faults) × memory) → OnlySays told mid new line → OnlySays told old new line ⊎ (PlaceRefuses told old new line ⊎ X)
 wants {mid = mid} memory kept (inl rose) only = inr (inl (record { count = mid.faults; refused = rose; only = says_since kept only }))
 wants memory kept (inr (quiet, _)) only = inl (says_quietly kept quiet only)
 
+not_done : (n : ℕ) → (n ≡ 1) ⊎ (n ≡ 3) → n ≡ 0 → ⊥
+not_done n (inl one) none = omega arith
+not_done n (inr three) none = omega arith
+
+-- a replay that didn't begin, since there is no schema or no folder
+pub not_begun : {O W C : Type 0} {g : Ghosts O W C} {told : PlaceTold} (asked : AskedReplay O) {mid : PlaceView O} {error : TantivyError} {status : ℕ} {line : List ℕ} → PlaceKept told asked.old.place mid
+    → Rose asked.old.place.faults mid.faults ⊎ ((mid.faults ≡ asked.old.place.faults) × (error ≡ errors.Memory)) → (error ≢ errors.Memory → error_line error ≡ line) → SaysError told mid asked.new.place error status
+    → (PlaceRefuses told asked.old.place asked.new.place line → (PlaceRefuses told asked.old.place asked.new.place schema_line) ⊎ (((told.content → IsSome (asked.old.place.schemas asked.path)) × PlaceRefuses told asked.old.place asked.new.place folder_line) ⊎ ((error : TantivyError) × (error ≢ errors.Memory) × Stops g told asked error (error_line error))))
+    → EndsReplay g told asked status
+not_begun asked {error = error} kept why line_is says refused = record {
+  done = λ zero. absurd (not_done _ says.statuses zero);
+  failed = λ one. let said = says.other one in refused (refuses (error ≡ errors.Memory) kept why said.0 (line_is said.0) said.1);
+  memory = λ three. wants (error ≡ errors.Memory) kept why (says.memory three);
+  statuses = inr says.statuses;
+}
+
 -- a report, told of from an earlier moment at which nothing more had been said and refused
-pub reports_since : {O W C : Type 0} {g : Ghosts O W C} {told : PlaceTold} {stopped : O} {folder : List ℕ} {old mid new : PlaceView O} {line : List ℕ}
-    → mid.faults ≡ old.faults → mid.said ≡ old.said → Reports g told stopped folder mid new line → Reports g told stopped folder old new line
-reports_since {told = told} {old = old} {mid = mid} {new = new} {line = line} same silent r = record {
+pub reports_since : {O W C : Type 0} {g : Ghosts O W C} {told : PlaceTold} {stopped : O} {folder : List ℕ} (old : PlaceView O) {mid new : PlaceView O} {line : List ℕ}
+    → mid.faults ≡ old.faults → mid.said ≡ old.said → mid.lent ≡ Some folder → Reports g told stopped mid new line → Reports g told stopped (record old { lent = Some folder }) new line
+reports_since {told = told} old {mid = mid} {new = new} {line = line} same silent lent r = record {
   now = r.now;
-  given_back = r.given_back;
+  given_back = λ tells f is. r.given_back tells f (lent ∙ is);
   frame = r.frame;
   reported = elim r.reported [
     | inl (heard, nothing) ↦ inl (heard, record { said = nothing.said ∙ silent; quiet = nothing.quiet ∙ same })
@@ -207,35 +219,26 @@ reports_since {told = told} {old = old} {mid = mid} {new = new} {line = line} sa
   ];
 }
 
-pub not_done : (n : ℕ) → (n ≡ 1) ⊎ (n ≡ 3) → n ≡ 0 → ⊥
-not_done n (inl one) none = omega arith
-not_done n (inr three) none = omega arith
-
-pub had : {A : Type 0} (there : Option A) (it : A) → there ≡ Some it → IsSome there
-had None it e = absurd cc
-had (Some x) it e = refl
+-- a replay that stopped, and the line of its error was reported
+pub stopped_with : {O W C : Type 0} {g : Ghosts O W C} {told : PlaceTold} (asked : AskedReplay O) {stopped : O} {mid : PlaceView O} {error : TantivyError} {status : ℕ} → ReportsError g told stopped mid asked.new.place error status
+    → ((line : List ℕ) → Reports g told stopped mid asked.new.place line → Stops g told asked error line) → EndsReplay g told asked status
+stopped_with asked {error = error} gave stops = record {
+  done = λ zero. absurd (not_done _ gave.statuses zero);
+  failed = λ one. let said = gave.other one in inr (inr (error, said.0, stops _ said.1));
+  memory = λ three. inr (inr (error, stops _ (gave.memory three)));
+  statuses = inr gave.statuses;
+}
 
 -- three words of which the first is `replay`
 pub are_replay : {A : Type 0} (text : A → List ℕ) (words : List A) (a b c : A) (first folder path : List ℕ) → 3 ≤ length words → length words < 4 → a ≡ get_or words 0 a → b ≡ get_or words 1 b → c ≡ get_or words 2 c
     → first ≡ text a → folder ≡ text b → path ≡ text c → true ≡ pointwise nat_eq first (codes "replay") → map text words ≡ replay_words folder path
-are_replay text [] a b c first folder path more less ia ib ic ta tb tc is = absurd (omega arith)
-are_replay text (x ∷ []) a b c first folder path more less ia ib ic ta tb tc is = absurd (omega arith)
-are_replay text (x ∷ y ∷ []) a b c first folder path more less ia ib ic ta tb tc is = absurd (omega arith)
 are_replay text (x ∷ y ∷ z ∷ []) a b c first folder path more less ia ib ic ta tb tc is =
     let replay : first ≡ codes "replay" = same_text first (codes "replay") is in
     let x_is : text x ≡ codes "replay" = ap text (sym ia) ∙ sym ta ∙ replay in
     let y_is : text y ≡ folder = ap text (sym ib) ∙ sym tb in
     let z_is : text z ≡ path = ap text (sym ic) ∙ sym tc in
     rw (x_is, y_is, z_is) refl
-are_replay text (x ∷ y ∷ z ∷ w ∷ words) a b c first folder path more less ia ib ic ta tb tc is = absurd (omega arith)
-
--- the words name one folder and one path
-pub at_words : (P : List ℕ → List ℕ → Type 0) (words : List (List ℕ)) (folder path : List ℕ) → words ≡ replay_words folder path → P folder path → (other way : List ℕ) → words ≡ replay_words other way → P other way
-at_words P words folder path is h other way are =
-    let same : replay_words folder path ≡ replay_words other way = sym is ∙ are in
-    let folders : folder ≡ other = cc in
-    let paths : path ≡ way = cc in
-    subst (λ (f : List ℕ). P f way) folders (subst (λ (p : List ℕ). P folder p) paths h)
+are_replay text other a b c first folder path more less ia ib ic ta tb tc is = absurd (omega arith)
 
 pub not_two : (n : ℕ) → (n ≡ 0) ⊎ (n ≡ 1) ⊎ (n ≡ 3) → n ≡ 2 → ⊥
 not_two n (inl none) two = omega arith

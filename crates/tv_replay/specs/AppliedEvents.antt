@@ -24,7 +24,7 @@ use Rattle.tv_replay.specs.declared.lines.LineError.TheVariants as line
 use Rattle.tv_replay.specs.declared.next_event.ScriptError.{ScriptError}
 use Rattle.tv_replay.specs.declared.next_event.ScriptError.TheVariants as failed
 use Rattle.tv_replay.specs.declared.replaying.Tally.{Tally}
-use Rattle.tv_replay.specs.Replays.{MeetsBadFile, MeetsLock, LineRefusal, IsTooMany, LeavesRun, IsQuietAt, IsRefusedAt, line_refusal, long_refusal}
+use Rattle.tv_replay.specs.Replays.{MeetsFile, MeetsLock, LineRefusal, IsTooMany, LeavesRun, IsQuietAt, IsRefusedAt, line_refusal, long_refusal}
 
 -- These events were applied: from each state that was held before, the state after them is held now, and their answers were told; those that read a commit's
 -- files could do so; and no more deletes were refused than their count rose.
@@ -45,25 +45,44 @@ pub record Runs {O W C : Type 0} (g : Ghosts O W C) (old new : StoreState O) (te
 
 -- where the content is told, the run from each state from which it began meets a file that is refused with this error
 abbrev pub BadSince : (tells : Type 0) → Reads → Kept → (script : Option (List ℕ)) → OpenReadError → Type 0
-BadSince tells reads kept script error = tells → (s : State) → Holds reads kept s → IsWhole s → MeetsBadFile script reads s error
+BadSince tells reads kept script error = tells → (s : State) → Holds reads kept s → IsWhole s → MeetsFile script s error
 
--- why a run stops: `busy` where a lock isn't given, `refusal` of the text that says which line is no event's, `too_many` where there is a line too many, `bad` where an event meets a file that is refused, `absent` where it isn't there
-abbrev pub RunCause : (busy : Type 0) (refusal : List ℕ → Type 0) → (too_many refused quiet : Type 0) → (bad : OpenReadError → Type 0) (absent : List ℕ → Type 0) → TantivyError → Type 0
-RunCause busy refusal too_many refused quiet bad absent (errors.LockFailure why text) = LockCause busy refused ⊥ why × (text ≡ None)
-RunCause busy refusal too_many refused quiet bad absent (errors.InvalidArgument text) = quiet × refusal (string_bytes text)
-RunCause busy refusal too_many refused quiet bad absent (errors.IoError fault) = IsDevice fault × refused
-RunCause busy refusal too_many refused quiet bad absent (errors.OpenWriteError error) = WriteFault refused error
-RunCause busy refusal too_many refused quiet bad absent (errors.OpenReadError error) = ReadFault refused quiet bad absent error
-RunCause busy refusal too_many refused quiet bad absent errors.Exhausted = quiet × too_many
-RunCause busy refusal too_many refused quiet bad absent errors.Memory = quiet
-RunCause busy refusal too_many refused quiet bad absent other = ⊥
+-- what is true where a run stops: `busy` where a lock isn't given, `refusal` of the text that says which line is no event's, `too_many` where there is a line too many, `refused` where a device refused a call and `quiet` where none did, `bad` where an event meets a file that is refused, `absent` where it isn't there
+pub record Causes : Type 1 where
+  pub busy : Type 0
+  pub refusal : List ℕ → Type 0
+  pub too_many : Type 0
+  pub refused : Type 0
+  pub quiet : Type 0
+  pub bad : OpenReadError → Type 0
+  pub absent : List ℕ → Type 0
+
+-- why a run stops with an error
+abbrev pub RunCause : Causes → TantivyError → Type 0
+RunCause c (errors.LockFailure why text) = LockCause c.busy c.refused ⊥ why × (text ≡ None)
+RunCause c (errors.InvalidArgument text) = c.quiet × c.refusal (string_bytes text)
+RunCause c (errors.IoError fault) = IsDevice fault × c.refused
+RunCause c (errors.OpenWriteError error) = WriteFault c.refused error
+RunCause c (errors.OpenReadError error) = ReadFault c.refused c.quiet c.bad c.absent error
+RunCause c errors.Exhausted = c.quiet × c.too_many
+RunCause c errors.Memory = c.quiet
+RunCause c other = ⊥
+
+-- the causes between these two stores and these two views of the script
+abbrev pub run_causes : {O W C : Type 0} → Ghosts O W C → (old new : StoreState O) → (script script_now : SourceView) → Causes
+run_causes g old new script script_now = record {
+  busy = MeetsLock script.left × IsBusy g.told.locks ((g.view old.outside).locks meta_lock_name ≡ true) (Rose (g.view old.outside).faults (g.view new.outside).faults);
+  refusal = LineRefusal script.left;
+  too_many = IsTooMany script.left;
+  refused = IsRefusedAt (g.view old.outside) (g.view new.outside) script script_now;
+  quiet = IsQuietAt (g.view old.outside) (g.view new.outside) script script_now;
+  bad = BadSince g.told.content (g.view old.outside).reads old.kept script.left;
+  absent = λ path. HoldsNone g.told.content (g.view old.outside).reads old.kept;
+}
 
 -- Why a run stopped, between these two stores and these two views of the script.
 abbrev pub StopsRun : {O W C : Type 0} → Ghosts O W C → (old new : StoreState O) → (script script_now : SourceView) → TantivyError → Type 0
-StopsRun g old new script script_now =
-    RunCause (MeetsLock script.left × IsBusy g.told.locks ((g.view old.outside).locks meta_lock_name ≡ true) (Rose (g.view old.outside).faults (g.view new.outside).faults))
-    (LineRefusal script.left) (IsTooMany script.left) (IsRefusedAt (g.view old.outside) (g.view new.outside) script script_now) (IsQuietAt (g.view old.outside) (g.view new.outside) script script_now)
-    (BadSince g.told.content (g.view old.outside).reads old.kept script.left) (λ path. HoldsNone g.told.content (g.view old.outside).reads old.kept)
+StopsRun g old new script script_now = RunCause (run_causes g old new script script_now)
 
 -- No call but deletes was refused where the whole script was run; and why it wasn't.
 pub record RunFaults {A O W C : Type 0} (g : Ghosts O W C) (old new : StoreState O) (script script_now : SourceView) (result : Result A TantivyError) : Type 0 where
@@ -73,12 +92,18 @@ pub record RunFaults {A O W C : Type 0} (g : Ghosts O W C) (old new : StoreState
 -- what a run leaves that stopped with this error, from each state that was held before
 abbrev pub LeavesStopped : {O W C : Type 0} → Ghosts O W C → (old new : StoreState O) → (script : Option (List ℕ)) → TantivyError → Type 0
 LeavesStopped g old new script error =
-    g.told.content → (s : State) → Holds (g.view old.outside).reads old.kept s → IsWhole s → LeavesRun g.told old.kept.schema script answers s (g.view old.outside) (g.view new.outside) error
+    g.told.content → (s : State) → Holds (g.view old.outside).reads old.kept s → IsWhole s → LeavesRun g.told (record { schema = old.kept.schema; script = script; start = s; lines_of_turns = answers s }) (g.view old.outside) (g.view new.outside) error
 
--- why the end of a script isn't met where as many lines were taken as may be: a line too many stands there, a read was refused, or memory was wanted
-pub record EndFaults {A : Type 0} (ahead : Option (List ℕ)) (old new : SourceView) (result : Result A TantivyError) : Type 0 where
+-- why the end of a script isn't met where as many lines were taken as may be: there is `some` line too many, a read was refused, or memory was wanted
+abbrev pub EndCause : (some refused quiet : Type 0) → TantivyError → Type 0
+EndCause some refused quiet (errors.IoError fault) = IsDevice fault × refused
+EndCause some refused quiet errors.Exhausted = quiet × some
+EndCause some refused quiet errors.Memory = quiet
+EndCause some refused quiet other = ⊥
+
+pub record ScriptEndFaults {A : Type 0} (ahead : Option (List ℕ)) (old new : SourceView) (result : Result A TantivyError) : Type 0 where
   pub quiet : OnOk result (new.faults ≡ old.faults)
-  pub cause : IfErr result (RunCause ⊥ (λ text. ⊥) ((rest : List ℕ) → ahead ≡ Some rest → rest ≢ []) (Rose old.faults new.faults) (new.faults ≡ old.faults) (λ error. ⊥) (λ path. ⊥))
+  pub cause : IfErr result (EndCause ((rest : List ℕ) → ahead ≡ Some rest → rest ≢ []) (Rose old.faults new.faults) (new.faults ≡ old.faults))
 
 -- the error that a line of this number makes, or want of memory for its text
 abbrev pub IsErrorOf : ScriptError → ℕ → TantivyError → Type 0

@@ -66,7 +66,7 @@ abbrev pub IsQuietAt : {W : Type 0} → (old new : View W) → (script script_no
 IsQuietAt old new script script_now = (new.faults ≡ old.faults) × (script_now.faults ≡ script.faults)
 
 -- the lines before a place are events' lines, and this is what is left of the script there
-pub record StopsAt (script : List ℕ) (number : ℕ) (rest : List ℕ) : Type 0 where
+pub record StopsAtLine (script : List ℕ) (number : ℕ) (rest : List ℕ) : Type 0 where
   pub texts : List (List ℕ)
   pub events : List Event
   pub each : AreLines texts events
@@ -84,13 +84,13 @@ long_refusal number = codes "line " ++ decimal number ++ codes " is longer than 
 abbrev pub LineRefusal : Option (List ℕ) → List ℕ → Type 0
 LineRefusal script text =
     (number : ℕ) × (
-    (text ≡ line_refusal number) × ((whole : List ℕ) → script ≡ Some whole → (rest : List ℕ) × StopsAt whole number rest × IsNoEvent rest)
-    ⊎ (text ≡ long_refusal number) × ((whole : List ℕ) → script ≡ Some whole → (rest : List ℕ) × StopsAt whole number rest × IsTooLong rest)
+    (text ≡ line_refusal number) × ((whole : List ℕ) → script ≡ Some whole → (rest : List ℕ) × StopsAtLine whole number rest × IsNoEvent rest)
+    ⊎ (text ≡ long_refusal number) × ((whole : List ℕ) → script ≡ Some whole → (rest : List ℕ) × StopsAtLine whole number rest × IsTooLong rest)
     )
 
 -- the script goes on after the last line that is taken
 abbrev pub IsTooMany : Option (List ℕ) → Type 0
-IsTooMany script = (whole : List ℕ) → script ≡ Some whole → (rest : List ℕ) × StopsAt whole 4294967296 rest × (rest ≢ [])
+IsTooMany script = (whole : List ℕ) → script ≡ Some whole → (rest : List ℕ) × StopsAtLine whole 4294967296 rest × (rest ≢ [])
 
 -- the first lines of a script are the lines of these events
 pub record BeginsWith (script : List ℕ) (events : List Event) : Type 0 where
@@ -99,8 +99,8 @@ pub record BeginsWith (script : List ℕ) (events : List Event) : Type 0 where
   pub each : AreLines texts events
   pub split : lines_of script ≡ texts ++ lines_of rest
 
--- From a state over what a directory reads, a run meets a file that is refused with this error.
-pub record MeetsBadFile (script : Option (List ℕ)) (reads : Reads) (s : State) (error : OpenReadError) : Type 0 where
+-- From a state, a run meets a file that is refused with this error.
+pub record MeetsFile (script : Option (List ℕ)) (s : State) (error : OpenReadError) : Type 0 where
   -- what was done before
   pub turns : List Turn
   -- each event before that reads a commit's files could do so
@@ -117,13 +117,16 @@ pub record MeetsBadFile (script : Option (List ℕ)) (reads : Reads) (s : State)
   -- it was sealed at the start, with these bytes
   pub bytes : List ℕ
   pub sealed : file_at s path ≡ Some (Sealed bytes)
-  -- which the directory reads
-  pub stood : reads path ≡ Some bytes
   -- its name has no dot in front
   pub undotted : is_undotted path ≡ true
   -- and the bytes are refused: they end in no footer, or in one of a format that isn't read
   pub why : RefusesFile bytes path error
   pub no_body : HasNoBody bytes
+
+-- The same of a state over what a directory reads, which reads these bytes of that file.
+pub record MeetsBadFile (script : Option (List ℕ)) (reads : Reads) (s : State) (error : OpenReadError) : Type 0 where
+  pub file : MeetsFile script s error
+  pub stood : reads file.path ≡ Some file.bytes
 
 -- the script has an event that may take the meta lock, behind lines of other events
 abbrev pub MeetsLock : (script : Option (List ℕ)) → Type 0
@@ -133,8 +136,15 @@ MeetsLock script = (events : List Event) × (event : Event) × ((text : List ℕ
 abbrev pub IsMet : (tells_locks : Type 0) → (script : Option (List ℕ)) → Locks → (refused : Type 0) → Type 0
 IsMet tells_locks script locks refused = IsBusy tells_locks (locks writer_lock_name ≡ true) refused ⊎ (MeetsLock script × IsBusy tells_locks (locks meta_lock_name ≡ true) refused)
 
+-- a run from a state: the schema of its index, its script where that is told, where it starts, and the lines that some turns of it tell
+pub record RunFrom : Type 0 where
+  pub schema : List ℕ
+  pub script : Option (List ℕ)
+  pub start : State
+  pub lines_of_turns : List Turn → List (List ℕ)
+
 -- What a run that stopped leaves. The lines of some first events of the script were told, and `meta.json` means the commit of these events, or of the one after them.
-pub record LeavesRun {W : Type 0} (told : Told) (schema : List ℕ) (script : Option (List ℕ)) (lines_told : State → List Turn → List (List ℕ)) (s : State) (before now : View W) (error : TantivyError) : Type 0 where
+pub record LeavesRun {W : Type 0} (told : Told) (run : RunFrom) (before now : View W) (error : TantivyError) : Type 0 where
   -- the events whose lines were told
   pub turns : List Turn
   -- the one in progress, where its commit stands already
@@ -143,13 +153,13 @@ pub record LeavesRun {W : Type 0} (told : Told) (schema : List ℕ) (script : Op
   -- where memory was wanted there is none
   pub memory : error ≡ errors.Memory → ahead ≡ []
   -- where the script is told, its first lines are those of these events
-  pub lines : (text : List ℕ) → script ≡ Some text → BeginsWith text (events_of (turns ++ ahead))
+  pub lines : (text : List ℕ) → run.script ≡ Some text → BeginsWith text (events_of (turns ++ ahead))
   -- after the lines of these events no whole line was told
-  pub lines_heard : told.heard → (so_far : Heard) × TellsLines before.heard so_far (lines_told s turns) × TellsNoLine so_far now.heard
+  pub lines_heard : told.heard → (so_far : Heard) × TellsLines before.heard so_far (run.lines_of_turns turns) × TellsNoLine so_far now.heard
   -- the commit that stands
   pub text : List ℕ
   pub reads : now.reads meta_name ≡ Some text
-  pub means : Means default_settings schema text (after s (turns ++ ahead)).catalog.commit
+  pub means : Means default_settings run.schema text (after run.start (turns ++ ahead)).catalog.commit
 
 -- What an opening that was refused leaves: no whole line was told, an index that was being made has its first commit or none, and an argument that was refused changed nothing.
 pub record RefusesOpening {W : Type 0} (told : Told) (schema : List ℕ) (before now : View W) (error : TantivyError) : Type 0 where
@@ -161,7 +171,7 @@ pub record RefusesOpening {W : Type 0} (told : Told) (schema : List ℕ) (before
 abbrev pub LeavesReplay : {O W C : Type 0} → Ghosts O W C → (before now : O) → (schema : List ℕ) → (script : Option (List ℕ)) → TantivyError → Type 0
 LeavesReplay g before now schema script error =
     g.told.content → (s : State) → OpensTo default_settings schema (g.view before).reads s
-    → RefusesOpening g.told schema (g.view before) (g.view now) error ⊎ LeavesRun g.told schema script report s (g.view before) (g.view now) error
+    → RefusesOpening g.told schema (g.view before) (g.view now) error ⊎ LeavesRun g.told (record { schema = schema; script = script; start = s; lines_of_turns = report s }) (g.view before) (g.view now) error
 
 -- where the content is told, a run from each state to which the directory opens meets a file that is refused with this error
 abbrev pub IsBadFile : (tells : Type 0) → (schema : List ℕ) → Reads → (script : Option (List ℕ)) → OpenReadError → Type 0

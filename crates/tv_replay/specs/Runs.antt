@@ -1,11 +1,11 @@
 -- What a run of the program does.
-use Rattle.std.specs.Prelude.{ℕ, ◌≡◌, ◌≢◌, ◌⊎◌, List, [], ◌∷◌, ◌++◌, Some, IsSome, codes}
+use Rattle.std.specs.Prelude.{ℕ, ◌≡◌, ◌≢◌, ◌⊎◌, Bool, true, false, List, [], ◌∷◌, ◌++◌, None, Some, IsSome, codes}
 use Rattle.tv_base.specs.Streams.{SourceView}
 use Rattle.tv_base.specs.declared.error.TantivyError.{TantivyError}
 use Rattle.tv_base.specs.declared.error.TantivyError.TheVariants as errors
 use Rattle.tv_model.specs.Files.{Rose}
 use Rattle.tv_directory.specs.Telling.{TellsPart}
-use Rattle.tv_directory.specs.View.{OnlyTells}
+use Rattle.tv_directory.specs.View.{View, Told, OnlyTells}
 use Rattle.tv_directory.specs.declared.directory.Directory.{Ghosts}
 use Rattle.tv_store.specs.Telling.{TellsLine}
 use Rattle.tv_replay.specs.declared.replaying.Tally.{Tally}
@@ -45,7 +45,7 @@ pub record OnlySays {O : Type 0} (told : PlaceTold) (old new : PlaceView O) (lin
   pub frame : KeepsFolders told old new
 
 -- The place refused a call, and then only this line was said.
-pub record Refuses {O : Type 0} (told : PlaceTold) (old new : PlaceView O) (line : List ℕ) : Type 0 where
+pub record PlaceRefuses {O : Type 0} (told : PlaceTold) (old new : PlaceView O) (line : List ℕ) : Type 0 where
   pub count : ℕ
   pub refused : Rose old.faults count
   pub only : OnlySays told (record old { faults = count }) new line
@@ -55,66 +55,101 @@ pub record SaysNothing {O : Type 0} (old new : PlaceView O) : Type 0 where
   pub said : new.said ≡ old.said
   pub quiet : new.faults ≡ old.faults
 
+-- 1, or 3 for want of memory
+pub record IsStatusOf (error : TantivyError) (status : ℕ) : Type 0 where
+  pub other : status ≡ 1 → error ≢ errors.Memory
+  pub memory : status ≡ 3 → error ≡ errors.Memory
+  pub statuses : (status ≡ 1) ⊎ (status ≡ 3)
+
+-- Only the line of an error was said, or the one for want of memory, as the status says.
+pub record SaysError {O : Type 0} (told : PlaceTold) (old new : PlaceView O) (error : TantivyError) (status : ℕ) : Type 0 where
+  pub lent : new.lent ≡ old.lent
+  pub other : status ≡ 1 → (error ≢ errors.Memory) × OnlySays told old new (error_line error)
+  pub memory : status ≡ 3 → OnlySays told old new memory_line
+  pub statuses : (status ≡ 1) ⊎ (status ≡ 3)
+
+-- The line was told, at a moment of the call; or no more than a first part of it was, without its line feed.
+pub record TellsOrPart {W : Type 0} (told : Told) (old new : View W) (line : List ℕ) (is_told : Bool) : Type 0 where
+  pub whole : told.heard → is_told ≡ true → TellsLine old.heard new.heard old.moment new.moment line
+  pub part : told.heard → is_told ≡ false → (told_at : ℕ) × TellsPart old.heard new.heard told_at line
+  pub frame : OnlyTells told old new
+
 -- what a run stands in: a place, and the source of its script
 pub record Scene (O : Type 0) : Type 0 where
   pub place : PlaceView O
   pub script : SourceView
 
+-- a replay that a run was asked for, over a folder, with the schema of a path; and what the run stood in before and after
+pub record AskedReplay (O : Type 0) : Type 0 where
+  pub folder : List ℕ
+  pub path : List ℕ
+  pub old : Scene O
+  pub new : Scene O
+
 module _ {O W C : Type 0} (g : Ghosts O W C) (told : PlaceTold) where
-  -- The whole script was replayed over the directory that was lent for the folder, with the schema of the path. It was given back, and no call was refused.
-  pub record Succeeds (folder path : List ℕ) (old new : Scene O) : Type 0 where
+  -- The whole script was replayed over the directory that was lent for the folder, with the schema of the path. It was given back, nothing was said, and no call was refused.
+  pub record Succeeds (asked : AskedReplay O) : Type 0 where
     pub before : O
     pub now : O
     pub schema : List ℕ
     pub tally : Tally
-    pub lent : told.content → old.place.kept folder ≡ Some before
-    pub given_back : told.content → new.place.kept folder ≡ Some now
-    pub schema_is : told.content → old.place.schemas path ≡ Some schema
-    pub replays : Replays g before now schema old.script.left tally
-    pub read_out : IsReadOut old.script new.script
-    pub quiet : IsQuietAt (g.view before) (g.view now) old.script new.script
+    pub lent : told.content → asked.old.place.kept asked.folder ≡ Some before
+    pub given_back : told.content → asked.new.place.kept asked.folder ≡ Some now
+    pub schema_is : told.content → asked.old.place.schemas asked.path ≡ Some schema
+    pub replays : Replays g before now schema asked.old.script.left tally
+    pub read_out : IsReadOut asked.old.script asked.new.script
+    pub quiet : IsQuietAt (g.view before) (g.view now) asked.old.script asked.new.script
     pub frame : ReplayFrame g.told (g.view before) (g.view now)
+    pub silent : SaysNothing asked.old.place asked.new.place
 
-  -- The directory was given back: it reads what it read when the replay stopped, the same locks are held, and nobody was registered or called. A line was told to it, and nothing was said; or no more than a part of the line was told, and the line was said.
-  pub record Reports (stopped : O) (folder : List ℕ) (old new : PlaceView O) (line : List ℕ) : Type 0 where
+  -- The directory that was lent was given back: it reads what it read when the replay stopped, the same locks are held, and nobody was registered or called. A line was told to it, and nothing was said; or no more than a part of the line was told, and the line was said.
+  pub record Reports (stopped : O) (old new : PlaceView O) (line : List ℕ) : Type 0 where
     pub now : O
-    pub given_back : told.content → new.kept folder ≡ Some now
+    pub given_back : told.content → (folder : List ℕ) → old.lent ≡ Some folder → new.kept folder ≡ Some now
     pub frame : OnlyTells g.told (g.view stopped) (g.view now)
     pub reported :
         ((g.told.heard → TellsLine (g.view stopped).heard (g.view now).heard (g.view stopped).moment (g.view now).moment line) × SaysNothing old new)
         ⊎ ((g.told.heard → (told_at : ℕ) × TellsPart (g.view stopped).heard (g.view now).heard told_at line) × SaysLine told old new line)
 
   -- The replay over the directory that was lent for the folder, with the schema of the path, answered this error, for its cause, and then a line was reported.
-  pub record Stops (folder path : List ℕ) (old new : Scene O) (error : TantivyError) (line : List ℕ) : Type 0 where
+  pub record Stops (asked : AskedReplay O) (error : TantivyError) (line : List ℕ) : Type 0 where
     pub before : O
     pub stopped : O
     pub schema : List ℕ
-    pub lent : told.content → old.place.kept folder ≡ Some before
-    pub schema_is : told.content → old.place.schemas path ≡ Some schema
-    pub cause : StopsReplay g before stopped schema old.script new.script error
+    pub lent : told.content → asked.old.place.kept asked.folder ≡ Some before
+    pub schema_is : told.content → asked.old.place.schemas asked.path ≡ Some schema
+    pub cause : StopsReplay g before stopped schema asked.old.script asked.new.script error
     -- what was told until then, and which commit stands
-    pub leaves : LeavesReplay g before stopped schema old.script.left error
+    pub leaves : LeavesReplay g before stopped schema asked.old.script.left error
     pub frame : ReplayFrame g.told (g.view before) (g.view stopped)
-    pub reports : Reports stopped folder old.place new.place line
+    -- seen from the place as it was while the folder's directory was lent
+    pub reports : Reports stopped (record asked.old.place { lent = Some asked.folder }) asked.new.place line
 
-  -- What stands after a replay over a folder, with the schema of a path, that ended with this status.
-  pub record EndsReplay (folder path : List ℕ) (old new : Scene O) (status : ℕ) : Type 0 where
+  -- What stands after a replay that ended with this status.
+  pub record EndsReplay (asked : AskedReplay O) (status : ℕ) : Type 0 where
     -- 0: the whole script was replayed
-    pub done : status ≡ 0 → Succeeds folder path old new
+    pub done : status ≡ 0 → Succeeds asked
     -- 1: the place refused the schema, or had the schema and refused the folder; or the replay answered an error that isn't want of memory
     pub failed :
         status ≡ 1
-        → Refuses told old.place new.place schema_line
-        ⊎ ((told.content → IsSome (old.place.schemas path)) × Refuses told old.place new.place folder_line)
-        ⊎ ((error : TantivyError) × (error ≢ errors.Memory) × Stops folder path old new error (error_line error))
+        → PlaceRefuses told asked.old.place asked.new.place schema_line
+        ⊎ ((told.content → IsSome (asked.old.place.schemas asked.path)) × PlaceRefuses told asked.old.place asked.new.place folder_line)
+        ⊎ ((error : TantivyError) × (error ≢ errors.Memory) × Stops asked error (error_line error))
     -- 3: memory was wanted for the schema or for the folder, or for the line of a refusal, or by the replay or for the line of its error
     pub memory :
         status ≡ 3
-        → OnlySays told old.place new.place memory_line
-        ⊎ Refuses told old.place new.place memory_line
-        ⊎ ((error : TantivyError) × Stops folder path old new error memory_line)
+        → OnlySays told asked.old.place asked.new.place memory_line
+        ⊎ PlaceRefuses told asked.old.place asked.new.place memory_line
+        ⊎ ((error : TantivyError) × Stops asked error memory_line)
     pub statuses : (status ≡ 0) ⊎ (status ≡ 1) ⊎ (status ≡ 3)
 
+  -- The line of an error was reported, or the one for want of memory, as the status says; and no directory is lent.
+  pub record ReportsError (stopped : O) (old new : PlaceView O) (error : TantivyError) (status : ℕ) : Type 0 where
+    pub free : new.lent ≡ None
+    pub other : status ≡ 1 → (error ≢ errors.Memory) × Reports stopped old new (error_line error)
+    pub memory : status ≡ 3 → Reports stopped old new memory_line
+    pub statuses : (status ≡ 1) ⊎ (status ≡ 3)
+
   -- what stands after a run of these words, where they are those of a replay
-  abbrev pub Ends : (words : List (List ℕ)) → (old new : Scene O) → (status : ℕ) → Type 0
-  Ends words old new status = (folder path : List ℕ) → words ≡ replay_words folder path → EndsReplay folder path old new status
+  abbrev pub EndsRun : (words : List (List ℕ)) → (old new : Scene O) → (status : ℕ) → Type 0
+  EndsRun words old new status = (folder path : List ℕ) → words ≡ replay_words folder path → EndsReplay (record { folder = folder; path = path; old = old; new = new }) status

@@ -1,5 +1,6 @@
 -- A script that comes in pieces, and what is taken from its front.
-use Rattle.std.specs.Prelude.{ℕ, ◌≡◌, ◌<◌, ◌≤◌, Bool, true, false, List, [], ◌∷◌, ◌++◌, length, Option, Some, None, option_map}
+use Rattle.std.specs.Prelude.{ℕ, ◌≡◌, ◌≢◌, ◌<◌, ◌≤◌, Bool, true, false, List, [], ◌∷◌, ◌++◌, length, slice_index, Option, Some, None, option_map}
+use Rattle.tv_base.specs.Streams.{Reads, IsAtEnd}
 use Rattle.tv_model.specs.declared.event.Event.{Event}
 use Rattle.tv_model.specs.Lines.{has_no_feed}
 use Rattle.tv_model.specs.Script.{line_limit, lines_of, Fits, IsLine}
@@ -13,27 +14,38 @@ pending held left = option_map (λ rest. held ++ rest) left
 abbrev pub NoFeed : List ℕ → Type 0
 NoFeed bytes = has_no_feed bytes ≡ true
 
+-- here stands the first line feed of the bytes, or, where none does, their end
+pub record IsFeedAt (bytes : List ℕ) (place : ℕ) : Type 0 where
+  pub within : place ≤ length bytes
+  pub before : (k : ℕ) → k < place → slice_index bytes k ≢ 10
+  pub feed : place < length bytes → slice_index bytes place ≡ 10
+
+-- these bytes came off the front of what was left, where that is told; none come only at its end
+pub record Fills (held : List ℕ) (before after : Option (List ℕ)) : Type 0 where
+  pub bytes : Reads held before after
+  pub end : held ≡ [] → IsAtEnd before
+
 -- the bytes up to the first line feed were moved to the end of a line, and that line feed was taken out; or all bytes, where there is none
 abbrev pub Moves : Bool → List ℕ → List ℕ → List ℕ → List ℕ → Type 0
 Moves true held rest line longer = (front : List ℕ) × NoFeed front × (held ≡ front ++ 10 ∷ rest) × (longer ≡ line ++ front)
 Moves false held rest line longer = NoFeed held × (rest ≡ []) × (longer ≡ line ++ held)
 
 -- the first line of a script was taken; or there is none, and nothing is left
-abbrev pub Takes : List ℕ → Option (List ℕ) → Option (List ℕ) → Type 0
-Takes script (Some line) left = (rest : List ℕ) × (left ≡ Some rest) × (lines_of script ≡ line ∷ lines_of rest)
-Takes script None left = (script ≡ []) × (left ≡ Some [])
+abbrev pub TakesLine : List ℕ → Option (List ℕ) → Option (List ℕ) → Type 0
+TakesLine script (Some line) left = (rest : List ℕ) × (left ≡ Some rest) × (lines_of script ≡ line ∷ lines_of rest)
+TakesLine script None left = (script ≡ []) × (left ≡ Some [])
 
 -- where the script is told, its first line was taken, or there is none
 abbrev pub TakesNext : Option (List ℕ) → Option (List ℕ) → Option (List ℕ) → Type 0
-TakesNext before found after = (script : List ℕ) → before ≡ Some script → Takes script found after
+TakesNext before found after = (script : List ℕ) → before ≡ Some script → TakesLine script found after
 
 -- the first line of a script is longer than a line may be
 abbrev pub IsTooLong : List ℕ → Type 0
 IsTooLong script = (line : List ℕ) × (lines : List (List ℕ)) × (lines_of script ≡ line ∷ lines) × (line_limit < length line)
 
 -- a script begins with these bytes of its first line, and this is left of it
-abbrev pub Begins : List ℕ → List ℕ → Option (List ℕ) → Type 0
-Begins script line left = (rest : List ℕ) × (left ≡ Some rest) × (script ≡ line ++ rest) × NoFeed line
+abbrev pub BeginsLine : List ℕ → List ℕ → Option (List ℕ) → Type 0
+BeginsLine script line left = (rest : List ℕ) × (left ≡ Some rest) × (script ≡ line ++ rest) × NoFeed line
 
 -- the first line of a script was taken, and it is this event's; or there is none, and nothing is left
 abbrev pub TakesEvent : List ℕ → Option Event → Option (List ℕ) → Type 0

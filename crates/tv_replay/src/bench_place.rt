@@ -96,8 +96,7 @@ impl<O: Outside + Drop> BenchPlace<O> {
 
     // Counts a refused call, and makes its fault.
     fn refuse(&mut self) -> IoFault
-        ensures device { IsDevice result }
-        ensures count { self.new ≡ refused self.old }
+        ensures { IsDevice result × (self.new ≡ refused self.old) }
     {
         self.count_refusal();
         IoFault {

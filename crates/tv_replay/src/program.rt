@@ -1,12 +1,9 @@
 //! The top call of the program.
-ghost use Rattle.std.specs.Prelude.{◌≡◌, ◌≢◌, ◌⊎◌, ◌↔◌, List, ℕ, None, IsSome, Some, true, false, map, string_bytes};
-ghost use Rattle.tv_base.specs.declared.error.TantivyError.TheVariants as errors;
+ghost use Rattle.std.specs.Prelude.{◌≡◌, ◌≢◌, ◌⊎◌, ◌↔◌, List, ℕ, None, IsSome, true, map, string_bytes};
 ghost use Rattle.tv_model.specs.Lines.{has_no_feed};
-ghost use Rattle.tv_directory.specs.Telling.{TellsPart};
-ghost use Rattle.tv_directory.specs.View.{OnlyTells};
 ghost use Rattle.tv_replay.specs.ErrorLines.{error_line};
-ghost use Rattle.tv_replay.specs.Runs.{replay_words, usage_line, memory_line, OnlySays, SaysNothing, Ends, EndsReplay, Reports};
-ghost use Rattle.tv_store.specs.Telling.{TellsLine};
+ghost use Rattle.tv_replay.specs.Runs.{replay_words, usage_line, OnlySays, SaysNothing, SaysError, TellsOrPart};
+ghost use Rattle.tv_replay.specs.Runs.{IsStatusOf, EndsRun, EndsReplay, Reports, ReportsError};
 
 use crate::error_line::error_line;
 use crate::place::Place;
@@ -43,7 +40,7 @@ pub fn run<P: Place, R: Source>(
     ensures usage_line { result ≡ 2
         → OnlySays P.told (P.view place.old) (P.view place.new) usage_line }
     // What was replayed, told and said.
-    ensures ends { Ends P.Out.Directory P.told (map string_bytes words.now)
+    ensures ends { EndsRun P.Out.Directory P.told (map string_bytes words.now)
         (record { place = P.view place.old; script = R.view script.old })
         (record { place = P.view place.new; script = R.view script.new }) result }
     // After the whole script nothing was said, and the place refused no call.
@@ -70,13 +67,14 @@ fn run_replay<P: Place, R: Source>(
     script: &mut R,
 ) -> u8
     requires free { (P.view place.old).lent ≡ None }
-    requires folder { P.is_folder_path folder.now }
-    requires path { P.is_schema_path path.now }
+    requires paths { P.is_folder_path folder.now × P.is_schema_path path.now }
     ensures free { (P.view place.new).lent ≡ None }
-    ensures ends { EndsReplay P.Out.Directory P.told folder.now path.now
-        (record { place = P.view place.old; script = R.view script.old })
-        (record { place = P.view place.new; script = R.view script.new }) result }
-    ensures quiet { result ≡ 0 → SaysNothing (P.view place.old) (P.view place.new) }
+    ensures ends { EndsReplay P.Out.Directory P.told (record {
+      folder = folder.now;
+      path = path.now;
+      old = record { place = P.view place.old; script = R.view script.old };
+      new = record { place = P.view place.new; script = R.view script.new };
+    }) result }
 {
     let schema = match place.schema(path) {
         Ok(schema) => schema,
@@ -106,11 +104,7 @@ fn say_line<P: Place>(place: &mut P, line: &[u8])
 
 // Says the line of an error, and answers its status.
 fn say_error<P: Place>(alloc: Global, place: &mut P, error: TantivyError) -> u8
-    ensures other { result ≡ 1 → (error ≢ errors.Memory)
-        × OnlySays P.told (P.view place.old) (P.view place.new) (error_line error) }
-    ensures memory { result ≡ 3
-        → OnlySays P.told (P.view place.old) (P.view place.new) memory_line }
-    ensures statuses { (result ≡ 1) ⊎ (result ≡ 3) }
+    ensures { SaysError P.told (P.view place.old) (P.view place.new) error result }
 {
     match error_line(alloc, &error) {
         Ok(line) => {
@@ -126,8 +120,7 @@ fn say_error<P: Place>(alloc: Global, place: &mut P, error: TantivyError) -> u8
 
 // The status of an error.
 fn status_of(error: &TantivyError) -> u8
-    ensures { (result ≡ 1) × (error.now ≢ errors.Memory) ⊎ (result ≡ 3)
-        × (error.now ≡ errors.Memory) }
+    ensures { IsStatusOf error.now result }
 {
     match error {
         TantivyError::Memory => 3,
@@ -145,15 +138,8 @@ fn give_back_after<P: Place>(
 ) -> u8
     requires lent { IsSome (P.view place.old).lent }
     requires feed { has_no_feed (error_line error) ≡ true }
-    ensures free { (P.view place.new).lent ≡ None }
-    ensures other { (folder : List ℕ) → (P.view place.old).lent ≡ Some folder → result ≡ 1
-        → (error ≢ errors.Memory)
-        × Reports P.Out.Directory P.told outside folder (P.view place.old) (P.view place.new)
-        (error_line error) }
-    ensures memory { (folder : List ℕ) → (P.view place.old).lent ≡ Some folder → result ≡ 3
-        → Reports P.Out.Directory P.told outside folder (P.view place.old)
-        (P.view place.new) memory_line }
-    ensures statuses { (result ≡ 1) ⊎ (result ≡ 3) }
+    ensures { ReportsError P.Out.Directory P.told outside (P.view place.old) (P.view place.new)
+        error result }
 {
     match error_line(alloc, &error) {
         Ok(line) => {
@@ -173,8 +159,7 @@ fn report<P: Place>(place: &mut P, outside: P::Out, line: &[u8])
     requires lent { IsSome (P.view place.old).lent }
     requires feed { has_no_feed line.now ≡ true }
     ensures free { (P.view place.new).lent ≡ None }
-    ensures reports { (folder : List ℕ) → (P.view place.old).lent ≡ Some folder
-        → Reports P.Out.Directory P.told outside folder (P.view place.old)
+    ensures reports { Reports P.Out.Directory P.told outside (P.view place.old)
         (P.view place.new) line.now }
 {
     let mut outside = outside;
@@ -189,13 +174,7 @@ fn report<P: Place>(place: &mut P, outside: P::Out, line: &[u8])
 // Tells a line, where there is room for it and it isn't refused.
 fn tell_line<O: Outside>(outside: &mut O, line: &[u8]) -> bool
     requires { has_no_feed line.now ≡ true }
-    ensures told { O.told.heard → result ≡ true
-        → TellsLine (O.view outside.old).heard (O.view outside.new).heard
-        (O.view outside.old).moment (O.view outside.new).moment line.now }
-    ensures part { O.told.heard → result ≡ false
-        → (told_at : ℕ)
-        × TellsPart (O.view outside.old).heard (O.view outside.new).heard told_at line.now }
-    ensures frame { OnlyTells O.told (O.view outside.old) (O.view outside.new) }
+    ensures { TellsOrPart O.told (O.view outside.old) (O.view outside.new) line.now result }
 {
     match outside.ready(line.len()) {
         Ok(()) => outside.tell(line).is_ok(),

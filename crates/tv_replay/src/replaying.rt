@@ -3,7 +3,7 @@ ghost use Rattle.std.specs.Prelude.{◌≡◌, ℕ, List, None, true, IfOk, IfEr
 ghost use Rattle.tv_store.specs.Kept.{AtMost};
 ghost use Rattle.tv_store.specs.ReaderNumbers.{FewNumbers};
 ghost use Rattle.tv_store.specs.StoreCauses.{IsRefusal};
-ghost use Rattle.tv_replay.specs.AppliedEvents.{Runs, RunFaults, LeavesStopped, EndFaults, IsErrorOf};
+ghost use Rattle.tv_replay.specs.AppliedEvents.{Runs, RunFaults, LeavesStopped, ScriptEndFaults, IsErrorOf};
 ghost use Rattle.tv_replay.specs.Completeness.{IsUndisturbed};
 ghost use Rattle.tv_replay.specs.Replays.{Replays, ReplayFaults, ReplayFrame, LeavesReplay, IsReadOut};
 ghost use Rattle.tv_replay.specs.Replays.{line_refusal, long_refusal};
@@ -113,8 +113,8 @@ pub(crate) fn end_of<R: Source>(
         (pending buffer.old (R.view script.old).left)
         None
         (pending buffer.new (R.view script.new).left)) }
-    ensures faults { EndFaults (pending buffer.old (R.view script.old).left) (R.view script.old)
-        (R.view script.new) result }
+    ensures faults { ScriptEndFaults (pending buffer.old (R.view script.old).left)
+        (R.view script.old) (R.view script.new) result }
 {
     match next_event(alloc, script, buffer) {
         Ok(None) => Ok(Tally { events: u32::MAX }),

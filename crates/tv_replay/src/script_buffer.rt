@@ -1,8 +1,8 @@
 //! Bytes of a script that were read and are not yet taken.
-ghost use Rattle.std.specs.Prelude.{◌≡◌, ◌<◌, [], ◌≢◌, ◌≤◌, ℕ, length, slice_index, take, IfOk, OnOk, IsTrue, ◌↔◌};
+ghost use Rattle.std.specs.Prelude.{◌≡◌, ◌<◌, [], ◌≤◌, length, take, IfOk, OnOk, IsTrue, ◌↔◌};
 ghost use Rattle.tv_model.specs.Script.{line_limit};
 ghost use Rattle.tv_base.specs.Streams.{Reads, Keeps, IsAtEnd, SourceFaults};
-ghost use Rattle.tv_replay.specs.ScriptLines.{Moves, pending};
+ghost use Rattle.tv_replay.specs.ScriptLines.{IsFeedAt, Fills, Moves, pending};
 
 use crate::script::LINE_LIMIT;
 use std::alloc::{AllocError, Global};
@@ -32,9 +32,7 @@ impl Model for ScriptBuffer {
 
 // Where the first line feed stands, or how many bytes there are where none does.
 fn feed_at(bytes: &[u8]) -> usize
-    ensures within { result ≤ length bytes.now }
-    ensures before { (k : ℕ) → k < result → slice_index bytes.now k ≢ 10 }
-    ensures feed { result < length bytes.now → slice_index bytes.now result ≡ 10 }
+    ensures { IsFeedAt bytes.now result }
 {
     bytes
         .iter()
@@ -81,9 +79,8 @@ impl ScriptBuffer {
     fn fill<S: Source>(&mut self, source: &mut S, len: usize) -> Result<(), IoFault>
         requires empty { self.old ≡ [] }
         requires short { len ≤ line_limit }
-        ensures bytes { OnOk result
-            (Reads self.new (S.view source.old).left (S.view source.new).left) }
-        ensures end { OnOk result (self.new ≡ [] → IsAtEnd (S.view source.old).left) }
+        ensures fills { OnOk result
+            (Fills self.new (S.view source.old).left (S.view source.new).left) }
         ensures faults { SourceFaults (S.view source.old) (S.view source.new) result }
     {
         self.start = 0;

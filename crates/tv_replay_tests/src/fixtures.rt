@@ -1,43 +1,57 @@
-//! Directories, scripts and places.
+//! Directories, scripts and places, and what was told to a directory.
 ghost use Rattle.std.specs.Prelude.{◌≡◌, None};
 
 use std::alloc::Global;
 use std::process::Abort;
-use tv_base::TextSource;
-use tv_directory::{Bench, NoWatch};
+use tv_base::{Memory, TextSource};
+use tv_directory::{Bench, NoWatch, Outside};
 use tv_replay::BenchPlace;
 
 pub(crate) type TestBench = Bench<NoWatch>;
 
-pub(crate) type TestPlace = BenchPlace<TestBench>;
+/// A directory that shows what it was told.
+pub(crate) trait Shows: Outside + Drop {
+    fn heard(&self) -> Result<Vec<u8>, Memory>;
+}
+
+impl Shows for TestBench {
+    fn heard(&self) -> Result<Vec<u8>, Memory> {
+        self.heard_lines()
+    }
+}
 
 /// A directory without files.
-pub(crate) fn empty_bench(rt: &impl Abort, alloc: Global) -> TestBench {
+pub(crate) fn empty_bench<R: Abort>(rt: &R, alloc: Global) -> TestBench {
     Bench::new(alloc, Vec::new(alloc)).expect(rt, "memory")
 }
 
-/// All that was told to a directory.
-pub(crate) fn heard(rt: &impl Abort, bench: &TestBench) -> Vec<u8> {
-    bench.heard_lines().expect(rt, "memory")
+pub(crate) fn are_bytes<R: Abort>(rt: &R, bytes: &[u8], want: &str) {
+    assert_eq!(rt; bytes, want.as_bytes());
+}
+
+/// Looks at all that was told to a directory.
+pub(crate) fn has_heard<R: Abort, O: Shows>(rt: &R, outside: &O, want: &str) {
+    let heard = outside.heard().expect(rt, "memory");
+    are_bytes(rt, heard.as_slice(), want);
 }
 
 // The bytes of a text.
-fn bytes_of(rt: &impl Abort, alloc: Global, text: &str) -> Vec<u8> {
+fn bytes_of<R: Abort>(rt: &R, alloc: Global, text: &str) -> Vec<u8> {
     Vec::from_slice(alloc, text.as_bytes()).expect(rt, "memory")
 }
 
 /// A script none of whose reads is refused.
-pub(crate) fn source(rt: &impl Abort, alloc: Global, text: &str) -> TextSource {
+pub(crate) fn source<R: Abort>(rt: &R, alloc: Global, text: &str) -> TextSource {
     TextSource::new(bytes_of(rt, alloc, text), Vec::new(alloc))
 }
 
 /// A copy of a text.
-pub(crate) fn owned(rt: &impl Abort, alloc: Global, text: &str) -> String {
+pub(crate) fn owned<R: Abort>(rt: &R, alloc: Global, text: &str) -> String {
     String::from_str(alloc, text).expect(rt, "memory")
 }
 
 // These texts, each under its path.
-fn under_paths(rt: &impl Abort, alloc: Global, texts: &[(&str, &str)]) -> Vec<(String, Vec<u8>)> {
+fn under_paths<R: Abort>(rt: &R, alloc: Global, texts: &[(&str, &str)]) -> Vec<(String, Vec<u8>)> {
     let mut pairs = Vec::new(alloc);
     for (path, text) in texts {
         let pair = (owned(rt, alloc, path), bytes_of(rt, alloc, text));
@@ -48,11 +62,16 @@ fn under_paths(rt: &impl Abort, alloc: Global, texts: &[(&str, &str)]) -> Vec<(S
 
 /// A place with two schemas, one of which stands there twice, and a script. As many bytes as `room` can be
 /// said.
-pub(crate) fn place(rt: &impl Abort, alloc: Global, room: usize) -> TestPlace
+pub(crate) fn place<R: Abort, O: Outside + Drop>(
+    rt: &R,
+    alloc: Global,
+    outside: O,
+    room: usize,
+) -> BenchPlace<O>
     ensures { result.lent ≡ None }
 {
     let schemas = [("a.json", "[]"), ("b.json", "{}"), ("a.json", "[3]")];
     let schemas = under_paths(rt, alloc, &schemas);
     let scripts = under_paths(rt, alloc, &[("a.json", "managed\n")]);
-    BenchPlace::new(alloc, schemas, scripts, empty_bench(rt, alloc), room).expect(rt, "memory")
+    BenchPlace::new(alloc, schemas, scripts, outside, room).expect(rt, "memory")
 }

@@ -1,5 +1,5 @@
-//! Tests of what no run of the program shows: places in memory, a store that is used by itself, the tally
-//! of a replay, and tickets of two values.
+//! Tests of what no run of the program shows: places in memory, a store that is used by itself, and the
+//! tally of a replay.
 #![tactic(auto)]
 
 #[cfg(test)]
@@ -12,5 +12,3 @@ mod replays;
 mod runs;
 #[cfg(test)]
 mod stores;
-#[cfg(test)]
-mod tickets;

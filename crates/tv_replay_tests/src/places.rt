@@ -1,12 +1,11 @@
 //! Places in memory: what is under a path, what is lent, and what is said.
 ghost use Rattle.std.specs.Prelude.{◌≡◌, None};
 
-use crate::fixtures::{TestPlace, heard, place};
-use std::alloc::Global;
+use crate::fixtures::{Shows, are_bytes, empty_bench, has_heard, place};
 use std::process::Abort;
-use tv_base::{IoError, Source, TextSource};
+use tv_base::{IoError, Source};
 use tv_directory::Outside;
-use tv_replay::Place;
+use tv_replay::{BenchPlace, Place};
 
 // A call of a place.
 #[derive(Clone, Copy, Debug)]
@@ -38,79 +37,103 @@ const CALLS: [(Call, Option<&str>); 14] = [
     (Say(""), None),
 ];
 
-// What a script has, read at once.
-fn read_all(rt: &impl Abort, alloc: Global, text: &mut TextSource) -> Vec<u8> {
-    let mut bytes = [0; 16];
-    let len = text.read(&mut bytes).expect(rt, "read");
-    Vec::from_slice(alloc, bytes.get(..len).unwrap_or(b"")).expect(rt, "memory")
+fn is_fault(error: &IoError) -> bool {
+    matches!(error, IoError::Fault(_))
 }
 
-// The answer of a place, or None where it is refused.
-fn given<T: Drop>(rt: &impl Abort, answer: Result<T, IoError>) -> Option<T> {
-    match answer {
-        Ok(value) => Some(value),
-        Err(IoError::Fault(_)) => None,
-        Err(IoError::Memory) => panic!(rt; "memory is wanted"),
+// Whether these bytes are given, or the call is refused where none are wanted.
+fn gives(answer: Result<Vec<u8>, IoError>, want: Option<&str>) -> bool {
+    match (answer, want) {
+        (Ok(bytes), Some(want)) => bytes.as_slice() == want.as_bytes(),
+        (Err(error), None) => is_fault(&error),
+        _ => false,
     }
 }
 
-// The bytes of a script, which is given back.
-fn script(rt: &impl Abort, alloc: Global, place: &mut TestPlace, path: &str) -> Option<Vec<u8>>
+// Whether a script has this text, read at once.
+fn reads<R: Abort, S: Source>(rt: &R, script: &mut S, want: Option<&str>) -> bool {
+    let mut bytes = [0; 16];
+    let len = script.read(&mut bytes).expect(rt, "read");
+    match want {
+        Some(text) => bytes.get(..len) == Some(text.as_bytes()),
+        None => false,
+    }
+}
+
+// Whether a script is given, which is given back.
+fn gives_script<R: Abort, O: Outside + Drop>(
+    rt: &R,
+    place: &mut BenchPlace<O>,
+    path: &str,
+    want: Option<&str>,
+) -> bool
     requires { place.old.lent ≡ None }
     ensures { place.new.lent ≡ None }
 {
-    let mut text = given(rt, place.script(path))?;
-    let bytes = read_all(rt, alloc, &mut text);
-    place.end_script(text);
-    Some(bytes)
+    match place.script(path) {
+        Ok(script) => {
+            let mut script = script;
+            let is_read = reads(rt, &mut script, want);
+            place.end_script(script);
+            is_read
+        }
+        Err(error) => want.is_none() && is_fault(&error),
+    }
 }
 
-// What was lent is told a line, and given back. All that was told to it.
-fn lend(rt: &impl Abort, place: &mut TestPlace, folder: &str) -> Vec<u8>
+// Tells a line.
+fn tell<R: Abort, O: Outside>(rt: &R, outside: &mut O) {
+    outside.ready(4).expect(rt, "memory");
+    outside.tell(b"told").expect(rt, "told");
+}
+
+// What was lent is told a line, and given back. Looks at all that was told to it.
+fn lend<R: Abort, O: Shows>(rt: &R, place: &mut BenchPlace<O>, folder: &str, want: Option<&str>)
     requires { place.old.lent ≡ None }
     ensures { place.new.lent ≡ None }
 {
-    let mut bench = place.lend(folder).expect(rt, "memory");
-    bench.ready(4).expect(rt, "memory");
-    bench.tell(b"told").expect(rt, "told");
-    let told = heard(rt, &bench);
-    place.give_back(bench);
-    told
+    let mut outside = place.lend(folder).expect(rt, "memory");
+    tell(rt, &mut outside);
+    has_heard(rt, &outside, want.unwrap_or("nothing"));
+    place.give_back(outside);
 }
 
-// What the place answers.
-fn answer(rt: &impl Abort, alloc: Global, place: &mut TestPlace, call: Call) -> Option<Vec<u8>>
+// Whether the place answers what is wanted.
+fn answer<R: Abort, O: Shows>(
+    rt: &R,
+    place: &mut BenchPlace<O>,
+    call: Call,
+    want: Option<&str>,
+) -> bool
     requires { place.old.lent ≡ None }
     ensures { place.new.lent ≡ None }
 {
     match call {
-        Schema(path) => given(rt, place.schema(path)),
-        Script(path) => script(rt, alloc, place, path),
-        Lend(folder) => Some(lend(rt, place, folder)),
-        Say(line) => {
-            let said = place.say(line.as_bytes());
-            said.is_ok().then(|| Vec::new(alloc))
+        Schema(path) => gives(place.schema(path), want),
+        Script(path) => gives_script(rt, place, path, want),
+        Lend(folder) => {
+            lend(rt, place, folder, want);
+            true
         }
+        Say(line) => place.say(line.as_bytes()).is_ok() == want.is_some(),
     }
 }
 
 // Looks at each answer.
-fn answer_all(rt: &impl Abort, alloc: Global, place: &mut TestPlace)
+fn answer_all<R: Abort, O: Shows>(rt: &R, place: &mut BenchPlace<O>)
     requires { place.old.lent ≡ None }
     ensures { place.new.lent ≡ None }
 {
     for (call, want) in CALLS {
-        let found = answer(rt, alloc, place, call);
-        let found = found.as_ref().map(|bytes| bytes.as_slice());
-        assert_eq!(rt; found, want.map(|text| text.as_bytes()), "at {call:?}");
+        assert!(rt; answer(rt, place, call, want), "at {call:?}");
     }
 }
 
 #[test]
 fn a_place_answers_with_what_it_has(rt: HostRuntime) {
-    let mut place = place(&rt, rt.alloc(), 10);
-    answer_all(&rt, rt.alloc(), &mut place);
+    let mut place = place(&rt, rt.alloc(), empty_bench(&rt, rt.alloc()), 10);
+    answer_all(&rt, &mut place);
     let (bench, said) = place.into_parts();
-    assert_eq!(rt; said.as_slice(), b"four\n4444\n".as_slice());
-    assert_eq!(rt; heard(&rt, &bench).as_slice(), b"told\ntold\n".as_slice());
+    are_bytes(&rt, said.as_slice(), "four\n4444\n");
+    has_heard(&rt, &bench, "told\ntold\n");
 }

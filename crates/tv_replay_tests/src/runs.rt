@@ -1,17 +1,18 @@
 //! Runs in a place to which little can be said.
 ghost use Rattle.std.specs.Prelude.{◌≡◌, None};
 
-use crate::fixtures::{TestPlace, owned, place, source};
+use crate::fixtures::{are_bytes, empty_bench, owned, place, source};
 use std::alloc::Global;
 use std::process::Abort;
 use tv_base::TextSource;
-use tv_replay::run;
+use tv_directory::Outside;
+use tv_replay::{BenchPlace, run};
 
 const USAGE: &str =
     "usage: tv replay FOLDER SCHEMA | space FOLDER SCHEMA | generate N | race FOLDER SCHEMA HANDLES SCRIPT..\n";
 
 // The words of a command line.
-fn all_owned(rt: &impl Abort, alloc: Global, words: &[&str]) -> Vec<String> {
+fn all_owned<R: Abort>(rt: &R, alloc: Global, words: &[&str]) -> Vec<String> {
     let mut all = Vec::new(alloc);
     for word in words {
         all.push(owned(rt, alloc, word)).expect(rt, "memory");
@@ -20,9 +21,9 @@ fn all_owned(rt: &impl Abort, alloc: Global, words: &[&str]) -> Vec<String> {
 }
 
 // Runs the words in this place: the status, and what was said.
-fn run_in(
+fn run_in<O: Outside + Drop>(
     alloc: Global,
-    place: TestPlace,
+    place: BenchPlace<O>,
     words: &[String],
     script: &mut TextSource,
 ) -> (u8, Vec<u8>)
@@ -30,8 +31,22 @@ fn run_in(
 {
     let mut place = place;
     let status = run(alloc, words, &mut place, script);
-    let (_bench, said) = place.into_parts();
+    let (_outside, said) = place.into_parts();
     (status, said)
+}
+
+// Runs the words in a place with this directory, to which as many bytes as `room` can be said.
+fn found<R: Abort, O: Outside + Drop>(
+    rt: &R,
+    alloc: Global,
+    outside: O,
+    words: &[&str],
+    room: usize,
+) -> (u8, Vec<u8>) {
+    let words = all_owned(rt, alloc, words);
+    let mut script = source(rt, alloc, "managed\n");
+    let place = place(rt, alloc, outside, room);
+    run_in(alloc, place, words.as_slice(), &mut script)
 }
 
 #[test]
@@ -43,12 +58,10 @@ fn a_run_says_what_there_is_room_for(rt: HostRuntime) {
         (&absent, 9, 1, "error io\n"),
         (&absent, 8, 1, ""),
     ];
-    for (words, room, status, want) in rows {
-        let all = all_owned(&rt, rt.alloc(), words);
-        let mut script = source(&rt, rt.alloc(), "managed\n");
-        let place = place(&rt, rt.alloc(), room);
-        let (found, said) = run_in(rt.alloc(), place, all.as_slice(), &mut script);
-        assert_eq!(rt; found, status, "at {words:?} and {room}");
-        assert_eq!(rt; said.as_slice(), want.as_bytes(), "at {words:?} and {room}");
+    for (words, room, want, line) in rows {
+        let bench = empty_bench(&rt, rt.alloc());
+        let (status, said) = found(&rt, rt.alloc(), bench, words, room);
+        assert!(rt; status == want, "at {words:?} and {room}");
+        are_bytes(&rt, said.as_slice(), line);
     }
 }

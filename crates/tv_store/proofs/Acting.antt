@@ -23,7 +23,7 @@ use Rattle.tv_store.specs.ReadCauses.{TakesMetaLock}
 use Rattle.tv_store.specs.Applying.{Stepped, ActCause, ApplyFaults, MayNoteAt, Spent, BadIn, HoldsNone, written_by}
 use Rattle.tv_store.specs.Stays.{Asks, Stays, KeepsReaders, EventFaults, FrameNotes}
 use Rattle.tv_store.specs.Committing.{Commits}
-use Rattle.tv_store.specs.Acting.{Acts, KeepsMeta, LeavesStep, Passes, StepsTo, StepsReading, StepsDeleting}
+use Rattle.tv_store.specs.Acting.{Acts, KeepsMeta, OnFiles, LeavesStep, Passes, StepsTo, StepsReading, StepsDeleting}
 use Rattle.tv_store.specs.Catalogs.{CatalogCause, FitsCatalog}
 use Rattle.tv_store.proofs.Holding.{same_holds}
 use Rattle.tv_store.proofs.Lifting.{catalog_held, numbers_grow, plain_event}
@@ -103,30 +103,16 @@ module _ {O W C : Type 0} (g : Ghosts O W C) (old new : StoreState O) (event sho
   step_alone : ((s : State) → ReadsGood s shown) → (g.view new.outside).refusals ≡ (g.view old.outside).refusals → StepsTo g old new (λ s. step s shown []) result → Steps
   step_alone good refusals h = stepped g old new shown (λ s. step s shown []) result refusals (λ s. refl) good h
 
-  -- one that only wrote files
+  -- one on files
   pub acts_on_files : NotesNothing shown → (spent : Type 0) → (spent → Spent old.kept shown) → ((s : State) → ReadsGood s shown) → (TakesMetaLock old.kept shown → ⊥)
-      → StepsTo g old new (λ s. step s shown []) result → IfOk result (λ answer. length answer < (g.view new.outside).room)
-      → ((bound : ℕ) → AtMost bound old.kept → AtMost (bound + written_by shown) new.kept)
-      → EventFaults spent (g.view old.outside) (g.view new.outside) result → KeepsMeta g old new result → KeepsReaders (KeptView g.told) g.view old new
+      → StepsTo g old new (λ s. step s shown []) result → ((bound : ℕ) → AtMost bound old.kept → AtMost (bound + written_by shown) new.kept)
+      → OnFiles g spent old new result
       → Acts g old new event result
-  acts_on_files none spent all good free step room lens faults meta frame =
-      let below = frame.stays.below in
-      acts (step_alone good below.frame.tells_none.deletes_none.refusals step) room lens
-      (λ bound h. numbers_stay bound (written_by shown) old.kept.catalog.reading new.kept.catalog.reading result frame.reading h) (faults_alone spent all free faults) meta
-      (record { schema = frame.stays.schema; is_open = frame.stays.is_open; below = passed g.told shown (g.view old.outside) (g.view new.outside) none below })
-
-  -- one that changed nothing of the directory, and nothing of who reads
-  pub acts_plainly : NotesNothing shown → ((s : State) → ReadsGood s shown) → (TakesMetaLock old.kept shown → ⊥)
-      → StepsTo g old new (λ s. step s shown []) result → IfOk result (λ answer. length answer < (g.view new.outside).room)
-      → ((bound : ℕ) → AtMost bound old.kept → AtMost bound new.kept)
-      → EventFaults ⊥ (g.view old.outside) (g.view new.outside) result → KeepsReaders (OnlyReads g.told) g.view old new
-      → Acts g old new event result
-  acts_plainly none good free step room lens faults frame =
-      let below = frame.stays.below.kept in
-      acts (step_alone good below.frame.tells_none.deletes_none.refusals step) room (λ bound h. at_most bound (written_by shown) new.kept (lens bound h))
-      (λ bound h. numbers_stay bound (written_by shown) old.kept.catalog.reading new.kept.catalog.reading result frame.reading h) (faults_alone ⊥ (λ never. absurd never) free faults)
-      (λ tells. on_err result ((g.view new.outside).reads meta_name ≡ (g.view old.outside).reads meta_name) (frame.stays.below.content tells meta_name))
-      (record { schema = frame.stays.schema; is_open = frame.stays.is_open; below = passed g.told shown (g.view old.outside) (g.view new.outside) none below })
+  acts_on_files none spent all good free step lens does =
+      let stays = does.frame.stays in
+      acts (step_alone good stays.below.frame.tells_none.deletes_none.refusals step) does.room lens
+      (λ bound h. numbers_stay bound (written_by shown) old.kept.catalog.reading new.kept.catalog.reading result does.frame.reading h) (faults_alone spent all free does.faults) does.meta
+      (record { schema = stays.schema; is_open = stays.is_open; below = passed g.told shown (g.view old.outside) (g.view new.outside) none stays.below })
 
   -- one that reads a commit's files
   pub acts_reading : NotesNothing shown → (good : State → Type 0) → ((s : State) → good s → ReadsGood s shown)

@@ -119,12 +119,6 @@ means_next kept held commit text same h =
     subst (λ (c : Commit). Means default_settings kept.schema text c) (next_commit kept.catalog held commit same h.opstamp)
     (record { is_commit = h.sound; blocksize = omega arith; text = h.text_is })
 
--- what is left of `meta.json` where its text was written, or not
-pub commit_left : (before now : Option (List ℕ)) (kept : Kept) (held : Catalog) (commit : Commit) (text : List ℕ) → kept.catalog ≡ held → IsPrinted kept commit text → (now ≡ Some text) ⊎ (now ≡ before)
-    → LeavesCommit before now kept.schema (committed held commit.payload commit.segments).1.commit
-commit_left before now kept held commit text same h (inl written) = inr (text, written, means_next kept held commit text same h)
-commit_left before now kept held commit text same h (inr still) = inl still
-
 -- the state after a commit
 pub published : (before now : Reads) (kept after : Kept) (s : State) (commit : Commit) (text : List ℕ) → Holds before kept s → IsPrinted kept commit text
     → after ≡ record kept { catalog = record kept.catalog { next = kept.catalog.next + 1; commit = commit }; managed = insert_key byte_cmp kept.managed meta_name }

@@ -22,7 +22,7 @@ use Rattle.tv_store.specs.Stays.{Asks, EventFaults}
 use Rattle.tv_store.specs.Committing.{Commits, IsPrinted, KeepsRest, Publishes, commit_line, commit_of, unknown_line, unsealed_line}
 use Rattle.tv_store.proofs.Asking.{notes_later}
 use Rattle.tv_store.proofs.Holding.{same_holds}
-use Rattle.tv_store.proofs.CommitEvents.{commit_left, published}
+use Rattle.tv_store.proofs.CommitEvents.{published}
 
 module _ {O W C : Type 0} (g : Ghosts O W C) (given : Type 0) (old new : StoreState O) where
   -- what was only asked for stays
@@ -118,14 +118,6 @@ module _ {O W C : Type 0} (g : Ghosts O W C) (old mid new : StoreState O) where
 
 -- ---- the steps
 
--- no number is left
-pub spent_step : (s : State) (payload : Option (List ℕ)) (ids : List (List ℕ)) → s.catalog.next ≡ last_stamp → commit_step s payload ids ≡ refuse s (codes "stamps-spent" ∷ [])
-spent_step s payload ids e = rw (eq-eqb s.catalog.next last_stamp e) refl
-
--- one is left, and an id isn't live
-pub unknown_step : (s : State) (payload : Option (List ℕ)) (ids : List (List ℕ)) (id : List ℕ) → (s.catalog.next == last_stamp) ≡ false → first_unknown s.catalog ids ≡ Some id → commit_step s payload ids ≡ (unknown_line id, s)
-unknown_step s payload ids id left found = rw (left, found) refl
-
 -- or all are
 pub known_step : (s : State) (payload : Option (List ℕ)) (ids : List (List ℕ)) → (s.catalog.next == last_stamp) ≡ false → first_unknown s.catalog ids ≡ None → commit_step s payload ids ≡ commit_of s payload (chosen s.catalog ids)
 known_step s payload ids left found = rw (left, found) refl
@@ -165,19 +157,5 @@ module _ {O W C : Type 0} (g : Ghosts O W C) (old new : StoreState O) (commit : 
     memory = λ tells. tt;
     room = room;
     faults = record { quiet = quiet; cause = tt };
-    frame = frame;
-  }
-
-  pub fails_to_publish : (error : TantivyError)
-      → (g.told.content → ((g.view new.outside).reads meta_name ≡ Some text) ⊎ ((g.view new.outside).reads meta_name ≡ (g.view old.outside).reads meta_name))
-      → (g.told.content → error ≡ errors.Memory → (g.view new.outside).reads meta_name ≡ (g.view old.outside).reads meta_name)
-      → EventCause (Rose (g.view old.outside).faults (g.view new.outside).faults) ((g.view new.outside).faults ≡ (g.view old.outside).faults) ⊥ error → KeepsRest g.told g.view old new
-      → Commits g Given old new told (Err error)
-  fails_to_publish error left memory cause frame = record {
-    step = λ tells s held known. tt;
-    meta = λ tells s held known. commit_left ((g.view old.outside).reads meta_name) ((g.view new.outside).reads meta_name) old.kept s.catalog commit text held.catalog known.0 (left tells);
-    memory = memory;
-    room = tt;
-    faults = record { quiet = tt; cause = cause };
     frame = frame;
   }

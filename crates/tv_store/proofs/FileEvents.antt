@@ -65,9 +65,6 @@ told_is answer reads kept told right e h = subst (Told answer reads kept) (sym e
 abbrev pub file_step : State → List ℕ → SegmentComponent → (LiveSegment → List ℕ → StepResult State) → StepResult State
 file_step s id component step = given s (live_at s.catalog id) (codes "unknown-segment") (λ segment. step segment (name_of id segment.deletes component))
 
-pub file_unknown : (s : State) (id : List ℕ) (component : SegmentComponent) (step : LiveSegment → List ℕ → StepResult State) → live_at s.catalog id ≡ None → file_step s id component step ≡ refuse s (codes "unknown-segment" ∷ [])
-file_unknown s id component step none = ap (λ (o : Option LiveSegment). given s o (codes "unknown-segment") (λ segment. step segment (name_of id segment.deletes component))) none
-
 pub file_known : (s : State) (id name : List ℕ) (component : SegmentComponent) (segment : LiveSegment) (step : LiveSegment → List ℕ → StepResult State)
     → live_at s.catalog id ≡ Some segment → name ≡ name_of id segment.deletes component → file_step s id component step ≡ step segment name
 file_known s id name component segment step found is =
@@ -198,10 +195,6 @@ open_isnt_left (Some Left) read written body h e = let k : None ≡ Some body = 
 has_body : (o : Option (List ℕ)) (len : ℕ) → Some len ≡ option_map length o → (body : List ℕ) × (o ≡ Some body) × (len ≡ length body)
 has_body None len e = absurd cc
 has_body (Some body) len e = (body, refl, cc)
-
-pub has_none : (o : Option (List ℕ)) → None ≡ option_map length o → o ≡ None
-has_none None e = refl
-has_none (Some body) e = absurd cc
 
 -- the managed names stay, and so does what the list reads
 kept_list : (reads reads2 : Reads) (name : List ℕ) (names : List (List ℕ)) → IsFileOf name → KeepsOthers reads reads2 name → Lists (reads list_name) names → Lists (reads2 list_name) names

@@ -111,10 +111,6 @@ body_fails {D} tells reads faults inside value after name given error is_value t
     (subst (λ (d : D). ApplyCause ⊥ (Rose (faults d) (faults after)) (faults after ≡ faults d) ⊥ (λ error. tells → RefusesAt (reads d) given error) (λ path. (path ≡ given) × (tells → reads d path ≡ None)) (of_open_read error)) is_value
     (body_cause tells (reads inside) given (Rose (faults inside) (faults after)) (faults after ≡ faults inside) error fits cause is_name err outside))
 
--- the body of a file that is read
-pub body_read : {D : Type 0} (reads : D → Reads) (inside value : D) (name given body : List ℕ) → inside ≡ value → given ≡ name → ReadsBody (reads inside given) body → ReadsBody (reads value name) body
-body_read {D} reads inside value name given body is_value text h = (h.0, ap (λ (d : D). reads d name) (sym is_value) ∙ ap (reads inside) (sym text) ∙ h.1, h.2)
-
 write_weaker : (refused more : Type 0) (error : OpenWriteError) → (refused → more) → WriteFault refused error → WriteFault more error
 write_weaker refused more (write.IoError fault path) f h = (h.0, f h.1)
 write_weaker refused more other f h = absurd h
@@ -307,20 +303,6 @@ read_more s segments i entry read_id read_segment bodies shown shown_more all al
       good = required_pushed (IsGoodFile s) (take i segments) entry so_far.good reads_segment.bodies_are.good;
     })
 
--- all were: this is what is shown
-pub all_read : (s : State) (segments shown : List (List ℕ × LiveSegment)) (bodies : List (List (List ℕ))) (i generation opstamp : ℕ) (payload : Option (List ℕ))
-    → segments ≡ s.catalog.commit.segments → opstamp ≡ s.catalog.commit.opstamp → payload ≡ s.catalog.commit.payload → length segments ≤ i → AreRead s (take i segments) shown bodies
-    → (record { generation = generation; commit = record { opstamp = opstamp; payload = payload; segments = shown }; bodies = bodies } ≡ snapshot_in s generation) × CanRead s
-all_read s segments shown bodies i generation opstamp payload are opstamp_is payload_is h so_far =
-    let whole : AreRead s s.catalog.commit.segments shown bodies =
-    subst (λ (es : List (List ℕ × LiveSegment)). AreRead s es shown bodies) (take_all i segments h ∙ are) so_far in (
-      ap (λ (o : ℕ). record { generation = generation; commit = record { opstamp = o; payload = payload; segments = shown }; bodies = bodies }) opstamp_is
-          ∙ ap (λ (p : Option (List ℕ)). record { generation = generation; commit = record { opstamp = s.catalog.commit.opstamp; payload = p; segments = shown }; bodies = bodies }) payload_is
-          ∙ ap (λ (es : List (List ℕ × LiveSegment)). record { generation = generation; commit = record { opstamp = s.catalog.commit.opstamp; payload = s.catalog.commit.payload; segments = es }; bodies = bodies }) whole.are
-          ∙ ap (λ (bs : List (List (List ℕ))). record { generation = generation; commit = s.catalog.commit; bodies = bs }) whole.each,
-      record { each = whole.good },
-    )
-
 -- a file of the commit isn't read
 pub snapshot_fails : (tells : Type 0) (first now : Reads) (kept : Kept) (segments : List (List ℕ × LiveSegment)) (i : ℕ) (entry : List ℕ × LiveSegment) (start before after : ℕ) (error : TantivyError)
     → (tells → Same first now) → before ≡ start → segments ≡ kept.catalog.commit.segments → i < length segments → entry ≡ get_or segments i entry
@@ -386,70 +368,12 @@ pub mapped : {A B : Type 0} (f : A → B) (o : Option A) (b : B) → Some b ≡ 
 mapped f None b e = absurd cc
 mapped f (Some x) b e = let same : b ≡ f x = cc in (x, refl, same)
 
-pub not_mapped : {A B : Type 0} (f : A → B) (o : Option A) → None ≡ option_map f o → o ≡ None
-not_mapped f None e = refl
-not_mapped f (Some x) e = absurd cc
-
 pub isnt_there : {A : Type 0} (o : Option A) → o ≡ None → IsSome o → ⊥
 isnt_there o e h = true≢false (sym h ∙ ap is_some e)
-
--- what is so whatever is answered
-pub on_ok : {T E P : Type 0} (result : Result T E) → P → OnOk result P
-on_ok (Ok value) p = p
-on_ok (Err error) p = tt
-
--- only who reads changed
-changes_readers : (reads : Reads) (kept : Kept) (s : State) (now then : Catalog) → now ≡ then → then.live ≡ s.catalog.live → then.commit ≡ s.catalog.commit
-    → Holds reads kept s → Holds reads (record kept { catalog = now }) (record s { catalog = then })
-changes_readers reads kept s now then is live commit h = record {
-  catalog = is;
-  managed = h.managed;
-  segments = subst (AllByRecursion IsSegment) (sym live) h.segments;
-  names = h.names;
-  files = h.files;
-  left = h.left;
-  meta = (h.meta.0, h.meta.1, subst (Means default_settings kept.schema h.meta.0) (sym commit) h.meta.2);
-  listing = h.listing;
-  listed = h.listed;
-}
-
--- a new reader
-pub reader_added : (reads : Reads) (kept : Kept) (s : State) (policy : ReloadPolicy) (shown : Snapshot) (now : Catalog) (answer : List ℕ)
-    → Holds reads kept s → shown ≡ snapshot_in s 0 → now ≡ with_new_reader kept.catalog policy shown
-    → answer ≡ line (codes "reader") (decimal kept.catalog.reading.next_reader ∷ decimal 0 ∷ decimal kept.catalog.commit.opstamp ∷ [])
-    → (answer ≡ (reader_event policy s).0) × Holds reads (record kept { catalog = now }) (reader_event policy s).1
-reader_added reads kept s policy shown now answer held shown_is put said = (
-  said ∙ ap (λ (c : Catalog). line (codes "reader") (decimal c.reading.next_reader ∷ decimal 0 ∷ decimal c.commit.opstamp ∷ [])) held.catalog,
-  changes_readers reads kept s now (with_new_reader s.catalog policy (snapshot_in s 0)) (put ∙ ap (λ (c : Catalog). with_new_reader c policy shown) held.catalog ∙ ap (with_new_reader s.catalog policy) shown_is) refl refl held,
-)
 
 pub few_with_new : (bound : ℕ) (old now : Catalog) (policy : ReloadPolicy) (shown : Snapshot) → now ≡ with_new_reader old policy shown → FewNumbers bound old.reading → FewNumbers (bound + 1) now.reading
 few_with_new bound old now policy shown put few =
     subst (λ (c : Catalog). FewNumbers (bound + 1) c.reading) (sym put) (few_added bound old.reading _ old.reading.next_reader (record { policy = policy; next = 1; shown = shown }) refl (omega arith) few)
-
--- no such reader
-pub reload_unknown : (reads : Reads) (kept : Kept) (s : State) (number : ℕ) (answer : List ℕ)
-    → reader_at s.catalog number ≡ None → answer ≡ line (codes "refused") (codes "unknown-reader" ∷ []) → Holds reads kept s
-    → (answer ≡ (reload_event number s).0) × Holds reads kept (reload_event number s).1
-reload_unknown reads kept s number answer none said held =
-    let is : reload_event number s ≡ (line (codes "refused") (codes "unknown-reader" ∷ []), s) =
-    ap (λ (o : Option Reader). on_catalog s (given s.catalog o (codes "unknown-reader") (reloaded s.catalog number (bodies_in s s.catalog.commit)))) none in
-    subst (λ (t : StepResult State). (answer ≡ t.0) × Holds reads kept t.1) (sym is) (said, held)
-
--- a reader shows the current commit
-pub reader_reloaded : (reads : Reads) (kept : Kept) (s : State) (number : ℕ) (reader : Reader) (shown : Snapshot) (now : Catalog) (answer : List ℕ)
-    → Holds reads kept s → reader_at kept.catalog number ≡ Some reader → shown ≡ snapshot_in s reader.next → now ≡ with_reloaded kept.catalog number reader shown
-    → answer ≡ line (codes "published") (decimal number ∷ decimal reader.next ∷ decimal kept.catalog.commit.opstamp ∷ [])
-    → (answer ≡ (reload_event number s).0) × Holds reads (record kept { catalog = now }) (reload_event number s).1
-reader_reloaded reads kept s number reader shown now answer held there shown_is put said =
-    let result = reloaded s.catalog number (bodies_in s s.catalog.commit) in
-    let is : reload_event number s ≡ on_catalog s (result reader) =
-    ap (λ (o : Option Reader). on_catalog s (given s.catalog o (codes "unknown-reader") result)) (ap (λ (c : Catalog). reader_at c number) (sym held.catalog) ∙ there) in
-    subst (λ (t : StepResult State). (answer ≡ t.0) × Holds reads (record kept { catalog = now }) t.1) (sym is) (
-      said ∙ ap (λ (c : Catalog). line (codes "published") (decimal number ∷ decimal reader.next ∷ decimal c.commit.opstamp ∷ [])) held.catalog,
-      changes_readers reads kept s now (with_reloaded s.catalog number reader (snapshot_in s reader.next))
-          (put ∙ ap (λ (c : Catalog). with_reloaded c number reader shown) held.catalog ∙ ap (with_reloaded s.catalog number reader) shown_is) refl refl held,
-    )
 
 pub few_with_reloaded : (bound : ℕ) (old now : Catalog) (number : ℕ) (reader : Reader) (shown : Snapshot) → reader_at old number ≡ Some reader → now ≡ with_reloaded old number reader shown
     → FewNumbers bound old.reading → FewNumbers (bound + 1) now.reading

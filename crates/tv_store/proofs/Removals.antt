@@ -192,18 +192,6 @@ lens_left {D} {W} {C} written es es2 old bound is left h =
 
 -- ---- names
 
--- a plain name is one that a file may have
-pub plain_is_name : (name : List ℕ) → is_plain name ≡ true → is_file_name name ≡ true
-plain_is_name name h = rw h refl
-
--- the first of some names
-pub first_plain : (names rest : List (List ℕ)) (name : List ℕ) → names ≡ name ∷ rest → list_all is_plain names ≡ true → (is_plain name ≡ true) × (list_all is_plain rest ≡ true)
-first_plain names rest name e h = both (is_plain name) (list_all is_plain rest) (subst (λ (ns : List (List ℕ)). list_all is_plain ns ≡ true) e h)
-
--- one more name behind others
-pub one_listed : (names now whole items rest : List (List ℕ)) (x : List ℕ) → now ≡ names ++ x ∷ [] → items ≡ x ∷ rest → names ++ items ≡ whole → now ++ rest ≡ whole
-one_listed names now whole items rest x more next h = ap (λ (l : List (List ℕ)). l ++ rest) more ∙ append_assoc names (x ∷ []) rest ∙ ap (λ (l : List (List ℕ)). names ++ l) (sym next) ∙ h
-
 -- the names that were done or failed are plain where those that were tried are
 done_plain : (test : List ℕ → Bool) (names : List (List ℕ)) (outcomes : List Bool) → list_all test names ≡ true → list_all test (done_of names outcomes) ≡ true
 done_plain test [] outcomes h = refl
@@ -300,13 +288,3 @@ one_closed {X} es new x names rest n all split cut closed h =
 -- and those that are left are as long
 pub lens_cut : (bound : ℕ) (es new : List (List ℕ × List ℕ)) (test : List ℕ → Bool) → new ≡ remove_entry test es → AllByRecursion (λ e. length e.1 ≤ bound) es → AllByRecursion (λ e. length e.1 ≤ bound) new
 lens_cut bound es new test cut h = subst (AllByRecursion (λ e. length e.1 ≤ bound)) (sym cut) (all_left (λ e. length e.1 ≤ bound) es test h)
-
--- before the first name
-pub first_open : {X : Type 0} (items names : List (List ℕ)) (es old : List (List ℕ × X)) (n : List ℕ) → items ≡ names → es ≡ old → cond (has items n) None (at es n) ≡ cond (has names n) None (at old n)
-first_open {X} items names es old n all same = ap (λ (l : List (List ℕ)). cond (has l n) None (at es n)) all ∙ ap (λ (fs : List (List ℕ × X)). cond (has names n) None (at fs n)) same
-
-pub first_left : {X : Type 0} (keys was items names : List (List ℕ)) (es old : List (List ℕ × X)) (n : List ℕ) → keys ≡ was → items ≡ names → es ≡ old
-    → (has keys n || (has items n && is_some (at es n))) ≡ (has was n || (has names n && is_some (at old n)))
-first_left {X} keys was items names es old n left all same =
-    ap (λ (l : List (List ℕ)). has l n || (has items n && is_some (at es n))) left ∙ ap (λ (l : List (List ℕ)). has was n || (has l n && is_some (at es n))) all
-    ∙ ap (λ (fs : List (List ℕ × X)). has was n || (has names n && is_some (at fs n))) same

@@ -3,7 +3,8 @@ use Rattle.std.specs.Prelude.{◌≡◌, Result, OnOk, IfErr}
 use Rattle.tv_model.specs.Files.{Rose}
 use Rattle.tv_model.specs.Names.{meta_name}
 use Rattle.tv_base.specs.declared.error.TantivyError.{TantivyError}
-use Rattle.tv_directory.specs.View.{View, Told, DeletesNone, Frame}
+use Rattle.tv_directory.specs.View.{View, Told, DeletesNone, Frame, Kept, OnlyReads}
+use Rattle.tv_directory.specs.declared.directory.Directory.{Ghosts}
 use Rattle.tv_directory.specs.Watch.{MayNote}
 use Rattle.tv_store.specs.Kept.{FilesState, StoreState}
 use Rattle.tv_store.specs.StoreCauses.{EventCause, MakesNoFile}
@@ -56,3 +57,19 @@ pub record Faults {A W : Type 0} (old new : View W) (result : Result A TantivyEr
   pub quiet : OnOk result (new.faults ≡ old.faults)
   pub cause : IfErr result (EventCause (Rose old.faults new.faults) (new.faults ≡ old.faults) ⊥)
   pub file : IfErr result MakesNoFile
+
+-- A call that only asks: all that is kept stays, and so does the directory; it fails as an event does that makes no file and spends no number.
+pub record AsksOrFails {A O W C : Type 0} (g : Ghosts O W C) (old new : StoreState O) (result : Result A TantivyError) : Type 0 where
+  pub faults : EventFaults ⊥ (g.view old.outside) (g.view new.outside) result
+  pub frame : Asks (OnlyReads g.told) g.view old new
+
+-- The same of a call of which the device refuses nothing.
+pub record AsksQuietly {O W C : Type 0} (g : Ghosts O W C) (old new : StoreState O) : Type 0 where
+  pub faults : (g.view new.outside).faults ≡ (g.view old.outside).faults
+  pub frame : Asks (OnlyReads g.told) g.view old new
+
+-- A call on an open file: the managed names stay, and the files that were left; nothing was deleted or told, no lock was taken or freed, and nobody was registered or
+-- called. It fails as an event does that makes no file and spends no number.
+pub record OnlyWrites {A O W C : Type 0} (g : Ghosts O W C) (old new : FilesState O) (result : Result A TantivyError) : Type 0 where
+  pub faults : EventFaults ⊥ (g.view old.outside) (g.view new.outside) result
+  pub frame : KeepsManaged (Kept g.told) g.view old new

@@ -1,8 +1,7 @@
 //! Answers, and the room that is made for them before the device is asked.
 ghost use Rattle.std.specs.Prelude.{◌≡◌, ◌<◌, [], ◌∷◌, true, length, codes, IfOk, OnOk};
 ghost use Rattle.tv_model.specs.Lines.{line, has_no_feed};
-ghost use Rattle.tv_directory.specs.View.{OnlyReads};
-ghost use Rattle.tv_store.specs.Stays.{Asks, EventFaults};
+ghost use Rattle.tv_store.specs.Stays.{AsksQuietly, AsksOrFails};
 
 use crate::index_store::IndexStore;
 use std::alloc::Global;
@@ -23,8 +22,7 @@ impl<O: Outside> IndexStore<O> {
     pub(crate) fn ready(&mut self, answer: Answer) -> Result<Answer, Memory>
         ensures answer { IfOk result (λ ready. ready ≡ answer) }
         ensures room { OnOk result (length answer < (O.view self.new.outside).room) }
-        ensures faults { (O.view self.new.outside).faults ≡ (O.view self.old.outside).faults }
-        ensures frame { Asks (OnlyReads O.told) O.view self.old self.new }
+        ensures asks { AsksQuietly O.Directory self.old self.new }
     {
         self.files.ready(answer.as_slice().len())?;
         Ok(answer)
@@ -35,8 +33,7 @@ impl<O: Outside> IndexStore<O> {
         ensures answer { IfOk result (λ told. told ≡ answer) }
         ensures room { IfOk result (λ answer. length answer < (O.view self.new.outside).room) }
         ensures quiet { (O.view self.new.outside).faults ≡ (O.view self.old.outside).faults }
-        ensures faults { EventFaults ⊥ (O.view self.old.outside) (O.view self.new.outside) result }
-        ensures frame { Asks (OnlyReads O.told) O.view self.old self.new }
+        ensures asks { AsksOrFails O.Directory self.old self.new result }
     {
         let ready = self.ready(answer)?;
         Ok(ready)
@@ -48,8 +45,7 @@ impl<O: Outside> IndexStore<O> {
         ensures answer { IfOk result (λ answer. answer ≡ line (codes "refused") (word.now ∷ [])) }
         ensures room { IfOk result (λ answer. length answer < (O.view self.new.outside).room) }
         ensures quiet { (O.view self.new.outside).faults ≡ (O.view self.old.outside).faults }
-        ensures faults { EventFaults ⊥ (O.view self.old.outside) (O.view self.new.outside) result }
-        ensures frame { Asks (OnlyReads O.told) O.view self.old self.new }
+        ensures asks { AsksOrFails O.Directory self.old self.new result }
     {
         let answer = refused(self.alloc, word)?;
         self.told(answer)

@@ -2,11 +2,11 @@
 ghost use Rattle.std.specs.Prelude.{◌≡◌, ◌<◌, ℕ, length, IfOk};
 ghost use Rattle.tv_model.specs.CollectionEvents.{gc_step, collected_line, release_segment_step};
 ghost use Rattle.tv_model.specs.Lines.{line};
-ghost use Rattle.tv_directory.specs.View.{OnlyReads, MayDelete};
+ghost use Rattle.tv_directory.specs.View.{MayDelete};
 ghost use Rattle.tv_store.specs.Kept.{AtMost};
-ghost use Rattle.tv_store.specs.Acting.{StepsTo, StepsDeleting, KeepsMeta};
+ghost use Rattle.tv_store.specs.Acting.{StepsTo, StepsDeleting, KeepsMeta, OnFiles};
 ghost use Rattle.tv_store.specs.FileCalls.{GcFaults};
-ghost use Rattle.tv_store.specs.Stays.{Asks, KeepsReaders, EventFaults};
+ghost use Rattle.tv_store.specs.Stays.{AsksQuietly, KeepsReaders};
 
 use crate::files::Collected;
 use crate::index_store::IndexStore;
@@ -43,8 +43,7 @@ fn collected(alloc: Global, done: &[FileName], failed: &[FileName]) -> Result<An
 impl<O: Outside> IndexStore<O> {
     // Makes room for the answer to a collection: all names that it may tell are managed.
     fn ready_for_all(&mut self) -> Result<(), Memory>
-        ensures faults { (O.view self.new.outside).faults ≡ (O.view self.old.outside).faults }
-        ensures frame { Asks (OnlyReads O.told) O.view self.old self.new }
+        ensures asks { AsksQuietly O.Directory self.old self.new }
     {
         let all = self.catalog.managed(self.files.managed())?;
         self.files
@@ -73,10 +72,8 @@ impl<O: Outside> IndexStore<O> {
     pub(crate) fn release_segment(&mut self, id: SegmentId) -> Result<Answer, TantivyError>
         ensures step { StepsTo O.Directory self.old self.new
             (λ s. release_segment_step s id) result }
-        ensures room { IfOk result (λ answer. length answer < (O.view self.new.outside).room) }
         ensures lens { (bound : ℕ) → AtMost bound self.old.kept → AtMost bound self.new.kept }
-        ensures faults { EventFaults ⊥ (O.view self.old.outside) (O.view self.new.outside) result }
-        ensures frame { KeepsReaders (OnlyReads O.told) O.view self.old self.new }
+        ensures does { OnFiles O.Directory ⊥ self.old self.new result }
     {
         let Some(segment) = self.catalog.live_segment(id) else {
             return self.refuse("unknown-segment");

@@ -9,11 +9,10 @@ ghost use Rattle.tv_model.specs.Lines.{line};
 ghost use Rattle.tv_model.specs.CommitEvents.{commit_step, committed, first_unsealed, is_sealed, last_stamp};
 ghost use Rattle.tv_model.specs.Commits.{IsSegment, IsCommit};
 ghost use Rattle.tv_model.specs.Index.{IsFileOf};
-ghost use Rattle.tv_directory.specs.View.{OnlyReads};
 ghost use Rattle.tv_managed.specs.Managed.{KeepsOtherFiles};
 ghost use Rattle.tv_store.specs.Kept.{Holds};
 ghost use Rattle.tv_store.specs.FileCalls.{LeavesText};
-ghost use Rattle.tv_store.specs.Stays.{Asks, EventFaults};
+ghost use Rattle.tv_store.specs.Stays.{AsksQuietly, EventFaults, AsksOrFails};
 ghost use Rattle.tv_store.specs.Committing.{Commits, commit_of, IsPrinted, KeepsRest, Publishes, commit_line, unknown_line, unsealed_line};
 
 use crate::answers::refused;
@@ -90,8 +89,7 @@ impl<O: Outside> IndexStore<O> {
         ensures found { O.told.content → (s : State)
             → Holds (O.view self.old.outside).reads self.old.kept s → IsFileOf name.now
             → IfOk result (λ found. found ≡ is_sealed (file_at s name.now)) }
-        ensures faults { EventFaults ⊥ (O.view self.old.outside) (O.view self.new.outside) result }
-        ensures frame { Asks (OnlyReads O.told) O.view self.old self.new }
+        ensures asks { AsksOrFails O.Directory self.old self.new result }
     {
         self.files.is_sealed(name)
     }
@@ -106,8 +104,7 @@ impl<O: Outside> IndexStore<O> {
             → AllByRecursion IsFileOf names.entry.now
             → IfOk result (λ found. option_map (λ name. name.now) found
             ≡ find (λ name. not (is_sealed (file_at s name))) names.entry.now) }
-        ensures faults { EventFaults ⊥ (O.view self.old.outside) (O.view self.new.outside) result }
-        ensures frame { Asks (OnlyReads O.told) O.view self.old self.new }
+        ensures asks { AsksOrFails O.Directory self.old self.new result }
     {
         for name in names {
             if !self.is_sealed(name)? {
@@ -122,8 +119,7 @@ impl<O: Outside> IndexStore<O> {
         ensures answer { IfOk result (λ answer. answer
             ≡ commit_line commit.now.opstamp commit.now.segments) }
         ensures room { IfOk result (λ answer. length answer < (O.view self.new.outside).room) }
-        ensures faults { (O.view self.new.outside).faults ≡ (O.view self.old.outside).faults }
-        ensures frame { Asks (OnlyReads O.told) O.view self.old self.new }
+        ensures asks { AsksQuietly O.Directory self.old self.new }
     {
         self.files.ready(REFUSAL_ROOM)?;
         let answer = commit_answer(self.alloc, commit.opstamp(), commit.len())?;
@@ -134,8 +130,7 @@ impl<O: Outside> IndexStore<O> {
     fn refuse_unknown(&mut self, id: SegmentId) -> Result<Answer, TantivyError>
         ensures answer { IfOk result (λ answer. answer ≡ unknown_line id) }
         ensures room { IfOk result (λ answer. length answer < (O.view self.new.outside).room) }
-        ensures faults { EventFaults ⊥ (O.view self.old.outside) (O.view self.new.outside) result }
-        ensures frame { Asks (OnlyReads O.told) O.view self.old self.new }
+        ensures asks { AsksOrFails O.Directory self.old self.new result }
     {
         let answer = unknown(self.alloc, id)?;
         let ready = self.ready(answer)?;
@@ -146,8 +141,7 @@ impl<O: Outside> IndexStore<O> {
     fn refuse_unsealed(&mut self, name: &FileName) -> Result<Answer, TantivyError>
         ensures answer { IfOk result (λ answer. answer ≡ unsealed_line name.now) }
         ensures room { IfOk result (λ answer. length answer < (O.view self.new.outside).room) }
-        ensures faults { EventFaults ⊥ (O.view self.old.outside) (O.view self.new.outside) result }
-        ensures frame { Asks (OnlyReads O.told) O.view self.old self.new }
+        ensures asks { AsksOrFails O.Directory self.old self.new result }
     {
         let answer = unsealed(self.alloc, name)?;
         let ready = self.ready(answer)?;
@@ -163,8 +157,7 @@ impl<O: Outside> IndexStore<O> {
             (find (λ name. not (is_sealed (file_at s name))) names.now)) }
         ensures room { IfOk result (λ refusal. IfSome refusal
             (λ answer. length answer < (O.view self.new.outside).room)) }
-        ensures faults { EventFaults ⊥ (O.view self.old.outside) (O.view self.new.outside) result }
-        ensures frame { Asks (OnlyReads O.told) O.view self.old self.new }
+        ensures asks { AsksOrFails O.Directory self.old self.new result }
     {
         let Some(name) = self.first_unsealed(names)? else {
             return Ok(None);
@@ -182,8 +175,7 @@ impl<O: Outside> IndexStore<O> {
             (first_unsealed s commit.now.segments)) }
         ensures room { IfOk result (λ refusal. IfSome refusal
             (λ answer. length answer < (O.view self.new.outside).room)) }
-        ensures faults { EventFaults ⊥ (O.view self.old.outside) (O.view self.new.outside) result }
-        ensures frame { Asks (OnlyReads O.told) O.view self.old self.new }
+        ensures asks { AsksOrFails O.Directory self.old self.new result }
     {
         let names = required_files(self.alloc, commit.by_id())?;
         self.refuse_first(names.as_slice())

@@ -3,10 +3,8 @@ ghost use Rattle.std.specs.Prelude.{◌≡◌, ◌<◌, ◌+◌, [], ◌∷◌, 
 ghost use Rattle.std.specs.Fmt.{decimal};
 ghost use Rattle.tv_model.specs.Lines.{line, has_no_feed};
 ghost use Rattle.tv_model.specs.FileEvents.{lacks_deletes, open_step, write_step, seal_step};
-ghost use Rattle.tv_directory.specs.View.{Kept};
 ghost use Rattle.tv_store.specs.Kept.{AtMost, BytesSpent};
-ghost use Rattle.tv_store.specs.Acting.{StepsTo, KeepsMeta};
-ghost use Rattle.tv_store.specs.Stays.{KeepsReaders, EventFaults};
+ghost use Rattle.tv_store.specs.Acting.{StepsTo, OnFiles};
 
 use crate::index_store::IndexStore;
 use crate::names::file_of;
@@ -46,11 +44,8 @@ impl<O: Outside> IndexStore<O> {
     ) -> Result<Answer, TantivyError>
         ensures step { StepsTo O.Directory self.old self.new
             (λ s. open_step s id component) result }
-        ensures room { IfOk result (λ answer. length answer < (O.view self.new.outside).room) }
         ensures lens { (bound : ℕ) → AtMost bound self.old.kept → AtMost bound self.new.kept }
-        ensures faults { EventFaults ⊥ (O.view self.old.outside) (O.view self.new.outside) result }
-        ensures meta { KeepsMeta O.Directory self.old self.new result }
-        ensures frame { KeepsReaders (Kept O.told) O.view self.old self.new }
+        ensures does { OnFiles O.Directory ⊥ self.old self.new result }
     {
         let Some(segment) = self.catalog.live_segment(id) else {
             return self.refuse("unknown-segment");
@@ -77,13 +72,10 @@ impl<O: Outside> IndexStore<O> {
     ) -> Result<Answer, TantivyError>
         ensures step { StepsTo O.Directory self.old self.new
             (λ s. write_step s id component bytes.now) result }
-        ensures room { IfOk result (λ answer. length answer < (O.view self.new.outside).room) }
         ensures lens { (bound : ℕ) → AtMost bound self.old.kept
             → AtMost (bound + length bytes.now) self.new.kept }
-        ensures faults { EventFaults (BytesSpent self.old.kept (length bytes.now))
-            (O.view self.old.outside) (O.view self.new.outside) result }
-        ensures meta { KeepsMeta O.Directory self.old self.new result }
-        ensures frame { KeepsReaders (Kept O.told) O.view self.old self.new }
+        ensures does { OnFiles O.Directory (BytesSpent self.old.kept (length bytes.now))
+            self.old self.new result }
     {
         let Some(segment) = self.catalog.live_segment(id) else {
             return self.refuse("unknown-segment");
@@ -110,11 +102,8 @@ impl<O: Outside> IndexStore<O> {
     ) -> Result<Answer, TantivyError>
         ensures step { StepsTo O.Directory self.old self.new
             (λ s. seal_step s id component) result }
-        ensures room { IfOk result (λ answer. length answer < (O.view self.new.outside).room) }
         ensures lens { (bound : ℕ) → AtMost bound self.old.kept → AtMost bound self.new.kept }
-        ensures faults { EventFaults ⊥ (O.view self.old.outside) (O.view self.new.outside) result }
-        ensures meta { KeepsMeta O.Directory self.old self.new result }
-        ensures frame { KeepsReaders (Kept O.told) O.view self.old self.new }
+        ensures does { OnFiles O.Directory ⊥ self.old self.new result }
     {
         let Some(segment) = self.catalog.live_segment(id) else {
             return self.refuse("unknown-segment");

@@ -10,13 +10,12 @@ ghost use Rattle.tv_model.specs.Listing.{Lists};
 ghost use Rattle.tv_model.specs.Files.{Sets, KeepsOthers};
 ghost use Rattle.tv_model.specs.State.{at};
 ghost use Rattle.tv_model.specs.Lines.{has_no_feed};
-ghost use Rattle.tv_directory.specs.Calls.{DeviceFaults, LockFaults, Acquires, TellsLineTo};
-ghost use Rattle.tv_directory.specs.Locks.{FreesLock};
+ghost use Rattle.tv_directory.specs.Calls.{DeviceFaults, Frees, LockFaults, Acquires, MakesRoom, TellsLineTo};
 ghost use Rattle.tv_directory.specs.View.{Kept, OnlyReads, OnlyLocks, OnlyTells, MayDelete};
 ghost use Rattle.tv_managed.specs.Managed.{KeepsOtherFiles};
 ghost use Rattle.tv_managed.specs.Reading.{ReadsBody};
 ghost use Rattle.tv_store.specs.FileCalls.{Asked, LeavesFiles, OpensFile, FindsFile, ReadBodyFaults, Collects, GcFaults, SavesMeta, LeavesText, KeepsOpenFiles};
-ghost use Rattle.tv_store.specs.Stays.{KeepsManaged, KeepsFiles, EventFaults, Faults};
+ghost use Rattle.tv_store.specs.Stays.{KeepsFiles, OnlyWrites, EventFaults, Faults};
 
 use std::alloc::Global;
 use std::collections::{BTreeMap, BTreeSet};
@@ -153,9 +152,7 @@ impl<O: Outside> Files<O> {
 
     /// Makes room for a line of this length.
     pub(crate) fn ready(&mut self, len: usize) -> Result<(), Memory>
-        ensures made { OnOk result (len < (O.view self.new.outside).room) }
-        ensures faults { (O.view self.new.outside).faults ≡ (O.view self.old.outside).faults }
-        ensures frame { KeepsFiles (OnlyReads O.told) O.view self.old self.new }
+        ensures room { KeepsFiles (MakesRoom O.told len result) O.view self.old self.new }
     {
         self.directory.ready(len)
     }
@@ -187,10 +184,7 @@ impl<O: Outside> Files<O> {
 
     /// Frees a lock. Takes no memory.
     pub(crate) fn release(&mut self, lock: DirectoryLock)
-        ensures freed { O.told.locks → FreesLock (O.view self.old.outside).locks
-            (O.view self.new.outside).locks lock }
-        ensures faults { (O.view self.new.outside).faults ≡ (O.view self.old.outside).faults }
-        ensures frame { KeepsFiles (OnlyLocks O.told) O.view self.old self.new }
+        ensures frees { KeepsFiles (Frees O.told lock) O.view self.old self.new }
     {
         self.directory.release(lock);
     }
@@ -251,8 +245,7 @@ impl<O: Outside> Files<O> {
             (O.view self.new.outside).reads name }
         ensures there { O.told.content
             → OnOk result (IsSome ((O.view self.new.outside).reads name)) }
-        ensures faults { EventFaults ⊥ (O.view self.old.outside) (O.view self.new.outside) result }
-        ensures frame { KeepsManaged (Kept O.told) O.view self.old self.new }
+        ensures rest { OnlyWrites O.Directory self.old self.new result }
     {
         let Some(file) = self.files.remove(&name) else {
             unreachable!()
@@ -276,8 +269,7 @@ impl<O: Outside> Files<O> {
         ensures open_files { self.new.open_files
             ≡ remove_entry (is_at (byte_cmp name.now)) self.old.open_files }
         ensures closed { at self.new.open_files name.now ≡ None }
-        ensures faults { EventFaults ⊥ (O.view self.old.outside) (O.view self.new.outside) result }
-        ensures frame { KeepsManaged (Kept O.told) O.view self.old self.new }
+        ensures rest { OnlyWrites O.Directory self.old self.new result }
     {
         let Some(file) = self.files.remove(name) else {
             unreachable!()

@@ -2,9 +2,8 @@
 ghost use Rattle.std.specs.Prelude.{◌≡◌, ◌<◌, is_ok, None, true, length, IfOk, IfErr};
 ghost use Rattle.tv_model.specs.Machine.{catalog_step};
 ghost use Rattle.tv_model.specs.State.{State};
-ghost use Rattle.tv_directory.specs.Calls.{DeviceFaults};
-ghost use Rattle.tv_directory.specs.Locks.{FreesLock};
-ghost use Rattle.tv_directory.specs.View.{OnlyLocks, OnlyTells};
+ghost use Rattle.tv_directory.specs.Calls.{DeviceFaults, Frees};
+ghost use Rattle.tv_directory.specs.View.{OnlyTells};
 ghost use Rattle.tv_store.specs.Acting.{Acts};
 ghost use Rattle.tv_store.specs.Applying.{Stepped, LeavesMeta, Grows, ApplyFaults, AppliesFrame};
 ghost use Rattle.tv_store.specs.Kept.{Holds};
@@ -172,14 +171,11 @@ impl<O: Outside> IndexStore<O> {
 
     /// The directory, whose writer lock is free. Takes no memory.
     pub fn into_outside(self) -> O
-        ensures freed { O.told.locks → FreesLock (O.view self.outside).locks
-            (O.view result).locks writer_lock_name }
+        ensures frees { Frees O.told writer_lock_name (O.view self.outside) (O.view result) }
         // It holds each state that it held.
         ensures holds { O.told.content → (s : State)
             → Holds (O.view self.outside).reads self.kept s
             → Holds (O.view result).reads self.kept s }
-        ensures faults { (O.view result).faults ≡ (O.view self.outside).faults }
-        ensures frame { OnlyLocks O.told (O.view self.outside) (O.view result) }
     {
         let IndexStore {
             alloc: _,

@@ -1,6 +1,7 @@
 //! Known spellings of numbers, parts of files, and sources and sinks in memory.
 ghost use Rattle.std.specs.Prelude.{◌≡◌, [], ◌∷◌, length};
 
+use crate::compare::{are_bytes, is_file};
 use std::alloc::Global;
 use std::process::Abort;
 use tv_base::{
@@ -11,7 +12,7 @@ use tv_base::{
 fn assert_written(rt: &impl Abort, alloc: Global, number: u64, spelling: &[u8]) {
     let mut out = Vec::new(alloc);
     VInt(number).serialize(&mut out).expect(rt, "memory");
-    assert_eq!(rt; out.as_slice(), spelling);
+    are_bytes(rt, out.as_slice(), spelling);
 }
 
 #[test]
@@ -45,14 +46,9 @@ fn numbers_are_read_from_the_front(rt: HostRuntime) {
     }
 }
 
-// Looks whether these are the bytes.
-fn are_bytes<R: Abort>(rt: &R, bytes: Result<OwnedBytes, Memory>, want: &[u8]) {
-    assert_eq!(rt; bytes.expect(rt, "memory").as_slice(), want);
-}
-
 // Looks whether a part of a file is these bytes.
 fn is_part<R: Abort>(rt: &R, part: Result<FileSlice, Memory>, want: &[u8]) {
-    are_bytes(rt, part.expect(rt, "memory").read_bytes(), want);
+    is_file(rt, &part.expect(rt, "memory"), want);
 }
 
 // All bytes of a file, for which there is memory.
@@ -74,16 +70,18 @@ fn has_parts<R: Abort>(rt: &R, file: &FileSlice)
     is_part(rt, file.share(), b"abcd");
 }
 
-#[test]
-fn parts_of_a_file(rt: HostRuntime) {
-    let file = FileSlice::new(abcd(&rt, rt.alloc()));
-    has_parts(&rt, &file);
+// Looks whether a share of the bytes is the same.
+fn is_shared<R: Abort>(rt: &R, bytes: &OwnedBytes) {
+    let share = bytes.share().expect(rt, "memory");
+    are_bytes(rt, share.as_slice(), b"abcd");
 }
 
 #[test]
-fn bytes_are_shared(rt: HostRuntime) {
+fn bytes_and_parts_of_a_file(rt: HostRuntime) {
     let bytes = abcd(&rt, rt.alloc());
-    are_bytes(&rt, bytes.share(), b"abcd");
+    is_shared(&rt, &bytes);
+    let file = FileSlice::new(bytes);
+    has_parts(&rt, &file);
 }
 
 // What a read answers, and what stands in the buffer then.

@@ -2,10 +2,12 @@
 //! refused.
 ghost use Rattle.std.specs.Prelude.{◌≡◌, [], false};
 
+use crate::answers::{Want, ends};
+use crate::compare::is_file;
 use crate::written::{Content, file_of, is_written, written};
 use std::alloc::Global;
 use std::process::Abort;
-use tv_base::{ByteCount, Field, IoError, IoKind, TerminatingWrite};
+use tv_base::{ByteCount, Field, IoKind, TerminatingWrite};
 use tv_framing::{CompositeFile, CompositeWrite};
 
 // The spelling of 32431123, of 2 and of 1000000 as numbers of variable length.
@@ -108,19 +110,28 @@ fn composite_files_are_written(rt: HostRuntime) {
 // A file, an address, and the body that is read there, if there is one.
 type Row<'a> = (&'a [u8], u32, u64, Option<&'a [u8]>);
 
-fn assert_read(rt: &impl Abort, alloc: Global, row: Row<'_>) {
-    let (bytes, id, idx, want) = row;
-    let file = CompositeFile::open(alloc, &file_of(rt, alloc, bytes)).expect(rt, "composite");
+/// Looks at the only body of a field.
+pub(crate) fn assert_body(rt: &impl Abort, file: &CompositeFile, id: u32, want: &[u8]) {
+    let body = file.open_read(field(id)).expect(rt, "memory");
+    is_file(rt, &body.expect(rt, "a body"), want);
+}
+
+// Looks at the body at an address.
+fn assert_body_at(rt: &impl Abort, file: &CompositeFile, id: u32, idx: u64, want: Option<&[u8]>) {
     match (
         file.open_read_with_idx(field(id), idx).expect(rt, "memory"),
         want,
     ) {
-        (Some(body), Some(want)) => {
-            assert_eq!(rt; body.read_bytes().expect(rt, "memory").as_slice(), want)
-        }
+        (Some(body), Some(want)) => is_file(rt, &body, want),
         (None, None) => {}
         _ => panic!(rt; "field {id} has another body"),
     }
+}
+
+fn assert_read(rt: &impl Abort, alloc: Global, row: Row<'_>) {
+    let (bytes, id, idx, want) = row;
+    let file = CompositeFile::open(alloc, &file_of(rt, alloc, bytes)).expect(rt, "composite");
+    assert_body_at(rt, &file, id, idx, want);
 }
 
 #[test]
@@ -148,13 +159,14 @@ fn composite_files_are_read_back(rt: HostRuntime) {
 
 // Whether a file of these bytes is refused.
 fn is_refused(rt: &impl Abort, alloc: Global, bytes: &[u8]) -> bool {
-    match CompositeFile::open(alloc, &file_of(rt, alloc, bytes)) {
-        Err(IoError::Fault(fault)) => {
-            fault.kind == IoKind::InvalidData
-                && fault.text.as_str() == "Composite file is not of the stated form."
-        }
-        _ => false,
-    }
+    ends(
+        CompositeFile::open(alloc, &file_of(rt, alloc, bytes)),
+        "",
+        Want::Fault(
+            IoKind::InvalidData,
+            "Composite file is not of the stated form.",
+        ),
+    )
 }
 
 #[test]
@@ -180,37 +192,32 @@ fn refused_composite_files(rt: HostRuntime) {
     }
 }
 
+fn push_name(rt: &impl Abort, alloc: Global, names: &mut Vec<String>, name: &str) {
+    let name = String::from_str(alloc, name).expect(rt, "memory");
+    names.push(name).expect(rt, "memory");
+}
+
 // The names of five fields.
 fn five_names(rt: &impl Abort, alloc: Global) -> Vec<String> {
     let mut names = Vec::new(alloc);
     for name in ["f0", "f1", "f2", "f3", "f4"] {
-        names
-            .push(String::from_str(alloc, name).expect(rt, "memory"))
-            .expect(rt, "memory");
+        push_name(rt, alloc, &mut names, name);
     }
     names
 }
 
-// How many bytes the bodies of five fields take.
-fn size_of(rt: &impl Abort, file: &CompositeFile, names: &[String]) -> ByteCount {
-    assert_eq!(rt; names.len(), 5);
-    assert!(rt; file.fields_below(5));
-    file.space_usage(names).expect(rt, "small indexes").total()
-}
-
-fn assert_size(rt: &impl Abort, alloc: Global, file: &CompositeFile) {
-    let names = five_names(rt, alloc);
-    assert!(rt; size_of(rt, file, names.as_slice()) == ByteCount(5));
-}
-
-fn assert_field_4(rt: &impl Abort, file: &CompositeFile) {
-    assert!(rt; file.open_read(field(4)).expect(rt, "memory").is_some());
+// Looks at how many bytes the bodies of five fields take.
+fn assert_size(rt: &impl Abort, file: &CompositeFile, names: &[String]) {
+    assert!(rt; names.len() == 5 && file.fields_below(5));
+    let usage = file.space_usage(names).expect(rt, "small indexes");
+    assert!(rt; usage.total() == ByteCount(5));
 }
 
 #[test]
 fn sizes_of_the_bodies_of_five_fields(rt: HostRuntime) {
     let bytes = file_of(&rt, rt.alloc(), TWO_FIELDS);
     let file = CompositeFile::open(rt.alloc(), &bytes).expect(&rt, "composite");
-    assert_size(&rt, rt.alloc(), &file);
-    assert_field_4(&rt, &file);
+    let names = five_names(&rt, rt.alloc());
+    assert_size(&rt, &file, names.as_slice());
+    assert_body(&rt, &file, 4, TWO);
 }

@@ -1,10 +1,12 @@
 //! The footers of files: their bytes, what is read of them, and what is refused.
 ghost use Rattle.std.specs.Prelude.{◌≡◌, false};
 
+use crate::answers::{Want, ends};
+use crate::compare::is_file;
 use crate::written::{Content, file_of, is_written};
 use std::alloc::Global;
 use std::process::Abort;
-use tv_base::{FileSlice, IoError, IoKind, TerminatingWrite};
+use tv_base::{IoKind, TerminatingWrite};
 use tv_checksum::Crc32;
 use tv_framing::{Footer, FooterProxy};
 
@@ -82,16 +84,12 @@ fn assert_footer(rt: &impl Abort, footer: &Footer, crc: u32, is_compatible: bool
     assert_eq!(rt; footer.is_compatible().is_ok(), is_compatible);
 }
 
-fn assert_body(rt: &impl Abort, body: &FileSlice, want: &[u8]) {
-    assert_eq!(rt; body.read_bytes().expect(rt, "memory").as_slice(), want);
-}
-
 fn assert_read(rt: &impl Abort, alloc: Global, row: Row<'_>) {
     let (bytes, want, crc, is_compatible) = row;
     let file = file_of(rt, alloc, bytes);
     let (footer, body) = Footer::extract_footer(alloc, file).expect(rt, "a footer");
     assert_footer(rt, &footer, crc, is_compatible);
-    assert_body(rt, &body, want);
+    is_file(rt, &body, want);
 }
 
 #[test]
@@ -107,16 +105,17 @@ fn footers_are_read(rt: HostRuntime) {
 }
 
 // Whether a file of these bytes is refused in this way.
-fn is_refused(rt: &impl Abort, alloc: Global, bytes: &[u8], kind: IoKind, text: &str) -> bool {
-    match Footer::extract_footer(alloc, file_of(rt, alloc, bytes)) {
-        Err(IoError::Fault(fault)) => fault.kind == kind && fault.text.as_str() == text,
-        _ => false,
-    }
+fn is_refused(rt: &impl Abort, alloc: Global, bytes: &[u8], want: Want) -> bool {
+    ends(
+        Footer::extract_footer(alloc, file_of(rt, alloc, bytes)),
+        "",
+        want,
+    )
 }
 
 #[test]
 fn refused_footers(rt: HostRuntime) {
-    let rows: [(&[u8], IoKind, &str); 5] = [
+    let rows: [(&[u8], IoKind, &'static str); 5] = [
         (
             &[0, 0, 0, 0, 0x39, 0x05, 0],
             IoKind::UnexpectedEof,
@@ -144,6 +143,9 @@ fn refused_footers(rt: HostRuntime) {
         ),
     ];
     for (bytes, kind, text) in rows {
-        assert!(rt; is_refused(&rt, rt.alloc(), bytes, kind, text), "{text}");
+        assert!(rt;
+            is_refused(&rt, rt.alloc(), bytes, Want::Fault(kind, text)),
+            "{text}"
+        );
     }
 }

@@ -1,8 +1,8 @@
 //! Values that are kept as long as a ticket of theirs is out.
-use std::test::Fail;
-use tv_base::{Inventory, Memory, Ticket, Visit};
+use std::process::Abort;
+use tv_base::{Inventory, Visit};
 
-#[derive(Drop, PartialEq, Eq)]
+#[derive(Clone, Copy, PartialEq, Eq)]
 struct Letter(char);
 
 impl Visit for Letter {
@@ -13,40 +13,34 @@ impl Visit for Letter {
     }
 }
 
-// Whether these are the values.
-fn lists(inventory: &Inventory<Letter>, want: &[char]) -> Result<bool, Memory> {
-    let values = inventory.list()?;
-    Ok(
-        values.len() == want.len()
-            && values
-                .iter()
-                .zip(want.iter())
-                .all(|(letter, want)| letter.0 == *want),
-    )
+// Looks whether these are the values.
+fn lists<R: Abort>(rt: &R, inventory: &Inventory<Letter>, want: &[&Letter]) {
+    let values = inventory.list().expect(rt, "memory");
+    assert!(rt; values.as_slice() == want);
 }
 
-// The second of two tickets of a value, of which the first one is given back.
-fn track(inventory: &mut Inventory<Letter>, value: char) -> Result<Ticket, Fail> {
-    let ticket = inventory.track(Letter(value))?;
-    let other = inventory.share(&ticket)?;
-    inventory.release(ticket);
-    Ok(other)
-}
-
-// Whether a value is visited, and gone with its last ticket.
-fn visits(inventory: &mut Inventory<Letter>) -> Result<bool, Fail> {
-    let ticket = track(inventory, 'x')?;
+// Both values are there as long as each has a ticket, then the other one alone, and then none.
+fn keeps_values<R: Abort>(rt: &R, inventory: &mut Inventory<Letter>) {
+    let first = inventory.track(Letter('x')).expect(rt, "memory");
+    let second = inventory.track(Letter('y')).expect(rt, "memory");
+    let shared = inventory.share(&first).expect(rt, "few tickets");
+    inventory.release(first);
+    lists(rt, inventory, &[&Letter('x'), &Letter('y')]);
     inventory.visit_all();
-    let is_visited = lists(inventory, &['X'])?;
-    inventory.release(ticket);
-    Ok(is_visited && lists(inventory, &[])?)
+    lists(rt, inventory, &[&Letter('X'), &Letter('Y')]);
+    inventory.release(shared);
+    lists(rt, inventory, &[&Letter('Y')]);
+    inventory.release(second);
+    lists(rt, inventory, &[]);
+    // A ticket that is dropped isn't given back.
+    inventory.track(Letter('z')).expect(rt, "memory");
+    lists(rt, inventory, &[&Letter('z')]);
 }
 
 #[test]
-fn tickets_keep_their_values(rt: HostRuntime) -> Result<(), Fail> {
+fn tickets_keep_their_values(rt: HostRuntime) {
     let mut inventory = Inventory::new(rt.alloc());
-    assert!(rt; visits(&mut inventory)?);
-    Ok(())
+    keeps_values(&rt, &mut inventory);
 }
 
 #[test]

@@ -3,13 +3,19 @@
 #![tactic(auto)]
 
 #[cfg(test)]
+mod answers;
+#[cfg(test)]
 mod base;
 #[cfg(test)]
 mod bench;
 #[cfg(test)]
+mod calls;
+#[cfg(test)]
 mod checksum;
 #[cfg(test)]
 mod collections;
+#[cfg(test)]
+mod compare;
 #[cfg(test)]
 mod composites;
 #[cfg(test)]

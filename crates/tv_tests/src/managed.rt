@@ -1,51 +1,36 @@
 //! A managed directory, one call after the other, over a directory that fails.
-ghost use Rattle.std.specs.Prelude.{◌≡◌, ◌≢◌, ◌+◌, ◌<◌, ◌^◌, true, length, OnOk};
+ghost use Rattle.std.specs.Prelude.{◌≡◌, ◌≢◌, ◌+◌, ◌<◌, ◌^◌, true, length, None};
 ghost use Rattle.tv_model.specs.Names.{is_file_name, list_name};
 
+use crate::answers::{Answer, Want, ends};
 use crate::empty::{Empty, TestBench};
-use crate::failures::{Failure, failure_of};
 use crate::sealed_files::{Row, takes};
 use std::alloc::Global;
 use std::collections::BTreeSet;
-use std::test::Fail;
-use tv_base::{
-    DeleteError, IoError, IoKind, LockError, MANAGED_FILEPATH, OpenReadError, OpenWriteError,
-    TantivyError, is_plain_name,
-};
-use tv_directory::{Bench, Directory, meta_lock};
-use tv_managed::{GarbageCollectionResult, ManagedDirectory, ManagedWriter, Refused};
-use tv_model::Memory;
+use std::process::Abort;
+use tv_base::{MANAGED_FILEPATH, TantivyError, is_plain_name};
+use tv_directory::{Bench, Directory, NoWatch, meta_lock};
+use tv_managed::{GarbageCollectionResult, ManagedDirectory, ManagedWriter};
 
-pub(crate) type TestDirectory = ManagedDirectory<TestBench>;
-
-/// A call on a file, and how it ends.
+/// A call on a file.
 #[derive(Clone, Copy)]
 pub(crate) enum Call {
-    AtomicWrite,
-    /// The file is made, the text is written and flushed, and the file is sealed.
-    Seal,
-    /// The device refuses an atomic write, or the making of a file.
-    IsNotWritten,
-    IsNotMade,
     Exists,
-    /// The body is this text, or all bytes are.
-    Reads,
-    Stores,
-    /// The name doesn't exist. The other calls find no file of it, and say so.
-    IsAbsent,
-    IsNotOpened,
-    HasNoHandle,
-    IsNotChecked,
-    IsNotRead,
-    IsNotDeleted,
+    OpenRead,
+    GetFileHandle,
+    ValidateChecksum,
+    AtomicRead,
+    AtomicWrite,
+    /// The file is made, the text is written and flushed, and the file is sealed. Only the making may be refused.
+    Seal,
     Delete,
 }
 
 /// What is done with the directory, and what it is to answer.
 #[derive(Clone, Copy)]
 pub(crate) enum Step {
-    /// A call on the file of this name and text.
-    On(Call, &'static str, &'static str),
+    /// A call on the file of this name, with a text to write.
+    On(Call, &'static str, &'static str, Want),
     Sync,
     /// The lock of the readers is busy until it is released.
     Lock,
@@ -57,223 +42,93 @@ pub(crate) enum Step {
     List(&'static str),
     /// The managed names, in any order.
     Names(&'static [&'static str]),
-    /// A collection deletes some names, and fails to delete others.
-    Collect {
-        living: &'static [&'static str],
-        deleted: &'static [&'static str],
-        failed: &'static [&'static str],
-    },
-    /// The device ends a collection that spares no name.
-    CollectFails,
+    /// A collection that spares these names.
+    Collect(&'static [&'static str], Want),
     /// The bytes of a file, and how it reads.
     Footer(&'static Row),
 }
 
-// Whether these texts are these names.
-fn are(texts: &[String], names: &[&str]) -> bool {
-    texts.len() == names.len()
-        && texts
-            .iter()
-            .zip(names.iter())
-            .all(|(text, name)| text.as_str() == *name)
-}
-
-fn set_of(alloc: Global, names: &[&str]) -> Result<BTreeSet<String>, Memory> {
-    let mut set = BTreeSet::new(alloc);
-    for name in names {
-        set.insert(String::from_str(alloc, name)?)?;
-    }
-    Ok(set)
-}
-
-// Whether a read is refused since no file has this name.
-fn finds_none<T: Drop>(answer: Result<T, OpenReadError>, name: &str) -> bool {
-    match answer {
-        Err(OpenReadError::FileDoesNotExist(path)) => path.as_str() == name,
-        _ => false,
-    }
-}
-
-fn is_not_deleted<D: Directory>(managed: &mut ManagedDirectory<D>, name: &str) -> bool
-    requires name { is_file_name name.now ≡ true }
-    requires other { name.now ≢ list_name }
-{
-    match managed.delete(name) {
-        Err(DeleteError::FileDoesNotExist(path)) => path.as_str() == name,
-        _ => false,
-    }
-}
-
-fn is_not_written(answer: Result<(), IoError>) -> bool {
-    match answer {
-        Err(IoError::Fault(fault)) => fault.kind == IoKind::Device,
-        _ => false,
-    }
-}
-
-fn is_not_made<W: Drop>(answer: Result<W, OpenWriteError>, name: &str) -> bool {
-    match answer {
-        Err(OpenWriteError::IoError { io_error, filepath }) => {
-            io_error.kind == IoKind::Device && filepath.as_str() == name
-        }
-        _ => false,
-    }
-}
-
-fn write<D: Directory>(
-    managed: &mut ManagedDirectory<D>,
-    name: &str,
-    text: &str,
-) -> Result<bool, Fail>
-    requires name { is_file_name name.now ≡ true }
-    requires other { name.now ≢ list_name }
-{
-    managed.atomic_write(name, text.as_bytes())?;
-    Ok(true)
-}
-
 // Writes a text, and flushes it.
-fn fill<D: Directory>(
+fn fill<R: Abort, D: Directory>(
+    rt: &R,
     managed: &mut ManagedDirectory<D>,
     writer: &mut ManagedWriter<D>,
-    text: &str,
-) -> Result<(), IoError>
+    bytes: &[u8],
+)
     requires opened { (D.view managed.old.0).opened writer.old.writer ≡ true }
-    requires fits { length (D.state_of writer.old.writer).written + length text.now < 2 ^ 64 }
-    ensures opened { OnOk result ((D.view managed.new.0).opened writer.new.writer ≡ true) }
+    requires fits { length (D.state_of writer.old.writer).written + length bytes.now < 2 ^ 64 }
+    ensures opened { (D.view managed.new.0).opened writer.new.writer ≡ true }
 {
-    managed.write(writer, text.as_bytes())?;
-    managed.flush(writer)
+    managed.write(writer, bytes).expect(rt, "written");
+    managed.flush(writer).expect(rt, "flushed");
 }
 
-fn seal<D: Directory>(
+fn seal<R: Abort, D: Directory>(
+    rt: &R,
     managed: &mut ManagedDirectory<D>,
     name: &str,
-    text: &str,
-) -> Result<bool, Fail>
+    bytes: &[u8],
+    want: Want,
+) -> bool
     requires name { is_file_name name.now ≡ true }
     requires other { name.now ≢ list_name }
 {
-    let mut writer = managed.open_write(name)?;
-    fill(managed, &mut writer, text)?;
-    managed.terminate(writer)?;
-    Ok(true)
-}
-
-fn exists<D: Directory>(managed: &mut ManagedDirectory<D>, name: &str) -> Result<bool, Fail>
-    requires { is_file_name name.now ≡ true }
-{
-    Ok(managed.exists(name)?)
-}
-
-fn is_absent<D: Directory>(managed: &mut ManagedDirectory<D>, name: &str) -> Result<bool, Fail>
-    requires { is_file_name name.now ≡ true }
-{
-    Ok(!managed.exists(name)?)
-}
-
-// Whether the body of a file is this text.
-fn reads<D: Directory>(
-    managed: &mut ManagedDirectory<D>,
-    name: &str,
-    text: &str,
-) -> Result<bool, Fail>
-    requires { is_file_name name.now ≡ true }
-{
-    let body = managed.get_file_handle(name)?;
-    Ok(body.as_slice() == text.as_bytes())
-}
-
-// Whether all bytes of a file are this text.
-fn stores<D: Directory>(
-    managed: &mut ManagedDirectory<D>,
-    name: &str,
-    text: &str,
-) -> Result<bool, Fail>
-    requires { is_file_name name.now ≡ true }
-{
-    let bytes = managed.atomic_read(name)?;
-    Ok(bytes.as_slice() == text.as_bytes())
-}
-
-fn delete<D: Directory>(managed: &mut ManagedDirectory<D>, name: &str) -> Result<bool, Fail>
-    requires name { is_file_name name.now ≡ true }
-    requires other { name.now ≢ list_name }
-{
-    managed.delete(name)?;
-    Ok(true)
+    match managed.open_write(name) {
+        Ok(writer) => {
+            let mut writer = writer;
+            fill(rt, managed, &mut writer, bytes);
+            ends(managed.terminate(writer), name, Want::Done) && matches!(want, Want::Done)
+        }
+        Err(error) => error.is(name, want),
+    }
 }
 
 // Makes a call on a file of this name, and answers whether it ended as it is to end.
-fn take_on<D: Directory>(
+fn take_on<R: Abort, D: Directory>(
+    rt: &R,
     managed: &mut ManagedDirectory<D>,
     call: Call,
     name: &str,
-    text: &str,
-) -> Result<bool, Fail>
+    bytes: &[u8],
+    want: Want,
+) -> bool
     requires name { is_file_name name.now ≡ true }
     requires other { name.now ≢ list_name }
 {
     match call {
-        Call::AtomicWrite => write(managed, name, text),
-        Call::Seal => seal(managed, name, text),
-        Call::IsNotWritten => Ok(is_not_written(managed.atomic_write(name, b"new"))),
-        Call::IsNotMade => Ok(is_not_made(managed.open_write(name), name)),
-        Call::Exists => exists(managed, name),
-        Call::Reads => reads(managed, name, text),
-        Call::Stores => stores(managed, name, text),
-        Call::IsAbsent => is_absent(managed, name),
-        Call::IsNotOpened => Ok(finds_none(managed.open_read(name), name)),
-        Call::HasNoHandle => Ok(finds_none(managed.get_file_handle(name), name)),
-        Call::IsNotChecked => Ok(finds_none(managed.validate_checksum(name), name)),
-        Call::IsNotRead => Ok(finds_none(managed.atomic_read(name), name)),
-        Call::IsNotDeleted => Ok(is_not_deleted(managed, name)),
-        Call::Delete => delete(managed, name),
+        Call::Exists => ends(managed.exists(name), name, want),
+        Call::OpenRead => ends(managed.open_read(name), name, want),
+        Call::GetFileHandle => ends(managed.get_file_handle(name), name, want),
+        Call::ValidateChecksum => ends(managed.validate_checksum(name), name, want),
+        Call::AtomicRead => ends(managed.atomic_read(name), name, want),
+        Call::AtomicWrite => ends(managed.atomic_write(name, bytes), name, want),
+        Call::Seal => seal(rt, managed, name, bytes, want),
+        Call::Delete => ends(managed.delete(name), name, want),
     }
 }
 
-fn on_file<D: Directory>(
+/// Makes a call on a file, and answers whether it ended as it is to end.
+pub(crate) fn on_file<R: Abort, D: Directory>(
+    rt: &R,
     managed: &mut ManagedDirectory<D>,
     call: Call,
     name: &str,
-    text: &str,
-) -> Result<bool, Fail> {
-    if !is_plain_name(name) || name == MANAGED_FILEPATH {
-        return Err(Fail::from("no file has this name"));
-    }
-    take_on(managed, call, name, text)
+    bytes: &[u8],
+    want: Want,
+) -> bool {
+    is_plain_name(name) && name != MANAGED_FILEPATH && take_on(rt, managed, call, name, bytes, want)
 }
 
-fn is_locked<D: Directory>(managed: &mut ManagedDirectory<D>) -> bool {
-    match managed.acquire_lock(&meta_lock()) {
-        Err(LockError::LockBusy) => true,
-        _ => false,
-    }
-}
-
-fn lock<D: Directory>(managed: &mut ManagedDirectory<D>) -> Result<bool, Fail> {
-    let token = managed.acquire_lock(&meta_lock())?;
-    let is_locked = is_locked(managed);
+fn lock<R: Abort, D: Directory>(rt: &R, managed: &mut ManagedDirectory<D>) -> bool {
+    let token = managed.acquire_lock(&meta_lock()).expect(rt, "a free lock");
+    let is_busy = ends(managed.acquire_lock(&meta_lock()), "", Want::Busy);
     managed.release(token);
-    Ok(is_locked)
+    is_busy
 }
 
-fn watch<D: Empty>(managed: &mut ManagedDirectory<D>) -> Result<bool, Fail> {
-    let handle = managed.watch(D::nobody())?;
+fn watch<R: Abort, D: Empty>(rt: &R, managed: &mut ManagedDirectory<D>) {
+    let handle = managed.watch(D::nobody()).expect(rt, "memory");
     managed.unwatch(handle);
-    Ok(true)
-}
-
-// Whether there is a notice, and one alone.
-fn deliver<D: Directory>(managed: &mut ManagedDirectory<D>) -> bool {
-    let is_first = managed.deliver();
-    let is_second = managed.deliver();
-    is_first && !is_second
-}
-
-fn sync<D: Directory>(managed: &mut ManagedDirectory<D>) -> Result<bool, Fail> {
-    managed.sync_directory()?;
-    Ok(true)
 }
 
 fn are_managed<D: Directory>(managed: &ManagedDirectory<D>, names: &[&str]) -> bool {
@@ -281,130 +136,109 @@ fn are_managed<D: Directory>(managed: &ManagedDirectory<D>, names: &[&str]) -> b
     managed.len() == names.len() && names.iter().all(|name| managed.contains(*name))
 }
 
-fn collect<D: Directory>(
+fn set_of<R: Abort>(rt: &R, alloc: Global, names: &[&str]) -> BTreeSet<String> {
+    let mut set = BTreeSet::new(alloc);
+    for name in names {
+        let name = String::from_str(alloc, name).expect(rt, "memory");
+        set.insert(name).expect(rt, "memory");
+    }
+    set
+}
+
+// A collection that spares these names.
+fn collect<R: Abort, D: Directory>(
+    rt: &R,
     managed: &mut ManagedDirectory<D>,
     alloc: Global,
     living: &[&str],
 ) -> Result<GarbageCollectionResult, TantivyError> {
-    let living = set_of(alloc, living)?;
+    let living = set_of(rt, alloc, living);
     managed.garbage_collect(|| living)
 }
 
-// Whether a collection deletes these names, and fails to delete those.
-fn collects<D: Directory>(
-    managed: &mut ManagedDirectory<D>,
-    alloc: Global,
-    living: &[&str],
-    deleted: &[&str],
-    failed: &[&str],
-) -> Result<bool, Fail> {
-    let result = collect(managed, alloc, living)?;
-    Ok(
-        are(result.deleted_files.as_slice(), deleted)
-            && are(result.failed_to_delete_files.as_slice(), failed),
-    )
-}
-
-fn is_device(failure: Failure<'_>) -> bool {
-    match failure {
-        Failure::Io(kind) => kind == IoKind::Device,
-        _ => false,
-    }
-}
-
-// Whether the device ends a collection.
-fn is_not_collected(answer: &Result<GarbageCollectionResult, TantivyError>) -> bool {
-    match answer {
-        Ok(_) => false,
-        Err(error) => is_device(failure_of(error)),
-    }
-}
-
-fn fails_to_collect<D: Directory>(managed: &mut ManagedDirectory<D>, alloc: Global) -> bool {
-    is_not_collected(&collect(managed, alloc, &[]))
-}
-
-fn lists<D: Directory>(managed: &mut ManagedDirectory<D>, text: &str) -> Result<bool, Fail> {
-    stores(managed, MANAGED_FILEPATH, text)
-}
-
-fn take<D: Empty>(
+fn take<R: Abort, D: Empty>(
+    rt: &R,
     managed: &mut ManagedDirectory<D>,
     alloc: Global,
     step: Step,
-) -> Result<bool, Fail> {
+) -> bool {
     match step {
-        Step::On(call, name, text) => on_file(managed, call, name, text),
-        Step::Sync => sync(managed),
-        Step::Lock => lock(managed),
-        Step::Watch => watch(managed),
-        Step::Deliver => Ok(deliver(managed)),
-        Step::List(text) => lists(managed, text),
-        Step::Names(names) => Ok(are_managed(managed, names)),
-        Step::Collect {
-            living,
-            deleted,
-            failed,
-        } => collects(managed, alloc, living, deleted, failed),
-        Step::CollectFails => Ok(fails_to_collect(managed, alloc)),
-        Step::Footer(row) => takes(managed, *row),
-    }
-}
-
-// The first step that ends otherwise, counted from 0.
-fn first_miss<D: Empty>(
-    managed: &mut ManagedDirectory<D>,
-    alloc: Global,
-    steps: &[Step],
-) -> Result<Option<usize>, Fail> {
-    for (number, step) in steps.iter().enumerate() {
-        if !take(managed, alloc, *step)? {
-            return Ok(Some(number));
+        Step::On(call, name, text, want) => {
+            on_file(rt, managed, call, name, text.as_bytes(), want)
         }
+        Step::Sync => ends(managed.sync_directory(), "", Want::Done),
+        Step::Lock => lock(rt, managed),
+        Step::Watch => {
+            watch(rt, managed);
+            true
+        }
+        Step::Deliver => managed.deliver() && !managed.deliver(),
+        Step::List(text) => ends(
+            managed.atomic_read(MANAGED_FILEPATH),
+            MANAGED_FILEPATH,
+            Want::Text(text),
+        ),
+        Step::Names(names) => are_managed(managed, names),
+        Step::Collect(living, want) => ends(collect(rt, managed, alloc, living), "", want),
+        Step::Footer(row) => takes(rt, managed, *row),
     }
-    Ok(None)
 }
 
-fn first_miss_behind<D: Empty>(
+fn take_all<R: Abort, D: Empty>(
+    rt: &R,
     managed: &mut ManagedDirectory<D>,
     alloc: Global,
-    given: &[Step],
     steps: &[Step],
-) -> Result<Option<usize>, Fail> {
-    match first_miss(managed, alloc, given)? {
-        None => first_miss(managed, alloc, steps),
-        Some(_) => Err(Fail::from("a step that is given ends otherwise")),
+) {
+    for (number, step) in steps.iter().enumerate() {
+        assert!(rt;
+            take(rt, managed, alloc, *step),
+            "step {number} ends otherwise"
+        );
+    }
+}
+
+// A directory without files, whose device refuses the calls with these numbers.
+fn refusing<R: Abort>(rt: &R, alloc: Global, refused: &[u64]) -> TestBench
+    ensures { (⟦<Bench<NoWatch> as Directory>⟧.view result).reads list_name ≡ None }
+{
+    let calls = Vec::from_slice(alloc, refused).expect(rt, "memory");
+    let mut bench = Bench::new(alloc, Vec::new(alloc)).expect(rt, "memory");
+    bench.fail_at(calls);
+    bench
+}
+
+fn wrapped<R: Abort, D: Empty>(rt: &R, alloc: Global, directory: D) -> ManagedDirectory<D>
+    requires { (D.view directory).reads list_name ≡ None }
+{
+    match ManagedDirectory::wrap(alloc, directory) {
+        Ok(managed) => managed,
+        Err(_) => panic!(rt; "it is wrapped"),
     }
 }
 
 /// A managed directory without files, whose device refuses the calls with these numbers.
-pub(crate) fn failing(alloc: Global, refused: &[u64]) -> Result<TestDirectory, Fail> {
-    let calls = Vec::from_slice(alloc, refused)?;
-    let mut bench = Bench::new(alloc, Vec::new(alloc))?;
-    bench.fail_at(calls);
-    match ManagedDirectory::wrap(alloc, bench) {
-        Ok(managed) => Ok(managed),
-        Err(
-            Refused {
-                error,
-                directory: _,
-            },
-        ) => Err(error.into()),
-    }
+pub(crate) fn failing<R: Abort>(
+    rt: &R,
+    alloc: Global,
+    refused: &[u64],
+) -> ManagedDirectory<TestBench> {
+    wrapped(rt, alloc, refusing(rt, alloc, refused))
 }
 
-/// The first step in such a directory that ends otherwise, counted from 0 behind those that are given, and
-/// how many calls were refused that weren't deletes.
-pub(crate) fn miss_of(
+/// Takes the steps in such a directory, behind those that are given, and counts the refused calls that
+/// weren't deletes.
+pub(crate) fn faults_of<R: Abort>(
+    rt: &R,
     alloc: Global,
     refused: &[u64],
     given: &[Step],
     steps: &[Step],
-) -> Result<(Option<usize>, u64), Fail> {
-    let mut managed = failing(alloc, refused)?;
-    let miss = first_miss_behind(&mut managed, alloc, given, steps);
-    let bench = managed.into_directory();
-    Ok((miss?, bench.faults()))
+) -> u64 {
+    let mut managed = failing(rt, alloc, refused);
+    take_all(rt, &mut managed, alloc, given);
+    take_all(rt, &mut managed, alloc, steps);
+    managed.into_directory().faults()
 }
 
 // The checksum of `123456789` is CBF43926.
@@ -412,59 +246,57 @@ const SEALED: &str =
     "123456789{\"version\":{\"major\":0,\"minor\":26,\"patch\":2,\"index_format_version\":7},\"crc\":3421780262}\x56\x00\x00\x00\x39\x05\x00\x00";
 
 const FILES: [Step; 24] = [
-    Step::On(Call::IsAbsent, "a.idx", ""),
-    Step::On(Call::IsNotOpened, "a.idx", ""),
-    Step::On(Call::HasNoHandle, "a.idx", ""),
-    Step::On(Call::IsNotChecked, "a.idx", ""),
-    Step::On(Call::IsNotRead, "a.idx", ""),
-    Step::On(Call::IsNotDeleted, "a.idx", ""),
-    Step::On(Call::Seal, "a.idx", "123456789"),
+    Step::On(Call::Exists, "a.idx", "", Want::Is(false)),
+    Step::On(Call::OpenRead, "a.idx", "", Want::Absent),
+    Step::On(Call::GetFileHandle, "a.idx", "", Want::Absent),
+    Step::On(Call::ValidateChecksum, "a.idx", "", Want::Absent),
+    Step::On(Call::AtomicRead, "a.idx", "", Want::Absent),
+    Step::On(Call::Delete, "a.idx", "", Want::Absent),
+    Step::On(Call::Seal, "a.idx", "123456789", Want::Done),
     Step::List("[\"a.idx\"]\n"),
-    Step::On(Call::Reads, "a.idx", "123456789"),
-    Step::On(Call::Stores, "a.idx", SEALED),
-    Step::On(Call::AtomicWrite, "meta.json", "{}"),
+    Step::On(Call::GetFileHandle, "a.idx", "", Want::Text("123456789")),
+    Step::On(Call::AtomicRead, "a.idx", "", Want::Text(SEALED)),
+    Step::On(Call::AtomicWrite, "meta.json", "{}", Want::Done),
     Step::Sync,
-    Step::On(Call::Exists, "meta.json", ""),
+    Step::On(Call::Exists, "meta.json", "", Want::Is(true)),
     Step::List("[\"a.idx\",\"meta.json\"]\n"),
     Step::Names(&["a.idx", "meta.json"]),
-    Step::On(Call::Delete, "a.idx", ""),
-    Step::On(Call::IsAbsent, "a.idx", ""),
+    Step::On(Call::Delete, "a.idx", "", Want::Done),
+    Step::On(Call::Exists, "a.idx", "", Want::Is(false)),
     // A deleted file stays managed.
     Step::Names(&["a.idx", "meta.json"]),
     Step::Lock,
     Step::Lock,
     Step::Watch,
-    Step::On(Call::AtomicWrite, "meta.json", "{}"),
+    Step::On(Call::AtomicWrite, "meta.json", "{}", Want::Done),
     Step::Deliver,
-    Step::On(Call::Exists, "meta.json", ""),
+    Step::On(Call::Exists, "meta.json", "", Want::Is(true)),
 ];
 
 #[test]
-fn a_file_is_listed_and_sealed(rt: HostRuntime) -> Result<(), Fail> {
-    assert_eq!(rt; miss_of(rt.alloc(), &[], &[], &FILES)?, (None, 0));
-    Ok(())
+fn a_file_is_listed_and_sealed(rt: HostRuntime) {
+    assert_eq!(rt; faults_of(&rt, rt.alloc(), &[], &[], &FILES), 0);
 }
 
 // A name is registered by a write of the list and a sync.
 const REFUSED: [Step; 10] = [
-    Step::On(Call::IsNotWritten, "a.idx", ""),
+    Step::On(Call::AtomicWrite, "a.idx", "new", Want::Refused),
     Step::Names(&[]),
-    Step::On(Call::IsNotMade, "a.idx", ""),
+    Step::On(Call::Seal, "a.idx", "", Want::Refused),
     Step::Names(&[]),
     // Only the sync was refused.
     Step::List("[\"a.idx\"]\n"),
-    Step::On(Call::IsNotMade, "a.idx", ""),
+    Step::On(Call::Seal, "a.idx", "", Want::Refused),
     // The name was registered before the making of the file was refused.
     Step::Names(&["a.idx"]),
-    Step::On(Call::IsAbsent, "a.idx", ""),
-    Step::On(Call::Seal, "a.idx", "123456789"),
-    Step::On(Call::Reads, "a.idx", "123456789"),
+    Step::On(Call::Exists, "a.idx", "", Want::Is(false)),
+    Step::On(Call::Seal, "a.idx", "123456789", Want::Done),
+    Step::On(Call::GetFileHandle, "a.idx", "", Want::Text("123456789")),
 ];
 
 // The calls of the device are: a write of the list; whether the file is there, a write of the list, and a
 // sync; a read of the list; whether the file is there, a write of the list, a sync, and the making.
 #[test]
-fn a_refused_registration_manages_no_name(rt: HostRuntime) -> Result<(), Fail> {
-    assert_eq!(rt; miss_of(rt.alloc(), &[0, 3, 8], &[], &REFUSED)?, (None, 3));
-    Ok(())
+fn a_refused_registration_manages_no_name(rt: HostRuntime) {
+    assert_eq!(rt; faults_of(&rt, rt.alloc(), &[0, 3, 8], &[], &REFUSED), 3);
 }

@@ -1,4 +1,5 @@
 //! Ids, and the names of a segment's files.
+use crate::compare::is_text;
 use crate::printing::{debugs, prints};
 use std::alloc::Global;
 use std::process::Abort;
@@ -16,8 +17,8 @@ fn id() -> SegmentId {
 }
 
 // Looks whether there was memory for a text, and it is this one.
-fn is_text<R: Abort>(rt: &R, text: Result<String, Memory>, want: &str) {
-    assert_eq!(rt; text.expect(rt, "memory").as_str(), want);
+fn is_made<R: Abort>(rt: &R, text: Result<String, Memory>, want: &str) {
+    is_text(rt, text.expect(rt, "memory").as_str(), want);
 }
 
 #[test]
@@ -25,8 +26,8 @@ fn an_id_is_printed(rt: HostRuntime) {
     let a = rt.alloc();
     prints(&rt, a, id(), "Seg(\"a5c4dfcb\")");
     debugs(&rt, a, id(), "Seg(\"a5c4dfcb\")");
-    is_text(&rt, id().uuid_string(a), "a5c4dfcbdfe645089129e308e26d5523");
-    is_text(
+    is_made(&rt, id().uuid_string(a), "a5c4dfcbdfe645089129e308e26d5523");
+    is_made(
         &rt,
         id().hyphenated_string(a),
         "a5c4dfcb-dfe6-4508-9129-e308e26d5523",
@@ -40,8 +41,11 @@ fn a_file_is_named_after_its_segment(rt: HostRuntime) {
         opstamp: 7,
     };
     let made = segment_file_name(rt.alloc(), id(), Some(deletes), SegmentComponent::Delete);
-    let name = made.expect(&rt, "memory");
-    assert_eq!(rt; name.as_str(), "a5c4dfcbdfe645089129e308e26d5523.7.del");
+    is_text(
+        &rt,
+        made.expect(&rt, "memory").as_str(),
+        "a5c4dfcbdfe645089129e308e26d5523.7.del",
+    );
 }
 
 // That many ids, the number of each in its last bytes, highest first.

@@ -1,4 +1,5 @@
 //! What is printed.
+use crate::compare::is_text;
 use std::alloc::Global;
 use std::fmt::{Debug, Display};
 use std::process::Abort;
@@ -11,11 +12,11 @@ pub fn text<R: Abort>(rt: &R, alloc: Global, words: &str) -> String {
 /// `Display` prints this.
 pub fn prints<R: Abort, E: Display + Drop>(rt: &R, alloc: Global, shown: E, want: &str) {
     let printed = format!(in alloc; "{shown}").expect(rt, "memory");
-    assert_eq!(rt; printed.as_str(), want);
+    is_text(rt, printed.as_str(), want);
 }
 
 /// `Debug` prints this.
 pub fn debugs<R: Abort, E: Debug + Drop>(rt: &R, alloc: Global, shown: E, want: &str) {
     let printed = format!(in alloc; "{shown:?}").expect(rt, "memory");
-    assert_eq!(rt; printed.as_str(), want);
+    is_text(rt, printed.as_str(), want);
 }

@@ -1,11 +1,13 @@
 //! Callbacks: that they are called, in which order, and until when.
 
+ghost use Rattle.std.specs.Prelude.{◌≡◌, true};
+ghost use Rattle.tv_model.specs.Names.{is_file_name};
+
 use std::alloc::Global;
 use std::mem;
+use std::process::Abort;
 use std::sync::Arc;
 use std::sync::atomic::{AtomicU64, Ordering};
-use std::test::Fail;
-use tv_base::{Memory, is_plain_name};
 use tv_directory::{
     Directory, RamDirectory, WatchCall, WatchCallback, WatchCallbackList, WatchHandle,
 };
@@ -31,19 +33,20 @@ impl WatchCall for Counts {
 }
 
 // A callback of the number, in a box.
-fn boxed(
+fn boxed<R: Abort>(
+    rt: &R,
     alloc: Global,
     number: &Arc<AtomicU64>,
     times: u64,
     plus: u64,
-) -> Result<WatchCallback, Fail> {
+) -> WatchCallback {
     let counts = Counts {
-        number: Arc::try_clone(number)?,
+        number: Arc::try_clone(number).expect(rt, "few clones"),
         times,
         plus,
         calls: 0,
     };
-    Ok(WatchCallback::new(Box::new(alloc, counts)?))
+    WatchCallback::new(Box::new(alloc, counts).expect(rt, "memory"))
 }
 
 // A call on a list of callbacks. The handles are counted from 0 on in the order in which they came.
@@ -70,61 +73,57 @@ struct Watched {
 }
 
 impl Watched {
-    fn subscribe(&mut self, times: u64, plus: u64) -> Result<(), Fail> {
-        let callback = boxed(self.alloc, &self.number, times, plus)?;
-        let handle = self.list.subscribe(callback)?;
-        Ok(self.handles.push(handle)?)
+    fn subscribe<R: Abort>(&mut self, rt: &R, times: u64, plus: u64) {
+        let callback = boxed(rt, self.alloc, &self.number, times, plus);
+        let handle = self.list.subscribe(callback).expect(rt, "memory");
+        self.handles.push(handle).expect(rt, "memory");
     }
 
-    fn share(&mut self, number: usize) -> Result<(), Fail> {
+    fn share<R: Abort>(&mut self, rt: &R, number: usize) {
         let Some(handle) = self.handles.get(number) else {
-            return Err(Fail::from("no handle has this number"));
+            panic!(rt; "no handle has this number")
         };
-        let other = self.list.share(handle)?;
-        Ok(self.handles.push(other)?)
+        let other = self.list.share(handle).expect(rt, "few handles");
+        self.handles.push(other).expect(rt, "memory");
     }
 
-    fn release(&mut self, number: usize) -> Result<(), Fail> {
+    fn release<R: Abort>(&mut self, rt: &R, number: usize) {
         let Some(handle) = self.handles.get_mut(number) else {
-            return Err(Fail::from("no handle has this number"));
+            panic!(rt; "no handle has this number")
         };
         self.list
             .release(mem::replace(handle, WatchHandle::empty()));
-        Ok(())
     }
 
     // Takes a step, and answers whether the number is what it is to be.
-    fn take(&mut self, step: Step) -> Result<bool, Fail> {
+    fn take<R: Abort>(&mut self, rt: &R, step: Step) -> bool {
         match step {
-            Step::Subscribe { times, plus } => self.subscribe(times, plus)?,
-            Step::Share(number) => self.share(number)?,
-            Step::Release(number) => self.release(number)?,
+            Step::Subscribe { times, plus } => self.subscribe(rt, times, plus),
+            Step::Share(number) => self.share(rt, number),
+            Step::Release(number) => self.release(rt, number),
             Step::ReleaseUnknown => self.list.release(WatchHandle::new(7)),
             Step::Broadcast => drop(self.list.broadcast()),
-            Step::Is(number) => return Ok(self.number.load(Ordering::SeqCst) == number),
+            Step::Is(number) => return self.number.load(Ordering::SeqCst) == number,
         }
-        Ok(true)
+        true
     }
 
-    // The first step that ends otherwise, counted from 0.
-    fn first_miss(&mut self, steps: &[Step]) -> Result<Option<usize>, Fail> {
+    fn take_all<R: Abort>(&mut self, rt: &R, steps: &[Step]) {
         for (number, step) in steps.iter().enumerate() {
-            if !self.take(*step)? {
-                return Ok(Some(number));
-            }
+            assert!(rt; self.take(rt, *step), "step {number} ends otherwise");
         }
-        Ok(None)
     }
 }
 
-fn first_miss(alloc: Global, steps: &[Step]) -> Result<Option<usize>, Fail> {
+fn take_all<R: Abort>(rt: &R, alloc: Global, steps: &[Step]) {
+    let number = Arc::new(alloc, AtomicU64::new(0)).expect(rt, "memory");
     let mut watched = Watched {
         alloc,
-        number: Arc::new(alloc, AtomicU64::new(0))?,
+        number,
         list: WatchCallbackList::new(alloc),
         handles: Vec::new(alloc),
     };
-    watched.first_miss(steps)
+    watched.take_all(rt, steps);
 }
 
 const SUMS: [Step; 12] = [
@@ -143,9 +142,8 @@ const SUMS: [Step; 12] = [
 ];
 
 #[test]
-fn callbacks_of_1_and_10_give_22_and_32_and_32(rt: HostRuntime) -> Result<(), Fail> {
-    assert_eq!(rt; first_miss(rt.alloc(), &SUMS)?, None);
-    Ok(())
+fn callbacks_of_1_and_10_give_22_and_32_and_32(rt: HostRuntime) {
+    take_all(&rt, rt.alloc(), &SUMS);
 }
 
 // Each writes its digit behind the others.
@@ -161,9 +159,8 @@ const DIGITS: [Step; 8] = [
 ];
 
 #[test]
-fn callbacks_are_called_in_the_order_of_their_subscription(rt: HostRuntime) -> Result<(), Fail> {
-    assert_eq!(rt; first_miss(rt.alloc(), &DIGITS)?, None);
-    Ok(())
+fn callbacks_are_called_in_the_order_of_their_subscription(rt: HostRuntime) {
+    take_all(&rt, rt.alloc(), &DIGITS);
 }
 
 const SHARED: [Step; 14] = [
@@ -185,71 +182,45 @@ const SHARED: [Step; 14] = [
 ];
 
 #[test]
-fn a_shared_handle_keeps_its_callback(rt: HostRuntime) -> Result<(), Fail> {
-    assert_eq!(rt; first_miss(rt.alloc(), &SHARED)?, None);
-    Ok(())
-}
-
-// Two callbacks, each of which writes its digit behind the others.
-fn two_boxed(
-    alloc: Global,
-    number: &Arc<AtomicU64>,
-) -> Result<(WatchCallback, WatchCallback), Fail> {
-    let first = boxed(alloc, number, 10, 2)?;
-    Ok((first, boxed(alloc, number, 10, 1)?))
-}
-
-// Registers two callbacks, and answers the handle of the first one.
-fn watch_both<D: Directory>(
-    directory: &mut D,
-    (one, other): (D::Callback, D::Callback),
-) -> Result<WatchHandle, Memory> {
-    let first = directory.watch(one)?;
-    directory.watch(other)?;
-    Ok(first)
+fn a_shared_handle_keeps_its_callback(rt: HostRuntime) {
+    take_all(&rt, rt.alloc(), &SHARED);
 }
 
 // Whether a write of this name is noticed, and delivered once.
-fn is_noticed<D: Directory>(directory: &mut D, name: &str) -> Result<bool, Fail> {
-    if !is_plain_name(name) {
-        return Err(Fail::from("no file has this name"));
-    }
-    directory.atomic_write(name, b"{}")?;
+fn is_noticed<R: Abort, D: Directory>(rt: &R, directory: &mut D, name: &str) -> bool
+    requires { is_file_name name.now ≡ true }
+{
+    directory.atomic_write(name, b"{}").expect(rt, "written");
     let is_first = directory.deliver();
     let is_second = directory.deliver();
-    Ok(is_first && !is_second)
+    is_first && !is_second
 }
 
-// Whether both callbacks are noticed of a new commit, and then the second one alone.
-fn both_and_one<D: Directory>(
+// Both callbacks are noticed of a new commit, and then the second one alone.
+fn watch_both<R: Abort, D: Directory>(
+    rt: &R,
     directory: &mut D,
-    callbacks: (D::Callback, D::Callback),
-) -> Result<bool, Fail> {
-    let first = watch_both(directory, callbacks)?;
-    let both = is_noticed(directory, "meta.json")?;
+    one: D::Callback,
+    other: D::Callback,
+) {
+    let first = directory.watch(one).expect(rt, "memory");
+    directory.watch(other).expect(rt, "memory");
+    assert!(rt; is_noticed(rt, directory, "meta.json"));
     directory.unwatch(first);
-    let other = is_noticed(directory, "other.json")?;
-    Ok(both && !other && is_noticed(directory, "meta.json")?)
+    assert!(rt; !is_noticed(rt, directory, "other.json"));
+    assert!(rt; is_noticed(rt, directory, "meta.json"));
 }
 
-fn is_right_in_ram(alloc: Global, number: &Arc<AtomicU64>) -> Result<bool, Fail> {
-    let callbacks = two_boxed(alloc, number)?;
-    let mut ram = RamDirectory::create(alloc);
-    both_and_one(&mut ram, callbacks)
-}
-
-// The digits of those who were called.
-fn digits_of_ram(alloc: Global) -> Result<u64, Fail> {
-    let number = Arc::new(alloc, AtomicU64::new(0))?;
-    if is_right_in_ram(alloc, &number)? {
-        Ok(number.load(Ordering::SeqCst))
-    } else {
-        Err(Fail::from("a commit is noticed otherwise"))
-    }
+// The digits of those who were called, each of whom writes its own behind the others.
+fn digits_of_ram<R: Abort>(rt: &R, alloc: Global) -> u64 {
+    let number = Arc::new(alloc, AtomicU64::new(0)).expect(rt, "memory");
+    let one = boxed(rt, alloc, &number, 10, 2);
+    let other = boxed(rt, alloc, &number, 10, 1);
+    watch_both(rt, &mut RamDirectory::create(alloc), one, other);
+    number.load(Ordering::SeqCst)
 }
 
 #[test]
-fn a_notice_reaches_the_first_registered_first(rt: HostRuntime) -> Result<(), Fail> {
-    assert_eq!(rt; digits_of_ram(rt.alloc())?, 211);
-    Ok(())
+fn a_notice_reaches_the_first_registered_first(rt: HostRuntime) {
+    assert_eq!(rt; digits_of_ram(&rt, rt.alloc()), 211);
 }

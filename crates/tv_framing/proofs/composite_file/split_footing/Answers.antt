@@ -1,12 +1,7 @@
 use Rattle.std.proofs.Common.{[], length, ◌∙◌, sym, arith}
-use Rattle.std.proofs.lemmas.Option.{none-some, same_Some}
+use Rattle.std.proofs.lemmas.Option.{same_Some}
 use Rattle.tv_framing.proofs.Footing.{Cut, cut_only, found_at, last_of, list_fits}
 use Rattle.tv_framing.proofs.composite_file.split_footing.Goals as goal
-
-pub returns-in_err-len-clause-found : goal.returns-in_err-len-clause-found
-returns-in_err-len-clause-found c front foot short whole =
-    let cut : Cut c.args.bytes.now c.in_ok-end.end c.split_at.result.0.now c.split_at.result.1.now = record { large = c.in_ok-end.ensures.0; at = sym c.in_ok-end.ensures.1; front = c.split_at.ensures.front; back = c.split_at.ensures.back } in
-    absurd (none-some (length foot) (c.in_err-len.ensures.found (length foot) [] short (c.new.ensures ∙ (last_of _ _ _ _ front foot cut whole).1)).0)
 
 pub returns-in_err-start-clause-found : goal.returns-in_err-start-clause-found
 returns-in_err-start-clause-found c front foot short whole =

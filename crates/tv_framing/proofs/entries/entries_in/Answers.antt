@@ -9,4 +9,4 @@ returns-in-None-clause-found c entries short fits whole =
 pub loop-preserved : goal.loop-preserved
 loop-preserved c =
     reads_on c.args.footing.now c.in-Some.count c.loop.counter c.loop.entries.items c.push.new.self.items c.loop.cursor c.next_entry.new.cursor c.in-Some-next_entry.entry c.loop.invariant (omega arith)
-    c.in-Some-next_entry.ensures.found c.in-Some-next_entry.ensures.only c.in-Some-next_entry.ensures.fits c.in_ok-push-in-Some-next_entry.ensures.items
+    c.in-Some-next_entry.ensures.found c.in-Some-next_entry.ensures.only.1 c.in-Some-next_entry.ensures.only.0 c.in_ok-push-in-Some-next_entry.ensures.items

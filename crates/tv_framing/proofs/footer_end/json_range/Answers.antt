@@ -2,19 +2,19 @@ use Rattle.std.proofs.Common.{inl, inr, sym, ◌++◌, subst, ◌∙◌, ap, ari
 use Rattle.std.specs.Fmt.{decimal}
 use Rattle.tv_base.specs.declared.io.IoKind.TheVariants.{InvalidData, UnexpectedEof}
 use Rattle.tv_framing.specs.Faults.{IsFault}
-use Rattle.tv_framing.proofs.FooterEnds.{Ends, has_end, last_is, of_fault, other_magic, stated_is}
+use Rattle.tv_framing.proofs.FooterEnds.{has_end, last_is, of_fault, other_magic, stated_is}
 use Rattle.tv_model.specs.Footer.{four_bytes}
 use Rattle.tv_framing.proofs.footer_end.json_range.Goals as goal
 
-pub returns-then-magic-ne-FOOTER_MAGIC_NUMBER-clause-err : goal.returns-then-magic-ne-FOOTER_MAGIC_NUMBER-clause-err
-returns-then-magic-ne-FOOTER_MAGIC_NUMBER-clause-err c =
-    let e : Ends c.args.bytes.now c.in-Some.front c.in-Some.stated c.in-Some.magic = record { size = c.in-Some.ensures.some.0; text = c.in-Some.ensures.some.1; json_small = c.in-Some.ensures.small.0; magic_small = c.in-Some.ensures.small.1 } in
+pub returns-then-magic-ne-FOOTER_MAGIC_NUMBER : goal.returns-then-magic-ne-FOOTER_MAGIC_NUMBER
+returns-then-magic-ne-FOOTER_MAGIC_NUMBER c =
+    let e = c.in-Some.ensures in
     of_fault c.refusal.result c.refusal.ensures
     (λ f is. inr (inl (record { large = omega (arith, e.size); other = λ same. other_magic c.in-Some.magic e.magic_small c.if-magic-ne-FOOTER_MAGIC_NUMBER.true (sym (last_is _ _ _ _ e) ∙ same); is = is })))
 
-pub returns-then-len-gt-MAX_LEN-clause-err : goal.returns-then-len-gt-MAX_LEN-clause-err
-returns-then-len-gt-MAX_LEN-clause-err c =
-    let e : Ends c.args.bytes.now c.in-Some.front c.in-Some.stated c.in-Some.magic = record { size = c.in-Some.ensures.some.0; text = c.in-Some.ensures.some.1; json_small = c.in-Some.ensures.small.0; magic_small = c.in-Some.ensures.small.1 } in
+pub returns-then-len-gt-MAX_LEN : goal.returns-then-len-gt-MAX_LEN
+returns-then-len-gt-MAX_LEN c =
+    let e = c.in-Some.ensures in
     let n = stated_is c.args.bytes.now c.in-Some.front c.in-Some.stated c.in-Some.magic e in
     of_fault c.numbered-then-len-gt-MAX_LEN.result c.numbered-then-len-gt-MAX_LEN.ensures
     (λ f is. inr (inr (inl (record {
@@ -24,9 +24,9 @@ returns-then-len-gt-MAX_LEN-clause-err c =
       is = subst (λ k. IsFault InvalidData (codes "Footer seems invalid as it suggests a footer len of " ++ (decimal k ++ codes ". File is corrupted, or the index was created with a different & old version of tantivy.")) f) (sym n) is;
     }))))
 
-pub returns-then-front-len-clause-err : goal.returns-then-front-len-clause-err
-returns-then-front-len-clause-err c =
-    let e : Ends c.args.bytes.now c.in-Some.front c.in-Some.stated c.in-Some.magic = record { size = c.in-Some.ensures.some.0; text = c.in-Some.ensures.some.1; json_small = c.in-Some.ensures.small.0; magic_small = c.in-Some.ensures.small.1 } in
+pub returns-then-front-len : goal.returns-then-front-len
+returns-then-front-len c =
+    let e = c.in-Some.ensures in
     let n = stated_is c.args.bytes.now c.in-Some.front c.in-Some.stated c.in-Some.magic e in
     of_fault c.numbered-then-front-len.result c.numbered-then-front-len.ensures
     (λ f is. inr (inr (inr (inl (record {
@@ -37,7 +37,7 @@ returns-then-front-len-clause-err c =
       is = subst (λ k. IsFault UnexpectedEof (codes "File corrupted. The file is smaller than it's footer bytes (len=" ++ (decimal (k + 8) ++ codes ").")) f) (sym n) is;
     })))))
 
-pub returns-clause-ok : goal.returns-clause-ok
-returns-clause-ok c =
-    let e : Ends c.args.bytes.now c.in-Some.front c.in-Some.stated c.in-Some.magic = record { size = c.in-Some.ensures.some.0; text = c.in-Some.ensures.some.1; json_small = c.in-Some.ensures.small.0; magic_small = c.in-Some.ensures.small.1 } in
+pub returns : goal.returns
+returns c =
+    let e = c.in-Some.ensures in
     has_end c.args.bytes.now c.in-Some.front c.in-Some.stated c.in-Some.magic e c.if-magic-ne-FOOTER_MAGIC_NUMBER.false (omega arith) (omega arith)

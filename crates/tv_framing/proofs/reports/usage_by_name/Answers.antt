@@ -1,15 +1,10 @@
-use Rattle.std.proofs.Common.{[], get_or, length, map, string_bytes, ap, subst, sym, ◌∙◌, arith, ◌<◌, ◌-◌}
+use Rattle.std.proofs.Common.{[], get_or, length, map, string_bytes, ap, sym, ◌∙◌, arith, ◌<◌, ◌-◌}
 use Rattle.std.proofs.lemmas.List.{get_or-map}
 use Rattle.tv_framing.specs.Fields.{part_alone}
 use Rattle.tv_framing.specs.Places.{with_field}
 use Rattle.tv_framing.proofs.Parts.{range_inside, start_front}
-use Rattle.tv_framing.proofs.Reported.{IsReporting, next_fits, reports_first, reports_on}
+use Rattle.tv_framing.proofs.Reported.{next_fits, reports_on}
 use Rattle.tv_framing.proofs.reports.usage_by_name.Goals as goal
-
-pub loop-i-init : goal.loop-i-init
-loop-i-init c =
-    subst (IsReporting (map string_bytes c.args.names.now) c.args.starts.now (length c.args.names.now) 0 c.args.end) (sym c.empty-usage.ensures)
-    (reports_first (map string_bytes c.args.names.now) c.args.starts.now (length c.args.names.now) c.args.end c.requires.fill c.requires.below c.requires.small)
 
 pub overflow_sub-size : goal.overflow_sub-size
 overflow_sub-size c =

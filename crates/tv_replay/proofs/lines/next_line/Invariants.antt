@@ -1,13 +1,13 @@
 use Rattle.std.proofs.Common.{◌≡◌, ◌≤◌, ◌-◌, List, ℕ, Some, vec_len}
 use Rattle.tv_model.specs.Script.{line_limit}
-use Rattle.tv_replay.specs.ScriptLines.{pending, Begins}
+use Rattle.tv_replay.specs.ScriptLines.{pending, BeginsLine}
 use Rattle.tv_replay.proofs.lines.next_line.Given as goal
 
 abbrev pub invariant-pieces : goal.invariant-pieces
 invariant-pieces g l =
     let view = g.S.Source.view in
     record {
-      begins : (script : List ℕ) → pending l.fn.buffer (view l.fn.source).left ≡ Some script → Begins script l.line.items (pending l.buffer (view l.source).left);
+      begins : (script : List ℕ) → pending l.fn.buffer (view l.fn.source).left ≡ Some script → BeginsLine script l.line.items (pending l.buffer (view l.source).left);
       short : vec_len l.line ≤ line_limit;
       quiet : (view l.source).faults ≡ (view l.fn.source).faults;
     }

@@ -1,28 +1,44 @@
-use Rattle.std.proofs.Common.{◌≡◌, ◌≤◌, sym, ◌∙◌, arith, List, length, ℕ, Option, Some, None, vec_len}
-use Rattle.tv_model.specs.declared.event.Event.{Event}
+use Rattle.std.proofs.Common.{◌≡◌, ◌≤◌, sym, ◌∙◌, arith, length, Option, Some, None, vec_len, ℕ, ◌*◌, List, [], ◌∷◌, ap, codes, length-append}
 use Rattle.tv_model.specs.Script.{line_limit, lines_of, IsLine}
-use Rattle.tv_replay.specs.ScriptLines.{FitsLine}
-use Rattle.tv_replay.proofs.Limits.{written_fits}
 use Rattle.tv_replay.proofs.next_event.next_event.Goals as goal
+use Rattle.std.specs.List.{join_with_byte}
+use Rattle.hex.specs.Hex.{encode_lower}
+use Rattle.hex.proofs.HexLemmas.{decode_of-ok}
+use Rattle.tv_model.specs.declared.event.Event.{Event}
+use Rattle.tv_model.specs.declared.event.Event.TheVariants as events
+use Rattle.tv_model.specs.Segments.{extension}
+use Rattle.tv_store.specs.Applying.{written_by}
+
+-- the last of four words is within their line
+last_within : (a b c d : List ℕ) → length d ≤ length (join_with_byte 32 (a ∷ b ∷ c ∷ d ∷ []))
+last_within a b c d = simp length-append (omega arith)
+
+-- what an event adds to a file fits into its line
+written_fits : (text : List ℕ) (e : Event) → IsLine text e → written_by e ≤ line_limit
+written_fits text (events.Write id c bytes) line =
+    let digits = line.are.0 in
+    let twice : length digits ≡ 2 * length bytes = (decode_of-ok digits bytes line.are.1).2 in
+    let spelled : text ≡ join_with_byte 32 (codes "write" ∷ encode_lower id ∷ extension c ∷ digits ∷ []) =
+    line.spelled ∙ ap (λ (ws : List (List ℕ)). join_with_byte 32 (codes "write" ∷ ws)) line.are.2 in
+    let len : length text ≡ length (join_with_byte 32 (codes "write" ∷ encode_lower id ∷ extension c ∷ digits ∷ [])) = ap length spelled in
+    let within : length digits ≤ length (join_with_byte 32 (codes "write" ∷ encode_lower id ∷ extension c ∷ digits ∷ [])) = last_within (codes "write") (encode_lower id) (extension c) digits in
+    omega (arith, line.short)
+written_fits text other line = omega arith
 
 not_both : {A : Type 0} {o : Option A} {x : A} → o ≡ None → o ≡ Some x → ⊥
 not_both e f = let h : ◌≡◌ {A = Option _} None (Some _) = sym e ∙ f in absurd cc
-
-fits_of : (text : List ℕ) (e : Event) → IsLine text e → FitsLine e
-fits_of text e line = record { small = written_fits text e line; fits = line.fits }
 
 pub returns-in_default-clause-event : goal.returns-in_default-clause-event
 returns-in_default-clause-event g c = rw c.in_default.is at c.in_ok-line.ensures.line
 
 pub returns-in-Some-2-clause-event : goal.returns-in-Some-2-clause-event
 returns-in-Some-2-clause-event g c script told =
-    let taken = rw c.in-Some.is at c.in_ok-line.ensures.line in
-    let t = taken script told in
+    let t = (rw c.in-Some.is at c.in_ok-line.ensures.line) script told in
     let found = rw c.in-Some-2.is at c.in_ok-event.ensures.found in
     (_, t.0, t.1, t.2, rw c.as_slice.ensures.value at found)
 
 pub returns-in-Some-2-clause-fits : goal.returns-in-Some-2-clause-fits
-returns-in-Some-2-clause-fits g c = fits_of c.as_slice.result.now c.in-Some-2.event (rw c.in-Some-2.is at c.in_ok-event.ensures.found)
+returns-in-Some-2-clause-fits g c = let line = rw c.in-Some-2.is at c.in_ok-event.ensures.found in record { small = written_fits _ _ line; fits = line.fits }
 
 pub returns-clause-faults : goal.returns-clause-faults
 returns-clause-faults g c =

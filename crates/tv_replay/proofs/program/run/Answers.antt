@@ -1,34 +1,18 @@
-use Rattle.std.proofs.Common.{map, string_bytes}
-use Rattle.tv_replay.proofs.Runs.{are_replay, at_words, not_two, says_this}
+use Rattle.std.proofs.Common.{string_bytes}
+use Rattle.tv_replay.proofs.Runs.{are_replay, not_two, says_this}
 use Rattle.tv_replay.proofs.program.run.Goals as goal
 
-pub run_replay-requires-clause-folder : goal.run_replay-requires-clause-folder
-run_replay-requires-clause-folder g c =
-    (c.requires.paths c.as_str-in-len3.result.now c.as_str-in-len3-2.result.now
+pub run_replay-requires-clause-paths : goal.run_replay-requires-clause-paths
+run_replay-requires-clause-paths g c =
+    c.requires.paths c.as_str-in-len3.result.now c.as_str-in-len3-2.result.now
     (are_replay string_bytes c.args.words.now c.command-item.result c.folder-item.result c.path-item.result c.as_str.result.now _ _ c.in-len3.len_at_least c.in-len3.len_below c.command-item.is c.folder-item.is c.path-item.is
-    c.as_str.ensures.value c.as_str-in-len3.ensures.value c.as_str-in-len3-2.ensures.value c.if-eq.ensures)).0
-
-pub run_replay-requires-clause-path : goal.run_replay-requires-clause-path
-run_replay-requires-clause-path g c =
-    (c.requires.paths c.as_str-in-len3.result.now c.as_str-in-len3-2.result.now
-    (are_replay string_bytes c.args.words.now c.command-item.result c.folder-item.result c.path-item.result c.as_str.result.now _ _ c.in-len3.len_at_least c.in-len3.len_below c.command-item.is c.folder-item.is c.path-item.is
-    c.as_str.ensures.value c.as_str-in-len3.ensures.value c.as_str-in-len3-2.ensures.value c.if-eq.ensures)).1
+    c.as_str.ensures.value c.as_str-in-len3.ensures.value c.as_str-in-len3-2.ensures.value c.if-eq.ensures)
 
 pub returns-in-len3-clause-usage : goal.returns-in-len3-clause-usage
 returns-in-len3-clause-usage g c =
     let are = are_replay string_bytes c.args.words.now c.command-item.result c.folder-item.result c.path-item.result c.as_str.result.now c.as_str-in-len3.result.now c.as_str-in-len3-2.result.now c.in-len3.len_at_least c.in-len3.len_below
     c.command-item.is c.folder-item.is c.path-item.is c.as_str.ensures.value c.as_str-in-len3.ensures.value c.as_str-in-len3-2.ensures.value c.if-eq.ensures in
     (λ two. absurd (not_two c.run_replay.result c.run_replay.ensures.ends.statuses two), λ none. absurd (none c.as_str-in-len3.result.now c.as_str-in-len3-2.result.now are))
-
-pub returns-in-len3-clause-usage_line : goal.returns-in-len3-clause-usage_line
-returns-in-len3-clause-usage_line g c two = absurd (not_two c.run_replay.result c.run_replay.ensures.ends.statuses two)
-
-pub returns-in-len3-clause-ends : goal.returns-in-len3-clause-ends
-returns-in-len3-clause-ends g c =
-    at_words _ (map string_bytes c.args.words.now) c.as_str-in-len3.result.now c.as_str-in-len3-2.result.now
-    (are_replay string_bytes c.args.words.now c.command-item.result c.folder-item.result c.path-item.result c.as_str.result.now c.as_str-in-len3.result.now c.as_str-in-len3-2.result.now c.in-len3.len_at_least c.in-len3.len_below
-    c.command-item.is c.folder-item.is c.path-item.is c.as_str.ensures.value c.as_str-in-len3.ensures.value c.as_str-in-len3-2.ensures.value c.if-eq.ensures)
-    c.run_replay.ensures.ends
 
 pub returns-in_default-clause-usage_line : goal.returns-in_default-clause-usage_line
 returns-in_default-clause-usage_line g c two = says_this c.as_bytes.ensures.value c.say_line.ensures.says

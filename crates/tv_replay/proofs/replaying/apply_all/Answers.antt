@@ -1,20 +1,13 @@
-use Rattle.std.proofs.Common.{◌≡◌, ◌≢◌, ◌<◌, ◌+◌, ◌*◌, ◌^◌, ℕ, true, List, [], Some, refl, sym, subst, ◌∙◌, inl, inr, arith}
+use Rattle.std.proofs.Common.{◌≡◌, ◌<◌, ◌+◌, ◌*◌, ◌^◌, ℕ, [], refl, sym, subst, ◌∙◌, inl, inr, arith}
 use Rattle.std.proofs.lemmas.Result.{err_from_is_err_and}
-use Rattle.tv_model.specs.Files.{Rose}
 use Rattle.tv_model.specs.Script.{line_limit}
-use Rattle.tv_replay.specs.ScriptLines.{pending}
-use Rattle.tv_replay.specs.Replays.{LineRefusal, IsTooMany, MeetsLock, IsQuietAt, IsRefusedAt}
+use Rattle.tv_replay.specs.AppliedEvents.{run_causes}
 use Rattle.tv_store.specs.Kept.{AtMost}
-use Rattle.tv_store.specs.ReadCauses.{TakesMetaLock}
-use Rattle.tv_store.specs.StoreCauses.{IsBusy}
 use Rattle.tv_store.specs.ReaderNumbers.{FewNumbers}
-use Rattle.tv_store.specs.Applying.{Spent, BadIn, HoldsNone}
-use Rattle.tv_replay.specs.AppliedEvents.{BadSince}
 use Rattle.tv_managed.specs.Collecting.{meta_lock_name}
-use Rattle.tv_replay.proofs.StoreLocks.{busy_since}
-use Rattle.tv_replay.proofs.Stopping.{stops_first, stops_between, stops_in, meets_lock}
+use Rattle.tv_replay.proofs.Stopping.{stops_between, stops_in, meets_lock, busy_since}
 use Rattle.tv_replay.proofs.ReplayFrames.{frame_then, may_note, no_time}
-use Rattle.tv_replay.proofs.AppliedEvents.{starts, goes_on, ends, stops_at_line, stops_at_long, stops_at_last, one_more_line, never_spent, event_cause, script_cause, end_cause, rose_from, bad_since, none_since}
+use Rattle.tv_replay.proofs.AppliedEvents.{starts, goes_on, ends, stops_at_line, stops_at_long, stops_at_last, one_more_line, never_spent, event_cause, script_cause, end_cause, fails, rose_from, bad_since, none_since}
 use Rattle.tv_replay.proofs.replaying.apply_all.Goals as goal
 
 pub loop-events-init : goal.loop-events-init
@@ -47,107 +40,49 @@ returns-in-Ok-None-clause-done g c =
     let taken = rw c.in-Ok-None.field-0-is at c.in-Ok-None.ensures.event in
     ends g.O.Directory c.args.store.now c.loop-events.store _ _ c.next_event.new.buffer (g.R.Source.view c.next_event.new.source).left c.loop-events.events _ c.loop-events.invariant.run taken refl
 
-pub returns-in-Ok-None-clause-faults : goal.returns-in-Ok-None-clause-faults
-returns-in-Ok-None-clause-faults g c = record {
-  quiet = (c.loop-events.invariant.quiet.0, c.in-Ok-None.ensures.faults.quiet ∙ c.loop-events.invariant.quiet.1);
-  cause = tt;
-}
-
 pub returns-in-Err-clause-faults : goal.returns-in-Err-clause-faults
 returns-in-Err-clause-faults g c =
-    let view = g.O.Directory.view in
-    let source = g.R.Source.view in
-    let start = source c.args.script.now in
     let before = c.loop-events.invariant in
-    let busy : Type 0 = MeetsLock start.left × IsBusy g.O.Directory.told.locks ((view c.args.store.now.outside).locks meta_lock_name ≡ true) (Rose (view c.args.store.now.outside).faults (view c.loop-events.store.outside).faults) in
-    let now = source c.next_event.new.source in
-    record {
-      quiet = tt;
-      cause =
-          script_cause busy (LineRefusal start.left) (IsTooMany start.left) (Rose (source c.loop-events.script).faults now.faults) (now.faults ≡ (source c.loop-events.script).faults)
-          (IsRefusedAt (view c.args.store.now.outside) (view c.loop-events.store.outside) start now) (IsQuietAt (view c.args.store.now.outside) (view c.loop-events.store.outside) start now)
-          (BadSince g.O.Directory.told.content (view c.args.store.now.outside).reads c.args.store.now.kept start.left) (λ path. HoldsNone g.O.Directory.told.content (view c.args.store.now.outside).reads c.args.store.now.kept)
-          (pending c.loop-events.buffer (source c.loop-events.script).left) c.in-Err.error (c.loop-events.events + 1) c.script_error.result c.script_error.ensures c.in-Err.ensures.faults.cause
-          (λ rose. inr (rose_from _ _ _ before.quiet.1 rose)) (λ quiet. (before.quiet.0, quiet ∙ before.quiet.1))
-          (λ wrong. stops_at_line (c.loop-events.events + 1) before.run wrong refl)
-          (λ long. stops_at_long (c.loop-events.events + 1) before.run long refl);
-    }
+    let script = g.R.Source.view c.args.script.now in
+    fails (script_cause (run_causes g.O.Directory c.args.store.now c.loop-events.store script (g.R.Source.view c.next_event.new.source)) _ c.in-Err.error (c.loop-events.events + 1) c.script_error.result c.script_error.ensures c.in-Err.ensures.faults.cause
+    (λ rose. inr (rose_from _ _ _ before.quiet.1 rose)) (λ quiet. (before.quiet.0, quiet ∙ before.quiet.1))
+    (stops_at_line (c.loop-events.events + 1) before.run refl) (stops_at_long (c.loop-events.events + 1) before.run refl))
 
 pub returns-in_err-_answer-clause-faults : goal.returns-in_err-_answer-clause-faults
 returns-in_err-_answer-clause-faults g c =
-    let view = g.O.Directory.view in
-    let source = g.R.Source.view in
-    let start = source c.args.script.now in
     let before = c.loop-events.invariant in
-    let busy : Type 0 = MeetsLock start.left × IsBusy g.O.Directory.told.locks ((view c.args.store.now.outside).locks meta_lock_name ≡ true) (Rose (view c.args.store.now.outside).faults (view c.apply.new.self.outside).faults) in
-    let now = source c.next_event.new.source in
+    let event = c.in-Ok-Some.event in
     let taken = rw c.in-Ok-Some.field-0-is at c.in-Ok-Some.ensures.event in
     let line = rw c.in-Ok-Some.field-0-is at c.in-Ok-Some.ensures.fits in
     let few : c.loop-events.events < 2 ^ 32 = omega (arith, c.loop-events-test.true) in
     let e = err_from_is_err_and c.from_residual-in_err-_answer.result c.from_residual-in_err-_answer.ensures.1 in
-    let applied = before.run.applied in
-    let met : Type 0 = TakesMetaLock c.loop-events.store.kept c.in-Ok-Some.event × IsBusy g.O.Directory.told.locks ((view c.loop-events.store.outside).locks meta_lock_name ≡ true) (Rose (view c.loop-events.store.outside).faults (view c.apply.new.self.outside).faults) in
-    let bad = BadIn g.O.Directory.told.content (view c.loop-events.store.outside).reads c.loop-events.store.kept c.in-Ok-Some.event in
-    let none = λ (path : List ℕ). HoldsNone g.O.Directory.told.content (view c.loop-events.store.outside).reads c.loop-events.store.kept in
-    rw (e.1, e.2) (record {
-      quiet = tt;
-      cause =
-          event_cause (LineRefusal start.left) (IsTooMany start.left) met busy (Rose (view c.loop-events.store.outside).faults (view c.apply.new.self.outside).faults) ((view c.apply.new.self.outside).faults ≡ (view c.loop-events.store.outside).faults)
-          (Spent c.loop-events.store.kept c.in-Ok-Some.event)
-          (IsRefusedAt (view c.args.store.now.outside) (view c.apply.new.self.outside) start now) (IsQuietAt (view c.args.store.now.outside) (view c.apply.new.self.outside) start now)
-          bad (BadSince g.O.Directory.told.content (view c.args.store.now.outside).reads c.args.store.now.kept start.left) none (λ path. HoldsNone g.O.Directory.told.content (view c.args.store.now.outside).reads c.args.store.now.kept)
-          c.in_err-_answer.field-0.0 c.in_err-_answer.ensures.faults.cause
-          (λ b. (
-            meets_lock _ _ _ c.loop-events.store.kept before.run.turns c.in-Ok-Some.event before.run.read taken b.0,
-            busy_since _ _ _ _ _ (λ told held. sym (before.frame.locks told meta_lock_name) ∙ held) before.quiet.0 b.1,
-          ))
-          (λ rose. inl (rose_from _ _ _ before.quiet.0 rose)) (λ quiet. (quiet ∙ before.quiet.0, c.in-Ok-Some.ensures.faults.quiet ∙ before.quiet.1))
-          (never_spent c.loop-events.store.kept c.in-Ok-Some.event c.loop-events.events few line.small before.short before.few)
-          (λ path b. bad_since _ _ _ _ _ _ _ _ before.run.turns c.in-Ok-Some.event before.run.read taken applied.holds applied.readable path b) (λ path b. none_since _ _ _ _ _ before.run.turns applied.holds b);
-    })
+    let run = before.run in
+    let script = g.R.Source.view c.args.script.now in
+    rw (e.1, e.2) (fails (event_cause (run_causes g.O.Directory c.args.store.now c.apply.new.self script (g.R.Source.view c.next_event.new.source)) c.in_err-_answer.field-0.0 c.in_err-_answer.ensures.faults.cause
+    (λ b. (meets_lock _ _ _ c.loop-events.store.kept run.turns event run.read taken b.0, busy_since _ _ _ _ _ (λ told held. sym (before.frame.locks told meta_lock_name) ∙ held) before.quiet.0 b.1))
+    (λ rose. inl (rose_from _ _ _ before.quiet.0 rose)) (λ quiet. (quiet ∙ before.quiet.0, c.in-Ok-Some.ensures.faults.quiet ∙ before.quiet.1))
+    (never_spent c.loop-events.store.kept event c.loop-events.events few line.small before.short before.few)
+    (λ path b. bad_since _ _ _ _ _ _ _ _ run.turns event run.read taken run.applied.holds run.applied.readable path b) (λ path b. none_since _ _ _ _ _ run.turns run.applied.holds b)))
 
 pub returns-in_err-tally-clause-faults : goal.returns-in_err-tally-clause-faults
 returns-in_err-tally-clause-faults g c =
-    let view = g.O.Directory.view in
-    let source = g.R.Source.view in
-    let start = source c.args.script.now in
     let before = c.loop-events.invariant in
-    let busy : Type 0 = MeetsLock start.left × IsBusy g.O.Directory.told.locks ((view c.args.store.now.outside).locks meta_lock_name ≡ true) (Rose (view c.args.store.now.outside).faults (view c.loop-events.store.outside).faults) in
-    let now = source c.end_of.new.script in
     let all : c.loop-events.events ≡ 4294967295 = omega (arith, c.loop-events-test.false, c.loop-events.auto.events-end) in
     let e = err_from_is_err_and c.from_residual-in_err-tally.result c.from_residual-in_err-tally.ensures.1 in
-    rw (e.1, e.2) (record {
-      quiet = tt;
-      cause =
-          end_cause busy (LineRefusal start.left) ((rest : List ℕ) → pending c.loop-events.buffer (source c.loop-events.script).left ≡ Some rest → rest ≢ []) (IsTooMany start.left)
-          (Rose (source c.loop-events.script).faults now.faults) (now.faults ≡ (source c.loop-events.script).faults)
-          (IsRefusedAt (view c.args.store.now.outside) (view c.loop-events.store.outside) start now) (IsQuietAt (view c.args.store.now.outside) (view c.loop-events.store.outside) start now)
-          (BadSince g.O.Directory.told.content (view c.args.store.now.outside).reads c.args.store.now.kept start.left) (λ path. HoldsNone g.O.Directory.told.content (view c.args.store.now.outside).reads c.args.store.now.kept)
-          c.in_err-tally.field-0.0 c.in_err-tally.ensures.faults.cause
-          (λ rose. inr (rose_from _ _ _ before.quiet.1 rose)) (λ quiet. (before.quiet.0, quiet ∙ before.quiet.1))
-          (stops_at_last before.run all);
-    })
-
-pub returns-in_err-_answer-clause-frame : goal.returns-in_err-_answer-clause-frame
-returns-in_err-_answer-clause-frame g c =
-    let kept = c.in_err-_answer.ensures.frame in
-    frame_then c.loop-events.invariant.frame (record { goes_on = kept.goes_on; locks = kept.locks; watched = may_note c.in-Ok-Some.event _ _ kept.watched })
+    let script = g.R.Source.view c.args.script.now in
+    rw (e.1, e.2) (fails (end_cause (run_causes g.O.Directory c.args.store.now c.loop-events.store script (g.R.Source.view c.end_of.new.script)) c.in_err-tally.field-0.0 c.in_err-tally.ensures.faults.cause
+    (λ rose. inr (rose_from _ _ _ before.quiet.1 rose)) (λ quiet. (before.quiet.0, quiet ∙ before.quiet.1)) (stops_at_last before.run all)))
 
 pub returns-clause-done : goal.returns-clause-done
 returns-clause-done g c =
     let all : c.in_ok-tally.tally.events ≡ c.loop-events.events = omega (arith, c.loop-events-test.false, c.loop-events.auto.events-end, c.in_ok-tally.ensures.count) in
     ends g.O.Directory c.args.store.now c.loop-events.store _ _ c.end_of.new.buffer (g.R.Source.view c.end_of.new.script).left c.loop-events.events _ c.loop-events.invariant.run c.in_ok-tally.ensures.end all
 
-pub returns-clause-faults : goal.returns-clause-faults
-returns-clause-faults g c = record {
-  quiet = (c.loop-events.invariant.quiet.0, c.in_ok-tally.ensures.faults.quiet ∙ c.loop-events.invariant.quiet.1);
-  cause = tt;
-}
-
 pub returns-in_err-buffer-clause-leaves : goal.returns-in_err-buffer-clause-leaves
 returns-in_err-buffer-clause-leaves g c =
     let e = err_from_is_err_and c.from_residual.result c.from_residual.ensures.1 in
-    rw (e.1, e.2) (stops_first g.O.Directory c.args.store.now (g.R.Source.view c.args.script.now).left _)
+    let left = (g.R.Source.view c.args.script.now).left in
+    rw (e.1, e.2) (stops_between g.O.Directory c.args.store.now c.args.store.now left _ 0 _ (starts g.O.Directory c.args.store.now [] left refl))
 
 pub returns-in-Err-clause-leaves : goal.returns-in-Err-clause-leaves
 returns-in-Err-clause-leaves g c = stops_between g.O.Directory c.args.store.now c.loop-events.store _ _ _ _ c.loop-events.invariant.run
@@ -157,7 +92,7 @@ returns-in_err-_answer-clause-leaves g c =
     let taken = rw c.in-Ok-Some.field-0-is at c.in-Ok-Some.ensures.event in
     let e = err_from_is_err_and c.from_residual-in_err-_answer.result c.from_residual-in_err-_answer.ensures.1 in
     let failed = c.in_err-_answer.ensures in
-    rw (e.1, e.2) (stops_in g.O.Directory c.args.store.now c.loop-events.store c.apply.new.self _ _ _ _ c.in-Ok-Some.event c.in_err-_answer.field-0.0 c.loop-events.invariant.run taken failed.tells.err failed.leaves.meta failed.leaves.memory)
+    rw (e.1, e.2) (stops_in g.O.Directory c.args.store.now c.loop-events.store c.apply.new.self _ _ _ c.in_err-_answer.field-0.0 c.loop-events.invariant.run _ c.in-Ok-Some.event taken failed.tells.err failed.leaves.meta failed.leaves.memory)
 
 pub returns-in_err-tally-clause-leaves : goal.returns-in_err-tally-clause-leaves
 returns-in_err-tally-clause-leaves g c =

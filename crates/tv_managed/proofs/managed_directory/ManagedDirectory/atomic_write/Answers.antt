@@ -8,6 +8,6 @@ returns-clause-list g c =
     record {
       saves = search rules;
       listed = λ tells covers.
-          lists_new (λ d. (D.view d).reads) c.args.self.now.0 c.args.self.now.0 c.register_file_as_managed.new.self.0 c.self.inside.directory c.atomic_write.new.self c.args.name.now (ap (λ v. v.0) c.self.view_is) (λ n. refl) (c.in_ok-register_file_as_managed.ensures.saved tells)
+          lists_new (λ d. (D.view d).reads) c.args.self.now.0 c.args.self.now.0 c.register_file_as_managed.new.self.0 c.self.inside.directory c.atomic_write.new.self c.args.name.now (ap (λ v. v.0) c.self.view_is) (λ n. refl) (c.in_ok-register_file_as_managed.ensures.list.others tells)
           (others_written c.atomic_write.result (D.view c.self.inside.directory).reads (D.view c.atomic_write.new.self).reads c.args.name.now _ (c.atomic_write.ensures.gives.ok tells) (c.atomic_write.ensures.gives.err tells)) c.requires.other (c.in_ok-register_file_as_managed.ensures.list.on_list tells covers);
     }

@@ -5,19 +5,16 @@ use Rattle.tv_managed.proofs.Tried.{leaves_of, some_from, some_none, tried_from,
 use Rattle.tv_managed.proofs.managed_directory.ManagedDirectory.garbage_collect.Goals as goal
 
 pub returns-in_err-names-clause-leaves : goal.returns-in_err-names-clause-leaves
-returns-in_err-names-clause-leaves g c =
-    ([], leaves_of g.D.Directory [] c.args.self.now c.unneeded.new.self (some_none g.D.Directory [] c.args.self.now c.unneeded.new.self c.in_err-names.ensures.frame), inl refl)
+returns-in_err-names-clause-leaves g c = ([], leaves_of g.D.Directory (some_none g.D.Directory [] c.in_err-names.ensures.asks.frame), inl refl)
 
 pub returns-clause-tries : goal.returns-clause-tries
 returns-clause-tries g c =
-    let D = g.D.Directory in
     let e = c.in_ok-names.ensures in
     IfOk-weaker c.collect.result _ _
-    (λ r t. (e.names.0, e.names.1, rw (← e.names.2) (tries_of D _ c.args.self.now c.collect.new.self r (tried_from D _ c.args.self.now c.unneeded.new.self c.collect.new.self _ _ e.frame t))))
+    (λ r t. (e.names.0, e.names.1, rw (← e.names.2) (tries_of g.D.Directory _ c.args.self.now c.collect.new.self r (tried_from g.D.Directory e.asks.frame t))))
     c.collect.ensures.tries
 
 pub returns-clause-leaves : goal.returns-clause-leaves
 returns-clause-leaves g c =
-    let D = g.D.Directory in
     let e = c.in_ok-names.ensures in
-    (names_of c.in_ok-names.names.items, leaves_of D _ c.args.self.now c.collect.new.self (some_from D _ c.args.self.now c.unneeded.new.self c.collect.new.self e.frame c.collect.ensures.leaves), inr e.names)
+    (names_of c.in_ok-names.names.items, leaves_of g.D.Directory (some_from g.D.Directory e.asks.frame c.collect.ensures.leaves), inr e.names)

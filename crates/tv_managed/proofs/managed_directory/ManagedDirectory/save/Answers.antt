@@ -1,4 +1,4 @@
-use Rattle.std.proofs.Common.{ap, ◌∙◌, ⊎_elim, inl, inr, refl}
+use Rattle.std.proofs.Common.{rules, ap, ◌∙◌, ⊎_elim, inl, inr, refl}
 use Rattle.std.proofs.lemmas.Result.{on_ok_weaker}
 use Rattle.tv_model.specs.Names.{list_name}
 use Rattle.tv_managed.proofs.SetsOfTexts.{list_of}
@@ -8,9 +8,13 @@ pub returns-clause-lists : goal.returns-clause-lists
 returns-clause-lists g c tells =
     on_ok_weaker c.save_managed_paths.result (λ saved. rw saved.changed (list_of c.self.inside.managed.keys _ refl c.self.invariant)) (c.save_managed_paths.ensures.saves.ok tells)
 
-pub returns-clause-either : goal.returns-clause-either
-returns-clause-either g c tells =
-    ⊎_elim
-    (λ saved. inl (rw saved (list_of c.self.inside.managed.keys _ refl c.self.invariant)))
-    (λ kept. inr (kept ∙ ap (λ v. (g.D.Directory.view v.0).reads list_name) c.self.view_is))
-    (c.save_managed_paths.ensures.saves.err tells).either
+pub returns-clause-only : goal.returns-clause-only
+returns-clause-only g c = record {
+  either = λ tells. ⊎_elim
+      (λ saved. inl (rw saved (list_of c.self.inside.managed.keys _ refl c.self.invariant)))
+      (λ kept. inr (kept ∙ ap (λ v. (g.D.Directory.view v.0).reads list_name) c.self.view_is))
+      (c.save_managed_paths.ensures.saves.err tells).either;
+  others = search rules;
+  faults = search rules;
+  frame = search rules;
+}

@@ -3,8 +3,9 @@ use Rattle.std.specs.Prelude.{OnOk, Some}
 use Rattle.std.proofs.lemmas.Result.{on_ok_weaker}
 use Rattle.tv_model.specs.Files.{KeepsOthers, Sets}
 use Rattle.tv_model.specs.Footer.{sealed}
+use Rattle.tv_model.proofs.Bodies.{sealed_has_body}
 use Rattle.tv_managed.specs.Writers.{IsSummed}
-use Rattle.tv_managed.proofs.Endings.{reads_back, sealed_sets}
+use Rattle.tv_managed.proofs.Endings.{sealed_sets}
 use Rattle.tv_managed.proofs.managed_directory.ManagedDirectory.terminate.Goals as goal
 
 pub returns-clause-seals : goal.returns-clause-seals
@@ -23,7 +24,7 @@ returns-clause-seals g c =
     c.in_ok-write.ensures.appends.name text sets) (c.terminate.ensures.seals.ok tells lives2) in
     record {
       ok = sets;
-      body = λ tells lives summed. on_ok_weaker c.terminate.result (λ done. reads_back (D.view c.args.self.now.0).reads (D.view c.terminate.new.self).reads name body done) (sets tells lives summed);
+      body = λ tells lives summed. on_ok_weaker c.terminate.result (λ done. (sealed body, done.changed, sealed_has_body body)) (sets tells lives summed);
       others = search rules;
       there = search rules;
       gone = search rules;

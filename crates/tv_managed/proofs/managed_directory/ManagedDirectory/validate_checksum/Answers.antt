@@ -1,30 +1,11 @@
-use Rattle.std.proofs.Common.{rules, ◌==◌, ℕ, ap, ◌∙◌}
+use Rattle.std.proofs.Common.{◌==◌, ℕ, ap, ◌∙◌}
 use Rattle.std.proofs.lemmas.Result.{IfOk-weaker}
 use Rattle.tv_model.specs.Checksum.{crc32}
-use Rattle.tv_managed.proofs.Endings.{wanted_only}
 use Rattle.tv_managed.proofs.managed_directory.ManagedDirectory.validate_checksum.Goals as goal
 
 pub returns-clause-answer : goal.returns-clause-answer
 returns-clause-answer g c tells =
     let found = c.in_ok-footer.ensures.read tells in
     IfOk-weaker c.is_right.result _ _
-    (λ right says. (
-      found.0,
-      found.1,
-      record {
-        footer = _;
-        body = c.in_ok-footer.body;
-        framed = found.2;
-        says = says ∙ ap (λ (n : ℕ). n == crc32 c.in_ok-footer.body) c.crc.ensures.crc;
-      },
-    ))
+    (λ right says. (found.0, found.1, record { footer = _; body = c.in_ok-footer.body; framed = found.2; says = says ∙ ap (λ (n : ℕ). n == crc32 c.in_ok-footer.body) c.crc.ensures.crc }))
     c.is_right.ensures.says
-
-pub returns-clause-faults : goal.returns-clause-faults
-returns-clause-faults g c = record {
-  quiet = search rules;
-  path = wanted_only c.is_right.result _ c.is_right.ensures.wanted tt;
-  cause = wanted_only c.is_right.result _ c.is_right.ensures.wanted (search rules);
-  err = λ tells. wanted_only c.is_right.result _ c.is_right.ensures.wanted tt;
-  outside = λ tells. wanted_only c.is_right.result _ c.is_right.ensures.wanted tt;
-}

@@ -4,22 +4,8 @@ use Rattle.std.specs.BTreeSet.{insert_key}
 use Rattle.std.specs.Vec.Iter.{into_iter_items}
 use Rattle.tv_model.specs.Names.{byte_cmp, has}
 use Rattle.tv_model.specs.State.{at}
-use Rattle.tv_store.proofs.Removals.{first_open, first_left, one_closed, one_left, none_left, lens_cut}
+use Rattle.tv_store.proofs.Removals.{one_closed, one_left, none_left, lens_cut}
 use Rattle.tv_store.proofs.files.Files.leave.Goals as goal
-
-pub loop-name-init : goal.loop-name-init
-loop-name-init g c =
-    let old = c.args.self.now in
-    let items : into_iter_items c.into_iter-name-iterator.result ≡ c.args.names.items = c.into_iter-name-iterator.ensures.into_iter_gives.0 in
-    record {
-      next = tt;
-      finite = tt;
-      open_files = λ n. first_open (into_iter_items c.into_iter-name-iterator.result) c.args.names.items old.open_files old.open_files n items refl;
-      left = λ n. first_left old.left old.left (into_iter_items c.into_iter-name-iterator.result) c.args.names.items old.open_files old.open_files n refl items refl;
-      outside = refl;
-      managed = refl;
-      lens = λ bound h. h;
-    }
 
 pub loop-name-preserved-in_ok-insert : goal.loop-name-preserved-in_ok-insert
 loop-name-preserved-in_ok-insert g c =

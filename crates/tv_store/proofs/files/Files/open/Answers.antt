@@ -3,13 +3,6 @@ use Rattle.tv_directory.specs.View.{WriterState}
 use Rattle.tv_store.proofs.OpenFiles.{still_open, put_open, same_open, new_open, bodies_put, plain_registered}
 use Rattle.tv_store.proofs.files.Files.open.Goals as goal
 
-pub invariant_of-self-in-Err : goal.invariant_of-self-in-Err
-invariant_of-self-in-Err g c = still_open g.O.Directory c.self.inside.directory.0 c.open_write.new.self.0 c.self.inside.files.entries c.open_write.ensures.frame.frame.tells_none.deletes_none c.self.invariant
-
-pub invariant_of-self-in_err-insert : goal.invariant_of-self-in_err-insert
-invariant_of-self-in_err-insert g c =
-    same_open g.O.Directory c.open_write.new.self.0 c.self.inside.files.entries c.insert.new.self.entries c.in_err-insert.ensures.err (still_open g.O.Directory c.self.inside.directory.0 c.open_write.new.self.0 c.self.inside.files.entries c.open_write.ensures.frame.frame.tells_none.deletes_none c.self.invariant)
-
 pub invariant_of-self-2 : goal.invariant_of-self-2
 invariant_of-self-2 g c =
     put_open g.O.Directory c.open_write.new.self.0 c.self.inside.files.entries c.insert.new.self.entries c.args.name _ c.in_ok-insert.ensures.entries

@@ -4,7 +4,7 @@ use Rattle.tv_model.specs.Files.{Rose}
 use Rattle.tv_store.specs.Bodies.{RefusesAt}
 use Rattle.tv_store.specs.ReadCauses.{ApplyCause}
 use Rattle.tv_store.proofs.OpenFiles.{still_open}
-use Rattle.tv_store.proofs.ReaderEvents.{body_read, body_fails, failed_as}
+use Rattle.tv_store.proofs.ReaderEvents.{body_fails, failed_as}
 use Rattle.tv_store.proofs.files.Files.open_read.Goals as goal
 
 pub returns-in_err-body-clause-faults : goal.returns-in_err-body-clause-faults
@@ -25,7 +25,3 @@ returns-in_err-body-clause-faults g c =
 
 pub invariant_of-self-2 : goal.invariant_of-self-2
 invariant_of-self-2 g c = still_open g.O.Directory c.self.inside.directory.0 c.open_read.new.self.0 c.self.inside.files.entries c.open_read.ensures.frame.below.kept.frame.tells_none.deletes_none c.self.invariant
-
-pub returns-clause-body : goal.returns-clause-body
-returns-clause-body g c tells =
-    body_read (λ d. (g.O.Directory.view d).reads) c.self.inside.directory.0 c.args.self.now.outside c.args.name.now c.as_str.result.now c.in_ok-body.body (ap (λ v. v.outside) c.self.view_is) c.as_str.ensures.text (c.in_ok-body.ensures.body tells)

@@ -34,4 +34,4 @@ returns-in-Some g c =
     acts_known g.O.Directory c.args.self.now (record { kept = kept_of inside.schema c.act.new.self inside.files; outside = inside.files.outside; is_open = inside.is_open }) c.told.new.self event known c.told.result
     (subst (λ v. catalog_step v.kept.catalog v.kept.managed event ≡ Some known) same steps) c.in_ok-answer.ensures.fits
     (ap (λ v. record v.kept { catalog = c.act.new.self }) same) (ap (λ v. v.outside) same) (ap (λ v. v.is_open) same)
-    c.told.ensures.answer c.told.ensures.room c.told.ensures.faults c.told.ensures.frame
+    c.told.ensures.answer c.told.ensures.room c.told.ensures.asks.faults c.told.ensures.asks.frame

@@ -7,28 +7,8 @@ use Rattle.tv_model.specs.State.{Catalog}
 use Rattle.tv_model.specs.CommitEvents.{chosen, commit_step, first_unknown, last_stamp}
 use Rattle.tv_store.specs.Committing.{commit_of, unknown_line}
 use Rattle.tv_store.proofs.CommitEvents.{chosen_are_segments}
-use Rattle.tv_store.proofs.Committing.{refuses, commits_as, spent_step, unknown_step, known_step}
+use Rattle.tv_store.proofs.Committing.{refuses, commits_as, known_step}
 use Rattle.tv_store.proofs.index_store.IndexStore.commit.Goals as goal
-
-pub returns-then-next_opstamp : goal.returns-then-next_opstamp
-returns-then-next_opstamp g c =
-    let asked = c.refuse.ensures in
-    refuses g.O.Directory (Unit {0}) c.args.self.now c.refuse.new.self (λ s. commit_step s c.args.payload.now c.args.ids.now) (line (codes "refused") (codes "stamps-spent" ∷ [])) c.refuse.result
-    asked.frame asked.faults asked.answer asked.room
-    (λ tells s held known.
-    spent_step s c.args.payload.now c.args.ids.now (ap (λ (k : Catalog). k.next) (sym held.catalog ∙ sym (ap (λ v. v.kept.catalog) c.self.view_is)) ∙ sym c.next_opstamp.ensures ∙ c.if-next_opstamp.true))
-
-pub returns-in-Some : goal.returns-in-Some
-returns-in-Some g c =
-    let asked = c.refuse_unknown.ensures in
-    let id = c.in-Some.id in
-    refuses g.O.Directory (Unit {0}) c.args.self.now c.refuse_unknown.new.self (λ s. commit_step s c.args.payload.now c.args.ids.now) (unknown_line id) c.refuse_unknown.result
-    asked.frame asked.faults asked.answer asked.room
-    (λ tells s held known.
-    let is = ap (λ v. v.kept.catalog) c.self.view_is ∙ held.catalog in
-    unknown_step s c.args.payload.now c.args.ids.now id
-    (ne_eqb s.catalog.next last_stamp (λ e. c.if-next_opstamp.false (c.next_opstamp.ensures ∙ ap (λ (k : Catalog). k.next) is ∙ e)))
-    (ap (first_unknown s.catalog) (sym c.as_slice.ensures) ∙ ap (λ (k : Catalog). first_unknown k c.as_slice.result.now) (sym is) ∙ sym c.first_unknown.ensures ∙ c.in-Some.is))
 
 pub returns : goal.returns
 returns g c =

@@ -29,6 +29,6 @@ loop-name-preserved g c =
           let file : IsFileOf c.name-item.result = all_at IsFileOf c.args.names.now c.loop-name.name-index c.name-item.result files within c.name-item.is in
           let sealed : not (is_sealed (file_at s c.name-item.result)) ≡ false = ap not (sym (asked.found tells s now file) ∙ c.if-not-branch.false) in
           find_further (λ name. not (is_sealed (file_at s name))) c.args.names.now c.loop-name.name-index c.name-item.result within c.name-item.is (so_far.found tells s held files) sealed;
-      asks = asks_later so_far.asks asked.frame;
-      quiet = asked.faults.quiet ∙ so_far.quiet;
+      asks = asks_later so_far.asks asked.asks.frame;
+      quiet = asked.asks.faults.quiet ∙ so_far.quiet;
     }

@@ -10,18 +10,18 @@ use Rattle.tv_store.proofs.CollectionEvents.{collected, refusals_rose}
 use Rattle.tv_store.proofs.index_store.IndexStore.gc.Goals as goal
 
 pub returns-in_err-deleted-clause-lens : goal.returns-in_err-deleted-clause-lens
-returns-in_err-deleted-clause-lens g c bound h = c.collect.ensures.lens bound (subst (λ v. AtMost bound v.kept) (sym c.self-2.view_is) (subst (AtMost bound) (sym c.ready_for_all.ensures.frame.kept) h))
+returns-in_err-deleted-clause-lens g c bound h = c.collect.ensures.lens bound (subst (λ v. AtMost bound v.kept) (sym c.self-2.view_is) (subst (AtMost bound) (sym c.ready_for_all.ensures.asks.frame.kept) h))
 
 pub returns-in_err-answer-clause-lens : goal.returns-in_err-answer-clause-lens
-returns-in_err-answer-clause-lens g c bound h = c.collect.ensures.lens bound (subst (λ v. AtMost bound v.kept) (sym c.self-2.view_is) (subst (AtMost bound) (sym c.ready_for_all.ensures.frame.kept) h))
+returns-in_err-answer-clause-lens g c bound h = c.collect.ensures.lens bound (subst (λ v. AtMost bound v.kept) (sym c.self-2.view_is) (subst (AtMost bound) (sym c.ready_for_all.ensures.asks.frame.kept) h))
 
 pub returns-in_err-answer-2-clause-lens : goal.returns-in_err-answer-2-clause-lens
 returns-in_err-answer-2-clause-lens g c bound h =
-    subst (AtMost bound) (sym c.ready.ensures.frame.kept) (c.collect.ensures.lens bound (subst (λ v. AtMost bound v.kept) (sym c.self-2.view_is) (subst (AtMost bound) (sym c.ready_for_all.ensures.frame.kept) h)))
+    subst (AtMost bound) (sym c.ready.ensures.asks.frame.kept) (c.collect.ensures.lens bound (subst (λ v. AtMost bound v.kept) (sym c.self-2.view_is) (subst (AtMost bound) (sym c.ready_for_all.ensures.asks.frame.kept) h)))
 
 pub returns-clause-lens : goal.returns-clause-lens
 returns-clause-lens g c bound h =
-    subst (AtMost bound) (sym c.ready.ensures.frame.kept) (c.collect.ensures.lens bound (subst (λ v. AtMost bound v.kept) (sym c.self-2.view_is) (subst (AtMost bound) (sym c.ready_for_all.ensures.frame.kept) h)))
+    subst (AtMost bound) (sym c.ready.ensures.asks.frame.kept) (c.collect.ensures.lens bound (subst (λ v. AtMost bound v.kept) (sym c.self-2.view_is) (subst (AtMost bound) (sym c.ready_for_all.ensures.asks.frame.kept) h)))
 
 pub returns-clause-step : goal.returns-clause-step
 returns-clause-step g c =
@@ -35,8 +35,8 @@ returns-clause-step g c =
     let deleted = c.in_ok-deleted.field-0.deleted.items in
     let failed = c.in_ok-deleted.field-0.failed.items in
     let told = c.in_ok-deleted.ensures.collects in
-    let asked = c.ready_for_all.ensures.frame in
-    let made = c.ready.ensures.frame in
+    let asked = c.ready_for_all.ensures.asks.frame in
+    let made = c.ready.ensures.asks.frame in
     let first : (D.view inside.files.outside).refusals ≡ (D.view old.outside).refusals = ap (λ v. (D.view v.outside).refusals) c.self-2.view_is ∙ asked.below.kept.frame.tells_none.deletes_none.refusals in
     let catalog : c.self.inside.catalog ≡ inside.catalog = ap (λ v. v.kept.catalog) c.self.view_is ∙ sym (ap (λ (k : Kept). k.catalog) asked.kept) ∙ sym (ap (λ v. v.kept.catalog) c.self-2.view_is) in (
       told.tried.outcomes,

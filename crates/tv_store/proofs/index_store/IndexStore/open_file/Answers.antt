@@ -2,32 +2,16 @@ use Rattle.std.proofs.Common.{[], ◌∷◌, codes, true, is_some, refl, sym, ap
 use Rattle.tv_model.specs.Segments.{name_of}
 use Rattle.tv_model.specs.State.{file_at}
 use Rattle.tv_model.specs.FileEvents.{open_name, open_step}
-use Rattle.tv_store.proofs.FileEvents.{file_unknown, file_known, open_by, open_exists, open_made, live_found, inside_holds, asked_holds, refused, Short, short_opened}
+use Rattle.tv_store.proofs.FileEvents.{file_known, open_by, open_exists, open_made, live_found, inside_holds, asked_holds, refused, Short, short_opened}
 use Rattle.tv_store.proofs.index_store.IndexStore.open_file.Goals as goal
-
-pub returns-in_default-clause-step : goal.returns-in_default-clause-step
-returns-in_default-clause-step g c tells s h =
-    let found = live_found c.self.inside.catalog s c.args.id (ap (λ v. v.kept.catalog) c.self.view_is ∙ h.catalog) c.live_segment.ensures c.in_default.is in
-    refused g.O.Directory c.args.self.now c.refuse.new.self s (codes "unknown-segment" ∷ []) (open_step s c.args.id c.args.component) c.refuse.result
-    (file_unknown s c.args.id c.args.component (λ x n. open_name s x c.args.component n) found) tells c.refuse.ensures.frame c.refuse.ensures.answer h
-
-pub returns-then-lacks_deletes-clause-step : goal.returns-then-lacks_deletes-clause-step
-returns-then-lacks_deletes-clause-step g c tells s h =
-    let asked = c.refuse-then-lacks_deletes in
-    let found = live_found c.self.inside.catalog s c.args.id (ap (λ v. v.kept.catalog) c.self.view_is ∙ h.catalog) c.live_segment.ensures c.in-Some.is in
-    let name = name_of c.args.id c.in-Some.segment.deletes c.args.component in
-    let step =
-    file_known s c.args.id name c.args.component c.in-Some.segment (λ x n. open_name s x c.args.component n) found refl
-    ∙ open_by s c.in-Some.segment c.args.component name true (is_some (file_at s name)) (sym c.lacks_deletes.ensures ∙ c.if-lacks_deletes.true) refl in
-    refused g.O.Directory c.args.self.now asked.new.self s (codes "no-deletes" ∷ []) (open_step s c.args.id c.args.component) asked.result step tells asked.ensures.frame asked.ensures.answer h
 
 pub returns-then-not-branch-clause-step : goal.returns-then-not-branch-clause-step
 returns-then-not-branch-clause-step g c tells s h =
     let D = g.O.Directory in
     let inside = c.self-3.inside in
     let found = live_found c.self.inside.catalog s c.args.id (ap (λ v. v.kept.catalog) c.self.view_is ∙ h.catalog) c.live_segment.ensures c.in-Some.is in
-    let once = asked_holds D c.args.self.now c.refuse-2.new.self s tells c.refuse-2.ensures.frame h in
-    let twice = asked_holds D c.refuse-2.new.self c.ready.new.self s tells c.ready.ensures.frame once in
+    let once = asked_holds D c.args.self.now c.refuse-2.new.self s tells c.refuse-2.ensures.asks.frame h in
+    let twice = asked_holds D c.refuse-2.new.self c.ready.new.self s tells c.ready.ensures.asks.frame once in
     open_exists D inside.schema inside.catalog inside.files c.open.new.self s c.args.id c.in_ok-name.name c.args.component c.in-Some.segment c.in_ok-exists.exists
     tells found (sym c.lacks_deletes.ensures ∙ c.if-lacks_deletes.false) c.in_ok-name.ensures.name c.in_ok-name.ensures.file
     (c.in_ok-open.ensures.found c.if-not-branch.true) c.in_ok-exists.ensures.answer (inside_holds (λ d. (D.view d).reads) _ c.ready.new.self s c.self-3.view_is twice)
@@ -37,13 +21,13 @@ returns-clause-step g c tells s h =
     let D = g.O.Directory in
     let inside = c.self-3.inside in
     let found = live_found c.self.inside.catalog s c.args.id (ap (λ v. v.kept.catalog) c.self.view_is ∙ h.catalog) c.live_segment.ensures c.in-Some.is in
-    let once = asked_holds D c.args.self.now c.refuse-2.new.self s tells c.refuse-2.ensures.frame h in
-    let twice = asked_holds D c.refuse-2.new.self c.ready.new.self s tells c.ready.ensures.frame once in
+    let once = asked_holds D c.args.self.now c.refuse-2.new.self s tells c.refuse-2.ensures.asks.frame h in
+    let twice = asked_holds D c.refuse-2.new.self c.ready.new.self s tells c.ready.ensures.asks.frame once in
     open_made D inside.schema inside.catalog inside.files c.open.new.self s c.args.id c.in_ok-name.name c.args.component c.in-Some.segment c.in_ok-opened-2.opened
     tells found (sym c.lacks_deletes.ensures ∙ c.if-lacks_deletes.false) c.in_ok-name.ensures.name c.in_ok-name.ensures.file
     (c.in_ok-open.ensures.opened c.if-not-branch.false) (c.in_ok-opened-2.ensures.answer ∙ c.in_ok-opened.ensures) (inside_holds (λ d. (D.view d).reads) _ c.ready.new.self s c.self-3.view_is twice)
 
 pub returns-clause-lens : goal.returns-clause-lens
 returns-clause-lens g c bound h =
-    let now = ap (λ v. v.kept.open_files) c.self-3.view_is ∙ ap (λ k. k.open_files) (c.ready.ensures.frame.kept ∙ c.refuse-2.ensures.frame.kept) in
+    let now = ap (λ v. v.kept.open_files) c.self-3.view_is ∙ ap (λ k. k.open_files) (c.ready.ensures.asks.frame.kept ∙ c.refuse-2.ensures.asks.frame.kept) in
     short_opened bound c.self-3.inside.files.open_files c.open.new.self.open_files c.in_ok-name.name (c.in_ok-open.ensures.opened c.if-not-branch.false).open_files (subst (Short bound) (sym now) h)

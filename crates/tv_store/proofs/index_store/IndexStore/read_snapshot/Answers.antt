@@ -9,7 +9,7 @@ use Rattle.tv_store.specs.Kept.{Kept}
 use Rattle.tv_store.specs.ReadCauses.{ApplyCause}
 use Rattle.tv_store.proofs.Asking.{asks_later}
 use Rattle.tv_store.proofs.Holding.{same_holds}
-use Rattle.tv_store.proofs.ReaderEvents.{failed_as, snapshot_fails, segment_is_sealed, read_more, all_read}
+use Rattle.tv_store.proofs.ReaderEvents.{failed_as, snapshot_fails, segment_is_sealed, read_more}
 use Rattle.tv_store.proofs.index_store.IndexStore.read_snapshot.Goals as goal
 
 pub returns-in_err-reader-clause-faults : goal.returns-in_err-reader-clause-faults
@@ -51,14 +51,3 @@ loop-entry-preserved g c =
       asks = asks_later so_far.asks asked.frame;
       quiet = asked.faults.quiet ∙ so_far.quiet;
     }
-
-pub returns-clause-shown : goal.returns-clause-shown
-returns-clause-shown g c tells s held whole =
-    let so_far = c.loop-entry.invariant in
-    let segments = c.deref-entry-items.result.now in
-    let are : segments ≡ s.catalog.commit.segments = c.deref-entry-items.ensures.value ∙ c.in_ok-segments.ensures ∙ ap (λ (k : Commit). k.segments) c.commit.ensures ∙ ap (λ v. v.kept.catalog.commit.segments) c.self.view_is ∙ ap (λ (k : Catalog). k.commit.segments) held.catalog in
-    let commit : c.commit-commit.result.now ≡ s.catalog.commit = c.commit-commit.ensures ∙ ap (λ v. v.kept.catalog.commit) c.self-2.view_is ∙ ap (λ (k : Kept). k.catalog.commit) so_far.asks.kept ∙ ap (λ (k : Catalog). k.commit) held.catalog in
-    let all = all_read s segments (map (λ (r : SegmentReader). (r.id, r.segment)) c.loop-entry.readers.items) (map (λ (r : SegmentReader). r.bodies.items) c.loop-entry.readers.items)
-    c.loop-entry.entry-index c.args.generation c.opstamp.result c.in_ok-payload.payload are
-    (c.opstamp.ensures ∙ ap (λ (k : Commit). k.opstamp) commit) (c.in_ok-payload.ensures ∙ ap (λ (k : Commit). k.payload) commit) (omega arith) (so_far.read tells s held whole are) in
-    (c.new.ensures ∙ all.0, all.1)

@@ -9,28 +9,11 @@ use Rattle.tv_store.proofs.Holding.{same_holds}
 use Rattle.tv_store.proofs.CollectionEvents.{released_holds}
 use Rattle.tv_store.proofs.index_store.IndexStore.release_segment.Goals as goal
 
-pub returns-in_default-clause-step : goal.returns-in_default-clause-step
-returns-in_default-clause-step g c tells s held =
-    let D = g.O.Directory in
-    let old = c.args.self.now in
-    let new = c.refuse.new.self in
-    let asked = c.refuse.ensures.frame in
-    let is = ap (λ v. v.kept.catalog) c.self.view_is ∙ held.catalog in
-    let gone : live_at s.catalog c.args.id ≡ None = ap (λ (k : Catalog). live_at k c.args.id) (sym is) ∙ sym c.live_segment.ensures ∙ c.in_default.is in
-    let step : release_segment_step s c.args.id ≡ refuse s (codes "unknown-segment" ∷ []) = rw gone refl in
-    IfOk-weaker c.refuse.result _ _
-    (λ answer said. (
-      said ∙ sym (ap (λ (t : StepResult State). t.0) step),
-      subst (λ (t : StepResult State). Holds (D.view new.outside).reads new.kept t.1) (sym step)
-          (same_holds (D.view old.outside).reads (D.view new.outside).reads old.kept new.kept s (asked.below.content tells) asked.kept held),
-    ))
-    c.refuse.ensures.answer
-
 pub returns-in_err-leave-clause-lens : goal.returns-in_err-leave-clause-lens
-returns-in_err-leave-clause-lens g c bound h = c.leave.ensures.lens bound (subst (λ v. AtMost bound v.kept) (sym c.self-2.view_is) (subst (AtMost bound) (sym c.ready.ensures.frame.kept) h))
+returns-in_err-leave-clause-lens g c bound h = c.leave.ensures.lens bound (subst (λ v. AtMost bound v.kept) (sym c.self-2.view_is) (subst (AtMost bound) (sym c.ready.ensures.asks.frame.kept) h))
 
 pub returns-clause-lens : goal.returns-clause-lens
-returns-clause-lens g c bound h = c.leave.ensures.lens bound (subst (λ v. AtMost bound v.kept) (sym c.self-2.view_is) (subst (AtMost bound) (sym c.ready.ensures.frame.kept) h))
+returns-clause-lens g c bound h = c.leave.ensures.lens bound (subst (λ v. AtMost bound v.kept) (sym c.self-2.view_is) (subst (AtMost bound) (sym c.ready.ensures.asks.frame.kept) h))
 
 pub returns-clause-step : goal.returns-clause-step
 returns-clause-step g c tells s held =
@@ -41,7 +24,7 @@ returns-clause-step g c tells s held =
     let mid = c.ready.new.self in
     let inside = c.self-2.inside in
     let new = c.leave.new.self in
-    let asked = c.ready.ensures.frame in
+    let asked = c.ready.ensures.asks.frame in
     let done = c.in_ok-leave.ensures in
     let is = ap (λ v. v.kept.catalog) c.self.view_is ∙ held.catalog in
     let there : live_at s.catalog id ≡ Some segment = ap (λ (k : Catalog). live_at k id) (sym is) ∙ sym c.live_segment.ensures ∙ c.in-Some.is in

@@ -1,30 +1,12 @@
 use Rattle.std.proofs.Common.{[], ◌∷◌, codes, None, length, option_map, sym, ap, subst, ◌∙◌}
 use Rattle.tv_model.specs.State.{at}
 use Rattle.tv_model.specs.FileEvents.{seal_name, seal_step, sealed_as}
-use Rattle.tv_store.proofs.FileEvents.{file_unknown, file_known, body_step, live_found, inside_holds, asked_holds, has_none, refused, sealed_file, Short, short_closed}
+use Rattle.tv_store.proofs.FileEvents.{file_known, body_step, live_found, inside_holds, asked_holds, refused, sealed_file, Short, short_closed}
 use Rattle.tv_store.proofs.index_store.IndexStore.seal_file.Goals as goal
-
-pub returns-in_default-clause-step : goal.returns-in_default-clause-step
-returns-in_default-clause-step g c tells s h =
-    let found = live_found c.self.inside.catalog s c.args.id (ap (λ v. v.kept.catalog) c.self.view_is ∙ h.catalog) c.live_segment.ensures c.in_default.is in
-    refused g.O.Directory c.args.self.now c.refuse.new.self s (codes "unknown-segment" ∷ []) (seal_step s c.args.id c.args.component) c.refuse.result
-    (file_unknown s c.args.id c.args.component (λ x n. seal_name s n) found) tells c.refuse.ensures.frame c.refuse.ensures.answer h
-
-pub returns-in_default-body_len-clause-step : goal.returns-in_default-body_len-clause-step
-returns-in_default-body_len-clause-step g c tells s h =
-    let asked = c.refuse-in_default-body_len in
-    let name = c.in_ok-name.name in
-    let files = ap (λ v. v.kept.open_files) c.self.view_is in
-    let found = live_found c.self.inside.catalog s c.args.id (ap (λ v. v.kept.catalog) c.self.view_is ∙ h.catalog) c.live_segment.ensures c.in-Some.is in
-    let closed = has_none _ (sym c.in_default-body_len.is ∙ c.body_len.ensures ∙ ap (λ es. option_map length (at es name)) files) in
-    let step =
-    file_known s c.args.id name c.args.component c.in-Some.segment (λ x n. seal_name s n) found c.in_ok-name.ensures.name
-    ∙ body_step s name (sealed_as s name) (g.O.Directory.view c.args.self.now.outside).reads c.args.self.now.kept None h c.in_ok-name.ensures.file closed in
-    refused g.O.Directory c.args.self.now asked.new.self s (codes "not-open" ∷ []) (seal_step s c.args.id c.args.component) asked.result step tells asked.ensures.frame asked.ensures.answer h
 
 pub returns-in_err-seal-clause-lens : goal.returns-in_err-seal-clause-lens
 returns-in_err-seal-clause-lens g c bound h =
-    let now = ap (λ v. v.kept.open_files) c.self-2.view_is ∙ ap (λ k. k.open_files) c.ready.ensures.frame.kept in
+    let now = ap (λ v. v.kept.open_files) c.self-2.view_is ∙ ap (λ k. k.open_files) c.ready.ensures.asks.frame.kept in
     short_closed bound c.self-2.inside.files.open_files c.seal.new.self.open_files c.in_ok-name.name c.in_err-seal.ensures.open_files (subst (Short bound) (sym now) h)
 
 pub returns-clause-step : goal.returns-clause-step
@@ -32,15 +14,15 @@ returns-clause-step g c tells s h =
     let D = g.O.Directory in
     let inside = c.self-2.inside in
     let name = c.in_ok-name.name in
-    let now = ap (λ v. v.kept.open_files) c.self-2.view_is ∙ ap (λ k. k.open_files) c.ready.ensures.frame.kept in
+    let now = ap (λ v. v.kept.open_files) c.self-2.view_is ∙ ap (λ k. k.open_files) c.ready.ensures.asks.frame.kept in
     let has_len = sym c.in-Some-body_len.is ∙ c.body_len.ensures ∙ ap (λ es. option_map length (at es name)) (ap (λ v. v.kept.open_files) c.self.view_is ∙ sym now) in
     let found = live_found c.self.inside.catalog s c.args.id (ap (λ v. v.kept.catalog) c.self.view_is ∙ h.catalog) c.live_segment.ensures c.in-Some.is in
-    let once = asked_holds D c.args.self.now c.ready.new.self s tells c.ready.ensures.frame h in
+    let once = asked_holds D c.args.self.now c.ready.new.self s tells c.ready.ensures.asks.frame h in
     sealed_file D inside.schema inside.catalog inside.files c.seal.new.self s c.args.id name c.args.component c.in-Some.segment c.in_ok-answer-2.answer c.in-Some-body_len.len
-    found c.in_ok-name.ensures.name c.in_ok-name.ensures.file has_len (c.in_ok-seal.ensures.sealed tells) c.in_ok-seal.ensures.frame c.in_ok-seal.ensures.open_files c.in_ok-seal.ensures.closed
+    found c.in_ok-name.ensures.name c.in_ok-name.ensures.file has_len (c.in_ok-seal.ensures.sealed tells) c.in_ok-seal.ensures.rest.frame c.in_ok-seal.ensures.open_files c.in_ok-seal.ensures.closed
     (c.in_ok-answer-2.ensures.answer ∙ c.in_ok-answer.ensures) (inside_holds (λ d. (D.view d).reads) _ c.ready.new.self s c.self-2.view_is once)
 
 pub returns-clause-lens : goal.returns-clause-lens
 returns-clause-lens g c bound h =
-    let now = ap (λ v. v.kept.open_files) c.self-2.view_is ∙ ap (λ k. k.open_files) c.ready.ensures.frame.kept in
+    let now = ap (λ v. v.kept.open_files) c.self-2.view_is ∙ ap (λ k. k.open_files) c.ready.ensures.asks.frame.kept in
     short_closed bound c.self-2.inside.files.open_files c.seal.new.self.open_files c.in_ok-name.name c.in_ok-seal.ensures.open_files (subst (Short bound) (sym now) h)

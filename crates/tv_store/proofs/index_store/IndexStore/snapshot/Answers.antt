@@ -18,6 +18,6 @@ returns-clause-faults g c =
           IfErr-weaker c.read_snapshot-shown.result _ _
           (λ error why.
           read_later D.told.content (D.view c.args.self.now.outside).reads (D.view c.acquire_lock.new.self.outside).reads c.args.self.now.kept later _ (D.view c.args.self.now.outside).faults (D.view c.acquire_lock.new.self.outside).faults (D.view c.read_snapshot-shown.new.self.outside).faults (D.view c.release.new.self.outside).faults error
-          (λ t n. took.frame.managed.below.content t n ∙ ap (λ v. (D.view v.outside).reads n) c.self.view_is) kept_is (took.faults.quiet ∙ ap (λ v. (D.view v.outside).faults) c.self.view_is) (c.release.ensures.faults ∙ ap (λ v. (D.view v.outside).faults) c.self-2.view_is) why)
+          (λ t n. took.frame.managed.below.content t n ∙ ap (λ v. (D.view v.outside).reads n) c.self.view_is) kept_is (took.faults.quiet ∙ ap (λ v. (D.view v.outside).faults) c.self.view_is) (c.release.ensures.frees.managed.below.faults ∙ ap (λ v. (D.view v.outside).faults) c.self-2.view_is) why)
           c.read_snapshot-shown.ensures.faults.cause;
     }

@@ -1,4 +1,4 @@
-use Rattle.std.proofs.Common.{◌≡◌, ℕ, ◌+◌, ◌≤◌, List, [], ◌∷◌, ◌++◌, None, length, codes, option_map, refl, sym, ap, subst, ◌∙◌}
+use Rattle.std.proofs.Common.{◌≡◌, ℕ, ◌+◌, ◌≤◌, List, [], ◌∷◌, ◌++◌, None, length, codes, option_map, refl, sym, ap, subst, ◌∙◌, rules}
 use Rattle.std.specs.Fmt.{decimal}
 use Rattle.std.specs.Map.{remove_entry}
 use Rattle.std.specs.BTreeMap.{is_at, insert_entry}
@@ -6,63 +6,37 @@ use Rattle.tv_model.specs.Names.{byte_cmp}
 use Rattle.tv_model.specs.Lines.{line}
 use Rattle.tv_model.specs.State.{at}
 use Rattle.tv_model.specs.FileEvents.{write_name, write_step, wrote}
-use Rattle.tv_store.proofs.FileEvents.{file_unknown, file_known, body_step, live_found, inside_holds, asked_holds, has_none, refused, written, Short, short_same, short_closed, short_written, is_spent, sum_is, sum_isnt}
+use Rattle.tv_store.proofs.FileEvents.{file_known, body_step, live_found, inside_holds, asked_holds, refused, written, Short, short_same, short_closed, short_written, is_spent, sum_is, sum_isnt}
 use Rattle.tv_store.proofs.index_store.IndexStore.write_file.Goals as goal
 
-pub returns-in_default-clause-step : goal.returns-in_default-clause-step
-returns-in_default-clause-step g c tells s h =
-    let found = live_found c.self.inside.catalog s c.args.id (ap (λ v. v.kept.catalog) c.self.view_is ∙ h.catalog) c.live_segment.ensures c.in_default.is in
-    refused g.O.Directory c.args.self.now c.refuse.new.self s (codes "unknown-segment" ∷ []) (write_step s c.args.id c.args.component c.args.bytes.now) c.refuse.result
-    (file_unknown s c.args.id c.args.component (λ x n. write_name s n c.args.bytes.now) found) tells c.refuse.ensures.frame c.refuse.ensures.answer h
-
-pub returns-in_default-clause-lens : goal.returns-in_default-clause-lens
-returns-in_default-clause-lens g c bound h = short_same bound (length c.args.bytes.now) _ _ (ap (λ k. k.open_files) c.refuse.ensures.frame.kept) h
-
-pub returns-in_err-name-clause-lens : goal.returns-in_err-name-clause-lens
-returns-in_err-name-clause-lens g c bound h = short_same bound (length c.args.bytes.now) c.args.self.now.kept.open_files _ refl h
-
-pub returns-in_default-body_len-clause-step : goal.returns-in_default-body_len-clause-step
-returns-in_default-body_len-clause-step g c tells s h =
-    let asked = c.refuse-in_default-body_len in
-    let name = c.in_ok-name.name in
-    let bytes = c.args.bytes.now in
-    let files = ap (λ v. v.kept.open_files) c.self.view_is in
-    let found = live_found c.self.inside.catalog s c.args.id (ap (λ v. v.kept.catalog) c.self.view_is ∙ h.catalog) c.live_segment.ensures c.in-Some.is in
-    let closed = has_none _ (sym c.in_default-body_len.is ∙ c.body_len.ensures ∙ ap (λ es. option_map length (at es name)) files) in
-    let step =
-    file_known s c.args.id name c.args.component c.in-Some.segment (λ x n. write_name s n bytes) found c.in_ok-name.ensures.name
-    ∙ body_step s name (wrote s name bytes) (g.O.Directory.view c.args.self.now.outside).reads c.args.self.now.kept None h c.in_ok-name.ensures.file closed in
-    refused g.O.Directory c.args.self.now asked.new.self s (codes "not-open" ∷ []) (write_step s c.args.id c.args.component bytes) asked.result step tells asked.ensures.frame asked.ensures.answer h
-
-pub returns-in_default-body_len-clause-lens : goal.returns-in_default-body_len-clause-lens
-returns-in_default-body_len-clause-lens g c bound h = short_same bound (length c.args.bytes.now) _ _ (ap (λ k. k.open_files) c.refuse-in_default-body_len.ensures.frame.kept) h
-
-pub returns-in_default-checked_add-clause-lens : goal.returns-in_default-checked_add-clause-lens
-returns-in_default-checked_add-clause-lens g c bound h = short_same bound (length c.args.bytes.now) c.args.self.now.kept.open_files _ refl h
-
-pub returns-in_default-checked_add-clause-faults : goal.returns-in_default-checked_add-clause-faults
-returns-in_default-checked_add-clause-faults g c =
+pub returns-in_default-checked_add-clause-does : goal.returns-in_default-checked_add-clause-does
+returns-in_default-checked_add-clause-does g c =
     let open_files = c.args.self.now.kept.open_files in
     let files = ap (λ v. v.kept.open_files) c.self.view_is in
     let large = sum_isnt c.checked_add.result (c.in-Some-body_len.len + length c.as_slice-bytes.result.now) c.checked_add.ensures c.in_default-checked_add.is in
     record {
-      quiet = tt;
-      cause = (
-        refl,
-        λ bound h. is_spent bound c.in-Some-body_len.len (length c.args.bytes.now) open_files c.in_ok-name.name (sym c.in-Some-body_len.is ∙ c.body_len.ensures ∙ ap (λ es. option_map length (at es c.in_ok-name.name)) files)
-            (subst (λ (bs : List ℕ). 18446744073709551616 ≤ c.in-Some-body_len.len + length bs) c.as_slice-bytes.ensures large) h,
-      );
+      room = tt;
+      faults = record {
+        quiet = tt;
+        cause = (
+          refl,
+          λ bound h. is_spent bound c.in-Some-body_len.len (length c.args.bytes.now) open_files c.in_ok-name.name (sym c.in-Some-body_len.is ∙ c.body_len.ensures ∙ ap (λ es. option_map length (at es c.in_ok-name.name)) files)
+              (subst (λ (bs : List ℕ). 18446744073709551616 ≤ c.in-Some-body_len.len + length bs) c.as_slice-bytes.ensures large) h,
+        );
+      };
+      meta = search rules;
+      frame = search rules;
     }
 
 pub returns-in_err-answer-clause-lens : goal.returns-in_err-answer-clause-lens
 returns-in_err-answer-clause-lens g c bound h = short_same bound (length c.args.bytes.now) c.args.self.now.kept.open_files _ refl h
 
 pub returns-in_err-answer-2-clause-lens : goal.returns-in_err-answer-2-clause-lens
-returns-in_err-answer-2-clause-lens g c bound h = short_same bound (length c.args.bytes.now) _ _ (ap (λ k. k.open_files) c.ready.ensures.frame.kept) h
+returns-in_err-answer-2-clause-lens g c bound h = short_same bound (length c.args.bytes.now) _ _ (ap (λ k. k.open_files) c.ready.ensures.asks.frame.kept) h
 
 pub returns-in_err-write-clause-lens : goal.returns-in_err-write-clause-lens
 returns-in_err-write-clause-lens g c bound h =
-    let now = ap (λ v. v.kept.open_files) c.self-2.view_is ∙ ap (λ k. k.open_files) c.ready.ensures.frame.kept in
+    let now = ap (λ v. v.kept.open_files) c.self-2.view_is ∙ ap (λ k. k.open_files) c.ready.ensures.asks.frame.kept in
     short_same bound (length c.args.bytes.now) c.write.new.self.open_files _ refl (short_closed bound c.self-2.inside.files.open_files c.write.new.self.open_files c.in_ok-name.name c.in_err-write.ensures.closed (subst (Short bound) (sym now) h))
 
 pub returns-clause-step : goal.returns-clause-step
@@ -71,21 +45,21 @@ returns-clause-step g c tells s h =
     let inside = c.self-2.inside in
     let name = c.in_ok-name.name in
     let bytes = c.args.bytes.now in
-    let now = ap (λ v. v.kept.open_files) c.self-2.view_is ∙ ap (λ k. k.open_files) c.ready.ensures.frame.kept in
+    let now = ap (λ v. v.kept.open_files) c.self-2.view_is ∙ ap (λ k. k.open_files) c.ready.ensures.asks.frame.kept in
     let has_len = sym c.in-Some-body_len.is ∙ c.body_len.ensures ∙ ap (λ es. option_map length (at es name)) (ap (λ v. v.kept.open_files) c.self.view_is ∙ sym now) in
     let found = live_found c.self.inside.catalog s c.args.id (ap (λ v. v.kept.catalog) c.self.view_is ∙ h.catalog) c.live_segment.ensures c.in-Some.is in
-    let once = asked_holds D c.args.self.now c.ready.new.self s tells c.ready.ensures.frame h in
+    let once = asked_holds D c.args.self.now c.ready.new.self s tells c.ready.ensures.asks.frame h in
     let sum : c.in-Some-checked_add.len ≡ c.in-Some-body_len.len + length bytes =
     sum_is c.checked_add.result _ c.in-Some-checked_add.len _ c.checked_add.ensures c.in-Some-checked_add.is ∙ ap (λ (bs : List ℕ). c.in-Some-body_len.len + length bs) c.as_slice-bytes.ensures in
     written D inside.schema inside.catalog inside.files c.write.new.self s c.args.id name c.args.component c.in-Some.segment c.in_ok-answer-2.answer bytes c.in-Some-body_len.len
-    found c.in_ok-name.ensures.name c.in_ok-name.ensures.file has_len (c.in_ok-write.ensures.others tells) (c.in_ok-write.ensures.there tells) c.in_ok-write.ensures.frame
+    found c.in_ok-name.ensures.name c.in_ok-name.ensures.file has_len (c.in_ok-write.ensures.others tells) (c.in_ok-write.ensures.there tells) c.in_ok-write.ensures.rest.frame
     (λ body there. subst (λ bs. c.write.new.self.open_files ≡ insert_entry byte_cmp (remove_entry (is_at (byte_cmp name)) inside.files.open_files) name (body ++ bs)) c.as_slice-bytes.ensures (c.in_ok-write.ensures.written body there))
     (c.in_ok-answer-2.ensures.answer ∙ c.in_ok-answer.ensures ∙ ap (λ n. line (codes "wrote") (name ∷ decimal n ∷ [])) sum)
     (inside_holds (λ d. (D.view d).reads) _ c.ready.new.self s c.self-2.view_is once)
 
 pub returns-clause-lens : goal.returns-clause-lens
 returns-clause-lens g c bound h =
-    let now = ap (λ v. v.kept.open_files) c.self-2.view_is ∙ ap (λ k. k.open_files) c.ready.ensures.frame.kept in
+    let now = ap (λ v. v.kept.open_files) c.self-2.view_is ∙ ap (λ k. k.open_files) c.ready.ensures.asks.frame.kept in
     let has_len = sym c.in-Some-body_len.is ∙ c.body_len.ensures ∙ ap (λ es. option_map length (at es c.in_ok-name.name)) (ap (λ v. v.kept.open_files) c.self.view_is ∙ sym now) in
     short_written bound c.in-Some-body_len.len c.args.bytes.now c.self-2.inside.files.open_files c.write.new.self.open_files c.in_ok-name.name has_len
     (λ body there. subst (λ bs. c.write.new.self.open_files ≡ insert_entry byte_cmp (remove_entry (is_at (byte_cmp c.in_ok-name.name)) c.self-2.inside.files.open_files) c.in_ok-name.name (body ++ bs)) c.as_slice-bytes.ensures (c.in_ok-write.ensures.written body there)) (subst (Short bound) (sym now) h)
