@@ -2,6 +2,7 @@
 use crate::case::Case;
 use crate::reading::cases_of;
 use crate::trying::case_differs;
+use std::alloc::Global;
 use std::process::ExitCode;
 use std::rt::Files;
 use std::{env, fs};
@@ -25,14 +26,18 @@ struct Count {
 fn names(rt: &HostRuntime, folder: &str) -> anyhow::Result<Vec<String>> {
     let mut names = Vec::new(rt.alloc());
     for entry in fs::read_dir(rt, folder)? {
-        let entry = entry?;
-        let name = entry.file_name();
-        if name.ends_with(".case") {
-            names.push(String::from_str(rt.alloc(), name)?)?;
-        }
+        push_name(rt.alloc(), &mut names, entry?.file_name())?;
     }
     names.sort()?;
     Ok(names)
+}
+
+// Adds the name of a file, if it is one with cases.
+fn push_name(alloc: Global, names: &mut Vec<String>, name: &str) -> anyhow::Result<()> {
+    if name.ends_with(".case") {
+        names.push(String::from_str(alloc, name)?)?;
+    }
+    Ok(())
 }
 
 // Tries a case, and prints how it went. Whether it went well.
@@ -132,10 +137,16 @@ fn are_right(rt: &HostRuntime, folder: &str) -> anyhow::Result<bool> {
 // Tries the wrong cases of a folder, where it has some, and prints the counts. Whether none went as it says.
 fn are_wrong(rt: &HostRuntime, folder: &str) -> anyhow::Result<bool> {
     let folder = format!(in rt.alloc(); "{folder}/wrong")?;
-    if !fs::exists(rt, folder.as_str())? {
-        return Ok(true);
+    if fs::exists(rt, folder.as_str())? {
+        are_wrong_in(rt, folder.as_str())
+    } else {
+        Ok(true)
     }
-    let Count { well, ill, unread } = try_files(rt, folder.as_str(), Kind::Wrong)?;
+}
+
+// Tries the wrong cases of this folder, and prints the counts. Whether none went as it says.
+fn are_wrong_in(rt: &HostRuntime, folder: &str) -> anyhow::Result<bool> {
+    let Count { well, ill, unread } = try_files(rt, folder, Kind::Wrong)?;
     println!(rt;
         "{ill} wrong cases did not go as they say, {well} did; {unread} wrong files are no cases"
     )?;

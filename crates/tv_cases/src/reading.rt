@@ -144,14 +144,18 @@ fn take_line(alloc: Global, case: &mut Case, at: usize, line: &str) -> anyhow::R
 
 // Whether a case that has a line with this word says first what it needs.
 fn check_marked(needs: Needs, word: &str) -> anyhow::Result<()> {
+    match unmarked(needs, word) {
+        Some(need) => anyhow::bail!("a line needs {need} comes before {word}"),
+        None => Ok(()),
+    }
+}
+
+// What a case with this word needs, and doesn't say.
+fn unmarked(needs: Needs, word: &str) -> Option<&'static str> {
     match word {
-        "refuse" | "or" if !needs.refusals => {
-            anyhow::bail!("a line needs refusals comes before {word}")
-        }
-        "refuse-read" | "pieces" | "asked" if !needs.reads => {
-            anyhow::bail!("a line needs reads comes before {word}")
-        }
-        _ => Ok(()),
+        "refuse" | "or" if !needs.refusals => Some("refusals"),
+        "refuse-read" | "pieces" | "asked" if !needs.reads => Some("reads"),
+        _ => None,
     }
 }
 
@@ -303,11 +307,21 @@ fn tell(alloc: Global, run: &mut Run, piece: Piece) -> anyhow::Result<()> {
 
 // A piece is told in place of the last one where a delete is refused.
 fn tell_otherwise(run: &mut Run, piece: Piece) -> anyhow::Result<()> {
-    match run.wanted.otherwise.last_mut() {
-        Some(last) => *last = piece,
-        None => anyhow::bail!("a line that is told comes before or"),
+    if !replace_last(run.wanted.otherwise.as_mut_slice(), piece) {
+        anyhow::bail!("a line that is told comes before or");
     }
     Ok(())
+}
+
+// Puts a piece in place of the last one. Whether there is one.
+fn replace_last(pieces: &mut [Piece], piece: Piece) -> bool {
+    match pieces.last_mut() {
+        Some(last) => {
+            *last = piece;
+            true
+        }
+        None => false,
+    }
 }
 
 // A file, a schema, or the words of the command line.
@@ -331,9 +345,15 @@ fn take_file(
 fn take_words(alloc: Global, run: &mut Run, rest: &str) -> anyhow::Result<()> {
     let mut words = Vec::new(alloc);
     for word in rest.split_whitespace() {
-        words.push(word_of(alloc, word)?)?;
+        push_word(alloc, &mut words, word)?;
     }
     run.given.words = words;
+    Ok(())
+}
+
+// Adds a word of the command line.
+fn push_word(alloc: Global, words: &mut Vec<String>, word: &str) -> anyhow::Result<()> {
+    words.push(word_of(alloc, word)?)?;
     Ok(())
 }
 
@@ -348,9 +368,14 @@ fn word_of(alloc: Global, word: &str) -> anyhow::Result<String> {
 // A schema, which stands under a path.
 fn take_schema(alloc: Global, run: &mut Run, rest: &str) -> anyhow::Result<()> {
     let (path, text) = named(rest)?;
-    let path = String::from_str(alloc, path)?;
-    run.given.schemas.push((path, text_of(alloc, text)?))?;
+    run.given.schemas.push(schema_of(alloc, path, text)?)?;
     Ok(())
+}
+
+// A path, and the schema of this text.
+fn schema_of(alloc: Global, path: &str, text: &str) -> anyhow::Result<(String, Vec<u8>)> {
+    let text = text_of(alloc, text)?;
+    Ok((String::from_str(alloc, path)?, text))
 }
 
 // A file that stands there before the run.
@@ -399,7 +424,13 @@ fn like(alloc: Global, text: &str) -> anyhow::Result<Form> {
 fn parts_of(alloc: Global, text: &str) -> anyhow::Result<Vec<Vec<u8>>> {
     let mut parts = Vec::new(alloc);
     for part in text.split("${..}") {
-        parts.push(text_of(alloc, part)?)?;
+        push_part(alloc, &mut parts, part)?;
     }
     Ok(parts)
+}
+
+// Adds a part.
+fn push_part(alloc: Global, parts: &mut Vec<Vec<u8>>, part: &str) -> anyhow::Result<()> {
+    parts.push(text_of(alloc, part)?)?;
+    Ok(())
 }

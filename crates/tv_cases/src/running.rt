@@ -1,5 +1,5 @@
 //! Runs over a directory in memory, whose device refuses calls, of a script that comes in pieces.
-ghost use Rattle.std.specs.Prelude.{◌≡◌, None, IfOk, true};
+ghost use Rattle.std.specs.Prelude.{◌≡◌, None, IfOk, IfSome, true};
 ghost use Rattle.tv_model.specs.Names.{is_file_name};
 
 use crate::case::{Given, Locks};
@@ -51,9 +51,14 @@ fn push_schema(
     path: &str,
     bytes: &[u8],
 ) -> anyhow::Result<()> {
-    let path = String::from_str(alloc, path)?;
-    schemas.push((path, Vec::from_slice(alloc, bytes)?))?;
+    schemas.push(schema(alloc, path, bytes)?)?;
     Ok(())
+}
+
+// A schema, and its path.
+fn schema(alloc: Global, path: &str, bytes: &[u8]) -> anyhow::Result<(String, Vec<u8>)> {
+    let path = String::from_str(alloc, path)?;
+    Ok((path, Vec::from_slice(alloc, bytes)?))
 }
 
 // The schemas of a run, each under its path, of which the first one counts.
@@ -71,6 +76,17 @@ fn place(alloc: Global, bench: CaseBench, given: &Given) -> anyhow::Result<Bench
     ensures { IfOk result (λ place. place.lent ≡ None) }
 {
     let schemas = schemas(alloc, given)?;
+    place_with(alloc, bench, schemas)
+}
+
+// A place with this directory and these schemas.
+fn place_with(
+    alloc: Global,
+    bench: CaseBench,
+    schemas: Vec<(String, Vec<u8>)>,
+) -> anyhow::Result<BenchPlace<CaseBench>>
+    ensures { IfOk result (λ place. place.lent ≡ None) }
+{
     match BenchPlace::new(alloc, schemas, Vec::new(alloc), bench, ROOM) {
         Ok(place) => Ok(place),
         Err(_) => Err(anyhow::anyhow!("memory is wanted")),
@@ -84,10 +100,23 @@ fn run_over(
     given: &Given,
     script: &mut Pieces,
 ) -> anyhow::Result<(u8, Vec<u8>, CaseBench)> {
-    let mut place = place(alloc, bench, given)?;
-    let status = run(alloc, given.words.as_slice(), &mut place, script);
+    let place = place(alloc, bench, given)?;
+    Ok(run_at(alloc, place, given.words.as_slice(), script))
+}
+
+// The same at a place.
+fn run_at(
+    alloc: Global,
+    place: BenchPlace<CaseBench>,
+    words: &[String],
+    script: &mut Pieces,
+) -> (u8, Vec<u8>, CaseBench)
+    requires { place.lent ≡ None }
+{
+    let mut place = place;
+    let status = run(alloc, words, &mut place, script);
     let (bench, said) = place.into_parts();
-    Ok((status, said, bench))
+    (status, said, bench)
 }
 
 // What was told to a directory.
@@ -120,8 +149,13 @@ fn begin(
 // What was told since.
 fn told_since(alloc: Global, bench: &CaseBench, before: Before) -> anyhow::Result<Vec<u8>> {
     let all = heard(bench)?;
-    let told = all.as_slice().get(before.told..).unwrap_or(b"");
-    Ok(Vec::from_slice(alloc, told)?)
+    rest_of(alloc, all.as_slice(), before.told)
+}
+
+// The bytes from this one on.
+fn rest_of(alloc: Global, bytes: &[u8], from: usize) -> anyhow::Result<Vec<u8>> {
+    let rest = bytes.get(from..).unwrap_or(b"");
+    Ok(Vec::from_slice(alloc, rest)?)
 }
 
 /// Makes a run over a directory, which is handed back.
@@ -180,13 +214,23 @@ pub(crate) fn empty(alloc: Global) -> anyhow::Result<CaseBench> {
 fn checked(name: &str) -> anyhow::Result<&str>
     ensures { IfOk result (λ name. is_file_name name.now ≡ true) }
 {
+    match file_name(name) {
+        Some(name) => Ok(name),
+        None => anyhow::bail!("no file has the name \"{name}\""),
+    }
+}
+
+// The same name, if a file can have it.
+fn file_name(name: &str) -> Option<&str>
+    ensures { IfSome result (λ name. is_file_name name.now ≡ true) }
+{
     if name == MANAGED_FILEPATH {
-        return Ok(MANAGED_FILEPATH);
+        return Some(MANAGED_FILEPATH);
     }
     if is_plain_name(name) {
-        return Ok(name);
+        return Some(name);
     }
-    anyhow::bail!("no file has the name \"{name}\"")
+    None
 }
 
 // Gives a name these bytes.
@@ -254,17 +298,28 @@ fn held(alloc: Global, bench: &mut CaseBench) -> anyhow::Result<Locks> {
 
 // Makes calls that change nothing until the next one has this number, which isn't 0.
 fn count_to(alloc: Global, bench: &mut CaseBench, number: u64) -> anyhow::Result<()> {
-    let mut calls = Vec::new(alloc);
-    calls.push(number.saturating_sub(1))?;
-    bench.fail_at(calls);
+    refuse_call(alloc, bench, number.saturating_sub(1))?;
     for _ in 0..number {
-        match bench.exists(MANAGED_FILEPATH) {
-            Ok(_) => {}
-            Err(OpenReadError::IoError { .. }) => return Ok(()),
-            Err(_) => anyhow::bail!("memory is wanted"),
+        if is_refused(bench)? {
+            return Ok(());
         }
     }
     anyhow::bail!("there were too many calls before the run")
+}
+
+// From now on the device refuses the call with this number alone.
+fn refuse_call(alloc: Global, bench: &mut CaseBench, call: u64) -> anyhow::Result<()> {
+    bench.fail_at(Vec::from_slice(alloc, &[call])?);
+    Ok(())
+}
+
+// Makes a call that changes nothing. Whether it is refused.
+fn is_refused(bench: &mut CaseBench) -> anyhow::Result<bool> {
+    match bench.exists(MANAGED_FILEPATH) {
+        Ok(_) => Ok(false),
+        Err(OpenReadError::IoError { .. }) => Ok(true),
+        Err(_) => Err(anyhow::anyhow!("memory is wanted")),
+    }
 }
 
 // From now on the device refuses the calls with these numbers, which are counted from now on. The next call

@@ -47,11 +47,15 @@ fn escaped(part: &str) -> Option<(u8, &str)> {
         return Some((b'\n', rest));
     }
     let (digits, rest) = part.strip_prefix('x')?.split_at_checked(2)?;
-    // A number may have a sign, and a byte may not.
+    Some((byte_of(digits)?, rest))
+}
+
+// The byte of hexadecimal digits. A number may have a sign, and a byte may not.
+fn byte_of(digits: &str) -> Option<u8> {
     if digits.starts_with('+') {
         return None;
     }
-    Some((u8::from_str_radix(digits, 16).ok()?, rest))
+    u8::from_str_radix(digits, 16).ok()
 }
 
 // A text in which `${TEXT*N}` is written out, as N times TEXT.
@@ -86,9 +90,19 @@ fn push_repeated(alloc: Global, out: &mut String, part: &str) -> anyhow::Result<
 // The text of a repetition, how often it comes, and what stands after it.
 fn repeated(part: &str) -> Option<(&str, u32, &str)> {
     let (inside, after) = part.split_once('}')?;
-    let (piece, count) = inside.rsplit_once('*')?;
-    let count = u32::try_from(number(count)?).ok()?;
+    let (piece, count) = piece_of(inside)?;
     Some((piece, count, after))
+}
+
+// The text of a repetition, and how often it comes.
+fn piece_of(inside: &str) -> Option<(&str, u32)> {
+    let (piece, count) = inside.rsplit_once('*')?;
+    Some((piece, count_of(count)?))
+}
+
+// How often a text comes.
+fn count_of(text: &str) -> Option<u32> {
+    u32::try_from(number(text)?).ok()
 }
 
 // Adds a piece so often.
@@ -135,19 +149,30 @@ pub(crate) fn number_of(text: &str) -> anyhow::Result<u64> {
 pub(crate) fn numbers_of(alloc: Global, text: &str) -> anyhow::Result<Vec<u64>> {
     let mut numbers = Vec::new(alloc);
     for word in text.split(' ') {
-        numbers.push(number_of(word)?)?;
+        push_number(&mut numbers, word)?;
     }
     Ok(numbers)
 }
 
+// Adds the number of a word.
+fn push_number(numbers: &mut Vec<u64>, word: &str) -> anyhow::Result<()> {
+    numbers.push(number_of(word)?)?;
+    Ok(())
+}
+
 /// The name and the text of `NAME = TEXT`. Where the text is empty, the line can end with the sign.
 pub(crate) fn named(text: &str) -> anyhow::Result<(&str, &str)> {
-    match text.split_once(" = ") {
+    match split_name(text) {
         Some(named) => Ok(named),
-        None => match text.strip_suffix(" =") {
-            Some(name) => Ok((name, "")),
-            None => anyhow::bail!("this line needs NAME = TEXT"),
-        },
+        None => anyhow::bail!("this line needs NAME = TEXT"),
+    }
+}
+
+// The name and the text, if there is a sign between them.
+fn split_name(text: &str) -> Option<(&str, &str)> {
+    match text.split_once(" = ") {
+        Some(named) => Some(named),
+        None => Some((text.strip_suffix(" =")?, "")),
     }
 }
 
@@ -279,10 +304,18 @@ fn push_spelled(out: &mut String, part: &str, texts: &[(&str, String)]) -> anyho
 
 // The text of a word.
 fn text_of_word<'a>(word: &str, texts: &'a [(&str, String)]) -> anyhow::Result<&'a str> {
+    match known_text(word, texts) {
+        Some(text) => Ok(text),
+        None => anyhow::bail!("no line above gives ${word} a text"),
+    }
+}
+
+// The text of a word, if it has one.
+fn known_text<'a>(word: &str, texts: &'a [(&str, String)]) -> Option<&'a str> {
     for (known, text) in texts {
         if *known == word {
-            return Ok(text.as_str());
+            return Some(text.as_str());
         }
     }
-    anyhow::bail!("no line above gives ${word} a text")
+    None
 }

@@ -140,14 +140,36 @@ fn runs_differ(alloc: Global, runs: &[Run], piece: usize) -> anyhow::Result<Opti
             refuse,
             piece,
         };
-        let (seen, after) = observe(alloc, bench, &run.given, manner)?;
-        bench = after;
-        let differs = run_differs(alloc, &mut bench, run, &seen)?;
+        let (differs, after) = try_run(alloc, bench, run, manner)?;
         if differs.is_some() {
             return Ok(differs);
         }
+        bench = after;
     }
     Ok(None)
+}
+
+// Makes a run over a directory, which is handed back. Where it differs.
+fn try_run(
+    alloc: Global,
+    bench: CaseBench,
+    run: &Run,
+    manner: Manner,
+) -> anyhow::Result<(Option<Difference>, CaseBench)> {
+    let (seen, bench) = observe(alloc, bench, &run.given, manner)?;
+    compare(alloc, bench, run, &seen)
+}
+
+// Where a run differs, and the directory.
+fn compare(
+    alloc: Global,
+    bench: CaseBench,
+    run: &Run,
+    seen: &Seen,
+) -> anyhow::Result<(Option<Difference>, CaseBench)> {
+    let mut bench = bench;
+    let differs = run_differs(alloc, &mut bench, run, seen)?;
+    Ok((differs, bench))
 }
 
 // All that these pieces tell.
@@ -419,14 +441,23 @@ fn file_unlike(
     wanted: &str,
     found: Option<&[u8]>,
 ) -> anyhow::Result<Difference> {
-    let text = match found {
-        Some(bytes) => {
-            let has = shown(alloc, bytes, 0)?;
-            format!(in alloc; "{name}: wants {wanted}, found \"{has}\"")?
-        }
-        None => format!(in alloc; "{name}: wants {wanted}, found no file")?,
-    };
+    let has = found_text(alloc, found)?;
+    let text = format!(in alloc; "{name}: wants {wanted}, found {has}")?;
     Ok(Difference { at, text })
+}
+
+// What was found, in words.
+fn found_text(alloc: Global, found: Option<&[u8]>) -> anyhow::Result<String> {
+    match found {
+        Some(bytes) => quoted(alloc, bytes),
+        None => Ok(String::from_str(alloc, "no file")?),
+    }
+}
+
+// The beginning of these bytes, as a case writes it, in quotation marks.
+fn quoted(alloc: Global, bytes: &[u8]) -> anyhow::Result<String> {
+    let text = shown(alloc, bytes, 0)?;
+    Ok(format!(in alloc; "\"{text}\"")?)
 }
 
 // Whether the text has these parts in this order, the first one at its beginning and the last one at its

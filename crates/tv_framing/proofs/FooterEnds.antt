@@ -1,6 +1,6 @@
 -- How a footer is found at the end of a file.
 use Rattle.std.proofs.Common.{◌≡◌, ◌≢◌, ◌≤◌, ◌<◌, ◌+◌, ◌-◌, ◌^◌, ⊎_elim, inr, ℕ, List, ◌++◌, length, take, drop, slice_range, codes, Result, Ok, Err, refl, sym, ap, subst, ◌∙◌, arith, append_assoc, length-append, length-drop}
-use Rattle.std.specs.Prelude.{IfErr}
+use Rattle.std.specs.Prelude.{IfErr, MatchResult}
 use Rattle.std.proofs.lemmas.List.{drop_at, take_at, drop-drop, length-take-le, take-append-drop}
 use Rattle.tv_model.specs.Footer.{four_bytes, footer_magic, number_of, stated}
 use Rattle.tv_model.proofs.Bodies.{four_spell}
@@ -89,9 +89,9 @@ not_refused bytes footer body fault h r =
     (⊎_elim (λ (a : IsCutOff bytes fault). absurd (omega (arith, a.cut, n, e.size)))
     (λ (a : IsNoFooter bytes fault). a.other footer (subst (λ (l : List ℕ). Spells l footer) (sym (json_is bytes footer body h)) h.spells))))) r
 
-pub exactly : {T : Type 0} (bytes : List ℕ) (r : Result T IoError) → IfErr r (OfFault (Refuses bytes)) → IfErr r (OfFault (λ _. (footer : Footer) (body : List ℕ) → IsFramed bytes footer body → ⊥))
-exactly bytes (Ok x) h = tt
-exactly bytes (Err e) h = of_fault e h (λ f refused footer body framed. not_refused bytes footer body f framed refused)
+pub exactly : {T : Type 0} (P : T → Type 0) (bytes : List ℕ) (r : Result T IoError) → MatchResult r P (OfFault (Refuses bytes)) → IfErr r (OfFault (λ _. (footer : Footer) (body : List ℕ) → IsFramed bytes footer body → ⊥))
+exactly P bytes (Ok x) h = tt
+exactly P bytes (Err e) h = of_fault e h (λ f refused footer body framed. not_refused bytes footer body f framed refused)
 
 -- ---- a file whose end was found
 

@@ -1,5 +1,5 @@
 -- How the list of a composite file and its bodies agree.
-use Rattle.std.proofs.Common.{◌≡◌, ◌≤◌, ◌<◌, ◌+◌, ◌-◌, ◌^◌, ℕ, suc, Bool, true, false, ◌||◌, ◌&&◌, cond, eqb, List, [], ◌∷◌, ◌++◌, length, take, drop, get_or, slice_range, Option, Some, None, refl, sym, ap, subst, ◌∙◌, arith, append_assoc, append-nil, length-append, length-drop}
+use Rattle.std.proofs.Common.{◌≡◌, ◌≤◌, ◌<◌, ◌==◌, ◌+◌, ◌-◌, ◌^◌, ℕ, suc, Bool, true, false, ◌||◌, ◌&&◌, cond, eqb, List, [], ◌∷◌, ◌++◌, length, take, drop, get_or, slice_range, Option, Some, None, refl, sym, ap, subst, ◌∙◌, arith, append_assoc, append-nil, length-append, length-drop}
 use Rattle.std.proofs.lemmas.List.{drop_at, drop_more, take_at, take_more, length-take-le}
 use Rattle.std.specs.List.{AllByRecursion, list_any}
 use Rattle.tv_model.specs.Footer.{four_bytes}
@@ -12,13 +12,14 @@ use Rattle.std.specs.BTreeSet as tree
 use Rattle.std.specs.Ordering.{is_eq, nat_cmp, ordering_then}
 use Rattle.std.specs.declared.cmp.Ordering.{Ordering}
 use Rattle.std.specs.declared.cmp.Ordering.TheVariants.{Less, Equal, Greater}
+use Rattle.std.proofs.lemmas.Bool.{eqb-true}
 use Rattle.std.proofs.lemmas.Bool.Decides.{nat_tests}
 use Rattle.std.proofs.lemmas.List.Folds.{list_any-append}
 use Rattle.std.proofs.lemmas.Option.{none-some, same_Some}
 use Rattle.tv_framing.specs.contracts.address.FileAddrOrd.TheImpl as order
 use Rattle.tv_framing.specs.Composite.{Part, AreDistinct, IsAddress, IsComposite, addresses, bodies, footing, is_at, listed}
 use Rattle.tv_framing.specs.Entries.{BeginsAtFirst, IsLayout, entries_text, entry_addresses, entry_text, gaps, starts_after}
-use Rattle.tv_framing.specs.Fitting.{EntryFits}
+use Rattle.tv_framing.specs.Fitting.{EntryFits, SpellsEntries}
 use Rattle.tv_framing.specs.Starts.{Ascend, Fill, next_start, parts_of, start_addresses}
 use Rattle.tv_framing.proofs.Parts.{addresses_of, addresses_push, all_get, all_push, bodies_whole, distinct_push, or_false, turned}
 
@@ -158,6 +159,13 @@ stops_short bytes count i done left after r below found entries short fits whole
     let g = r.goes_on entries short fits whole in
     let lt : i < length entries = omega (arith, g.0, below) in
     none-some (get_or entries i none) (found (get_or entries i none) (entries_text (drop (i + 1) entries)) (all_get EntryFits entries i none lt fits) (g.2 ∙ ap entries_text (drop_more entries i none lt))).0
+
+-- the list was read to its end
+pub reads_all : (bytes : List ℕ) (count i : ℕ) (done : List Entry) (left : List ℕ) → IsReading bytes count i done left → count ≤ i → (length left == 0) ≡ true → SpellsEntries bytes done
+reads_all bytes count i done [] r over none =
+    let all : count ≡ length done = omega (arith, r.number, r.within, over) in
+    record { fits = r.each; text = r.text ∙ ap (λ (l : List ℕ). vint count ++ l) (append-nil (entries_text done)) ∙ ap (λ n. vint n ++ entries_text done) all }
+reads_all bytes count i done (x ∷ xs) r over none = absurd (omega (arith, eqb-true (length (x ∷ xs)) 0 none))
 
 -- ---- adding up the gaps
 

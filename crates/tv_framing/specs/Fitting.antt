@@ -4,7 +4,8 @@ use Rattle.std.specs.List.{AllByRecursion}
 use Rattle.tv_model.specs.VInt.{vint}
 use Rattle.tv_framing.specs.declared.entries.Entry.{Entry}
 use Rattle.tv_framing.specs.Composite.{IsAddress}
-use Rattle.tv_framing.specs.Entries.{entries_text}
+use Rattle.tv_framing.specs.declared.starts.Start.{Start}
+use Rattle.tv_framing.specs.Entries.{IsLayout, entries_text, starts_after}
 
 -- the numbers of an entry fit
 abbrev pub EntryFits : Entry → Type 0
@@ -14,3 +15,10 @@ EntryFits entry = (entry.gap < 2 ^ 64) × IsAddress entry.addr
 pub record SpellsEntries (bytes : List ℕ) (entries : List Entry) : Type 0 where
   pub fits : AllByRecursion EntryFits entries
   pub text : bytes ≡ vint (length entries) ++ entries_text entries
+
+-- the starts are those of entries that the bytes spell, and whose bodies have so many bytes
+pub record AreListed (bytes : List ℕ) (len : ℕ) (starts : List Start) : Type 0 where
+  pub entries : List Entry
+  pub spells : SpellsEntries bytes entries
+  pub layout : IsLayout entries len
+  pub made : starts ≡ starts_after 0 entries

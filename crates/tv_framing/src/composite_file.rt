@@ -10,7 +10,7 @@ ghost use Rattle.std.specs.Option.{IsSomeAnd};
 
 use crate::address::FileAddr;
 use crate::cursor::Cursor;
-use crate::entries::{entries_in, starts_of};
+use crate::entries::starts_in;
 use crate::faults::refusal;
 use crate::per_field_usage::PerFieldSpaceUsage;
 use crate::ranges::range_of;
@@ -125,10 +125,7 @@ fn parts_in(alloc: Global, file: &FileSlice) -> Result<Option<CompositeFile>, Me
     let Some((len, footing)) = split_footing(bytes.as_slice()) else {
         return Ok(None);
     };
-    let Some(entries) = entries_in(alloc, footing)? else {
-        return Ok(None);
-    };
-    let Some(starts) = starts_of(alloc, entries.as_slice(), len as u64)? else {
+    let Some(starts) = starts_in(alloc, footing, len as u64)? else {
         return Ok(None);
     };
     let bytes = file.slice_to(len)?;
@@ -140,9 +137,9 @@ fn split_footing(bytes: &[u8]) -> Option<(usize, &[u8])>
     ensures found { (front footing : List ℕ) → length footing < 2 ^ 32
         → bytes.now ≡ front ++ (footing ++ four_bytes (length footing))
         → IsSomeAnd result (λ r. (r.0 ≡ length front) × (r.1.now ≡ footing)) }
-    ensures small { IfSome result (λ r. r.0 < 2 ^ 64) }
-    ensures only { IfSome result (λ r. (r.0 ≤ length bytes.now) × (length r.1.now < 2 ^ 32)
-        × (bytes.now ≡ take r.0 bytes.now ++ (r.1.now ++ four_bytes (length r.1.now)))) }
+    ensures only { IfSome result (λ r. (r.0 < 2 ^ 64) × ((r.0 ≤ length bytes.now)
+        × (length r.1.now < 2 ^ 32)
+        × (bytes.now ≡ take r.0 bytes.now ++ (r.1.now ++ four_bytes (length r.1.now))))) }
 {
     let end = bytes.len().checked_sub(4)?;
     let (front, last) = bytes.split_at(end);

@@ -1,5 +1,5 @@
 //! Reads bytes from the front on.
-ghost use Rattle.std.specs.Prelude.{◌≡◌, ◌<◌, ◌^◌, ◌++◌, ◌==◌, ℕ, length, List, Some, IfSome, IfNone};
+ghost use Rattle.std.specs.Prelude.{◌≡◌, ◌<◌, ◌^◌, ◌++◌, ◌==◌, ℕ, length, List, Some, IfSome, MatchOption};
 ghost use Rattle.tv_model.specs.Footer.{four_bytes};
 ghost use Rattle.tv_model.specs.VInt.{vint};
 
@@ -49,8 +49,8 @@ impl<'a> Cursor<'a> {
     pub(crate) fn four_bytes(&mut self) -> Option<u32>
         ensures found { (n : ℕ) (rest : List ℕ) → n < 2 ^ 32 → self.old ≡ four_bytes n ++ rest
             → (result ≡ Some n) × (self.new ≡ rest) }
-        ensures only { IfSome result (λ n. self.old ≡ four_bytes n ++ self.new) }
-        ensures none { IfNone result (length self.old < 4) }
+        ensures cases { MatchOption result (length self.old < 4)
+            (λ n. self.old ≡ four_bytes n ++ self.new) }
     {
         match self.left {
             [a, b, c, d, rest @ ..] => {

@@ -3,7 +3,7 @@ ghost use Rattle.std.specs.Prelude.{◌≡◌, ◌<◌, ◌^◌, ◌++◌, ◌�
 ghost use Rattle.std.specs.List.{AllByRecursion};
 ghost use Rattle.tv_model.specs.VInt.{vint};
 ghost use Rattle.tv_framing.specs.Entries.{BeginsAtFirst, IsLayout, entry_text, entries_text, starts_after};
-ghost use Rattle.tv_framing.specs.Fitting.{EntryFits, SpellsEntries};
+ghost use Rattle.tv_framing.specs.Fitting.{AreListed, EntryFits, SpellsEntries};
 
 use crate::address::FileAddr;
 use crate::cursor::Cursor;
@@ -34,8 +34,28 @@ fn next_entry(cursor: &mut Cursor<'_>) -> Option<Entry>
     Some(Entry { gap, addr })
 }
 
-/// The entries that the bytes spell behind their number, and nothing for all other bytes.
-pub(crate) fn entries_in(alloc: Global, footing: &[u8]) -> Result<Option<Vec<Entry>>, Memory>
+/// Where the bodies of a list begin in so many bytes. Nothing where the bytes are no list, or its bodies
+/// don't fit.
+pub(crate) fn starts_in(
+    alloc: Global,
+    footing: &[u8],
+    len: u64,
+) -> Result<Option<Vec<Start>>, Memory>
+    ensures found { (entries : List Entry) → length entries < 2 ^ 64
+        → SpellsEntries footing.now entries → IsLayout entries len
+        → IfOk result (λ found. option_map (λ v. v.items) found
+        ≡ Some (starts_after 0 entries)) }
+    ensures only { IfOk result (λ found. IfSome found
+        (λ v. AreListed footing.now len v.items)) }
+{
+    match entries_in(alloc, footing)? {
+        Some(entries) => starts_of(alloc, entries.as_slice(), len),
+        None => Ok(None),
+    }
+}
+
+// The entries that the bytes spell behind their number, and nothing for all other bytes.
+fn entries_in(alloc: Global, footing: &[u8]) -> Result<Option<Vec<Entry>>, Memory>
     ensures found { (entries : List Entry) → length entries < 2 ^ 64
         → AllByRecursion EntryFits entries
         → footing.now ≡ vint (length entries) ++ entries_text entries
@@ -60,12 +80,8 @@ pub(crate) fn entries_in(alloc: Global, footing: &[u8]) -> Result<Option<Vec<Ent
     }
 }
 
-/// Where the bodies of these entries begin in so many bytes, if they can.
-pub(crate) fn starts_of(
-    alloc: Global,
-    entries: &[Entry],
-    len: u64,
-) -> Result<Option<Vec<Start>>, Memory>
+// Where the bodies of these entries begin in so many bytes, if they can.
+fn starts_of(alloc: Global, entries: &[Entry], len: u64) -> Result<Option<Vec<Start>>, Memory>
     ensures { IfOk result (λ found. MatchOption found (IsLayout entries.now len → ⊥)
         (λ v. IsLayout entries.now len × (v.items ≡ starts_after 0 entries.now))) }
 {

@@ -1,5 +1,5 @@
 //! The footer of a file.
-ghost use Rattle.std.specs.Prelude.{◌≡◌, ℕ, false, IfOk, IfErr, OnOk};
+ghost use Rattle.std.specs.Prelude.{◌≡◌, ◌≤◌, ℕ, false, IfOk, IfErr, MatchResult, OnOk, length, take};
 ghost use Rattle.tv_model.specs.Footer.{IsOtherFormat, IsReadFormat, footer};
 ghost use Rattle.tv_base.specs.Writers.{TakesAll, WriteFaults};
 ghost use Rattle.tv_framing.specs.Faults.{OfFault};
@@ -80,7 +80,7 @@ impl Footer {
         ensures err { IfErr result (OfFault (Refuses file)) }
         ensures outside { IfErr result (OfFault (λ _. IsNotFramed file)) }
     {
-        framed(alloc, file)
+        framed(alloc, &file)
     }
 
     /// Whether files of this footer's version can be read. Takes no memory.
@@ -102,15 +102,24 @@ impl Footer {
 }
 
 // The footer of a file, and the body before it.
-fn framed(alloc: Global, file: FileSlice) -> Result<(Footer, FileSlice), IoError>
-    ensures ok { IfOk result (λ found. IsFramed file found.0 found.1) }
-    ensures err { IfErr result (OfFault (Refuses file)) }
+fn framed(alloc: Global, file: &FileSlice) -> Result<(Footer, FileSlice), IoError>
+    ensures { MatchResult result (λ found. IsFramed file.now found.0 found.1)
+        (OfFault (Refuses file.now)) }
 {
     let bytes = file.read_bytes()?;
-    let range = json_range(alloc, bytes.as_slice())?;
+    let (footer, start) = footer_in(alloc, bytes.as_slice())?;
+    Ok((footer, file.slice_to(start)?))
+}
+
+// The footer with which the bytes end, and how many bytes stand before it.
+fn footer_in(alloc: Global, bytes: &[u8]) -> Result<(Footer, usize), IoError>
+    ensures { MatchResult result (λ found. (found.1 ≤ length bytes.now)
+        × IsFramed bytes.now found.0 (take found.1 bytes.now)) (OfFault (Refuses bytes.now)) }
+{
+    let range = json_range(alloc, bytes)?;
     let start = range.start;
-    match read_footer(alloc, &bytes.as_slice()[range])? {
-        Some(footer) => Ok((footer, file.slice_to(start)?)),
+    match read_footer(alloc, &bytes[range])? {
+        Some(footer) => Ok((footer, start)),
         None => Err(refusal(
             alloc,
             IoKind::InvalidData,

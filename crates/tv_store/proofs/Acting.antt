@@ -104,15 +104,16 @@ module _ {O W C : Type 0} (g : Ghosts O W C) (old new : StoreState O) (event sho
   step_alone good refusals h = stepped g old new shown (λ s. step s shown []) result refusals (λ s. refl) good h
 
   -- one on files
-  pub acts_on_files : NotesNothing shown → (spent : Type 0) → (spent → Spent old.kept shown) → ((s : State) → ReadsGood s shown) → (TakesMetaLock old.kept shown → ⊥)
+  pub acts_on_files : NotesNothing shown → (keeps : View W → View W → Type 0) → ((before now : View W) → keeps before now → KeptView g.told before now) → (spent : Type 0) → (spent → Spent old.kept shown) → ((s : State) → ReadsGood s shown) → (TakesMetaLock old.kept shown → ⊥)
       → StepsTo g old new (λ s. step s shown []) result → ((bound : ℕ) → AtMost bound old.kept → AtMost (bound + written_by shown) new.kept)
-      → OnFiles g spent old new result
+      → OnFiles g keeps spent old new result
       → Acts g old new event result
-  acts_on_files none spent all good free step lens does =
+  acts_on_files none keeps weaker spent all good free step lens does =
       let stays = does.frame.stays in
-      acts (step_alone good stays.below.frame.tells_none.deletes_none.refusals step) does.room lens
+      let below = weaker (g.view old.outside) (g.view new.outside) stays.below in
+      acts (step_alone good below.frame.tells_none.deletes_none.refusals step) does.room lens
       (λ bound h. numbers_stay bound (written_by shown) old.kept.catalog.reading new.kept.catalog.reading result does.frame.reading h) (faults_alone spent all free does.faults) does.meta
-      (record { schema = stays.schema; is_open = stays.is_open; below = passed g.told shown (g.view old.outside) (g.view new.outside) none stays.below })
+      (record { schema = stays.schema; is_open = stays.is_open; below = passed g.told shown (g.view old.outside) (g.view new.outside) none below })
 
   -- one that reads a commit's files
   pub acts_reading : NotesNothing shown → (good : State → Type 0) → ((s : State) → good s → ReadsGood s shown)

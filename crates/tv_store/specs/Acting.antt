@@ -3,7 +3,7 @@ use Rattle.std.specs.Prelude.{ℕ, ◌≡◌, ◌<◌, ◌+◌, Bool, List, leng
 use Rattle.tv_base.specs.declared.error.TantivyError.{TantivyError}
 use Rattle.tv_base.specs.declared.error.TantivyError.TheVariants as errors
 use Rattle.tv_directory.specs.Locks.{SameLocks}
-use Rattle.tv_directory.specs.View.{View, Told as ToldParts, GoesOn, Kept}
+use Rattle.tv_directory.specs.View.{View, Told as ToldParts, GoesOn}
 use Rattle.tv_directory.specs.declared.directory.Directory.{Ghosts}
 use Rattle.tv_model.specs.Names.{meta_name}
 use Rattle.tv_model.specs.Files.{RoseBy}
@@ -47,12 +47,12 @@ abbrev pub KeepsMeta : {O W C : Type 0} (g : Ghosts O W C) (old new : StoreState
 KeepsMeta g old new result = g.told.content → OnErr result ((g.view new.outside).reads meta_name ≡ (g.view old.outside).reads meta_name)
 
 -- What an event on files does beside its step, if a number is spent or not: there is room for its answer; an error has its cause, and leaves `meta.json` as it was; and
--- of the directory such files alone have changed.
-pub record OnFiles {O W C : Type 0} (g : Ghosts O W C) (spent : Type 0) (old new : StoreState O) (result : Result (List ℕ) TantivyError) : Type 0 where
+-- of the directory below what such a call keeps.
+pub record OnFiles {O W C : Type 0} (g : Ghosts O W C) (keeps : View W → View W → Type 0) (spent : Type 0) (old new : StoreState O) (result : Result (List ℕ) TantivyError) : Type 0 where
   pub room : IfOk result (λ answer. length answer < (g.view new.outside).room)
   pub faults : EventFaults spent (g.view old.outside) (g.view new.outside) result
   pub meta : KeepsMeta g old new result
-  pub frame : KeepsReaders (Kept g.told) g.view old new
+  pub frame : KeepsReaders keeps g.view old new
 
 -- What each event keeps of the directory: nothing was told, no lock was taken or freed, and nobody was registered or called.
 pub record Passes {W : Type 0} (told : ToldParts) (event : Event) (old new : View W) : Type 0 where

@@ -2,7 +2,7 @@
 ghost use Rattle.std.specs.Prelude.{◌≡◌, ◌<◌, ℕ, length, IfOk};
 ghost use Rattle.tv_model.specs.CollectionEvents.{gc_step, collected_line, release_segment_step};
 ghost use Rattle.tv_model.specs.Lines.{line};
-ghost use Rattle.tv_directory.specs.View.{MayDelete};
+ghost use Rattle.tv_directory.specs.View.{OnlyReads, MayDelete};
 ghost use Rattle.tv_store.specs.Kept.{AtMost};
 ghost use Rattle.tv_store.specs.Acting.{StepsTo, StepsDeleting, KeepsMeta, OnFiles};
 ghost use Rattle.tv_store.specs.FileCalls.{GcFaults};
@@ -73,7 +73,7 @@ impl<O: Outside> IndexStore<O> {
         ensures step { StepsTo O.Directory self.old self.new
             (λ s. release_segment_step s id) result }
         ensures lens { (bound : ℕ) → AtMost bound self.old.kept → AtMost bound self.new.kept }
-        ensures does { OnFiles O.Directory ⊥ self.old self.new result }
+        ensures does { OnFiles O.Directory (OnlyReads O.told) ⊥ self.old self.new result }
     {
         let Some(segment) = self.catalog.live_segment(id) else {
             return self.refuse("unknown-segment");

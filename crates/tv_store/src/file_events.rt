@@ -3,6 +3,7 @@ ghost use Rattle.std.specs.Prelude.{◌≡◌, ◌<◌, ◌+◌, [], ◌∷◌, 
 ghost use Rattle.std.specs.Fmt.{decimal};
 ghost use Rattle.tv_model.specs.Lines.{line, has_no_feed};
 ghost use Rattle.tv_model.specs.FileEvents.{lacks_deletes, open_step, write_step, seal_step};
+ghost use Rattle.tv_directory.specs.View.{Kept};
 ghost use Rattle.tv_store.specs.Kept.{AtMost, BytesSpent};
 ghost use Rattle.tv_store.specs.Acting.{StepsTo, OnFiles};
 
@@ -45,7 +46,7 @@ impl<O: Outside> IndexStore<O> {
         ensures step { StepsTo O.Directory self.old self.new
             (λ s. open_step s id component) result }
         ensures lens { (bound : ℕ) → AtMost bound self.old.kept → AtMost bound self.new.kept }
-        ensures does { OnFiles O.Directory ⊥ self.old self.new result }
+        ensures does { OnFiles O.Directory (Kept O.told) ⊥ self.old self.new result }
     {
         let Some(segment) = self.catalog.live_segment(id) else {
             return self.refuse("unknown-segment");
@@ -74,8 +75,8 @@ impl<O: Outside> IndexStore<O> {
             (λ s. write_step s id component bytes.now) result }
         ensures lens { (bound : ℕ) → AtMost bound self.old.kept
             → AtMost (bound + length bytes.now) self.new.kept }
-        ensures does { OnFiles O.Directory (BytesSpent self.old.kept (length bytes.now))
-            self.old self.new result }
+        ensures does { OnFiles O.Directory (Kept O.told)
+            (BytesSpent self.old.kept (length bytes.now)) self.old self.new result }
     {
         let Some(segment) = self.catalog.live_segment(id) else {
             return self.refuse("unknown-segment");
@@ -103,7 +104,7 @@ impl<O: Outside> IndexStore<O> {
         ensures step { StepsTo O.Directory self.old self.new
             (λ s. seal_step s id component) result }
         ensures lens { (bound : ℕ) → AtMost bound self.old.kept → AtMost bound self.new.kept }
-        ensures does { OnFiles O.Directory ⊥ self.old self.new result }
+        ensures does { OnFiles O.Directory (Kept O.told) ⊥ self.old self.new result }
     {
         let Some(segment) = self.catalog.live_segment(id) else {
             return self.refuse("unknown-segment");

@@ -15,6 +15,11 @@ fn assert_written(rt: &impl Abort, alloc: Global, number: u64, spelling: &[u8]) 
     are_bytes(rt, out.as_slice(), spelling);
 }
 
+fn assert_read(rt: &impl Abort, number: u64, spelling: &[u8]) {
+    let want = Some((VInt(number), spelling.len()));
+    assert_eq!(rt; VInt::deserialize(spelling), want);
+}
+
 #[test]
 fn spellings_of_numbers(rt: HostRuntime) {
     let rows: [(u64, &[u8]); 5] = [
@@ -26,10 +31,7 @@ fn spellings_of_numbers(rt: HostRuntime) {
     ];
     for (number, spelling) in rows {
         assert_written(&rt, rt.alloc(), number, spelling);
-        assert_eq!(rt;
-            VInt::deserialize(spelling),
-            Some((VInt(number), spelling.len()))
-        );
+        assert_read(&rt, number, spelling);
     }
 }
 
@@ -84,14 +86,11 @@ fn bytes_and_parts_of_a_file(rt: HostRuntime) {
     has_parts(&rt, &file);
 }
 
-// What a read answers, and what stands in the buffer then.
-fn reads<S: Source>(rt: &impl Abort, source: &mut S, into: &mut [u8; 4], want: Option<usize>) {
+// What a read answers: how many bytes it gave, or the kind of its fault.
+fn read<S: Source>(source: &mut S, into: &mut [u8; 4]) -> Result<usize, IoKind> {
     match source.read(into.as_mut_slice()) {
-        Ok(n) => assert_eq!(rt; Some(n), want),
-        Err(fault) => {
-            assert_eq!(rt; None, want);
-            assert_eq!(rt; fault.kind, IoKind::Device);
-        }
+        Ok(n) => Ok(n),
+        Err(fault) => Err(fault.kind),
     }
 }
 
@@ -102,22 +101,27 @@ fn a_text_in_pieces(rt: HostRuntime) {
     let mut source = TextSource::new(text, refused);
     let mut piece = [0; 4];
     for (want, held) in [
-        (None, b"\0\0\0\0"),
-        (Some(4), b"abcd"),
-        (None, b"abcd"),
-        (Some(3), b"efgd"),
-        (Some(0), b"efgd"),
+        (Err(IoKind::Device), b"\0\0\0\0"),
+        (Ok(4), b"abcd"),
+        (Err(IoKind::Device), b"abcd"),
+        (Ok(3), b"efgd"),
+        (Ok(0), b"efgd"),
     ] {
-        reads(&rt, &mut source, &mut piece, want);
+        assert_eq!(rt; read(&mut source, &mut piece), want);
         assert_eq!(rt; piece, *held);
     }
+}
+
+// Whether this is a refusal of the device, with no text.
+fn is_refusal(fault: &IoFault) -> bool {
+    fault.kind == IoKind::Device && fault.text.is_empty()
 }
 
 // Whether a put was refused by the device, with no text.
 fn is_refused<S: Sink>(sink: &mut S, bytes: &[u8]) -> bool {
     match sink.put(bytes) {
         Ok(()) => false,
-        Err(IoFault { kind, text }) => kind == IoKind::Device && text.is_empty(),
+        Err(fault) => is_refusal(&fault),
     }
 }
 

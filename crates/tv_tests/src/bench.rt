@@ -59,7 +59,7 @@ const REFUSED: [u64; 13] = [38, 20, 21, 22, 23, 24, 25, 27, 30, 34, 35, 36, 37];
 // A call, whether it is refused, and the clock afterwards.
 type Row = (Turn, bool, u64);
 
-const ROWS: [Row; 31] = [
+const ROWS: &[Row] = &[
     // Nothing is to be settled.
     (On(Call::Sync, "a.idx"), false, 0),
     (On(Call::AtomicRead, "a.idx"), false, 0),
@@ -95,11 +95,16 @@ const ROWS: [Row; 31] = [
     (On(Call::Sync, "b.idx"), false, 20),
 ];
 
+fn take_row<R: Abort>(rt: &R, bench: &mut TestBench, number: usize, row: Row) {
+    let (turn, is_refused, moment) = row;
+    assert!(rt; take_turn(rt, bench, turn, is_refused), "row {number}");
+    assert_eq!(rt; bench.moment(), moment, "at row {number}");
+}
+
 // Looks at each row.
 fn take_rows<R: Abort>(rt: &R, bench: &mut TestBench) {
-    for (number, (turn, is_refused, moment)) in ROWS.iter().enumerate() {
-        assert!(rt; take_turn(rt, bench, *turn, *is_refused), "row {number}");
-        assert_eq!(rt; bench.moment(), *moment, "at row {number}");
+    for (number, row) in ROWS.iter().enumerate() {
+        take_row(rt, bench, number, *row);
     }
 }
 

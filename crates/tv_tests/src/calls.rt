@@ -1,5 +1,5 @@
 //! Calls on the files of a directory.
-ghost use Rattle.std.specs.Prelude.{◌≡◌, true, false};
+ghost use Rattle.std.specs.Prelude.{◌≡◌, true, false, OnOk};
 ghost use Rattle.tv_model.specs.Names.{is_file_name};
 
 use crate::answers::{Answer, Want, ends};
@@ -35,13 +35,25 @@ pub(crate) enum Call {
 /// A call, the name of its file, a text to write, and what it is to answer.
 pub(crate) type Step = (Call, &'static str, &'static str, Want);
 
+// Writes a text, and flushes it.
+fn write_out<D: Directory>(
+    directory: &mut D,
+    writer: &mut D::Writer,
+    text: &str,
+) -> Result<(), IoError>
+    requires { (D.view directory.old).opened writer.old ≡ true }
+    ensures { OnOk result ((D.view directory.new).opened writer.new ≡ true) }
+{
+    directory.write(writer, text.as_bytes())?;
+    directory.flush(writer)
+}
+
 // Writes, flushes and seals a file.
 fn fill<D: Directory>(directory: &mut D, writer: D::Writer, text: &str) -> Result<(), IoError>
     requires { (D.view directory.old).opened writer ≡ true }
 {
     let mut writer = writer;
-    directory.write(&mut writer, text.as_bytes())?;
-    directory.flush(&mut writer)?;
+    write_out(directory, &mut writer, text)?;
     directory.terminate(writer)
 }
 

@@ -2,9 +2,11 @@
 
 use crate::answers::Want;
 use crate::managed::{Call, Step, faults_of};
+use std::alloc::Global;
+use std::process::Abort;
 
 // The first file stays while its name lives.
-const LIVING_AND_NOT: [Step; 10] = [
+const LIVING_AND_NOT: &[Step] = &[
     Step::On(Call::Seal, "some_path_for_test", "", Want::Done),
     Step::On(
         Call::AtomicWrite,
@@ -36,13 +38,13 @@ const LIVING_AND_NOT: [Step; 10] = [
 
 #[test]
 fn a_collection_deletes_what_does_not_live(rt: HostRuntime) {
-    assert_eq!(rt; faults_of(&rt, rt.alloc(), &[], &[], &LIVING_AND_NOT), 0);
+    assert_eq!(rt; faults_of(&rt, rt.alloc(), &[], &[], LIVING_AND_NOT), 0);
 }
 
 // Four files, of which the last one isn't there any more, by the calls 0 to 12 of the device. A
 // collection takes the meta lock (call 13) and syncs, deletes (calls 15 to 18), and syncs, writes the list,
 // and syncs again.
-const FOUR: [Step; 5] = [
+const FOUR: &[Step] = &[
     Step::On(Call::AtomicWrite, "a.idx", "a", Want::Done),
     Step::On(Call::AtomicWrite, "b.idx", "b", Want::Done),
     Step::On(Call::AtomicWrite, "c.idx", "c", Want::Done),
@@ -51,7 +53,7 @@ const FOUR: [Step; 5] = [
 ];
 
 // A file that is absent counts as deleted.
-const ALL_BUT_ONE: [Step; 4] = [
+const ALL_BUT_ONE: &[Step] = &[
     Step::Collect(
         &["b.idx", "other"],
         Want::Collected {
@@ -65,7 +67,7 @@ const ALL_BUT_ONE: [Step; 4] = [
 ];
 
 // The calls 15 and 17 are refused.
-const TWO_FAIL: [Step; 6] = [
+const TWO_FAIL: &[Step] = &[
     Step::Collect(
         &["d.idx"],
         Want::Collected {
@@ -81,7 +83,7 @@ const TWO_FAIL: [Step; 6] = [
 ];
 
 // Call 15 is refused, which isn't one of the collection's.
-const NOTHING_TO_DELETE: [Step; 3] = [
+const NOTHING_TO_DELETE: &[Step] = &[
     Step::Collect(
         &["a.idx", "b.idx", "c.idx", "d.idx"],
         Want::Collected {
@@ -94,34 +96,39 @@ const NOTHING_TO_DELETE: [Step; 3] = [
 ];
 
 // The sync before the deletes is refused.
-const FAILS_BEFORE: [Step; 3] = [
+const FAILS_BEFORE: &[Step] = &[
     Step::Collect(&[], Want::Refused),
     Step::Names(&["a.idx", "b.idx", "c.idx", "d.idx"]),
     Step::On(Call::Exists, "a.idx", "", Want::Is(true)),
 ];
 
 // A sync or the write of the list is refused after the deletes.
-const FAILS_AFTER: [Step; 3] = [
+const FAILS_AFTER: &[Step] = &[
     Step::Collect(&[], Want::Refused),
     Step::Names(&[]),
     Step::On(Call::Exists, "a.idx", "", Want::Is(false)),
 ];
 
 // The calls that are refused, what is done, and how many of the refused ones weren't deletes.
-const COLLECTIONS: [(&[u64], &[Step], u64); 7] = [
-    (&[], &ALL_BUT_ONE, 0),
-    (&[15, 17], &TWO_FAIL, 0),
-    (&[15], &NOTHING_TO_DELETE, 1),
-    (&[14], &FAILS_BEFORE, 1),
-    (&[19], &FAILS_AFTER, 1),
-    (&[20], &FAILS_AFTER, 1),
-    (&[21], &FAILS_AFTER, 1),
+const COLLECTIONS: &[(&[u64], &[Step], u64)] = &[
+    (&[], ALL_BUT_ONE, 0),
+    (&[15, 17], TWO_FAIL, 0),
+    (&[15], NOTHING_TO_DELETE, 1),
+    (&[14], FAILS_BEFORE, 1),
+    (&[19], FAILS_AFTER, 1),
+    (&[20], FAILS_AFTER, 1),
+    (&[21], FAILS_AFTER, 1),
 ];
+
+// Takes the steps behind `FOUR`, and looks how many of the refused calls weren't deletes.
+fn goes_on<R: Abort>(rt: &R, alloc: Global, refused: &[u64], steps: &[Step], faults: u64) {
+    let found = faults_of(rt, alloc, refused, FOUR, steps);
+    assert_eq!(rt; found, faults, "where {refused:?} are refused");
+}
 
 #[test]
 fn collections_go_on_after_refused_deletes_alone(rt: HostRuntime) {
     for (refused, steps, faults) in COLLECTIONS {
-        let found = faults_of(&rt, rt.alloc(), refused, &FOUR, steps);
-        assert_eq!(rt; found, faults, "where {refused:?} are refused");
+        goes_on(&rt, rt.alloc(), refused, steps, *faults);
     }
 }

@@ -128,9 +128,14 @@ fn assert_body_at(rt: &impl Abort, file: &CompositeFile, id: u32, idx: u64, want
     }
 }
 
+// The composite file of these bytes.
+fn opened(rt: &impl Abort, alloc: Global, bytes: &[u8]) -> CompositeFile {
+    CompositeFile::open(alloc, &file_of(rt, alloc, bytes)).expect(rt, "composite")
+}
+
 fn assert_read(rt: &impl Abort, alloc: Global, row: Row<'_>) {
     let (bytes, id, idx, want) = row;
-    let file = CompositeFile::open(alloc, &file_of(rt, alloc, bytes)).expect(rt, "composite");
+    let file = opened(rt, alloc, bytes);
     assert_body_at(rt, &file, id, idx, want);
 }
 
@@ -215,8 +220,7 @@ fn assert_size(rt: &impl Abort, file: &CompositeFile, names: &[String]) {
 
 #[test]
 fn sizes_of_the_bodies_of_five_fields(rt: HostRuntime) {
-    let bytes = file_of(&rt, rt.alloc(), TWO_FIELDS);
-    let file = CompositeFile::open(rt.alloc(), &bytes).expect(&rt, "composite");
+    let file = opened(&rt, rt.alloc(), TWO_FIELDS);
     let names = five_names(&rt, rt.alloc());
     assert_size(&rt, &file, names.as_slice());
     assert_body(&rt, &file, 4, TWO);

@@ -33,7 +33,7 @@ fn seen(answer: Result<u8, TantivyError>) -> Outcome {
 fn failed(failure: Failure<'_>) -> Outcome {
     match failure {
         Failure::Poisoned => Outcome::Poisoned,
-        Failure::System(text) if text == "failed" => Outcome::Failed,
+        Failure::System("failed") => Outcome::Failed,
         _ => Outcome::Other,
     }
 }
@@ -46,12 +46,20 @@ enum Way {
     Goes,
 }
 
+// What is sent on this way.
+fn sent(way: Way) -> Option<Result<u8, TantivyError>> {
+    match way {
+        Way::Sends(number) => Some(Ok(number)),
+        Way::SendsError => Some(Err(TantivyError::Poisoned)),
+        Way::Goes => None,
+    }
+}
+
 // Whether a sender reaches its future. One that goes always does.
 fn reaches(sender: Sender<u8>, way: Way) -> bool {
-    match way {
-        Way::Sends(number) => sender.send(Ok(number)).is_ok(),
-        Way::SendsError => sender.send(Err(TantivyError::Poisoned)).is_ok(),
-        Way::Goes => true,
+    match sent(way) {
+        Some(answer) => sender.send(answer).is_ok(),
+        None => true,
     }
 }
 

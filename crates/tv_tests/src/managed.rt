@@ -1,5 +1,5 @@
 //! A managed directory, one call after the other, over a directory that fails.
-ghost use Rattle.std.specs.Prelude.{◌≡◌, ◌≢◌, ◌+◌, ◌<◌, ◌^◌, true, length, None};
+ghost use Rattle.std.specs.Prelude.{◌≡◌, ◌≢◌, ◌+◌, ◌<◌, ◌^◌, true, length, None, OnOk};
 ghost use Rattle.tv_model.specs.Names.{is_file_name, list_name};
 
 use crate::answers::{Answer, Want, ends};
@@ -8,7 +8,7 @@ use crate::sealed_files::{Row, takes};
 use std::alloc::Global;
 use std::collections::BTreeSet;
 use std::process::Abort;
-use tv_base::{MANAGED_FILEPATH, TantivyError, is_plain_name};
+use tv_base::{IoError, MANAGED_FILEPATH, TantivyError, is_plain_name};
 use tv_directory::{Bench, Directory, NoWatch, meta_lock};
 use tv_managed::{GarbageCollectionResult, ManagedDirectory, ManagedWriter};
 
@@ -48,23 +48,35 @@ pub(crate) enum Step {
     Footer(&'static Row),
 }
 
-// Writes a text, and flushes it.
-fn fill<R: Abort, D: Directory>(
-    rt: &R,
+// Writes bytes, and flushes them.
+fn write_out<D: Directory>(
     managed: &mut ManagedDirectory<D>,
     writer: &mut ManagedWriter<D>,
     bytes: &[u8],
-)
+) -> Result<(), IoError>
     requires opened { (D.view managed.old.0).opened writer.old.writer ≡ true }
     requires fits { length (D.state_of writer.old.writer).written + length bytes.now < 2 ^ 64 }
-    ensures opened { (D.view managed.new.0).opened writer.new.writer ≡ true }
+    ensures opened { OnOk result ((D.view managed.new.0).opened writer.new.writer ≡ true) }
 {
-    managed.write(writer, bytes).expect(rt, "written");
-    managed.flush(writer).expect(rt, "flushed");
+    managed.write(writer, bytes)?;
+    managed.flush(writer)
 }
 
-fn seal<R: Abort, D: Directory>(
-    rt: &R,
+// Writes, flushes and seals a file.
+fn fill<D: Directory>(
+    managed: &mut ManagedDirectory<D>,
+    writer: ManagedWriter<D>,
+    bytes: &[u8],
+) -> Result<(), IoError>
+    requires opened { (D.view managed.old.0).opened writer.writer ≡ true }
+    requires fits { length (D.state_of writer.writer).written + length bytes.now < 2 ^ 64 }
+{
+    let mut writer = writer;
+    write_out(managed, &mut writer, bytes)?;
+    managed.terminate(writer)
+}
+
+fn seal<D: Directory>(
     managed: &mut ManagedDirectory<D>,
     name: &str,
     bytes: &[u8],
@@ -75,17 +87,14 @@ fn seal<R: Abort, D: Directory>(
 {
     match managed.open_write(name) {
         Ok(writer) => {
-            let mut writer = writer;
-            fill(rt, managed, &mut writer, bytes);
-            ends(managed.terminate(writer), name, Want::Done) && matches!(want, Want::Done)
+            ends(fill(managed, writer, bytes), name, Want::Done) && matches!(want, Want::Done)
         }
         Err(error) => error.is(name, want),
     }
 }
 
 // Makes a call on a file of this name, and answers whether it ended as it is to end.
-fn take_on<R: Abort, D: Directory>(
-    rt: &R,
+fn take_on<D: Directory>(
     managed: &mut ManagedDirectory<D>,
     call: Call,
     name: &str,
@@ -102,21 +111,20 @@ fn take_on<R: Abort, D: Directory>(
         Call::ValidateChecksum => ends(managed.validate_checksum(name), name, want),
         Call::AtomicRead => ends(managed.atomic_read(name), name, want),
         Call::AtomicWrite => ends(managed.atomic_write(name, bytes), name, want),
-        Call::Seal => seal(rt, managed, name, bytes, want),
+        Call::Seal => seal(managed, name, bytes, want),
         Call::Delete => ends(managed.delete(name), name, want),
     }
 }
 
 /// Makes a call on a file, and answers whether it ended as it is to end.
-pub(crate) fn on_file<R: Abort, D: Directory>(
-    rt: &R,
+pub(crate) fn on_file<D: Directory>(
     managed: &mut ManagedDirectory<D>,
     call: Call,
     name: &str,
     bytes: &[u8],
     want: Want,
 ) -> bool {
-    is_plain_name(name) && name != MANAGED_FILEPATH && take_on(rt, managed, call, name, bytes, want)
+    is_plain_name(name) && name != MANAGED_FILEPATH && take_on(managed, call, name, bytes, want)
 }
 
 fn lock<R: Abort, D: Directory>(rt: &R, managed: &mut ManagedDirectory<D>) -> bool {
@@ -163,9 +171,7 @@ fn take<R: Abort, D: Empty>(
     step: Step,
 ) -> bool {
     match step {
-        Step::On(call, name, text, want) => {
-            on_file(rt, managed, call, name, text.as_bytes(), want)
-        }
+        Step::On(call, name, text, want) => on_file(managed, call, name, text.as_bytes(), want),
         Step::Sync => ends(managed.sync_directory(), "", Want::Done),
         Step::Lock => lock(rt, managed),
         Step::Watch => {
@@ -180,7 +186,7 @@ fn take<R: Abort, D: Empty>(
         ),
         Step::Names(names) => are_managed(managed, names),
         Step::Collect(living, want) => ends(collect(rt, managed, alloc, living), "", want),
-        Step::Footer(row) => takes(rt, managed, *row),
+        Step::Footer(row) => takes(managed, *row),
     }
 }
 
@@ -198,13 +204,19 @@ fn take_all<R: Abort, D: Empty>(
     }
 }
 
+// A directory without files.
+fn without_files<R: Abort>(rt: &R, alloc: Global) -> TestBench
+    ensures { (⟦<Bench<NoWatch> as Directory>⟧.view result).reads list_name ≡ None }
+{
+    Bench::new(alloc, Vec::new(alloc)).expect(rt, "memory")
+}
+
 // A directory without files, whose device refuses the calls with these numbers.
 fn refusing<R: Abort>(rt: &R, alloc: Global, refused: &[u64]) -> TestBench
     ensures { (⟦<Bench<NoWatch> as Directory>⟧.view result).reads list_name ≡ None }
 {
-    let calls = Vec::from_slice(alloc, refused).expect(rt, "memory");
-    let mut bench = Bench::new(alloc, Vec::new(alloc)).expect(rt, "memory");
-    bench.fail_at(calls);
+    let mut bench = without_files(rt, alloc);
+    bench.fail_at(Vec::from_slice(alloc, refused).expect(rt, "memory"));
     bench
 }
 
@@ -245,7 +257,7 @@ pub(crate) fn faults_of<R: Abort>(
 const SEALED: &str =
     "123456789{\"version\":{\"major\":0,\"minor\":26,\"patch\":2,\"index_format_version\":7},\"crc\":3421780262}\x56\x00\x00\x00\x39\x05\x00\x00";
 
-const FILES: [Step; 24] = [
+const FILES: &[Step] = &[
     Step::On(Call::Exists, "a.idx", "", Want::Is(false)),
     Step::On(Call::OpenRead, "a.idx", "", Want::Absent),
     Step::On(Call::GetFileHandle, "a.idx", "", Want::Absent),
@@ -275,11 +287,11 @@ const FILES: [Step; 24] = [
 
 #[test]
 fn a_file_is_listed_and_sealed(rt: HostRuntime) {
-    assert_eq!(rt; faults_of(&rt, rt.alloc(), &[], &[], &FILES), 0);
+    assert_eq!(rt; faults_of(&rt, rt.alloc(), &[], &[], FILES), 0);
 }
 
 // A name is registered by a write of the list and a sync.
-const REFUSED: [Step; 10] = [
+const REFUSED: &[Step] = &[
     Step::On(Call::AtomicWrite, "a.idx", "new", Want::Refused),
     Step::Names(&[]),
     Step::On(Call::Seal, "a.idx", "", Want::Refused),
@@ -298,5 +310,5 @@ const REFUSED: [Step; 10] = [
 // sync; a read of the list; whether the file is there, a write of the list, a sync, and the making.
 #[test]
 fn a_refused_registration_manages_no_name(rt: HostRuntime) {
-    assert_eq!(rt; faults_of(&rt, rt.alloc(), &[0, 3, 8], &[], &REFUSED), 3);
+    assert_eq!(rt; faults_of(&rt, rt.alloc(), &[0, 3, 8], &[], REFUSED), 3);
 }

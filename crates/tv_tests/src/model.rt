@@ -58,15 +58,17 @@ fn ids<R: Abort>(rt: &R, alloc: Global, count: u64) -> Vec<SegmentId> {
     ids
 }
 
+// Whether that many ids and this one are told apart.
+fn are_told_apart<R: Abort>(rt: &R, alloc: Global, last: SegmentId) -> bool {
+    let mut list = ids(rt, alloc, MANY);
+    list.push(last).expect(rt, "memory");
+    IdList::new(list).is_some()
+}
+
 #[test]
 fn many_ids_are_told_apart(rt: HostRuntime) {
-    let mut list = ids(&rt, rt.alloc(), MANY);
-    list.push(id()).expect(&rt, "memory");
-    assert!(rt; IdList::new(list).is_some());
-    let mut list = ids(&rt, rt.alloc(), MANY);
-    list.push(SegmentId::from_bytes([0; 16]))
-        .expect(&rt, "memory");
-    assert!(rt; IdList::new(list).is_none());
+    assert!(rt; are_told_apart(&rt, rt.alloc(), id()));
+    assert!(rt; !are_told_apart(&rt, rt.alloc(), SegmentId::from_bytes([0; 16])));
 }
 
 #[test]

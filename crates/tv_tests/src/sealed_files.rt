@@ -54,7 +54,7 @@ const OTHER_FORM: Want = Want::Fault(IoKind::InvalidData, "Footer is not of the 
 /// The bytes of a file, what it reads, and whether its checksum agrees.
 pub(crate) type Row = (Bytes, Want, Want);
 
-const FILES: [Step; 15] = [
+const FILES: &[Step] = &[
     Step::Footer(&(Bytes::Text(SEALED), Want::Text("123456789"), Want::Is(true))),
     // The oldest format, and another spelling.
     Step::Footer(&(
@@ -147,22 +147,21 @@ fn slice_of(bytes: Bytes) -> &'static [u8] {
 }
 
 /// Whether a file of these bytes is read and checked as it is wanted.
-pub(crate) fn takes<R: Abort, D: Directory>(
-    rt: &R,
+pub(crate) fn takes<D: Directory>(
     managed: &mut ManagedDirectory<D>,
     (bytes, read, checked): Row,
 ) -> bool {
     let bytes = slice_of(bytes);
     let name = "a.idx";
-    on_file(rt, managed, Call::AtomicWrite, name, bytes, Want::Done)
-        && on_file(rt, managed, Call::OpenRead, name, b"", read)
-        && on_file(rt, managed, Call::GetFileHandle, name, b"", read)
-        && on_file(rt, managed, Call::ValidateChecksum, name, b"", checked)
+    on_file(managed, Call::AtomicWrite, name, bytes, Want::Done)
+        && on_file(managed, Call::OpenRead, name, b"", read)
+        && on_file(managed, Call::GetFileHandle, name, b"", read)
+        && on_file(managed, Call::ValidateChecksum, name, b"", checked)
 }
 
 #[test]
 fn footers_are_taken_or_refused(rt: HostRuntime) {
-    assert_eq!(rt; faults_of(&rt, rt.alloc(), &[], &[], &FILES), 0);
+    assert_eq!(rt; faults_of(&rt, rt.alloc(), &[], &[], FILES), 0);
 }
 
 fn read_back<R: Abort, D: Directory>(
@@ -174,13 +173,18 @@ fn read_back<R: Abort, D: Directory>(
     managed.open_read("a.idx").expect(rt, "a footer")
 }
 
-// The body of a file with this content, as a managed directory reads it.
-fn body_of<R: Abort>(rt: &R, alloc: Global, content: Content) -> FileSlice {
-    let bytes = written(rt, alloc, content);
+// The body of a file of these bytes, as a managed directory reads it.
+fn body_in<R: Abort>(rt: &R, alloc: Global, bytes: &[u8]) -> FileSlice {
     let mut managed = failing(rt, alloc, &[]);
-    let body = read_back(rt, &mut managed, bytes.as_slice());
+    let body = read_back(rt, &mut managed, bytes);
     drop(managed.into_directory());
     body
+}
+
+// The body of a file with this content.
+fn body_of<R: Abort>(rt: &R, alloc: Global, content: Content) -> FileSlice {
+    let bytes = written(rt, alloc, content);
+    body_in(rt, alloc, bytes.as_slice())
 }
 
 // Looks at the body of field 4, which is the spelling of 2.

@@ -42,11 +42,16 @@ fn three_fields(rt: &impl Abort, alloc: Global) -> Vec<FieldUsage> {
     fields
 }
 
+fn assert_total(rt: &impl Abort, field: &FieldUsage, name: &str, total: u64) {
+    assert_eq!(rt; field.field_name(), name);
+    assert!(rt; field.total() == ByteCount(total));
+}
+
 fn assert_totals(rt: &impl Abort, usage: &PerFieldSpaceUsage) {
     assert!(rt; usage.total() == ByteCount(317));
-    for (field, (name, total)) in usage.fields().zip([("body", 10), ("title", 307)]) {
-        assert_eq!(rt; field.field_name(), name);
-        assert!(rt; field.total() == ByteCount(total));
+    let wants = [("body", 10), ("title", 307)];
+    for (field, (name, total)) in usage.fields().zip(&wants) {
+        assert_total(rt, field, name, *total);
     }
 }
 

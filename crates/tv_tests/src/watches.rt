@@ -126,7 +126,7 @@ fn take_all<R: Abort>(rt: &R, alloc: Global, steps: &[Step]) {
     watched.take_all(rt, steps);
 }
 
-const SUMS: [Step; 12] = [
+const SUMS: &[Step] = &[
     Step::Subscribe { times: 1, plus: 1 },
     Step::Subscribe { times: 1, plus: 10 },
     Step::Broadcast,
@@ -143,11 +143,11 @@ const SUMS: [Step; 12] = [
 
 #[test]
 fn callbacks_of_1_and_10_give_22_and_32_and_32(rt: HostRuntime) {
-    take_all(&rt, rt.alloc(), &SUMS);
+    take_all(&rt, rt.alloc(), SUMS);
 }
 
 // Each writes its digit behind the others.
-const DIGITS: [Step; 8] = [
+const DIGITS: &[Step] = &[
     Step::Subscribe { times: 10, plus: 2 },
     Step::Subscribe { times: 10, plus: 1 },
     Step::Subscribe { times: 10, plus: 3 },
@@ -160,10 +160,10 @@ const DIGITS: [Step; 8] = [
 
 #[test]
 fn callbacks_are_called_in_the_order_of_their_subscription(rt: HostRuntime) {
-    take_all(&rt, rt.alloc(), &DIGITS);
+    take_all(&rt, rt.alloc(), DIGITS);
 }
 
-const SHARED: [Step; 14] = [
+const SHARED: &[Step] = &[
     Step::Subscribe { times: 1, plus: 1 },
     Step::Share(0),
     Step::Release(0),
@@ -183,7 +183,14 @@ const SHARED: [Step; 14] = [
 
 #[test]
 fn a_shared_handle_keeps_its_callback(rt: HostRuntime) {
-    take_all(&rt, rt.alloc(), &SHARED);
+    take_all(&rt, rt.alloc(), SHARED);
+}
+
+// Whether there is a notice to deliver, and one alone.
+fn delivers_once<D: Directory>(directory: &mut D) -> bool {
+    let is_first = directory.deliver();
+    let is_second = directory.deliver();
+    is_first && !is_second
 }
 
 // Whether a write of this name is noticed, and delivered once.
@@ -191,9 +198,7 @@ fn is_noticed<R: Abort, D: Directory>(rt: &R, directory: &mut D, name: &str) -> 
     requires { is_file_name name.now ≡ true }
 {
     directory.atomic_write(name, b"{}").expect(rt, "written");
-    let is_first = directory.deliver();
-    let is_second = directory.deliver();
-    is_first && !is_second
+    delivers_once(directory)
 }
 
 // Both callbacks are noticed of a new commit, and then the second one alone.

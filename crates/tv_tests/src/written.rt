@@ -50,11 +50,21 @@ fn read_file<D: Directory>(rt: &impl Abort, directory: &mut D) -> Vec<u8> {
     directory.atomic_read("a.idx").expect(rt, "the file")
 }
 
+// Writes a file with this content, and reads it.
+fn write_and_read<D: Directory>(
+    rt: &impl Abort,
+    alloc: Global,
+    directory: &mut D,
+    content: Content,
+) -> Vec<u8> {
+    write_file(rt, alloc, directory, content);
+    read_file(rt, directory)
+}
+
 /// The bytes of a file with this content.
 pub(crate) fn written(rt: &impl Abort, alloc: Global, content: Content) -> Vec<u8> {
     let mut bench = TestBench::empty(alloc).expect(rt, "memory");
-    write_file(rt, alloc, &mut bench, content);
-    read_file(rt, &mut bench)
+    write_and_read(rt, alloc, &mut bench, content)
 }
 
 /// Whether a file with this content has these bytes.

@@ -18,4 +18,4 @@ returns-clause-found c front foot short whole =
 pub returns-clause-only : goal.returns-clause-only
 returns-clause-only c =
     let cut : Cut c.args.bytes.now c.in_ok-end.end c.split_at.result.0.now c.split_at.result.1.now = record { large = c.in_ok-end.ensures.0; at = sym c.in_ok-end.ensures.1; front = c.split_at.ensures.front; back = c.split_at.ensures.back } in
-    cut_only _ _ _ _ _ _ _ cut (sym c.new.ensures ∙ c.in_ok-len.ensures.only) (omega arith) c.in_ok-start.ensures.0 (sym c.in_ok-start.ensures.1)
+    (omega arith, cut_only _ _ _ _ _ _ _ cut (sym c.new.ensures ∙ c.in_ok-len.ensures.cases) (omega arith) c.in_ok-start.ensures.0 (sym c.in_ok-start.ensures.1))

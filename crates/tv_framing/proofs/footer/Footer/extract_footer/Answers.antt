@@ -2,4 +2,4 @@ use Rattle.tv_framing.proofs.FooterEnds.{exactly}
 use Rattle.tv_framing.proofs.footer.Footer.extract_footer.Goals as goal
 
 pub returns-clause-outside : goal.returns-clause-outside
-returns-clause-outside c = exactly c.args.file c.framed.result c.framed.ensures.err
+returns-clause-outside c = exactly _ c.args.file c.framed.result c.framed.ensures

@@ -14,25 +14,25 @@ use Rattle.tv_store.proofs.index_store.IndexStore.act_on_files.Goals as goal
 pub returns-in-ReleaseSegment : goal.returns-in-ReleaseSegment
 returns-in-ReleaseSegment g c =
     let did = c.release_segment.ensures in
-    acts_on_files g.O.Directory c.args.self.now c.release_segment.new.self c.args.event.now _ c.in-ReleaseSegment.is c.release_segment.result (λ o n same. same) ⊥ (λ never. absurd never) (λ s. tt) (λ takes. takes)
+    acts_on_files g.O.Directory c.args.self.now c.release_segment.new.self c.args.event.now _ c.in-ReleaseSegment.is c.release_segment.result (λ o n same. same) _ (λ o n h. h.kept) ⊥ (λ never. absurd never) (λ s. tt) (λ takes. takes)
     did.step (λ bound h. at_most bound 0 c.release_segment.new.self.kept (did.lens bound h)) did.does
 
 pub returns-in-Open : goal.returns-in-Open
 returns-in-Open g c =
     let did = c.open_file.ensures in
-    acts_on_files g.O.Directory c.args.self.now c.open_file.new.self c.args.event.now _ c.in-Open.is c.open_file.result (λ o n same. same) ⊥ (λ never. absurd never) (λ s. tt) (λ takes. takes)
+    acts_on_files g.O.Directory c.args.self.now c.open_file.new.self c.args.event.now _ c.in-Open.is c.open_file.result (λ o n same. same) _ (λ o n h. h) ⊥ (λ never. absurd never) (λ s. tt) (λ takes. takes)
     did.step (λ bound h. at_most bound 0 c.open_file.new.self.kept (did.lens bound h)) did.does
 
 pub returns-in-Seal : goal.returns-in-Seal
 returns-in-Seal g c =
     let did = c.seal_file.ensures in
-    acts_on_files g.O.Directory c.args.self.now c.seal_file.new.self c.args.event.now _ c.in-Seal.is c.seal_file.result (λ o n same. same) ⊥ (λ never. absurd never) (λ s. tt) (λ takes. takes)
+    acts_on_files g.O.Directory c.args.self.now c.seal_file.new.self c.args.event.now _ c.in-Seal.is c.seal_file.result (λ o n same. same) _ (λ o n h. h) ⊥ (λ never. absurd never) (λ s. tt) (λ takes. takes)
     did.step (λ bound h. at_most bound 0 c.seal_file.new.self.kept (did.lens bound h)) did.does
 
 pub returns-in-Write : goal.returns-in-Write
 returns-in-Write g c =
     let did = c.write_file.ensures in
-    acts_on_files g.O.Directory c.args.self.now c.write_file.new.self c.args.event.now _ c.in-Write.is c.write_file.result (λ o n same. same) _ inl (λ s. tt) (λ takes. takes) did.step did.lens did.does
+    acts_on_files g.O.Directory c.args.self.now c.write_file.new.self c.args.event.now _ c.in-Write.is c.write_file.result (λ o n same. same) _ (λ o n h. h) _ inl (λ s. tt) (λ takes. takes) did.step did.lens did.does
 
 pub returns-in-Commit : goal.returns-in-Commit
 returns-in-Commit g c =
