@@ -4,13 +4,15 @@ use Rattle.tv_model.specs.Files.{Rose}
 use Rattle.tv_base.specs.Causes.{IoCause}
 use Rattle.tv_base.specs.declared.io.IoError.{IoError}
 
--- what is told of a writer: the bytes that were taken; how many calls the device has refused; and whether no further call may be made, since the end was told or a call was refused
+-- what is told of a writer: the bytes that were taken; how many calls the device has refused; and whether no further call may be made, since the end was told or a
+-- call was refused
 pub record WriterView : Type 0 where
   pub taken : List ℕ
   pub faults : ℕ
   pub ended : Bool
 
--- A call fails where the device refused it, and then no further call may be made; or where memory was wanted, and then, as at Ok, more may follow and the count stands still.
+-- A call fails where the device refused it, and then no further call may be made; or where memory was wanted, and then, as at Ok, more may follow and the count
+-- stands still.
 pub record WriteFaults {A : Type 0} (old new : WriterView) (result : Result A IoError) : Type 0 where
   pub quiet : OnOk result (new.faults ≡ old.faults)
   pub cause : IfErr result (IoCause (Rose old.faults new.faults) (new.faults ≡ old.faults))

@@ -12,7 +12,9 @@ pub type SegmentOrdinal = u32;
 /// A document of a searcher. Addresses are in order of their segments, then of their documents.
 #[derive(Clone, Copy, Debug, PartialEq, Eq, PartialOrd, Ord, Hash)]
 pub struct DocAddress {
+    /// Which segment, from 0 on.
     pub segment_ord: SegmentOrdinal,
+    /// Which document of it, from 0 on.
     pub doc_id: DocId,
 }
 

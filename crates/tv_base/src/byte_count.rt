@@ -1,7 +1,7 @@
 //! Numbers of bytes.
 ghost use Rattle.std.specs.Prelude.{◌≡◌, ◌+◌, min};
 
-/// A number of bytes.
+/// A number of bytes, which is its field.
 #[derive(Clone, Copy, Debug, PartialEq, Eq, PartialOrd, Ord)]
 pub struct ByteCount(pub u64);
 

@@ -13,7 +13,9 @@ use tv_model::Memory;
 /// Bytes that are not what they should be, and in which file.
 #[derive(Drop, PartialEq, Eq)]
 pub struct DataCorruption {
+    /// The name of the file, if it was one.
     pub filepath: Option<String>,
+    /// What is wrong with the bytes.
     pub comment: String,
 }
 
@@ -51,44 +53,66 @@ impl fmt::Debug for DataCorruption {
 }
 
 /// What a call of the library may answer in place of its result.
+///
+/// The variants and their texts are those of tantivy, but for the last three. Some of tantivy's are made by no
+/// call here, and stay so that a `match` which names them stays right.
 #[derive(Debug, Drop, PartialEq, Eq, Error)]
 pub enum TantivyError {
+    /// A directory was not opened.
     #[error("Failed to open the directory: '{0:?}'")]
     OpenDirectoryError(OpenDirectoryError),
+    /// A file was not read: it is absent, its footer is not read, or the device refused it.
     #[error("Failed to open file for read: '{0:?}'")]
     OpenReadError(OpenReadError),
+    /// A file was not made.
     #[error("Failed to open file for write: '{0:?}'")]
     OpenWriteError(OpenWriteError),
+    /// An index stands where one was to be made. No call makes it yet.
     #[error("Index already exists")]
     IndexAlreadyExists,
+    /// A lock was not taken. The text is `None`; tantivy has one here.
     #[error("Failed to acquire Lockfile: {0:?}. {1:?}")]
     LockFailure(LockError, Option<String>),
+    /// The device refused a call, or bytes can't be read, where no file is named.
     #[error("An IO error occurred: '{0}'")]
     IoError(IoFault),
+    /// A file of an index is not of its form. No call makes it yet.
     #[error("Data corrupted: '{0:?}'")]
     DataCorruption(DataCorruption),
+    /// A thread panicked. No call makes it: none panics.
     #[error("A thread holding the locked panicked and poisoned the lock")]
     Poisoned,
+    /// The schema lacks the field of this name. No call makes it.
     #[error("The field does not exist: '{0}'")]
     FieldNotFound(String),
+    /// An argument is not of its form, and what is wrong with it.
     #[error("An invalid argument was passed: '{0}'")]
     InvalidArgument(String),
+    /// A thread failed. No call makes it.
     #[error("An error occurred in a thread: '{0}'")]
     ErrorInThread(String),
+    /// The argument of this name is missing. No call makes it yet.
     #[error("Missing required index builder argument when open/create index: '{0}'")]
     IndexBuilderMissingArgument(String),
+    /// The schema of an index is another one. No call makes it yet.
     #[error("Schema error: '{0}'")]
     SchemaError(String),
+    /// The sender of a `FutureResult` is gone: the message with which that was made.
     #[error("System error.'{0}'")]
     SystemError(String),
+    /// A file of another version. No call makes it: a read answers `OpenReadError`.
     #[error("{0:?}")]
     IncompatibleIndex(Incompatibility),
+    /// The library contradicts itself. No call makes it.
     #[error("Internal error: '{0}'")]
     InternalError(String),
+    /// The segment id that was handed in is used already. No call makes it yet.
     #[error("IdInUse")]
     IdInUse(String),
+    /// A number can't be counted further, or a script has more lines than can be counted.
     #[error("Exhausted")]
     Exhausted,
+    /// Memory was wanted. The call says what it left.
     #[error("Memory")]
     Memory,
 }

@@ -56,8 +56,11 @@ impl Ticket {
 /// A value, its number, and how many tickets of it are out.
 #[derive(Drop)]
 pub struct Entry<T> {
+    /// Its number, which no other value of the inventory has or had.
     pub number: u64,
+    /// How many tickets of it are out, at least one.
     pub count: u64,
+    /// The value.
     pub value: T,
 }
 

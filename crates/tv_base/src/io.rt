@@ -20,7 +20,9 @@ pub enum IoKind {
 /// A refused call, or bytes that can't be read. Stands for `std::io::Error`.
 #[derive(Debug, Drop, PartialEq, Eq)]
 pub struct IoFault {
+    /// Whether the device refused a call, or what is wrong with the bytes.
     pub kind: IoKind,
+    /// What is wrong, or nothing.
     pub text: String,
 }
 
@@ -37,8 +39,10 @@ impl std::error::Error for IoFault {}
 /// A fault, or want of memory.
 #[derive(Debug, Drop, PartialEq, Eq, Error)]
 pub enum IoError {
+    /// A refused call, or bytes that can't be read.
     #[error("{0}")]
     Fault(IoFault),
+    /// Memory was wanted.
     #[error("Memory")]
     Memory,
 }

@@ -7,68 +7,107 @@ use std::alloc::{AllocError, AllocFailed};
 use thiserror::Error;
 use tv_model::Memory;
 
-/// Why a lock was not acquired.
+/// Why a lock was not acquired. `Memory` is own, the other variants are tantivy's.
 #[derive(Debug, Drop, PartialEq, Eq, Error)]
 pub enum LockError {
+    /// Somebody holds it.
     #[error("Could not acquire lock as it is already held, possibly by a different process.")]
     LockBusy,
+    /// The device refused the call.
     #[error("Failed to acquire the lock due to an io:Error.")]
     IoError(IoFault),
+    /// Memory was wanted. The lock was not taken.
     #[error("Memory")]
     Memory,
 }
 
-/// Why a directory was not opened.
+/// Why a directory was not opened. The `String` is the folder's path. `Memory` is own, the other variants are
+/// tantivy's.
 #[derive(Debug, Drop, PartialEq, Eq, Error)]
 pub enum OpenDirectoryError {
+    /// No folder has this path.
     #[error("Directory does not exist: '{0}'.")]
     DoesNotExist(String),
+    /// What has this path is no folder.
     #[error("Path exists but is not a directory: '{0}'.")]
     NotADirectory(String),
+    /// A folder for a while was not made. No call makes this error.
     #[error("Failed to create a temporary directory: '{0}'.")]
     FailedToCreateTempDir(IoFault),
+    /// The device refused the call.
     #[error("IoError '{io_error:?}' while create directory in: '{directory_path:?}'.")]
     IoError {
+        /// What the device answered.
         io_error: IoFault,
+        /// The path of the folder.
         directory_path: String,
     },
+    /// Memory was wanted.
     #[error("Memory")]
     Memory,
 }
 
-/// Why a file was not made.
+/// Why a file was not made. The `String` is the file's name. `Leaving` and `Memory` are own, the other variants
+/// are tantivy's.
 #[derive(Debug, Drop, PartialEq, Eq, Error)]
 pub enum OpenWriteError {
+    /// A file of this name is there. It is left alone.
     #[error("File already exists: '{0}'")]
     FileAlreadyExists(String),
+    /// A collection that is under way holds this name. No call makes this error yet.
     #[error("Leaving")]
     Leaving(String),
+    /// The device refused the call.
     #[error("IoError '{io_error:?}' while opening file for write: '{filepath}'.")]
-    IoError { io_error: IoFault, filepath: String },
+    IoError {
+        /// What the device answered.
+        io_error: IoFault,
+        /// The name of the file.
+        filepath: String,
+    },
+    /// Memory was wanted.
     #[error("Memory")]
     Memory,
 }
 
-/// Why a file was not read.
+/// Why a file was not read. The `String` is the file's name. `Memory` is own, the other variants are tantivy's.
 #[derive(Debug, Drop, PartialEq, Eq, Error)]
 pub enum OpenReadError {
+    /// No file has this name.
     #[error("Files does not exist: {0:?}")]
     FileDoesNotExist(String),
+    /// The device refused the call, or the file does not end in a footer.
     #[error("IoError: '{io_error:?}' happened while opening the following file for Read: {filepath}.")]
-    IoError { io_error: IoFault, filepath: String },
+    IoError {
+        /// The fault. Its kind says which of the two.
+        io_error: IoFault,
+        /// The name of the file.
+        filepath: String,
+    },
+    /// The file has a footer of a format that is not read.
     #[error("Index version unsupported: {0:?}")]
     IncompatibleIndex(Incompatibility),
+    /// Memory was wanted.
     #[error("Memory")]
     Memory,
 }
 
-/// Why a file was not deleted.
+/// Why a file was not deleted. The `String` is the file's name. `Memory` is own, the other variants are
+/// tantivy's.
 #[derive(Debug, Drop, PartialEq, Eq, Error)]
 pub enum DeleteError {
+    /// No file has this name.
     #[error("File does not exist: '{0}'.")]
     FileDoesNotExist(String),
+    /// The device refused the call. The file is as it was.
     #[error("The following IO error happened while deleting file '{filepath}': '{io_error:?}'.")]
-    IoError { io_error: IoFault, filepath: String },
+    IoError {
+        /// What the device answered.
+        io_error: IoFault,
+        /// The name of the file.
+        filepath: String,
+    },
+    /// Memory was wanted. The file is as it was.
     #[error("Memory")]
     Memory,
 }

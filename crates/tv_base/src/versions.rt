@@ -10,9 +10,13 @@ pub const INDEX_FORMAT_OLDEST_SUPPORTED_VERSION: u32 = 4;
 /// A version of the library, and of the files that it writes.
 #[derive(Clone, Copy, PartialEq, Eq)]
 pub struct Version {
+    /// The first number of the library's version.
     pub major: u32,
+    /// The second.
     pub minor: u32,
+    /// The third.
     pub patch: u32,
+    /// The format of the files. Those of 4 to 7 are read.
     pub index_format_version: u32,
 }
 
@@ -38,12 +42,18 @@ impl fmt::Debug for Version {
 /// Why a file of another version is not read.
 #[derive(Debug, Drop, PartialEq, Eq)]
 pub enum Incompatibility {
+    /// The compressions differ. No call makes this: nothing is compressed.
     CompressionMismatch {
+        /// That of the library.
         library_compression_format: String,
+        /// That of the index.
         index_compression_format: String,
     },
+    /// The file is of a format that is not read.
     IndexMismatch {
+        /// The version of the library.
         library_version: Version,
+        /// The version that wrote the file, as its footer says.
         index_version: Version,
     },
 }

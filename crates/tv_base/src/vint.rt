@@ -8,8 +8,8 @@ use tv_model::Memory;
 // Added to the last byte of a spelling, and to no other.
 const STOP: u8 = 128;
 
-/// A number that is spelled in groups of seven bits, the lowest group first. 128 is added to the last
-/// byte. Only the shortest spelling counts.
+/// A number, which is its field, that is spelled in groups of seven bits, the lowest group first. 128 is
+/// added to the last byte. Only the shortest spelling counts.
 #[derive(Clone, Copy, Debug, PartialEq, Eq)]
 pub struct VInt(pub u64);
 

@@ -74,7 +74,8 @@ pub record WritesOut {C : Type 0} (writer : RamWriter) (old new : Bench C) : Typ
   pub writers : KeepsWriters writer old.ram new.ram
   pub gone : ram_lives old.ram writer ≡ false → Untouched old new
 
--- A call takes its number, and is refused exactly where that one is listed: then it is counted as a fault, and nothing changes but the clock. It changes no more than `keeps` says.
+-- A call takes its number, and is refused exactly where that one is listed: then it is counted as a fault, and nothing changes but the clock. It changes no more
+-- than `keeps` says.
 pub record Numbered {A C E : Type 0} (keeps : Bench C → Bench C → Type 0) (why : (passed refused quiet : Type 0) → E → Type 0) (old new : Bench C) (result : Result A E) : Type 0 where
   pub passed : OnOk result (Passed old.device new.device)
   pub cause : IfErr result (why (Untouched old new × Passed old.device new.device) (Timed old new × Faulted old.device new.device) (new.device ≡ after_call old.device))

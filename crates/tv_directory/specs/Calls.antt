@@ -90,7 +90,8 @@ pub record Flushes {A W : Type 0} (told : Told) (old new : View W) (state_of : W
   pub ok : told.content → old.lives writer ≡ true → OnOk result (Sets old.reads new.reads (state_of writer).name (Some (state_of writer).written))
   pub memory : told.content → IfErr result (IoCause (Unit {0}) (Same old.reads new.reads))
 
--- The writer's file is sealed with all that was written; where the device refused that, it may have been, and where memory was wanted nothing changed. Where its name was deleted since, nothing changed.
+-- The writer's file is sealed with all that was written; where the device refused that, it may have been, and where memory was wanted nothing changed. Where its
+-- name was deleted since, nothing changed.
 pub record Seals {A W : Type 0} (told : Told) (old new : View W) (state_of : W → WriterState) (writer : W) (result : Result A IoError) : Type 0 where
   pub ok : told.content → old.lives writer ≡ true → OnOk result (Sets old.reads new.reads (state_of writer).name (Some (state_of writer).written))
   pub err : told.content → IfErr result (IoCause (MaySet old.reads new.reads (state_of writer).name (Some (state_of writer).written)) (Same old.reads new.reads))

@@ -41,7 +41,8 @@ writer_view g w = record {
   ended = not (holds (held_view g w).opened w.writer);
 }
 
--- It holds the same directory, of which nothing but the file may read something else; where its name was deleted, nothing changed. As long as it goes on, it writes the same file.
+-- It holds the same directory, of which nothing but the file may read something else; where its name was deleted, nothing changed. As long as it goes on, it writes
+-- the same file.
 pub record HeldStays {D W C : Type 0} (g : Ghosts D W C) (old new : DirWriter D W C) : Type 0 where
   pub same_reference : new.directory.ghost_name ≡ old.directory.ghost_name
   pub frame : Kept g.told (held_view g old) (held_view g new)
@@ -62,7 +63,8 @@ Reaches g old new bytes = g.told.content → held_lives g old ≡ true → Sets 
 abbrev pub HeldFilesStay : {D W C A : Type 0} → Ghosts D W C → DirWriter D W C → DirWriter D W C → Result A IoError → Type 0
 HeldFilesStay g old new result = g.told.content → IfErr result (IoCause (Unit {0}) (Same (held_view g old).reads (held_view g new).reads))
 
--- Where the device refused to seal the file, that reads all that was written or what it read, and every other name what it read; where memory was wanted, each name reads what it read.
+-- Where the device refused to seal the file, that reads all that was written or what it read, and every other name what it read; where memory was wanted, each name
+-- reads what it read.
 abbrev pub MayReach : {D W C A : Type 0} → Ghosts D W C → DirWriter D W C → DirWriter D W C → Result A IoError → Type 0
 MayReach g old new result =
     g.told.content → IfErr result (IoCause (MaySet (held_view g old).reads (held_view g new).reads (held_name g old) (Some (held_bytes g old))) (Same (held_view g old).reads (held_view g new).reads))

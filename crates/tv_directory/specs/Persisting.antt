@@ -30,7 +30,8 @@ pub record IsThere (new tried : Reads) (name : List ℕ) : Type 0 where
 abbrev pub MayRead : Reads → Reads → List ℕ → Type 0
 MayRead new tried name = KeepsOthers tried new name
 
--- What is true of each answer for a file of this name, which the errors name: `there` where it is there already, `refused` where the device refused a call, `quiet` where memory was wanted.
+-- What is true of each answer for a file of this name, which the errors name: `there` where it is there already, `refused` where the device refused a call, `quiet`
+-- where memory was wanted.
 abbrev pub of_open_write : (name : List ℕ) (there refused : Type 0) → OpenWriteError → Type 0
 of_open_write name there refused (write.FileAlreadyExists path) = (string_bytes path ≡ name) × there
 of_open_write name there refused (write.IoError fault path) = (string_bytes path ≡ name) × IsDevice fault × refused

@@ -68,7 +68,8 @@ OnlyHeld old new = new ≡ record old { held = new.held }
 abbrev pub OnlyWatchers : {C : Type 0} → RamDirectory C → RamDirectory C → Type 0
 OnlyWatchers old new = new ≡ record old { watchers = new.watchers }
 
--- A call on this writer: nothing changed but the files, and nothing at all where its name was deleted. The same writers may be handed in, and each has its file or lost it as before, also those that were never opened here.
+-- A call on this writer: nothing changed but the files, and nothing at all where its name was deleted. The same writers may be handed in, and each has its file or
+-- lost it as before, also those that were never opened here.
 pub record KeepsWriters {C : Type 0} (writer : RamWriter) (old new : RamDirectory C) : Type 0 where
   pub others : OnlyFiles old new
   pub opened : (w : RamWriter) → ram_opened new w ≡ ram_opened old w

@@ -5,8 +5,9 @@ ghost use Rattle.tv_directory.specs.Device.{ticked};
 /// Counts the calls that are recorded, as far as 64 bits count.
 #[derive(Clone, Copy)]
 pub struct Clock {
+    /// How many calls were recorded.
     pub moment: u64,
-    // No call was recorded since the last recorded sync.
+    /// No call was recorded since the last recorded sync.
     pub settled: bool,
 }
 

@@ -11,6 +11,7 @@ use tv_base::{IoError, TerminatingWrite};
 /// The bytes stand with the directory's writer, which the end takes away, so what was taken isn't told
 /// afterwards. `terminate` says what the file reads then.
 pub struct DirWriter<'a, D: Directory> {
+    /// The directory of the file.
     pub directory: &'a mut D,
     /// Nothing once the end was told, or a call was refused.
     pub writer: Option<D::Writer>,

@@ -16,8 +16,22 @@ use tv_model::Memory;
 
 /// Files that are written once, under plain or dotted names.
 ///
+/// There are two in memory: `RamDirectory`, whose calls no device refuses, and `Bench`, whose device refuses
+/// the calls that it is told to. There is none of real files yet.
+///
 /// The device may refuse any call. It then answers a fault of kind `Device`, and a count rises:
 /// `refusals` for a delete, and `faults` for any other call.
+///
+/// A writer doesn't write by itself, as tantivy's does: `open_write` gives it, and `write`, `flush` and at last
+/// `terminate` are handed it in again, on the same directory. After a fault of one of them it is only dropped.
+///
+/// - `flush` is for those who read a file while it is written: its name then reads all that was written.
+///   Nothing is kept from a crash by it.
+/// - `terminate` ends a file and seals it. It needs no flush before it.
+/// - `sync_directory` is for crashes. It is called behind what must stand before the next step is taken: behind
+///   the sealed files of a commit, before `meta.json` names them, and behind `meta.json`. So far no clause says
+///   what a crash leaves.
+/// - Dropping a writer does none of this. The file stays, unsealed, and what wasn't flushed may be lost.
 pub trait Directory {
     /// What writes a file.
     type Writer: Drop;

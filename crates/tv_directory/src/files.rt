@@ -12,11 +12,12 @@ use std::collections::BTreeMap;
 use tv_base::OwnedBytes;
 use tv_model::{FileName, Memory};
 
-/// What a file holds: of one that isn't sealed, what was flushed. The bytes never change, so that
-/// those who read the file own them too.
+/// What a file holds. The bytes never change, so that those who read the file own them too.
 #[derive(Drop)]
 pub enum Content {
+    /// Of a file that isn't sealed: what was flushed.
     Unsealed(OwnedBytes),
+    /// Of a sealed file: all its bytes.
     Sealed(OwnedBytes),
 }
 
@@ -61,15 +62,18 @@ impl Content {
 /// A file, and the number under which it was made.
 #[derive(Drop)]
 pub struct StoredFile {
+    /// Its place among the files that were made, from 1 on. One that was there from the start has 0.
     pub number: u64,
+    /// What it holds.
     pub content: Content,
 }
 
 /// Files by their names. Each file that is made gets a number that none got before: 1, 2, and so on.
 #[derive(Drop)]
 pub struct Files {
+    /// The file of each name.
     pub map: BTreeMap<FileName, StoredFile>,
-    // The number of the file that was made last.
+    /// The number of the file that was made last.
     pub last: u64,
 }
 

@@ -23,7 +23,8 @@ abbrev pub StopsShort : {W : Type 0} → Ghosts W → W → W → List ℕ → T
 StopsShort w old new bytes =
     (((w.view new).taken ≡ (w.view old).taken) × ((w.view new).ended ≡ false)) ⊎ ((w.keeps → (w.view new).taken ≡ bytes) × ((w.view new).ended ≡ true))
 
--- Why a writer isn't given the rest of these bytes and its end. Where the list is too long, nothing was done; where the device refused a call, no further one may be made.
+-- Why a writer isn't given the rest of these bytes and its end. Where the list is too long, nothing was done; where the device refused a call, no further one may be
+-- made.
 pub record EndFaults {W A : Type 0} (w : Ghosts W) (long : Type 0) (old new : W) (bytes : List ℕ) (result : Result A IoError) : Type 0 where
   pub quiet : OnOk result ((w.view new).faults ≡ (w.view old).faults)
   pub ended : OnOk result ((w.view new).ended ≡ true)

@@ -18,7 +18,8 @@ abbrev pub bodies : List Part → List ℕ
 bodies [] = []
 bodies (part ∷ parts) = part.body ++ bodies parts
 
--- The list of the parts: of each one how far it begins behind the beginning of the one before, which is that one's length, its field in four bytes, and its index. The number is that of the first part.
+-- The list of the parts: of each one how far it begins behind the beginning of the one before, which is that one's length, its field in four bytes, and its index.
+-- The number is that of the first part.
 abbrev pub listed : ℕ → List Part → List ℕ
 listed gap [] = []
 listed gap (part ∷ parts) = vint gap ++ (four_bytes part.addr.field ++ (vint part.addr.idx ++ listed (length part.body) parts))

@@ -8,7 +8,9 @@ use tv_base::Field;
 /// indexes.
 #[derive(Clone, Copy, Debug, PartialEq, Eq, PartialOrd, Ord, Hash)]
 pub struct FileAddr {
+    /// The field.
     pub field: Field,
+    /// Which of its bodies, often 0. tantivy has a `usize`.
     pub idx: u64,
 }
 

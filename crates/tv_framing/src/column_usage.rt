@@ -7,7 +7,9 @@ use tv_base::ByteCount;
 /// The space that a field's column takes, and its dictionary, if it has one.
 #[derive(Clone, Copy, PartialEq, Eq)]
 pub struct ColumnSpaceUsage {
+    /// The size of the column.
     pub column: ByteCount,
+    /// The size of its dictionary, if it has one.
     pub dictionary: Option<ByteCount>,
 }
 

@@ -20,7 +20,9 @@ use tv_base::{
 /// CRC-32 of the body.
 #[derive(Clone, Copy, Debug, PartialEq, Eq)]
 pub struct Footer {
+    /// The library that wrote the file, and the file's format.
     pub version: Version,
+    /// The CRC-32 (ISO-HDLC) of the body, as it was written: a read doesn't compare it.
     pub crc: u32,
 }
 

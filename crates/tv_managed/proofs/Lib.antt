@@ -4,3 +4,4 @@ pub mod Saves
 pub mod Removals
 pub mod Tried
 pub mod Endings
+pub mod Shortening

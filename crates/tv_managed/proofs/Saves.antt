@@ -4,22 +4,18 @@ use Rattle.std.specs.Prelude.{IsSome, OnOk, IfErr}
 use Rattle.tv_model.specs.Names.{is, has, is_undotted, list_name}
 use Rattle.tv_model.specs.Files.{Reads, Same, Sets, MaySet, KeepsOthers}
 use Rattle.tv_model.specs.Listing.{Lists}
-use Rattle.tv_model.proofs.Entries.{is_itself, is_text}
+use Rattle.tv_model.proofs.Entries.{has_inserted, is_itself, is_text}
 use Rattle.tv_base.specs.Causes.{IoCause, OpenWriteCause}
 use Rattle.tv_base.specs.declared.io.IoError.{IoError}
 use Rattle.tv_base.specs.declared.io.IoError.TheVariants as io
 use Rattle.tv_base.specs.declared.open_errors.OpenWriteError.{OpenWriteError}
 use Rattle.tv_base.specs.declared.open_errors.OpenWriteError.TheVariants as write
 use Rattle.tv_directory.specs.Calls.{MayMake}
-use Rattle.tv_directory.specs.declared.directory.Directory.{Ghosts}
-use Rattle.tv_managed.specs.Managed.{Covers, IsOnList, ListsNew, OnlySaves}
+use Rattle.tv_managed.specs.Managed.{Covers, IsOnList, ListsNew, ManagesNew, registered}
 
 -- whatever became of a save of names that may be more, the list that reads has the names of before
 pub covers_put : (now before : Option (List ℕ)) (names put : List (List ℕ)) → ((n : List ℕ) → has names n ≡ true → has put n ≡ true) → Lists now put ⊎ (now ≡ before) → Covers before names → Covers now names
 covers_put now before names put more either was = ⊎_elim (λ saved. (put, saved, more)) (λ kept. rw kept was) either
-
-pub covers_saved : {A D W C : Type 0} (g : Ghosts D W C) {old new : D × List (List ℕ)} {result : Result A IoError} → OnlySaves g old new result → g.told.content → Covers ((g.view old.0).reads list_name) old.1 → Covers ((g.view new.0).reads list_name) new.1
-covers_saved g {old} {new} o tells was = rw o.frame.names (covers_put _ _ old.1 new.1 (λ n h. rw o.frame.names h) (o.either tells) was)
 
 pub isnt_some : {X : Type 0} (o : Option X) → IsSome o → o ≡ None → ⊥
 isnt_some o h e = let k = subst IsSome e h in absurd (true≢false (sym k))
@@ -27,21 +23,36 @@ isnt_some o h e = let k = subst IsSome e h in absurd (true≢false (sym k))
 undotted_isnt_list : (n : List ℕ) → is_undotted n ≡ true → n ≢ list_name
 undotted_isnt_list n h e = true≢false (sym h ∙ ap is_undotted e)
 
--- a file that is new is the one that was made, and its name is on the list
-pub lists_new : {D : Type 0} (reads : D → Reads) (old asked listed inside new : D) (name : List ℕ) → inside ≡ listed → Same (reads old) (reads asked) → KeepsOthers (reads asked) (reads listed) list_name → KeepsOthers (reads inside) (reads new) name
-    → name ≢ list_name → (is_undotted name ≡ true → IsOnList (reads listed list_name) name) → ListsNew (reads old) (reads new)
-lists_new reads old asked listed inside new name within same saved changed other on n undotted some none =
+-- a file that is new is the one that was made
+new_is : {D : Type 0} (reads : D → Reads) (old asked listed inside new : D) (name : List ℕ) → inside ≡ listed → Same (reads old) (reads asked) → KeepsOthers (reads asked) (reads listed) list_name → KeepsOthers (reads inside) (reads new) name
+    → (n : List ℕ) → is_undotted n ≡ true → IsSome (reads new n) → reads old n ≡ None → n ≡ name
+new_is reads old asked listed inside new name within same saved changed n undotted some none =
     let made : KeepsOthers (reads listed) (reads new) name = subst (λ d. KeepsOthers (reads d) (reads new) name) within changed in
-    elim (is n name) as (λ b. is n name ≡ b → IsOnList (reads new list_name) n) [
-      | true ↦ λ e.
-          let it : n ≡ name = is_text n name e in
-          let read : reads new list_name ≡ reads listed list_name = made list_name (λ k. other (sym k)) in
-          subst (λ m. IsOnList (reads new list_name) m) (sym it) (subst (λ r. IsOnList r name) (sym read) (on (subst (λ m. is_undotted m ≡ true) it undotted)))
+    elim (is n name) as (λ b. is n name ≡ b → n ≡ name) [
+      | true ↦ λ e. is_text n name e
       | false ↦ λ e.
           let ne : n ≢ name = λ k. true≢false (sym (subst (λ m. is n m ≡ true) k (is_itself n)) ∙ e) in
           let there : reads new n ≡ None = made n ne ∙ saved n (undotted_isnt_list n undotted) ∙ same n ∙ none in
           absurd (isnt_some (reads new n) some there)
     ] refl
+
+-- and its name is on the list
+pub lists_new : {D : Type 0} (reads : D → Reads) (old asked listed inside new : D) (name : List ℕ) → inside ≡ listed → Same (reads old) (reads asked) → KeepsOthers (reads asked) (reads listed) list_name → KeepsOthers (reads inside) (reads new) name
+    → name ≢ list_name → (is_undotted name ≡ true → IsOnList (reads listed list_name) name) → ListsNew (reads old) (reads new)
+lists_new reads old asked listed inside new name within same saved changed other on n undotted some none =
+    let made : KeepsOthers (reads listed) (reads new) name = subst (λ d. KeepsOthers (reads d) (reads new) name) within changed in
+    let it : n ≡ name = new_is reads old asked listed inside new name within same saved changed n undotted some none in
+    let read : reads new list_name ≡ reads listed list_name = made list_name (λ k. other (sym k)) in
+    subst (λ m. IsOnList (reads new list_name) m) (sym it) (subst (λ r. IsOnList r name) (sym read) (on (subst (λ m. is_undotted m ≡ true) it undotted)))
+
+-- and managed
+pub manages_new : {D : Type 0} (reads : D → Reads) (old asked listed inside new : D) (name : List ℕ) → inside ≡ listed → Same (reads old) (reads asked) → KeepsOthers (reads asked) (reads listed) list_name → KeepsOthers (reads inside) (reads new) name
+    → (before after : List (List ℕ)) → after ≡ registered before name → ManagesNew (reads old) (reads new) after
+manages_new reads old asked listed inside new name within same saved changed before after put n undotted some none =
+    let it : n ≡ name = new_is reads old asked listed inside new name within same saved changed n undotted some none in
+    let there : is_undotted name ≡ true = subst (λ m. is_undotted m ≡ true) it undotted in
+    let has_it : has after name ≡ true = rw (put, there) (has_inserted before name) in
+    subst (λ m. has after m ≡ true) (sym it) has_it
 
 -- a write of a name changes no other one, whatever it answers
 pub others_written : {X : Type 0} (result : Result X IoError) (old new : Reads) (name : List ℕ) (value : Option (List ℕ)) → OnOk result (Sets old new name value) → IfErr result (IoCause (MaySet old new name value) (Same old new)) → KeepsOthers old new name

@@ -49,19 +49,26 @@ pub record MakesFile (old new : Reads) (name : List ℕ) : Type 0 where
 abbrev pub ListsNew : Reads → Reads → Type 0
 ListsNew old new = (n : List ℕ) → is_undotted n ≡ true → IsSome (new n) → old n ≡ None → IsOnList (new list_name) n
 
+-- each of them is one of these names
+abbrev pub ManagesNew : Reads → Reads → List (List ℕ) → Type 0
+ManagesNew old new names = (n : List ℕ) → is_undotted n ≡ true → IsSome (new n) → old n ≡ None → has names n ≡ true
+
 -- A name without a dot in front is managed afterwards. After an error the managed names are as they were, or there is this one more.
 pub record Registers {A E : Type 0} (old new : List (List ℕ)) (name : List ℕ) (result : Result A E) : Type 0 where
   pub ok : OnOk result (new ≡ registered old name)
   pub err : OnErr result ((new ≡ old) ⊎ (new ≡ registered old name))
 
--- The list of these names was saved. Where the device refused a call, or where memory was wanted, it was saved, or it reads as before. Nothing else was changed.
+-- The list of these names was saved. Where the device refused a call, it was saved, or it reads as before; where memory was wanted, it reads as before. Nothing else
+-- was changed.
 pub record SavesNames {A D W C : Type 0} (g : Ghosts D W C) (old new : D) (names : List (List ℕ)) (result : Result A IoError) : Type 0 where
   pub ok : g.told.content → OnOk result (Sets (g.view old).reads (g.view new).reads list_name (Some (list_text names)))
   pub err : g.told.content → MaySet (g.view old).reads (g.view new).reads list_name (Some (list_text names))
+  pub memory : g.told.content → IfErr result (IoCause (Unit {0}) ((g.view new).reads list_name ≡ (g.view old).reads list_name))
   pub faults : IoFaults (g.view old) (g.view new) result
   pub frame : Kept g.told (g.view old) (g.view new)
 
--- What a step that saves the list may change, whatever it answers: the list, which then has the managed names. These stay. It fails where the device refused a call, or where memory was wanted.
+-- What a step that saves the list may change, whatever it answers: the list, which then has the managed names. These stay. It fails where the device refused a call,
+-- or where memory was wanted.
 pub record OnlySaves {A D W C : Type 0} (g : Ghosts D W C) (old new : D × List (List ℕ)) (result : Result A IoError) : Type 0 where
   pub either : g.told.content → Lists ((g.view new.0).reads list_name) new.1 ⊎ ((g.view new.0).reads list_name ≡ (g.view old.0).reads list_name)
   pub others : g.told.content → KeepsOthers (g.view old.0).reads (g.view new.0).reads list_name
@@ -73,7 +80,8 @@ pub record SavesList {A E D W C : Type 0} (g : Ghosts D W C) (old new : D × Lis
   pub list : g.told.content → Lists ((g.view old.0).reads list_name) old.1 → OnOk result (Lists ((g.view new.0).reads list_name) new.1)
   pub covers : g.told.content → Covers ((g.view old.0).reads list_name) old.1 → Covers ((g.view new.0).reads list_name) new.1
 
--- The same of a step that lists a name: at Ok the name is managed and on the list, unless it has a dot in front; after an error the managed names are as they were. Nothing but the list and these names was changed.
+-- The same of a step that lists a name: at Ok the name is managed and on the list, unless it has a dot in front; after an error the managed names are as they were.
+-- Nothing but the list and these names was changed.
 pub record HasListed {A E D W C : Type 0} (g : Ghosts D W C) (old new : D × List (List ℕ)) (name : List ℕ) (result : Result A E) : Type 0 where
   pub saves : SavesList g old new result
   pub on_list : g.told.content → Covers ((g.view old.0).reads list_name) old.1 → is_undotted name ≡ true → OnOk result (IsOnList ((g.view new.0).reads list_name) name)
@@ -82,10 +90,11 @@ pub record HasListed {A E D W C : Type 0} (g : Ghosts D W C) (old new : D × Lis
   pub others : g.told.content → KeepsOthers (g.view old.0).reads (g.view new.0).reads list_name
   pub frame : Kept g.told (g.view old.0) (g.view new.0)
 
--- The same of a call that makes a file: the list has each undotted file that is made.
+-- The same of a call that makes a file: the list has each undotted file that is made, and so have the managed names.
 pub record KeepsList {A E D W C : Type 0} (g : Ghosts D W C) (old new : D × List (List ℕ)) (result : Result A E) : Type 0 where
   pub saves : SavesList g old new result
   pub listed : g.told.content → Covers ((g.view old.0).reads list_name) old.1 → ListsNew (g.view old.0).reads (g.view new.0).reads
+  pub managed : g.told.content → ManagesNew (g.view old.0).reads (g.view new.0).reads new.1
 
 -- An empty file is made, where there was none. Where the file was there, nothing changed. After a refusal of the device the name reads what it read or an empty file,
 -- after another error what it read. No other file but the list was changed.
@@ -95,13 +104,15 @@ pub record Creates {A D W C : Type 0} (g : Ghosts D W C) (old new : D × List (L
   pub err : g.told.content → IfErr result (OpenWriteCause name (Unit {0}) (((g.view new.0).reads name ≡ Some []) ⊎ ((g.view new.0).reads name ≡ (g.view old.0).reads name)) ((g.view new.0).reads name ≡ (g.view old.0).reads name))
   pub others : g.told.content → KeepsOtherFiles (g.view old.0).reads (g.view new.0).reads name
 
--- The name is given these bytes. Where the device refused a call, it may have been; where memory was wanted, the name reads what it read. No other file but the list was changed.
+-- The name is given these bytes. Where the device refused a call, it may have been; where memory was wanted, the name reads what it read. No other file but the list
+-- was changed.
 pub record GivesFile {A D W C : Type 0} (g : Ghosts D W C) (old new : D) (name bytes : List ℕ) (result : Result A IoError) : Type 0 where
   pub ok : g.told.content → OnOk result ((g.view new).reads name ≡ Some bytes)
   pub err : g.told.content → IfErr result (IoCause (((g.view new).reads name ≡ Some bytes) ⊎ ((g.view new).reads name ≡ (g.view old).reads name)) ((g.view new).reads name ≡ (g.view old).reads name))
   pub others : g.told.content → KeepsOtherFiles (g.view old).reads (g.view new).reads name
 
--- The writer's file is sealed: it reads what was written, with a footer, and so its body is read back. After an error the file is still there. Where its name was deleted since, nothing changed. No other file was changed.
+-- The writer's file is sealed: it reads what was written, with a footer, and so its body is read back. After an error the file is still there. Where its name was
+-- deleted since, nothing changed. No other file was changed.
 pub record SealsBody {A D W C : Type 0} (g : Ghosts D W C) (old new : D) (w : ManagedWriter D W C) (result : Result A IoError) : Type 0 where
   pub ok : g.told.content → (g.view old).lives w.writer ≡ true → IsSummed g.state_of w → OnOk result (Sets (g.view old).reads (g.view new).reads (g.state_of w.writer).name (Some (sealed (g.state_of w.writer).written)))
   pub body : g.told.content → (g.view old).lives w.writer ≡ true → IsSummed g.state_of w → OnOk result (ReadsBody ((g.view new).reads (g.state_of w.writer).name) (g.state_of w.writer).written)

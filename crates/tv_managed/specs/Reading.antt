@@ -61,7 +61,8 @@ pub record TellsChecksum (bytes : List ℕ) (is_right : Bool) : Type 0 where
   pub framed : IsFramed bytes footer body
   pub says : is_right ≡ (footer.crc == crc32 body)
 
--- What is true of each answer of a call that reads a body: `absent` where there is no such file, `bad` of the fault where its bytes are refused, `other` of the reason where they are of another format, `refused` where the device refused the call, `quiet` where memory was wanted.
+-- What is true of each answer of a call that reads a body: `absent` where there is no such file, `bad` of the fault where its bytes are refused, `other` of the
+-- reason where they are of another format, `refused` where the device refused the call, `quiet` where memory was wanted.
 abbrev pub OpenBodyCause : (absent : Type 0) → (bad : IoFault → Type 0) → (other : Incompatibility → Type 0) → (refused quiet : Type 0) → OpenReadError → Type 0
 OpenBodyCause absent bad other refused quiet (read.FileDoesNotExist path) = absent
 OpenBodyCause absent bad other refused quiet (read.IoError fault path) = (IsDevice fault × refused) ⊎ bad fault

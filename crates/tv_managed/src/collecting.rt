@@ -1,15 +1,15 @@
 //! Deletes the managed files that nothing needs.
-ghost use Rattle.std.specs.Prelude.{◌≡◌, ◌≢◌, [], ◌∷◌, ◌++◌, ℕ, List, true, IfOk, OnOk, OnErr, if◌then◌else◌};
+ghost use Rattle.std.specs.Prelude.{◌≡◌, ◌≢◌, [], ◌∷◌, ◌++◌, ℕ, List, true, false, IfOk, IfErr, OnOk, OnErr, if◌then◌else◌};
 ghost use Rattle.std.specs.List.{list_all};
 ghost use Rattle.tv_model.specs.Names.{is_file_name, is_plain, list_name};
-ghost use Rattle.tv_model.specs.Listing.{Lists};
-ghost use Rattle.tv_model.specs.Collections.{collectable};
+ghost use Rattle.tv_model.specs.Collections.{collectable, without};
 ghost use Rattle.tv_directory.specs.View.{MayDelete};
 ghost use Rattle.tv_directory.specs.Calls.{DeleteFaults, Deletes, EndsWriters};
-ghost use Rattle.tv_managed.specs.Managed.{OnlySaves, SavesList};
+ghost use Rattle.tv_managed.specs.Managed.{AreManaged, SavesList};
 ghost use Rattle.tv_managed.specs.Frames.{KeepsNames, OnlyAsks};
-ghost use Rattle.tv_managed.specs.Collecting.{Among, names_of, Leaves, Tries, Tried, TriesName, TriesNone, TriesSome, CollectFaults, EndsUnlocked, OnlyDeletes};
+ghost use Rattle.tv_managed.specs.Collecting.{Among, names_of, Leaves, SavesNone, Tries, Tried, TriesName, TriesNone, TriesSome, CollectFaults, EndsUnlocked, OnlyDeletes, Shortens, is_io_error};
 
+use crate::list::save_managed_paths;
 use crate::managed_directory::ManagedDirectory;
 use std::alloc::Global;
 use std::collections::BTreeSet;
@@ -21,7 +21,9 @@ use tv_model::Memory;
 /// device refused.
 #[derive(Debug, Drop, PartialEq, Eq)]
 pub struct GarbageCollectionResult {
+    /// The names that are gone, those that were absent before too.
     pub deleted_files: Vec<String>,
+    /// The names whose delete the device refused. They stay managed.
     pub failed_to_delete_files: Vec<String>,
 }
 
@@ -63,8 +65,21 @@ impl<D: Directory> ManagedDirectory<D> {
     /// asked for while the meta lock is held, and the lock is free while files are deleted. A file that is
     /// absent counts as deleted. One whose delete is refused has failed: it stays managed, a writer of
     /// it lives on, and the others are still tried. Where something was deleted, the shorter list is
-    /// saved. `LockFailure` comes where the lock isn't given, and then the managed names stay, and so do
-    /// the files. After another error the names that were deleted by then aren't managed any more.
+    /// saved; where nothing was, each file reads what it read, and the list too. The managed names change
+    /// at the end alone: after an error they are as they were, unless the device refused a call while the
+    /// shorter list was saved. Then they are without those that were deleted, since the list that reads may
+    /// be without them. `LockFailure` comes where the lock isn't given, and then nothing changed.
+    ///
+    /// The lock is for readers. Without it, where several work on one directory,
+    ///
+    /// 1. a reader loads the commit that stands in `meta.json`;
+    /// 2. a writer commits, and the files of the commit before are no longer living;
+    /// 3. a collection asks for the living names, and deletes these files;
+    /// 4. the reader opens them, and they are gone.
+    ///
+    /// A reader holds the lock from step 1 until it has read its files, and the collection while it asks. So
+    /// the reader has read its files before the collection asks; or it loads a commit later, whose files were
+    /// living when the collection asked, or were made since, and those aren't deleted.
     pub fn garbage_collect<L: FnOnce() -> BTreeSet<String>>(
         &mut self,
         living: L,
@@ -75,6 +90,8 @@ impl<D: Directory> ManagedDirectory<D> {
             self.old self.new r) }
         ensures leaves { (names : List (List ℕ)) × Leaves D.Directory names self.old self.new
             × Among (L.post living) (λ set. names_of set.keys) self.old.1 names }
+        ensures saves_none { SavesNone D.Directory self.old self.new result }
+        ensures kept { IfErr result (λ e. is_io_error e ≡ false → self.new.1 ≡ self.old.1) }
         ensures list { SavesList D.Directory self.old self.new result }
         ensures faults { CollectFaults D.Directory self.old self.new result }
         ensures frame { MayDelete D.told (D.view self.old.0) (D.view self.new.0) }
@@ -112,17 +129,22 @@ impl<D: Directory> ManagedDirectory<D> {
         Ok(answer)
     }
 
-    // Deletes these names, and saves the list where something was deleted.
+    // Deletes these names, and takes those that are gone out of the managed ones. The room for the names
+    // that are left is made before the first delete.
     fn collect(&mut self, names: Vec<String>) -> Result<GarbageCollectionResult, TantivyError>
         requires { list_all is_plain (names_of names.items) ≡ true }
         ensures tries { IfOk result (λ r. Tried D.Directory (names_of names.items) self.old self.new
             (names_of r.deleted_files.items) (names_of r.failed_to_delete_files.items)) }
+        ensures names { IfOk result (λ r. self.new.1
+            ≡ without (names_of r.deleted_files.items) self.old.1) }
         ensures leaves { TriesSome D.Directory (names_of names.items) self.old self.new }
+        ensures saves_none { SavesNone D.Directory self.old self.new result }
         ensures ends { EndsUnlocked D.Directory self.old self.new result }
     {
+        let managed = self.managed.clone()?;
         self.sync_directory()?;
         let result = self.delete_each(names)?;
-        self.save_where_deleted(result.deleted_files.as_slice())?;
+        self.take_out(managed, result.deleted_files.as_slice())?;
         Ok(result)
     }
 
@@ -145,7 +167,7 @@ impl<D: Directory> ManagedDirectory<D> {
         Ok(tried)
     }
 
-    // Deletes a managed name, and answers whether it is gone; then it isn't managed any more.
+    // Deletes a managed name, and answers whether it is gone.
     fn delete_managed(&mut self, name: &str) -> Result<bool, Memory>
         requires { is_plain name.now ≡ true }
         ensures tried { IfOk result (TriesName D.Directory name.now self.old self.new) }
@@ -153,14 +175,8 @@ impl<D: Directory> ManagedDirectory<D> {
         ensures only { OnlyDeletes D.Directory self.old self.new }
     {
         match self.directory.delete(name) {
-            Ok(()) => {
-                self.forget(name);
-                Ok(true)
-            }
-            Err(DeleteError::FileDoesNotExist(_)) => {
-                self.forget(name);
-                Ok(true)
-            }
+            Ok(()) => Ok(true),
+            Err(DeleteError::FileDoesNotExist(_)) => Ok(true),
             Err(
                 DeleteError::IoError {
                     io_error: _,
@@ -171,28 +187,45 @@ impl<D: Directory> ManagedDirectory<D> {
         }
     }
 
-    // Saves the list where these names were deleted, and there are some.
-    fn save_where_deleted(&mut self, deleted: &[String]) -> Result<(), IoError>
-        ensures lists { D.told.content
-            → (names_of deleted.now ≡ [] → Lists ((D.view self.old.0).reads list_name) self.old.1)
-            → OnOk result (Lists ((D.view self.new.0).reads list_name) self.new.1) }
-        ensures only { OnlySaves D.Directory self.old self.new result }
+    // Takes these names out of the managed ones, where there are some. `managed` is a copy of all.
+    fn take_out(&mut self, managed: BTreeSet<String>, deleted: &[String]) -> Result<(), IoError>
+        requires ordered { AreManaged (names_of managed.keys) }
+        requires copies { names_of managed.keys ≡ self.old.1 }
+        ensures shortens { Shortens D.Directory (without (names_of deleted.now) self.old.1)
+            self.old self.new result }
+        ensures saves_none { deleted.now ≡ [] → self.new ≡ self.old }
     {
         if deleted.is_empty() {
             return Ok(());
         }
-        self.save_shorter()
+        self.save_shorter(without(managed, deleted))
     }
 
-    // Waits until the device has kept what was deleted, and saves the list.
-    fn save_shorter(&mut self) -> Result<(), IoError>
-        ensures lists { D.told.content
-            → OnOk result (Lists ((D.view self.new.0).reads list_name) self.new.1) }
-        ensures only { OnlySaves D.Directory self.old self.new result }
+    // Waits until the device has kept what was deleted, and saves the list of the names that are left.
+    fn save_shorter(&mut self, left: BTreeSet<String>) -> Result<(), IoError>
+        requires { (gone : List (List ℕ)) × (names_of left.keys ≡ without gone self.old.1) }
+        ensures { Shortens D.Directory (names_of left.keys) self.old self.new result }
     {
         self.sync_directory()?;
-        self.save()
+        let saved = save_managed_paths(self.alloc, &mut self.directory, &left);
+        if matches!(saved, Err(IoError::Memory)) {
+            return saved;
+        }
+        self.managed = left;
+        saved
     }
+}
+
+// The names without these.
+fn without(names: BTreeSet<String>, gone: &[String]) -> BTreeSet<String>
+    requires { AreManaged (names_of names.keys) }
+    ensures { names_of result.keys ≡ without (names_of gone.now) (names_of names.keys) }
+{
+    let mut names = names;
+    for name in gone {
+        names.remove(name.as_str());
+    }
+    names
 }
 
 // The managed names that aren't living, in their order.

@@ -47,7 +47,9 @@ impl<D: Directory> Model for ManagedDirectory<D> {
 
 /// An error, with the directory that was handed in.
 pub struct Refused<D> {
+    /// Why it was refused.
     pub error: TantivyError,
+    /// The directory that was handed in.
     pub directory: D,
 }
 
@@ -149,7 +151,7 @@ impl<D: Directory> ManagedDirectory<D> {
 
     // Takes a name out of the managed ones.
     #[tactic(auto, using(crate::proofs::Removals::texts_without))]
-    pub(crate) fn forget(&mut self, name: &str)
+    fn forget(&mut self, name: &str)
         ensures names { self.new.1 ≡ without (name.now ∷ []) self.old.1 }
         ensures directory { self.new.0 ≡ self.old.0 }
     {
@@ -157,7 +159,7 @@ impl<D: Directory> ManagedDirectory<D> {
     }
 
     // Saves the list of the managed names, and waits until the device has kept it.
-    pub(crate) fn save(&mut self) -> Result<(), IoError>
+    fn save(&mut self) -> Result<(), IoError>
         ensures lists { D.told.content
             → OnOk result (Lists ((D.view self.new.0).reads list_name) self.new.1) }
         ensures only { OnlySaves D.Directory self.old self.new result }

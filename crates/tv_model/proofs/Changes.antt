@@ -52,20 +52,27 @@ pub data ReadersMove (t : State) (now : Readers) : Type 0 where
   -- a searcher ends
   Ends : (n : ℕ) → now ≡ (without_searcher t.catalog n).reading → ReadersMove t now
 
+-- how a segment comes to have its numbers in a step
+pub data SegmentMove (s : State) (id : List ℕ) : LiveSegment → Type 0 where
+  -- it is a new one, under an id that nothing has
+  IsNew : is_in_use s.catalog s.managed id ≡ false → SegmentMove s id fresh_segment
+  -- it gets its documents, of which it had none
+  HasDocs : (n : ℕ) (segment : LiveSegment) → live_at s.catalog id ≡ Some segment → has_docs segment ≡ false → SegmentMove s id (record segment { max_doc = n })
+
 -- what holds of each state to which this event can lead
 pub record OfEachChange (P : State → Type 0) (s : State) (event : Event) : Type 0 where
   -- nothing changes
   pub same : P s
   -- a segment is live, with these numbers
-  pub lives : (id : List ℕ) (segment : LiveSegment) → P (record s { catalog = with_live s.catalog id segment })
+  pub lives : (id : List ℕ) (segment : LiveSegment) → SegmentMove s id segment → P (record s { catalog = with_live s.catalog id segment })
   -- who reads changes
   pub reads : (now : Readers) → ReadersMove s now → P (record s { catalog = record s.catalog { reading = now } })
   -- a file comes
   pub opens : (id : List ℕ) (deletes : Option DeleteMeta) (component : SegmentComponent) → event ≡ events.Open id component → is_some (file_at s (name_of id deletes component)) ≡ false → P (opened s (name_of id deletes component)).1
   -- an open file is another one, or is sealed with its footer
   pub puts : (name body : List ℕ) (file : FileState) → file_at s name ≡ Some (Open body) → ((bytes : List ℕ) → file ≡ Sealed bytes → IsGood bytes) → P (with_file s name file)
-  -- segments whose files are sealed are committed
-  pub commits : (payload : Option (List ℕ)) (segments : List (List ℕ × LiveSegment)) → s.catalog.next ≢ last_stamp → first_unsealed s segments ≡ None → P (on_catalog s (committed s.catalog payload segments)).1
+  -- live segments whose files are sealed are committed
+  pub commits : (payload : Option (List ℕ)) (ids : List (List ℕ)) → s.catalog.next ≢ last_stamp → first_unsealed s (chosen s.catalog ids) ≡ None → P (on_catalog s (committed s.catalog payload (chosen s.catalog ids))).1
   -- files that nothing needs are gone
   pub collects : (outcomes : List Bool) → P (gc_step s outcomes).1
   -- a segment is live no more
@@ -89,9 +96,9 @@ sealed_is : (body bytes : List ℕ) → Sealed (sealed body) ≡ Sealed bytes �
 sealed_is body bytes e = cc
 
 -- what holds of each change that an event makes that touches no file
-pub record OfEachCatalog (P : Catalog → Type 0) (c : Catalog) (event : Event) : Type 0 where
+pub record OfEachCatalog (P : Catalog → Type 0) (c : Catalog) (managed : List (List ℕ)) (event : Event) : Type 0 where
   pub same : P c
-  pub fresh : (id : List ℕ) → event ≡ events.Segment id → P (with_live c id fresh_segment)
+  pub fresh : (id : List ℕ) → event ≡ events.Segment id → is_in_use c managed id ≡ false → P (with_live c id fresh_segment)
   pub said : (id : List ℕ) (n : ℕ) (segment : LiveSegment) → event ≡ events.Docs id n → live_at c id ≡ Some segment → has_docs segment ≡ false → P (with_live c id (record segment { max_doc = n }))
   pub shows : (number : ℕ) (reader : Reader) → event ≡ events.Searcher number → reader_at c number ≡ Some reader → P (with_searcher c reader.shown)
   pub reader : (number : ℕ) → P (without_reader c number)
@@ -101,10 +108,10 @@ pub the_step : {S : Type 0} {a b : S} → Some a ≡ Some b → a ≡ b
 the_step e = cc
 
 -- such an event makes one of these changes
-pub catalog_changes : (P : Catalog → Type 0) (c : Catalog) (managed : List (List ℕ)) (event : Event) (result : StepResult Catalog) → OfEachCatalog P c event → catalog_step c managed event ≡ Some result → P result.1
+pub catalog_changes : (P : Catalog → Type 0) (c : Catalog) (managed : List (List ℕ)) (event : Event) (result : StepResult Catalog) → OfEachCatalog P c managed event → catalog_step c managed event ≡ Some result → P result.1
 catalog_changes P c managed (events.Segment id) result of e =
     subst (λ (t : StepResult Catalog). P t.1) (the_step e)
-    (unless_all (λ t. P t.1) c ((is_in_use c managed id, codes "id-in-use" ∷ []) ∷ []) (line (codes "segment") (encode_lower id ∷ []), with_live c id fresh_segment) (λ words. of.same) (λ none. of.fresh id refl))
+    (unless_all (λ t. P t.1) c ((is_in_use c managed id, codes "id-in-use" ∷ []) ∷ []) (line (codes "segment") (encode_lower id ∷ []), with_live c id fresh_segment) (λ words. of.same) (λ none. of.fresh id refl none.0))
 catalog_changes P c managed (events.Docs id n) result of e =
     subst (λ (t : StepResult Catalog). P t.1) (the_step e)
     (given_all (λ t. P t.1) c (live_at c id) _ _ of.same (λ segment there.
@@ -160,7 +167,7 @@ file_changes P s (events.Commit payload ids) outcomes e of =
     ∷ (is_some (first_unknown s.catalog ids), codes "unknown-segment" ∷ words_of (option_map encode_lower (first_unknown s.catalog ids)))
     ∷ (is_some (first_unsealed s segments), codes "unsealed" ∷ words_of (first_unsealed s segments))
     ∷ []
-    ) (on_catalog s (committed s.catalog payload segments)) (λ words. of.same) (λ none. of.commits payload segments (other s.catalog.next last_stamp none.0) (none_is (first_unsealed s segments) none.1.1.0))
+    ) (on_catalog s (committed s.catalog payload segments)) (λ words. of.same) (λ none. of.commits payload ids (other s.catalog.next last_stamp none.0) (none_is (first_unsealed s segments) none.1.1.0))
 file_changes P s events.Gc outcomes e of = of.collects outcomes
 file_changes P s (events.Reader policy) outcomes e of = of.reads _ (Comes policy refl)
 file_changes P s (events.Reload number) outcomes e of =
@@ -177,8 +184,8 @@ step_changes P s event outcomes of = by_half (catalog_step s.catalog s.managed e
       subst (λ (t : StepResult State). P t.1) (sym (lifted s event outcomes result e))
       (catalog_changes (λ c. P (record s { catalog = c })) s.catalog s.managed event result (record {
         same = of.same;
-        fresh = λ id is. of.lives id fresh_segment;
-        said = λ id n segment is there none. of.lives id (record segment { max_doc = n });
+        fresh = λ id is free. of.lives id fresh_segment (IsNew free);
+        said = λ id n segment is there none. of.lives id (record segment { max_doc = n }) (HasDocs n segment there none);
         shows = λ number reader is there. of.reads _ (Searches number reader there refl);
         reader = λ number. of.reads _ (Leaves number refl);
         searcher = λ number. of.reads _ (Ends number refl);

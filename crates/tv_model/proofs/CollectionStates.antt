@@ -46,7 +46,7 @@ living_spared s outcomes n h =
 pub meta_living : (s : State) → has (living s.catalog) meta_name ≡ true
 meta_living s = refl
 
-has_append : (names others : List (List ℕ)) (n : List ℕ) → has (names ++ others) n ≡ (has names n || has others n)
+pub has_append : (names others : List (List ℕ)) (n : List ℕ) → has (names ++ others) n ≡ (has names n || has others n)
 has_append names others n = list_any-append (λ m. is m n) names others
 
 -- the required files are among those of their segment

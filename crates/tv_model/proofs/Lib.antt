@@ -12,7 +12,10 @@ pub mod FooterTexts
 pub mod NoFeeds
 pub mod Numbered
 pub mod PlainNames
+pub mod OpenedStates
+pub mod PrintedTexts
 pub mod ManagedStates
+pub mod Required
 pub mod Samples
 pub mod Serving
 pub mod SoundStates

@@ -42,11 +42,11 @@ pub record Keeps (P : List (List ℕ) → Type 0) (event : Event) : Type 0 where
 pub step_kept : (P : List (List ℕ) → Type 0) (s : State) (event : Event) (outcomes : List Bool) → Keeps P event → P s.managed → P (step s event outcomes).1.managed
 step_kept P s event outcomes keeps h = step_changes (λ u. P u.managed) s event outcomes (record {
   same = h;
-  lives = λ id segment. h;
+  lives = λ id segment move. h;
   reads = λ now move. h;
   opens = λ id deletes component e absent. keeps.more id deletes component s.managed e h;
   puts = λ name body file e good. h;
-  commits = λ payload segments last e. h;
+  commits = λ payload ids last e. h;
   collects = λ outcomes. keeps.fewer (λ name. not (has (done_of (garbage s) outcomes) name)) s.managed h;
   releases = λ id segment. h;
 })

@@ -31,11 +31,11 @@ pub data Moves (t u : State) : Type 0 where
 pub step_moves : (s : State) (event : Event) (outcomes : List Bool) → Moves s (step s event outcomes).1
 step_moves s event outcomes = step_changes (Moves s) s event outcomes (record {
   same = Stays refl refl refl;
-  lives = λ id segment. Stays refl refl refl;
+  lives = λ id segment move. Stays refl refl refl;
   reads = λ now move. Reads move refl refl;
   opens = λ id deletes component e absent. Stays refl refl refl;
   puts = λ name body file e good. Stays refl refl refl;
-  commits = λ payload segments last e. Commits refl last refl refl;
+  commits = λ payload ids last e. Commits refl last refl refl;
   collects = λ outcomes. Stays refl refl refl;
   releases = λ id segment. Stays refl refl refl;
 })
@@ -327,7 +327,7 @@ sealed_shown (Some (Sealed bytes)) h good =
     (bytes, is.body, refl, is.has_body, body_of_good bytes is.body is.has_body)
 
 shows_as_sealed : (s : State) → IsSoundState s → ShowsAsSealed s
-shows_as_sealed s h n required = sealed_shown (file_at s n) (h.whole.each n required) (h.good n)
+shows_as_sealed s h n required = sealed_shown (file_at s n) (h.whole.each n required) (λ bytes. h.good n bytes required)
 
 -- bodies are shown as they were sealed
 pub serves_as_sealed : (s : State) (turns : List Turn) → IsSoundState s → AllByRecursion Fits (events_of turns) → ServesAsSealed s turns

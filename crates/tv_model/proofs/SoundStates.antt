@@ -1,34 +1,32 @@
 -- States stay sound from event to event, and a directory that holds a sound state is sound.
-use Rattle.std.proofs.Common.{◌≡◌, ◌≢◌, ℕ, Bool, true, false, true≢false, not, cond, List, [], ◌++◌, length, codes, Option, Some, None, refl, sym, ap, subst, ◌∙◌, arith, append_assoc, length-append}
+use Rattle.std.proofs.Common.{◌≡◌, ◌≢◌, ◌≤◌, ◌==◌, inl, ℕ, Bool, true, false, true≢false, not, ◌||◌, cond, List, [], Option, Some, None, refl, sym, ap, subst, ◌∙◌, arith}
 use Rattle.std.specs.Prelude.{IsSome, is_some, option_map}
-use Rattle.std.specs.BTreeMap.{is_at}
+use Rattle.std.specs.BTreeMap.{is_at, insert_entry}
 use Rattle.std.specs.BTreeSet.{insert_key}
-use Rattle.hex.specs.Hex.{encode_lower, lower_digits}
-use Rattle.hex.proofs.HexLemmas.{length-encode_with}
 use Rattle.tv_model.specs.declared.event.Event.{Event}
 use Rattle.tv_model.specs.declared.event.Event.TheVariants as events
 use Rattle.tv_model.specs.declared.segment.DeleteMeta.{DeleteMeta}
 use Rattle.tv_model.specs.declared.segment.LiveSegment.{LiveSegment}
-use Rattle.tv_model.specs.declared.segment.SegmentComponent.{SegmentComponent}
 use Rattle.tv_model.specs.Names.{byte_cmp, is, has, is_undotted, meta_name}
-use Rattle.tv_model.specs.Ids.{IsId}
 use Rattle.tv_model.specs.Files.{Reads}
 use Rattle.tv_model.specs.Footer.{IsGood}
-use Rattle.tv_model.specs.Segments.{name_of, extension}
+use Rattle.tv_model.specs.Segments.{name_of, num_deleted, required_names, all_required}
 use Rattle.tv_model.specs.Commits.{Settings}
-use Rattle.tv_model.specs.State.{Catalog, State, FileState, Sealed, Open, Left, file_at, with_file}
+use Rattle.tv_model.specs.State.{State, FileState, Sealed, Open, Left, Readers, at, live_at, file_at, with_live, with_file, on_catalog}
+use Rattle.tv_model.specs.SegmentEvents.{is_in_use, is_named, fresh_segment}
 use Rattle.tv_model.specs.FileEvents.{opened}
-use Rattle.tv_model.specs.CommitEvents.{is_sealed}
+use Rattle.tv_model.specs.CommitEvents.{is_sealed, chosen, first_unsealed, committed}
 use Rattle.tv_model.specs.Collections.{done_of}
 use Rattle.tv_model.specs.Living.{living, segment_names}
 use Rattle.tv_model.specs.CollectionEvents.{garbage, without_files, left, released}
 use Rattle.tv_model.specs.Machine.{step}
-use Rattle.tv_model.specs.Index.{FileReads, IsFileOf, DirectoryHolds, IsSoundMeta, IsSound, first_state}
-use Rattle.tv_model.specs.Script.{IsNamed, Fits}
-use Rattle.tv_model.specs.SoundStates.{IsWhole, IsSoundState}
-use Rattle.tv_model.proofs.Changes.{OfEachChange, step_changes}
+use Rattle.tv_model.specs.Index.{FileReads, IsFileOf, DirectoryHolds, IsSoundMeta, IsSoundImage, first_state}
+use Rattle.tv_model.specs.Readable.{CanRead}
+use Rattle.tv_model.specs.Script.{Fits}
+use Rattle.tv_model.specs.SoundStates.{AreGood, IsSoundState}
+use Rattle.tv_model.proofs.Changes.{SegmentMove, IsNew, HasDocs, OfEachChange, step_changes}
 use Rattle.tv_model.proofs.Entries.{is_itself, is_text, text_at, lookup_put, has_inserted, has_kept}
-use Rattle.tv_model.proofs.PlainNames.{undotted}
+use Rattle.tv_model.proofs.Required.{by_one, Begins, required_begins, name_is_file, begins_named, required_put, required_found, required_some, required_left, each_put, each_some, each_left}
 use Rattle.tv_model.proofs.CollectionStates.{has_without, at_without, at_left, meta_living, living_spared}
 use Rattle.tv_model.proofs.WholeStates.{absent_isnt_sealed, with_file_whole, committed_whole, collected_whole, released_whole, put_since, kept_since, left_since}
 
@@ -38,26 +36,23 @@ first_sound = record {
   meta = refl;
   names = λ n h. absurd (true≢false (sym h));
   listed = λ n h. absurd (true≢false (sym h));
-  good = λ n bytes h. absurd cc;
   whole = record { each = λ n h. absurd (true≢false (sym h)) };
+  good = λ n bytes required h. absurd cc;
+  live = λ n bytes required h. absurd cc;
+  stamps = inl (omega arith);
+  within = tt;
+  live_within = tt;
 }
-
--- a name that begins with an id is that of a file of the machine
-after_id : (id rest : List ℕ) → IsId id → IsFileOf (encode_lower id ++ rest)
-after_id id rest h = (
-  undotted id rest h.size,
-  λ e.
-      let long : length (encode_lower id ++ rest) ≡ 9 = ap length e in
-      absurd (omega (arith, length-append (encode_lower id) rest, length-encode_with lower_digits id, h.size)),
-)
-
-pub name_is_file : (id : List ℕ) (deletes : Option DeleteMeta) (component : SegmentComponent) → IsId id → IsNamed component → IsFileOf (name_of id deletes component)
-name_is_file id deletes component h named = rw (named, append_assoc (encode_lower id) (codes ".") (extension component)) (after_id id (codes "." ++ extension component) h)
 
 -- what is asked of a file that is put over an old one
 put_some : {P : Type 0} (b : Bool) (file : FileState) (old : Option FileState) → (b ≡ true → P) → (is_some old ≡ true → P) → is_some (cond b (Some file) old) ≡ true → P
 put_some true file old here there h = here refl
 put_some false file old here there h = there h
+
+-- what was good is good with one more file, which is open or good
+put_good : (s : State) (name : List ℕ) (file : FileState) (segments : List (List ℕ × LiveSegment)) → ((bytes : List ℕ) → file ≡ Sealed bytes → IsGood bytes) → AreGood s segments → AreGood (with_file s name file) segments
+put_good s name file segments good h n bytes required is =
+    put_since (is_at (byte_cmp name) n) file (file_at s n) bytes (good bytes) (h n bytes required) (rw (lookup_put s.files name n file) at is)
 
 -- a file under a managed name that is put where no sealed file stands
 put_sound : (s : State) (name : List ℕ) (file : FileState) → IsFileOf name → has s.managed name ≡ true → is_sealed (file_at s name) ≡ false
@@ -70,8 +65,12 @@ put_sound s name file fits listed unsealed good h = record {
   listed = λ n is.
       put_some {P = has s.managed n ≡ true} (is_at (byte_cmp name) n) file (file_at s n) (λ e. subst (λ (m : List ℕ). has s.managed m ≡ true) (text_at name n e) listed) (h.listed n)
       (rw (lookup_put s.files name n file) at is);
-  good = λ n bytes is. put_since (is_at (byte_cmp name) n) file (file_at s n) bytes (good bytes) (h.good n bytes) (rw (lookup_put s.files name n file) at is);
   whole = with_file_whole s name file unsealed h.whole;
+  good = put_good s name file s.catalog.commit.segments good h.good;
+  live = put_good s name file s.catalog.live good h.live;
+  stamps = h.stamps;
+  within = h.within;
+  live_within = h.live_within;
 }
 
 -- one more managed name
@@ -80,8 +79,12 @@ managed_sound s name h = record {
   meta = has_kept s.managed name meta_name h.meta;
   names = h.names;
   listed = λ n is. has_kept s.managed name n (h.listed n is);
-  good = h.good;
   whole = record { each = h.whole.each };
+  good = h.good;
+  live = h.live;
+  stamps = h.stamps;
+  within = h.within;
+  live_within = h.live_within;
 }
 
 opened_sound : (s : State) (name : List ℕ) → IsFileOf name → is_some (file_at s name) ≡ false → IsSoundState s → IsSoundState (opened s name).1
@@ -95,9 +98,81 @@ over_open s name body file e good h =
     let there : is_some (file_at s name) ≡ true = ap is_some e in
     put_sound s name file (h.names name there) (h.listed name there) (ap is_sealed e) good h
 
--- where only the catalog changes, and its commit's files are sealed
-catalog_sound : (s : State) (catalog : Catalog) → IsWhole (record s { catalog = catalog }) → IsSoundState s → IsSoundState (record s { catalog = catalog })
-catalog_sound s catalog whole h = record { meta = h.meta; names = h.names; listed = h.listed; good = h.good; whole = whole }
+-- where only who reads changes
+read_sound : (s : State) (now : Readers) → IsSoundState s → IsSoundState (record s { catalog = record s.catalog { reading = now } })
+read_sound s now h = record {
+  meta = h.meta;
+  names = h.names;
+  listed = h.listed;
+  whole = record { each = h.whole.each };
+  good = h.good;
+  live = h.live;
+  stamps = h.stamps;
+  within = h.within;
+  live_within = h.live_within;
+}
+
+-- ---- segments that come or get their documents
+
+unnamed : (live committed named : Bool) → (live || committed || named) ≡ false → named ≡ false
+unnamed live committed named e = grind (arith, e)
+
+-- no file has the name of a segment that comes
+no_file : (s : State) (id n : List ℕ) → is_in_use s.catalog s.managed id ≡ false → Begins id n → IsSoundState s → is_some (file_at s n) ≡ true → ⊥
+no_file s id n free begins h there =
+    let named : is_named s.managed id ≡ true = begins_named s.managed id n begins (h.listed n there) in
+    true≢false (sym named ∙ unnamed (is_some (live_at s.catalog id)) (is_some (at s.catalog.commit.segments id)) (is_named s.managed id) free)
+
+moved_good : (s : State) (id : List ℕ) (segment : LiveSegment) → SegmentMove s id segment → IsSoundState s → AreGood s (insert_entry byte_cmp s.catalog.live id segment)
+moved_good s id segment (IsNew free) h n bytes required is =
+    by_one (has (required_names id fresh_segment) n) (has (all_required s.catalog.live) n) (required_put s.catalog.live id fresh_segment n required)
+    (λ own. absurd (no_file s id n free (required_begins (id, fresh_segment) n own) h (ap is_some is))) (λ old. h.live n bytes old is)
+moved_good s id segment (HasDocs count old there none) h n bytes required is =
+    by_one (has (required_names id old) n) (has (all_required s.catalog.live) n) (required_put s.catalog.live id (record old { max_doc = count }) n required)
+    (λ own. h.live n bytes (required_found s.catalog.live id old n there own) is) (λ other. h.live n bytes other is)
+
+-- a segment without documents has no deletes
+undeleted : (deletes : Option DeleteMeta) (first : Bool) → (first || is_some deletes) ≡ false → num_deleted deletes ≡ 0
+undeleted None first e = refl
+undeleted (Some meta) true e = absurd (true≢false e)
+undeleted (Some meta) false e = absurd (true≢false e)
+
+moved_within : (s : State) (id : List ℕ) (segment : LiveSegment) → SegmentMove s id segment → num_deleted segment.deletes ≤ segment.max_doc
+moved_within s id segment (IsNew free) = omega arith
+moved_within s id segment (HasDocs count old there none) = omega (arith, undeleted old.deletes (not (old.max_doc == 0)) none)
+
+-- no more documents are deleted than there are
+abbrev IsWithin : LiveSegment → Type 0
+IsWithin segment = num_deleted segment.deletes ≤ segment.max_doc
+
+moved_sound : (s : State) (id : List ℕ) (segment : LiveSegment) → SegmentMove s id segment → IsSoundState s → IsSoundState (record s { catalog = with_live s.catalog id segment })
+moved_sound s id segment move h = record {
+  meta = h.meta;
+  names = h.names;
+  listed = h.listed;
+  whole = record { each = h.whole.each };
+  good = h.good;
+  live = moved_good s id segment move h;
+  stamps = h.stamps;
+  within = h.within;
+  live_within = each_put IsWithin s.catalog.live id segment h.live_within (moved_within s id segment move);
+}
+
+-- live segments become the commit
+committed_sound : (s : State) (payload : Option (List ℕ)) (ids : List (List ℕ)) → first_unsealed s (chosen s.catalog ids) ≡ None → IsSoundState s → IsSoundState (on_catalog s (committed s.catalog payload (chosen s.catalog ids))).1
+committed_sound s payload ids e h = record {
+  meta = h.meta;
+  names = h.names;
+  listed = h.listed;
+  whole = committed_whole s payload (chosen s.catalog ids) e;
+  good = λ n bytes required is. h.live n bytes (required_some _ s.catalog.live n required) is;
+  live = h.live;
+  stamps = inl (omega arith);
+  within = each_some IsWithin _ s.catalog.live h.live_within;
+  live_within = h.live_within;
+}
+
+-- ---- files that go, and segments that go
 
 -- files that nothing needs are gone
 kept_some : (gone : Bool) (file : Option FileState) → is_some (cond (not gone) file None) ≡ true → (is_some file ≡ true) × (not gone ≡ true)
@@ -111,8 +186,12 @@ collected_sound s gone spared h = record {
   listed = λ n is.
       let k = kept_some (has gone n) (file_at s n) (rw (at_without gone s.files n) at is) in
       rw (has_without gone s.managed n, k.1) (h.listed n k.0);
-  good = λ n bytes is. h.good n bytes (kept_since (not (has gone n)) (file_at s n) bytes (rw (at_without gone s.files n) at is));
   whole = collected_whole s gone spared h.whole;
+  good = λ n bytes required is. h.good n bytes required (kept_since (not (has gone n)) (file_at s n) bytes (rw (at_without gone s.files n) at is));
+  live = λ n bytes required is. h.live n bytes required (kept_since (not (has gone n)) (file_at s n) bytes (rw (at_without gone s.files n) at is));
+  stamps = h.stamps;
+  within = h.within;
+  live_within = h.live_within;
 }
 
 -- a file that is left is there as before, and is sealed if it was
@@ -125,20 +204,26 @@ released_sound s id segment h = record {
   meta = h.meta;
   names = λ n is. h.names n (sym (left_some (has (segment_names (id, segment)) n) (file_at s n)) ∙ (rw (at_left (segment_names (id, segment)) s.files n) at is));
   listed = λ n is. h.listed n (sym (left_some (has (segment_names (id, segment)) n) (file_at s n)) ∙ (rw (at_left (segment_names (id, segment)) s.files n) at is));
-  good = λ n bytes is. h.good n bytes (left_since (has (segment_names (id, segment)) n) (file_at s n) bytes (rw (at_left (segment_names (id, segment)) s.files n) at is));
   whole = released_whole s id segment h.whole;
+  good = λ n bytes required is. h.good n bytes required (left_since (has (segment_names (id, segment)) n) (file_at s n) bytes (rw (at_left (segment_names (id, segment)) s.files n) at is));
+  live = λ n bytes required is.
+      h.live n bytes (required_left (is_at (byte_cmp id)) s.catalog.live n required)
+      (left_since (has (segment_names (id, segment)) n) (file_at s n) bytes (rw (at_left (segment_names (id, segment)) s.files n) at is));
+  stamps = h.stamps;
+  within = h.within;
+  live_within = each_left IsWithin (is_at (byte_cmp id)) s.catalog.live h.live_within;
 }
 
 sound_changes : (s : State) (event : Event) → Fits event → IsSoundState s → OfEachChange IsSoundState s event
 sound_changes s event fits h = record {
   same = h;
-  lives = λ id segment. catalog_sound s _ (record { each = h.whole.each }) h;
-  reads = λ now move. catalog_sound s _ (record { each = h.whole.each }) h;
+  lives = λ id segment move. moved_sound s id segment move h;
+  reads = λ now move. read_sound s now h;
   opens = λ id deletes component e absent.
       let range : Fits (events.Open id component) = subst Fits e fits in
-      opened_sound s (name_of id deletes component) (name_is_file id deletes component range.0 range.1) absent h;
+      opened_sound s (name_of id deletes component) (name_is_file id deletes component range.0) absent h;
   puts = λ name body file e good. over_open s name body file e good h;
-  commits = λ payload segments last e. catalog_sound s _ (committed_whole s payload segments e) h;
+  commits = λ payload ids last e. committed_sound s payload ids e h;
   collects = λ outcomes. collected_sound s (done_of (garbage s) outcomes) (living_spared s outcomes) h;
   releases = λ id segment. released_sound s id segment h;
 }
@@ -174,7 +259,7 @@ listed_of settings schema reads s d h n no_dot some =
     ] refl
 
 -- a directory that holds a sound state is sound
-pub holds_sound : (settings : Settings) (schema : List ℕ) (reads : Reads) (s : State) → DirectoryHolds settings schema reads s → IsSoundState s → IsSound schema reads
+pub holds_sound : (settings : Settings) (schema : List ℕ) (reads : Reads) (s : State) → DirectoryHolds settings schema reads s → IsSoundState s → IsSoundImage schema reads
 holds_sound settings schema reads s d h = record {
   names = s.managed;
   listing = d.listing;
@@ -187,7 +272,17 @@ holds_sound settings schema reads s d h = record {
         record {
           each = λ n is.
               let e : is_sealed (file_at s n) ≡ true = h.whole.each n is in
-              sealed_reads (file_at s n) (reads n) (d.files n (h.names n (sealed_is_there (file_at s n) e))) e (h.good n);
+              sealed_reads (file_at s n) (reads n) (d.files n (h.names n (sealed_is_there (file_at s n) e))) e (λ bytes. h.good n bytes is);
         },
       );
 }
+
+sealed_good : (file : Option FileState) → is_sealed file ≡ true → ((bytes : List ℕ) → file ≡ Some (Sealed bytes) → IsGood bytes) → (bytes : List ℕ) × (file ≡ Some (Sealed bytes)) × IsGood bytes
+sealed_good None e good = absurd cc
+sealed_good (Some (Sealed bytes)) e good = (bytes, refl, good bytes refl)
+sealed_good (Some (Open body)) e good = absurd cc
+sealed_good (Some Left) e good = absurd cc
+
+-- the files that the commit of a sound state requires can be read
+pub sound_reads : (s : State) → IsSoundState s → CanRead s
+sound_reads s h = record { each = λ n is. sealed_good (file_at s n) (h.whole.each n is) (λ bytes. h.good n bytes is) }

@@ -42,7 +42,7 @@ collected_spaced done failed =
 abbrev is_word : List ℕ → Bool
 is_word word = list_all (λ b. not (b == 32)) word
 
-heads : {X : Type 0} (x y : X) (xs ys : List X) → x ∷ xs ≡ y ∷ ys → (x ≡ y) × (xs ≡ ys)
+pub heads : {X : Type 0} (x y : X) (xs ys : List X) → x ∷ xs ≡ y ∷ ys → (x ≡ y) × (xs ≡ ys)
 heads x y xs ys e = (cc, cc)
 
 -- a word ends where the next space stands

@@ -9,7 +9,7 @@ use Rattle.tv_model.specs.Names.{byte_cmp, is, has}
 use Rattle.tv_model.specs.Footer.{IsGood}
 use Rattle.tv_model.specs.Segments.{name_of, all_required}
 use Rattle.tv_model.specs.State.{State, FileState, Sealed, Open, Left, file_at, with_file, on_catalog}
-use Rattle.tv_model.specs.CommitEvents.{is_sealed, first_unsealed, committed}
+use Rattle.tv_model.specs.CommitEvents.{is_sealed, chosen, first_unsealed, committed}
 use Rattle.tv_model.specs.Collections.{done_of}
 use Rattle.tv_model.specs.Living.{living, segment_names}
 use Rattle.tv_model.specs.CollectionEvents.{garbage, without_files, left, released}
@@ -74,11 +74,11 @@ released_whole s id segment h = record {
 whole_changes : (s : State) (event : Event) → IsWhole s → OfEachChange IsWhole s event
 whole_changes s event h = record {
   same = h;
-  lives = λ id segment. record { each = h.each };
+  lives = λ id segment move. record { each = h.each };
   reads = λ now move. record { each = h.each };
   opens = λ id deletes component e absent. record { each = (with_file_whole s (name_of id deletes component) (Open []) (absent_isnt_sealed _ absent) h).each };
   puts = λ name body file e good. with_file_whole s name file (ap is_sealed e) h;
-  commits = λ payload segments last e. committed_whole s payload segments e;
+  commits = λ payload ids last e. committed_whole s payload (chosen s.catalog ids) e;
   collects = λ outcomes. collected_whole s (done_of (garbage s) outcomes) (living_spared s outcomes) h;
   releases = λ id segment. released_whole s id segment h;
 }
@@ -110,12 +110,12 @@ left_since true (Some Left) bytes e = absurd cc
 since_changes : (start s : State) (event : Event) → IsSince start s → OfEachChange (IsSince start) s event
 since_changes start s event h = record {
   same = h;
-  lives = λ id segment. h;
+  lives = λ id segment move. h;
   reads = λ now move. h;
   opens = λ id deletes component e absent n bytes is.
       put_since (is_at (byte_cmp (name_of id deletes component)) n) (Open []) (file_at s n) bytes (λ k. absurd cc) (h n bytes) (rw (lookup_put s.files (name_of id deletes component) n (Open [])) at is);
   puts = λ name body file e good n bytes is. put_since (is_at (byte_cmp name) n) file (file_at s n) bytes (λ k. inr (good bytes k)) (h n bytes) (rw (lookup_put s.files name n file) at is);
-  commits = λ payload segments last e. h;
+  commits = λ payload ids last e. h;
   collects = λ outcomes n bytes is. h n bytes (kept_since _ (file_at s n) bytes (rw (at_without (done_of (garbage s) outcomes) s.files n) at is));
   releases = λ id segment n bytes is. h n bytes (left_since (has (segment_names (id, segment)) n) (file_at s n) bytes (rw (at_left (segment_names (id, segment)) s.files n) at is));
 }

@@ -11,7 +11,8 @@ use Rattle.tv_model.specs.Names.{byte_cmp, is}
 use Rattle.tv_model.specs.Ids.{IsId}
 use Rattle.tv_model.specs.Segments.{num_deleted, delete_opstamp}
 
--- A commit: its number, the payload that its writer added, and its segments by id. (The machine keeps the current one alone; the commits of a run are those of its states.)
+-- A commit: its number, the payload that its writer added, and its segments by id. (The machine keeps the current one alone; the commits of a run are those of its
+-- states.)
 pub record Commit : Type 0 where
   pub opstamp : ℕ
   pub payload : Option (List ℕ)
@@ -42,6 +43,15 @@ pub record Settings : Type 0 where
 
 abbrev pub default_settings : Settings
 default_settings = record { dedicated_thread = true; blocksize = 16384 }
+
+-- what an index keeps of how it is made: its settings, and the text of its schema
+pub record IndexForm : Type 0 where
+  pub settings : Settings
+  pub schema : List ℕ
+
+-- of a new index with this schema
+abbrev pub new_form : List ℕ → IndexForm
+new_form schema = record { settings = default_settings; schema = schema }
 
 -- whether documents are compressed on a thread of their own; printed only where they are not
 abbrev pub thread_text : Bool → List ℕ
@@ -108,3 +118,7 @@ text_schema = codes "[{\"name\":\"text\",\"type\":\"text\",\"options\":{\"indexi
 -- the schemas that are accepted so far, byte for byte: the empty one, and the one above
 abbrev pub is_schema : List ℕ → Bool
 is_schema bytes = is bytes (codes "[]") || is bytes text_schema
+
+-- the text of the schema that these bytes spell (so far the bytes themselves)
+abbrev pub IsSchema : (bytes text : List ℕ) → Type 0
+IsSchema bytes text = (is_schema bytes ≡ true) × (text ≡ bytes)

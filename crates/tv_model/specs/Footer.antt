@@ -54,10 +54,11 @@ abbrev pub number_of : List ℕ → ℕ
 number_of [] = 0
 number_of (b ∷ bytes) = b + 256 * number_of bytes
 
--- the number in the four bytes before the last four: the length of the footer's JSON, in a file that has one
+-- the number in the four bytes before the last four: the length of the footer's JSON, in a file that has a footer; of other bytes it says nothing
 abbrev pub stated : List ℕ → ℕ
 stated bytes = number_of (take 4 (drop (length bytes - 8) bytes))
 
--- what stands before the footer, in a file that has one
+-- The body of a file that has one: where `HasBody` holds, this is it (the law `files_keep_their_body` says so). It is a list for any other bytes too,
+-- which means nothing.
 abbrev pub body_of : List ℕ → List ℕ
 body_of bytes = take (length bytes - (stated bytes + 8)) bytes

@@ -1,12 +1,12 @@
 -- An index in a directory.
-use Rattle.std.specs.Prelude.{ℕ, ◌≡◌, ◌≢◌, ◌+◌, ◌==◌, true, List, [], ◌∷◌, Option, Some, None, IsSome, is_some, option_map, if◌then◌else◌}
+use Rattle.std.specs.Prelude.{ℕ, ◌≡◌, ◌≢◌, ◌+◌, ◌==◌, Bool, true, false, List, [], ◌∷◌, Option, Some, None, IsSome, is_some, option_map, if◌then◌else◌}
 use Rattle.std.specs.BTreeSet.{insert_key}
 use Rattle.tv_model.specs.Names.{byte_cmp, has, is_undotted, list_name, meta_name}
 use Rattle.tv_model.specs.Files.{Reads}
 use Rattle.tv_model.specs.Footer.{IsGood}
 use Rattle.tv_model.specs.Listing.{Lists}
 use Rattle.tv_model.specs.Segments.{all_required}
-use Rattle.tv_model.specs.Commits.{Commit, Settings, default_settings, Means, first_commit}
+use Rattle.tv_model.specs.Commits.{Commit, Settings, IndexForm, default_settings, IsSchema, Means, first_commit}
 use Rattle.tv_model.specs.CommitEvents.{last_stamp}
 use Rattle.tv_model.specs.State.{Catalog, State, FileState, Sealed, Open, Left, file_at, no_readers}
 
@@ -38,11 +38,16 @@ IsSoundMeta schema reads None = Unit {0}
 IsSoundMeta schema reads (Some text) = (settings : Settings) × (commit : Commit) × Means settings schema text commit × HasFiles reads commit
 
 -- what is read is sound: every undotted file is listed, and the commit's files can be read
-pub record IsSound (schema : List ℕ) (reads : Reads) : Type 0 where
+pub record IsSoundImage (schema : List ℕ) (reads : Reads) : Type 0 where
   pub names : List (List ℕ)
   pub listing : Lists (reads list_name) names
   pub listed : (n : List ℕ) → is_undotted n ≡ true → IsSome (reads n) → has names n ≡ true
   pub commit : IsSoundMeta schema reads (reads meta_name)
+
+-- A sound start: what is read is sound, and no lock is held.
+pub record IsSoundStart (schema : List ℕ) (reads : Reads) (held : List ℕ → Bool) : Type 0 where
+  pub image : IsSoundImage schema reads
+  pub free : (lock : List ℕ) → held lock ≡ false
 
 -- the number after a commit's
 abbrev pub next_after : ℕ → ℕ
@@ -63,6 +68,13 @@ pub record OpensTo (settings : Settings) (schema : List ℕ) (reads : Reads) (s 
   pub reading : s.catalog.reading ≡ no_readers
   pub names : (n : List ℕ) → is_some (file_at s n) ≡ true → IsFileOf n
   pub files : (n : List ℕ) → IsFileOf n → file_at s n ≡ option_map Sealed (reads n)
+
+-- an index to which a directory opens that reads so, under the schema that these bytes spell
+pub record OpenedIndex (schema : List ℕ) (reads : Reads) : Type 0 where
+  pub form : IndexForm
+  pub state : State
+  pub spelled : IsSchema schema form.schema
+  pub opens : OpensTo form.settings form.schema reads state
 
 -- no index stands in the directory
 pub record HasNoIndex (reads : Reads) : Type 0 where

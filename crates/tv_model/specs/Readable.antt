@@ -1,9 +1,10 @@
 -- Commits whose files can be read.
-use Rattle.std.specs.Prelude.{ℕ, ◌≡◌, true, List, [], ◌∷◌, Some, IsSome}
+use Rattle.std.specs.Prelude.{ℕ, ◌≡◌, true, List, [], ◌∷◌, Option, Some, None, IfSome, option_map}
 use Rattle.tv_model.specs.declared.event.Event.{Event}
 use Rattle.tv_model.specs.declared.event.Event.TheVariants as events
 use Rattle.tv_model.specs.Names.{has}
 use Rattle.tv_model.specs.Footer.{IsGood}
+use Rattle.tv_model.specs.Commits.{Commit}
 use Rattle.tv_model.specs.Segments.{all_required}
 use Rattle.tv_model.specs.State.{State, Sealed, file_at, reader_at}
 use Rattle.tv_model.specs.Machine.{Turn, step}
@@ -12,15 +13,23 @@ use Rattle.tv_model.specs.Machine.{Turn, step}
 abbrev pub IsGoodFile : State → List ℕ → Type 0
 IsGoodFile s name = (bytes : List ℕ) × (file_at s name ≡ Some (Sealed bytes)) × IsGood bytes
 
--- so is each file that the commit requires
-pub record CanRead (s : State) : Type 0 where
-  pub each : (n : List ℕ) → has (all_required s.catalog.commit.segments) n ≡ true → IsGoodFile s n
+-- so is each of these files
+pub record AreGoodFiles (s : State) (names : List (List ℕ)) : Type 0 where
+  pub each : (n : List ℕ) → has names n ≡ true → IsGoodFile s n
 
--- an event that reads the commit's files can do so
+-- the files that the current commit requires can be read
+abbrev pub CanRead : State → Type 0
+CanRead s = AreGoodFiles s (all_required s.catalog.commit.segments)
+
+-- the commit whose files an event reads, where it reads some: that of a new reader, and that of a reload of a reader which is there
+abbrev pub read_by : State → Event → Option Commit
+read_by s (events.Reader policy) = Some s.catalog.commit
+read_by s (events.Reload number) = option_map (λ reader. s.catalog.commit) (reader_at s.catalog number)
+read_by s other = None
+
+-- an event that reads a commit's files can do so
 abbrev pub ReadsGood : State → Event → Type 0
-ReadsGood s (events.Reader policy) = CanRead s
-ReadsGood s (events.Reload number) = IsSome (reader_at s.catalog number) → CanRead s
-ReadsGood s other = Unit {0}
+ReadsGood s event = IfSome (read_by s event) (λ commit. AreGoodFiles s (all_required commit.segments))
 
 -- so can each event of a run
 abbrev pub AllReadGood : State → List Turn → Type 0

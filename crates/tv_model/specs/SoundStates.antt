@@ -1,9 +1,11 @@
--- States that keep a directory sound.
-use Rattle.std.specs.Prelude.{ℕ, ◌≡◌, true, List, Some, is_some}
+-- What every step keeps of a state whose directory is sound.
+use Rattle.std.specs.Prelude.{ℕ, ◌≡◌, ◌⊎◌, ◌<◌, ◌≤◌, true, List, Some, is_some}
+use Rattle.std.specs.List.{AllByRecursion}
+use Rattle.tv_model.specs.declared.segment.LiveSegment.{LiveSegment}
 use Rattle.tv_model.specs.Names.{has, meta_name}
 use Rattle.tv_model.specs.Footer.{IsGood}
-use Rattle.tv_model.specs.Segments.{all_required}
-use Rattle.tv_model.specs.CommitEvents.{is_sealed}
+use Rattle.tv_model.specs.Segments.{num_deleted, all_required}
+use Rattle.tv_model.specs.CommitEvents.{last_stamp, is_sealed}
 use Rattle.tv_model.specs.State.{State, Sealed, file_at}
 use Rattle.tv_model.specs.Index.{IsFileOf}
 
@@ -12,7 +14,15 @@ pub record IsWhole (s : State) : Type 0 where
   pub each : (n : List ℕ) → has (all_required s.catalog.commit.segments) n ≡ true
       → is_sealed (file_at s n) ≡ true
 
--- every file is managed and has a name of its own kind, each sealed file opens, and the commit's required files are sealed
+-- what is sealed of the files that these segments require has a body and a footer
+abbrev pub AreGood : State → List (List ℕ × LiveSegment) → Type 0
+AreGood s segments = (n bytes : List ℕ) → has (all_required segments) n ≡ true → file_at s n ≡ Some (Sealed bytes) → IsGood bytes
+
+-- no more documents of a segment are deleted than it has
+abbrev pub AreWithin : List (List ℕ × LiveSegment) → Type 0
+AreWithin segments = AllByRecursion (λ e. num_deleted e.1.deletes ≤ e.1.max_doc) segments
+
+-- The state of a sound directory. Files that neither the commit nor a live segment requires may be anything.
 pub record IsSoundState (s : State) : Type 0 where
   -- `meta.json` is managed
   pub meta : has s.managed meta_name ≡ true
@@ -20,7 +30,14 @@ pub record IsSoundState (s : State) : Type 0 where
   pub names : (n : List ℕ) → is_some (file_at s n) ≡ true → IsFileOf n
   -- a file is managed
   pub listed : (n : List ℕ) → is_some (file_at s n) ≡ true → has s.managed n ≡ true
-  -- a sealed file has a body and its footer
-  pub good : (n bytes : List ℕ) → file_at s n ≡ Some (Sealed bytes) → IsGood bytes
   -- the files that the commit requires are sealed
   pub whole : IsWhole s
+  -- and have a body and a footer
+  pub good : AreGood s s.catalog.commit.segments
+  -- so has what is sealed of the files of the live segments
+  pub live : AreGood s s.catalog.live
+  -- the next commit gets a higher number than the current one has, or both numbers are the end of 64 bits
+  pub stamps : (s.catalog.commit.opstamp < s.catalog.next) ⊎ ((s.catalog.commit.opstamp ≡ last_stamp) × (s.catalog.next ≡ last_stamp))
+  -- no segment has more deleted documents than documents
+  pub within : AreWithin s.catalog.commit.segments
+  pub live_within : AreWithin s.catalog.live

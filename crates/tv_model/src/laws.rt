@@ -2,11 +2,16 @@
 ghost use Rattle.std.specs.Prelude.{◌≡◌, Bool, List, true, ℕ};
 ghost use Rattle.std.specs.List.{AllByRecursion};
 ghost use Rattle.std.specs.List.Sorted.{IsStrictlySortedBy};
+ghost use Rattle.tv_model.specs.declared.event.Event.{Event};
 ghost use Rattle.tv_model.specs.Collecting.{Collects, CollectsIn};
+ghost use Rattle.tv_model.specs.Commits.{Settings};
+ghost use Rattle.tv_model.specs.Files.{Reads};
 ghost use Rattle.tv_model.specs.Footer.{HasBody, IsFramed, body_of, sealed};
 ghost use Rattle.tv_model.specs.FooterForm.{FooterNumbers};
-ghost use Rattle.tv_model.specs.Machine.{Turn, events_of};
+ghost use Rattle.tv_model.specs.Index.{IsSoundImage, OpensTo};
+ghost use Rattle.tv_model.specs.Machine.{Turn, events_of, step};
 ghost use Rattle.tv_model.specs.Names.{byte_cmp};
+ghost use Rattle.tv_model.specs.Readable.{CanRead};
 ghost use Rattle.tv_model.specs.Script.{Fits};
 ghost use Rattle.tv_model.specs.Serving.{IsJustOpened, Serves, ServesAsSealed};
 ghost use Rattle.tv_model.specs.SoundStates.{IsSoundState};
@@ -20,6 +25,16 @@ pub fn searchers_keep_their_commit()
     ensures serves { (s : State) (turns : List Turn) → IsJustOpened s → Serves s turns }
     ensures as_sealed { (s : State) (turns : List Turn) → IsSoundState s
         → AllByRecursion Fits (events_of turns) → ServesAsSealed s turns }
+{}
+
+/// A sound start opens to a sound state, and each event of a script leaves a sound state sound. The
+/// files that the commit of such a state requires can be read.
+pub fn sound_starts_open_to_sound_states()
+    ensures opens { (settings : Settings) (schema : List ℕ) (reads : Reads) (s : State)
+        → IsSoundImage schema reads → OpensTo settings schema reads s → IsSoundState s }
+    ensures steps { (s : State) (event : Event) (outcomes : List Bool) → Fits event
+        → IsSoundState s → IsSoundState (step s event outcomes).1 }
+    ensures reads { (s : State) → IsSoundState s → CanRead s }
 {}
 
 /// A collection takes exactly the managed names that nothing needs. Each of them is told as done or

@@ -19,12 +19,19 @@ static COMPONENTS: [SegmentComponent; 7] = [
 /// The kinds of file that a segment has, in the order in which they are listed.
 #[derive(Clone, Copy, Debug, PartialEq, Eq)]
 pub enum SegmentComponent {
+    /// `ID.idx`, where ID is the segment's id.
     Postings,
+    /// `ID.pos`.
     Positions,
+    /// `ID.fast`.
     FastFields,
+    /// `ID.fieldnorm`.
     FieldNorms,
+    /// `ID.term`.
     Terms,
+    /// `ID.store`: the document store.
     Store,
+    /// `ID.OPSTAMP.del`, with the opstamp of the delete: which documents are deleted.
     Delete,
 }
 
@@ -55,14 +62,18 @@ impl SegmentComponent {
 /// How many documents of a segment are deleted, and by which delete.
 #[derive(Clone, Copy, Debug, PartialEq, Eq)]
 pub struct DeleteMeta {
+    /// How many documents are deleted.
     pub num_deleted_docs: u32,
+    /// The number of the delete, which names its file.
     pub opstamp: Opstamp,
 }
 
 /// What is known of a segment beside its id and its files.
 #[derive(Clone, Copy, Debug, PartialEq, Eq)]
 pub struct LiveSegment {
+    /// How many documents it has, deleted ones among them.
     pub max_doc: u32,
+    /// Its deletes, if there are any.
     pub deletes: Option<DeleteMeta>,
 }
 

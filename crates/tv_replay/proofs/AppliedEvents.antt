@@ -1,6 +1,9 @@
 -- A script replayed: how far a run has come, and what a whole run is.
-use Rattle.std.proofs.Common.{◌≡◌, ◌≢◌, ◌⊎◌, ℕ, ◌+◌, ◌*◌, ◌^◌, ◌≤◌, ◌<◌, true, true≢false, List, [], ◌∷◌, ◌++◌, map, length, Option, Some, None, Err, refl, sym, ap, subst, ◌∙◌, arith, append_assoc, length-append, inl, inr}
-use Rattle.std.specs.Prelude.{IsSome, is_some, option_map}
+use Rattle.std.proofs.Common.{◌≡◌, ◌≢◌, ◌⊎◌, ℕ, ◌+◌, ◌*◌, ◌^◌, ◌≤◌, ◌<◌, Bool, cond, true, false, true≢false, List, [], ◌∷◌, ◌++◌, map, length, Option, Some, None, Result, Ok, Err, IfErr, refl, sym, ap, subst, ◌∙◌, arith, append_assoc, length-append, inl, inr}
+use Rattle.std.specs.Prelude.{IsSome, option_map, option_and_then}
+use Rattle.std.specs.Map.{lookup}
+use Rattle.std.specs.BTreeMap.{is_at}
+use Rattle.std.specs.Ordering.{nat_cmp}
 use Rattle.std.specs.List.{AllByRecursion}
 use Rattle.std.specs.List.Sorted.{IsStrictlySortedBy}
 use Rattle.std.specs.BTreeSet.{insert_key}
@@ -14,23 +17,22 @@ use Rattle.tv_base.specs.declared.open_errors.OpenWriteError.TheVariants as writ
 use Rattle.tv_base.specs.declared.open_errors.OpenReadError.{OpenReadError}
 use Rattle.tv_base.specs.declared.open_errors.OpenReadError.TheVariants as read
 use Rattle.tv_model.specs.declared.event.Event.{Event}
+use Rattle.tv_model.specs.declared.event.Event.TheVariants as events
 use Rattle.tv_model.specs.declared.segment.LiveSegment.{LiveSegment}
 use Rattle.tv_model.specs.Names.{byte_cmp, has, list_name, meta_name}
 use Rattle.tv_model.specs.Files.{Reads, Heard, Rose, RoseBy}
-use Rattle.tv_model.specs.Footer.{IsGood}
-use Rattle.tv_managed.specs.Reading.{HasNoBody}
 use Rattle.tv_model.specs.Listing.{Lists}
-use Rattle.tv_model.specs.Commits.{Commit, is_schema, default_settings, Means}
-use Rattle.tv_model.specs.Segments.{all_required}
-use Rattle.tv_model.specs.State.{Catalog, State, FileState, Sealed, Left, file_at}
+use Rattle.tv_model.specs.Commits.{Commit, IndexForm, is_schema, default_settings, new_form, Means}
+use Rattle.tv_model.specs.Segments.{all_required, name_of}
+use Rattle.tv_model.specs.State.{Catalog, State, Reader, FileState, Sealed, Left, at, file_at, live_at, reader_at}
 use Rattle.tv_model.specs.Lines.{opening_of}
-use Rattle.tv_model.specs.Readable.{AllReadGood}
 use Rattle.tv_model.specs.Machine.{Turn, step, answers, report, after, events_of, refused_in, all_refused}
-use Rattle.tv_model.specs.Index.{FileReads, IsFileOf, DirectoryHolds, OpensWith, OpensTo, IsSound, HasNoIndex, first_state}
+use Rattle.tv_model.specs.Index.{FileReads, DirectoryHolds, OpensWith, OpensTo, OpenedIndex, IsSoundImage, HasNoIndex, first_state}
+use Rattle.tv_model.proofs.OpenedStates.{opens_sound}
 use Rattle.tv_model.specs.Script.{line_limit, lines_of, Fits}
 use Rattle.tv_model.specs.SoundStates.{IsWhole, IsSoundState}
 use Rattle.tv_model.proofs.SoundStates.{step_sound, first_sound, holds_sound}
-use Rattle.tv_model.proofs.WholeStates.{after_whole, sealed_since}
+use Rattle.tv_model.proofs.WholeStates.{after_whole}
 use Rattle.tv_model.proofs.Serving.{serves, serves_as_sealed}
 use Rattle.tv_model.proofs.Collects.{collects_in}
 use Rattle.tv_replay.specs.declared.next_event.ScriptError.{ScriptError}
@@ -40,36 +42,55 @@ use Rattle.tv_replay.specs.declared.replaying.Tally.{Tally}
 use Rattle.tv_store.specs.Kept.{Kept, StoreState, FileHolds, Holds, AtMost}
 use Rattle.tv_directory.specs.declared.directory.Directory.{Ghosts}
 use Rattle.tv_store.specs.Opening.{Opens}
-use Rattle.tv_store.specs.Telling.{TellsLine, TellsLines}
+use Rattle.tv_store.specs.Telling.{AreBetween, TellsLine, TellsLines}
 use Rattle.tv_replay.specs.ScriptLines.{pending, TakesNextEvent, IsNoEvent, IsTooLong}
 use Rattle.tv_store.specs.ReaderNumbers.{FewNumbers}
-use Rattle.tv_store.specs.ReadCauses.{ReadFault, ApplyCause}
+use Rattle.tv_store.specs.ReadCauses.{ReadFault, ApplyCause, TakesMetaLock}
+use Rattle.tv_managed.specs.Collecting.{meta_lock_name}
 use Rattle.tv_replay.specs.ScriptCauses.{IsRefused, ScriptCause}
 use Rattle.tv_store.specs.StoreCauses.{WriteFault, IsRefusal}
-use Rattle.tv_replay.specs.Replays.{Replays, ReplayCause, StopsAtLine, LineRefusal, IsTooMany, IsBadFile, NeverOpens, line_refusal, long_refusal}
-use Rattle.tv_store.specs.Applying.{Stepped, Spent, BadIn, HoldsNone, written_by}
-use Rattle.tv_replay.specs.AppliedEvents.{Applies, Runs, RunFaults, Causes, RunCause, run_causes, StopsRun, EndCause, BadSince, IsErrorOf}
+use Rattle.tv_replay.specs.Replays.{Replays, ReplayCause, StopsAtLine, LineRefusal, IsTooMany, TakesNoLock, line_refusal, long_refusal}
+use Rattle.tv_store.specs.Applying.{Stepped, written_by}
+use Rattle.tv_store.specs.Exhausted.{IsExhausted, PassesEnd, length_after, number_after}
+use Rattle.tv_replay.specs.AppliedEvents.{Applies, Runs, RunFaults, Causes, RunCause, run_causes, FailsRun, EndCause, IsErrorOf}
 use Rattle.tv_replay.proofs.LineLemmas.{pending_some}
-use Rattle.tv_replay.proofs.Progress.{after-last, answers-last, events-last, readable-last, refused-last, AreLines-length, ReadSoFar, HasRead, nothing_read, one_more_read, begins_next, all_read}
+use Rattle.tv_replay.proofs.Progress.{after-last, answers-last, events-last, readable-last, refused-last, AreLines-length, ReadSoFar, HasRead, nothing_read, one_more_read, all_read}
 
 -- ---- telling
 
+earlier : (from mid to : ℕ) (pieces : Heard) → from ≤ mid → AreBetween mid pieces to → AreBetween from pieces to
+earlier from mid to [] le h = omega (arith, h)
+earlier from mid to (p ∷ pieces) le h = (omega (arith, h.0), h.1)
+
+between_then : (from mid to : ℕ) (a b : Heard) → AreBetween from a mid → AreBetween mid b to → AreBetween from (a ++ b) to
+between_then from mid to [] b h k = earlier from mid to b h k
+between_then from mid to (p ∷ a) b h k = (h.0, between_then p.0 mid to a b h.1 k)
+
+longer : (from mid to : ℕ) (pieces : Heard) → AreBetween from pieces mid → mid ≤ to → AreBetween from pieces to
+longer from mid to [] h le = omega (arith, h)
+longer from mid to (p ∷ pieces) h le = (h.0, longer p.0 mid to pieces h.1 le)
+
 -- some lines after others
-tells_then : {before now later : Heard} {lines more : List (List ℕ)} → TellsLines before now lines → TellsLines now later more → TellsLines before later (lines ++ more)
-tells_then {before} {now} {later} {lines} {more} ts us = record {
+tells_then : {before now later : Heard} {from mid to : ℕ} {lines more : List (List ℕ)} → TellsLines before now from mid lines → TellsLines now later mid to more → TellsLines before later from to (lines ++ more)
+tells_then {before} {now} {later} {from} {mid} {to} {lines} {more} ts us = record {
   pieces = ts.pieces ++ us.pieces;
   heard = us.heard ∙ ap (λ (h : Heard). h ++ us.pieces) ts.heard ∙ append_assoc before ts.pieces us.pieces;
+  moments = between_then from mid to ts.pieces us.pieces ts.moments us.moments;
   each =
       map-append (λ (p : ℕ × List ℕ). p.1) ts.pieces us.pieces ∙ ap (λ (ls : List (List ℕ)). ls ++ map (λ (p : ℕ × List ℕ). p.1) us.pieces) ts.each
       ∙ ap (λ (ls : List (List ℕ)). map (λ (l : List ℕ). l ++ 10 ∷ []) lines ++ ls) us.each ∙ sym (map-append (λ (l : List ℕ). l ++ 10 ∷ []) lines more);
 }
 
-pub tells_one : {before now : Heard} {from to : ℕ} {line : List ℕ} → TellsLine before now from to line → TellsLines before now (line ∷ [])
-tells_one {line = line} t = record { pieces = (t.moment, line ++ 10 ∷ []) ∷ []; heard = t.heard; each = refl }
+pub tells_one : {before now : Heard} {from to : ℕ} {line : List ℕ} → TellsLine before now from to line → TellsLines before now from to (line ∷ [])
+tells_one {line = line} t = record { pieces = (t.moment, line ++ 10 ∷ []) ∷ []; heard = t.heard; moments = (t.later, t.sooner); each = refl }
 
 -- one line before some lines
-pub tells_first : (before now later : Heard) (from to : ℕ) (line : List ℕ) (lines : List (List ℕ)) → TellsLine before now from to line → TellsLines now later lines → TellsLines before later (line ∷ lines)
-tells_first before now later from to line lines t ts = tells_then (tells_one t) ts
+pub tells_first : (before now later : Heard) (from mid to : ℕ) (line : List ℕ) (lines : List (List ℕ)) → TellsLine before now from mid line → TellsLines now later mid to lines → TellsLines before later from to (line ∷ lines)
+tells_first before now later from mid to line lines t ts = tells_then (tells_one t) ts
+
+-- told by a later moment
+pub tells_by : {before now : Heard} {from mid : ℕ} {lines : List (List ℕ)} (to : ℕ) → mid ≤ to → TellsLines before now from mid lines → TellsLines before now from to lines
+tells_by {from = from} {mid = mid} to le ts = record { pieces = ts.pieces; heard = ts.heard; moments = longer from mid to ts.pieces ts.moments le; each = ts.each }
 
 -- ---- events that fit
 
@@ -86,10 +107,48 @@ turns_sound s (t ∷ turns) all h = turns_sound (step s t.0 t.1).1 turns all.1 (
 pub one_more_line : (count : ℕ) → count * line_limit + line_limit ≡ (count + 1) * line_limit
 one_more_line count = omega arith
 
+either_entry : {X : Type 0} (P : X → Type 0) (b : Bool) (y x : X) (rest : Option X) → P y → (rest ≡ Some x → P x) → cond b (Some y) rest ≡ Some x → P x
+either_entry P true y x rest here there e = let same : y ≡ x = cc in subst P same here
+either_entry P false y x rest here there e = there e
+
+-- what is true of each entry is true of what stands at a key
+all_there : {K X : Type 0} (P : X → Type 0) (f : K → Bool) (entries : List (K × X)) (x : X) → AllByRecursion (λ e. P e.1) entries → lookup f entries ≡ Some x → P x
+all_there P f [] x all e = absurd cc
+all_there P f (entry ∷ entries) x all e = either_entry P (f entry.0) entry.1 x (lookup f entries) all.0 (all_there P f entries x all.1) e
+
+mapped : {A B : Type 0} (f : A → B) (o : Option A) (b : B) → option_map f o ≡ Some b → (x : A) × (o ≡ Some x) × (f x ≡ b)
+mapped f None b e = absurd cc
+mapped f (Some x) b e = (x, refl, cc)
+
+then_there : {A B : Type 0} (f : A → Option B) (o : Option A) (b : B) → option_and_then f o ≡ Some b → (x : A) × (f x ≡ Some b)
+then_there f None b e = absurd cc
+then_there f (Some x) b e = (x, e)
+
+few_numbers : (kept : Kept) (event : Event) (bound : ℕ) → bound + 1 < 2 ^ 64 → FewNumbers bound kept.catalog.reading → PassesEnd (number_after kept.catalog event) → ⊥
+few_numbers kept (events.Reader policy) bound few numbers (n, is, much) =
+    let same : kept.catalog.reading.next_reader + 1 ≡ n = cc in omega (arith, numbers.next_reader, same)
+few_numbers kept (events.Searcher number) bound few numbers (n, is, much) =
+    let same : kept.catalog.reading.next_searcher + 1 ≡ n = cc in omega (arith, numbers.next_searcher, same)
+few_numbers kept (events.Reload number) bound few numbers (n, is, much) =
+    let found = mapped (λ (r : Reader). r.next + 1) (reader_at kept.catalog number) n is in
+    let small : found.0.next ≤ bound = all_there (λ (r : Reader). r.next ≤ bound) (is_at (nat_cmp number)) kept.catalog.reading.readers found.0 numbers.next_snapshots found.1 in
+    let same : found.0.next + 1 ≡ n = found.2 in
+    omega (arith, small, same, much)
+few_numbers kept other bound few numbers (n, is, much) = absurd cc
+
+short_files : (kept : Kept) (event : Event) (bound more : ℕ) → bound + more < 2 ^ 64 → written_by event ≤ more → AtMost bound kept → PassesEnd (length_after kept event) → ⊥
+short_files kept (events.Write id component bytes) bound more few small all (n, is, much) =
+    let segment = then_there (λ (segment : LiveSegment). option_map (λ (body : List ℕ). length (body ++ bytes)) (at kept.open_files (name_of id segment.deletes component))) (live_at kept.catalog id) n is in
+    let found = mapped (λ (body : List ℕ). length (body ++ bytes)) (at kept.open_files (name_of id segment.0.deletes component)) n segment.1 in
+    let short : length found.0 ≤ bound = all_there (λ (body : List ℕ). length body ≤ bound) (is_at (byte_cmp (name_of id segment.0.deletes component))) kept.open_files found.0 all found.1 in
+    let same : length (found.0 ++ bytes) ≡ n = found.2 in
+    omega (arith, short, same, length-append found.0 bytes, much)
+short_files kept other bound more few small all (n, is, much) = absurd cc
+
 -- files stay far shorter than 64 bits of bytes, and numbers far below
-pub never_spent : (kept : Kept) (event : Event) (count : ℕ) → count < 2 ^ 32 → written_by event ≤ line_limit → AtMost (count * line_limit) kept → FewNumbers (count * line_limit) kept.catalog.reading → Spent kept event → ⊥
-never_spent kept event count few small all numbers (inl spent) = let much : 2 ^ 64 ≤ count * line_limit + written_by event = spent (count * line_limit) all in omega arith
-never_spent kept event count few small all numbers (inr spent) = let much : 2 ^ 64 ≤ count * line_limit + written_by event = spent (count * line_limit) numbers in omega arith
+pub never_spent : (kept : Kept) (event : Event) (count : ℕ) → count < 2 ^ 32 → written_by event ≤ line_limit → AtMost (count * line_limit) kept → FewNumbers (count * line_limit) kept.catalog.reading → IsExhausted kept event → ⊥
+never_spent kept event count few small all numbers (inl spent) = few_numbers kept event (count * line_limit) (omega arith) numbers spent
+never_spent kept event count few small all numbers (inr spent) = short_files kept event (count * line_limit) line_limit (omega arith) small all spent
 
 -- ---- how far a run has come
 
@@ -108,10 +167,11 @@ starts g store held text none =
       read = λ whole told. nothing_read whole held text none told;
       applied = record {
         fits = tt;
-        schema = refl;
+        form = refl;
         holds = λ t s h w. h;
-        told = λ t th s h w. record { pieces = []; heard = sym (append-nil (g.view store.outside).heard); each = refl };
+        told = λ t th s h w. record { pieces = []; heard = sym (append-nil (g.view store.outside).heard); moments = omega arith; each = refl };
         readable = λ t s h w. tt;
+        unlocked = λ t locks held s h w. tt;
         refused = inl (omega arith);
       };
     }
@@ -122,30 +182,40 @@ rose_more some more old now new (inl a) (inr b) = inr b
 rose_more some more old now new (inr a) (inr b) = inr b
 rose_more some more old now new (inr a) (inl b) = inr (omega arith)
 
+unlocked_last : (s : State) (turns : List Turn) (t : Turn) → TakesNoLock s turns → (TakesMetaLock (after s turns).catalog t.0 → ⊥) → TakesNoLock s (turns ++ t ∷ [])
+unlocked_last s [] t h free = (free, tt)
+unlocked_last s (first ∷ turns) t h free = (h.0, unlocked_last (step s first.0 first.1).1 turns t h.1 free)
+
+-- the lock that an event takes, seen from the start of a run: it is free where the event could be applied
+abbrev pub FreeAt : {O W C : Type 0} (g : Ghosts O W C) (old now : StoreState O) (e : Event) → Type 0
+FreeAt g old now e = g.told.locks → (g.view old.outside).locks meta_lock_name ≡ true → TakesMetaLock now.kept.catalog e → ⊥
+
 one_more_applied : {O W C : Type 0} (g : Ghosts O W C) (old now new : StoreState O) (turns : List Turn) (e : Event) (answer : List ℕ)
-    → Applies g old now turns → Fits e → new.kept.schema ≡ now.kept.schema → (stepped : Stepped g now new e answer)
+    → Applies g old now turns → Fits e → new.kept.form ≡ now.kept.form → FreeAt g old now e → (stepped : Stepped g now new e answer)
     → (g.told.heard → TellsLine (g.view now.outside).heard (g.view new.outside).heard (g.view now.outside).moment (g.view new.outside).moment answer)
     → Applies g old new (turns ++ (e, stepped.0) ∷ [])
-one_more_applied g old now new turns e answer a fits schema stepped said =
+one_more_applied g old now new turns e answer a fits form free stepped said =
     let t : Turn = (e, stepped.0) in
     record {
       fits = subst (λ (es : List Event). AllByRecursion Fits es) (sym (events-last turns t)) (fits-last (events_of turns) e a.fits fits);
-      schema = schema ∙ a.schema;
+      form = form ∙ a.form;
       holds = λ tell s h w. subst (Holds (g.view new.outside).reads new.kept) (sym (after-last s turns t)) (stepped.2 tell (after s turns) (a.holds tell s h w) (after_whole s turns w)).1;
       told = λ tell th s h w.
           let more = tells_then (a.told tell th s h w) (tells_one (said th)) in
           let is : answer ≡ (step (after s turns) e stepped.0).0 = (stepped.2 tell (after s turns) (a.holds tell s h w) (after_whole s turns w)).0 in
-          subst (TellsLines (g.view old.outside).heard (g.view new.outside).heard) (ap (λ (line : List ℕ). answers s turns ++ line ∷ []) is ∙ sym (answers-last s turns t)) more;
+          subst (TellsLines (g.view old.outside).heard (g.view new.outside).heard (g.view old.outside).moment (g.view new.outside).moment) (ap (λ (line : List ℕ). answers s turns ++ line ∷ []) is ∙ sym (answers-last s turns t)) more;
       readable = λ tell s h w. readable-last s turns t (a.readable tell s h w) (stepped.2 tell (after s turns) (a.holds tell s h w) (after_whole s turns w)).2;
+      unlocked = λ tell locks held s h w.
+          unlocked_last s turns t (a.unlocked tell locks held s h w) (λ takes. free locks held (subst (λ (c : Catalog). TakesMetaLock c e) (sym (a.holds tell s h w).catalog) takes));
       refused = subst (λ (n : ℕ). RoseBy n (g.view old.outside).refusals (g.view new.outside).refusals) (sym (refused-last turns t))
           (rose_more (all_refused turns) (refused_in stepped.0) (g.view old.outside).refusals (g.view now.outside).refusals (g.view new.outside).refusals a.refused stepped.1);
     }
 
 pub goes_on : {O W C : Type 0} (g : Ghosts O W C) (old now new : StoreState O) (text left later : Option (List ℕ)) (count : ℕ) (e : Event) (answer : List ℕ)
-    → Progress g old now text left count → TakesNextEvent left (Some e) later → Fits e → new.kept.schema ≡ now.kept.schema → Stepped g now new e answer
+    → Progress g old now text left count → TakesNextEvent left (Some e) later → Fits e → new.kept.form ≡ now.kept.form → FreeAt g old now e → Stepped g now new e answer
     → (g.told.heard → TellsLine (g.view now.outside).heard (g.view new.outside).heard (g.view now.outside).moment (g.view new.outside).moment answer)
     → Progress g old new text later (count + 1)
-goes_on g old now new text left later count e answer p takes fits schema stepped said =
+goes_on g old now new text left later count e answer p takes fits form free stepped said =
     let t : Turn = (e, stepped.0) in
     record {
       turns = p.turns ++ t ∷ [];
@@ -153,7 +223,7 @@ goes_on g old now new text left later count e answer p takes fits schema stepped
       read = λ whole told.
           let r = p.read whole told in
           subst (λ (es : List Event). ReadSoFar whole later es) (sym (events-last p.turns t)) (one_more_read whole left later (events_of p.turns) r e (takes r.begun.rest r.left_is));
-      applied = one_more_applied g old now new p.turns e answer p.applied fits schema stepped said;
+      applied = one_more_applied g old now new p.turns e answer p.applied fits form free stepped said;
     }
 
 none_after : (held rest : List ℕ) → [] ≡ held ++ rest → rest ≡ []
@@ -214,7 +284,7 @@ write_fault : {refused more : Type 0} (error : OpenWriteError) → (refused → 
 write_fault (write.IoError fault path) f h = (h.0, f h.1)
 write_fault other f h = absurd h
 
-read_fault : {refused quiet more all : Type 0} {bad worse : OpenReadError → Type 0} {absent gone : List ℕ → Type 0} (error : OpenReadError) → (refused → more) → (quiet → all) → ((error : OpenReadError) → bad error → worse error) → ((path : List ℕ) → absent path → gone path)
+pub read_fault : {refused quiet more all : Type 0} {bad worse : OpenReadError → Type 0} {absent gone : List ℕ → Type 0} (error : OpenReadError) → (refused → more) → (quiet → all) → ((error : OpenReadError) → bad error → worse error) → ((path : List ℕ) → absent path → gone path)
     → ReadFault refused quiet bad absent error → ReadFault more all worse gone error
 read_fault (read.IoError fault path) f q b a (inl h) = inl (h.0, f h.1)
 read_fault (read.IoError fault path) f q b a (inr h) = inr (h.0, q h.1, h.2, b _ h.3)
@@ -223,22 +293,21 @@ read_fault (read.IncompatibleIndex why) f q b a h = (q h.0, b _ h.1)
 read_fault other f q b a h = absurd h
 
 -- a run that failed for this cause
-pub fails : {A O W C : Type 0} {g : Ghosts O W C} {old new : StoreState O} {script script_now : SourceView} {error : TantivyError} → StopsRun g old new script script_now error → RunFaults {A = A} g old new script script_now (Err error)
+pub fails : {A O W C : Type 0} {g : Ghosts O W C} {old new : StoreState O} {script script_now : SourceView} {error : TantivyError} → FailsRun g old new script script_now error → RunFaults {A = A} g old new script script_now (Err error)
 fails cause = record { quiet = tt; cause = cause }
 
 module _ (c : Causes) where
   -- an event's
-  pub event_cause : {busy refused quiet spent : Type 0} {bad : OpenReadError → Type 0} {absent : List ℕ → Type 0} (error : TantivyError) → ApplyCause busy refused quiet spent bad absent error → (busy → c.busy) → (refused → c.refused) → (quiet → c.quiet) → (spent → ⊥)
-      → ((error : OpenReadError) → bad error → c.bad error) → ((path : List ℕ) → absent path → c.absent path) → RunCause c error
-  event_cause (errors.IoError fault) h y f q never b a = (h.0, f h.1)
-  event_cause (errors.OpenWriteError error) h y f q never b a = write_fault error f h
-  event_cause (errors.OpenReadError error) h y f q never b a = read_fault error f q b a h
-  event_cause (errors.LockFailure lock.LockBusy text) h y f q never b a = (y h.0, h.1)
-  event_cause (errors.LockFailure (lock.IoError fault) text) h y f q never b a = ((h.0.0, f h.0.1), h.1)
-  event_cause (errors.LockFailure lock.Memory text) h y f q never b a = absurd h.0
-  event_cause errors.Exhausted h y f q never b a = absurd (never h.1)
-  event_cause errors.Memory h y f q never b a = q h
-  event_cause other h y f q never b a = absurd h
+  pub event_cause : {busy refused quiet spent : Type 0} (bad : OpenReadError → Type 0) (absent : List ℕ → Type 0) (error : TantivyError) → ApplyCause busy refused quiet spent bad absent error → (busy → c.busy) → (refused → c.refused) → (quiet → c.quiet) → (spent → ⊥) → RunCause c error
+  event_cause bad absent (errors.IoError fault) h y f q never = (h.0, f h.1)
+  event_cause bad absent (errors.OpenWriteError error) h y f q never = write_fault error f h
+  event_cause bad absent (errors.OpenReadError error) h y f q never = read_fault {bad = bad} {worse = λ e. Unit {0}} {absent = absent} {gone = λ path. Unit {0}} error f q (λ e b. tt) (λ path a. tt) h
+  event_cause bad absent (errors.LockFailure lock.LockBusy text) h y f q never = (y h.0, h.1)
+  event_cause bad absent (errors.LockFailure (lock.IoError fault) text) h y f q never = ((h.0.0, f h.0.1), h.1)
+  event_cause bad absent (errors.LockFailure lock.Memory text) h y f q never = absurd h.0
+  event_cause bad absent errors.Exhausted h y f q never = absurd (never h.1)
+  event_cause bad absent errors.Memory h y f q never = q h
+  event_cause bad absent other h y f q never = absurd h
 
   -- a refusal's
   refusal_cause : (text : List ℕ) (error : TantivyError) → IsRefusal text error → c.quiet → c.refusal text → RunCause c error
@@ -262,19 +331,19 @@ module _ (c : Causes) where
   end_cause other h f q k = absurd h
 
 -- a run's, as a replay's
-pub run_cause : {O W C : Type 0} (g : Ghosts O W C) (old new : StoreState O) (script script_now : SourceView) (tells : Type 0) (schema : List ℕ) (reads : Reads) (busy more all : Type 0) (error : TantivyError) → StopsRun g old new script script_now error
+pub run_cause : {O W C : Type 0} (g : Ghosts O W C) (old new : StoreState O) (script script_now : SourceView) (tells : Type 0) (schema : List ℕ) (reads : Reads) (busy more all : Type 0) (error : TantivyError) → FailsRun g old new script script_now error
     → is_schema schema ≡ true → (tells → HasNoIndex reads) → ((run_causes g old new script script_now).busy → busy) → ((run_causes g old new script script_now).refused → more) → ((run_causes g old new script script_now).quiet → all)
-    → ((error : OpenReadError) → (run_causes g old new script script_now).bad error → IsBadFile tells schema reads script.left error) → ((path : List ℕ) → (run_causes g old new script script_now).absent path → NeverOpens tells schema reads) → ReplayCause tells schema reads script.left busy more all error
-run_cause g old new script script_now tells schema reads busy more all (errors.InvalidArgument t) h is none y f q b a = (q h.0, inr (is, none, h.1))
-run_cause g old new script script_now tells schema reads busy more all (errors.IoError fault) h is none y f q b a = (is, h.0, f h.1)
-run_cause g old new script script_now tells schema reads busy more all (errors.OpenWriteError error) h is none y f q b a = (is, none, write_fault error f h)
-run_cause g old new script script_now tells schema reads busy more all (errors.OpenReadError error) h is none y f q b a = (is, none, read_fault error f q b a h)
-run_cause g old new script script_now tells schema reads busy more all (errors.LockFailure lock.LockBusy t) h is none y f q b a = (is, y h.0, h.1)
-run_cause g old new script script_now tells schema reads busy more all (errors.LockFailure (lock.IoError fault) t) h is none y f q b a = (is, (h.0.0, f h.0.1), h.1)
-run_cause g old new script script_now tells schema reads busy more all (errors.LockFailure lock.Memory t) h is none y f q b a = absurd h.0
-run_cause g old new script script_now tells schema reads busy more all errors.Exhausted h is none y f q b a = (q h.0, is, none, h.1)
-run_cause g old new script script_now tells schema reads busy more all errors.Memory h is none y f q b a = q h
-run_cause g old new script script_now tells schema reads busy more all other h is none y f q b a = absurd h
+    → ReplayCause tells schema reads script.left busy more all error
+run_cause g old new script script_now tells schema reads busy more all (errors.InvalidArgument t) h is none y f q = (q h.0, inr (is, none, h.1))
+run_cause g old new script script_now tells schema reads busy more all (errors.IoError fault) h is none y f q = (is, h.0, f h.1)
+run_cause g old new script script_now tells schema reads busy more all (errors.OpenWriteError error) h is none y f q = (is, none, write_fault error f h)
+run_cause g old new script script_now tells schema reads busy more all (errors.OpenReadError error) h is none y f q = (is, none, read_fault {bad = λ e. Unit {0}} {absent = λ path. Unit {0}} error f q (λ e b. b) (λ path a. a) h)
+run_cause g old new script script_now tells schema reads busy more all (errors.LockFailure lock.LockBusy t) h is none y f q = (is, none, y h.0, h.1)
+run_cause g old new script script_now tells schema reads busy more all (errors.LockFailure (lock.IoError fault) t) h is none y f q = (is, none, (h.0.0, f h.0.1), h.1)
+run_cause g old new script script_now tells schema reads busy more all (errors.LockFailure lock.Memory t) h is none y f q = absurd h.0
+run_cause g old new script script_now tells schema reads busy more all errors.Exhausted h is none y f q = (q h.0, is, none, h.1)
+run_cause g old new script script_now tells schema reads busy more all errors.Memory h is none y f q = q h
+run_cause g old new script script_now tells schema reads busy more all other h is none y f q = absurd h
 
 -- a count that rose from a later place rose from an earlier one, where it was the same
 pub rose_from : (old now new : ℕ) → now ≡ old → Rose now new → Rose old new
@@ -290,11 +359,11 @@ file_reads : (file : Option FileState) (read written : Option (List ℕ)) → Fi
 file_reads (Some Left) read written h = h.0
 file_reads other read written h = h.0
 
-directory_holds : (schema : List ℕ) (reads : Reads) (kept : Kept) (s : State) → kept.schema ≡ schema → Holds reads kept s → DirectoryHolds default_settings schema reads s
-directory_holds schema reads kept s is h = record {
+directory_holds : (form : IndexForm) (reads : Reads) (kept : Kept) (s : State) → kept.form ≡ form → Holds reads kept s → DirectoryHolds form.settings form.schema reads s
+directory_holds form reads kept s is h = record {
   names = h.names;
   files = λ n file. file_reads (file_at s n) (reads n) _ (h.files n file);
-  meta = (h.meta.0, h.meta.1, subst (λ (x : List ℕ). Means default_settings x h.meta.0 s.catalog.commit) is h.meta.2);
+  meta = (h.meta.0, h.meta.1, subst (λ (f : IndexForm). Means f.settings f.schema h.meta.0 s.catalog.commit) is h.meta.2);
   listing = h.listing;
 }
 
@@ -310,7 +379,7 @@ unlisted : (names : List (List ℕ)) (n : List ℕ) → names ≡ [] → has nam
 unlisted names n none h = true≢false (sym h ∙ ap (λ (ns : List (List ℕ)). has ns n) none)
 
 -- a sound directory without index opens to the first state
-pub opens_first : (schema : List ℕ) (reads : Reads) → HasNoIndex reads → IsSound schema reads → OpensTo default_settings schema reads first_state
+pub opens_first : (schema : List ℕ) (reads : Reads) → HasNoIndex reads → IsSoundImage schema reads → OpensTo default_settings schema reads first_state
 opens_first schema reads none sound = record {
   listed = [];
   listing = subst (λ (r : Option (List ℕ)). Lists r []) (sym none.listing) refl;
@@ -324,24 +393,29 @@ opens_first schema reads none sound = record {
       unread (reads n) (λ some. unlisted sound.names n no (sound.listed n file.0 some));
 }
 
+abbrev pub first_index : (schema : List ℕ) (reads : Reads) → is_schema schema ≡ true → HasNoIndex reads → IsSoundImage schema reads → OpenedIndex schema reads
+first_index schema reads accepted none sound = record { form = new_form schema; state = first_state; spelled = (accepted, refl); opens = opens_first schema reads none sound }
+
 -- ---- the whole replay
 
 -- an index that is made in a directory without one has no segments, so its commit requires no files
 no_files : (segments : List (List ℕ × LiveSegment)) (n : List ℕ) → segments ≡ [] → has (all_required segments) n ≡ true → ⊥
 no_files segments n none h = true≢false (sym h ∙ ap (λ (es : List (List ℕ × LiveSegment)). has (all_required es) n) none)
 
-pub opens_whole : (schema : List ℕ) (reads : Reads) (s : State) → HasNoIndex reads → OpensTo default_settings schema reads s → IsWhole s
-opens_whole schema reads s none o =
-    let opened : OpensWith default_settings schema None o.listed s = subst (λ (r : Option (List ℕ)). OpensWith default_settings schema r o.listed s) none.meta o.opened in
-    record { each = λ n h. absurd (no_files s.catalog.commit.segments n (ap (λ (c : Commit). c.segments) opened.1) h) }
+pub opens_whole : (schema : List ℕ) (reads : Reads) (index : OpenedIndex schema reads) → HasNoIndex reads → IsWhole index.state
+opens_whole schema reads index none =
+    let o = index.opens in
+    let opened : OpensWith index.form.settings index.form.schema None o.listed index.state = subst (λ (r : Option (List ℕ)). OpensWith index.form.settings index.form.schema r o.listed index.state) none.meta o.opened in
+    record { each = λ n h. absurd (no_files index.state.catalog.commit.segments n (ap (λ (c : Commit). c.segments) opened.1) h) }
 
 -- an index that opens where none stood lists `meta.json` alone
-opens_sorted : (schema : List ℕ) (reads : Reads) (s : State) → HasNoIndex reads → OpensTo default_settings schema reads s → IsStrictlySortedBy byte_cmp s.managed
+opens_sorted : (schema : List ℕ) (reads : Reads) (index : OpenedIndex schema reads) → HasNoIndex reads → IsStrictlySortedBy byte_cmp index.state.managed
 unfolding IsStrictlySortedBy
-opens_sorted schema reads s none o =
-    let opened : OpensWith default_settings schema None o.listed s = subst (λ (r : Option (List ℕ)). OpensWith default_settings schema r o.listed s) none.meta o.opened in
+opens_sorted schema reads index none =
+    let o = index.opens in
+    let opened : OpensWith index.form.settings index.form.schema None o.listed index.state = subst (λ (r : Option (List ℕ)). OpensWith index.form.settings index.form.schema r o.listed index.state) none.meta o.opened in
     let listed : Lists None o.listed = subst (λ (r : Option (List ℕ)). Lists r o.listed) none.listing o.listing in
-    let managed : s.managed ≡ meta_name ∷ [] = opened.2 ∙ ap (λ (ns : List (List ℕ)). insert_key byte_cmp ns meta_name) listed in
+    let managed : index.state.managed ≡ meta_name ∷ [] = opened.2 ∙ ap (λ (ns : List (List ℕ)). insert_key byte_cmp ns meta_name) listed in
     subst (IsStrictlySortedBy byte_cmp) (sym managed) (tt, tt)
 
 pub replays : {O W C : Type 0} (g : Ghosts O W C) (before : O) (schema : List ℕ) (mid new : StoreState O) (now : O) (text left : Option (List ℕ)) (tally : Tally)
@@ -349,87 +423,48 @@ pub replays : {O W C : Type 0} (g : Ghosts O W C) (before : O) (schema : List �
     → (g.told.heard → TellsLine (g.view before).heard (g.view mid.outside).heard (g.view before).moment (g.view mid.outside).moment (opening_of mid.kept.catalog.commit))
     → (g.view mid.outside).refusals ≡ (g.view before).refusals
     → (g.told.content → (s : State) → Holds (g.view new.outside).reads new.kept s → Holds (g.view now).reads new.kept s)
-    → (g.view now).heard ≡ (g.view new.outside).heard → (g.view now).refusals ≡ (g.view new.outside).refusals
+    → (g.view now).heard ≡ (g.view new.outside).heard → (g.view new.outside).moment ≤ (g.view now).moment → (g.view now).refusals ≡ (g.view new.outside).refusals
+    → (g.told.locks → (g.view before).locks meta_lock_name ≡ true → (g.view mid.outside).locks meta_lock_name ≡ true)
     → Runs g mid new text left tally → Replays g before now schema text tally
-replays g before schema mid new now text left tally opened said refusals holds heard refusals_now r =
+replays g before schema mid new now text left tally opened said refusals holds heard later refusals_now locked r =
     let old_reads = (g.view before).reads in
-    let whole : g.told.content → (s : State) → OpensTo default_settings schema old_reads s → IsWhole s = λ t s o. opens_whole schema old_reads s (opened.none t) o in
-    let stands : g.told.content → (s : State) → OpensTo default_settings schema old_reads s → DirectoryHolds default_settings schema (g.view now).reads (after s r.turns) =
-    λ t s o. directory_holds schema (g.view now).reads new.kept (after s r.turns) (r.applied.schema ∙ opened.schema_is) (holds t (after s r.turns) (r.applied.holds t s (opened.holds t s o) (whole t s o))) in
+    let whole : g.told.content → (index : OpenedIndex schema old_reads) → IsWhole index.state = λ t index. opens_whole schema old_reads index (opened.none t) in
+    let stands : g.told.content → (index : OpenedIndex schema old_reads) → DirectoryHolds index.form.settings index.form.schema (g.view now).reads (after index.state r.turns) =
+    λ t index.
+    let h = opened.holds t index in
+    directory_holds index.form (g.view now).reads new.kept (after index.state r.turns) (r.applied.form ∙ h.0) (holds t (after index.state r.turns) (r.applied.holds t index.state h.1 (whole t index))) in
     record {
       turns = r.turns;
       counted = r.counted;
-      schema_is = opened.accepted;
+      accepted = opened.spelled.0;
       lines = λ whole told. (r.lines whole told).0;
       none = opened.none;
-      told = λ t th s o.
-          let h = opened.holds t s o in
-          let first : TellsLine (g.view before).heard (g.view mid.outside).heard (g.view before).moment (g.view mid.outside).moment (opening_of s.catalog.commit) =
+      told = λ t th index.
+          let h = (opened.holds t index).1 in
+          let first : TellsLine (g.view before).heard (g.view mid.outside).heard (g.view before).moment (g.view mid.outside).moment (opening_of index.state.catalog.commit) =
           subst (λ c. TellsLine (g.view before).heard (g.view mid.outside).heard (g.view before).moment (g.view mid.outside).moment (opening_of c)) (ap (λ (catalog : Catalog). catalog.commit) h.catalog) (said th) in
-          subst (λ (later : Heard). TellsLines (g.view before).heard later (report s r.turns)) (sym heard)
-          (tells_first (g.view before).heard (g.view mid.outside).heard (g.view new.outside).heard (g.view before).moment (g.view mid.outside).moment (opening_of s.catalog.commit) (answers s r.turns) first (r.applied.told t th s h (whole t s o)));
+          subst (λ (x : Heard). TellsLines (g.view before).heard x (g.view before).moment (g.view now).moment (report index.state r.turns)) (sym heard)
+          (tells_by (g.view now).moment later
+          (tells_first (g.view before).heard (g.view mid.outside).heard (g.view new.outside).heard (g.view before).moment (g.view mid.outside).moment (g.view new.outside).moment (opening_of index.state.catalog.commit) (answers index.state r.turns) first (r.applied.told t th index.state h (whole t index))));
       holds = stands;
-      readable = λ t s o. r.applied.readable t s (opened.holds t s o) (whole t s o);
-      serves = λ t s o. serves s r.turns o.reading o.next;
-      collects = λ t s o. collects_in s r.turns (opens_sorted schema old_reads s (opened.none t) o);
+      readable = λ t index. r.applied.readable t index.state (opened.holds t index).1 (whole t index);
+      unlocked = λ t locks held index. r.applied.unlocked t locks (locked locks held) index.state (opened.holds t index).1 (whole t index);
+      serves = λ t index. serves index.state r.turns index.opens.reading index.opens.next;
+      collects = λ t index. collects_in index.state r.turns (opens_sorted schema old_reads index (opened.none t));
       refused =
           subst (λ (n : ℕ). RoseBy (all_refused r.turns) n (g.view now).refusals) refusals
           (subst (λ (n : ℕ). RoseBy (all_refused r.turns) (g.view mid.outside).refusals n) (sym refusals_now) r.applied.refused);
-      first = λ t sound. opens_first schema old_reads (opened.none t) sound;
-      as_sealed = λ t sound. serves_as_sealed first_state r.turns first_sound r.applied.fits;
+      opens = λ t sound. first_index schema old_reads opened.spelled.0 (opened.none t) sound;
+      as_sealed = λ t sound index.
+          let as_text : IsSoundImage index.form.schema old_reads = subst (λ (x : List ℕ). IsSoundImage x old_reads) (sym index.spelled.1) sound in
+          serves_as_sealed index.state r.turns (opens_sound index.form.settings index.form.schema old_reads index.state as_text index.opens) r.applied.fits;
       sound = λ t sound.
-          holds_sound default_settings schema (g.view now).reads (after first_state r.turns) (stands t first_state (opens_first schema old_reads (opened.none t) sound))
+          let index = first_index schema old_reads opened.spelled.0 (opened.none t) sound in
+          holds_sound default_settings schema (g.view now).reads (after first_state r.turns) (stands t index)
           (turns_sound first_state r.turns r.applied.fits first_sound);
     }
 
-since_start : (s : State) (turns : List Turn) (path bytes : List ℕ) → HasNoBody bytes → (file_at s path ≡ Some (Sealed bytes)) ⊎ IsGood bytes → file_at s path ≡ Some (Sealed bytes)
-since_start s turns path bytes none (inl e) = e
-since_start s turns path bytes none (inr good) = absurd (none good.body good.has_body)
-
-sealed_reads : (read : Option (List ℕ)) (bytes : List ℕ) → option_map Sealed read ≡ Some (Sealed bytes) → read ≡ Some bytes
-sealed_reads None bytes e = absurd cc
-sealed_reads (Some other) bytes e = cc
-
--- an event met the file after these turns, which stood so at the start of the run
-pub bad_since : (tells : Type 0) (old_reads now_reads : Reads) (old_kept now_kept : Kept) (text left later : Option (List ℕ)) (turns : List Turn) (event : Event)
-    → HasRead text left turns → TakesNextEvent left (Some event) later
-    → (tells → (s : State) → Holds old_reads old_kept s → IsWhole s → Holds now_reads now_kept (after s turns))
-    → (tells → (s : State) → Holds old_reads old_kept s → IsWhole s → AllReadGood s turns)
-    → (error : OpenReadError) → BadIn tells now_reads now_kept event error → BadSince tells old_reads old_kept text error
-bad_since tells old_reads now_reads old_kept now_kept text left later turns event read takes holds readable error bad t s h w =
-    let b = bad t (after s turns) (holds t s h w) (after_whole s turns w) in
-    let path = b.1.path in
-    let sealed : file_at s path ≡ Some (Sealed b.1.bytes) = since_start s turns path b.1.bytes b.1.no_body (sealed_since s turns path b.1.bytes b.1.sealed) in
-    let named : IsFileOf path = h.names path (ap is_some sealed) in
-    record {
-      turns = turns;
-      readable = readable t s h w;
-      event = event;
-      lines = begins_next text left later turns event read takes;
-      reading = b.0;
-      path = path;
-      required = b.1.required;
-      bytes = b.1.bytes;
-      sealed = sealed;
-      undotted = named.0;
-      why = b.1.why;
-      no_body = b.1.no_body;
-    }
-
-pub none_since : (tells : Type 0) (old_reads now_reads : Reads) (old_kept now_kept : Kept) (turns : List Turn)
-    → (tells → (s : State) → Holds old_reads old_kept s → IsWhole s → Holds now_reads now_kept (after s turns))
-    → HoldsNone tells now_reads now_kept → HoldsNone tells old_reads old_kept
-none_since tells old_reads now_reads old_kept now_kept turns holds none t s h w = none t (after s turns) (holds t s h w) (after_whole s turns w)
-
--- so it was a file of the directory when it was opened
-pub bad_at_start : (tells : Type 0) (schema : List ℕ) (old_reads mid_reads : Reads) (mid_kept : Kept) (text : Option (List ℕ)) → (tells → HasNoIndex old_reads)
-    → (tells → (s : State) → OpensTo default_settings schema old_reads s → Holds mid_reads mid_kept s)
-    → (error : OpenReadError) → BadSince tells mid_reads mid_kept text error → IsBadFile tells schema old_reads text error
-bad_at_start tells schema old_reads mid_reads mid_kept text none opened error bad t s o =
-    let b = bad t s (opened t s o) (opens_whole schema old_reads s (none t) o) in
-    record { file = b; stood = sealed_reads (old_reads b.path) b.bytes (sym (o.files b.path (o.names b.path (ap is_some b.sealed))) ∙ b.sealed) }
-
-pub never_at_start : (tells : Type 0) (schema : List ℕ) (old_reads mid_reads : Reads) (mid_kept : Kept) → (tells → HasNoIndex old_reads)
-    → (tells → (s : State) → OpensTo default_settings schema old_reads s → Holds mid_reads mid_kept s)
-    → HoldsNone tells mid_reads mid_kept → NeverOpens tells schema old_reads
-never_at_start tells schema old_reads mid_reads mid_kept none opened holds_none t s o = holds_none t s (opened t s o) (opens_whole schema old_reads s (none t) o)
+-- what follows from two things that are true of an error
+pub if_err_both : {A : Type 0} (result : Result A TantivyError) {P Q S : TantivyError → Type 0} → ((error : TantivyError) → P error → Q error → S error) → IfErr result P → IfErr result Q → IfErr result S
+if_err_both (Ok a) f p q = tt
+if_err_both (Err e) f p q = f e p q

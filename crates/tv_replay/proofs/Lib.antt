@@ -6,6 +6,7 @@ pub mod Progress
 pub mod Benches
 pub mod AppliedEvents
 pub mod Stopping
-pub mod Runs
 pub mod Complete
+pub mod Runs
 pub mod ReplayFrames
+pub mod ReadAhead

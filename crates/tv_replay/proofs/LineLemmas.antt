@@ -1,12 +1,12 @@
 -- The lines of a script that comes in pieces.
-use Rattle.std.proofs.Common.{◌≡◌, ℕ, suc, ◌≤◌, ◌<◌, ◌==◌, Bool, true, false, not, List, [], ◌∷◌, ◌++◌, length, Option, Some, None, refl, sym, ap, ◌∙◌, arith, append_assoc}
+use Rattle.std.proofs.Common.{◌≡◌, ℕ, suc, ◌+◌, ◌≤◌, ◌<◌, ◌==◌, Bool, true, false, not, List, [], ◌∷◌, ◌++◌, length, Option, Some, None, refl, sym, ap, ◌∙◌, arith, append_assoc, length-append}
 use Rattle.std.specs.List.{onto_first}
 use Rattle.std.proofs.lemmas.List.{append-nil}
 use Rattle.tv_base.specs.Streams.{Keeps}
 use Rattle.tv_model.specs.Lines.{has_no_feed}
 use Rattle.tv_model.specs.Script.{line_limit, lines_of}
 use Rattle.tv_replay.proofs.Numbers.{isnt, both}
-use Rattle.tv_replay.specs.ScriptLines.{NoFeed, pending, Moves, TakesLine, IsTooLong, BeginsLine}
+use Rattle.tv_replay.specs.ScriptLines.{NoFeed, pending, Moves, TakesLine, IsTooLong, BeginsLine, ReadsAhead}
 
 some_is : {A : Type 0} {x y : A} → ◌≡◌ {A = Option A} (Some x) (Some y) → x ≡ y
 some_is e = cc
@@ -99,6 +99,19 @@ pub takes_last : (script line : List ℕ) (left : Option (List ℕ)) (b : Begins
 takes_last script [] left b none shown is some = absurd (let e : false ≡ true = rw is at some in cc)
 takes_last script (x ∷ line) left b none shown is some =
     ([], b.1 ∙ ap (λ (xs : List ℕ). Some xs) none, ap lines_of (b.2 ∙ ap (λ (xs : List ℕ). (x ∷ line) ++ xs) none ∙ append-nil (x ∷ line)) ∙ lines_of-last x line b.3)
+
+-- what was read of a script is the line so far and what is held
+pub reads_ahead : (line held : List ℕ) (before mid left : Option (List ℕ)) → ((script : List ℕ) → before ≡ Some script → BeginsLine script line mid) → Keeps mid (pending held left) → length held + length line ≤ line_limit + 1 → ReadsAhead before left
+reads_ahead line held before mid left begins keeps most script told =
+    let b = begins script told in
+    let p = pending_some held b.0 left (keeps b.0 b.1) in
+    record {
+      over = line ++ held;
+      rest = p.0;
+      left_is = p.1;
+      script_is = b.2 ∙ ap (λ (xs : List ℕ). line ++ xs) p.2 ∙ sym (append_assoc line held p.0);
+      most = rw length-append (omega arith);
+    }
 
 -- the bytes that are left stay as they are
 abbrev pub still_begins : (script line : List ℕ) (before after : Option (List ℕ)) → BeginsLine script line before → Keeps before after → BeginsLine script line after

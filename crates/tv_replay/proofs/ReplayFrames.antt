@@ -31,6 +31,7 @@ may_note other old new h = inl h
 
 pub frame_then : {W : Type 0} {told : Told} {first next last : View W} → ReplayFrame told first next → ReplayFrame told next last → ReplayFrame told first last
 frame_then before after = record {
+  dotted = λ tells n dot other. after.dotted tells n dot other ∙ before.dotted tells n dot other;
   goes_on = goes_then before.goes_on after.goes_on;
   locks = λ tells n. after.locks tells n ∙ before.locks tells n;
   watched = notes_then before.watched after.watched;
@@ -38,6 +39,7 @@ frame_then before after = record {
 
 pub no_time : {W : Type 0} (told : Told) (view : View W) → ReplayFrame told view view
 no_time told view = record {
+  dotted = λ tells n dot other. refl;
   goes_on = record { writers = λ w h. h; ended = λ tells w o h. h; clock = omega arith };
   locks = λ tells n. refl;
   watched = inl refl;

@@ -26,11 +26,17 @@ use Rattle.tv_base.specs.declared.open_errors.OpenDirectoryError.{OpenDirectoryE
 use Rattle.tv_base.specs.declared.open_errors.OpenDirectoryError.TheVariants as directory
 use Rattle.tv_base.specs.declared.error.TantivyError.{TantivyError}
 use Rattle.tv_base.specs.declared.error.TantivyError.TheVariants as errors
-use Rattle.tv_replay.specs.ErrorLines.{argument_line, fault_line, format_line, lock_line, read_line, error_line}
+use Rattle.tv_base.specs.declared.open_errors.OpenWriteError.{OpenWriteError}
+use Rattle.tv_base.specs.declared.open_errors.OpenWriteError.TheVariants as write
+use Rattle.tv_store.specs.StoreCauses.{WriteFault}
+use Rattle.tv_replay.specs.ErrorLines.{argument_line, io_line, fault_line, format_line, lock_line, read_line, write_line, error_line}
 use Rattle.tv_store.specs.ReadCauses.{ReadFault}
-use Rattle.tv_replay.specs.PlaceView.{PlaceTold, PlaceView, KeepsTexts, KeepsFolders, PlaceKept, LendCause, Says, SayFaults}
-use Rattle.tv_replay.specs.Replays.{ReplayCause, LineRefusal, IsBadFile, NeverOpens}
-use Rattle.tv_replay.specs.Runs.{schema_line, folder_line, replay_words, SaysLine, OnlySays, SaysError, PlaceRefuses, AskedReplay, Reports, ReportsError, Stops, EndsReplay}
+use Rattle.tv_replay.specs.PlaceView.{PlaceTold, PlaceView, KeepsTexts, KeepsFolders, PlaceKept, LendCause, Says, SayFaults, SaysPart}
+use Rattle.tv_replay.specs.Replays.{ReplayCause, LineRefusal, IsLockBusy, IsRefusedAt, IsQuietAt}
+use Rattle.tv_replay.specs.Completeness.{IsReady}
+use Rattle.tv_replay.proofs.Complete.{only_memory}
+use Rattle.tv_replay.proofs.Stopping.{none_met}
+use Rattle.tv_replay.specs.Runs.{schema_line, folder_line, replay_words, SaysLine, OnlySays, SaysError, PlaceRefuses, AskedReplay, Scene, Reports, ReportsError, Stops, EndsReplay, IsUndisturbedRun}
 use Rattle.tv_store.specs.StoreCauses.{OpeningRefusal}
 
 -- a digit is no line feed
@@ -87,16 +93,27 @@ read_no_feed refused quiet bad absent (read.FileDoesNotExist path) h = no_feed_a
 read_no_feed refused quiet bad absent (read.IncompatibleIndex why) h = format_no_feed why
 read_no_feed refused quiet bad absent other h = absurd h
 
+io_no_feed : (kind : IoKind) → has_no_feed (io_line kind) ≡ true
+io_no_feed Device = refl
+io_no_feed other = refl
+
 lock_no_feed : (why : LockError) → has_no_feed (lock_line why) ≡ true
-lock_no_feed lock.LockBusy = refl
+lock_no_feed (lock.IoError fault) = io_no_feed fault.kind
 lock_no_feed other = refl
+
+write_no_feed : (refused : Type 0) (error : OpenWriteError) → WriteFault refused error → has_no_feed (write_line error) ≡ true
+write_no_feed refused (write.IoError fault path) h = io_no_feed fault.kind
+write_no_feed refused other h = absurd h
 
 -- no line feed stands in the line of an error that a replay answers
 pub error_no_feed : (tells : Type 0) (schema : List ℕ) (reads : Reads) (script : _) (busy refused quiet : Type 0) (error : TantivyError) → ReplayCause tells schema reads script busy refused quiet error → has_no_feed (error_line error) ≡ true
 error_no_feed tells schema reads script busy refused quiet (errors.InvalidArgument text) (_, inl opening) = argument_no_feed (string_bytes text) (opening_no_feed tells schema reads (string_bytes text) opening)
 error_no_feed tells schema reads script busy refused quiet (errors.InvalidArgument text) (_, inr (_, _, line)) = argument_no_feed (string_bytes text) (line_no_feed script (string_bytes text) line)
-error_no_feed tells schema reads script busy refused quiet (errors.OpenReadError error) (_, _, fault) = read_no_feed refused quiet (IsBadFile tells schema reads script) (λ path. NeverOpens tells schema reads) error fault
+error_no_feed tells schema reads script busy refused quiet (errors.OpenReadError error) (_, _, fault) = read_no_feed refused quiet (λ e. Unit {0}) (λ path. Unit {0}) error fault
 error_no_feed tells schema reads script busy refused quiet (errors.LockFailure why text) h = lock_no_feed why
+error_no_feed tells schema reads script busy refused quiet (errors.IoError fault) h = io_no_feed fault.kind
+error_no_feed tells schema reads script busy refused quiet (errors.OpenWriteError error) (_, _, fault) = write_no_feed refused error fault
+error_no_feed tells schema reads script busy refused quiet (errors.DataCorruption why) h = absurd h
 error_no_feed tells schema reads script busy refused quiet other h = refl
 
 -- why a schema wasn't had: a device refused it, or memory was wanted
@@ -113,9 +130,9 @@ lend_cause refused quiet (directory.IoError fault path) (_, h) = inl h
 lend_cause refused quiet directory.Memory h = inr (h, refl)
 
 -- what is said of them
-pub schema_line_is : (error : IoError) → (of_io error ≡ errors.Memory → ⊥) → error_line (of_io error) ≡ schema_line
-schema_line_is (io.Fault fault) other = refl
-schema_line_is io.Memory other = absurd (other refl)
+pub schema_line_is : (refused quiet : Type 0) (error : IoError) → IoCause refused quiet error → (of_io error ≡ errors.Memory → ⊥) → error_line (of_io error) ≡ schema_line
+schema_line_is refused quiet (io.Fault fault) (device, _) other = ap io_line device
+schema_line_is refused quiet io.Memory h other = absurd (other refl)
 
 pub folder_line_is : (error : OpenDirectoryError) → (of_open_directory error ≡ errors.Memory → ⊥) → error_line (of_open_directory error) ≡ folder_line
 folder_line_is directory.Memory other = absurd (other refl)
@@ -133,7 +150,7 @@ only_says r says faults frame = record { says = says_line r says faults; counted
 pub says_this : {O : Type 0} {told : PlaceTold} {old new : PlaceView O} {line whole : List ℕ} → line ≡ whole → OnlySays told old new line → OnlySays told old new whole
 says_this {told = told} {old = old} {new = new} is only = subst (λ (l : List ℕ). OnlySays told old new l) is only
 
-texts_then : {O : Type 0} {told : PlaceTold} {first next last : PlaceView O} → KeepsTexts told first next → KeepsTexts told next last → KeepsTexts told first last
+pub texts_then : {O : Type 0} {told : PlaceTold} {first next last : PlaceView O} → KeepsTexts told first next → KeepsTexts told next last → KeepsTexts told first last
 texts_then before after = record {
   schemas = λ tells path. after.schemas tells path ∙ before.schemas tells path;
   scripts = λ tells path. after.scripts tells path ∙ before.scripts tells path;
@@ -174,16 +191,27 @@ pub why_since : {memory : Type 0} {faults start count : ℕ} → start ≡ fault
 why_since {count = count} same (inl rose) = inl (subst (λ (n : ℕ). Rose n count) same rose)
 why_since same (inr (quiet, m)) = inr (quiet ∙ same, m)
 
+-- the place refused a call, and then a line was said
+refused_by : {O : Type 0} {told : PlaceTold} {old mid new : PlaceView O} {line : List ℕ} → PlaceKept told old mid → Rose old.faults mid.faults → OnlySays told mid new line → PlaceRefuses told old new line
+refused_by {told = told} {old = old} {mid = mid} {new = new} {line = line} kept rose only = record {
+  refused = only.counted old.faults rose;
+  says = λ tells. subst (λ (said : List ℕ). (new.said ≡ said ++ line ++ 10 ∷ []) ⊎ SaysPart said new.said line) kept.said (either only.says tells);
+  frame = folders_then kept.folders only.frame;
+} where
+  either : SaysLine told mid new line → told.said → (new.said ≡ mid.said ++ line ++ 10 ∷ []) ⊎ SaysPart mid.said new.said line
+  either (inl whole) tells = inl (whole.1 tells)
+  either (inr part) tells = inr (part.1 tells)
+
 -- the place refused a schema or a folder, and then the line of that was said
 pub refuses : {O : Type 0} {told : PlaceTold} {old mid new : PlaceView O} {line whole : List ℕ} (memory : Type 0) → PlaceKept told old mid
     → Rose old.faults mid.faults ⊎ ((mid.faults ≡ old.faults) × memory) → (memory → ⊥) → line ≡ whole → OnlySays told mid new line → PlaceRefuses told old new whole
-refuses {mid = mid} memory kept (inl rose) other is only = record { count = mid.faults; refused = rose; only = says_since kept (says_this is only) }
+refuses memory kept (inl rose) other is only = refused_by kept rose (says_this is only)
 refuses memory kept (inr (_, m)) other is only = absurd (other m)
 
 -- memory was wanted for a schema or a folder, or for the line of its refusal
 pub wants : {O X : Type 0} {told : PlaceTold} {old mid new : PlaceView O} {line : List ℕ} (memory : Type 0) → PlaceKept told old mid
     → Rose old.faults mid.faults ⊎ ((mid.faults ≡ old.faults) × memory) → OnlySays told mid new line → OnlySays told old new line ⊎ (PlaceRefuses told old new line ⊎ X)
-wants {mid = mid} memory kept (inl rose) only = inr (inl (record { count = mid.faults; refused = rose; only = says_since kept only }))
+wants memory kept (inl rose) only = inr (inl (refused_by kept rose only))
 wants memory kept (inr (quiet, _)) only = inl (says_quietly kept quiet only)
 
 not_done : (n : ℕ) → (n ≡ 1) ⊎ (n ≡ 3) → n ≡ 0 → ⊥
@@ -204,10 +232,12 @@ not_begun asked {error = error} kept why line_is says refused = record {
 
 -- a report, told of from an earlier moment at which nothing more had been said and refused
 pub reports_since : {O W C : Type 0} {g : Ghosts O W C} {told : PlaceTold} {stopped : O} {folder : List ℕ} (old : PlaceView O) {mid new : PlaceView O} {line : List ℕ}
-    → mid.faults ≡ old.faults → mid.said ≡ old.said → mid.lent ≡ Some folder → Reports g told stopped mid new line → Reports g told stopped (record old { lent = Some folder }) new line
-reports_since {told = told} old {mid = mid} {new = new} {line = line} same silent lent r = record {
+    → KeepsTexts told old mid → mid.faults ≡ old.faults → mid.said ≡ old.said → mid.lent ≡ Some folder → Reports g told stopped mid new line → Reports g told stopped (record old { lent = Some folder }) new line
+reports_since {told = told} old {mid = mid} {new = new} {line = line} texts same silent lent r = record {
   now = r.now;
   given_back = λ tells f is. r.given_back tells f (lent ∙ is);
+  texts = texts_then (record { schemas = texts.schemas; scripts = texts.scripts }) r.texts;
+  faults = r.faults;
   frame = r.frame;
   reported = elim r.reported [
     | inl (heard, nothing) ↦ inl (heard, record { said = nothing.said ∙ silent; quiet = nothing.quiet ∙ same })
@@ -244,3 +274,61 @@ pub not_two : (n : ℕ) → (n ≡ 0) ⊎ (n ≡ 1) ⊎ (n ≡ 3) → n ≡ 2 �
 not_two n (inl none) two = omega arith
 not_two n (inr (inl one)) two = omega arith
 not_two n (inr (inr three)) two = omega arith
+
+-- ---- a run that nothing disturbs
+
+-- the directory that was given back counts as many refused calls as before
+none_refused : (before stopped now : ℕ) → (now ≡ stopped) ⊎ Rose stopped now → now ≡ before → now < 18446744073709551615 → Rose before stopped → ⊥
+none_refused before stopped now (inl same) still below (inl rose) = omega (arith, same, still, rose)
+none_refused before stopped now (inl same) still below (inr end) = omega (arith, same, end, below)
+none_refused before stopped now (inr (inl more)) still below (inl rose) = omega (arith, more, still, rose)
+none_refused before stopped now (inr (inl more)) still below (inr end) = omega (arith, more, end, below)
+none_refused before stopped now (inr (inr end)) still below rose = omega (arith, end, below)
+
+some_one : {A : Type 0} {x y : A} {o : Option A} → o ≡ Some x → o ≡ Some y → x ≡ y
+some_one {x = x} {y = y} e f = let both : ◌≡◌ {A = Option _} (Some x) (Some y) = sym e ∙ f in cc
+
+module _ {O W C : Type 0} (g : Ghosts O W C) (told : PlaceTold) (words : List (List ℕ)) (old new : Scene O) (u : IsUndisturbedRun g told words old new) where
+  abbrev asked : AskedReplay O
+  asked = record { folder = u.folder; path = u.path; old = old; new = new }
+
+  -- no call was refused
+  none_amiss : (before stopped now : ℕ) → (now ≡ stopped) ⊎ Rose stopped now → now ≡ before → now < 18446744073709551615 → Rose before stopped ⊎ Rose old.script.faults new.script.faults → ⊥
+  none_amiss before stopped now later still below (inl rose) = none_refused before stopped now later still below rose
+  none_amiss before stopped now later still below (inr rose) = u.script_still rose
+
+  -- the replay didn't stop for another reason than want of memory
+  no_stop : (error : TantivyError) (line : List ℕ) → error ≢ errors.Memory → Stops g told asked error line → ⊥
+  no_stop error line other stop =
+      let is_before : u.before ≡ stop.before = some_one u.lent (stop.lent u.place) in
+      let is_schema : u.schema ≡ stop.schema = some_one u.schema_is (stop.schema_is u.place) in
+      let is_now : u.now ≡ stop.reports.now = some_one u.given_back (stop.reports.given_back u.place u.folder refl) in
+      let ready : IsReady stop.schema old.script.left (g.view stop.before).reads (g.view stop.before).locks =
+      subst (λ (schema : List ℕ). IsReady schema old.script.left (g.view stop.before).reads (g.view stop.before).locks) is_schema
+      (subst (λ (d : O). IsReady u.schema old.script.left (g.view d).reads (g.view d).locks) is_before u.ready) in
+      let still : (g.view stop.reports.now).faults ≡ (g.view stop.before).faults = ap (λ (d : O). (g.view d).faults) (sym is_now) ∙ u.still ∙ ap (λ (d : O). (g.view d).faults) is_before in
+      let below : (g.view stop.reports.now).faults < 18446744073709551615 = subst (λ (d : O). (g.view d).faults < 18446744073709551615) is_now u.not_last in
+      other (only_memory g stop.before stop.stopped stop.schema old.script new.script (IsLockBusy g.told.locks (g.view stop.before).locks (Rose (g.view stop.before).faults (g.view stop.stopped).faults))
+      (IsRefusedAt (g.view stop.before) (g.view stop.stopped) old.script new.script) (IsQuietAt (g.view stop.before) (g.view stop.stopped) old.script new.script) error u.content ready
+      (none_met g.told.locks (g.view stop.before).locks (Rose (g.view stop.before).faults (g.view stop.stopped).faults) u.locks ready.sound.free)
+      (none_amiss (g.view stop.before).faults (g.view stop.stopped).faults (g.view stop.reports.now).faults stop.reports.faults still below) stop.cause stop.stops)
+
+  pub comes_to_end : (status : ℕ) → EndsReplay g told asked status → (status ≡ 0) ⊎ (status ≡ 3)
+  comes_to_end status ends = told_of ends.statuses where
+    told_of : (status ≡ 0) ⊎ ((status ≡ 1) ⊎ (status ≡ 3)) → (status ≡ 0) ⊎ (status ≡ 3)
+    told_of (inl none) = inl none
+    told_of (inr (inr three)) = inr three
+    told_of (inr (inl failing)) = absurd (failed (ends.failed failing)) where
+      failed : PlaceRefuses told old.place new.place schema_line ⊎ (((told.content → IsSome (old.place.schemas u.path)) × PlaceRefuses told old.place new.place folder_line) ⊎ ((error : TantivyError) × (error ≢ errors.Memory) × Stops g told asked error (error_line error))) → ⊥
+      failed (inl refused) = u.place_still refused.refused
+      failed (inr (inl refused)) = u.place_still refused.1.refused
+      failed (inr (inr (error, other, stop))) = no_stop error (error_line error) other stop
+
+pub same_words : {a b c d : List ℕ} → replay_words a b ≡ replay_words c d → (a ≡ c) × (b ≡ d)
+same_words e = (cc, cc)
+
+pub asked_so : {O W C : Type 0} (g : Ghosts O W C) (told : PlaceTold) {folder path a b : List ℕ} (old new : Scene O) (status : ℕ) → a ≡ folder → b ≡ path
+    → EndsReplay g told (record { folder = a; path = b; old = old; new = new }) status → EndsReplay g told (record { folder = folder; path = path; old = old; new = new }) status
+asked_so g told {folder = folder} {path = path} {a = a} {b = b} old new status f p ends =
+    subst (λ (x : List ℕ). EndsReplay g told (record { folder = folder; path = x; old = old; new = new }) status) p
+    (subst (λ (x : List ℕ). EndsReplay g told (record { folder = x; path = b; old = old; new = new }) status) f ends)

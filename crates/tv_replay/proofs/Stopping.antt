@@ -1,78 +1,101 @@
--- What a run that stopped leaves, and the locks that it meets.
-use Rattle.std.proofs.Common.{◌≡◌, ◌≢◌, ◌⊎◌, ℕ, Bool, List, [], ◌∷◌, ◌++◌, Option, Some, refl, sym, subst, ◌∙◌, arith, inl, inr, true, true≢false}
+-- Where a run stopped, and why; and the locks that it meets.
+use Rattle.std.proofs.Common.{◌≡◌, ◌≢◌, ◌⊎◌, ℕ, ◌+◌, ◌≤◌, List, [], ◌∷◌, ◌++◌, length, string_bytes, Option, Some, refl, sym, ap, subst, ◌∙◌, arith, inl, inr, true, false, true≢false}
 use Rattle.std.proofs.lemmas.List.{append-nil}
+use Rattle.std.proofs.Math.Logic.{⊎_map}
 use Rattle.tv_base.specs.declared.error.TantivyError.{TantivyError}
 use Rattle.tv_base.specs.declared.error.TantivyError.TheVariants as errors
+use Rattle.tv_base.specs.declared.open_errors.LockError.TheVariants as lock
+use Rattle.tv_base.specs.declared.open_errors.OpenReadError.{OpenReadError}
 use Rattle.tv_model.specs.Names.{meta_name}
-use Rattle.tv_model.specs.Files.{Heard, Rose}
-use Rattle.tv_directory.specs.View.{View, Told}
-use Rattle.tv_directory.specs.declared.directory.Directory.{Ghosts}
-use Rattle.tv_model.specs.Commits.{Means, default_settings}
+use Rattle.tv_model.specs.Files.{Reads, Heard, Rose}
+use Rattle.tv_model.specs.Commits.{IndexForm, Means}
 use Rattle.tv_model.specs.State.{State}
 use Rattle.tv_model.specs.Lines.{opening_of}
 use Rattle.tv_model.specs.declared.event.Event.{Event}
-use Rattle.tv_model.specs.declared.event.Event.TheVariants as events
 use Rattle.tv_model.specs.Machine.{Turn, step, answers, report, after, events_of}
+use Rattle.tv_model.specs.Readable.{AllReadGood}
 use Rattle.tv_model.specs.SoundStates.{IsWhole}
 use Rattle.tv_model.proofs.WholeStates.{after_whole}
-use Rattle.tv_store.specs.Kept.{Kept, StoreState, Holds}
-use Rattle.tv_store.specs.Telling.{TellsLine, TellsLines, TellsNoLine}
-use Rattle.tv_store.specs.Applying.{LeavesCommit, LeavesOldOrNew}
-use Rattle.tv_store.specs.ReadCauses.{MayTakeMetaLock, TakesMetaLock}
-use Rattle.tv_replay.specs.ScriptLines.{TakesNextEvent}
-use Rattle.tv_replay.specs.AppliedEvents.{LeavesStopped}
-use Rattle.tv_replay.specs.Replays.{BeginsWith, RunFrom, LeavesRun, MeetsLock, IsMet}
-use Rattle.tv_replay.proofs.Progress.{after-last, events-last, HasRead, begins_next}
-use Rattle.tv_replay.proofs.AppliedEvents.{Progress, tells_first}
-use Rattle.std.proofs.Math.Logic.{⊎_map}
 use Rattle.tv_directory.specs.Locks.{Locks, TakesLock}
+use Rattle.tv_directory.specs.View.{View, Told}
+use Rattle.tv_directory.specs.declared.directory.Directory.{Ghosts}
 use Rattle.tv_managed.specs.Collecting.{meta_lock_name}
-use Rattle.tv_store.specs.StoreCauses.{IsBusy, writer_lock_name}
-use Rattle.tv_replay.specs.Completeness.{AreFree}
+use Rattle.tv_store.specs.Kept.{StoreState, Holds}
+use Rattle.tv_store.specs.Telling.{TellsLine, TellsNoLine}
+use Rattle.tv_store.specs.Applying.{LeavesCommit, LeavesOldOrNew, MeetsBadAt}
+use Rattle.tv_store.specs.ReadCauses.{ApplyCause, IsReadError, TakesMetaLock}
+use Rattle.tv_store.specs.StoreCauses.{IsBusy, IsRefusal, OpeningCause, OpeningRefusal, writer_lock_name}
+use Rattle.tv_replay.specs.declared.next_event.ScriptError.{ScriptError}
+use Rattle.tv_replay.specs.declared.next_event.ScriptError.TheVariants as failed
+use Rattle.tv_replay.specs.declared.lines.LineError.TheVariants as line
+use Rattle.tv_replay.specs.ScriptCauses.{IsRefused, ScriptCause}
+use Rattle.tv_base.specs.Streams.{SourceView}
+use Rattle.tv_replay.specs.ScriptLines.{TakesNextEvent, IsNoEvent, IsTooLong, IsAhead, ReadsAhead, pending}
+use Rattle.tv_replay.proofs.LineLemmas.{pending_some}
+use Rattle.tv_replay.specs.AppliedEvents.{StopsRun, EndCause, IsErrorOf}
+use Rattle.tv_replay.specs.Replays.{BeginsWith, RunFrom, StopsFor, HearsTurns, StopsAt, TakesNoLock, IsNext, IsRefusedNext, IsLockBusy, line_refusal, long_refusal}
+use Rattle.tv_replay.proofs.Progress.{after-last, events-last, HasRead, begins_next}
+use Rattle.tv_replay.proofs.AppliedEvents.{Progress, read_fault, tells_first}
 
-module _ {W : Type 0} (told : Told) (run : RunFrom) (first new : View W) (error : TantivyError) where
-  -- the lines of these turns were told until then, and their commit stands
-  record Stands (turns : List Turn) (so_far : Heard) (stood : Option (List ℕ)) : Type 0 where
-    pub lines : (whole : List ℕ) → run.script ≡ Some whole → BeginsWith whole (events_of turns)
-    pub heard : told.heard → TellsLines first.heard so_far (run.lines_of_turns turns)
-    pub silent : told.heard → TellsNoLine so_far new.heard
+-- ---- what a run that stopped leaves
+
+module _ {W : Type 0} (told : Told) (run : RunFrom) (first new : View W) (script_now : SourceView) (error : TantivyError) where
+  -- the lines of these turns were told until then, their commit stands, and the error has its cause there
+  record Stands (turns : List Turn) (stood : Option (List ℕ)) : Type 0 where
+    pub lines : (whole : List ℕ) → run.script.left ≡ Some whole → BeginsWith whole (events_of turns)
+    pub read : (Rose run.script.faults script_now.faults → ⊥) → (whole : List ℕ) → run.script.left ≡ Some whole → (begun : BeginsWith whole (events_of turns)) × IsAhead begun.rest script_now.left
+    pub heard : told.heard → HearsTurns run first new turns
+    pub readable : AllReadGood run.start turns
+    pub unlocked : told.locks → first.locks meta_lock_name ≡ true → TakesNoLock run.start turns
     pub text : List ℕ
     pub is : stood ≡ Some text
-    pub means : Means default_settings run.schema text (after run.start turns).catalog.commit
+    pub means : Means run.form.settings run.form.schema text (after run.start turns).catalog.commit
+    pub cause : StopsFor run.script.left run.start turns (told.locks → first.locks meta_lock_name ≡ true) (told.locks → first.locks meta_lock_name ≡ false) error
 
   -- no event was in progress, or its commit doesn't stand
-  stays : (turns : List Turn) (so_far : Heard) (stood : Option (List ℕ)) → Stands turns so_far stood → new.reads meta_name ≡ stood → LeavesRun told run first new error
-  stays turns so_far stood s same = record {
+  stays : (turns : List Turn) (stood : Option (List ℕ)) → Stands turns stood → new.reads meta_name ≡ stood → StopsAt told run first new script_now error
+  stays turns stood s same = record {
     turns = turns;
     ahead = [];
     one = omega arith;
+    refused = λ some. absurd (omega (arith, some));
     memory = λ e. refl;
     lines = λ whole given. subst (λ (ts : List Turn). BeginsWith whole (events_of ts)) (sym (append-nil turns)) (s.lines whole given);
-    lines_heard = λ th. (so_far, s.heard th, s.silent th);
+    read = s.read;
+    heard = s.heard;
+    readable = s.readable;
+    unlocked = s.unlocked;
     text = s.text;
     reads = same ∙ s.is;
-    means = subst (λ (ts : List Turn). Means default_settings run.schema s.text (after run.start ts).catalog.commit) (sym (append-nil turns)) s.means;
+    means = subst (λ (ts : List Turn). Means run.form.settings run.form.schema s.text (after run.start ts).catalog.commit) (sym (append-nil turns)) s.means;
+    cause = s.cause;
   }
 
   -- an event was in progress, and this was left of it
-  left_ahead : (turns : List Turn) (so_far : Heard) (stood : Option (List ℕ)) (event : Event) (outcomes : List Bool) → Stands turns so_far stood
-      → ((whole : List ℕ) → run.script ≡ Some whole → BeginsWith whole (events_of turns ++ event ∷ []))
+  left_ahead : (given : Type 0) (turns : List Turn) (stood : Option (List ℕ)) (event : Event) (outcomes : List _) → Stands turns stood
+      → ((whole : List ℕ) → run.script.left ≡ Some whole → BeginsWith whole (events_of turns ++ event ∷ []))
+      → (given → Rose first.faults new.faults)
       → (error ≡ errors.Memory → new.reads meta_name ≡ stood) → (error ≡ errors.Memory) ⊎ (error ≢ errors.Memory)
-      → LeavesCommit stood (new.reads meta_name) run.schema (step (after run.start turns) event outcomes).1.catalog.commit → LeavesRun told run first new error
-  left_ahead turns so_far stood event outcomes s next memory (inl wanted) leaves = stays turns so_far stood s (memory wanted)
-  left_ahead turns so_far stood event outcomes s next memory (inr other) (inl same) = stays turns so_far stood s same
-  left_ahead turns so_far stood event outcomes s next memory (inr other) (inr (text, is, means)) =
+      → LeavesCommit given stood (new.reads meta_name) run.form (step (after run.start turns) event outcomes).1.catalog.commit → StopsAt told run first new script_now error
+  left_ahead given turns stood event outcomes s next rose memory (inl wanted) leaves = stays turns stood s (memory wanted)
+  left_ahead given turns stood event outcomes s next rose memory (inr other) (inl same) = stays turns stood s same
+  left_ahead given turns stood event outcomes s next rose memory (inr other) (inr (refused, (text, is, means))) =
       let turn : Turn = (event, outcomes) in
       record {
         turns = turns;
         ahead = turn ∷ [];
         one = omega arith;
+        refused = λ some. rose refused;
         memory = λ wanted. absurd (other wanted);
         lines = λ whole given. subst (λ (es : List Event). BeginsWith whole es) (sym (events-last turns turn)) (next whole given);
-        lines_heard = λ th. (so_far, s.heard th, s.silent th);
+        read = s.read;
+        heard = s.heard;
+        readable = s.readable;
+        unlocked = s.unlocked;
         text = text;
         reads = is;
-        means = subst (λ (after_all : State). Means default_settings run.schema text after_all.catalog.commit) (sym (after-last run.start turns turn)) means;
+        means = subst (λ (after_all : State). Means run.form.settings run.form.schema text after_all.catalog.commit) (sym (after-last run.start turns turn)) means;
+        cause = s.cause;
       }
 
 -- memory was wanted, or something else was amiss
@@ -80,74 +103,177 @@ memory_or : (error : TantivyError) → (error ≡ errors.Memory) ⊎ (error ≢ 
 memory_or errors.Memory = inl refl
 memory_or other = inr (λ e. absurd cc)
 
-module _ {O W C : Type 0} (g : Ghosts O W C) (old now new : StoreState O) (script left : Option (List ℕ)) (count : ℕ) (error : TantivyError) (p : Progress g old now script left count) where
+module _ {O W C : Type 0} (g : Ghosts O W C) (old now new : StoreState O) (script script_now : SourceView) (left : Option (List ℕ)) (count : ℕ) (error : TantivyError) (p : Progress g old now script.left left count) where
   abbrev since : State → RunFrom
-  since s = record { schema = old.kept.schema; script = script; start = s; lines_of_turns = answers s }
+  since s = record { form = old.kept.form; script = script; start = s; lines_of_turns = answers s }
 
-  stands : g.told.content → (s : State) → Holds (g.view old.outside).reads old.kept s → IsWhole s → (g.told.heard → TellsNoLine (g.view now.outside).heard (g.view new.outside).heard)
-      → Stands g.told (since s) (g.view old.outside) (g.view new.outside) error p.turns (g.view now.outside).heard ((g.view now.outside).reads meta_name)
-  stands t s h w silent =
+  -- beyond what was taken no more was read than may be, unless a read was refused
+  abbrev pub Ahead : Type 0
+  Ahead = (Rose script.faults script_now.faults → ⊥) → ReadsAhead left script_now.left
+
+  abbrev pub Held : Type 0
+  Held = g.told.locks → (g.view old.outside).locks meta_lock_name ≡ true
+
+  abbrev pub Free : Type 0
+  Free = g.told.locks → (g.view old.outside).locks meta_lock_name ≡ false
+
+  stands : g.told.content → (s : State) → Holds (g.view old.outside).reads old.kept s → IsWhole s → Ahead → (g.view now.outside).moment ≤ (g.view new.outside).moment
+      → (g.told.heard → TellsNoLine (g.view now.outside).heard (g.view new.outside).heard) → StopsFor script.left s p.turns Held Free error
+      → Stands g.told (since s) (g.view old.outside) (g.view new.outside) script_now error p.turns ((g.view now.outside).reads meta_name)
+  stands t s h w ahead clock silent cause =
       let held = p.applied.holds t s h w in
       record {
         lines = λ whole given. (p.read whole given).begun;
-        heard = λ th. p.applied.told t th s h w;
-        silent = silent;
+        read = λ quiet whole given. let r = p.read whole given in (r.begun, ahead quiet r.begun.rest r.left_is);
+        heard = λ th. record { so_far = (g.view now.outside).heard; moment = (g.view now.outside).moment; lines = p.applied.told t th s h w; sooner = clock; silent = silent th };
+        readable = p.applied.readable t s h w;
+        unlocked = λ locks busy. p.applied.unlocked t locks busy s h w;
         text = held.meta.0;
         is = held.meta.1;
-        means = subst (λ (schema : List ℕ). Means default_settings schema held.meta.0 (after s p.turns).catalog.commit) p.applied.schema held.meta.2;
+        means = subst (λ (form : IndexForm). Means form.settings form.schema held.meta.0 (after s p.turns).catalog.commit) p.applied.form held.meta.2;
+        cause = cause;
       }
 
   -- the run stopped in an event
-  pub stops_in : (later : Option (List ℕ)) (event : Event) → TakesNextEvent left (Some event) later
+  pub stops_in : (later : Option (List ℕ)) (event : Event) → TakesNextEvent left (Some event) later → Ahead
+      → (g.view now.outside).faults ≡ (g.view old.outside).faults → (g.view now.outside).moment ≤ (g.view new.outside).moment
       → (g.told.heard → TellsNoLine (g.view now.outside).heard (g.view new.outside).heard)
-      → (g.told.content → (s : State) → Holds (g.view now.outside).reads now.kept s → IsWhole s → LeavesOldOrNew ((g.view now.outside).reads meta_name) ((g.view new.outside).reads meta_name) now.kept.schema s event)
+      → (g.told.content → (s : State) → Holds (g.view now.outside).reads now.kept s → IsWhole s → LeavesOldOrNew (Rose (g.view now.outside).faults (g.view new.outside).faults) ((g.view now.outside).reads meta_name) ((g.view new.outside).reads meta_name) now.kept.form s event)
       → (g.told.content → error ≡ errors.Memory → (g.view new.outside).reads meta_name ≡ (g.view now.outside).reads meta_name)
-      → LeavesStopped g old new script error
-  stops_in later event takes silent leaves memory t s h w =
-      let l = leaves t (after s p.turns) (p.applied.holds t s h w) (after_whole s p.turns w) in
-      left_ahead g.told (since s) (g.view old.outside) (g.view new.outside) error p.turns (g.view now.outside).heard ((g.view now.outside).reads meta_name) event l.0 (stands t s h w silent)
-      (begins_next script left later p.turns event p.read takes) (memory t) (memory_or error)
-      (subst (λ (schema : List ℕ). LeavesCommit ((g.view now.outside).reads meta_name) ((g.view new.outside).reads meta_name) schema (step (after s p.turns) event l.0).1.catalog.commit) p.applied.schema l.1)
+      → (g.told.content → (s : State) → Holds (g.view now.outside).reads now.kept (after s p.turns) → IsWhole (after s p.turns) → StopsFor script.left s p.turns Held Free error)
+      → StopsRun g old new script script_now error
+  stops_in later event takes ahead quiet clock silent leaves memory cause t s h w =
+      let there = p.applied.holds t s h w in
+      let whole = after_whole s p.turns w in
+      let l = leaves t (after s p.turns) there whole in
+      left_ahead g.told (since s) (g.view old.outside) (g.view new.outside) script_now error (Rose (g.view now.outside).faults (g.view new.outside).faults) p.turns ((g.view now.outside).reads meta_name) event l.0
+      (stands t s h w ahead clock silent (cause t s there whole))
+      (begins_next script.left left later p.turns event p.read takes) (λ rose. subst (λ (n : ℕ). Rose n (g.view new.outside).faults) quiet rose) (memory t) (memory_or error)
+      (subst (λ (form : IndexForm). LeavesCommit (Rose (g.view now.outside).faults (g.view new.outside).faults) ((g.view now.outside).reads meta_name) ((g.view new.outside).reads meta_name) form (step (after s p.turns) event l.0).1.catalog.commit) p.applied.form l.1)
 
 -- the run stopped between two events
-pub stops_between : {O W C : Type 0} (g : Ghosts O W C) (old now : StoreState O) (script left : Option (List ℕ)) (count : ℕ) (error : TantivyError)
-    → Progress g old now script left count → LeavesStopped g old now script error
-stops_between g old now script left count error p t s h w =
-    stays g.told (since g old now now script left count error p s) (g.view old.outside) (g.view now.outside) error p.turns (g.view now.outside).heard ((g.view now.outside).reads meta_name)
-    (stands g old now now script left count error p t s h w (λ th. inl refl)) refl
+pub stops_between : {O W C : Type 0} (g : Ghosts O W C) (old now : StoreState O) (script script_now : SourceView) (left : Option (List ℕ)) (count : ℕ) (error : TantivyError)
+    → (p : Progress g old now script.left left count) → ((Rose script.faults script_now.faults → ⊥) → ReadsAhead left script_now.left)
+    → ((s : State) → StopsFor script.left s p.turns (g.told.locks → (g.view old.outside).locks meta_lock_name ≡ true) (g.told.locks → (g.view old.outside).locks meta_lock_name ≡ false) error) → StopsRun g old now script script_now error
+stops_between g old now script script_now left count error p ahead cause t s h w =
+    stays g.told (since g old now now script script_now left count error p s) (g.view old.outside) (g.view now.outside) script_now error p.turns ((g.view now.outside).reads meta_name)
+    (stands g old now now script script_now left count error p t s h w ahead (omega arith) (λ th. inl refl) (cause s)) refl
 
--- a run that stopped, seen from before the opening line
-pub leaves_report : {W : Type 0} (told : Told) (given schema : List ℕ) (script : Option (List ℕ)) (s : State) (first opened new now : View W) (error : TantivyError)
-    → given ≡ schema → (told.heard → TellsLine first.heard opened.heard first.moment opened.moment (opening_of s.catalog.commit)) → now.heard ≡ new.heard → now.reads meta_name ≡ new.reads meta_name
-    → LeavesRun told (record { schema = given; script = script; start = s; lines_of_turns = answers s }) opened new error → LeavesRun told (record { schema = schema; script = script; start = s; lines_of_turns = report s }) first now error
-leaves_report told given schema script s first opened new now error schema_is line heard_is meta_is l = record {
-  turns = l.turns;
-  ahead = l.ahead;
-  one = l.one;
-  memory = l.memory;
-  lines = l.lines;
-  lines_heard = λ th.
-      let heard = l.lines_heard th in
-      (heard.0, tells_first first.heard opened.heard heard.0 first.moment opened.moment (opening_of s.catalog.commit) (answers s l.turns) (line th) heard.1, subst (λ (h : Heard). TellsNoLine heard.0 h) (sym heard_is) heard.2);
-  text = l.text;
-  reads = meta_is ∙ l.reads;
-  means = subst (λ (x : List ℕ). Means default_settings x l.text (after s (l.turns ++ l.ahead)).catalog.commit) schema_is l.means;
-}
+-- nothing was read beyond
+pub nothing_ahead : (left : Option (List ℕ)) → ReadsAhead (pending [] left) left
+nothing_ahead left script told =
+    let p = pending_some [] script left told in
+    record { over = []; rest = p.0; left_is = p.1; script_is = p.2; most = omega arith }
 
--- ---- the lock that an event takes
+-- ---- why it stopped there
 
-may_take : (kept : Kept) (event : Event) → TakesMetaLock kept event → MayTakeMetaLock event
-may_take kept events.Gc t = tt
-may_take kept (events.Reader policy) t = tt
-may_take kept (events.Reload number) t = tt
-may_take kept other t = absurd t
+module _ (script : Option (List ℕ)) (s : State) (turns : List Turn) (held free : Type 0) where
+  -- in an event
+  pub event_stops : (refused quiet : Type 0) {busy spent : Type 0} {bad : OpenReadError → Type 0} {absent : List ℕ → Type 0} (event : Event) (error : TantivyError) → IsNext script turns event
+      → ApplyCause busy refused quiet spent bad absent error → (busy → TakesMetaLock (after s turns).catalog event × held) → (spent → ⊥)
+      → ((error : OpenReadError) → bad error → MeetsBadAt (after s turns) event error) → ((path : List ℕ) → absent path → ⊥) → (IsReadError error → free) → StopsFor script s turns held free error
+  event_stops refused quiet event (errors.OpenReadError error) next h y never b a f = read_fault {worse = λ e. (x : Event) × IsNext script turns x × free × MeetsBadAt (after s turns) x e} {gone = λ path. ⊥} error (λ r. tt) (λ q. tt) (λ e bad. (event, next, f tt, b e bad)) a h
+  event_stops refused quiet event (errors.LockFailure lock.LockBusy text) next h y never b a f = (event, next, (y h.0).0, (y h.0).1)
+  event_stops refused quiet event (errors.LockFailure (lock.IoError fault) text) next h y never b a f = tt
+  event_stops refused quiet event (errors.LockFailure lock.Memory text) next h y never b a f = absurd h.0
+  event_stops refused quiet event (errors.InvalidArgument text) next h y never b a f = absurd h
+  event_stops refused quiet event errors.Exhausted next h y never b a f = absurd (never h.1)
+  event_stops refused quiet event other next h y never b a f = tt
 
-pub meets_lock : (script left later : Option (List ℕ)) (kept : Kept) (turns : List Turn) (event : Event) → HasRead script left turns
-    → TakesNextEvent left (Some event) later → TakesMetaLock kept event → MeetsLock script
-meets_lock script left later kept turns event read takes t = (events_of turns, event, begins_next script left later turns event read takes, may_take kept event t)
+  refusal_stops : (text : List ℕ) (error : TantivyError) → IsRefusal text error
+      → ((text ≡ line_refusal (length turns + 1)) × IsRefusedNext script turns IsNoEvent) ⊎ ((text ≡ long_refusal (length turns + 1)) × IsRefusedNext script turns IsTooLong)
+      → StopsFor script s turns held free error
+  refusal_stops text (errors.InvalidArgument t) h (inl r) = inl (h ∙ r.0, r.1)
+  refusal_stops text (errors.InvalidArgument t) h (inr r) = inr (h ∙ r.0, r.1)
+  refusal_stops text errors.Memory h r = tt
+  refusal_stops text other h r = absurd h
+
+  -- at a line that is refused
+  pub script_stops : (refused quiet : Type 0) (left : Option (List ℕ)) (error : ScriptError) (number : ℕ) (answer : TantivyError) → number ≡ length turns + 1 → IsErrorOf error number answer → ScriptCause left refused quiet error
+      → (IsRefused IsNoEvent left → IsRefusedNext script turns IsNoEvent) → (IsRefused IsTooLong left → IsRefusedNext script turns IsTooLong) → StopsFor script s turns held free answer
+  script_stops refused quiet left (failed.Line line.Memory) number answer at is h n l = subst (StopsFor script s turns held free) (sym is) tt
+  script_stops refused quiet left (failed.Line (line.Fault fault)) number answer at is h n l = subst (StopsFor script s turns held free) (sym is) tt
+  script_stops refused quiet left (failed.Line line.TooLong) number answer at is h n l = refusal_stops (long_refusal number) answer is (inr (ap long_refusal at, l h.1))
+  script_stops refused quiet left failed.NotAnEvent number answer at is h n l = refusal_stops (line_refusal number) answer is (inl (ap line_refusal at, n h.1))
+
+  -- at a line too many
+  pub end_stops : (refused quiet : Type 0) {some : Type 0} (error : TantivyError) → length turns ≡ 4294967295 → EndCause some refused quiet error → (some → IsRefusedNext script turns (λ rest. rest ≢ [])) → StopsFor script s turns held free error
+  end_stops refused quiet errors.Exhausted all h k = (all, k h.1)
+  end_stops refused quiet (errors.IoError fault) all h k = tt
+  end_stops refused quiet errors.Memory all h k = tt
+  end_stops refused quiet other all h k = absurd h
+
+-- what is left is refused, seen from the whole script
+pub refused_next : (script left : Option (List ℕ)) (turns : List Turn) (why : List ℕ → Type 0) → HasRead script left turns → IsRefused why left → IsRefusedNext script turns why
+refused_next script left turns why read wrong whole told = let r = read whole told in (r.begun, wrong r.begun.rest r.left_is)
+
+-- ---- seen from before the opening
+
+held_before : (script : Option (List ℕ)) (s : State) (turns : List Turn) (held free held_then free_then : Type 0) (error : TantivyError) → (held → held_then) → (free → free_then) → StopsFor script s turns held free error → StopsFor script s turns held_then free_then error
+held_before script s turns held free held_then free_then (errors.LockFailure lock.LockBusy text) f k h = (h.0, h.1, h.2, f h.3)
+held_before script s turns held free held_then free_then (errors.LockFailure (lock.IoError fault) text) f k h = tt
+held_before script s turns held free held_then free_then (errors.LockFailure lock.Memory text) f k h = tt
+held_before script s turns held free held_then free_then (errors.InvalidArgument text) f k h = h
+held_before script s turns held free held_then free_then (errors.OpenReadError error) f k h =
+    read_fault {bad = λ e. (x : Event) × IsNext script turns x × free × MeetsBadAt (after s turns) x e} {worse = λ e. (x : Event) × IsNext script turns x × free_then × MeetsBadAt (after s turns) x e} {absent = λ path. ⊥} {gone = λ path. ⊥}
+    error (λ r. r) (λ q. q) (λ e met. (met.0, met.1, k met.2, met.3)) (λ path never. never) h
+held_before script s turns held free held_then free_then errors.Exhausted f k h = h
+held_before script s turns held free held_then free_then other f k h = tt
 
 names_differ : meta_lock_name ≢ writer_lock_name
 names_differ e = absurd cc
+
+pub meta_since : (start opened : Locks) → TakesLock start opened writer_lock_name → opened meta_lock_name ≡ start meta_lock_name
+meta_since start opened took = took.others meta_lock_name names_differ
+
+-- a run that stopped, seen from before the opening line
+pub stops_report : {W : Type 0} (told : Told) (given form : IndexForm) (script script_now : SourceView) (s : State) (first opened new now : View W) (error : TantivyError)
+    → given ≡ form → (told.heard → TellsLine first.heard opened.heard first.moment opened.moment (opening_of s.catalog.commit)) → (told.locks → TakesLock first.locks opened.locks writer_lock_name)
+    → opened.faults ≡ first.faults → now.faults ≡ new.faults → now.heard ≡ new.heard → new.moment ≤ now.moment → now.reads meta_name ≡ new.reads meta_name
+    → StopsAt told (record { form = given; script = script; start = s; lines_of_turns = answers s }) opened new script_now error → StopsAt told (record { form = form; script = script; start = s; lines_of_turns = report s }) first now script_now error
+stops_report told given form script script_now s first opened new now error form_is line took quiet same heard_is clock meta_is l = record {
+  turns = l.turns;
+  ahead = l.ahead;
+  one = l.one;
+  refused = λ some. subst (λ (n : ℕ). Rose n now.faults) quiet (subst (λ (n : ℕ). Rose opened.faults n) (sym same) (l.refused some));
+  memory = l.memory;
+  lines = l.lines;
+  read = l.read;
+  heard = λ th.
+      let heard = l.heard th in
+      record {
+        so_far = heard.so_far;
+        moment = heard.moment;
+        lines = tells_first first.heard opened.heard heard.so_far first.moment opened.moment heard.moment (opening_of s.catalog.commit) (answers s l.turns) (line th) heard.lines;
+        sooner = omega (arith, heard.sooner, clock);
+        silent = subst (λ (h : Heard). TellsNoLine heard.so_far h) (sym heard_is) heard.silent;
+      };
+  readable = l.readable;
+  unlocked = λ locks held. l.unlocked locks (meta_since first.locks opened.locks (took locks) ∙ held);
+  text = l.text;
+  reads = meta_is ∙ l.reads;
+  means = subst (λ (f : IndexForm). Means f.settings f.schema l.text (after s (l.turns ++ l.ahead)).catalog.commit) form_is l.means;
+  cause =
+      held_before script.left s l.turns (told.locks → opened.locks meta_lock_name ≡ true) (told.locks → opened.locks meta_lock_name ≡ false)
+      (told.locks → first.locks meta_lock_name ≡ true) (told.locks → first.locks meta_lock_name ≡ false) error
+      (λ held locks. sym (meta_since first.locks opened.locks (took locks)) ∙ held locks) (λ free locks. sym (meta_since first.locks opened.locks (took locks)) ∙ free locks) l.cause;
+}
+
+-- why an opening is refused, where the directory tells its content
+pub opening_told : (tells tells_locks : Type 0) (schema : List ℕ) (reads : Reads) (held refused quiet : Type 0) (error : TantivyError) → tells → OpeningCause tells schema reads (IsBusy tells_locks held refused) refused quiet error
+    → OpeningCause (Unit {0}) schema reads (tells_locks → held) (Unit {0}) (Unit {0}) error
+opening_told tells tells_locks schema reads held refused quiet (errors.InvalidArgument text) t h = (tt, refusal h.1) where
+  refusal : OpeningRefusal tells schema reads (string_bytes text) → OpeningRefusal (Unit {0}) schema reads (string_bytes text)
+  refusal (inl r) = inl r
+  refusal (inr r) = inr (r.0, r.1, λ u. r.2 t)
+opening_told tells tells_locks schema reads held refused quiet (errors.LockFailure lock.LockBusy text) t h = (h.0, (λ u. h.1 t), h.2.told, h.3)
+opening_told tells tells_locks schema reads held refused quiet (errors.LockFailure (lock.IoError fault) text) t h = (h.0, (λ u. h.1 t), (h.2.0, tt), h.3)
+opening_told tells tells_locks schema reads held refused quiet (errors.LockFailure lock.Memory text) t h = absurd h.2
+opening_told tells tells_locks schema reads held refused quiet (errors.IoError fault) t h = (h.0, h.1, tt)
+opening_told tells tells_locks schema reads held refused quiet errors.Memory t h = tt
+opening_told tells tells_locks schema reads held refused quiet other t h = absurd h
+
+-- ---- locks
 
 -- a lock that isn't given, seen from an earlier place, since which the count of refused calls stood still
 pub busy_since : (tells_locks held earlier : Type 0) (old now : ℕ) {new : ℕ} → (tells_locks → held → earlier) → now ≡ old → IsBusy tells_locks held (Rose now new) → IsBusy tells_locks earlier (Rose old new)
@@ -157,12 +283,14 @@ busy_since tells_locks held earlier old now {new} was quiet b = record {
 }
 
 -- the lock of those who read, seen from before the opening
-pub met_since_opening : (tells_locks : Type 0) (script : Option (List ℕ)) (start opened : Locks) (old now new : ℕ) → (tells_locks → TakesLock start opened writer_lock_name) → now ≡ old
-    → MeetsLock script × IsBusy tells_locks (opened meta_lock_name ≡ true) (Rose now new) → IsMet tells_locks script start (Rose old new)
-met_since_opening tells_locks script start opened old now new took quiet b =
-    inr (b.0, busy_since tells_locks (opened meta_lock_name ≡ true) (start meta_lock_name ≡ true) old now (λ t held. sym ((took t).others meta_lock_name names_differ) ∙ held) quiet b.1)
+pub busy_since_opening : (tells_locks : Type 0) (start opened : Locks) (old now new : ℕ) → (tells_locks → TakesLock start opened writer_lock_name) → now ≡ old
+    → IsBusy tells_locks (opened meta_lock_name ≡ true) (Rose now new) → IsLockBusy tells_locks start (Rose old new)
+busy_since_opening tells_locks start opened old now new took quiet b =
+    busy_since tells_locks (opened meta_lock_name ≡ true) ((start writer_lock_name ≡ true) ⊎ (start meta_lock_name ≡ true)) old now (λ t held. inr (sym (meta_since start opened (took t)) ∙ held)) quiet b
 
 -- where no lock is held none is met
-pub none_met : (tells_locks : Type 0) (script : Option (List ℕ)) (start : Locks) (refused : Type 0) → tells_locks → AreFree start → IsMet tells_locks script start refused → ⊥
-none_met tells_locks script start refused t free (inl b) = true≢false (sym (b.told t) ∙ free writer_lock_name)
-none_met tells_locks script start refused t free (inr b) = true≢false (sym (b.1.told t) ∙ free meta_lock_name)
+pub none_met : (tells_locks : Type 0) (start : Locks) (refused : Type 0) → tells_locks → ((lock : List ℕ) → start lock ≡ false) → IsLockBusy tells_locks start refused → ⊥
+none_met tells_locks start refused t free b = met (b.told t) where
+  met : (start writer_lock_name ≡ true) ⊎ (start meta_lock_name ≡ true) → ⊥
+  met (inl held) = true≢false (sym held ∙ free writer_lock_name)
+  met (inr held) = true≢false (sym held ∙ free meta_lock_name)

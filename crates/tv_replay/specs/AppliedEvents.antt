@@ -3,10 +3,9 @@ use Rattle.std.specs.Prelude.{ℕ, ◌≡◌, ◌≢◌, true, List, [], length,
 use Rattle.std.specs.List.{AllByRecursion}
 use Rattle.tv_base.specs.Causes.{IsDevice}
 use Rattle.tv_base.specs.Streams.{SourceView}
-use Rattle.tv_base.specs.declared.open_errors.OpenReadError.{OpenReadError}
 use Rattle.tv_base.specs.declared.error.TantivyError.{TantivyError}
 use Rattle.tv_base.specs.declared.error.TantivyError.TheVariants as errors
-use Rattle.tv_model.specs.Files.{Reads, Rose, RoseBy}
+use Rattle.tv_model.specs.Files.{Rose, RoseBy}
 use Rattle.tv_model.specs.State.{State}
 use Rattle.tv_model.specs.SoundStates.{IsWhole}
 use Rattle.tv_model.specs.Machine.{Turn, answers, after, events_of, all_refused}
@@ -15,8 +14,7 @@ use Rattle.tv_model.specs.Script.{lines_of, Fits, AreLines}
 use Rattle.tv_directory.specs.Locks.{LockCause}
 use Rattle.tv_directory.specs.declared.directory.Directory.{Ghosts}
 use Rattle.tv_managed.specs.Collecting.{meta_lock_name}
-use Rattle.tv_store.specs.Kept.{Kept, StoreState, Holds}
-use Rattle.tv_store.specs.Applying.{HoldsNone}
+use Rattle.tv_store.specs.Kept.{StoreState, Holds}
 use Rattle.tv_store.specs.StoreCauses.{WriteFault, IsBusy, IsRefusal}
 use Rattle.tv_store.specs.ReadCauses.{ReadFault}
 use Rattle.tv_store.specs.Telling.{TellsLines}
@@ -24,16 +22,17 @@ use Rattle.tv_replay.specs.declared.lines.LineError.TheVariants as line
 use Rattle.tv_replay.specs.declared.next_event.ScriptError.{ScriptError}
 use Rattle.tv_replay.specs.declared.next_event.ScriptError.TheVariants as failed
 use Rattle.tv_replay.specs.declared.replaying.Tally.{Tally}
-use Rattle.tv_replay.specs.Replays.{MeetsFile, MeetsLock, LineRefusal, IsTooMany, LeavesRun, IsQuietAt, IsRefusedAt, line_refusal, long_refusal}
+use Rattle.tv_replay.specs.Replays.{TakesNoLock, LineRefusal, IsTooMany, StopsAt, IsQuietAt, IsRefusedAt, line_refusal, long_refusal}
 
 -- These events were applied: from each state that was held before, the state after them is held now, and their answers were told; those that read a commit's
 -- files could do so; and no more deletes were refused than their count rose.
 pub record Applies {O W C : Type 0} (g : Ghosts O W C) (old new : StoreState O) (turns : List Turn) : Type 0 where
   pub fits : AllByRecursion Fits (events_of turns)
-  pub schema : new.kept.schema ≡ old.kept.schema
+  pub form : new.kept.form ≡ old.kept.form
   pub holds : g.told.content → (s : State) → Holds (g.view old.outside).reads old.kept s → IsWhole s → Holds (g.view new.outside).reads new.kept (after s turns)
-  pub told : g.told.content → g.told.heard → (s : State) → Holds (g.view old.outside).reads old.kept s → IsWhole s → TellsLines (g.view old.outside).heard (g.view new.outside).heard (answers s turns)
+  pub told : g.told.content → g.told.heard → (s : State) → Holds (g.view old.outside).reads old.kept s → IsWhole s → TellsLines (g.view old.outside).heard (g.view new.outside).heard (g.view old.outside).moment (g.view new.outside).moment (answers s turns)
   pub readable : g.told.content → (s : State) → Holds (g.view old.outside).reads old.kept s → IsWhole s → AllReadGood s turns
+  pub unlocked : g.told.content → g.told.locks → (g.view old.outside).locks meta_lock_name ≡ true → (s : State) → Holds (g.view old.outside).reads old.kept s → IsWhole s → TakesNoLock s turns
   pub refused : RoseBy (all_refused turns) (g.view old.outside).refusals (g.view new.outside).refusals
 
 -- the events of a whole script were applied, and nothing is left of it
@@ -43,19 +42,14 @@ pub record Runs {O W C : Type 0} (g : Ghosts O W C) (old new : StoreState O) (te
   pub lines : (whole : List ℕ) → text ≡ Some whole → AreLines (lines_of whole) (events_of turns) × (left ≡ Some [])
   pub applied : Applies g old new turns
 
--- where the content is told, the run from each state from which it began meets a file that is refused with this error
-abbrev pub BadSince : (tells : Type 0) → Reads → Kept → (script : Option (List ℕ)) → OpenReadError → Type 0
-BadSince tells reads kept script error = tells → (s : State) → Holds reads kept s → IsWhole s → MeetsFile script s error
-
--- what is true where a run stops: `busy` where a lock isn't given, `refusal` of the text that says which line is no event's, `too_many` where there is a line too many, `refused` where a device refused a call and `quiet` where none did, `bad` where an event meets a file that is refused, `absent` where it isn't there
+-- what is true where a run stops: `busy` where a lock isn't given, `refusal` of the text that says which line is no event's, `too_many` where there is a line too
+-- many, `refused` where a device refused a call and `quiet` where none did
 pub record Causes : Type 1 where
   pub busy : Type 0
   pub refusal : List ℕ → Type 0
   pub too_many : Type 0
   pub refused : Type 0
   pub quiet : Type 0
-  pub bad : OpenReadError → Type 0
-  pub absent : List ℕ → Type 0
 
 -- why a run stops with an error
 abbrev pub RunCause : Causes → TantivyError → Type 0
@@ -63,7 +57,7 @@ RunCause c (errors.LockFailure why text) = LockCause c.busy c.refused ⊥ why ×
 RunCause c (errors.InvalidArgument text) = c.quiet × c.refusal (string_bytes text)
 RunCause c (errors.IoError fault) = IsDevice fault × c.refused
 RunCause c (errors.OpenWriteError error) = WriteFault c.refused error
-RunCause c (errors.OpenReadError error) = ReadFault c.refused c.quiet c.bad c.absent error
+RunCause c (errors.OpenReadError error) = ReadFault c.refused c.quiet (λ e. Unit {0}) (λ path. Unit {0}) error
 RunCause c errors.Exhausted = c.quiet × c.too_many
 RunCause c errors.Memory = c.quiet
 RunCause c other = ⊥
@@ -71,28 +65,26 @@ RunCause c other = ⊥
 -- the causes between these two stores and these two views of the script
 abbrev pub run_causes : {O W C : Type 0} → Ghosts O W C → (old new : StoreState O) → (script script_now : SourceView) → Causes
 run_causes g old new script script_now = record {
-  busy = MeetsLock script.left × IsBusy g.told.locks ((g.view old.outside).locks meta_lock_name ≡ true) (Rose (g.view old.outside).faults (g.view new.outside).faults);
+  busy = IsBusy g.told.locks ((g.view old.outside).locks meta_lock_name ≡ true) (Rose (g.view old.outside).faults (g.view new.outside).faults);
   refusal = LineRefusal script.left;
   too_many = IsTooMany script.left;
   refused = IsRefusedAt (g.view old.outside) (g.view new.outside) script script_now;
   quiet = IsQuietAt (g.view old.outside) (g.view new.outside) script script_now;
-  bad = BadSince g.told.content (g.view old.outside).reads old.kept script.left;
-  absent = λ path. HoldsNone g.told.content (g.view old.outside).reads old.kept;
 }
 
--- Why a run stopped, between these two stores and these two views of the script.
-abbrev pub StopsRun : {O W C : Type 0} → Ghosts O W C → (old new : StoreState O) → (script script_now : SourceView) → TantivyError → Type 0
-StopsRun g old new script script_now = RunCause (run_causes g old new script script_now)
+-- Why a run failed, between these two stores and these two views of the script.
+abbrev pub FailsRun : {O W C : Type 0} → Ghosts O W C → (old new : StoreState O) → (script script_now : SourceView) → TantivyError → Type 0
+FailsRun g old new script script_now = RunCause (run_causes g old new script script_now)
 
 -- No call but deletes was refused where the whole script was run; and why it wasn't.
 pub record RunFaults {A O W C : Type 0} (g : Ghosts O W C) (old new : StoreState O) (script script_now : SourceView) (result : Result A TantivyError) : Type 0 where
   pub quiet : OnOk result (IsQuietAt (g.view old.outside) (g.view new.outside) script script_now)
-  pub cause : IfErr result (StopsRun g old new script script_now)
+  pub cause : IfErr result (FailsRun g old new script script_now)
 
--- what a run leaves that stopped with this error, from each state that was held before
-abbrev pub LeavesStopped : {O W C : Type 0} → Ghosts O W C → (old new : StoreState O) → (script : Option (List ℕ)) → TantivyError → Type 0
-LeavesStopped g old new script error =
-    g.told.content → (s : State) → Holds (g.view old.outside).reads old.kept s → IsWhole s → LeavesRun g.told (record { schema = old.kept.schema; script = script; start = s; lines_of_turns = answers s }) (g.view old.outside) (g.view new.outside) error
+-- where a run stopped with this error, from each state that was held before
+abbrev pub StopsRun : {O W C : Type 0} → Ghosts O W C → (old new : StoreState O) → (script script_now : SourceView) → TantivyError → Type 0
+StopsRun g old new script script_now error =
+    g.told.content → (s : State) → Holds (g.view old.outside).reads old.kept s → IsWhole s → StopsAt g.told (record { form = old.kept.form; script = script; start = s; lines_of_turns = answers s }) (g.view old.outside) (g.view new.outside) script_now error
 
 -- why the end of a script isn't met where as many lines were taken as may be: there is `some` line too many, a read was refused, or memory was wanted
 abbrev pub EndCause : (some refused quiet : Type 0) → TantivyError → Type 0

@@ -4,7 +4,8 @@ use Rattle.tv_base.specs.Causes.{IoCause}
 use Rattle.tv_base.specs.Texts.{counted}
 use Rattle.tv_base.specs.declared.io.IoError.{IoError}
 
--- the schemas and the scripts under their paths, the directory while it isn't lent, the folder for which it is, what was said and how much can be, and how many calls were refused
+-- the schemas and the scripts under their paths, the directory while it isn't lent, the folder for which it is, what was said and how much can be, and how many
+-- calls were refused
 pub record PlaceState (B : Type 0) : Type 0 where
   pub schemas : List (List ℕ × List ℕ)
   pub scripts : List (List ℕ × List ℕ)

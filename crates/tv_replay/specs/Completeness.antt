@@ -1,12 +1,12 @@
 -- What makes a replay come to its end.
-use Rattle.std.specs.Prelude.{ℕ, ◌≡◌, ◌<◌, ◌^◌, true, false, List, length, Option, Some}
+use Rattle.std.specs.Prelude.{ℕ, ◌≡◌, ◌<◌, ◌^◌, true, List, length, Option, Some}
 use Rattle.tv_base.specs.Streams.{SourceView}
 use Rattle.tv_directory.specs.Locks.{Locks}
 use Rattle.tv_directory.specs.declared.directory.Directory.{Ghosts}
 use Rattle.tv_model.specs.declared.event.Event.{Event}
 use Rattle.tv_model.specs.Files.{Reads}
 use Rattle.tv_model.specs.Commits.{is_schema}
-use Rattle.tv_model.specs.Index.{IsSound, HasNoIndex}
+use Rattle.tv_model.specs.Index.{IsSoundStart, HasNoIndex}
 use Rattle.tv_model.specs.Script.{lines_of, AreLines}
 use Rattle.tv_replay.specs.declared.replaying.Replayed.{Replayed}
 use Rattle.tv_replay.specs.Replays.{IsRefusedAt}
@@ -15,23 +15,18 @@ use Rattle.tv_replay.specs.Replays.{IsRefusedAt}
 abbrev pub IsScript : List ℕ → Type 0
 IsScript text = (events : List Event) × AreLines (lines_of text) events × (length events < 2 ^ 32)
 
--- no lock is held
-abbrev pub AreFree : Locks → Type 0
-AreFree locks = (n : List ℕ) → locks n ≡ false
-
 -- a valid schema, a valid script, which is told, and a sound start without an index
-pub record IsReady (schema : List ℕ) (script : Option (List ℕ)) (reads : Reads) : Type 0 where
+pub record IsReady (schema : List ℕ) (script : Option (List ℕ)) (reads : Reads) (held : Locks) : Type 0 where
   pub accepted : is_schema schema ≡ true
   pub text : List ℕ
   pub told : script ≡ Some text
   pub valid : IsScript text
-  pub sound : IsSound schema reads
+  pub sound : IsSoundStart schema reads held
   pub none : HasNoIndex reads
 
--- All of that stands in a directory that tells its content and its locks; no lock is held, and no call but deletes is refused.
+-- All of that stands in a directory that tells its content and its locks, and no call but deletes is refused.
 pub record IsUndisturbed {O W C : Type 0} (g : Ghosts O W C) (before : O) (schema : List ℕ) (script script_now : SourceView) (result : Replayed O) : Type 0 where
   pub content : g.told.content
   pub locks : g.told.locks
-  pub free : AreFree (g.view before).locks
-  pub ready : IsReady schema script.left (g.view before).reads
+  pub ready : IsReady schema script.left (g.view before).reads (g.view before).locks
   pub quiet : IsRefusedAt (g.view before) (g.view result.outside) script script_now → ⊥

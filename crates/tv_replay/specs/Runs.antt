@@ -1,5 +1,5 @@
 -- What a run of the program does.
-use Rattle.std.specs.Prelude.{ℕ, ◌≡◌, ◌≢◌, ◌⊎◌, Bool, true, false, List, [], ◌∷◌, ◌++◌, None, Some, IsSome, codes}
+use Rattle.std.specs.Prelude.{ℕ, ◌≡◌, ◌≢◌, ◌<◌, ◌⊎◌, Bool, true, false, List, [], ◌∷◌, ◌++◌, None, Some, IsSome, codes}
 use Rattle.tv_base.specs.Streams.{SourceView}
 use Rattle.tv_base.specs.declared.error.TantivyError.{TantivyError}
 use Rattle.tv_base.specs.declared.error.TantivyError.TheVariants as errors
@@ -10,8 +10,9 @@ use Rattle.tv_directory.specs.declared.directory.Directory.{Ghosts}
 use Rattle.tv_store.specs.Telling.{TellsLine}
 use Rattle.tv_replay.specs.declared.replaying.Tally.{Tally}
 use Rattle.tv_replay.specs.ErrorLines.{error_line}
-use Rattle.tv_replay.specs.PlaceView.{PlaceTold, PlaceView, KeepsFolders, SaysPart}
-use Rattle.tv_replay.specs.Replays.{Replays, ReplayFrame, IsReadOut, IsQuietAt, StopsReplay, LeavesReplay}
+use Rattle.tv_replay.specs.Completeness.{IsReady}
+use Rattle.tv_replay.specs.PlaceView.{PlaceTold, PlaceView, KeepsFolders, KeepsTexts, SaysPart}
+use Rattle.tv_replay.specs.Replays.{Replays, ReplayFrame, IsReadOut, IsQuietAt, FailsReplay, StopsReplay}
 
 -- the words that replay a script over a folder, with the schema of a path
 abbrev pub replay_words : List ℕ → List ℕ → List (List ℕ)
@@ -38,17 +39,18 @@ SaysLine told old new line =
     ((new.faults ≡ old.faults) × (told.said → new.said ≡ old.said ++ line ++ 10 ∷ []))
     ⊎ (Rose old.faults new.faults × (told.said → SaysPart old.said new.said line))
 
--- Only a line was said, or a part of it where the place refused that; the schemas, the scripts and what the folders hold stay. A refusal that was counted before is counted still.
+-- Only a line was said, or a part of it where the place refused that; the schemas, the scripts and what the folders hold stay. A refusal that was counted before is
+-- counted still.
 pub record OnlySays {O : Type 0} (told : PlaceTold) (old new : PlaceView O) (line : List ℕ) : Type 0 where
   pub says : SaysLine told old new line
   pub counted : (before : ℕ) → Rose before old.faults → Rose before new.faults
   pub frame : KeepsFolders told old new
 
--- The place refused a call, and then only this line was said.
+-- The place refused a call, and counted that. Then only this line was said, or a part of it where the place refused that too.
 pub record PlaceRefuses {O : Type 0} (told : PlaceTold) (old new : PlaceView O) (line : List ℕ) : Type 0 where
-  pub count : ℕ
-  pub refused : Rose old.faults count
-  pub only : OnlySays told (record old { faults = count }) new line
+  pub refused : Rose old.faults new.faults
+  pub says : told.said → (new.said ≡ old.said ++ line ++ 10 ∷ []) ⊎ SaysPart old.said new.said line
+  pub frame : KeepsFolders told old new
 
 -- Nothing was said, and the place refused no call.
 pub record SaysNothing {O : Type 0} (old new : PlaceView O) : Type 0 where
@@ -72,6 +74,7 @@ pub record SaysError {O : Type 0} (told : PlaceTold) (old new : PlaceView O) (er
 pub record TellsOrPart {W : Type 0} (told : Told) (old new : View W) (line : List ℕ) (is_told : Bool) : Type 0 where
   pub whole : told.heard → is_told ≡ true → TellsLine old.heard new.heard old.moment new.moment line
   pub part : told.heard → is_told ≡ false → (told_at : ℕ) × TellsPart old.heard new.heard told_at line
+  pub faults : (new.faults ≡ old.faults) ⊎ Rose old.faults new.faults
   pub frame : OnlyTells told old new
 
 -- what a run stands in: a place, and the source of its script
@@ -87,7 +90,8 @@ pub record AskedReplay (O : Type 0) : Type 0 where
   pub new : Scene O
 
 module _ {O W C : Type 0} (g : Ghosts O W C) (told : PlaceTold) where
-  -- The whole script was replayed over the directory that was lent for the folder, with the schema of the path. It was given back, nothing was said, and no call was refused.
+  -- The whole script was replayed over the directory that was lent for the folder, with the schema of the path. It was given back, nothing was said, and no call was
+  -- refused.
   pub record Succeeds (asked : AskedReplay O) : Type 0 where
     pub before : O
     pub now : O
@@ -100,12 +104,16 @@ module _ {O W C : Type 0} (g : Ghosts O W C) (told : PlaceTold) where
     pub read_out : IsReadOut asked.old.script asked.new.script
     pub quiet : IsQuietAt (g.view before) (g.view now) asked.old.script asked.new.script
     pub frame : ReplayFrame g.told (g.view before) (g.view now)
+    pub texts : KeepsTexts told asked.old.place asked.new.place
     pub silent : SaysNothing asked.old.place asked.new.place
 
-  -- The directory that was lent was given back: it reads what it read when the replay stopped, the same locks are held, and nobody was registered or called. A line was told to it, and nothing was said; or no more than a part of the line was told, and the line was said.
+  -- The directory that was lent was given back: it reads what it read when the replay stopped, the same locks are held, and nobody was registered or called. A line
+  -- was told to it, and nothing was said; or no more than a part of the line was told, and the line was said.
   pub record Reports (stopped : O) (old new : PlaceView O) (line : List ℕ) : Type 0 where
     pub now : O
     pub given_back : told.content → (folder : List ℕ) → old.lent ≡ Some folder → new.kept folder ≡ Some now
+    pub texts : KeepsTexts told old new
+    pub faults : ((g.view now).faults ≡ (g.view stopped).faults) ⊎ Rose (g.view stopped).faults (g.view now).faults
     pub frame : OnlyTells g.told (g.view stopped) (g.view now)
     pub reported :
         ((g.told.heard → TellsLine (g.view stopped).heard (g.view now).heard (g.view stopped).moment (g.view now).moment line) × SaysNothing old new)
@@ -118,9 +126,9 @@ module _ {O W C : Type 0} (g : Ghosts O W C) (told : PlaceTold) where
     pub schema : List ℕ
     pub lent : told.content → asked.old.place.kept asked.folder ≡ Some before
     pub schema_is : told.content → asked.old.place.schemas asked.path ≡ Some schema
-    pub cause : StopsReplay g before stopped schema asked.old.script asked.new.script error
-    -- what was told until then, and which commit stands
-    pub leaves : LeavesReplay g before stopped schema asked.old.script.left error
+    pub cause : FailsReplay g before stopped schema asked.old.script asked.new.script error
+    -- where it stopped, what was told by then, and which commit stands
+    pub stops : StopsReplay g before stopped schema asked.old.script asked.new.script error
     pub frame : ReplayFrame g.told (g.view before) (g.view stopped)
     -- seen from the place as it was while the folder's directory was lent
     pub reports : Reports stopped (record asked.old.place { lent = Some asked.folder }) asked.new.place line
@@ -153,3 +161,24 @@ module _ {O W C : Type 0} (g : Ghosts O W C) (told : PlaceTold) where
   -- what stands after a run of these words, where they are those of a replay
   abbrev pub EndsRun : (words : List (List ℕ)) → (old new : Scene O) → (status : ℕ) → Type 0
   EndsRun words old new status = (folder path : List ℕ) → words ≡ replay_words folder path → EndsReplay (record { folder = folder; path = path; old = old; new = new }) status
+
+  -- A run that replays a script over a folder, with the schema of a path, where all of this is told: both are there, they and the script are ready for a replay, and
+  -- nothing is refused, neither by the place nor by the directory nor in the script.
+  pub record IsUndisturbedRun (words : List (List ℕ)) (old new : Scene O) : Type 0 where
+    pub folder : List ℕ
+    pub path : List ℕ
+    pub words_are : words ≡ replay_words folder path
+    pub place : told.content
+    pub content : g.told.content
+    pub locks : g.told.locks
+    pub before : O
+    pub now : O
+    pub schema : List ℕ
+    pub lent : old.place.kept folder ≡ Some before
+    pub given_back : new.place.kept folder ≡ Some now
+    pub schema_is : old.place.schemas path ≡ Some schema
+    pub ready : IsReady schema old.script.left (g.view before).reads (g.view before).locks
+    pub still : (g.view now).faults ≡ (g.view before).faults
+    pub not_last : (g.view now).faults < 18446744073709551615
+    pub script_still : Rose old.script.faults new.script.faults → ⊥
+    pub place_still : Rose old.place.faults new.place.faults → ⊥

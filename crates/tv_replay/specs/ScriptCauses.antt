@@ -3,6 +3,8 @@ use Rattle.std.specs.Prelude.{ℕ, ◌≡◌, List, Option, Some, Result, IfErr,
 use Rattle.tv_model.specs.Files.{Rose}
 use Rattle.tv_base.specs.Causes.{IsDevice}
 use Rattle.tv_base.specs.Streams.{SourceView}
+use Rattle.tv_base.specs.declared.error.TantivyError.{TantivyError}
+use Rattle.tv_base.specs.declared.error.TantivyError.TheVariants as errors
 use Rattle.tv_replay.specs.declared.lines.LineError.{LineError}
 use Rattle.tv_replay.specs.declared.lines.LineError.TheVariants as line
 use Rattle.tv_replay.specs.declared.next_event.ScriptError.{ScriptError}
@@ -24,6 +26,21 @@ abbrev pub ScriptCause : (script : Option (List ℕ)) (refused quiet : Type 0) �
 ScriptCause script refused quiet (failed.Line error) = LineCause script refused quiet error
 ScriptCause script refused quiet failed.NotAnEvent = quiet × IsRefused IsNoEvent script
 
+-- known unless a read was refused
+abbrev pub UnlessFault : (known : Type 0) → LineError → Type 0
+UnlessFault known (line.Fault fault) = Unit {0}
+UnlessFault known other = known
+
+-- the same of an event's error
+abbrev pub UnlessLineFault : (known : Type 0) → ScriptError → Type 0
+UnlessLineFault known (failed.Line error) = UnlessFault known error
+UnlessLineFault known failed.NotAnEvent = known
+
+-- the same of the library's
+abbrev pub UnlessIoError : (known : Type 0) → TantivyError → Type 0
+UnlessIoError known (errors.IoError fault) = Unit {0}
+UnlessIoError known other = known
+
 -- No read was refused where a line was taken; and why none was.
 pub record LineFaults {A : Type 0} (script : Option (List ℕ)) (old new : SourceView) (result : Result A LineError) : Type 0 where
   pub quiet : OnOk result (new.faults ≡ old.faults)
@@ -33,3 +50,18 @@ pub record LineFaults {A : Type 0} (script : Option (List ℕ)) (old new : Sourc
 pub record ScriptFaults {A : Type 0} (script : Option (List ℕ)) (old new : SourceView) (result : Result A ScriptError) : Type 0 where
   pub quiet : OnOk result (new.faults ≡ old.faults)
   pub cause : IfErr result (ScriptCause script (Rose old.faults new.faults) (new.faults ≡ old.faults))
+
+-- What is known where a line was taken, and where none was, unless a read was refused.
+pub record LineReads {A : Type 0} (known : Type 0) (result : Result A LineError) : Type 0 where
+  pub ok : OnOk result known
+  pub err : IfErr result (UnlessFault known)
+
+-- The same of an event.
+pub record EventReads {A : Type 0} (known : Type 0) (result : Result A ScriptError) : Type 0 where
+  pub ok : OnOk result known
+  pub err : IfErr result (UnlessLineFault known)
+
+-- The same of the end of a script.
+pub record EndReads {A : Type 0} (known : Type 0) (result : Result A TantivyError) : Type 0 where
+  pub ok : OnOk result known
+  pub err : IfErr result (UnlessIoError known)

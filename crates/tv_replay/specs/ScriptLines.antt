@@ -1,5 +1,5 @@
 -- A script that comes in pieces, and what is taken from its front.
-use Rattle.std.specs.Prelude.{ℕ, ◌≡◌, ◌≢◌, ◌<◌, ◌≤◌, Bool, true, false, List, [], ◌∷◌, ◌++◌, length, slice_index, Option, Some, None, option_map}
+use Rattle.std.specs.Prelude.{ℕ, ◌≡◌, ◌≢◌, ◌<◌, ◌≤◌, Bool, true, false, List, [], ◌∷◌, ◌++◌, ◌+◌, length, slice_index, Option, Some, None, option_map}
 use Rattle.tv_base.specs.Streams.{Reads, IsAtEnd}
 use Rattle.tv_model.specs.declared.event.Event.{Event}
 use Rattle.tv_model.specs.Lines.{has_no_feed}
@@ -9,6 +9,18 @@ use Rattle.tv_store.specs.Applying.{written_by}
 -- what is held, and after it what is left, where that is told
 abbrev pub pending : List ℕ → Option (List ℕ) → Option (List ℕ)
 pending held left = option_map (λ rest. held ++ rest) left
+
+-- this is left of a script, but for a line and one byte at most
+pub record IsAhead (script : List ℕ) (left : Option (List ℕ)) : Type 0 where
+  pub over : List ℕ
+  pub rest : List ℕ
+  pub left_is : left ≡ Some rest
+  pub script_is : script ≡ over ++ rest
+  pub most : length over ≤ line_limit + 1
+
+-- where the script is told, no more of it was read than a line and one byte, what was held counted in
+abbrev pub ReadsAhead : (before left : Option (List ℕ)) → Type 0
+ReadsAhead before left = (script : List ℕ) → before ≡ Some script → IsAhead script left
 
 -- no line feed stands in the bytes
 abbrev pub NoFeed : List ℕ → Type 0

@@ -1,9 +1,9 @@
 //! The line that a run tells or says of an error.
 ghost use Rattle.std.specs.Prelude.{◌≡◌, ◌++◌, IfOk};
-ghost use Rattle.tv_replay.specs.ErrorLines.{argument_line, format_line, lock_line, read_line, error_line};
+ghost use Rattle.tv_replay.specs.ErrorLines.{argument_line, io_line, format_line, lock_line, read_line, write_line, corrupt_line, error_line};
 
 use std::alloc::Global;
-use tv_base::{Incompatibility, IoKind, LockError, OpenReadError, TantivyError};
+use tv_base::{Incompatibility, IoKind, LockError, OpenReadError, OpenWriteError, TantivyError};
 use tv_model::Memory;
 
 // A line of this text.
@@ -35,6 +35,16 @@ fn line_of(alloc: Global, text: &str, name: &str) -> Result<Vec<u8>, Memory>
     Ok(line)
 }
 
+// The line of a fault where no file is named.
+fn io_line(alloc: Global, kind: IoKind) -> Result<Vec<u8>, Memory>
+    ensures { IfOk result (λ line. line.items ≡ io_line kind) }
+{
+    match kind {
+        IoKind::Device => line(alloc, "error io"),
+        IoKind::UnexpectedEof | IoKind::InvalidData => line(alloc, "error data"),
+    }
+}
+
 // The line of a file of another format.
 fn format_line(alloc: Global, why: &Incompatibility) -> Result<Vec<u8>, Memory>
     ensures { IfOk result (λ line. line.items ≡ format_line why.now) }
@@ -64,7 +74,29 @@ fn read_line(alloc: Global, error: &OpenReadError) -> Result<Vec<u8>, Memory>
         },
         OpenReadError::FileDoesNotExist(path) => line_of(alloc, "error missing ", path.as_str()),
         OpenReadError::IncompatibleIndex(why) => format_line(alloc, why),
-        OpenReadError::Memory => line(alloc, "error"),
+        OpenReadError::Memory => line(alloc, "error memory"),
+    }
+}
+
+// The line of a file that can't be made.
+fn write_line(alloc: Global, error: &OpenWriteError) -> Result<Vec<u8>, Memory>
+    ensures { IfOk result (λ line. line.items ≡ write_line error.now) }
+{
+    match error {
+        OpenWriteError::FileAlreadyExists(path) => line_of(alloc, "error exists ", path.as_str()),
+        OpenWriteError::Leaving(_) => line(alloc, "error"),
+        OpenWriteError::IoError { io_error, .. } => io_line(alloc, io_error.kind),
+        OpenWriteError::Memory => line(alloc, "error memory"),
+    }
+}
+
+// The line of bytes that aren't of their form.
+fn corrupt_line(alloc: Global, filepath: &Option<String>) -> Result<Vec<u8>, Memory>
+    ensures { IfOk result (λ line. line.items ≡ corrupt_line filepath.now) }
+{
+    match filepath {
+        Some(path) => line_of(alloc, "error corrupt ", path.as_str()),
+        None => line(alloc, "error corrupt"),
     }
 }
 
@@ -74,7 +106,7 @@ fn lock_line(alloc: Global, why: &LockError) -> Result<Vec<u8>, Memory>
 {
     match why {
         LockError::LockBusy => line(alloc, "error lock"),
-        LockError::IoError(_) => line(alloc, "error io"),
+        LockError::IoError(fault) => io_line(alloc, fault.kind),
         LockError::Memory => line(alloc, "error memory"),
     }
 }
@@ -84,13 +116,15 @@ pub(crate) fn error_line(alloc: Global, error: &TantivyError) -> Result<Vec<u8>,
     ensures { IfOk result (λ line. line.items ≡ error_line error.now) }
 {
     match error {
-        TantivyError::IoError(_) | TantivyError::OpenWriteError(_) => line(alloc, "error io"),
+        TantivyError::IoError(fault) => io_line(alloc, fault.kind),
+        TantivyError::OpenWriteError(error) => write_line(alloc, error),
         TantivyError::LockFailure(why, _) => lock_line(alloc, why),
         TantivyError::OpenReadError(error) => read_line(alloc, error),
         TantivyError::OpenDirectoryError(_) => line(alloc, "error folder"),
         TantivyError::InvalidArgument(text) => argument_line(alloc, text.as_str()),
         TantivyError::Exhausted => line(alloc, "error lines"),
         TantivyError::Memory => line(alloc, "error memory"),
+        TantivyError::DataCorruption(why) => corrupt_line(alloc, &why.filepath),
         TantivyError::SchemaError(_) => line(alloc, "error schema"),
         _ => line(alloc, "error"),
     }

@@ -1,8 +1,8 @@
 //! The lines of a script, one at a time.
-ghost use Rattle.std.specs.Prelude.{◌≡◌, ◌≤◌, option_map, IfOk, IfSome, vec_len};
+ghost use Rattle.std.specs.Prelude.{◌≡◌, ◌≤◌, ◌+◌, length, option_map, IfOk, OnOk, IfSome, vec_len};
 ghost use Rattle.tv_model.specs.Script.{line_limit};
-ghost use Rattle.tv_replay.specs.ScriptLines.{pending, TakesNext};
-ghost use Rattle.tv_replay.specs.ScriptCauses.{LineFaults};
+ghost use Rattle.tv_replay.specs.ScriptLines.{pending, TakesNext, ReadsAhead};
+ghost use Rattle.tv_replay.specs.ScriptCauses.{LineFaults, LineReads};
 
 use crate::script::LINE_LIMIT;
 use crate::script_buffer::ScriptBuffer;
@@ -46,11 +46,17 @@ pub(crate) fn next_line<S: Source>(
     source: &mut S,
     buffer: &mut ScriptBuffer,
 ) -> Result<Option<Vec<u8>>, LineError>
+    requires held { length buffer.old ≤ line_limit + 1 }
     ensures line { IfOk result (λ found. TakesNext
         (pending buffer.old (S.view source.old).left)
         (option_map (λ line. line.items) found)
         (pending buffer.new (S.view source.new).left)) }
     ensures within { IfOk result (λ found. IfSome found (λ line. vec_len line ≤ line_limit)) }
+    // No more is held than a line and one byte, and no more was read where no read was refused.
+    ensures held { OnOk result (length buffer.new ≤ line_limit + 1) }
+    ensures ahead { LineReads
+        (ReadsAhead (pending buffer.old (S.view source.old).left) (S.view source.new).left)
+        result }
     ensures faults { LineFaults (pending buffer.old (S.view source.old).left) (S.view source.old)
         (S.view source.new) result }
 {

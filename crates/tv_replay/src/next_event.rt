@@ -1,7 +1,8 @@
 //! The events of a script, one at a time.
-ghost use Rattle.std.specs.Prelude.{◌≡◌, IfOk, IfSome};
-ghost use Rattle.tv_replay.specs.ScriptLines.{pending, FitsLine, TakesNextEvent};
-ghost use Rattle.tv_replay.specs.ScriptCauses.{ScriptFaults};
+ghost use Rattle.std.specs.Prelude.{◌≡◌, ◌≤◌, ◌+◌, length, IfOk, OnOk, IfSome};
+ghost use Rattle.tv_model.specs.Script.{line_limit};
+ghost use Rattle.tv_replay.specs.ScriptLines.{pending, FitsLine, TakesNextEvent, ReadsAhead};
+ghost use Rattle.tv_replay.specs.ScriptCauses.{ScriptFaults, EventReads};
 
 use crate::lines::{LineError, next_line};
 use crate::script::parse_event;
@@ -46,12 +47,18 @@ pub(crate) fn next_event<S: Source>(
     source: &mut S,
     buffer: &mut ScriptBuffer,
 ) -> Result<Option<Event>, ScriptError>
+    requires held { length buffer.old ≤ line_limit + 1 }
     ensures event { IfOk result (λ found. TakesNextEvent
         (pending buffer.old (S.view source.old).left)
         found
         (pending buffer.new (S.view source.new).left)) }
     // This is known also where the source doesn't tell the script.
     ensures fits { IfOk result (λ found. IfSome found FitsLine) }
+    // No more is held than a line and one byte, and no more was read where no read was refused.
+    ensures held { OnOk result (length buffer.new ≤ line_limit + 1) }
+    ensures ahead { EventReads
+        (ReadsAhead (pending buffer.old (S.view source.old).left) (S.view source.new).left)
+        result }
     ensures faults { ScriptFaults (pending buffer.old (S.view source.old).left) (S.view source.old)
         (S.view source.new) result }
 {

@@ -2,8 +2,8 @@
 ghost use Rattle.std.specs.Prelude.{◌≡◌, ◌≢◌, ◌⊎◌, ◌↔◌, List, ℕ, None, IsSome, true, map, string_bytes};
 ghost use Rattle.tv_model.specs.Lines.{has_no_feed};
 ghost use Rattle.tv_replay.specs.ErrorLines.{error_line};
-ghost use Rattle.tv_replay.specs.Runs.{replay_words, usage_line, OnlySays, SaysNothing, SaysError, TellsOrPart};
-ghost use Rattle.tv_replay.specs.Runs.{IsStatusOf, EndsRun, EndsReplay, Reports, ReportsError};
+ghost use Rattle.tv_replay.specs.Runs.{replay_words, usage_line, OnlySays, SaysError, TellsOrPart};
+ghost use Rattle.tv_replay.specs.Runs.{IsStatusOf, IsUndisturbedRun, EndsRun, EndsReplay, Reports, ReportsError};
 
 use crate::error_line::error_line;
 use crate::place::Place;
@@ -43,8 +43,11 @@ pub fn run<P: Place, R: Source>(
     ensures ends { EndsRun P.Out.Directory P.told (map string_bytes words.now)
         (record { place = P.view place.old; script = R.view script.old })
         (record { place = P.view place.new; script = R.view script.new }) result }
-    // After the whole script nothing was said, and the place refused no call.
-    ensures quiet { result ≡ 0 → SaysNothing (P.view place.old) (P.view place.new) }
+    // A run that nothing disturbs ends with the whole script, or wants memory.
+    ensures complete { IsUndisturbedRun P.Out.Directory P.told (map string_bytes words.now)
+        (record { place = P.view place.old; script = R.view script.old })
+        (record { place = P.view place.new; script = R.view script.new })
+        → (result ≡ 0) ⊎ (result ≡ 3) }
     ensures statuses { (result ≡ 0) ⊎ (result ≡ 1) ⊎ (result ≡ 2) ⊎ (result ≡ 3) }
 {
     match words {

@@ -1,13 +1,15 @@
 //! A script replayed over a directory.
-ghost use Rattle.std.specs.Prelude.{◌≡◌, ℕ, List, None, true, IfOk, IfErr, OnOk, string_bytes};
+ghost use Rattle.std.specs.Prelude.{◌≡◌, ◌≤◌, ◌+◌, ℕ, List, None, true, length, IfOk, IfErr, OnOk, string_bytes};
+ghost use Rattle.tv_model.specs.Script.{line_limit};
 ghost use Rattle.tv_store.specs.Kept.{AtMost};
 ghost use Rattle.tv_store.specs.ReaderNumbers.{FewNumbers};
 ghost use Rattle.tv_store.specs.StoreCauses.{IsRefusal};
-ghost use Rattle.tv_replay.specs.AppliedEvents.{Runs, RunFaults, LeavesStopped, ScriptEndFaults, IsErrorOf};
+ghost use Rattle.tv_replay.specs.AppliedEvents.{Runs, RunFaults, StopsRun, ScriptEndFaults, IsErrorOf};
 ghost use Rattle.tv_replay.specs.Completeness.{IsUndisturbed};
-ghost use Rattle.tv_replay.specs.Replays.{Replays, ReplayFaults, ReplayFrame, LeavesReplay, IsReadOut};
+ghost use Rattle.tv_replay.specs.Replays.{Replays, ReplayFaults, ReplayFrame, StopsReplay, IsReadOut};
 ghost use Rattle.tv_replay.specs.Replays.{line_refusal, long_refusal};
-ghost use Rattle.tv_replay.specs.ScriptLines.{pending, TakesNextEvent};
+ghost use Rattle.tv_replay.specs.ScriptLines.{pending, TakesNextEvent, ReadsAhead};
+ghost use Rattle.tv_replay.specs.ScriptCauses.{EndReads};
 
 use crate::lines::LineError;
 use crate::next_event::{ScriptError, next_event};
@@ -21,12 +23,15 @@ use tv_store::IndexStore;
 /// What a replay did: how many lines its script had.
 #[derive(Clone, Copy, Debug, PartialEq, Eq)]
 pub struct Tally {
+    /// How many lines, refused events among them.
     pub events: u32,
 }
 
 /// The directory after a replay, and how the replay went.
 pub struct Replayed<O> {
+    /// The directory, in which no lock of the replay is held.
     pub outside: O,
+    /// That the script was read to its end, or why not.
     pub outcome: Result<Tally, TantivyError>,
 }
 
@@ -44,9 +49,9 @@ pub fn replay<O: Outside, R: Source>(
     ensures done { IfOk result.outcome
         (Replays O.Directory outside result.outside schema.now (R.view script.old).left) }
     ensures read_out { OnOk result.outcome (IsReadOut (R.view script.old) (R.view script.new)) }
-    // What was told until an error, and which commit stands.
-    ensures leaves { IfErr result.outcome
-        (LeavesReplay O.Directory outside result.outside schema.now (R.view script.old).left) }
+    // Where it stopped with an error, what was told by then, and which commit stands.
+    ensures stops { IfErr result.outcome (StopsReplay O.Directory outside result.outside schema.now
+        (R.view script.old) (R.view script.new)) }
     // Where it is told a valid schema, a valid script and a sound start without an index, no lock is held,
     // and no call but deletes is refused, it comes to its end, or wants memory.
     ensures complete { IsUndisturbed O.Directory outside schema.now (R.view script.old)
@@ -83,8 +88,8 @@ fn apply_all<O: Outside, R: Source>(
     requires few { FewNumbers 0 store.old.kept.catalog.reading }
     ensures done { IfOk result
         (Runs O.Directory store.old store.new (R.view script.old).left (R.view script.new).left) }
-    ensures leaves { IfErr result
-        (LeavesStopped O.Directory store.old store.new (R.view script.old).left) }
+    ensures stops { IfErr result
+        (StopsRun O.Directory store.old store.new (R.view script.old) (R.view script.new)) }
     ensures faults { RunFaults O.Directory store.old store.new (R.view script.old)
         (R.view script.new) result }
     ensures frame { ReplayFrame O.told (O.view store.old.outside) (O.view store.new.outside) }
@@ -108,11 +113,17 @@ pub(crate) fn end_of<R: Source>(
     script: &mut R,
     buffer: &mut ScriptBuffer,
 ) -> Result<Tally, TantivyError>
+    requires held { length buffer.old ≤ line_limit + 1 }
     ensures count { IfOk result (λ tally. tally.events ≡ u32.MAX) }
     ensures end { OnOk result (TakesNextEvent
         (pending buffer.old (R.view script.old).left)
         None
         (pending buffer.new (R.view script.new).left)) }
+    // No more is held than a line and one byte, and no more was read where no read was refused.
+    ensures held { OnOk result (length buffer.new ≤ line_limit + 1) }
+    ensures ahead { EndReads
+        (ReadsAhead (pending buffer.old (R.view script.old).left) (R.view script.new).left)
+        result }
     ensures faults { ScriptEndFaults (pending buffer.old (R.view script.old).left)
         (R.view script.old) (R.view script.new) result }
 {

@@ -1,5 +1,5 @@
 //! Bytes of a script that were read and are not yet taken.
-ghost use Rattle.std.specs.Prelude.{◌≡◌, ◌<◌, [], ◌≤◌, length, take, IfOk, OnOk, IsTrue, ◌↔◌};
+ghost use Rattle.std.specs.Prelude.{◌≡◌, ◌<◌, [], ◌≤◌, ◌+◌, length, take, IfOk, OnOk, IsTrue, ◌↔◌};
 ghost use Rattle.tv_model.specs.Script.{line_limit};
 ghost use Rattle.tv_base.specs.Streams.{Reads, Keeps, IsAtEnd, SourceFaults};
 ghost use Rattle.tv_replay.specs.ScriptLines.{IsFeedAt, Fills, Moves, pending};
@@ -46,6 +46,7 @@ fn read_block<S: Source>(source: &mut S, block: &mut [u8], len: usize) -> Result
     requires some { 0 < length block.old }
     requires short { len ≤ line_limit }
     ensures count { IfOk result (λ n. n ≤ length block.old) }
+    ensures room { IfOk result (λ n. n + len ≤ line_limit + 1) }
     ensures bytes { IfOk result
         (λ n. Reads (take n block.new) (S.view source.old).left (S.view source.new).left) }
     ensures end { IfOk result (λ n. n ≡ 0 → IsAtEnd (S.view source.old).left) }
@@ -81,6 +82,7 @@ impl ScriptBuffer {
         requires short { len ≤ line_limit }
         ensures fills { OnOk result
             (Fills self.new (S.view source.old).left (S.view source.new).left) }
+        ensures room { OnOk result (length self.new + len ≤ line_limit + 1) }
         ensures faults { SourceFaults (S.view source.old) (S.view source.new) result }
     {
         self.start = 0;
@@ -92,12 +94,14 @@ impl ScriptBuffer {
     /// Reads the next bytes, where nothing is held, to follow a line of this length. Then nothing
     /// is held only at the end.
     pub(crate) fn refill<S: Source>(&mut self, source: &mut S, len: usize) -> Result<(), IoFault>
-        requires { len ≤ line_limit }
+        requires short { len ≤ line_limit }
+        requires room { length self.old + len ≤ line_limit + 1 }
         ensures same { OnOk result
             (Keeps (pending self.old (S.view source.old).left)
             (pending self.new (S.view source.new).left)) }
         ensures end { OnOk result
             (self.new ≡ [] → IsAtEnd (pending self.old (S.view source.old).left)) }
+        ensures room { OnOk result (length self.new + len ≤ line_limit + 1) }
         ensures faults { SourceFaults (S.view source.old) (S.view source.new) result }
     {
         if self.is_empty() {

@@ -1,5 +1,5 @@
 -- What the calls of the events do, put together.
-use Rattle.std.proofs.Common.{ℕ, ◌≡◌, ◌<◌, ◌+◌, true, List, [], length, Result, Ok, Err, Some, refl, sym, ap, subst, ◌∙◌, inl, inr, arith}
+use Rattle.std.proofs.Common.{ℕ, ◌≡◌, ◌<◌, ◌+◌, true, false, List, [], length, Result, Ok, Err, Some, refl, sym, ap, subst, ◌∙◌, inl, arith}
 use Rattle.std.specs.Prelude.{IfOk, OnOk, OnErr}
 use Rattle.std.proofs.lemmas.Result.{on_err_weaker}
 use Rattle.tv_base.specs.declared.error.TantivyError.{TantivyError}
@@ -17,17 +17,18 @@ use Rattle.tv_model.specs.Readable.{ReadsGood}
 use Rattle.tv_model.specs.declared.event.Event.{Event}
 use Rattle.tv_model.specs.declared.event.Event.TheVariants as events
 use Rattle.tv_store.specs.Kept.{Kept, StoreState, Holds, AtMost}
-use Rattle.tv_store.specs.ReaderNumbers.{FewNumbers, NumbersSpent}
+use Rattle.tv_store.specs.Exhausted.{IsExhausted, PassesEnd, number_after}
+use Rattle.tv_store.specs.ReaderNumbers.{FewNumbers}
 use Rattle.tv_store.specs.StoreCauses.{IsBusy}
-use Rattle.tv_store.specs.ReadCauses.{TakesMetaLock}
-use Rattle.tv_store.specs.Applying.{Stepped, ActCause, ApplyFaults, MayNoteAt, Spent, BadIn, HoldsNone, written_by}
-use Rattle.tv_store.specs.Stays.{Asks, Stays, KeepsReaders, EventFaults, FrameNotes}
+use Rattle.tv_store.specs.ReadCauses.{IsReadError, TakesMetaLock}
+use Rattle.tv_store.specs.Applying.{Stepped, ActCause, ApplyFaults, MayNoteAt, BadIn, HoldsNone, written_by}
+use Rattle.tv_store.specs.Stays.{Asks, Stays, KeepsDotted, KeepsReaders, EventFaults, FrameNotes}
 use Rattle.tv_store.specs.Committing.{Commits}
 use Rattle.tv_store.specs.Acting.{Acts, KeepsMeta, OnFiles, LeavesStep, Passes, StepsTo, StepsReading, StepsDeleting}
 use Rattle.tv_store.specs.Catalogs.{CatalogCause, FitsCatalog}
 use Rattle.tv_store.proofs.Holding.{same_holds}
 use Rattle.tv_store.proofs.Lifting.{catalog_held, numbers_grow, plain_event}
-use Rattle.tv_store.proofs.Steps.{cause_in, leaves_old, old_at_memory, stepped, stepped_reading, stepped_deleting, at_most, numbers_stay, same_lens}
+use Rattle.tv_store.proofs.Steps.{cause_in, reads_none, leaves_old, old_at_memory, stepped, stepped_reading, stepped_deleting, at_most, numbers_stay, same_lens}
 
 -- nothing noted anything
 abbrev pub NotesNothing : Event → Type 0
@@ -70,16 +71,16 @@ module _ {O W C : Type 0} (g : Ghosts O W C) (old new : StoreState O) (event sho
   -- what an event leaves that leaves `meta.json` alone at an error
   leaves : KeepsMeta g old new result → LeavesStep g old new shown result
   leaves meta = record {
-    meta = λ tells s held whole. leaves_old result ((g.view old.outside).reads meta_name) ((g.view new.outside).reads meta_name) old.kept.schema s shown (meta tells);
+    meta = λ tells s held whole. leaves_old result RefusedOne ((g.view old.outside).reads meta_name) ((g.view new.outside).reads meta_name) old.kept.form s shown (meta tells);
     memory = λ tells. old_at_memory result ((g.view old.outside).reads meta_name) ((g.view new.outside).reads meta_name) (meta tells);
   }
 
   pub acts : Steps → IfOk result (λ answer. length answer < (g.view new.outside).room)
       → ((bound : ℕ) → AtMost bound old.kept → AtMost (bound + written_by shown) new.kept)
       → ((bound : ℕ) → FewNumbers bound old.kept.catalog.reading → OnOk result (FewNumbers (bound + written_by shown) new.kept.catalog.reading))
-      → ApplyFaults g old new shown result → KeepsMeta g old new result → Frames
+      → ApplyFaults g old new shown result → KeepsMeta g old new result → (g.told.content → KeepsDotted (g.view old.outside).reads (g.view new.outside).reads) → Frames
       → Acts g old new event result
-  acts step room lens numbers faults meta frame =
+  acts step room lens numbers faults meta dotted frame =
       subst (λ (e : Event). Acts g old new e result) (sym is) (record {
         step = step;
         room = room;
@@ -87,16 +88,18 @@ module _ {O W C : Type 0} (g : Ghosts O W C) (old new : StoreState O) (event sho
         numbers = numbers;
         faults = faults;
         leaves = leaves meta;
+        dotted = dotted;
         frame = frame;
       })
 
   -- one that takes no lock and reads no commit's files
-  faults_alone : (spent : Type 0) → (spent → Spent old.kept shown) → (TakesMetaLock old.kept shown → ⊥) → EventFaults spent (g.view old.outside) (g.view new.outside) result → ApplyFaults g old new shown result
+  faults_alone : (spent : Type 0) → (spent → IsExhausted old.kept shown) → (TakesMetaLock old.kept.catalog shown → ⊥) → EventFaults spent (g.view old.outside) (g.view new.outside) result → ApplyFaults g old new shown result
   faults_alone spent all free faults = record {
     quiet = faults.quiet;
     free = λ told takes. absurd (free takes);
+    reads = λ told. reads_none (List ℕ) RefusedOne RefusedNone spent ((g.view old.outside).locks meta_lock_name ≡ false) result faults.cause;
     cause =
-        cause_in (List ℕ) (TakesMetaLock old.kept shown × IsBusy g.told.locks ((g.view old.outside).locks meta_lock_name ≡ true) RefusedOne) RefusedOne RefusedNone spent (Spent old.kept shown)
+        cause_in (List ℕ) (TakesMetaLock old.kept.catalog shown × IsBusy g.told.locks ((g.view old.outside).locks meta_lock_name ≡ true) RefusedOne) RefusedOne RefusedNone spent (IsExhausted old.kept shown)
         (BadIn g.told.content (g.view old.outside).reads old.kept shown) (λ path. HoldsNone g.told.content (g.view old.outside).reads old.kept) result faults.cause all;
   }
 
@@ -104,7 +107,7 @@ module _ {O W C : Type 0} (g : Ghosts O W C) (old new : StoreState O) (event sho
   step_alone good refusals h = stepped g old new shown (λ s. step s shown []) result refusals (λ s. refl) good h
 
   -- one on files
-  pub acts_on_files : NotesNothing shown → (keeps : View W → View W → Type 0) → ((before now : View W) → keeps before now → KeptView g.told before now) → (spent : Type 0) → (spent → Spent old.kept shown) → ((s : State) → ReadsGood s shown) → (TakesMetaLock old.kept shown → ⊥)
+  pub acts_on_files : NotesNothing shown → (keeps : View W → View W → Type 0) → ((before now : View W) → keeps before now → KeptView g.told before now) → (spent : Type 0) → (spent → IsExhausted old.kept shown) → ((s : State) → ReadsGood s shown) → (TakesMetaLock old.kept.catalog shown → ⊥)
       → StepsTo g old new (λ s. step s shown []) result → ((bound : ℕ) → AtMost bound old.kept → AtMost (bound + written_by shown) new.kept)
       → OnFiles g keeps spent old new result
       → Acts g old new event result
@@ -112,8 +115,8 @@ module _ {O W C : Type 0} (g : Ghosts O W C) (old new : StoreState O) (event sho
       let stays = does.frame.stays in
       let below = weaker (g.view old.outside) (g.view new.outside) stays.below in
       acts (step_alone good below.frame.tells_none.deletes_none.refusals step) does.room lens
-      (λ bound h. numbers_stay bound (written_by shown) old.kept.catalog.reading new.kept.catalog.reading result does.frame.reading h) (faults_alone spent all free does.faults) does.meta
-      (record { schema = stays.schema; is_open = stays.is_open; below = passed g.told shown (g.view old.outside) (g.view new.outside) none below })
+      (λ bound h. numbers_stay bound (written_by shown) old.kept.catalog.reading new.kept.catalog.reading result does.frame.reading h) (faults_alone spent all free does.faults) does.meta does.dotted
+      (record { form = stays.form; is_open = stays.is_open; below = passed g.told shown (g.view old.outside) (g.view new.outside) none below })
 
   -- one that reads a commit's files
   pub acts_reading : NotesNothing shown → (good : State → Type 0) → ((s : State) → good s → ReadsGood s shown)
@@ -126,21 +129,22 @@ module _ {O W C : Type 0} (g : Ghosts O W C) (old new : StoreState O) (event sho
       let below = frame.below.kept in
       acts (stepped_reading g old new shown (λ s. step s shown []) good result below.frame.tells_none.deletes_none.refusals (λ s. refl) reads did) room lens numbers faults
       (λ tells. on_err result ((g.view new.outside).reads meta_name ≡ (g.view old.outside).reads meta_name) (frame.below.content tells meta_name))
-      (record { schema = frame.schema; is_open = frame.is_open; below = passed g.told shown (g.view old.outside) (g.view new.outside) none below })
+      (λ tells n dot other. frame.below.content tells n)
+      (record { form = frame.form; is_open = frame.is_open; below = passed g.told shown (g.view old.outside) (g.view new.outside) none below })
 
   -- one that deletes files
   pub acts_deleting : NotesNothing shown → ((s : State) → ReadsGood s shown)
       → IfOk result (StepsDeleting g old new (λ s outcomes. step s shown outcomes)) → IfOk result (λ answer. length answer < (g.view new.outside).room)
       → ((bound : ℕ) → AtMost bound old.kept → AtMost (bound + written_by shown) new.kept)
-      → ApplyFaults g old new shown result → KeepsMeta g old new result → KeepsReaders (MayDelete g.told) g.view old new
+      → ApplyFaults g old new shown result → KeepsMeta g old new result → (g.told.content → KeepsDotted (g.view old.outside).reads (g.view new.outside).reads) → KeepsReaders (MayDelete g.told) g.view old new
       → Acts g old new event result
-  acts_deleting none good did room lens faults meta frame =
+  acts_deleting none good did room lens faults meta dotted frame =
       acts (stepped_deleting g old new shown (λ s outcomes. step s shown outcomes) result (λ s outcomes. refl) good did) room lens
-      (λ bound h. numbers_stay bound (written_by shown) old.kept.catalog.reading new.kept.catalog.reading result frame.reading h) faults meta
-      (record { schema = frame.stays.schema; is_open = frame.stays.is_open; below = passed_deleting g.told shown (g.view old.outside) (g.view new.outside) none frame.stays.below })
+      (λ bound h. numbers_stay bound (written_by shown) old.kept.catalog.reading new.kept.catalog.reading result frame.reading h) faults meta dotted
+      (record { form = frame.stays.form; is_open = frame.stays.is_open; below = passed_deleting g.told shown (g.view old.outside) (g.view new.outside) none frame.stays.below })
 
   -- one that commits
-  pub acts_committing : ((s : State) → ReadsGood s shown) → (TakesMetaLock old.kept shown → ⊥)
+  pub acts_committing : ((s : State) → ReadsGood s shown) → (TakesMetaLock old.kept.catalog shown → ⊥)
       → (FrameNotes g.told (g.view old.outside) (g.view new.outside) → MayNoteAt shown (g.view old.outside).watched (g.view new.outside).watched)
       → Commits g (Unit {0}) old new (λ s. step s shown []) result → Acts g old new event result
   acts_committing good free notes h =
@@ -155,8 +159,9 @@ module _ {O W C : Type 0} (g : Ghosts O W C) (old new : StoreState O) (event sho
           meta = λ tells s held whole. on_err_weaker result (λ left. ([], left)) (h.meta tells s held tt);
           memory = h.memory;
         };
+        dotted = h.dotted;
         frame = record {
-          schema = h.frame.stays.schema;
+          form = h.frame.stays.form;
           is_open = h.frame.stays.is_open;
           below = record {
             goes_on = below.frame.tells_none.deletes_none.goes_on;
@@ -189,9 +194,10 @@ acts_known g old mid new event known result steps fits kept outside is_open answ
     room
     (λ bound h. at_most bound (written_by event) new.kept (subst (AtMost bound) (sym now) h))
     (λ bound few. ok_result result (subst (λ (k : Kept). FewNumbers (bound + written_by event) k.catalog.reading) (sym now) (numbers_grow bound old.kept.catalog old.kept.managed event known few steps)))
-    (faults_alone g old new event event refl result ⊥ (λ never. absurd never) (plain.free old.kept) (subst (λ o. EventFaults ⊥ (g.view o) (g.view new.outside) result) outside faults))
+    (faults_alone g old new event event refl result ⊥ (λ never. absurd never) (plain.free old.kept.catalog) (subst (λ o. EventFaults ⊥ (g.view o) (g.view new.outside) result) outside faults))
     (λ tells. on_err result ((g.view new.outside).reads meta_name ≡ (g.view old.outside).reads meta_name) (below.content tells meta_name))
-    (record { schema = ap (λ (k : Kept). k.schema) now; is_open = frame.is_open ∙ is_open; below = passed g.told event (g.view old.outside) (g.view new.outside) plain.notes below.kept }) where
+    (λ tells n dot other. below.content tells n)
+    (record { form = ap (λ (k : Kept). k.form) now; is_open = frame.is_open ∙ is_open; below = passed g.told event (g.view old.outside) (g.view new.outside) plain.notes below.kept }) where
       here : (s : State) → Holds (g.view old.outside).reads old.kept s → catalog_step s.catalog s.managed event ≡ Some known
       here s h = subst (λ (c : Catalog). catalog_step c s.managed event ≡ Some known) h.catalog (subst (λ (names : List (List ℕ)). catalog_step old.kept.catalog names event ≡ Some known) h.managed steps)
 
@@ -204,16 +210,17 @@ acts_known g old mid new event known result steps fits kept outside is_open answ
       ok_result (Err e) h = tt
 
 -- one that wasn't made, for want of memory or for a number that is spent
-pub acts_unknown : {O W C : Type 0} (g : Ghosts O W C) (store : StoreState O) (event : Event) (error : TantivyError) → CatalogCause (NumbersSpent store.kept.catalog.reading (written_by event)) error → Acts g store store event (Err error)
+pub acts_unknown : {O W C : Type 0} (g : Ghosts O W C) (store : StoreState O) (event : Event) (error : TantivyError) → CatalogCause (PassesEnd (number_after store.kept.catalog event)) error → Acts g store store event (Err error)
 acts_unknown g store event error why = record {
   step = tt;
   room = tt;
   lens = λ bound h. at_most bound (written_by event) store.kept h;
   numbers = λ bound few. tt;
-  faults = record { quiet = tt; free = λ told takes. tt; cause = cause error why };
+  faults = record { quiet = tt; free = λ told takes. tt; reads = λ told. unread error why; cause = cause error why };
   leaves = record { meta = λ tells s held whole. ([], inl refl); memory = λ tells wanted. refl };
+  dotted = λ tells n dot other. refl;
   frame = record {
-    schema = refl;
+    form = refl;
     is_open = refl;
     below = record {
       goes_on = record { writers = λ w o. o; ended = λ t w o l. l; clock = omega arith };
@@ -223,10 +230,14 @@ acts_unknown g store event error why = record {
     };
   };
 } where
-  cause : (e : TantivyError) → CatalogCause (NumbersSpent store.kept.catalog.reading (written_by event)) e → ActCause g store store event e
+  cause : (e : TantivyError) → CatalogCause (PassesEnd (number_after store.kept.catalog event)) e → ActCause g store store event e
   cause errors.Memory h = refl
-  cause errors.Exhausted h = (refl, inr h)
+  cause errors.Exhausted h = (refl, inl h)
   cause other h = absurd h
+
+  unread : (e : TantivyError) → CatalogCause (PassesEnd (number_after store.kept.catalog event)) e → IsReadError e → (g.view store.outside).locks meta_lock_name ≡ false
+  unread (errors.OpenReadError e) h r = absurd h
+  unread other h r = absurd r
 
   quiet_notes : (e : Event) → MayNoteAt e (g.view store.outside).watched (g.view store.outside).watched
   quiet_notes (events.Commit payload ids) = inl refl

@@ -1,24 +1,30 @@
 -- What a store does that makes an event's step, and then tells its line.
-use Rattle.std.proofs.Common.{ℕ, ◌≡◌, ◌≤◌, ◌+◌, ◌∙◌, inl, inr, ◌++◌, [], ◌∷◌, false, List, Result, Ok, Err, sym, ap, subst, arith}
-use Rattle.std.specs.Prelude.{is_ok}
+use Rattle.std.proofs.Common.{ℕ, ◌≡◌, ◌≤◌, ◌+◌, ◌∙◌, inl, inr, ◌++◌, ◌∷◌, true, false, true≢false, List, Option, Some, Ok, Err, refl, sym, ap, subst, arith}
+use Rattle.std.specs.Prelude.{IfSome}
 use Rattle.tv_base.specs.declared.error.TantivyError.{TantivyError}
 use Rattle.tv_base.specs.declared.error.TantivyError.TheVariants as errors
 use Rattle.tv_directory.specs.View.{OnlyTells}
-use Rattle.tv_directory.specs.Watch.{WatchState}
 use Rattle.tv_directory.specs.declared.directory.Directory.{Ghosts}
-use Rattle.tv_model.specs.Commits.{Means, default_settings}
-use Rattle.tv_model.specs.Files.{Heard, RoseBy}
-use Rattle.tv_model.specs.Machine.{step, refused_in}
-use Rattle.tv_model.specs.Names.{meta_name}
+use Rattle.tv_model.specs.Files.{Heard}
 use Rattle.tv_model.specs.declared.event.Event.{Event}
 use Rattle.tv_store.specs.Kept.{Kept, StoreState, AtMost}
 use Rattle.tv_store.specs.ReaderNumbers.{FewNumbers}
 use Rattle.tv_store.specs.Acting.{Acts}
-use Rattle.tv_store.specs.Applying.{Stepped, ActCause, LeavesMeta, Grows, ApplyFaults, AppliesFrame, MayNoteAt, written_by}
-use Rattle.tv_store.specs.Telling.{TellsAnswer, TellsFirstPart, TellsNoLine, TriesLine}
-use Rattle.tv_store.proofs.Asking.{goes_later}
+use Rattle.tv_store.specs.Applying.{ActCause, Grows, ApplyFaults, IsUndisturbedEvent, MeetsBadAt, written_by}
+use Rattle.tv_store.proofs.ReaderEvents.{has_middle}
+use Rattle.tv_base.specs.declared.open_errors.LockError.TheVariants as lock
+use Rattle.tv_base.specs.declared.open_errors.OpenReadError.{OpenReadError}
+use Rattle.tv_base.specs.declared.open_errors.OpenReadError.TheVariants as read
+use Rattle.tv_base.specs.declared.open_errors.OpenWriteError.{OpenWriteError}
+use Rattle.tv_base.specs.declared.open_errors.OpenWriteError.TheVariants as write
+use Rattle.tv_model.specs.Footer.{IsGood}
+use Rattle.tv_model.specs.Readable.{AreGoodFiles, IsGoodFile, ReadsGood}
+use Rattle.tv_model.specs.Segments.{all_required}
+use Rattle.tv_model.specs.State.{State, Sealed}
+use Rattle.tv_model.specs.Commits.{Commit}
+use Rattle.tv_model.specs.Names.{has}
+use Rattle.tv_store.specs.Telling.{TellsAnswer, TellsNoLine, TriesLine}
 use Rattle.tv_store.proofs.FewNumbers.{few_below}
-use Rattle.tv_store.proofs.Holding.{same_holds}
 use Rattle.tv_store.proofs.Steps.{longer}
 
 -- ---- an error of the step
@@ -34,7 +40,7 @@ module _ {O W C : Type 0} (g : Ghosts O W C) (old mid : StoreState O) (event : E
   }
 
   pub faults_failed : ApplyFaults g old mid event (Err error)
-  faults_failed = record { quiet = tt; free = λ told takes. tt; cause = acted.faults.cause }
+  faults_failed = record { quiet = tt; free = λ told takes. tt; reads = acted.faults.reads; cause = acted.faults.cause }
 
 -- ---- a step whose line is tried
 
@@ -57,3 +63,41 @@ module _ {O W C : Type 0} (g : Ghosts O W C) (old mid new : StoreState O) (event
 
     pub grows_untold : Grows old.kept new.kept event (Err error)
     grows_untold = record { lens = lens_as; numbers = λ bound more small few. tt }
+
+-- ---- an event that nothing disturbs
+
+in_list : (front rest : List (List ℕ)) (path : List ℕ) → has (front ++ path ∷ rest) path ≡ true
+in_list front rest path = has_middle (front ++ path ∷ rest) front rest path refl
+
+no_bad_file : (s : State) (event : Event) (error : OpenReadError) → ReadsGood s event → MeetsBadAt s event error → ⊥
+no_bad_file s event error good (commit, reads, met) =
+    let all : AreGoodFiles s (all_required commit.segments) = subst (λ (read : Option Commit). IfSome read (λ c. AreGoodFiles s (all_required c.segments))) reads good in
+    let there : has (all_required commit.segments) met.path ≡ true = ap (λ (names : List (List ℕ)). has names met.path) met.split ∙ in_list met.front met.rest met.path in
+    let file : IsGoodFile s met.path = all.each met.path there in
+    let same : Some (Sealed file.0) ≡ Some (Sealed met.bytes) = sym file.1 ∙ met.sealed in
+    let one : file.0 ≡ met.bytes = cc in
+    let is_good : IsGood met.bytes = subst IsGood one file.2 in
+    met.no_body is_good.body is_good.has_body
+
+module _ {O W C : Type 0} (g : Ghosts O W C) (old new : StoreState O) (event : Event) (u : IsUndisturbedEvent g old new event) where
+  no_read_fault : (error : OpenReadError) → ActCause g old new event (errors.OpenReadError error) → ⊥
+  no_read_fault (read.IoError fault path) (inl h) = u.quiet h.1
+  no_read_fault (read.IoError fault path) (inr h) = no_bad_file u.state event (read.IoError fault path) u.readable (h.3 u.content u.state u.held u.whole)
+  no_read_fault (read.FileDoesNotExist path) h = h.2 u.content u.state u.held u.whole
+  no_read_fault (read.IncompatibleIndex why) h = no_bad_file u.state event (read.IncompatibleIndex why) u.readable (h.1 u.content u.state u.held u.whole)
+  no_read_fault other h = absurd h
+
+  no_write_fault : (error : OpenWriteError) → ActCause g old new event (errors.OpenWriteError error) → ⊥
+  no_write_fault (write.IoError fault path) h = u.quiet h.1
+  no_write_fault other h = absurd h
+
+  pub undisturbed : (error : TantivyError) → ActCause g old new event error → error ≡ errors.Memory
+  undisturbed (errors.IoError fault) h = absurd (u.quiet h.1)
+  undisturbed (errors.OpenWriteError error) h = absurd (no_write_fault error h)
+  undisturbed (errors.OpenReadError error) h = absurd (no_read_fault error h)
+  undisturbed (errors.LockFailure lock.LockBusy text) h = absurd (true≢false (sym (h.0.1.told u.locks) ∙ u.free h.0.0))
+  undisturbed (errors.LockFailure (lock.IoError fault) text) h = absurd (u.quiet h.0.1)
+  undisturbed (errors.LockFailure lock.Memory text) h = absurd h.0
+  undisturbed errors.Exhausted h = absurd (u.fits h.1)
+  undisturbed errors.Memory h = refl
+  undisturbed other h = absurd h

@@ -1,5 +1,5 @@
 -- The event that commits: the files that it asks for, the segments that it chooses, and the state that it leads to.
-use Rattle.std.proofs.Common.{◌≡◌, ◌≢◌, ◌⊎◌, inl, inr, ℕ, zero, suc, ◌+◌, ◌<◌, Bool, true, false, true≢false, cond, ◌&&◌, nat_lt, List, [], ◌∷◌, ◌++◌, length, map, take, get_or, codes, Option, Some, None, refl, sym, ap, subst, ◌∙◌, arith, append_assoc, length-append}
+use Rattle.std.proofs.Common.{◌≡◌, ◌≢◌, ℕ, zero, suc, ◌+◌, ◌<◌, Bool, true, false, true≢false, cond, ◌&&◌, nat_lt, List, [], ◌∷◌, ◌++◌, length, map, take, get_or, codes, Option, Some, None, refl, sym, ap, subst, ◌∙◌, arith, append_assoc, length-append}
 use Rattle.std.specs.Prelude.{find}
 use Rattle.std.specs.Fmt.{decimal}
 use Rattle.std.specs.List.{filter, AllByRecursion}
@@ -17,7 +17,7 @@ use Rattle.tv_model.specs.Ids.{IsId}
 use Rattle.tv_model.specs.Files.{Reads}
 use Rattle.tv_model.specs.Listing.{Lists}
 use Rattle.tv_model.specs.Segments.{name_of, num_docs, delete_opstamp, extension, is_delete, required_components, required_names, all_required}
-use Rattle.tv_model.specs.Commits.{Commit, IsSegment, Means, default_settings}
+use Rattle.tv_model.specs.Commits.{Commit, IsSegment, Means}
 use Rattle.tv_model.specs.State.{Catalog, State, at, file_at}
 use Rattle.tv_model.specs.CommitEvents.{chosen, committed}
 use Rattle.tv_model.specs.Index.{IsFileOf}
@@ -25,7 +25,6 @@ use Rattle.tv_model.proofs.Entries.{insert_present}
 use Rattle.tv_model.proofs.PlainNames.{undotted}
 use Rattle.tv_managed.specs.Managed.{KeepsOtherFiles}
 use Rattle.tv_store.specs.Kept.{Kept, Holds, FileHolds}
-use Rattle.tv_store.specs.Applying.{LeavesCommit}
 use Rattle.tv_store.specs.Committing.{IsPrinted}
 
 -- ---- lists, one element further
@@ -114,10 +113,10 @@ next_commit catalog held commit same is =
 
 -- and its text means it
 pub means_next : (kept : Kept) (held : Catalog) (commit : Commit) (text : List ℕ) → kept.catalog ≡ held → IsPrinted kept commit text
-    → Means default_settings kept.schema text (committed held commit.payload commit.segments).1.commit
+    → Means kept.form.settings kept.form.schema text (committed held commit.payload commit.segments).1.commit
 means_next kept held commit text same h =
-    subst (λ (c : Commit). Means default_settings kept.schema text c) (next_commit kept.catalog held commit same h.opstamp)
-    (record { is_commit = h.sound; blocksize = omega arith; text = h.text_is })
+    subst (λ (c : Commit). Means kept.form.settings kept.form.schema text c) (next_commit kept.catalog held commit same h.opstamp)
+    (record { is_commit = h.sound; blocksize = h.blocksize; text = h.text_is })
 
 -- the state after a commit
 pub published : (before now : Reads) (kept after : Kept) (s : State) (commit : Commit) (text : List ℕ) → Holds before kept s → IsPrinted kept commit text

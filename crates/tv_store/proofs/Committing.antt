@@ -1,7 +1,6 @@
 -- What the calls that commit do, put together.
-use Rattle.std.proofs.Common.{ℕ, ◌≡◌, ◌⊎◌, inl, ◌<◌, false, List, [], ◌∷◌, length, codes, Option, Some, None, Result, Ok, Err, IfErr, refl, sym, ap, subst, ◌∙◌}
+use Rattle.std.proofs.Common.{ℕ, ◌≡◌, inl, ◌<◌, false, List, [], ◌∷◌, length, codes, Option, Some, None, Result, Ok, Err, IfErr, refl, sym, ap, subst, ◌∙◌}
 use Rattle.std.specs.Prelude.{IfOk, OnOk, OnErr, is_some, option_map, ◌==◌}
-use Rattle.std.proofs.lemmas.Bool.{eq-eqb}
 use Rattle.std.proofs.lemmas.Result.{on_err_weaker}
 use Rattle.tv_base.specs.declared.error.TantivyError.{TantivyError}
 use Rattle.tv_base.specs.declared.error.TantivyError.TheVariants as errors
@@ -10,8 +9,8 @@ use Rattle.tv_directory.specs.declared.directory.Directory.{Ghosts}
 use Rattle.tv_model.specs.declared.segment.LiveSegment.{LiveSegment}
 use Rattle.tv_model.specs.Names.{meta_name}
 use Rattle.tv_model.specs.Files.{Rose}
-use Rattle.tv_model.specs.Lines.{refuse, unless, words_of}
-use Rattle.tv_model.specs.Commits.{Commit}
+use Rattle.tv_model.specs.Lines.{unless, words_of}
+use Rattle.tv_model.specs.Commits.{Commit, IndexForm}
 use Rattle.tv_model.specs.State.{State, StepResult, on_catalog}
 use Rattle.tv_model.specs.CommitEvents.{commit_step, committed, chosen, first_unknown, first_unsealed, last_stamp}
 use Rattle.tv_managed.specs.Managed.{KeepsOtherFiles}
@@ -19,16 +18,16 @@ use Rattle.tv_store.specs.Kept.{Kept, StoreState, Holds}
 use Rattle.tv_store.specs.StoreCauses.{EventCause}
 use Rattle.tv_store.specs.Applying.{LeavesCommit}
 use Rattle.tv_store.specs.Stays.{Asks, EventFaults}
-use Rattle.tv_store.specs.Committing.{Commits, IsPrinted, KeepsRest, Publishes, commit_line, commit_of, unknown_line, unsealed_line}
+use Rattle.tv_store.specs.Committing.{Commits, IsPrinted, KeepsRest, Publishes, commit_line, commit_of, unsealed_line}
 use Rattle.tv_store.proofs.Asking.{notes_later}
-use Rattle.tv_store.proofs.Holding.{same_holds}
+use Rattle.tv_store.proofs.Holding.{same_holds, dotted_others}
 use Rattle.tv_store.proofs.CommitEvents.{published}
 
 module _ {O W C : Type 0} (g : Ghosts O W C) (given : Type 0) (old new : StoreState O) where
   -- what was only asked for stays
   rest_asked : Asks (OnlyReads g.told) g.view old new → KeepsRest g.told g.view old new
   rest_asked asks = record {
-    stays = record { schema = ap (λ (k : Kept). k.schema) asks.kept; is_open = asks.is_open; below = record { frame = asks.below.kept.frame; watched = inl asks.below.kept.watched } };
+    stays = record { form = ap (λ (k : Kept). k.form) asks.kept; is_open = asks.is_open; below = record { frame = asks.below.kept.frame; watched = inl asks.below.kept.watched } };
     open_files = ap (λ (k : Kept). k.open_files) asks.kept;
     reading = ap (λ (k : Kept). k.catalog.reading) asks.kept;
   }
@@ -43,6 +42,7 @@ module _ {O W C : Type 0} (g : Ghosts O W C) (given : Type 0) (old new : StoreSt
     memory = λ tells wanted. asks.below.content tells meta_name;
     room = tt;
     faults = record { quiet = tt; cause = cause };
+    dotted = λ tells n dot other. asks.below.content tells n;
     frame = rest_asked asks;
   }
 
@@ -59,6 +59,7 @@ module _ {O W C : Type 0} (g : Ghosts O W C) (given : Type 0) (old new : StoreSt
     memory = λ tells. tt;
     room = room;
     faults = faults;
+    dotted = λ tells n dot other. asks.below.content tells n;
     frame = rest_asked asks;
   }
   refuses told answer (Err error) asks faults is room shows = fails told error asks faults.cause
@@ -73,23 +74,26 @@ module _ {O W C : Type 0} (g : Ghosts O W C) (given : Type 0) (old new : StoreSt
         subst (λ (t : StepResult State). IfOk result (λ answer. (answer ≡ t.0) × Holds (g.view new.outside).reads new.kept t.1)) k.1 (h.step tells s held k.0);
     meta = λ tells s held known.
         let k = shows tells s held known in
-        subst (λ (t : StepResult State). OnErr result (LeavesCommit ((g.view old.outside).reads meta_name) ((g.view new.outside).reads meta_name) old.kept.schema t.1.catalog.commit)) k.1 (h.meta tells s held k.0);
+        subst (λ (t : StepResult State). OnErr result (LeavesCommit (Rose (g.view old.outside).faults (g.view new.outside).faults) ((g.view old.outside).reads meta_name) ((g.view new.outside).reads meta_name) old.kept.form t.1.catalog.commit)) k.1 (h.meta tells s held k.0);
     memory = h.memory;
     room = h.room;
     faults = h.faults;
+    dotted = h.dotted;
     frame = h.frame;
   }
 
 -- ---- after the files were asked for
 
-later_left : (start before now : Option (List ℕ)) (schema was : List ℕ) (commit : Commit) → before ≡ start → was ≡ schema → LeavesCommit before now was commit → LeavesCommit start now schema commit
-later_left start before now schema was commit b w h = subst (λ (r : Option (List ℕ)). LeavesCommit r now schema commit) b (subst (λ (x : List ℕ). LeavesCommit before now x commit) w h)
+later_left : (quiet now_faults was_faults : ℕ) (start before now : Option (List ℕ)) (form was : IndexForm) (commit : Commit) → was_faults ≡ quiet → before ≡ start → was ≡ form → LeavesCommit (Rose was_faults now_faults) before now was commit → LeavesCommit (Rose quiet now_faults) start now form commit
+later_left quiet now_faults was_faults start before now form was commit q b w h =
+    subst (λ (n : ℕ). LeavesCommit (Rose n now_faults) start now form commit) q
+    (subst (λ (r : Option (List ℕ)). LeavesCommit (Rose was_faults now_faults) r now form commit) b (subst (λ (x : IndexForm). LeavesCommit (Rose was_faults now_faults) before now x commit) w h))
 
 module _ {O W C : Type 0} (g : Ghosts O W C) (old mid new : StoreState O) where
   rest_later : Asks (OnlyReads g.told) g.view old mid → KeepsRest g.told g.view mid new → KeepsRest g.told g.view old new
   rest_later asks rest = record {
     stays = record {
-      schema = rest.stays.schema ∙ ap (λ (k : Kept). k.schema) asks.kept;
+      form = rest.stays.form ∙ ap (λ (k : Kept). k.form) asks.kept;
       is_open = rest.stays.is_open ∙ asks.is_open;
       below = notes_later asks.below rest.stays.below;
     };
@@ -108,11 +112,12 @@ module _ {O W C : Type 0} (g : Ghosts O W C) (old mid new : StoreState O) where
     step = λ tells s held known. h.step tells s (same_holds (g.view old.outside).reads (g.view mid.outside).reads old.kept mid.kept s (asks.below.content tells) asks.kept held) known;
     meta = λ tells s held known.
         let now = same_holds (g.view old.outside).reads (g.view mid.outside).reads old.kept mid.kept s (asks.below.content tells) asks.kept held in
-        on_err_weaker result (later_left ((g.view old.outside).reads meta_name) ((g.view mid.outside).reads meta_name) ((g.view new.outside).reads meta_name) old.kept.schema mid.kept.schema (told s).1.catalog.commit (asks.below.content tells meta_name) (ap (λ (k : Kept). k.schema) asks.kept))
+        on_err_weaker result (later_left (g.view old.outside).faults (g.view new.outside).faults (g.view mid.outside).faults ((g.view old.outside).reads meta_name) ((g.view mid.outside).reads meta_name) ((g.view new.outside).reads meta_name) old.kept.form mid.kept.form (told s).1.catalog.commit quiet (asks.below.content tells meta_name) (ap (λ (k : Kept). k.form) asks.kept))
         (h.meta tells s now known);
     memory = λ tells. subst (λ (r : Option (List ℕ)). IfErr result (λ error. error ≡ errors.Memory → (g.view new.outside).reads meta_name ≡ r)) (asks.below.content tells meta_name) (h.memory tells);
     room = h.room;
     faults = faults_later result quiet h.faults;
+    dotted = λ tells n dot other. h.dotted tells n dot other ∙ asks.below.content tells n;
     frame = rest_later asks h.frame;
   }
 
@@ -157,5 +162,6 @@ module _ {O W C : Type 0} (g : Ghosts O W C) (old new : StoreState O) (commit : 
     memory = λ tells. tt;
     room = room;
     faults = record { quiet = quiet; cause = tt };
+    dotted = λ tells. dotted_others (g.view old.outside).reads (g.view new.outside).reads meta_name refl (others tells);
     frame = frame;
   }

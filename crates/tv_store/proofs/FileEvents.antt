@@ -12,6 +12,7 @@ use Rattle.tv_model.specs.declared.segment.DeleteMeta.{DeleteMeta}
 use Rattle.tv_model.specs.declared.segment.LiveSegment.{LiveSegment}
 use Rattle.tv_model.specs.declared.segment.SegmentComponent.{SegmentComponent}
 use Rattle.tv_model.specs.Names.{byte_cmp, has, is_undotted, list_name, meta_name}
+use Rattle.tv_model.specs.declared.event.Event.TheVariants as events
 use Rattle.tv_model.specs.Ids.{IsId}
 use Rattle.tv_model.specs.Footer.{sealed}
 use Rattle.tv_model.specs.Files.{Reads, KeepsOthers, Sets}
@@ -26,6 +27,7 @@ use Rattle.tv_model.proofs.PlainNames.{undotted}
 use Rattle.tv_directory.specs.View.{Kept as KeptView, OnlyReads}
 use Rattle.tv_directory.specs.declared.directory.Directory.{Ghosts}
 use Rattle.tv_store.specs.Kept.{Kept, StoreState, FilesState, kept_of, FileHolds, is_left, Holds}
+use Rattle.tv_store.specs.Exhausted.{PassesEnd, length_after}
 use Rattle.tv_store.specs.FileCalls.{OpensFile, FindsFile}
 use Rattle.tv_store.specs.Stays.{Asks, KeepsManaged}
 use Rattle.tv_store.proofs.Holding.{same_holds}
@@ -312,12 +314,13 @@ short_written bound len bytes es new name has_len puts h =
     (all_put (λ e. length e.1 ≤ bound + length bytes) rest name (body ++ bytes) fits (short_same bound (length bytes) rest rest refl (short_closed bound es rest name refl h)))
 
 -- where more bytes don't fit in one of them, no bound leaves room for them
-pub is_spent : (bound len n : ℕ) (es : List (List ℕ × List ℕ)) (name : List ℕ) → Some len ≡ option_map length (at es name) → 18446744073709551616 ≤ len + n → Short bound es → 18446744073709551616 ≤ bound + n
-is_spent bound len n es name has_len large h =
-    let it = has_body (at es name) len has_len in
-    let short : length it.0 ≤ bound = all_found (λ e. length e.1 ≤ bound) es name it.0 h it.1 in
-    let is : len ≡ length it.0 = it.2 in
-    omega arith
+pub length_passes : (kept : Kept) (id : List ℕ) (component : SegmentComponent) (segment : LiveSegment) (name bytes : List ℕ) (len : ℕ) → live_at kept.catalog id ≡ Some segment → name ≡ name_of id segment.deletes component
+    → Some len ≡ option_map length (at kept.open_files name) → 18446744073709551616 ≤ len + length bytes → PassesEnd (length_after kept (events.Write id component bytes))
+length_passes kept id component segment name bytes len live is has_len large =
+    let it = has_body (at kept.open_files name) len has_len in
+    let there : at kept.open_files (name_of id segment.deletes component) ≡ Some it.0 = ap (at kept.open_files) (sym is) ∙ it.1 in
+    let is_len : len ≡ length it.0 = it.2 in
+    (length (it.0 ++ bytes), rw (live, there) refl, omega (arith, is_len, length-append it.0 bytes, large))
 
 -- a sum that is told where it fits
 pub sum_is : (sum : Option ℕ) (fits : Type 0) (n value : ℕ) → SomeIff sum fits value → sum ≡ Some n → n ≡ value

@@ -1,10 +1,12 @@
 -- A state that is held is held still where nothing changes.
-use Rattle.std.proofs.Common.{◌≡◌, ℕ, List, Option, sym, subst, ◌∙◌}
-use Rattle.tv_model.specs.Names.{list_name, meta_name}
+use Rattle.std.proofs.Common.{◌≡◌, ℕ, List, Option, true, true≢false, sym, ap, subst, ◌∙◌}
+use Rattle.tv_model.specs.Names.{is_undotted, list_name, meta_name}
 use Rattle.tv_model.specs.Files.{Reads, Same}
 use Rattle.tv_model.specs.Listing.{Lists}
 use Rattle.tv_model.specs.State.{State, at, file_at}
+use Rattle.tv_managed.specs.Managed.{KeepsOtherFiles}
 use Rattle.tv_store.specs.Kept.{Kept, FileHolds, Holds}
+use Rattle.tv_store.specs.Stays.{KeepsDotted}
 
 -- where the same is read and kept, the same state is held
 pub same_holds : (old new : Reads) (was now : Kept) (s : State) → Same old new → now ≡ was → Holds old was s → Holds new now s
@@ -20,3 +22,7 @@ same_holds old new was now s same is h =
       listing = subst (λ (read : Option (List ℕ)). Lists read s.managed) (sym (same list_name)) h.listing;
       listed = h.listed;
     })
+
+-- where no other file than an undotted one and the list was changed, no other dotted one was
+pub dotted_others : (old new : Reads) (name : List ℕ) → is_undotted name ≡ true → KeepsOtherFiles old new name → KeepsDotted old new
+dotted_others old new name undotted others n dot other = others n (λ e. true≢false (sym (ap is_undotted e ∙ undotted) ∙ dot)) other

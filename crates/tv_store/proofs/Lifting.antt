@@ -8,7 +8,7 @@ use Rattle.tv_model.specs.declared.segment.DeleteMeta.{DeleteMeta}
 use Rattle.tv_model.specs.declared.segment.LiveSegment.{LiveSegment}
 use Rattle.tv_model.specs.Segments.{num_deleted}
 use Rattle.tv_directory.specs.Watch.{WatchState}
-use Rattle.tv_model.specs.Commits.{Commit, IsSegment, Means, default_settings}
+use Rattle.tv_model.specs.Commits.{Commit, IsSegment, Means}
 use Rattle.tv_model.specs.Files.{Reads}
 use Rattle.tv_model.specs.Machine.{catalog_step}
 use Rattle.tv_model.specs.Readable.{ReadsGood}
@@ -30,7 +30,7 @@ pub commit_stays : (c : Catalog) (managed : List (List ℕ)) (event : Event) (re
 commit_stays c managed event result =
     catalog_changes (λ d. d.commit ≡ c.commit) c managed event result (record {
       same = refl;
-      fresh = λ id is. refl;
+      fresh = λ id is free. refl;
       said = λ id n segment is there none. refl;
       shows = λ number reader is there. refl;
       reader = λ number. refl;
@@ -48,7 +48,7 @@ segments_stay : (c : Catalog) (managed : List (List ℕ)) (event : Event) (resul
 segments_stay c managed event result fits all =
     catalog_changes (λ d. AllByRecursion IsSegment d.live) c managed event result (record {
       same = all;
-      fresh = λ id is. put_segments c.live id fresh_segment (fresh_is id (subst FitsCatalog is fits)) all;
+      fresh = λ id is free. put_segments c.live id fresh_segment (fresh_is id (subst FitsCatalog is fits)) all;
       said = λ id n segment is there none.
           let known = found_segment c.live id segment there all in
           put_segments c.live id (record segment { max_doc = n }) (numbered segment n id none known (subst FitsCatalog is fits).1) all;
@@ -64,7 +64,7 @@ pub numbers_grow : (bound : ℕ) (c : Catalog) (managed : List (List ℕ)) (even
 numbers_grow bound c managed event result few =
     catalog_changes (λ d. FewNumbers (bound + written_by event) d.reading) c managed event result (record {
       same = more;
-      fresh = λ id is. more;
+      fresh = λ id is free. more;
       said = λ id n segment is there none. more;
       shows = λ number reader is there. subst (λ (e : Event). FewNumbers (bound + written_by e) (with_searcher c reader.shown).reading) (sym is) (record {
         next_reader = omega (arith, few.next_reader);
@@ -80,7 +80,7 @@ numbers_grow bound c managed event result few =
 -- it reads no file, takes no lock and leaves no notice
 pub record Plain (event : Event) : Type 0 where
   pub reads : (s : State) → ReadsGood s event
-  pub free : (kept : Kept) → TakesMetaLock kept event → ⊥
+  pub free : (c : Catalog) → TakesMetaLock c event → ⊥
   pub notes : (old new : WatchState) → new ≡ old → MayNoteAt event old new
 
 pub plain_event : (c : Catalog) (managed : List (List ℕ)) (event : Event) (result : StepResult Catalog) → catalog_step c managed event ≡ Some result → Plain event
@@ -88,7 +88,7 @@ plain_event c managed (events.Commit payload ids) result e = absurd cc
 plain_event c managed events.Gc result e = absurd cc
 plain_event c managed (events.Reader policy) result e = absurd cc
 plain_event c managed (events.Reload number) result e = absurd cc
-plain_event c managed other result e = record { reads = λ s. tt; free = λ kept takes. takes; notes = λ o n same. same }
+plain_event c managed other result e = record { reads = λ s. tt; free = λ k takes. takes; notes = λ o n same. same }
 
 -- what is held after it
 pub catalog_held : (reads : Reads) (kept : Kept) (s : State) (event : Event) (result : StepResult Catalog) → FitsCatalog event → catalog_step kept.catalog kept.managed event ≡ Some result → Holds reads kept s
@@ -102,7 +102,7 @@ catalog_held reads kept s event result fits e h =
       names = h.names;
       files = h.files;
       left = h.left;
-      meta = (h.meta.0, h.meta.1, subst (λ (commit : Commit). Means default_settings kept.schema h.meta.0 commit) (sym (commit_stays s.catalog s.managed event result here)) h.meta.2);
+      meta = (h.meta.0, h.meta.1, subst (λ (commit : Commit). Means kept.form.settings kept.form.schema h.meta.0 commit) (sym (commit_stays s.catalog s.managed event result here)) h.meta.2);
       listing = h.listing;
       listed = h.listed;
     }

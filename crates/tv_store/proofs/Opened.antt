@@ -1,5 +1,5 @@
 -- What an opening does, put together: an index was made, its lock was taken, and its line was told, or not.
-use Rattle.std.proofs.Common.{ℕ, ◌≡◌, Result, Ok, Err, ◌∙◌, ◌++◌, [], ◌∷◌, List, sym, ap, subst, arith}
+use Rattle.std.proofs.Common.{ℕ, ◌≡◌, refl, Option, None, Result, Ok, Err, ◌∙◌, ◌++◌, [], ◌∷◌, List, sym, ap, subst, arith}
 use Rattle.std.specs.List.{AllByRecursion}
 use Rattle.std.specs.Prelude.{◌≤◌, length, IfOk, IfErr}
 use Rattle.tv_base.specs.declared.error.TantivyError.{TantivyError}
@@ -8,11 +8,11 @@ use Rattle.tv_directory.specs.View.{OnlyLocks}
 use Rattle.tv_directory.specs.Watch.{WatchState, MayNote}
 use Rattle.tv_directory.specs.declared.directory.Directory.{Ghosts}
 use Rattle.tv_managed.specs.declared.managed_directory.Refused.{Refused}
-use Rattle.tv_model.specs.Files.{Heard}
-use Rattle.tv_model.specs.Index.{first_catalog}
+use Rattle.tv_model.specs.Files.{Reads, Heard}
+use Rattle.tv_model.specs.Index.{HasNoIndex, OpensWith, OpensTo, OpenedIndex, first_catalog}
 use Rattle.tv_model.specs.Lines.{opening_of}
 use Rattle.tv_model.specs.Names.{meta_name}
-use Rattle.tv_model.specs.Commits.{first_commit}
+use Rattle.tv_model.specs.Commits.{Settings, IndexForm, default_settings, new_form, first_commit}
 use Rattle.tv_store.specs.Kept.{Kept, FilesState, StoreState, kept_of}
 use Rattle.tv_store.specs.Making.{Made, Begins, NotBegun}
 use Rattle.tv_store.specs.Opening.{Opens, OpeningFrame, TakesWriterLock, TellsOpening}
@@ -20,13 +20,21 @@ use Rattle.tv_store.specs.Stays.{KeepsFiles, MayNotify}
 use Rattle.tv_store.specs.StoreCauses.{writer_lock_name}
 use Rattle.tv_store.specs.Telling.{TellsLine, TellsFirstPart, TellsNoLine}
 use Rattle.tv_store.proofs.Asking.{deletes_later, kept_by_files}
-use Rattle.tv_store.proofs.Holding.{same_holds}
+use Rattle.tv_store.proofs.Holding.{same_holds, dotted_others}
 use Rattle.tv_store.proofs.StoreLocks.{freed_again}
 
 -- it was made with a copy of the schema
 pub made_as : {O W C : Type 0} (g : Ghosts O W C) {first outside : O} {copy text schema : List ℕ} {files : FilesState O} {line : List ℕ} → ◌≡◌ {A = O × List ℕ} (first, copy) (outside, schema) → text ≡ copy → Made g first text files line → Made g outside schema files line
 made_as {O = O} g {first = first} {files = files} {line = line} both same made =
     subst (λ (p : O × List ℕ). Made g p.0 p.1 files line) both (subst (λ (x : List ℕ). Made g first x files line) same made)
+
+-- where no index stands, the one that opens is new
+new_form_is : (schema : List ℕ) (reads : Reads) (index : OpenedIndex schema reads) → HasNoIndex reads → index.form ≡ new_form schema
+new_form_is schema reads index none =
+    let opened : OpensWith index.form.settings index.form.schema None index.opens.listed index.state = subst (λ (r : Option (List ℕ)). OpensWith index.form.settings index.form.schema r index.opens.listed index.state) none.meta index.opens.opened in
+    let settings : index.form.settings ≡ default_settings = opened.0 in
+    let text : index.form.schema ≡ schema = index.spelled.1 in
+    ap (λ (x : Settings). record { settings = x; schema = index.form.schema }) settings ∙ ap new_form text
 
 module _ {O W C : Type 0} (g : Ghosts O W C) (outside : O) (schema : List ℕ) (made locked : FilesState O) (line : List ℕ)
     (m : Made g outside schema made line) (frame : KeepsFiles (OnlyLocks g.told) g.view made locked) where
@@ -36,6 +44,7 @@ module _ {O W C : Type 0} (g : Ghosts O W C) (outside : O) (schema : List ℕ) (
   notified : MayNotify g.told (g.view outside) (g.view locked.outside)
   notified = record {
     deletes_none = deletes_later m.frame.frame.tells_none.deletes_none lock.tells_none.deletes_none;
+    dotted = λ t n dot other. lock.content t n ∙ dotted_others (g.view outside).reads (g.view made.outside).reads meta_name refl (m.first t).0 n dot other;
     watched = subst (λ (w : WatchState). MayNote meta_name (g.view outside).watched w) (sym lock.watched) m.frame.watched;
   }
 
@@ -53,10 +62,14 @@ module _ {O W C : Type 0} (g : Ghosts O W C) (outside : O) (schema : List ℕ) (
     opens_begun : Opens g outside schema begun
     opens_begun = record {
       is_open = b.is_open;
-      schema_is = ap (λ (k : Kept). k.schema) kept_is;
-      accepted = m.accepted;
+      spelled = (m.accepted, ap (λ (k : Kept). k.form.schema) kept_is);
       none = m.none;
-      holds = λ t s opens. same_holds (g.view made.outside).reads (g.view begun.outside).reads (kept_of schema first_catalog made) begun.kept s (λ n. b.frame.content t n ∙ lock.content t n) kept_is (m.holds t s opens);
+      holds = λ t index.
+          let form : index.form ≡ new_form schema = new_form_is schema (g.view outside).reads index (m.none t) in
+          let opens : OpensTo default_settings schema (g.view outside).reads index.state = subst (λ (f : IndexForm). OpensTo f.settings f.schema (g.view outside).reads index.state) form index.opens in (
+            ap (λ (k : Kept). k.form) kept_is ∙ sym form,
+            same_holds (g.view made.outside).reads (g.view begun.outside).reads (kept_of schema first_catalog made) begun.kept index.state (λ n. b.frame.content t n ∙ lock.content t n) kept_is (m.holds t index.state opens),
+          );
       lens = subst (λ (es : List (List ℕ × List ℕ)). AllByRecursion (λ e. length e.1 ≤ 0) es) (sym (ap (λ (k : Kept). k.open_files) kept_is ∙ m.open_files)) tt;
       numbers = ap (λ (k : Kept). k.catalog.reading) kept_is;
     }
@@ -85,6 +98,7 @@ module _ {O W C : Type 0} (g : Ghosts O W C) (outside : O) (schema : List ℕ) (
     frame_begun : MayNotify g.told (g.view outside) (g.view begun.outside)
     frame_begun = record {
       deletes_none = deletes_later notified.deletes_none b.frame.deletes_none;
+      dotted = λ t n dot other. b.frame.content t n ∙ notified.dotted t n dot other;
       watched = subst (λ (w : WatchState). MayNote meta_name (g.view outside).watched w) (sym b.frame.watched) notified.watched;
     }
 
@@ -104,6 +118,7 @@ module _ {O W C : Type 0} (g : Ghosts O W C) (outside : O) (schema : List ℕ) (
     frame_unbegun : MayNotify g.told (g.view outside) (g.view now)
     frame_unbegun = record {
       deletes_none = deletes_later notified.deletes_none r.deletes_none;
+      dotted = λ t n dot other. r.content t n ∙ notified.dotted t n dot other;
       watched = subst (λ (w : WatchState). MayNote meta_name (g.view outside).watched w) (sym r.watched) notified.watched;
     }
 

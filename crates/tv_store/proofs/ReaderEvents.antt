@@ -1,27 +1,28 @@
 -- The events of readers: which files are read, why a read fails, and what is held afterwards.
-use Rattle.std.proofs.Common.{◌≡◌, ◌≢◌, inl, inr, ℕ, zero, suc, ◌+◌, ◌<◌, ◌≤◌, Bool, true, false, true≢false, ◌||◌, List, [], ◌∷◌, ◌++◌, map, length, take, get_or, codes, string_bytes, Option, Some, None, is_some, refl, sym, ap, subst, ◌∙◌, arith}
+use Rattle.std.proofs.Common.{◌≡◌, ◌≢◌, inl, inr, ℕ, zero, suc, ◌+◌, ◌<◌, Bool, true, false, true≢false, ◌||◌, List, [], ◌∷◌, ◌++◌, map, length, take, drop, get_or, string_bytes, Option, Some, None, is_some, refl, sym, ap, subst, ◌∙◌, arith, append_assoc}
 use Rattle.std.proofs.Math.Logic.{⊎_map}
-use Rattle.std.specs.Prelude.{IsSome, option_map, String, Result, Ok, Err, IfErr, OnOk}
+use Rattle.std.specs.Prelude.{IsSome, option_map, String, Result, Ok, Err, IfErr}
 use Rattle.std.specs.Global.{Global}
 use Rattle.std.specs.Result.{IsErrAnd}
-use Rattle.std.specs.Fmt.{decimal}
 use Rattle.std.specs.List.{AllByRecursion}
-use Rattle.std.proofs.lemmas.List.{take_more, take_all, map_push}
+use Rattle.std.proofs.lemmas.List.{take_more, map_push, take-append-drop, drop_more}
+use Rattle.std.proofs.lemmas.Grind.{flat_map-append}
 use Rattle.std.proofs.lemmas.List.Folds.{list_any-append}
 use Rattle.tv_model.specs.declared.reload_policy.ReloadPolicy.{ReloadPolicy}
 use Rattle.tv_model.specs.declared.event.Event.{Event}
+use Rattle.tv_model.specs.declared.event.Event.TheVariants as events
 use Rattle.tv_model.specs.declared.segment.LiveSegment.{LiveSegment}
 use Rattle.tv_model.specs.Names.{is, has, is_file_name}
 use Rattle.tv_model.specs.Files.{Reads, Same, Rose}
 use Rattle.tv_model.specs.Footer.{HasBody}
 use Rattle.tv_model.specs.Segments.{required_names, all_required}
-use Rattle.tv_model.specs.Commits.{IsSegment, Means, default_settings}
-use Rattle.tv_model.specs.State.{Catalog, State, StepResult, FileState, Sealed, Open, Left, Reader, Snapshot, at, file_at, on_catalog, reader_at}
-use Rattle.tv_model.specs.Lines.{line, given}
+use Rattle.tv_model.specs.Commits.{IsSegment}
+use Rattle.tv_model.specs.State.{Catalog, State, FileState, Sealed, Open, Left, Reader, Snapshot, at, file_at, reader_at}
+use Rattle.tv_model.specs.Lines.{given}
 use Rattle.tv_model.specs.CommitEvents.{is_sealed}
 use Rattle.tv_model.specs.SoundStates.{IsWhole}
-use Rattle.tv_model.specs.Readable.{IsGoodFile, CanRead}
-use Rattle.tv_model.specs.ReaderEvents.{bodies_in, body_in, reloaded, snapshot_in, with_new_reader, with_reloaded}
+use Rattle.tv_model.specs.Readable.{IsGoodFile, AreGoodFiles, read_by}
+use Rattle.tv_model.specs.ReaderEvents.{body_in, with_new_reader, with_reloaded}
 use Rattle.tv_model.proofs.Entries.{is_itself, is_text}
 use Rattle.tv_model.proofs.Bodies.{body_of_good}
 use Rattle.tv_base.specs.Errors.{of_open_read}
@@ -38,11 +39,11 @@ use Rattle.tv_base.specs.declared.error.TantivyError.TheVariants as errors
 use Rattle.tv_framing.specs.Footers.{Refuses}
 use Rattle.tv_managed.specs.Reading.{HasNoBody, NamesFile, ReadsBody, OpenBodyCause, ReadsOther, ReadsRefused, ReadsSuch, SomeOther, SomeRefused}
 use Rattle.tv_store.specs.StoreCauses.{IsBusy, WriteFault}
-use Rattle.tv_store.specs.ReadCauses.{Reading, ReadFault, ApplyCause}
-use Rattle.tv_store.specs.Bodies.{RefusesAt, RefusesFile, AreBodies, AreSealed, ReadsSegment, FailsAt}
+use Rattle.tv_store.specs.ReadCauses.{ReadFault, ApplyCause}
+use Rattle.tv_store.specs.Bodies.{RefusesAt, RefusesFile, RefusesFirst, ReadsGoodFile, AreBodies, AreSealed, ReadsSegment, FailsAt}
 use Rattle.tv_store.specs.Kept.{Kept, FileHolds, Holds}
 use Rattle.tv_store.specs.Applying.{LacksIn, BadIn, HoldsNone}
-use Rattle.tv_store.specs.Acting.{reader_event, reload_event}
+use Rattle.tv_store.specs.Exhausted.{PassesEnd, number_after}
 use Rattle.tv_store.specs.ReaderNumbers.{FewNumbers}
 use Rattle.tv_store.proofs.Holding.{same_holds}
 use Rattle.tv_store.proofs.CommitEvents.{all_at, required_are_files}
@@ -227,18 +228,34 @@ bodies_more reads kept s names i name body bodies more within at_i sealed held r
 refused_before : (first now : Reads) (path : List ℕ) (error : OpenReadError) → Same first now → RefusesAt now path error → RefusesAt first path error
 refused_before first now path error same h = record { bytes = h.bytes; there = sym (same path) ∙ h.there; why = h.why; no_body = h.no_body }
 
+-- what stands at a place of a list, between what is before it and after it
+pub split_there : {A : Type 0} (xs : List A) (i : ℕ) (x : A) → i < length xs → x ≡ get_or xs i x → xs ≡ take i xs ++ x ∷ drop (i + 1) xs
+split_there xs i x within at_i =
+    sym (take-append-drop i xs) ∙ ap (λ (ys : List _). take i xs ++ ys) (drop_more xs i x within ∙ ap (λ (y : _). y ∷ drop (i + 1) xs) (sym at_i))
+
+-- one more can be read
+pub good_more : (reads : Reads) (names : List (List ℕ)) (i : ℕ) (name body : List ℕ) → i < length names → name ≡ get_or names i name → ReadsBody (reads name) body
+    → ((n : List ℕ) → has (take i names) n ≡ true → ReadsGoodFile (reads n)) → (n : List ℕ) → has (take (i + 1) names) n ≡ true → ReadsGoodFile (reads n)
+good_more reads names i name body within at_i read so_far n among =
+    let front : take (i + 1) names ≡ take i names ++ name ∷ [] = take_more names i name within ∙ ap (λ (x : List ℕ). take i names ++ x ∷ []) (sym at_i) in
+    all_pushed (λ m. ReadsGoodFile (reads m)) (take i names) name so_far (read.0, read.1, record { body = body; has_body = read.2 }) n (subst (λ (ns : List (List ℕ)). has ns n ≡ true) front among)
+
+pub good_before : (first now : Reads) (n : List ℕ) → Same first now → ReadsGoodFile (now n) → ReadsGoodFile (first n)
+good_before first now n same h = (h.0, sym (same n) ∙ h.1, h.2)
+
 -- one of them isn't read
 pub fails_here : (tells : Type 0) (first now : Reads) (names : List (List ℕ)) (i : ℕ) (name : List ℕ) (start before after : ℕ) (error : TantivyError)
     → (tells → Same first now) → before ≡ start → i < length names → name ≡ get_or names i name
+    → (tells → (n : List ℕ) → has (take i names) n ≡ true → ReadsGoodFile (first n))
     → ApplyCause ⊥ (Rose before after) (after ≡ before) ⊥ (λ error. tells → RefusesAt now name error) (λ path. (path ≡ name) × (tells → now path ≡ None)) error
     → FailsAt tells first names (Rose start after) (after ≡ start) error
-fails_here tells first now names i name start before after error same quiet within at_i h =
+fails_here tells first now names i name start before after error same quiet within at_i so_far h =
     let there : has names name ≡ true = has_at names i name within at_i in
     cause_weaker ⊥ (Rose before after) (after ≡ before) ⊥ ⊥ (Rose start after) (after ≡ start) ⊥
-    (λ error. tells → RefusesAt now name error) (λ error. (path : List ℕ) × (has names path ≡ true) × (tells → RefusesAt first path error))
+    (λ error. tells → RefusesAt now name error) (RefusesFirst tells first names)
     (λ path. (path ≡ name) × (tells → now path ≡ None)) (λ path. (has names path ≡ true) × (tells → first path ≡ None)) error
     (λ never. never) (λ rose. subst (λ (x : ℕ). Rose x after) quiet rose) (λ still. still ∙ quiet) (λ never. never)
-    (λ error b. (name, there, λ t. refused_before first now name error (same t) (b t)))
+    (λ error b. record { front = take i names; path = name; rest = drop (i + 1) names; split = split_there names i name within at_i; good = so_far; refuses = λ t. refused_before first now name error (same t) (b t) })
     (λ path a. (subst (λ (p : List ℕ). has names p ≡ true) (sym a.0) there, λ t. sym (same t path) ∙ a.1 t)) h
 
 -- ---- the segments of a commit
@@ -303,28 +320,64 @@ read_more s segments i entry read_id read_segment bodies shown shown_more all al
       good = required_pushed (IsGoodFile s) (take i segments) entry so_far.good reads_segment.bodies_are.good;
     })
 
+required_split : (segments : List (List ℕ × LiveSegment)) (i : ℕ) (entry : List ℕ × LiveSegment) → i < length segments → entry ≡ get_or segments i entry
+    → all_required segments ≡ all_required (take i segments) ++ (required_names entry.0 entry.1 ++ all_required (drop (i + 1) segments))
+required_split segments i entry within at_i =
+    ap all_required (split_there segments i entry within at_i)
+    ∙ flat_map-append (λ (e : List ℕ × LiveSegment). required_names e.0 e.1) (take i segments) (entry ∷ drop (i + 1) segments)
+
+-- in the middle of the files of a segment
+between : (before front rest after names : List (List ℕ)) (path : List ℕ) → names ≡ front ++ path ∷ rest → before ++ (names ++ after) ≡ (before ++ front) ++ path ∷ (rest ++ after)
+between before front rest after names path e =
+    ap (λ (ns : List (List ℕ)). before ++ (ns ++ after)) e
+    ∙ ap (λ (ns : List (List ℕ)). before ++ ns) (append_assoc front (path ∷ rest) after)
+    ∙ sym (append_assoc before front (path ∷ (rest ++ after)))
+
+has_front : (names front rest : List (List ℕ)) (path n : List ℕ) → names ≡ front ++ path ∷ rest → has front n ≡ true → has names n ≡ true
+has_front names front rest path n e h = ap (λ (ns : List (List ℕ)). has ns n) e ∙ has_joined front (path ∷ rest) n ∙ in_first (has front n) (has (path ∷ rest) n) h
+
+pub has_middle : (names front rest : List (List ℕ)) (path : List ℕ) → names ≡ front ++ path ∷ rest → has names path ≡ true
+has_middle names front rest path e =
+    ap (λ (ns : List (List ℕ)). has ns path) e ∙ has_joined front (path ∷ rest) path
+    ∙ in_second (has front path) (has (path ∷ rest) path) (in_first (is path path) (has rest path) (is_itself path))
+
 -- a file of the commit isn't read
 pub snapshot_fails : (tells : Type 0) (first now : Reads) (kept : Kept) (segments : List (List ℕ × LiveSegment)) (i : ℕ) (entry : List ℕ × LiveSegment) (start before after : ℕ) (error : TantivyError)
     → (tells → Same first now) → before ≡ start → segments ≡ kept.catalog.commit.segments → i < length segments → entry ≡ get_or segments i entry
+    → (tells → (s : State) → Holds first kept s → IsWhole s → AreGoodFiles s (all_required (take i segments)))
     → FailsAt tells now (required_names entry.0 entry.1) (Rose before after) (after ≡ before) error
     → ApplyCause ⊥ (Rose start after) (after ≡ start) ⊥ (LacksIn tells first kept) (λ path. HoldsNone tells first kept) error
-snapshot_fails tells first now kept segments i entry start before after error same quiet are within at_i h =
+snapshot_fails tells first now kept segments i entry start before after error same quiet are within at_i so_far h =
+    let current : (s : State) → Holds first kept s → segments ≡ s.catalog.commit.segments = λ s held. are ∙ ap (λ (c : Catalog). c.commit.segments) held.catalog in
     let required : (s : State) (path : List ℕ) → Holds first kept s → has (required_names entry.0 entry.1) path ≡ true → has (all_required s.catalog.commit.segments) path ≡ true =
     λ s path held among.
-    subst (λ (es : List (List ℕ × LiveSegment)). has (all_required es) path ≡ true) (are ∙ ap (λ (c : Catalog). c.commit.segments) held.catalog) (has_required segments i entry path within at_i among) in
+    subst (λ (es : List (List ℕ × LiveSegment)). has (all_required es) path ≡ true) (current s held) (has_required segments i entry path within at_i among) in
     let sealed : (s : State) (path : List ℕ) → Holds first kept s → IsWhole s → has (required_names entry.0 entry.1) path ≡ true → is_sealed (file_at s path) ≡ true =
     λ s path held whole among. whole.each path (required s path held among) in
     cause_weaker ⊥ (Rose before after) (after ≡ before) ⊥ ⊥ (Rose start after) (after ≡ start) ⊥
-    (λ error. (path : List ℕ) × (has (required_names entry.0 entry.1) path ≡ true) × (tells → RefusesAt now path error)) (LacksIn tells first kept)
+    (RefusesFirst tells now (required_names entry.0 entry.1)) (LacksIn tells first kept)
     (λ path. (has (required_names entry.0 entry.1) path ≡ true) × (tells → now path ≡ None)) (λ path. HoldsNone tells first kept) error
     (λ never. never) (λ rose. subst (λ (x : ℕ). Rose x after) quiet rose) (λ still. still ∙ quiet) (λ never. never)
     (λ error b t s held whole.
-    let no : RefusesAt first b.0 error = refused_before first now b.0 error (same t) (b.2 t) in
+    let no : RefusesAt first b.path error = refused_before first now b.path error (same t) (b.refuses t) in
+    let before_it : AreGoodFiles s (all_required (take i segments)) = so_far t s held whole in
     record {
-      path = b.0;
-      required = required s b.0 held b.1;
+      front = all_required (take i segments) ++ b.front;
+      path = b.path;
+      rest = b.rest ++ all_required (drop (i + 1) segments);
+      split =
+          ap all_required (sym (current s held)) ∙ required_split segments i entry within at_i
+          ∙ between (all_required (take i segments)) b.front b.rest (all_required (drop (i + 1) segments)) (required_names entry.0 entry.1) b.path b.split;
+      good = record {
+        each = λ n among.
+            in_one {P = IsGoodFile s n} (has (all_required (take i segments)) n) (has b.front n) (before_it.each n)
+            (λ k.
+            let good = good_before first now n (same t) (b.good t n k) in
+            (good.0, read_is_sealed first kept s n good.0 held (sealed s n held whole (has_front (required_names entry.0 entry.1) b.front b.rest b.path n b.split k)) good.1, good.2))
+            (sym (has_joined (all_required (take i segments)) b.front n) ∙ among);
+      };
       bytes = no.bytes;
-      sealed = read_is_sealed first kept s b.0 no.bytes held (sealed s b.0 held whole b.1) no.there;
+      sealed = read_is_sealed first kept s b.path no.bytes held (sealed s b.path held whole (has_middle (required_names entry.0 entry.1) b.front b.rest b.path b.split)) no.there;
       why = no.why;
       no_body = no.no_body;
     })
@@ -351,7 +404,7 @@ busy_before tells_locks held held2 start before {after} same quiet h = record {
 }
 
 -- the same at an event that reads, seen from before a call that changed nothing
-pub later_fails : (tells : Type 0) (first now : Reads) (kept later : Kept) (event : Event) (reading : (s : State) → Holds first kept s → Reading s event) (more busy busy2 : Type 0) (start before after : ℕ) (error : TantivyError)
+pub later_fails : (tells : Type 0) (first now : Reads) (kept later : Kept) (event : Event) (reading : (s : State) → Holds first kept s → read_by s event ≡ Some s.catalog.commit) (more busy busy2 : Type 0) (start before after : ℕ) (error : TantivyError)
     → (busy → busy2) → (tells → Same first now) → later ≡ kept → before ≡ start
     → ApplyCause busy (Rose before after) (after ≡ before) ⊥ (LacksIn tells now later) (λ path. HoldsNone tells now later) error
     → ApplyCause busy2 (Rose start after) (after ≡ start) more (BadIn tells first kept event) (λ path. HoldsNone tells first kept) error
@@ -359,7 +412,7 @@ later_fails tells first now kept later event reading more busy busy2 start befor
     cause_weaker busy (Rose before after) (after ≡ before) ⊥ busy2 (Rose start after) (after ≡ start) more
     (LacksIn tells now later) (BadIn tells first kept event) (λ path. HoldsNone tells now later) (λ path. HoldsNone tells first kept) error
     locks (λ rose. subst (λ (x : ℕ). Rose x after) quiet rose) (λ still. still ∙ quiet) (λ never. absurd never)
-    (λ error b t s held whole. (reading s held, b t s (same_holds first now kept later s (same t) kept_is held) whole))
+    (λ error b t s held whole. (s.catalog.commit, reading s held, b t s (same_holds first now kept later s (same t) kept_is held) whole))
     (λ path a t s held whole. a t s (same_holds first now kept later s (same t) kept_is held) whole) h
 
 -- ---- the steps
@@ -367,6 +420,17 @@ later_fails tells first now kept later event reading more busy busy2 start befor
 pub mapped : {A B : Type 0} (f : A → B) (o : Option A) (b : B) → Some b ≡ option_map f o → (x : A) × (o ≡ Some x) × (b ≡ f x)
 mapped f None b e = absurd cc
 mapped f (Some x) b e = let same : b ≡ f x = cc in (x, refl, same)
+
+-- a reload of a reader that is there reads the current commit
+pub reload_reads : (s : State) (number : ℕ) → IsSome (reader_at s.catalog number) → read_by s (events.Reload number) ≡ Some s.catalog.commit
+reload_reads s number there = told (reader_at s.catalog number) there where
+  told : (found : Option Reader) → IsSome found → option_map (λ (r : Reader). s.catalog.commit) found ≡ Some s.catalog.commit
+  told None h = absurd (true≢false (sym h))
+  told (Some reader) h = refl
+
+-- a reader whose next snapshot gets the last number of 64 bits
+pub reload_passes : (c : Catalog) (number : ℕ) → ((reader : Reader) × (reader_at c number ≡ Some reader) × (reader.next ≡ 18446744073709551615)) → PassesEnd (number_after c (events.Reload number))
+reload_passes c number h = (h.0.next + 1, ap (option_map (λ (r : Reader). r.next + 1)) h.1, omega (arith, h.2))
 
 pub isnt_there : {A : Type 0} (o : Option A) → o ≡ None → IsSome o → ⊥
 isnt_there o e h = true≢false (sym h ∙ ap is_some e)

@@ -1,11 +1,11 @@
 -- Entries and names that are taken out: of maps, of sets, and of the open files.
-use Rattle.std.proofs.Common.{◌≡◌, ◌≢◌, ℕ, zero, suc, ◌+◌, ◌≤◌, ◌<◌, inl, inr, Bool, true, false, cond, not, ◌&&◌, ◌||◌, List, [], ◌∷◌, ◌++◌, map, length, get_or, drop, drop-cons, Option, Some, None, option_map, is_some, refl, sym, ap, subst, ◌∙◌, arith, append_assoc}
+use Rattle.std.proofs.Common.{◌≡◌, ◌≢◌, true≢false, nat_le, codes, ℕ, zero, suc, ◌+◌, ◌≤◌, ◌<◌, inl, inr, Bool, true, false, cond, not, ◌&&◌, ◌||◌, List, [], ◌∷◌, map, length, get_or, drop, drop-cons, Option, Some, None, option_map, is_some, refl, sym, ap, subst, ◌∙◌, arith}
 use Rattle.std.specs.Prelude.{Contains}
 use Rattle.std.specs.List.{AllByRecursion, list_all, list_any}
 use Rattle.std.specs.Map.{remove_entry}
 use Rattle.std.specs.BTreeMap.{is_at}
 use Rattle.std.specs.BTreeSet.{insert_key}
-use Rattle.tv_model.specs.Names.{byte_cmp, is, has, is_plain, is_file_name, list_name}
+use Rattle.tv_model.specs.Names.{byte_cmp, is, has, is_name_byte, is_plain, is_undotted, list_name}
 use Rattle.tv_model.specs.Collections.{done_of, failed_of, collectable}
 use Rattle.tv_model.specs.State.{at}
 use Rattle.tv_model.proofs.Entries.{same_at, text_at, at_itself, is_text, is_by_order, has_put}
@@ -240,6 +240,35 @@ living_stands g answered sets living names old new n is (inr set) l t h other =
     l.spared t n
     (ap (λ (ns : List (List ℕ)). has ns n) (set.2 ∙ ap (λ (ns : List (List ℕ)). collectable ns old.1) (is set.0 set.1))
     ∙ has_without living old.1 n ∙ ap (λ (b : Bool). not b && has old.1 n) h) other
+
+plain_undotted : (a b c d e : Bool) → (a && b && c && d && e) ≡ true → d ≡ true
+plain_undotted a b c d e h = (both (a && b && c) d (both (a && b && c && d) e h).0).1
+
+isnt_plain : (x n : List ℕ) → is_plain x ≡ true → is_undotted n ≡ false → is x n ≡ false
+isnt_plain x n plain dot =
+    elim (is x n) as (λ b. is x n ≡ b → b ≡ false) [
+      | true ↦ λ e.
+          let same : x ≡ n = is_text x n e in
+          let undotted : is_undotted x ≡ true = plain_undotted (nat_le 1 (length x)) (nat_le (length x) 255) (list_all is_name_byte x) (is_undotted x) (not (is x (codes "failed"))) plain in
+          absurd (true≢false (sym undotted ∙ ap is_undotted same ∙ dot))
+      | false ↦ λ e. refl
+    ] refl
+
+-- none of some plain names has a dot in front
+plain_hasnt : (names : List (List ℕ)) (n : List ℕ) → list_all is_plain names ≡ true → is_undotted n ≡ false → has names n ≡ false
+plain_hasnt [] n h dot = refl
+plain_hasnt (x ∷ names) n h dot =
+    let t = both (is_plain x) (list_all is_plain names) h in
+    rw (isnt_plain x n t.0 dot) (plain_hasnt names n t.1 dot)
+
+-- nor is a name with a dot in front, since managed names have none
+pub dotted_stands : {S D W C : Type 0} (g : Ghosts D W C) (answered : S → Type 0) (sets : S → List (List ℕ)) (names : List (List ℕ)) (old new : D × List (List ℕ)) (n : List ℕ)
+    → list_all is_plain old.1 ≡ true → Among answered sets old.1 names → Leaves g names old new
+    → g.told.content → is_undotted n ≡ false → n ≢ list_name → (g.view new.0).reads n ≡ (g.view old.0).reads n
+dotted_stands g answered sets names old new n plain (inl none) l t dot other = l.spared t n (ap (λ (ns : List (List ℕ)). has ns n) none) other
+dotted_stands g answered sets names old new n plain (inr set) l t dot other =
+    let taken : list_all is_plain (collectable (sets set.0) old.1) ≡ true = all_filtered (λ name. not (has (sets set.0) name)) is_plain old.1 plain in
+    l.spared t n (ap (λ (ns : List (List ℕ)). has ns n) set.2 ∙ plain_hasnt (collectable (sets set.0) old.1) n taken dot) other
 
 -- ---- open files that are left
 

@@ -10,8 +10,9 @@ use Rattle.tv_base.specs.declared.error.TantivyError.TheVariants as errors
 use Rattle.tv_store.specs.Kept.{Kept, StoreState, Holds, AtMost}
 use Rattle.tv_store.specs.ReaderNumbers.{FewNumbers}
 use Rattle.tv_store.specs.Applying.{Stepped, LeavesOldOrNew}
-use Rattle.tv_store.specs.ReadCauses.{ApplyCause}
+use Rattle.tv_store.specs.ReadCauses.{ApplyCause, IsReadError}
 use Rattle.tv_store.proofs.FewNumbers.{few_more}
+use Rattle.tv_model.specs.Commits.{IndexForm}
 use Rattle.tv_model.specs.State.{State, StepResult, Readers}
 use Rattle.tv_model.specs.Machine.{step}
 use Rattle.tv_model.specs.SoundStates.{IsWhole}
@@ -33,6 +34,22 @@ plain_cause busy refused quiet spent more bad absent other h f = absurd h
 pub cause_in : (A busy refused quiet spent more : Type 0) (bad : OpenReadError → Type 0) (absent : List ℕ → Type 0) (result : Result A TantivyError) → IfErr result (λ error. EventCause refused quiet spent error) → (spent → more) → IfErr result (λ error. ApplyCause busy refused quiet more bad absent error)
 cause_in A busy refused quiet spent more bad absent (Ok answer) h f = h
 cause_in A busy refused quiet spent more bad absent (Err error) h f = plain_cause busy refused quiet spent more bad absent error h f
+
+-- such an event reads no file
+pub reads_none : (A refused quiet spent P : Type 0) (result : Result A TantivyError) → IfErr result (EventCause refused quiet spent) → IfErr result (λ error. IsReadError error → P)
+reads_none A refused quiet spent P (Ok answer) h = tt
+reads_none A refused quiet spent P (Err error) h = never error h where
+  never : (e : TantivyError) → EventCause refused quiet spent e → IsReadError e → P
+  never (errors.OpenReadError e) h r = absurd h
+  never other h r = absurd r
+
+-- nor does one that takes a lock alone
+pub locks_none : (A busy refused quiet spent P : Type 0) (result : Result A TantivyError) → IfErr result (LockingCause busy refused quiet spent) → IfErr result (λ error. IsReadError error → P)
+locks_none A busy refused quiet spent P (Ok answer) h = tt
+locks_none A busy refused quiet spent P (Err error) h = never error h where
+  never : (e : TantivyError) → LockingCause busy refused quiet spent e → IsReadError e → P
+  never (errors.OpenReadError e) h r = absurd h
+  never other h r = absurd r
 
 -- and of one that does
 pub read_cause : (busy refused quiet spent more : Type 0) (bad : OpenReadError → Type 0) (absent : List ℕ → Type 0) (error : TantivyError) → ApplyCause busy refused quiet spent bad absent error → (spent → more) → ApplyCause busy refused quiet more bad absent error
@@ -139,9 +156,9 @@ same_lens bound kept files same h = subst (λ (es : List (List ℕ × List ℕ))
 -- ---- what an error leaves of the commit
 
 -- `meta.json` reads what it read before
-pub leaves_old : {A : Type 0} (result : Result A TantivyError) (before now : Option (List ℕ)) (schema : List ℕ) (s : State) (event : Event) → OnErr result (now ≡ before) → OnErr result (LeavesOldOrNew before now schema s event)
-leaves_old (Ok answer) before now schema s event h = h
-leaves_old (Err error) before now schema s event h = ([], inl h)
+pub leaves_old : {A : Type 0} (result : Result A TantivyError) (refused : Type 0) (before now : Option (List ℕ)) (form : IndexForm) (s : State) (event : Event) → OnErr result (now ≡ before) → OnErr result (LeavesOldOrNew refused before now form s event)
+leaves_old (Ok answer) refused before now form s event h = h
+leaves_old (Err error) refused before now form s event h = ([], inl h)
 
 pub old_at_memory : {A : Type 0} (result : Result A TantivyError) (before now : Option (List ℕ)) → OnErr result (now ≡ before) → IfErr result (λ error. error ≡ errors.Memory → now ≡ before)
 old_at_memory (Ok answer) before now h = h

@@ -6,7 +6,7 @@ use Rattle.tv_directory.specs.Locks.{SameLocks}
 use Rattle.tv_directory.specs.View.{View, Told as ToldParts, GoesOn}
 use Rattle.tv_directory.specs.declared.directory.Directory.{Ghosts}
 use Rattle.tv_model.specs.Names.{meta_name}
-use Rattle.tv_model.specs.Files.{RoseBy}
+use Rattle.tv_model.specs.Files.{Rose, RoseBy}
 use Rattle.tv_model.specs.Machine.{refused_in}
 use Rattle.tv_model.specs.ReaderEvents.{bodies_in, reader_step, reload_step}
 use Rattle.tv_model.specs.SoundStates.{IsWhole}
@@ -16,7 +16,7 @@ use Rattle.tv_model.specs.declared.reload_policy.ReloadPolicy.{ReloadPolicy}
 use Rattle.tv_store.specs.Kept.{StoreState, Holds, AtMost}
 use Rattle.tv_store.specs.ReaderNumbers.{FewNumbers}
 use Rattle.tv_store.specs.Applying.{Stepped, ApplyFaults, LeavesOldOrNew, MayNoteAt, written_by}
-use Rattle.tv_store.specs.Stays.{Stays, KeepsReaders, EventFaults}
+use Rattle.tv_store.specs.Stays.{Stays, KeepsDotted, KeepsReaders, EventFaults}
 
 -- from each state that was held, this step's answer is given, and the state after it is held
 abbrev pub StepsTo : {O W C : Type 0} (g : Ghosts O W C) (old new : StoreState O) (told : State → StepResult State) (result : Result (List ℕ) TantivyError) → Type 0
@@ -52,6 +52,7 @@ pub record OnFiles {O W C : Type 0} (g : Ghosts O W C) (keeps : View W → View 
   pub room : IfOk result (λ answer. length answer < (g.view new.outside).room)
   pub faults : EventFaults spent (g.view old.outside) (g.view new.outside) result
   pub meta : KeepsMeta g old new result
+  pub dotted : g.told.content → KeepsDotted (g.view old.outside).reads (g.view new.outside).reads
   pub frame : KeepsReaders keeps g.view old new
 
 -- What each event keeps of the directory: nothing was told, no lock was taken or freed, and nobody was registered or called.
@@ -61,9 +62,9 @@ pub record Passes {W : Type 0} (told : ToldParts) (event : Event) (old new : Vie
   pub locks : told.locks → SameLocks old.locks new.locks
   pub watched : MayNoteAt event old.watched new.watched
 
--- An error leaves the commit before, or that of the event; want of memory the one before.
+-- An error leaves the commit before, or, where a call was refused, that of the event; want of memory the one before.
 pub record LeavesStep {O W C : Type 0} (g : Ghosts O W C) (old new : StoreState O) (event : Event) (result : Result (List ℕ) TantivyError) : Type 0 where
-  pub meta : g.told.content → (s : State) → Holds (g.view old.outside).reads old.kept s → IsWhole s → OnErr result (LeavesOldOrNew ((g.view old.outside).reads meta_name) ((g.view new.outside).reads meta_name) old.kept.schema s event)
+  pub meta : g.told.content → (s : State) → Holds (g.view old.outside).reads old.kept s → IsWhole s → OnErr result (LeavesOldOrNew (Rose (g.view old.outside).faults (g.view new.outside).faults) ((g.view old.outside).reads meta_name) ((g.view new.outside).reads meta_name) old.kept.form s event)
   pub memory : g.told.content → IfErr result (λ error. error ≡ errors.Memory → (g.view new.outside).reads meta_name ≡ (g.view old.outside).reads meta_name)
 
 -- An event's step was made, and there is room for its answer.
@@ -74,4 +75,5 @@ pub record Acts {O W C : Type 0} (g : Ghosts O W C) (old new : StoreState O) (ev
   pub numbers : (bound : ℕ) → FewNumbers bound old.kept.catalog.reading → OnOk result (FewNumbers (bound + written_by event) new.kept.catalog.reading)
   pub faults : ApplyFaults g old new event result
   pub leaves : LeavesStep g old new event result
+  pub dotted : g.told.content → KeepsDotted (g.view old.outside).reads (g.view new.outside).reads
   pub frame : Stays (Passes g.told event) g.view old new

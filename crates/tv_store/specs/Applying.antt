@@ -1,5 +1,5 @@
 -- An event, applied to a store that is open.
-use Rattle.std.specs.Prelude.{ℕ, ◌≡◌, ◌≤◌, ◌+◌, ◌⊎◌, Bool, true, false, List, length, Option, Some, Result, IfErr, OnOk, OnErr, is_ok}
+use Rattle.std.specs.Prelude.{ℕ, ◌≡◌, ◌≤◌, ◌+◌, ◌⊎◌, Bool, true, false, List, length, Option, Some, None, Result, IfErr, OnOk, OnErr, is_ok}
 use Rattle.tv_base.specs.declared.error.TantivyError.{TantivyError}
 use Rattle.tv_base.specs.declared.error.TantivyError.TheVariants as errors
 use Rattle.tv_base.specs.declared.open_errors.OpenReadError.{OpenReadError}
@@ -7,24 +7,25 @@ use Rattle.tv_directory.specs.Locks.{SameLocks}
 use Rattle.tv_directory.specs.View.{GoesOn}
 use Rattle.tv_directory.specs.Watch.{WatchState, MayNote}
 use Rattle.tv_directory.specs.declared.directory.Directory.{Ghosts}
-use Rattle.tv_model.specs.Names.{has, meta_name}
+use Rattle.tv_model.specs.Names.{meta_name}
 use Rattle.tv_model.specs.Files.{Reads, Heard, Rose, RoseBy}
-use Rattle.tv_model.specs.Commits.{Commit, Means, default_settings, first_commit}
+use Rattle.tv_model.specs.Commits.{Commit, IndexForm, Means, new_form, first_commit}
 use Rattle.tv_model.specs.Segments.{all_required}
-use Rattle.tv_model.specs.State.{State, Sealed, file_at}
+use Rattle.tv_model.specs.State.{State}
 use Rattle.tv_model.specs.declared.event.Event.{Event}
 use Rattle.tv_model.specs.declared.event.Event.TheVariants as events
 use Rattle.tv_model.specs.SoundStates.{IsWhole}
 use Rattle.tv_model.specs.Machine.{step, refused_in}
-use Rattle.tv_model.specs.Readable.{ReadsGood}
+use Rattle.tv_model.specs.Readable.{ReadsGood, read_by}
 use Rattle.tv_managed.specs.Collecting.{meta_lock_name}
 use Rattle.tv_managed.specs.Managed.{KeepsOtherFiles}
-use Rattle.tv_managed.specs.Reading.{HasNoBody}
-use Rattle.tv_store.specs.Kept.{Kept, StoreState, Holds, AtMost, BytesSpent}
-use Rattle.tv_store.specs.ReaderNumbers.{FewNumbers, NumbersSpent}
-use Rattle.tv_store.specs.Bodies.{RefusesFile}
-use Rattle.tv_store.specs.ReadCauses.{ApplyCause, Reading, TakesMetaLock}
+use Rattle.tv_store.specs.Kept.{Kept, StoreState, Holds, AtMost}
+use Rattle.tv_store.specs.Exhausted.{IsExhausted}
+use Rattle.tv_store.specs.ReaderNumbers.{FewNumbers}
+use Rattle.tv_store.specs.Bodies.{MeetsBadFile}
+use Rattle.tv_store.specs.ReadCauses.{ApplyCause, IsReadError, TakesMetaLock}
 use Rattle.tv_store.specs.StoreCauses.{IsBusy}
+use Rattle.tv_store.specs.Stays.{KeepsDotted}
 use Rattle.tv_store.specs.Telling.{TellsFirstPart}
 
 -- how many bytes an event adds to a file, or how many numbers of readers, searchers and snapshots it takes
@@ -43,66 +44,57 @@ Stepped g old new event answer =
     × (g.told.content → (s : State) → Holds (g.view old.outside).reads old.kept s → IsWhole s
     → (answer ≡ (step s event outcomes).0) × Holds (g.view new.outside).reads new.kept (step s event outcomes).1 × ReadsGood s event)
 
--- what `meta.json` reads after an error: what it read before, or a text that means this commit
-abbrev pub LeavesCommit : (before now : Option (List ℕ)) (schema : List ℕ) → Commit → Type 0
-LeavesCommit before now schema commit = (now ≡ before) ⊎ ((text : List ℕ) × (now ≡ Some text) × Means default_settings schema text commit)
+-- what `meta.json` reads after an error: what it read before; or, where this is so, a text that means this commit
+abbrev pub LeavesCommit : (given : Type 0) (before now : Option (List ℕ)) → IndexForm → Commit → Type 0
+LeavesCommit given before now form commit = (now ≡ before) ⊎ (given × ((text : List ℕ) × (now ≡ Some text) × Means form.settings form.schema text commit))
 
--- an index was made, or not: only the list and `meta.json` may have changed, and this reads what it read before, or the first commit
+-- An index was made, or not: only the list and `meta.json` may have changed. This reads what it read before; or, where it read nothing, the first commit.
 abbrev pub MakesFirst : Reads → Reads → (schema : List ℕ) → Type 0
-MakesFirst old new schema = KeepsOtherFiles old new meta_name × LeavesCommit (old meta_name) (new meta_name) schema first_commit
+MakesFirst old new schema = KeepsOtherFiles old new meta_name × LeavesCommit (old meta_name ≡ None) (old meta_name) (new meta_name) (new_form schema) first_commit
 
--- an event failed: `meta.json` reads what it read before, or the commit that the event makes
-abbrev pub LeavesOldOrNew : (before now : Option (List ℕ)) (schema : List ℕ) → State → Event → Type 0
-LeavesOldOrNew before now schema s event = (outcomes : List Bool) × LeavesCommit before now schema (step s event outcomes).1.catalog.commit
+-- an event failed: `meta.json` reads what it read before; or, where a call was refused, the commit that the event makes
+abbrev pub LeavesOldOrNew : (refused : Type 0) (before now : Option (List ℕ)) → IndexForm → State → Event → Type 0
+LeavesOldOrNew refused before now form s event = (outcomes : List Bool) × LeavesCommit refused before now form (step s event outcomes).1.catalog.commit
 
--- what an event adds would pass 64 bits: the bytes of a file, or a number of readers, searchers or snapshots
-abbrev pub Spent : Kept → Event → Type 0
-Spent kept event = BytesSpent kept (written_by event) ⊎ NumbersSpent kept.catalog.reading (written_by event)
-
--- a file that the current commit requires is refused with this error
-pub record RefusesRequired (s : State) (error : OpenReadError) : Type 0 where
-  pub path : List ℕ
-  -- the commit requires it
-  pub required : has (all_required s.catalog.commit.segments) path ≡ true
-  -- it is sealed, with these bytes
-  pub bytes : List ℕ
-  pub sealed : file_at s path ≡ Some (Sealed bytes)
-  -- which are refused
-  pub why : RefusesFile bytes path error
-  pub no_body : HasNoBody bytes
-
--- where the content is told, each state that is held has such a file
+-- where the content is told, the commit of each state that is held requires a file that can't be read
 abbrev pub LacksIn : (tells : Type 0) → Reads → Kept → OpenReadError → Type 0
-LacksIn tells reads kept error = tells → (s : State) → Holds reads kept s → IsWhole s → RefusesRequired s error
+LacksIn tells reads kept error = tells → (s : State) → Holds reads kept s → IsWhole s → MeetsBadFile s (all_required s.catalog.commit.segments) error
 
--- and the event reads the commit's files
+-- the event reads the files of a commit, and the first of them that can't be read is refused with this error
+abbrev pub MeetsBadAt : State → Event → OpenReadError → Type 0
+MeetsBadAt s event error = (commit : Commit) × (read_by s event ≡ Some commit) × MeetsBadFile s (all_required commit.segments) error
+
+-- where the content is told, it does so from each state that is held
 abbrev pub BadIn : (tells : Type 0) → Reads → Kept → Event → OpenReadError → Type 0
-BadIn tells reads kept event error = tells → (s : State) → Holds reads kept s → IsWhole s → Reading s event × RefusesRequired s error
+BadIn tells reads kept event error = tells → (s : State) → Holds reads kept s → IsWhole s → MeetsBadAt s event error
 
 -- where the content is told, there is no such state
 abbrev pub HoldsNone : (tells : Type 0) → Reads → Kept → Type 0
 HoldsNone tells reads kept = tells → (s : State) → Holds reads kept s → IsWhole s → ⊥
 
--- An event fails where it takes a lock that isn't given, where it meets a file that can't be read, where the device refused a call, where memory was wanted, or where the bytes of a file or a number would pass 64 bits.
+-- An event fails where it takes a lock that isn't given, where it meets a file that can't be read, where the device refused a call, where memory was wanted, or
+-- where a number or the length of a file would pass 64 bits.
 abbrev pub ActCause : {O W C : Type 0} → Ghosts O W C → (old new : StoreState O) → Event → TantivyError → Type 0
 ActCause g old new event =
-    ApplyCause (TakesMetaLock old.kept event × IsBusy g.told.locks ((g.view old.outside).locks meta_lock_name ≡ true) (Rose (g.view old.outside).faults (g.view new.outside).faults))
-    (Rose (g.view old.outside).faults (g.view new.outside).faults) ((g.view new.outside).faults ≡ (g.view old.outside).faults) (Spent old.kept event)
+    ApplyCause (TakesMetaLock old.kept.catalog event × IsBusy g.told.locks ((g.view old.outside).locks meta_lock_name ≡ true) (Rose (g.view old.outside).faults (g.view new.outside).faults))
+    (Rose (g.view old.outside).faults (g.view new.outside).faults) ((g.view new.outside).faults ≡ (g.view old.outside).faults) (IsExhausted old.kept event)
     (BadIn g.told.content (g.view old.outside).reads old.kept event) (λ path. HoldsNone g.told.content (g.view old.outside).reads old.kept)
 
--- At Ok the device refused no call but deletes, and the lock that the event takes was free; and why the event failed.
+-- At Ok the device refused no call but deletes, and the lock that the event takes was free; it was free too where a file wasn't read; and why the event failed.
 pub record ApplyFaults {O W C : Type 0} (g : Ghosts O W C) (old new : StoreState O) (event : Event) (result : Result (List ℕ) TantivyError) : Type 0 where
   pub quiet : OnOk result ((g.view new.outside).faults ≡ (g.view old.outside).faults)
-  pub free : g.told.locks → TakesMetaLock old.kept event → OnOk result ((g.view old.outside).locks meta_lock_name ≡ false)
+  pub free : g.told.locks → TakesMetaLock old.kept.catalog event → OnOk result ((g.view old.outside).locks meta_lock_name ≡ false)
+  pub reads : g.told.locks → IfErr result (λ error. IsReadError error → (g.view old.outside).locks meta_lock_name ≡ false)
   pub cause : IfErr result (ActCause g old new event)
 
 -- no more was told than a first part of the event's line
 abbrev pub TellsPartOf : (before now : Heard) → State → Event → Type 0
 TellsPartOf before now s event = (outcomes : List Bool) × TellsFirstPart before now (step s event outcomes).0
 
--- An error leaves the commit before, or that of the event; want of memory the one before. Of the event's line no more than a first part was told.
+-- An error leaves the commit before, or, where a call was refused, that of the event; want of memory the one before. Of the event's line no more than a first part
+-- was told.
 pub record LeavesMeta {O W C : Type 0} (g : Ghosts O W C) (old new : StoreState O) (event : Event) (result : Result (List ℕ) TantivyError) : Type 0 where
-  pub meta : g.told.content → (s : State) → Holds (g.view old.outside).reads old.kept s → IsWhole s → OnErr result (LeavesOldOrNew ((g.view old.outside).reads meta_name) ((g.view new.outside).reads meta_name) old.kept.schema s event)
+  pub meta : g.told.content → (s : State) → Holds (g.view old.outside).reads old.kept s → IsWhole s → OnErr result (LeavesOldOrNew (Rose (g.view old.outside).faults (g.view new.outside).faults) ((g.view old.outside).reads meta_name) ((g.view new.outside).reads meta_name) old.kept.form s event)
   pub memory : g.told.content → IfErr result (λ error. error ≡ errors.Memory → (g.view new.outside).reads meta_name ≡ (g.view old.outside).reads meta_name)
   pub part : g.told.content → g.told.heard → (s : State) → Holds (g.view old.outside).reads old.kept s → IsWhole s → OnErr result (TellsPartOf (g.view old.outside).heard (g.view new.outside).heard s event)
 
@@ -116,10 +108,25 @@ abbrev pub MayNoteAt : Event → WatchState → WatchState → Type 0
 MayNoteAt (events.Commit payload ids) old new = MayNote meta_name old new
 MayNoteAt other old new = new ≡ old
 
--- What each event keeps: the locks, who watches, and the schema. A writer that may be handed in still may. The store is open unless an error came.
+-- What each event keeps: the locks, who watches, the settings and the schema, and the files with a dot in front, the list apart. A writer that may be handed in
+-- still may. The store is open unless an error came.
 pub record AppliesFrame {O W C : Type 0} (g : Ghosts O W C) (old new : StoreState O) (event : Event) (result : Result (List ℕ) TantivyError) : Type 0 where
   pub goes_on : GoesOn g.told (g.view old.outside) (g.view new.outside)
   pub locks : g.told.locks → SameLocks (g.view old.outside).locks (g.view new.outside).locks
   pub watched : MayNoteAt event (g.view old.outside).watched (g.view new.outside).watched
-  pub schema : new.kept.schema ≡ old.kept.schema
+  pub form : new.kept.form ≡ old.kept.form
+  pub dotted : g.told.content → KeepsDotted (g.view old.outside).reads (g.view new.outside).reads
   pub is_open : new.is_open ≡ is_ok result
+
+-- An event that nothing disturbs, from a state that is held: what is read is told, and the locks are; the files that it reads can be read, the lock that it takes is
+-- free, no number and no length passes 64 bits, and no call is refused.
+pub record IsUndisturbedEvent {O W C : Type 0} (g : Ghosts O W C) (old new : StoreState O) (event : Event) : Type 0 where
+  pub content : g.told.content
+  pub locks : g.told.locks
+  pub state : State
+  pub held : Holds (g.view old.outside).reads old.kept state
+  pub whole : IsWhole state
+  pub readable : ReadsGood state event
+  pub free : TakesMetaLock old.kept.catalog event → (g.view old.outside).locks meta_lock_name ≡ false
+  pub fits : IsExhausted old.kept event → ⊥
+  pub quiet : Rose (g.view old.outside).faults (g.view new.outside).faults → ⊥

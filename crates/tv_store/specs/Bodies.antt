@@ -1,11 +1,12 @@
 -- The bodies of sealed files, as they are read.
-use Rattle.std.specs.Prelude.{ℕ, ◌≡◌, true, List, map, Some, None, string_bytes}
+use Rattle.std.specs.Prelude.{ℕ, ◌≡◌, true, List, ◌∷◌, ◌++◌, map, Option, Some, None, string_bytes}
 use Rattle.std.specs.List.{AllByRecursion}
 use Rattle.tv_model.specs.Names.{has}
 use Rattle.tv_model.specs.Files.{Reads}
-use Rattle.tv_model.specs.Readable.{IsGoodFile}
+use Rattle.tv_model.specs.Footer.{IsGood}
+use Rattle.tv_model.specs.Readable.{IsGoodFile, AreGoodFiles}
 use Rattle.tv_model.specs.ReaderEvents.{body_in}
-use Rattle.tv_model.specs.State.{State, file_at}
+use Rattle.tv_model.specs.State.{State, Sealed, file_at}
 use Rattle.tv_model.specs.declared.segment.LiveSegment.{LiveSegment}
 use Rattle.tv_model.specs.Segments.{required_names}
 use Rattle.tv_model.specs.CommitEvents.{is_sealed}
@@ -17,7 +18,8 @@ use Rattle.tv_framing.specs.Footers.{Refuses}
 use Rattle.tv_managed.specs.Reading.{HasNoBody, HasOtherFormat}
 use Rattle.tv_store.specs.ReadCauses.{ApplyCause}
 
--- Why the bytes of the file of this path are refused, which the error says: they end in no footer, for the first reason that holds, or in one of a format that isn't read.
+-- Why the bytes of the file of this path are refused, which the error says: they end in no footer, for the first reason that holds, or in one of a format that isn't
+-- read.
 abbrev pub RefusesFile : (bytes path : List ℕ) → OpenReadError → Type 0
 RefusesFile bytes path (read.IoError fault named) = (string_bytes named ≡ path) × Refuses bytes fault
 RefusesFile bytes path (read.IncompatibleIndex why) = HasOtherFormat bytes why
@@ -29,6 +31,10 @@ pub record RefusesAt (reads : Reads) (name : List ℕ) (error : OpenReadError) :
   pub there : reads name ≡ Some bytes
   pub why : RefusesFile bytes name error
   pub no_body : HasNoBody bytes
+
+-- the name reads a file that can be read
+abbrev pub ReadsGoodFile : Option (List ℕ) → Type 0
+ReadsGoodFile read = (bytes : List ℕ) × (read ≡ Some bytes) × IsGood bytes
 
 -- these are the bodies of the files under these names, each of which is sealed and has a footer
 pub record AreBodies (s : State) (names : List (List ℕ)) (bodies : List (List ℕ)) : Type 0 where
@@ -46,7 +52,30 @@ pub record ReadsSegment (s : State) (id : List ℕ) (segment : LiveSegment) (rea
   pub segment_is : read_segment ≡ segment
   pub bodies_are : AreBodies s (required_names id segment) bodies
 
--- why one of these files isn't read: the device refused it, or its bytes are refused, or it isn't there
+-- Of these files, one after the other, the first that can't be read is refused with this error: each before it can be read.
+pub record MeetsBadFile (s : State) (names : List (List ℕ)) (error : OpenReadError) : Type 0 where
+  pub front : List (List ℕ)
+  pub path : List ℕ
+  pub rest : List (List ℕ)
+  pub split : names ≡ front ++ path ∷ rest
+  pub good : AreGoodFiles s front
+  -- it is sealed, with these bytes
+  pub bytes : List ℕ
+  pub sealed : file_at s path ≡ Some (Sealed bytes)
+  -- which are refused
+  pub why : RefusesFile bytes path error
+  pub no_body : HasNoBody bytes
+
+-- the same of what the names read, where that is told
+pub record RefusesFirst (tells : Type 0) (reads : Reads) (names : List (List ℕ)) (error : OpenReadError) : Type 0 where
+  pub front : List (List ℕ)
+  pub path : List ℕ
+  pub rest : List (List ℕ)
+  pub split : names ≡ front ++ path ∷ rest
+  pub good : tells → (n : List ℕ) → has front n ≡ true → ReadsGoodFile (reads n)
+  pub refuses : tells → RefusesAt reads path error
+
+-- why one of these files isn't read: the device refused it, or it is the first whose bytes are refused, or it isn't there
 abbrev pub FailsAt : (tells : Type 0) → Reads → List (List ℕ) → (refused quiet : Type 0) → TantivyError → Type 0
 FailsAt tells reads names refused quiet =
-    ApplyCause ⊥ refused quiet ⊥ (λ error. (path : List ℕ) × (has names path ≡ true) × (tells → RefusesAt reads path error)) (λ path. (has names path ≡ true) × (tells → reads path ≡ None))
+    ApplyCause ⊥ refused quiet ⊥ (RefusesFirst tells reads names) (λ path. (has names path ≡ true) × (tells → reads path ≡ None))

@@ -1,5 +1,5 @@
 -- What a call that commits does.
-use Rattle.std.specs.Prelude.{ℕ, ◌≡◌, ◌<◌, ◌+◌, ◌++◌, [], ◌∷◌, List, length, codes, Option, Some, is_some, Result, IfOk, IfErr, OnErr}
+use Rattle.std.specs.Prelude.{ℕ, ◌≡◌, ◌<◌, ◌+◌, ◌^◌, ◌++◌, [], ◌∷◌, List, length, codes, Option, Some, is_some, Result, IfOk, IfErr, OnErr}
 use Rattle.std.specs.BTreeSet.{insert_key}
 use Rattle.std.specs.Fmt.{decimal}
 use Rattle.hex.specs.Hex.{encode_lower}
@@ -7,16 +7,17 @@ use Rattle.tv_base.specs.declared.error.TantivyError.{TantivyError}
 use Rattle.tv_base.specs.declared.error.TantivyError.TheVariants as errors
 use Rattle.tv_directory.specs.declared.directory.Directory.{Ghosts}
 use Rattle.tv_directory.specs.View.{View, Told as ToldParts}
+use Rattle.tv_model.specs.Files.{Rose}
 use Rattle.tv_model.specs.Listing.{Lists}
 use Rattle.tv_model.specs.Names.{byte_cmp, list_name, meta_name}
 use Rattle.tv_model.specs.declared.segment.LiveSegment.{LiveSegment}
 use Rattle.tv_model.specs.Lines.{line, unless, words_of}
 use Rattle.tv_model.specs.CommitEvents.{committed, first_unsealed}
-use Rattle.tv_model.specs.Commits.{Commit, IsCommit, printed, default_settings}
+use Rattle.tv_model.specs.Commits.{Commit, IsCommit, printed}
 use Rattle.tv_model.specs.State.{State, StepResult, on_catalog}
 use Rattle.tv_store.specs.Kept.{Kept, StoreState, Holds}
 use Rattle.tv_store.specs.Applying.{LeavesCommit}
-use Rattle.tv_store.specs.Stays.{Stays, FrameNotes, EventFaults}
+use Rattle.tv_store.specs.Stays.{Stays, KeepsDotted, FrameNotes, EventFaults}
 
 -- The open files, who reads, the schema and whether the store is open stay; nothing was told, and a notice of a commit may stand.
 pub record KeepsRest {O W : Type 0} (told : ToldParts) (view : O → View W) (old new : StoreState O) : Type 0 where
@@ -24,13 +25,15 @@ pub record KeepsRest {O W : Type 0} (told : ToldParts) (view : O → View W) (ol
   pub open_files : new.kept.open_files ≡ old.kept.open_files
   pub reading : new.kept.catalog.reading ≡ old.kept.catalog.reading
 
--- A call makes this step of the machine from each state that was held, if this is so. An error leaves the commit before, or that of the step; want of memory the one before.
+-- A call makes this step of the machine from each state that was held, if this is so. An error leaves the commit before, or, where a call was refused, that of the
+-- step; want of memory the one before.
 pub record Commits {O W C : Type 0} (g : Ghosts O W C) (given : Type 0) (old new : StoreState O) (told : State → StepResult State) (result : Result (List ℕ) TantivyError) : Type 0 where
   pub step : g.told.content → (s : State) → Holds (g.view old.outside).reads old.kept s → given → IfOk result (λ answer. (answer ≡ (told s).0) × Holds (g.view new.outside).reads new.kept (told s).1)
-  pub meta : g.told.content → (s : State) → Holds (g.view old.outside).reads old.kept s → given → OnErr result (LeavesCommit ((g.view old.outside).reads meta_name) ((g.view new.outside).reads meta_name) old.kept.schema (told s).1.catalog.commit)
+  pub meta : g.told.content → (s : State) → Holds (g.view old.outside).reads old.kept s → given → OnErr result (LeavesCommit (Rose (g.view old.outside).faults (g.view new.outside).faults) ((g.view old.outside).reads meta_name) ((g.view new.outside).reads meta_name) old.kept.form (told s).1.catalog.commit)
   pub memory : g.told.content → IfErr result (λ error. error ≡ errors.Memory → (g.view new.outside).reads meta_name ≡ (g.view old.outside).reads meta_name)
   pub room : IfOk result (λ answer. length answer < (g.view new.outside).room)
   pub faults : EventFaults ⊥ (g.view old.outside) (g.view new.outside) result
+  pub dotted : g.told.content → KeepsDotted (g.view old.outside).reads (g.view new.outside).reads
   pub frame : KeepsRest g.told g.view old new
 
 -- this commit, which gets the next number, is the current one, and this is its text
@@ -43,7 +46,8 @@ pub record Publishes {O W C : Type 0} (g : Ghosts O W C) (old new : StoreState O
 pub record IsPrinted (kept : Kept) (commit : Commit) (text : List ℕ) : Type 0 where
   pub opstamp : commit.opstamp ≡ kept.catalog.next
   pub sound : IsCommit commit
-  pub text_is : text ≡ printed default_settings kept.schema commit ++ 10 ∷ []
+  pub blocksize : kept.form.settings.blocksize < 2 ^ 64
+  pub text_is : text ≡ printed kept.form.settings kept.form.schema commit ++ 10 ∷ []
 
 -- what is answered to a commit with this number, of these segments
 abbrev pub commit_line : ℕ → List (List ℕ × LiveSegment) → List ℕ

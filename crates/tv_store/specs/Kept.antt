@@ -1,16 +1,16 @@
 -- What a store keeps in memory, and the state of the machine that it holds with what its directory reads.
-use Rattle.std.specs.Prelude.{ℕ, ◌≡◌, ◌≤◌, ◌+◌, ◌^◌, Bool, true, false, List, length, Option, Some, None, IsSome, is_some}
+use Rattle.std.specs.Prelude.{ℕ, ◌≡◌, ◌≤◌, Bool, true, false, List, length, Option, Some, None, IsSome, is_some}
 use Rattle.std.specs.List.{AllByRecursion}
 use Rattle.tv_model.specs.Names.{has, list_name, meta_name}
 use Rattle.tv_model.specs.Files.{Reads}
 use Rattle.tv_model.specs.Listing.{Lists}
-use Rattle.tv_model.specs.Commits.{IsSegment, Means, default_settings}
+use Rattle.tv_model.specs.Commits.{IndexForm, IsSegment, Means, new_form}
 use Rattle.tv_model.specs.State.{Catalog, State, FileState, Sealed, Open, Left, at, file_at}
 use Rattle.tv_model.specs.Index.{IsFileOf}
 
--- what a store keeps in memory: the schema's text, the catalog, the managed names, what was written to each open file, and the files that were left
+-- what a store keeps in memory: its index's settings and schema, the catalog, the managed names, what was written to each open file, and the files that were left
 pub record Kept : Type 0 where
-  pub schema : List ℕ
+  pub form : IndexForm
   pub catalog : Catalog
   pub managed : List (List ℕ)
   pub open_files : List (List ℕ × List ℕ)
@@ -29,9 +29,9 @@ pub record FilesState (O : Type 0) : Type 0 where
   pub open_files : List (List ℕ × List ℕ)
   pub left : List (List ℕ)
 
--- what a store keeps that has this schema, this catalog and these files
+-- what a store keeps of a new index with this schema, with this catalog and these files
 abbrev pub kept_of : {O : Type 0} → (schema : List ℕ) → Catalog → FilesState O → Kept
-kept_of schema catalog files = record { schema = schema; catalog = catalog; managed = files.managed; open_files = files.open_files; left = files.left }
+kept_of schema catalog files = record { form = new_form schema; catalog = catalog; managed = files.managed; open_files = files.open_files; left = files.left }
 
 -- a file of the machine, next to what its name reads and what was written to it
 abbrev pub FileHolds : Option FileState → Option (List ℕ) → Option (List ℕ) → Type 0
@@ -55,14 +55,10 @@ pub record Holds (reads : Reads) (kept : Kept) (s : State) : Type 0 where
   pub names : (n : List ℕ) → is_some (file_at s n) ≡ true → IsFileOf n
   pub files : (n : List ℕ) → IsFileOf n → FileHolds (file_at s n) (reads n) (at kept.open_files n)
   pub left : (n : List ℕ) → has kept.left n ≡ is_left (file_at s n)
-  pub meta : (text : List ℕ) × (reads meta_name ≡ Some text) × Means default_settings kept.schema text s.catalog.commit
+  pub meta : (text : List ℕ) × (reads meta_name ≡ Some text) × Means kept.form.settings kept.form.schema text s.catalog.commit
   pub listing : Lists (reads list_name) s.managed
   pub listed : has s.managed meta_name ≡ true
 
 -- no open file has more bytes than this
 abbrev pub AtMost : ℕ → Kept → Type 0
 AtMost bound kept = AllByRecursion (λ e. length e.1 ≤ bound) kept.open_files
-
--- no bound on these lengths is so small that a file can get this many bytes more
-abbrev pub BytesSpent : Kept → ℕ → Type 0
-BytesSpent kept count = (bound : ℕ) → AtMost bound kept → 2 ^ 64 ≤ bound + count

@@ -5,22 +5,22 @@ use Rattle.tv_directory.specs.Locks.{SameLocks, TakesLock}
 use Rattle.tv_managed.specs.declared.managed_directory.Refused.{Refused}
 use Rattle.tv_model.specs.Files.{Rose, Same}
 use Rattle.tv_model.specs.Lines.{opening_of}
-use Rattle.tv_model.specs.Commits.{is_schema, default_settings, first_commit}
-use Rattle.tv_model.specs.State.{State, no_readers}
-use Rattle.tv_model.specs.Index.{HasNoIndex, OpensTo}
+use Rattle.tv_model.specs.Commits.{IsSchema, first_commit}
+use Rattle.tv_model.specs.State.{no_readers}
+use Rattle.tv_model.specs.Index.{HasNoIndex, OpenedIndex}
 use Rattle.tv_store.specs.Kept.{StoreState, Holds, AtMost}
 use Rattle.tv_store.specs.StoreCauses.{IsArgument, IsBusy, OpeningCause, writer_lock_name}
 use Rattle.tv_store.specs.Applying.{MakesFirst}
 use Rattle.tv_store.specs.Stays.{MayNotify}
 use Rattle.tv_store.specs.Telling.{TellsLine, TellsFirstPart, TellsNoLine}
 
--- An index with this schema is open in this directory, where none stood. It holds each state to which the directory opens. No open file has a byte, and nobody reads.
+-- An index with this schema is open in this directory, where none stood. It is each one to which the directory opens, and holds its state. No open file has a byte,
+-- and nobody reads.
 pub record Opens {O W C : Type 0} (g : Ghosts O W C) (outside : O) (schema : List ℕ) (store : StoreState O) : Type 0 where
   pub is_open : store.is_open ≡ true
-  pub schema_is : store.kept.schema ≡ schema
-  pub accepted : is_schema schema ≡ true
+  pub spelled : IsSchema schema store.kept.form.schema
   pub none : g.told.content → HasNoIndex (g.view outside).reads
-  pub holds : g.told.content → (s : State) → OpensTo default_settings schema (g.view outside).reads s → Holds (g.view store.outside).reads store.kept s
+  pub holds : g.told.content → (index : OpenedIndex schema (g.view outside).reads) → (store.kept.form ≡ index.form) × Holds (g.view store.outside).reads store.kept index.state
   pub lens : AtMost 0 store.kept
   pub numbers : store.kept.catalog.reading ≡ no_readers
 

@@ -1,7 +1,7 @@
 -- Why an event that reads the files of a commit fails.
 use Rattle.std.specs.Prelude.{ℕ, ◌≡◌, ◌≢◌, ◌⊎◌, true, List, IsSome, string_bytes}
 use Rattle.tv_model.specs.Names.{is_file_name}
-use Rattle.tv_model.specs.State.{State, reader_at}
+use Rattle.tv_model.specs.State.{Catalog, reader_at}
 use Rattle.tv_model.specs.declared.event.Event.{Event}
 use Rattle.tv_model.specs.declared.event.Event.TheVariants as events
 use Rattle.tv_base.specs.Causes.{IsDevice}
@@ -10,28 +10,19 @@ use Rattle.tv_base.specs.declared.open_errors.OpenReadError.{OpenReadError}
 use Rattle.tv_base.specs.declared.open_errors.OpenReadError.TheVariants as read
 use Rattle.tv_base.specs.declared.error.TantivyError.{TantivyError}
 use Rattle.tv_base.specs.declared.error.TantivyError.TheVariants as errors
-use Rattle.tv_store.specs.Kept.{Kept}
 use Rattle.tv_store.specs.StoreCauses.{LockingCause}
 
--- an event that reads the files of the current commit: a new reader, or a reload of a reader that is there
-abbrev pub Reading : State → Event → Type 0
-Reading s (events.Reader policy) = Unit {0}
-Reading s (events.Reload number) = IsSome (reader_at s.catalog number)
-Reading s other = ⊥
-
 -- an event that takes the meta lock: a collection, a new reader, or a reload of a reader that is there
-abbrev pub TakesMetaLock : Kept → Event → Type 0
-TakesMetaLock kept events.Gc = Unit {0}
-TakesMetaLock kept (events.Reader policy) = Unit {0}
-TakesMetaLock kept (events.Reload number) = IsSome (reader_at kept.catalog number)
-TakesMetaLock kept other = ⊥
+abbrev pub TakesMetaLock : Catalog → Event → Type 0
+TakesMetaLock c events.Gc = Unit {0}
+TakesMetaLock c (events.Reader policy) = Unit {0}
+TakesMetaLock c (events.Reload number) = IsSome (reader_at c number)
+TakesMetaLock c other = ⊥
 
--- an event that takes the meta lock, or may do so
-abbrev pub MayTakeMetaLock : Event → Type 0
-MayTakeMetaLock events.Gc = Unit {0}
-MayTakeMetaLock (events.Reader policy) = Unit {0}
-MayTakeMetaLock (events.Reload number) = Unit {0}
-MayTakeMetaLock other = ⊥
+-- a file that was to be read wasn't
+abbrev pub IsReadError : TantivyError → Type 0
+IsReadError (errors.OpenReadError error) = Unit {0}
+IsReadError other = ⊥
 
 -- The device refused the read of a file; or what the file reads is refused with this error, which is `bad`; or it isn't there, which is `absent`.
 abbrev pub ReadFault : (refused quiet : Type 0) (bad : OpenReadError → Type 0) (absent : List ℕ → Type 0) → OpenReadError → Type 0

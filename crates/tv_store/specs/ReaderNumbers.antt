@@ -1,5 +1,5 @@
 -- How far the numbers of readers, of their snapshots and of searchers have come.
-use Rattle.std.specs.Prelude.{ℕ, ◌≤◌, ◌+◌, ◌^◌}
+use Rattle.std.specs.Prelude.{ℕ, ◌≤◌}
 use Rattle.std.specs.List.{AllByRecursion}
 use Rattle.tv_model.specs.State.{Readers}
 
@@ -8,7 +8,3 @@ pub record FewNumbers (bound : ℕ) (reading : Readers) : Type 0 where
   pub next_reader : reading.next_reader ≤ bound
   pub next_searcher : reading.next_searcher ≤ bound
   pub next_snapshots : AllByRecursion (λ e. e.1.next ≤ bound) reading.readers
-
--- no bound on these numbers is so small that one of them can rise by this much
-abbrev pub NumbersSpent : Readers → ℕ → Type 0
-NumbersSpent reading count = (bound : ℕ) → FewNumbers bound reading → 2 ^ 64 ≤ bound + count

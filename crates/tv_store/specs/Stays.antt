@@ -1,7 +1,7 @@
 -- What a call on a store leaves alone, and why it fails.
-use Rattle.std.specs.Prelude.{◌≡◌, Result, OnOk, IfErr}
-use Rattle.tv_model.specs.Files.{Rose}
-use Rattle.tv_model.specs.Names.{meta_name}
+use Rattle.std.specs.Prelude.{ℕ, ◌≡◌, ◌≢◌, false, List, Result, OnOk, IfErr}
+use Rattle.tv_model.specs.Files.{Reads, Rose}
+use Rattle.tv_model.specs.Names.{is_undotted, list_name, meta_name}
 use Rattle.tv_base.specs.declared.error.TantivyError.{TantivyError}
 use Rattle.tv_directory.specs.View.{View, Told, DeletesNone, Frame, Kept, OnlyReads}
 use Rattle.tv_directory.specs.declared.directory.Directory.{Ghosts}
@@ -20,9 +20,9 @@ pub record KeepsFiles {O W : Type 0} (keeps : View W → View W → Type 0) (vie
   pub managed : KeepsManaged keeps view old new
   pub open_files : new.open_files ≡ old.open_files
 
--- Of a store: the schema stays, and whether it is open, and of the directory below what such a call keeps.
+-- Of a store: its settings and its schema stay, and whether it is open, and of the directory below what such a call keeps.
 pub record Stays {O W : Type 0} (keeps : View W → View W → Type 0) (view : O → View W) (old new : StoreState O) : Type 0 where
-  pub schema : new.kept.schema ≡ old.kept.schema
+  pub form : new.kept.form ≡ old.kept.form
   pub is_open : new.is_open ≡ old.is_open
   pub below : keeps (view old.outside) (view new.outside)
 
@@ -37,9 +37,15 @@ pub record Asks {O W : Type 0} (keeps : View W → View W → Type 0) (view : O 
   pub is_open : new.is_open ≡ old.is_open
   pub below : keeps (view old.outside) (view new.outside)
 
--- No writer lost its file, no delete was refused, and nobody was registered or called; a notice of a commit may stand.
+-- every name with a dot in front but that of the list reads what it read
+abbrev pub KeepsDotted : Reads → Reads → Type 0
+KeepsDotted old new = (n : List ℕ) → is_undotted n ≡ false → n ≢ list_name → new n ≡ old n
+
+-- No writer lost its file, no delete was refused, and nobody was registered or called; a notice of a commit may stand. No file with a dot in front was changed but
+-- the list.
 pub record MayNotify {W : Type 0} (told : Told) (old new : View W) : Type 0 where
   pub deletes_none : DeletesNone told old new
+  pub dotted : told.content → KeepsDotted old.reads new.reads
   pub watched : MayNote meta_name old.watched new.watched
 
 -- And nothing was told, and no lock was taken or freed.

@@ -3,6 +3,7 @@ use Rattle.std.specs.Prelude.{◌≡◌, ◌⊎◌, ℕ, List, None, true, false
 use Rattle.tv_model.specs.Names.{list_name, meta_name}
 use Rattle.tv_model.specs.Files.{Reads}
 use Rattle.tv_model.specs.Commits.{is_schema}
+use Rattle.tv_model.specs.Index.{HasNoIndex}
 use Rattle.tv_base.specs.Causes.{IsDevice}
 use Rattle.tv_base.specs.declared.open_errors.OpenWriteError.TheVariants as write
 use Rattle.tv_base.specs.declared.open_errors.OpenWriteError.{OpenWriteError}
@@ -69,10 +70,11 @@ IsRefusal text (errors.InvalidArgument t) = string_bytes t ≡ text
 IsRefusal text errors.Memory = Unit {0}
 IsRefusal text other = ⊥
 
--- why an opening fails: `busy` where the writer lock isn't given
+-- Why an opening fails, in this order: the schema is refused; an index stands; the lock of the writer isn't given, which is `busy`. Each is so, and none before it.
+-- A device may refuse a call, and memory may be wanted, at any time.
 abbrev pub OpeningCause : (tells : Type 0) → (schema : List ℕ) → Reads → (busy refused quiet : Type 0) → TantivyError → Type 0
 OpeningCause tells schema reads busy refused quiet (errors.InvalidArgument text) = quiet × OpeningRefusal tells schema reads (string_bytes text)
-OpeningCause tells schema reads busy refused quiet (errors.LockFailure why text) = (is_schema schema ≡ true) × LockCause busy refused ⊥ why × (text ≡ None)
+OpeningCause tells schema reads busy refused quiet (errors.LockFailure why text) = (is_schema schema ≡ true) × (tells → HasNoIndex reads) × LockCause busy refused ⊥ why × (text ≡ None)
 OpeningCause tells schema reads busy refused quiet (errors.IoError fault) = (is_schema schema ≡ true) × IsDevice fault × refused
 OpeningCause tells schema reads busy refused quiet errors.Memory = quiet
 OpeningCause tells schema reads busy refused quiet other = ⊥

@@ -21,10 +21,16 @@ TellsNoLine before now = (now ≡ before) ⊎ ((moment : ℕ) × (part : List �
 abbrev pub TellsFirstPart : Heard → Heard → List ℕ → Type 0
 TellsFirstPart before now line = (now ≡ before) ⊎ ((moment : ℕ) × (part : List ℕ) × (rest : List ℕ) × (line ≡ part ++ rest) × (now ≡ before ++ (moment, part) ∷ []))
 
--- these lines were told, one piece for each
-pub record TellsLines (before now : Heard) (lines : List (List ℕ)) : Type 0 where
+-- the pieces were told one after the other, between these two moments
+abbrev pub AreBetween : (from : ℕ) → Heard → (to : ℕ) → Type 0
+AreBetween from [] to = from ≤ to
+AreBetween from (piece ∷ pieces) to = (from ≤ piece.0) × AreBetween piece.0 pieces to
+
+-- these lines were told, one piece for each, between these two moments
+pub record TellsLines (before now : Heard) (from to : ℕ) (lines : List (List ℕ)) : Type 0 where
   pub pieces : Heard
   pub heard : now ≡ before ++ pieces
+  pub moments : AreBetween from pieces to
   pub each : map (λ piece. piece.1) pieces ≡ map (λ line. line ++ 10 ∷ []) lines
 
 -- This line was told, at a moment of the call; after an error no more than a first part of it was, without its line feed.

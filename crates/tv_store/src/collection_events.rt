@@ -6,7 +6,7 @@ ghost use Rattle.tv_directory.specs.View.{OnlyReads, MayDelete};
 ghost use Rattle.tv_store.specs.Kept.{AtMost};
 ghost use Rattle.tv_store.specs.Acting.{StepsTo, StepsDeleting, KeepsMeta, OnFiles};
 ghost use Rattle.tv_store.specs.FileCalls.{GcFaults};
-ghost use Rattle.tv_store.specs.Stays.{AsksQuietly, KeepsReaders};
+ghost use Rattle.tv_store.specs.Stays.{AsksQuietly, KeepsDotted, KeepsReaders};
 
 use crate::files::Collected;
 use crate::index_store::IndexStore;
@@ -58,6 +58,8 @@ impl<O: Outside> IndexStore<O> {
         ensures lens { (bound : ℕ) → AtMost bound self.old.kept → AtMost bound self.new.kept }
         ensures faults { GcFaults O.Directory self.old.outside self.new.outside result }
         ensures meta { KeepsMeta O.Directory self.old self.new result }
+        ensures dotted { O.told.content → KeepsDotted (O.view self.old.outside).reads
+            (O.view self.new.outside).reads }
         ensures frame { KeepsReaders (MayDelete O.told) O.view self.old self.new }
     {
         let living = self.catalog.living()?;

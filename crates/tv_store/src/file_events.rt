@@ -4,7 +4,9 @@ ghost use Rattle.std.specs.Fmt.{decimal};
 ghost use Rattle.tv_model.specs.Lines.{line, has_no_feed};
 ghost use Rattle.tv_model.specs.FileEvents.{lacks_deletes, open_step, write_step, seal_step};
 ghost use Rattle.tv_directory.specs.View.{Kept};
-ghost use Rattle.tv_store.specs.Kept.{AtMost, BytesSpent};
+ghost use Rattle.tv_model.specs.declared.event.Event.TheVariants as events;
+ghost use Rattle.tv_store.specs.Exhausted.{PassesEnd, length_after};
+ghost use Rattle.tv_store.specs.Kept.{AtMost};
 ghost use Rattle.tv_store.specs.Acting.{StepsTo, OnFiles};
 
 use crate::index_store::IndexStore;
@@ -76,7 +78,8 @@ impl<O: Outside> IndexStore<O> {
         ensures lens { (bound : ℕ) → AtMost bound self.old.kept
             → AtMost (bound + length bytes.now) self.new.kept }
         ensures does { OnFiles O.Directory (Kept O.told)
-            (BytesSpent self.old.kept (length bytes.now)) self.old self.new result }
+            (PassesEnd (length_after self.old.kept (events.Write id component bytes.now)))
+            self.old self.new result }
     {
         let Some(segment) = self.catalog.live_segment(id) else {
             return self.refuse("unknown-segment");

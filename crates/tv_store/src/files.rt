@@ -15,7 +15,7 @@ ghost use Rattle.tv_directory.specs.View.{Kept, OnlyReads, OnlyLocks, OnlyTells,
 ghost use Rattle.tv_managed.specs.Managed.{KeepsOtherFiles};
 ghost use Rattle.tv_managed.specs.Reading.{ReadsBody};
 ghost use Rattle.tv_store.specs.FileCalls.{Asked, LeavesFiles, OpensFile, FindsFile, ReadBodyFaults, Collects, GcFaults, SavesMeta, LeavesText, KeepsOpenFiles};
-ghost use Rattle.tv_store.specs.Stays.{KeepsFiles, OnlyWrites, EventFaults, Faults};
+ghost use Rattle.tv_store.specs.Stays.{KeepsDotted, KeepsFiles, OnlyWrites, EventFaults, Faults};
 
 use std::alloc::Global;
 use std::collections::{BTreeMap, BTreeSet};
@@ -331,6 +331,8 @@ impl<O: Outside> Files<O> {
         ensures spared { O.told.content → (n : List ℕ) → has (map string_bytes living.keys) n ≡ true
             → n ≢ list_name
             → (O.view self.new.outside).reads n ≡ (O.view self.old.outside).reads n }
+        ensures dotted { O.told.content → KeepsDotted (O.view self.old.outside).reads
+            (O.view self.new.outside).reads }
         ensures list { O.told.content
             → Lists ((O.view self.old.outside).reads list_name) self.old.managed
             → OnOk result (Lists ((O.view self.new.outside).reads list_name) self.new.managed) }

@@ -5,7 +5,7 @@ ghost use Rattle.tv_model.specs.State.{State};
 ghost use Rattle.tv_directory.specs.Calls.{DeviceFaults, Frees};
 ghost use Rattle.tv_directory.specs.View.{OnlyTells};
 ghost use Rattle.tv_store.specs.Acting.{Acts};
-ghost use Rattle.tv_store.specs.Applying.{Stepped, LeavesMeta, Grows, ApplyFaults, AppliesFrame};
+ghost use Rattle.tv_store.specs.Applying.{Stepped, LeavesMeta, Grows, ApplyFaults, AppliesFrame, IsUndisturbedEvent};
 ghost use Rattle.tv_store.specs.Kept.{Holds};
 ghost use Rattle.tv_store.specs.Making.{Begins, NotBegun};
 ghost use Rattle.tv_store.specs.Opening.{Opens, LeavesFirst, TellsOpening, TakesWriterLock, OpeningFaults, OpeningFrame};
@@ -110,6 +110,9 @@ impl<O: Outside> IndexStore<O> {
         ensures tells { TellsAnswer O.Directory self.old.outside self.new.outside result }
         ensures leaves { LeavesMeta O.Directory self.old self.new event.now result }
         ensures grows { Grows self.old.kept self.new.kept event.now result }
+        // An event that nothing disturbs is applied, or memory is wanted.
+        ensures complete { IsUndisturbedEvent O.Directory self.old self.new event.now
+            → IfErr result (λ error. error ≡ TantivyError.Memory) }
         ensures faults { ApplyFaults O.Directory self.old self.new event.now result }
         ensures frame { AppliesFrame O.Directory self.old self.new event.now result }
     {

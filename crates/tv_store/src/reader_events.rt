@@ -6,7 +6,7 @@ ghost use Rattle.tv_model.specs.Segments.{required_names};
 ghost use Rattle.tv_model.specs.State.{State, reader_at};
 ghost use Rattle.tv_model.specs.declared.event.Event.TheVariants as events;
 ghost use Rattle.tv_model.specs.SoundStates.{IsWhole};
-ghost use Rattle.tv_model.specs.Readable.{CanRead};
+ghost use Rattle.tv_model.specs.Readable.{CanRead, ReadsGood};
 ghost use Rattle.tv_model.specs.ReaderEvents.{snapshot_in};
 ghost use Rattle.tv_directory.specs.View.{OnlyReads};
 ghost use Rattle.tv_managed.specs.Reading.{ReadsBody};
@@ -14,7 +14,8 @@ ghost use Rattle.tv_store.specs.Acting.{StepsReading, reader_event, reload_event
 ghost use Rattle.tv_store.specs.Bodies.{AreBodies, AreSealed, ReadsSegment};
 ghost use Rattle.tv_store.specs.FileCalls.{ReadBodyFaults};
 ghost use Rattle.tv_store.specs.Kept.{Holds, AtMost};
-ghost use Rattle.tv_store.specs.ReaderNumbers.{FewNumbers, NumbersSpent};
+ghost use Rattle.tv_store.specs.Exhausted.{PassesEnd, number_after};
+ghost use Rattle.tv_store.specs.ReaderNumbers.{FewNumbers};
 ghost use Rattle.tv_store.specs.SnapshotCalls.{BodiesFaults, CommitFaults, SnapshotFaults, ReadingFaults};
 ghost use Rattle.tv_store.specs.Stays.{Asks, Stays};
 
@@ -139,8 +140,8 @@ impl<O: Outside> IndexStore<O> {
         ensures numbers { (bound : ℕ) → FewNumbers bound self.old.kept.catalog.reading
             → OnOk result (FewNumbers (bound + 1) self.new.kept.catalog.reading) }
         ensures faults { ReadingFaults O.Directory (Unit {0})
-            (NumbersSpent self.old.kept.catalog.reading 1) self.old self.new
-            (events.Reader policy) result }
+            (PassesEnd (number_after self.old.kept.catalog (events.Reader policy)))
+            self.old self.new (events.Reader policy) result }
         ensures frame { Stays (OnlyReads O.told) O.view self.old self.new }
     {
         let number = self.catalog.next_reader();
@@ -163,15 +164,15 @@ impl<O: Outside> IndexStore<O> {
     // A reader shows the current commit.
     pub(crate) fn reload(&mut self, number: u64) -> Result<Answer, TantivyError>
         ensures step { StepsReading O.Directory self.old self.new (reload_event number)
-            (λ s. IsSome (reader_at s.catalog number) → CanRead s) result }
+            (λ s. ReadsGood s (events.Reload number)) result }
         ensures room { IfOk result (λ answer. length answer < (O.view self.new.outside).room) }
         ensures lens { (bound : ℕ) → AtMost bound self.old.kept → AtMost bound self.new.kept }
         ensures numbers { (bound : ℕ) → FewNumbers bound self.old.kept.catalog.reading
             → OnOk result (FewNumbers (bound + 1) self.new.kept.catalog.reading) }
         ensures faults { ReadingFaults O.Directory
             (IsSome (reader_at self.old.kept.catalog number))
-            (NumbersSpent self.old.kept.catalog.reading 1) self.old self.new
-            (events.Reload number) result }
+            (PassesEnd (number_after self.old.kept.catalog (events.Reload number)))
+            self.old self.new (events.Reload number) result }
         ensures frame { Stays (OnlyReads O.told) O.view self.old self.new }
     {
         let Some(generation) = self.catalog.next_generation(number) else {

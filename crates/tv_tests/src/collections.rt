@@ -102,11 +102,21 @@ const FAILS_BEFORE: &[Step] = &[
     Step::On(Call::Exists, "a.idx", "", Want::Is(true)),
 ];
 
-// A sync or the write of the list is refused after the deletes.
+// The sync after the deletes is refused, before the list is written.
 const FAILS_AFTER: &[Step] = &[
+    Step::Collect(&[], Want::Refused),
+    Step::Names(&["a.idx", "b.idx", "c.idx", "d.idx"]),
+    Step::List("[\"a.idx\",\"b.idx\",\"c.idx\",\"d.idx\"]\n"),
+    Step::On(Call::Exists, "a.idx", "", Want::Is(false)),
+];
+
+// The write of the list, or the sync behind it, is refused. A file that is made again is listed again.
+const FAILS_SAVING: &[Step] = &[
     Step::Collect(&[], Want::Refused),
     Step::Names(&[]),
     Step::On(Call::Exists, "a.idx", "", Want::Is(false)),
+    Step::On(Call::AtomicWrite, "a.idx", "new", Want::Done),
+    Step::List("[\"a.idx\"]\n"),
 ];
 
 // The calls that are refused, what is done, and how many of the refused ones weren't deletes.
@@ -116,8 +126,8 @@ const COLLECTIONS: &[(&[u64], &[Step], u64)] = &[
     (&[15], NOTHING_TO_DELETE, 1),
     (&[14], FAILS_BEFORE, 1),
     (&[19], FAILS_AFTER, 1),
-    (&[20], FAILS_AFTER, 1),
-    (&[21], FAILS_AFTER, 1),
+    (&[20], FAILS_SAVING, 1),
+    (&[21], FAILS_SAVING, 1),
 ];
 
 // Takes the steps behind `FOUR`, and looks how many of the refused calls weren't deletes.

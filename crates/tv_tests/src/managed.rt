@@ -265,6 +265,7 @@ const FILES: &[Step] = &[
     Step::On(Call::AtomicRead, "a.idx", "", Want::Absent),
     Step::On(Call::Delete, "a.idx", "", Want::Absent),
     Step::On(Call::Seal, "a.idx", "123456789", Want::Done),
+    Step::On(Call::Seal, "a.idx", "new", Want::Taken),
     Step::List("[\"a.idx\"]\n"),
     Step::On(Call::GetFileHandle, "a.idx", "", Want::Text("123456789")),
     Step::On(Call::AtomicRead, "a.idx", "", Want::Text(SEALED)),

@@ -1,6 +1,8 @@
-use Rattle.std.proofs.Common.{arith, ◌∙◌}
+use Rattle.std.proofs.Common.{◌+◌, ◌≤◌, length, arith, ◌∙◌}
+use Rattle.std.proofs.lemmas.Result.{err_from_is_err_and}
+use Rattle.tv_model.specs.Script.{line_limit}
 use Rattle.tv_replay.specs.ScriptLines.{pending}
-use Rattle.tv_replay.proofs.LineLemmas.{still_begins, takes_last, takes_line, too_long}
+use Rattle.tv_replay.proofs.LineLemmas.{reads_ahead, still_begins, takes_last, takes_line, too_long}
 use Rattle.tv_replay.proofs.lines.next_line.Goals as goal
 
 pub returns-then-is_empty-clause-line : goal.returns-then-is_empty-clause-line
@@ -27,3 +29,19 @@ returns-then-found-clause-line g c script told =
     let left = (g.S.Source.view c.refill.new.source).left in
     let b = still_begins script c.pieces.line.items _ (pending c.refill.new.self left) (c.pieces.invariant.begins script told) c.in_ok-refill.ensures.same in
     takes_line script c.refill.new.self c.move_line.new.self c.pieces.line.items c.move_line.new.line.items left b (rw c.if-found.true at c.in_ok-found.ensures)
+
+pub returns-in_err-found-clause-ahead : goal.returns-in_err-found-clause-ahead
+returns-in_err-found-clause-ahead g c =
+    let e = err_from_is_err_and c.from_residual-in_err-found.result c.from_residual-in_err-found.ensures.1 in
+    let most : length c.refill.new.self + length c.pieces.line.items ≤ line_limit + 1 = omega (arith, c.in_ok-refill.ensures.room, c.len.ensures, c.pieces.line.ok.0) in
+    rw (e.1, e.2) (record { ok = tt; err = reads_ahead c.pieces.line.items c.refill.new.self _ _ _ c.pieces.invariant.begins c.in_ok-refill.ensures.same most })
+
+pub returns-then-len-gt-LINE_LIMIT-clause-ahead : goal.returns-then-len-gt-LINE_LIMIT-clause-ahead
+returns-then-len-gt-LINE_LIMIT-clause-ahead g c =
+    let most : length c.refill.new.self + length c.pieces.line.items ≤ line_limit + 1 = omega (arith, c.in_ok-refill.ensures.room, c.len.ensures, c.pieces.line.ok.0) in
+    record { ok = tt; err = reads_ahead c.pieces.line.items c.refill.new.self _ _ _ c.pieces.invariant.begins c.in_ok-refill.ensures.same most }
+
+pub returns-then-found-clause-ahead : goal.returns-then-found-clause-ahead
+returns-then-found-clause-ahead g c =
+    let most : length c.refill.new.self + length c.pieces.line.items ≤ line_limit + 1 = omega (arith, c.in_ok-refill.ensures.room, c.len.ensures, c.pieces.line.ok.0) in
+    record { ok = reads_ahead c.pieces.line.items c.refill.new.self _ _ _ c.pieces.invariant.begins c.in_ok-refill.ensures.same most; err = tt }

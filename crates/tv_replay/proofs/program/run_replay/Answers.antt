@@ -1,12 +1,12 @@
 use Rattle.std.proofs.Common.{inl, inr, sym, ap, ◌∙◌, Some}
 use Rattle.std.specs.Prelude.{is_some}
 use Rattle.tv_replay.specs.Replays.{IsRefusedAt, IsQuietAt}
-use Rattle.tv_replay.proofs.Runs.{schema_cause, lend_cause, schema_line_is, folder_line_is, not_begun, why_since, kept_then, reports_since, stopped_with, error_no_feed}
+use Rattle.tv_replay.proofs.Runs.{schema_cause, lend_cause, schema_line_is, folder_line_is, not_begun, why_since, kept_then, reports_since, stopped_with, error_no_feed, texts_then}
 use Rattle.tv_replay.proofs.program.run_replay.Goals as goal
 
 pub returns-in-Err-clause-ends : goal.returns-in-Err-clause-ends
 returns-in-Err-clause-ends g c =
-    not_begun _ c.in-Err.ensures.frame (schema_cause _ _ c.in-Err.error c.in-Err.ensures.faults.cause) (schema_line_is c.in-Err.error) (rw c.from.ensures at c.say_error.ensures) (λ refused. inl refused)
+    not_begun _ c.in-Err.ensures.frame (schema_cause _ _ c.in-Err.error c.in-Err.ensures.faults.cause) (schema_line_is _ _ c.in-Err.error c.in-Err.ensures.faults.cause) (rw c.from.ensures at c.say_error.ensures) (λ refused. inl refused)
 
 pub returns-in-Err-lend-clause-ends : goal.returns-in-Err-lend-clause-ends
 returns-in-Err-lend-clause-ends g c =
@@ -38,7 +38,7 @@ returns-clause-ends g c =
       lent = λ told. sym (had_schema.frame.folders.folders told c.args.folder.now) ∙ lent.lends.given told;
       schema_is = λ told. had_schema.bytes told ∙ ap Some (sym c.as_slice.ensures.value);
       cause = rw c.in-Err-outcome.is at c.replay-outside.ensures.faults.cause;
-      leaves = rw c.in-Err-outcome.is at c.replay-outside.ensures.leaves;
+      stops = rw c.in-Err-outcome.is at c.replay-outside.ensures.stops;
       frame = c.replay-outside.ensures.frame;
-      reports = reports_since (g.P.Place.view c.args.place.now) (lent.faults.quiet ∙ had_schema.faults.quiet) (lent.frame.said ∙ had_schema.frame.said) lent.lends.lent reports;
+      reports = reports_since (g.P.Place.view c.args.place.now) (texts_then had_schema.frame.folders.texts lent.frame.texts) (lent.faults.quiet ∙ had_schema.faults.quiet) (lent.frame.said ∙ had_schema.frame.said) lent.lends.lent reports;
     })

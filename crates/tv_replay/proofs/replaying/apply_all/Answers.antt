@@ -1,18 +1,28 @@
-use Rattle.std.proofs.Common.{◌≡◌, ◌<◌, ◌+◌, ◌*◌, ◌^◌, ℕ, [], refl, sym, subst, ◌∙◌, inl, inr, arith}
+use Rattle.std.proofs.Common.{◌≡◌, ◌≢◌, ◌<◌, ◌+◌, ◌*◌, ◌^◌, ℕ, [], length, true, true≢false, refl, sym, ap, subst, ◌∙◌, inl, inr, arith}
+use Rattle.tv_model.specs.State.{Catalog}
+use Rattle.tv_model.specs.Machine.{after}
+use Rattle.tv_model.specs.Files.{Rose}
+use Rattle.tv_store.specs.Applying.{BadIn, HoldsNone}
+use Rattle.tv_store.specs.ReadCauses.{TakesMetaLock}
+use Rattle.tv_store.specs.StoreCauses.{IsBusy}
+use Rattle.tv_replay.specs.ScriptLines.{IsNoEvent, IsTooLong, pending}
 use Rattle.std.proofs.lemmas.Result.{err_from_is_err_and}
 use Rattle.tv_model.specs.Script.{line_limit}
 use Rattle.tv_replay.specs.AppliedEvents.{run_causes}
 use Rattle.tv_store.specs.Kept.{AtMost}
 use Rattle.tv_store.specs.ReaderNumbers.{FewNumbers}
 use Rattle.tv_managed.specs.Collecting.{meta_lock_name}
-use Rattle.tv_replay.proofs.Stopping.{stops_between, stops_in, meets_lock, busy_since}
+use Rattle.tv_replay.proofs.Progress.{begins_next}
+use Rattle.tv_replay.proofs.Stopping.{stops_between, stops_in, event_stops, script_stops, end_stops, refused_next, nothing_ahead, busy_since}
+use Rattle.tv_replay.proofs.ReadAhead.{event_known, end_known}
 use Rattle.tv_replay.proofs.ReplayFrames.{frame_then, may_note, no_time}
-use Rattle.tv_replay.proofs.AppliedEvents.{starts, goes_on, ends, stops_at_line, stops_at_long, stops_at_last, one_more_line, never_spent, event_cause, script_cause, end_cause, fails, rose_from, bad_since, none_since}
+use Rattle.tv_replay.proofs.AppliedEvents.{starts, goes_on, ends, stops_at_line, stops_at_long, stops_at_last, one_more_line, never_spent, event_cause, script_cause, end_cause, fails, rose_from}
 use Rattle.tv_replay.proofs.replaying.apply_all.Goals as goal
 
 pub loop-events-init : goal.loop-events-init
 loop-events-init g c = record {
   run = starts g.O.Directory c.args.store.now c.in_ok-buffer.buffer (g.R.Source.view c.args.script.now).left c.in_ok-buffer.ensures;
+  held = omega (arith, ap length c.in_ok-buffer.ensures);
   is_open = c.requires.open;
   short = c.requires.short;
   few = c.requires.few;
@@ -27,12 +37,14 @@ loop-events-preserved g c =
     let line = rw c.in-Ok-Some.field-0-is at c.in-Ok-Some.ensures.fits in
     let applied = c.in_ok-_answer.ensures in
     record {
-      run = goes_on g.O.Directory c.args.store.now c.loop-events.store c.apply.new.self _ _ _ c.loop-events.events c.in-Ok-Some.event c.in_ok-_answer._answer before.run taken line.fits applied.frame.schema applied.step applied.tells.ok;
+      run = goes_on g.O.Directory c.args.store.now c.loop-events.store c.apply.new.self _ _ _ c.loop-events.events c.in-Ok-Some.event c.in_ok-_answer._answer before.run taken line.fits applied.frame.form
+          (λ locks held takes. true≢false (sym (before.frame.locks locks meta_lock_name ∙ held) ∙ applied.faults.free locks takes)) applied.step applied.tells.ok;
+      held = c.in-Ok-Some.ensures.held;
       is_open = applied.frame.is_open;
       short = subst (λ (bound : ℕ). AtMost bound c.apply.new.self.kept) (one_more_line c.loop-events.events) (applied.grows.lens (c.loop-events.events * line_limit) line_limit line.small before.short);
       few = subst (λ (bound : ℕ). FewNumbers bound c.apply.new.self.kept.catalog.reading) (one_more_line c.loop-events.events) (applied.grows.numbers (c.loop-events.events * line_limit) line_limit line.small before.few);
       quiet = (applied.faults.quiet ∙ before.quiet.0, c.in-Ok-Some.ensures.faults.quiet ∙ before.quiet.1);
-      frame = frame_then before.frame (record { goes_on = applied.frame.goes_on; locks = applied.frame.locks; watched = may_note c.in-Ok-Some.event _ _ applied.frame.watched });
+      frame = frame_then before.frame (record { dotted = applied.frame.dotted; goes_on = applied.frame.goes_on; locks = applied.frame.locks; watched = may_note c.in-Ok-Some.event _ _ applied.frame.watched });
     }
 
 pub returns-in-Ok-None-clause-done : goal.returns-in-Ok-None-clause-done
@@ -52,17 +64,15 @@ pub returns-in_err-_answer-clause-faults : goal.returns-in_err-_answer-clause-fa
 returns-in_err-_answer-clause-faults g c =
     let before = c.loop-events.invariant in
     let event = c.in-Ok-Some.event in
-    let taken = rw c.in-Ok-Some.field-0-is at c.in-Ok-Some.ensures.event in
     let line = rw c.in-Ok-Some.field-0-is at c.in-Ok-Some.ensures.fits in
     let few : c.loop-events.events < 2 ^ 32 = omega (arith, c.loop-events-test.true) in
     let e = err_from_is_err_and c.from_residual-in_err-_answer.result c.from_residual-in_err-_answer.ensures.1 in
-    let run = before.run in
     let script = g.R.Source.view c.args.script.now in
-    rw (e.1, e.2) (fails (event_cause (run_causes g.O.Directory c.args.store.now c.apply.new.self script (g.R.Source.view c.next_event.new.source)) c.in_err-_answer.field-0.0 c.in_err-_answer.ensures.faults.cause
-    (λ b. (meets_lock _ _ _ c.loop-events.store.kept run.turns event run.read taken b.0, busy_since _ _ _ _ _ (λ told held. sym (before.frame.locks told meta_lock_name) ∙ held) before.quiet.0 b.1))
+    rw (e.1, e.2) (fails (event_cause (run_causes g.O.Directory c.args.store.now c.apply.new.self script (g.R.Source.view c.next_event.new.source))
+    (BadIn g.O.Directory.told.content (g.O.Directory.view c.loop-events.store.outside).reads c.loop-events.store.kept event) (λ path. HoldsNone g.O.Directory.told.content (g.O.Directory.view c.loop-events.store.outside).reads c.loop-events.store.kept) c.in_err-_answer.field-0.0 c.in_err-_answer.ensures.faults.cause
+    (λ b. busy_since _ _ _ _ _ (λ told held. sym (before.frame.locks told meta_lock_name) ∙ held) before.quiet.0 b.1)
     (λ rose. inl (rose_from _ _ _ before.quiet.0 rose)) (λ quiet. (quiet ∙ before.quiet.0, c.in-Ok-Some.ensures.faults.quiet ∙ before.quiet.1))
-    (never_spent c.loop-events.store.kept event c.loop-events.events few line.small before.short before.few)
-    (λ path b. bad_since _ _ _ _ _ _ _ _ run.turns event run.read taken run.applied.holds run.applied.readable path b) (λ path b. none_since _ _ _ _ _ run.turns run.applied.holds b)))
+    (never_spent c.loop-events.store.kept event c.loop-events.events few line.small before.short before.few)))
 
 pub returns-in_err-tally-clause-faults : goal.returns-in_err-tally-clause-faults
 returns-in_err-tally-clause-faults g c =
@@ -78,23 +88,50 @@ returns-clause-done g c =
     let all : c.in_ok-tally.tally.events ≡ c.loop-events.events = omega (arith, c.loop-events-test.false, c.loop-events.auto.events-end, c.in_ok-tally.ensures.count) in
     ends g.O.Directory c.args.store.now c.loop-events.store _ _ c.end_of.new.buffer (g.R.Source.view c.end_of.new.script).left c.loop-events.events _ c.loop-events.invariant.run c.in_ok-tally.ensures.end all
 
-pub returns-in_err-buffer-clause-leaves : goal.returns-in_err-buffer-clause-leaves
-returns-in_err-buffer-clause-leaves g c =
+pub returns-in_err-buffer-clause-stops : goal.returns-in_err-buffer-clause-stops
+returns-in_err-buffer-clause-stops g c =
     let e = err_from_is_err_and c.from_residual.result c.from_residual.ensures.1 in
     let left = (g.R.Source.view c.args.script.now).left in
-    rw (e.1, e.2) (stops_between g.O.Directory c.args.store.now c.args.store.now left _ 0 _ (starts g.O.Directory c.args.store.now [] left refl))
+    rw (e.1, e.2) (stops_between g.O.Directory c.args.store.now c.args.store.now (g.R.Source.view c.args.script.now) (g.R.Source.view c.args.script.now) (pending [] left) 0 _ (starts g.O.Directory c.args.store.now [] left refl) (λ quiet. nothing_ahead left) (λ s. tt))
 
-pub returns-in-Err-clause-leaves : goal.returns-in-Err-clause-leaves
-returns-in-Err-clause-leaves g c = stops_between g.O.Directory c.args.store.now c.loop-events.store _ _ _ _ c.loop-events.invariant.run
+pub returns-in-Err-clause-stops : goal.returns-in-Err-clause-stops
+returns-in-Err-clause-stops g c =
+    let run = c.loop-events.invariant.run in
+    let text = (g.R.Source.view c.args.script.now).left in
+    stops_between g.O.Directory c.args.store.now c.loop-events.store (g.R.Source.view c.args.script.now) (g.R.Source.view c.next_event.new.source) _ _ _ run
+    (λ quiet. event_known _ (Rose (g.R.Source.view c.loop-events.script).faults (g.R.Source.view c.next_event.new.source).faults) ((g.R.Source.view c.next_event.new.source).faults ≡ (g.R.Source.view c.loop-events.script).faults) _ c.in-Err.error c.in-Err.ensures.faults.cause c.in-Err.ensures.ahead.err
+    (λ rose. quiet (rose_from _ _ _ c.loop-events.invariant.quiet.1 rose)))
+    (λ s. script_stops text s run.turns _ _ (Rose (g.R.Source.view c.loop-events.script).faults (g.R.Source.view c.next_event.new.source).faults) ((g.R.Source.view c.next_event.new.source).faults ≡ (g.R.Source.view c.loop-events.script).faults) _ c.in-Err.error (c.loop-events.events + 1) c.script_error.result (ap (λ (n : ℕ). n + 1) run.counted) c.script_error.ensures c.in-Err.ensures.faults.cause
+    (refused_next text _ run.turns IsNoEvent run.read) (refused_next text _ run.turns IsTooLong run.read))
 
-pub returns-in_err-_answer-clause-leaves : goal.returns-in_err-_answer-clause-leaves
-returns-in_err-_answer-clause-leaves g c =
+pub returns-in_err-_answer-clause-stops : goal.returns-in_err-_answer-clause-stops
+returns-in_err-_answer-clause-stops g c =
+    let before = c.loop-events.invariant in
+    let run = before.run in
+    let event = c.in-Ok-Some.event in
+    let text = (g.R.Source.view c.args.script.now).left in
     let taken = rw c.in-Ok-Some.field-0-is at c.in-Ok-Some.ensures.event in
+    let line = rw c.in-Ok-Some.field-0-is at c.in-Ok-Some.ensures.fits in
+    let few : c.loop-events.events < 2 ^ 32 = omega (arith, c.loop-events-test.true) in
     let e = err_from_is_err_and c.from_residual-in_err-_answer.result c.from_residual-in_err-_answer.ensures.1 in
     let failed = c.in_err-_answer.ensures in
-    rw (e.1, e.2) (stops_in g.O.Directory c.args.store.now c.loop-events.store c.apply.new.self _ _ _ c.in_err-_answer.field-0.0 c.loop-events.invariant.run _ c.in-Ok-Some.event taken failed.tells.err failed.leaves.meta failed.leaves.memory)
+    rw (e.1, e.2) (stops_in g.O.Directory c.args.store.now c.loop-events.store c.apply.new.self (g.R.Source.view c.args.script.now) (g.R.Source.view c.next_event.new.source) _ _ c.in_err-_answer.field-0.0 run _ event taken (λ quiet. c.in-Ok-Some.ensures.ahead.ok) before.quiet.0 failed.frame.goes_on.clock failed.tells.err failed.leaves.meta failed.leaves.memory
+    (λ tells s held whole. event_stops text s run.turns _ _ (Rose (g.O.Directory.view c.loop-events.store.outside).faults (g.O.Directory.view c.apply.new.self.outside).faults) ((g.O.Directory.view c.apply.new.self.outside).faults ≡ (g.O.Directory.view c.loop-events.store.outside).faults)
+    {busy = TakesMetaLock c.loop-events.store.kept.catalog event × IsBusy g.O.Directory.told.locks ((g.O.Directory.view c.loop-events.store.outside).locks meta_lock_name ≡ true) (Rose (g.O.Directory.view c.loop-events.store.outside).faults (g.O.Directory.view c.apply.new.self.outside).faults)}
+    {bad = BadIn g.O.Directory.told.content (g.O.Directory.view c.loop-events.store.outside).reads c.loop-events.store.kept event} {absent = λ path. HoldsNone g.O.Directory.told.content (g.O.Directory.view c.loop-events.store.outside).reads c.loop-events.store.kept}
+    event c.in_err-_answer.field-0.0 (begins_next text _ _ run.turns event run.read taken) failed.faults.cause
+    (λ b. (subst (λ (k : Catalog). TakesMetaLock k event) held.catalog b.0, λ told. sym (before.frame.locks told meta_lock_name) ∙ b.1.told told))
+    (never_spent c.loop-events.store.kept event c.loop-events.events few line.small before.short before.few)
+    (λ error bad. bad tells (after s run.turns) held whole) (λ path none. none tells (after s run.turns) held whole)
+    (λ read told. sym (before.frame.locks told meta_lock_name) ∙ failed.faults.reads told read)))
 
-pub returns-in_err-tally-clause-leaves : goal.returns-in_err-tally-clause-leaves
-returns-in_err-tally-clause-leaves g c =
+pub returns-in_err-tally-clause-stops : goal.returns-in_err-tally-clause-stops
+returns-in_err-tally-clause-stops g c =
+    let run = c.loop-events.invariant.run in
+    let text = (g.R.Source.view c.args.script.now).left in
+    let all : c.loop-events.events ≡ 4294967295 = omega (arith, c.loop-events-test.false, c.loop-events.auto.events-end) in
     let e = err_from_is_err_and c.from_residual-in_err-tally.result c.from_residual-in_err-tally.ensures.1 in
-    rw (e.1, e.2) (stops_between g.O.Directory c.args.store.now c.loop-events.store _ _ _ _ c.loop-events.invariant.run)
+    rw (e.1, e.2) (stops_between g.O.Directory c.args.store.now c.loop-events.store (g.R.Source.view c.args.script.now) (g.R.Source.view c.end_of.new.script) _ _ _ run
+    (λ quiet. end_known _ _ (Rose (g.R.Source.view c.loop-events.script).faults (g.R.Source.view c.end_of.new.script).faults) ((g.R.Source.view c.end_of.new.script).faults ≡ (g.R.Source.view c.loop-events.script).faults) c.in_err-tally.field-0.0 c.in_err-tally.ensures.faults.cause c.in_err-tally.ensures.ahead.err
+    (λ rose. quiet (rose_from _ _ _ c.loop-events.invariant.quiet.1 rose)))
+    (λ s. end_stops text s run.turns _ _ (Rose (g.R.Source.view c.loop-events.script).faults (g.R.Source.view c.end_of.new.script).faults) ((g.R.Source.view c.end_of.new.script).faults ≡ (g.R.Source.view c.loop-events.script).faults) c.in_err-tally.field-0.0 (sym run.counted ∙ all) c.in_err-tally.ensures.faults.cause (refused_next text _ run.turns (λ rest. rest ≢ []) run.read)))

@@ -1,4 +1,4 @@
-use Rattle.std.proofs.Common.{◌≡◌, ◌*◌, true}
+use Rattle.std.proofs.Common.{◌≡◌, ◌≤◌, ◌+◌, ◌*◌, length, true}
 use Rattle.tv_model.specs.Script.{line_limit}
 use Rattle.tv_store.specs.Kept.{AtMost}
 use Rattle.tv_store.specs.ReaderNumbers.{FewNumbers}
@@ -13,6 +13,7 @@ invariant-loop-events g l =
     let source = g.R.Source.view in
     record {
       run : Progress g.O.Directory l.fn.store l.store (source l.fn.script).left (pending l.buffer (source l.script).left) l.events;
+      held : length l.buffer ≤ line_limit + 1;
       is_open : l.store.is_open ≡ true;
       short : AtMost (l.events * line_limit) l.store.kept;
       few : FewNumbers (l.events * line_limit) l.store.kept.catalog.reading;

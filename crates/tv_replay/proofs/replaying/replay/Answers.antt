@@ -1,6 +1,5 @@
-use Rattle.std.proofs.Common.{◌≡◌, ◌⊎◌, ℕ, false, sym, ap, ◌∙◌, inl, inr, subst}
+use Rattle.std.proofs.Common.{◌≡◌, ◌⊎◌, ℕ, true, false, refl, sym, ap, ◌∙◌, inl, inr, subst}
 use Rattle.std.proofs.lemmas.Result.{IfOk-weaker, IfErr-weaker}
-use Rattle.tv_base.specs.declared.error.TantivyError.TheVariants as errors
 use Rattle.tv_model.specs.Names.{meta_name}
 use Rattle.tv_model.specs.Files.{Rose}
 use Rattle.tv_model.specs.Commits.{Commit}
@@ -8,17 +7,26 @@ use Rattle.tv_model.specs.State.{Catalog}
 use Rattle.tv_model.specs.Lines.{opening_of}
 use Rattle.tv_store.specs.Telling.{TellsLine}
 use Rattle.tv_store.specs.StoreCauses.{writer_lock_name}
-use Rattle.tv_replay.specs.AppliedEvents.{Runs, StopsRun, LeavesStopped}
-use Rattle.tv_replay.specs.Replays.{Replays, ReplayCause, IsMet, IsRefusedAt, IsQuietAt, IsReadOut, StopsReplay, LeavesReplay}
-use Rattle.tv_replay.proofs.AppliedEvents.{replays, run_cause, either_rose, bad_at_start, never_at_start, opens_whole}
+use Rattle.tv_replay.specs.AppliedEvents.{Runs, FailsRun, StopsRun}
+use Rattle.tv_replay.specs.Replays.{Replays, ReplayCause, IsLockBusy, IsRefusedAt, IsQuietAt, IsReadOut, FailsReplay, StopsReplay}
+use Rattle.tv_replay.proofs.AppliedEvents.{replays, run_cause, either_rose, opens_whole, if_err_both}
 use Rattle.tv_replay.proofs.Complete.{only_memory}
-use Rattle.tv_replay.proofs.Stopping.{leaves_report, met_since_opening, none_met}
+use Rattle.tv_replay.proofs.Stopping.{stops_report, opening_told, busy_since_opening, meta_since, none_met}
 use Rattle.tv_replay.proofs.replaying.replay.Goals as goal
 
-pub returns-in-Err-clause-leaves : goal.returns-in-Err-clause-leaves
-returns-in-Err-clause-leaves g c tells s opens =
+pub returns-in-Err-clause-stops : goal.returns-in-Err-clause-stops
+returns-in-Err-clause-stops g c tells =
+    let D = g.O.Directory in
+    let before = D.view c.args.outside in
     let refused = c.in-Err.ensures in
-    inl (record { silent = refused.tells.err; first = refused.leaves.first tells; unchanged = refused.leaves.unchanged tells })
+    let now = D.view c.in-Err.field-0.directory in
+    inl (record {
+      silent = refused.tells.err;
+      unread = refl;
+      first = refused.leaves.first tells;
+      unchanged = refused.leaves.unchanged tells;
+      cause = opening_told D.told.content D.told.locks c.args.schema.now before.reads (before.locks writer_lock_name ≡ true) (Rose before.faults now.faults) (now.faults ≡ before.faults) c.in-Err.field-0.error tells refused.faults.cause;
+    })
 
 pub returns-clause-faults : goal.returns-clause-faults
 returns-clause-faults g c =
@@ -37,16 +45,14 @@ returns-clause-faults g c =
       quiet = IfOk-weaker c.apply_all-outcome.result (λ tally. IsQuietAt mid new script script_now) (λ tally. IsQuietAt before now script script_now) (λ tally quiet. (faults ∙ quiet.0 ∙ opened.faults.quiet, quiet.1)) c.apply_all-outcome.ensures.faults.quiet;
       free = λ told. IfOk-weaker c.apply_all-outcome.result (λ tally. IsQuietAt mid new script script_now) (λ tally. before.locks writer_lock_name ≡ false) (λ tally quiet. (opened.locks.ok told).was_free) c.apply_all-outcome.ensures.faults.quiet;
       cause =
-          IfErr-weaker c.apply_all-outcome.result (StopsRun D c.in-Ok.store c.apply_all-outcome.new.store script script_now) (StopsReplay D c.args.outside c.into_outside.result c.args.schema.now script script_now)
+          IfErr-weaker c.apply_all-outcome.result (FailsRun D c.in-Ok.store c.apply_all-outcome.new.store script script_now) (FailsReplay D c.args.outside c.into_outside.result c.args.schema.now script script_now)
           (λ error cause.
-          subst (λ (n : ℕ). ReplayCause D.told.content c.args.schema.now before.reads script.left (IsMet D.told.locks script.left before.locks (Rose before.faults n)) (Rose before.faults n ⊎ more) ((n ≡ before.faults) × same) error) (sym faults)
-          (run_cause D c.in-Ok.store c.apply_all-outcome.new.store script script_now D.told.content c.args.schema.now before.reads (IsMet D.told.locks script.left before.locks (Rose before.faults new.faults)) (IsRefusedAt before new script script_now) (IsQuietAt before new script script_now) error cause
-          opened.opens.accepted opened.opens.none
-          (met_since_opening D.told.locks script.left before.locks mid.locks before.faults mid.faults new.faults opened.locks.ok opened.faults.quiet)
+          subst (λ (n : ℕ). ReplayCause D.told.content c.args.schema.now before.reads script.left (IsLockBusy D.told.locks before.locks (Rose before.faults n)) (Rose before.faults n ⊎ more) ((n ≡ before.faults) × same) error) (sym faults)
+          (run_cause D c.in-Ok.store c.apply_all-outcome.new.store script script_now D.told.content c.args.schema.now before.reads (IsLockBusy D.told.locks before.locks (Rose before.faults new.faults)) (IsRefusedAt before new script script_now) (IsQuietAt before new script script_now) error cause
+          opened.opens.spelled.0 opened.opens.none
+          (busy_since_opening D.told.locks before.locks mid.locks before.faults mid.faults new.faults opened.locks.ok opened.faults.quiet)
           (either_rose before.faults mid.faults new.faults more opened.faults.quiet)
-          (λ quiet. (quiet.0 ∙ opened.faults.quiet, quiet.1))
-          (bad_at_start D.told.content c.args.schema.now before.reads mid.reads c.in-Ok.store.kept script.left opened.opens.none opened.opens.holds)
-          (λ path. never_at_start D.told.content c.args.schema.now before.reads mid.reads c.in-Ok.store.kept opened.opens.none opened.opens.holds)))
+          (λ quiet. (quiet.0 ∙ opened.faults.quiet, quiet.1))))
           c.apply_all-outcome.ensures.faults.cause;
     }
 
@@ -60,7 +66,8 @@ returns-clause-done g c =
     IfOk-weaker c.apply_all-outcome.result (Runs D c.in-Ok.store c.apply_all-outcome.new.store text left) (Replays D c.args.outside c.into_outside.result c.args.schema.now text)
     (λ tally runs.
     replays D c.args.outside c.args.schema.now c.in-Ok.store c.apply_all-outcome.new.store c.into_outside.result text left tally opened.opens opened.tells.ok opened.frame.ok.deletes_none.refusals
-    freed.holds freed.frees.frame.tells_none.heard freed.frees.frame.tells_none.deletes_none.refusals runs)
+    freed.holds freed.frees.frame.tells_none.heard freed.frees.frame.tells_none.deletes_none.goes_on.clock freed.frees.frame.tells_none.deletes_none.refusals
+    (λ locks held. meta_since (D.view c.args.outside).locks (D.view c.in-Ok.store.outside).locks (opened.locks.ok locks) ∙ held) runs)
     c.apply_all-outcome.ensures.done
 
 pub returns-clause-read_out : goal.returns-clause-read_out
@@ -71,21 +78,8 @@ returns-clause-read_out g c =
     (λ tally runs text told. (runs.lines text told).1)
     c.apply_all-outcome.ensures.done
 
-pub returns-clause-complete : goal.returns-clause-complete
-returns-clause-complete g c all =
-    let D = g.O.Directory in
-    let before = D.view c.args.outside in
-    let now = D.view c.into_outside.result in
-    let script = g.R.Source.view c.args.script.now in
-    let script_now = g.R.Source.view c.apply_all-outcome.new.script in
-    IfErr-weaker c.apply_all-outcome.result (StopsReplay D c.args.outside c.into_outside.result c.args.schema.now script script_now) (λ error. error ≡ errors.Memory)
-    (λ error cause.
-    only_memory D.told.content c.args.schema.now before.reads script.left (IsMet D.told.locks script.left before.locks (Rose before.faults now.faults)) (IsRefusedAt before now script script_now) (IsQuietAt before now script script_now) error
-    all.content all.ready (none_met D.told.locks script.left before.locks (Rose before.faults now.faults) all.locks all.free) all.quiet cause)
-    (returns-clause-faults g c).cause
-
-pub returns-clause-leaves : goal.returns-clause-leaves
-returns-clause-leaves g c =
+pub returns-clause-stops : goal.returns-clause-stops
+returns-clause-stops g c =
     let D = g.O.Directory in
     let opened = c.in-Ok.ensures in
     let before = D.view c.args.outside in
@@ -94,11 +88,29 @@ returns-clause-leaves g c =
     let new = D.view c.apply_all-outcome.new.store.outside in
     let now = D.view c.into_outside.result in
     let script = g.R.Source.view c.args.script.now in
+    let script_now = g.R.Source.view c.apply_all-outcome.new.script in
     let freed = c.into_outside.ensures in
-    IfErr-weaker c.apply_all-outcome.result (LeavesStopped D store c.apply_all-outcome.new.store script.left) (LeavesReplay D c.args.outside c.into_outside.result c.args.schema.now script.left)
-    (λ error left tells s opens.
-    let held = opened.opens.holds tells s opens in
-    inr (leaves_report D.told store.kept.schema c.args.schema.now script.left s before mid new now error
-    opened.opens.schema_is (λ th. subst (λ (commit : Commit). TellsLine before.heard mid.heard before.moment mid.moment (opening_of commit)) (ap (λ (catalog : Catalog). catalog.commit) held.catalog) (opened.tells.ok th))
-    freed.frees.frame.tells_none.heard (freed.frees.frame.content tells meta_name) (left tells s held (opens_whole c.args.schema.now before.reads s (opened.opens.none tells) opens))))
-    c.apply_all-outcome.ensures.leaves
+    IfErr-weaker c.apply_all-outcome.result (StopsRun D store c.apply_all-outcome.new.store script script_now) (StopsReplay D c.args.outside c.into_outside.result c.args.schema.now script script_now)
+    (λ error stopped tells. inr (
+      opened.opens.none tells,
+      λ index.
+          let held = opened.opens.holds tells index in
+          stops_report D.told store.kept.form index.form script script_now index.state before mid new now error
+          held.0 (λ th. subst (λ (commit : Commit). TellsLine before.heard mid.heard before.moment mid.moment (opening_of commit)) (ap (λ (catalog : Catalog). catalog.commit) held.1.catalog) (opened.tells.ok th))
+          opened.locks.ok opened.faults.quiet freed.frees.faults
+          freed.frees.frame.tells_none.heard freed.frees.frame.tells_none.deletes_none.goes_on.clock (freed.frees.frame.content tells meta_name) (stopped tells index.state held.1 (opens_whole c.args.schema.now before.reads index (opened.opens.none tells))),
+    ))
+    c.apply_all-outcome.ensures.stops
+
+pub returns-clause-complete : goal.returns-clause-complete
+returns-clause-complete g c all =
+    let D = g.O.Directory in
+    let before = D.view c.args.outside in
+    let now = D.view c.into_outside.result in
+    let script = g.R.Source.view c.args.script.now in
+    let script_now = g.R.Source.view c.apply_all-outcome.new.script in
+    if_err_both c.apply_all-outcome.result
+    (λ error cause stops.
+    only_memory D c.args.outside c.into_outside.result c.args.schema.now script script_now (IsLockBusy D.told.locks before.locks (Rose before.faults now.faults)) (IsRefusedAt before now script script_now) (IsQuietAt before now script script_now) error
+    all.content all.ready (none_met D.told.locks before.locks (Rose before.faults now.faults) all.locks all.ready.sound.free) all.quiet cause stops)
+    (returns-clause-faults g c).cause (returns-clause-stops g c)

@@ -1,8 +1,5 @@
-use Rattle.std.proofs.Common.{◌≡◌, ◌||◌, ℕ, List, [], map, ap, ◌∙◌, arith, string_bytes, String, Global}
 use Rattle.std.specs.Vec.Iter.{into_iter_items}
-use Rattle.std.proofs.lemmas.List.{nil_from_length}
-use Rattle.tv_model.specs.Names.{has}
-use Rattle.tv_store.proofs.FileNames.{one_put, all_put}
+use Rattle.tv_store.proofs.FileNames.{one_put}
 use Rattle.tv_store.proofs.names.set_of.Goals as goal
 
 pub loop-name-preserved : goal.loop-name-preserved

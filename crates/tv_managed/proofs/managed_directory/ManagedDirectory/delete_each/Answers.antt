@@ -1,4 +1,4 @@
-use Rattle.std.proofs.Common.{rules, ap, sym}
+use Rattle.std.proofs.Common.{rules, ap, inl, sym, ◌∙◌}
 use Rattle.tv_managed.specs.Collecting.{names_of}
 use Rattle.tv_managed.proofs.Tried.{added, added_else, next_plain, split_next, tried_next, tried_quiet}
 use Rattle.tv_managed.proofs.managed_directory.ManagedDirectory.delete_each.Goals as goal
@@ -26,7 +26,7 @@ loop-name-preserved g c =
       finite = tt;
       split = split_next _ _ _ _ _ inv.split c.in-Some.ensures.steps.0;
       tried = rw (added c.in_ok-gone.gone c.loop-name.tried.deleted_files.items _ c.in-Some.name c.in_ok-add.ensures.deleted, added_else c.in_ok-gone.gone c.loop-name.tried.failed_to_delete_files.items _ c.in-Some.name c.in_ok-add.ensures.failed)
-          (tried_next g.D.Directory c.in_ok-gone.gone c.loop-name.yielded c.in-Some.name c.as_str.result.now _ _ _ _ _ c.as_str.ensures.value plain inv.tried e.tried e.only.frame);
+          (tried_next g.D.Directory c.in_ok-gone.gone c.loop-name.yielded c.in-Some.name c.as_str.result.now _ _ _ _ _ c.as_str.ensures.value plain inv.tried e.tried e.only.frame.below);
       only = search rules;
     }
 
@@ -41,5 +41,6 @@ returns-in_err-add-clause-leaves g c =
       deleted = _;
       failed = _;
       split = split_next _ _ _ _ _ inv.split c.in-Some.ensures.steps.0;
-      tried = tried_next g.D.Directory c.in_ok-gone.gone c.loop-name.yielded c.in-Some.name c.as_str.result.now _ _ _ _ _ c.as_str.ensures.value plain inv.tried e.tried e.only.frame;
+      tried = tried_next g.D.Directory c.in_ok-gone.gone c.loop-name.yielded c.in-Some.name c.as_str.result.now _ _ _ _ _ c.as_str.ensures.value plain inv.tried e.tried e.only.frame.below;
+      managed = inl (e.only.frame.names ∙ inv.only.frame.names);
     }

@@ -1,6 +1,7 @@
-use Rattle.std.proofs.Common.{[], refl, inl, inr}
+use Rattle.std.proofs.Common.{[], refl, ◌∙◌, inl, inr}
 use Rattle.std.proofs.lemmas.Result.{IfOk-weaker}
 use Rattle.tv_managed.specs.Collecting.{names_of}
+use Rattle.tv_managed.proofs.Shortening.{ok_both}
 use Rattle.tv_managed.proofs.Tried.{leaves_of, some_from, some_none, tried_from, tries_of}
 use Rattle.tv_managed.proofs.managed_directory.ManagedDirectory.garbage_collect.Goals as goal
 
@@ -11,10 +12,14 @@ pub returns-clause-tries : goal.returns-clause-tries
 returns-clause-tries g c =
     let e = c.in_ok-names.ensures in
     IfOk-weaker c.collect.result _ _
-    (λ r t. (e.names.0, e.names.1, rw (← e.names.2) (tries_of g.D.Directory _ c.args.self.now c.collect.new.self r (tried_from g.D.Directory e.asks.frame t))))
-    c.collect.ensures.tries
+    (λ r t. (e.names.0, e.names.1, rw (← e.names.2) (tries_of g.D.Directory _ c.args.self.now c.collect.new.self r (rw (← e.asks.frame.names) t.0) (tried_from g.D.Directory e.asks.frame t.1))))
+    (ok_both c.collect.result _ _ c.collect.ensures.names c.collect.ensures.tries)
 
 pub returns-clause-leaves : goal.returns-clause-leaves
 returns-clause-leaves g c =
     let e = c.in_ok-names.ensures in
     (names_of c.in_ok-names.names.items, leaves_of g.D.Directory (some_from g.D.Directory e.asks.frame c.collect.ensures.leaves), inr e.names)
+
+pub returns-clause-saves_none : goal.returns-clause-saves_none
+returns-clause-saves_none g c = λ tells.
+    IfOk-weaker c.collect.result _ _ (λ r same none n. same none n ∙ c.in_ok-names.ensures.asks.frame.below.content tells n) (c.collect.ensures.saves_none tells)

@@ -2,7 +2,7 @@ use Rattle.std.proofs.Common.{◌≡◌, ℕ, List, None, cond, not, ◌&&◌, s
 use Rattle.tv_model.specs.Names.{has}
 use Rattle.tv_model.specs.State.{at}
 use Rattle.tv_managed.specs.Collecting.{SparesWriters}
-use Rattle.tv_store.proofs.Removals.{told_plain, tried_as, collected_open, bodies_gone, lens_left, living_stands}
+use Rattle.tv_store.proofs.Removals.{told_plain, tried_as, collected_open, bodies_gone, lens_left, living_stands, dotted_stands}
 use Rattle.tv_store.proofs.OpenFiles.{AreOpen, bodies}
 use Rattle.tv_store.proofs.files.Files.collect.Goals as goal
 
@@ -63,4 +63,28 @@ pub returns-clause-spared : goal.returns-clause-spared
 returns-clause-spared g c tells n living other =
     let left = c.garbage_collect.ensures.leaves in
     living_stands g.O.Directory _ _ _ left.0 _ _ n (λ set answer. search) left.2 left.1 tells living other
+    ∙ ap (λ v. (g.O.Directory.view v.outside).reads n) c.self.view_is
+
+pub returns-in_err-result-clause-dotted : goal.returns-in_err-result-clause-dotted
+returns-in_err-result-clause-dotted g c tells n dot other =
+    let left = c.garbage_collect.ensures.leaves in
+    dotted_stands g.O.Directory _ _ left.0 _ _ n c.list_managed_files-names.ensures.plain left.2 left.1 tells dot other
+    ∙ ap (λ v. (g.O.Directory.view v.outside).reads n) c.self.view_is
+
+pub returns-in_err-deleted-clause-dotted : goal.returns-in_err-deleted-clause-dotted
+returns-in_err-deleted-clause-dotted g c tells n dot other =
+    let left = c.garbage_collect.ensures.leaves in
+    dotted_stands g.O.Directory _ _ left.0 _ _ n c.list_managed_files-names.ensures.plain left.2 left.1 tells dot other
+    ∙ ap (λ v. (g.O.Directory.view v.outside).reads n) c.self.view_is
+
+pub returns-in_err-failed-clause-dotted : goal.returns-in_err-failed-clause-dotted
+returns-in_err-failed-clause-dotted g c tells n dot other =
+    let left = c.garbage_collect.ensures.leaves in
+    dotted_stands g.O.Directory _ _ left.0 _ _ n c.list_managed_files-names.ensures.plain left.2 left.1 tells dot other
+    ∙ ap (λ v. (g.O.Directory.view v.outside).reads n) c.self.view_is
+
+pub returns-clause-dotted : goal.returns-clause-dotted
+returns-clause-dotted g c tells n dot other =
+    let left = c.garbage_collect.ensures.leaves in
+    dotted_stands g.O.Directory _ _ left.0 _ _ n c.list_managed_files-names.ensures.plain left.2 left.1 tells dot other
     ∙ ap (λ v. (g.O.Directory.view v.outside).reads n) c.self.view_is

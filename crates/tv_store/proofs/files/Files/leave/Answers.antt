@@ -1,4 +1,4 @@
-use Rattle.std.proofs.Common.{◌≡◌, ◌&&◌, ◌||◌, is_some, refl, ap, ◌∙◌}
+use Rattle.std.proofs.Common.{◌&&◌, ◌||◌, is_some, ap, ◌∙◌}
 use Rattle.std.specs.BTreeMap.{is_at}
 use Rattle.std.specs.BTreeSet.{insert_key}
 use Rattle.std.specs.Vec.Iter.{into_iter_items}

@@ -1,6 +1,6 @@
 use Rattle.std.proofs.Common.{ap, [], rules}
 use Rattle.tv_directory.specs.View.{WriterState}
-use Rattle.tv_store.proofs.OpenFiles.{still_open, put_open, same_open, new_open, bodies_put, plain_registered}
+use Rattle.tv_store.proofs.OpenFiles.{still_open, put_open, new_open, bodies_put, plain_registered}
 use Rattle.tv_store.proofs.files.Files.open.Goals as goal
 
 pub invariant_of-self-2 : goal.invariant_of-self-2

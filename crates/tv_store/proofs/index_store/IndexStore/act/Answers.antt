@@ -4,10 +4,9 @@ use Rattle.std.proofs.lemmas.Result.{err_from_is_err_and}
 use Rattle.tv_model.specs.Machine.{catalog_step}
 use Rattle.tv_model.specs.State.{Catalog, StepResult}
 use Rattle.tv_store.specs.Acting.{Acts}
-use Rattle.tv_store.specs.Applying.{written_by}
+use Rattle.tv_store.specs.Exhausted.{PassesEnd, number_after}
 use Rattle.tv_store.specs.Catalogs.{CatalogCause}
 use Rattle.tv_store.specs.Kept.{kept_of}
-use Rattle.tv_store.specs.ReaderNumbers.{NumbersSpent}
 use Rattle.tv_store.proofs.Acting.{acts_known, acts_unknown}
 use Rattle.tv_store.proofs.index_store.IndexStore.act.Goals as goal
 
@@ -20,7 +19,7 @@ returns-in_err-answer g c =
     let same = ap (λ (catalog : Catalog). record { kept = kept_of inside.schema catalog inside.files; outside = inside.files.outside; is_open = inside.is_open }) c.in_err-answer.ensures.kept ∙ c.self.view_is in
     let e = err_from_is_err_and c.from_residual.result c.from_residual.ensures.1 in
     rw (e.1, e.2) (subst (λ v. Acts D c.args.self.now v event (Err error)) (sym same)
-    (acts_unknown D c.args.self.now event error (subst (λ v. CatalogCause (NumbersSpent v.kept.catalog.reading (written_by event)) error) c.self.view_is c.in_err-answer.ensures.cause)))
+    (acts_unknown D c.args.self.now event error (subst (λ v. CatalogCause (PassesEnd (number_after v.kept.catalog event)) error) c.self.view_is c.in_err-answer.ensures.cause)))
 
 pub returns-in-Some : goal.returns-in-Some
 returns-in-Some g c =

@@ -1,13 +1,13 @@
-use Rattle.std.proofs.Common.{◌≡◌, true, inl, inr}
+use Rattle.std.proofs.Common.{◌≡◌, true, false, inl, inr}
 use Rattle.tv_managed.specs.Collecting.{meta_lock_name}
 use Rattle.tv_model.specs.Files.{Rose}
 use Rattle.tv_model.specs.declared.event.Event.{Event}
 use Rattle.tv_model.specs.declared.event.Event.TheVariants.{Gc, Reader, Reload}
-use Rattle.tv_store.specs.ReaderNumbers.{NumbersSpent}
+use Rattle.tv_store.specs.Exhausted.{IsExhausted, PassesEnd, number_after}
 use Rattle.tv_store.specs.StoreCauses.{IsBusy}
 use Rattle.tv_store.specs.ReadCauses.{TakesMetaLock}
-use Rattle.tv_store.specs.Applying.{Spent, BadIn, HoldsNone}
-use Rattle.tv_store.proofs.Steps.{at_most, takes_lock_in, locking_cause_in, read_cause_in}
+use Rattle.tv_store.specs.Applying.{BadIn, HoldsNone}
+use Rattle.tv_store.proofs.Steps.{at_most, locks_none, takes_lock_in, locking_cause_in, read_cause_in}
 use Rattle.tv_store.proofs.Acting.{acts_on_files, acts_reading, acts_deleting, acts_committing}
 use Rattle.tv_store.proofs.index_store.IndexStore.act_on_files.Goals as goal
 
@@ -32,7 +32,7 @@ returns-in-Seal g c =
 pub returns-in-Write : goal.returns-in-Write
 returns-in-Write g c =
     let did = c.write_file.ensures in
-    acts_on_files g.O.Directory c.args.self.now c.write_file.new.self c.args.event.now _ c.in-Write.is c.write_file.result (λ o n same. same) _ (λ o n h. h) _ inl (λ s. tt) (λ takes. takes) did.step did.lens did.does
+    acts_on_files g.O.Directory c.args.self.now c.write_file.new.self c.args.event.now _ c.in-Write.is c.write_file.result (λ o n same. same) _ (λ o n h. h) _ inr (λ s. tt) (λ takes. takes) did.step did.lens did.does
 
 pub returns-in-Commit : goal.returns-in-Commit
 returns-in-Commit g c =
@@ -52,11 +52,12 @@ returns-in-Gc g c =
     (record {
       quiet = did.faults.quiet;
       free = λ told takes. did.faults.free told;
+      reads = λ told. locks_none _ busy refused quiet ⊥ ((d.view old.outside).locks meta_lock_name ≡ false) c.gc.result did.faults.cause;
       cause =
-          takes_lock_in _ busy (TakesMetaLock old.kept Gc) refused quiet (Spent old.kept Gc) (BadIn d.told.content (d.view old.outside).reads old.kept Gc) (λ path. HoldsNone d.told.content (d.view old.outside).reads old.kept) c.gc.result tt
-          (locking_cause_in _ busy refused quiet ⊥ (Spent old.kept Gc) (BadIn d.told.content (d.view old.outside).reads old.kept Gc) (λ path. HoldsNone d.told.content (d.view old.outside).reads old.kept) c.gc.result did.faults.cause (λ never. absurd never));
+          takes_lock_in _ busy (TakesMetaLock old.kept.catalog Gc) refused quiet (IsExhausted old.kept Gc) (BadIn d.told.content (d.view old.outside).reads old.kept Gc) (λ path. HoldsNone d.told.content (d.view old.outside).reads old.kept) c.gc.result tt
+          (locking_cause_in _ busy refused quiet ⊥ (IsExhausted old.kept Gc) (BadIn d.told.content (d.view old.outside).reads old.kept Gc) (λ path. HoldsNone d.told.content (d.view old.outside).reads old.kept) c.gc.result did.faults.cause (λ never. absurd never));
     })
-    did.meta did.frame
+    did.meta did.dotted did.frame
 
 pub returns-in-Reader : goal.returns-in-Reader
 returns-in-Reader g c =
@@ -73,9 +74,10 @@ returns-in-Reader g c =
     (record {
       quiet = did.faults.quiet;
       free = did.faults.free;
+      reads = did.faults.reads;
       cause =
-          read_cause_in _ (TakesMetaLock old.kept event × busy) refused quiet (NumbersSpent old.kept.catalog.reading 1) (Spent old.kept event)
-          (BadIn d.told.content (d.view old.outside).reads old.kept event) (λ path. HoldsNone d.told.content (d.view old.outside).reads old.kept) c.reader.result did.faults.cause inr;
+          read_cause_in _ (TakesMetaLock old.kept.catalog event × busy) refused quiet (PassesEnd (number_after old.kept.catalog event)) (IsExhausted old.kept event)
+          (BadIn d.told.content (d.view old.outside).reads old.kept event) (λ path. HoldsNone d.told.content (d.view old.outside).reads old.kept) c.reader.result did.faults.cause inl;
     })
     did.frame
 
@@ -94,8 +96,9 @@ returns-in-Reload g c =
     (record {
       quiet = did.faults.quiet;
       free = did.faults.free;
+      reads = did.faults.reads;
       cause =
-          read_cause_in _ (TakesMetaLock old.kept event × busy) refused quiet (NumbersSpent old.kept.catalog.reading 1) (Spent old.kept event)
-          (BadIn d.told.content (d.view old.outside).reads old.kept event) (λ path. HoldsNone d.told.content (d.view old.outside).reads old.kept) c.reload.result did.faults.cause inr;
+          read_cause_in _ (TakesMetaLock old.kept.catalog event × busy) refused quiet (PassesEnd (number_after old.kept.catalog event)) (IsExhausted old.kept event)
+          (BadIn d.told.content (d.view old.outside).reads old.kept event) (λ path. HoldsNone d.told.content (d.view old.outside).reads old.kept) c.reload.result did.faults.cause inl;
     })
     did.frame

@@ -1,9 +1,9 @@
-use Rattle.std.proofs.Common.{false, Ok, Err, subst}
+use Rattle.std.proofs.Common.{ℕ, false, Ok, Err, subst}
 use Rattle.std.proofs.lemmas.Result.{err_from_is_err_and}
 use Rattle.tv_base.specs.declared.error.TantivyError.TheVariants as errors
 use Rattle.tv_model.specs.Files.{Rose}
 use Rattle.tv_store.specs.Acting.{Acts}
-use Rattle.tv_store.proofs.Applied.{untold, grows_failed, faults_failed, grows_told, tells_untold, grows_untold}
+use Rattle.tv_store.proofs.Applied.{grows_failed, faults_failed, grows_told, tells_untold, grows_untold, undisturbed}
 use Rattle.tv_store.proofs.index_store.IndexStore.apply.Goals as goal
 
 pub returns-in_err-answer-clause-grows : goal.returns-in_err-answer-clause-grows
@@ -37,3 +37,14 @@ returns-clause-grows g c =
     let acted = subst (λ v. Acts g.O.Directory (record v { is_open = false }) c.act.new.self c.args.event.now (Ok c.in_ok-answer.answer)) c.self.view_is c.in_ok-answer.ensures in
     let did = c.in_ok-tell.ensures in
     grows_told g.O.Directory c.args.self.now c.act.new.self c.tell.new.self c.args.event.now c.in_ok-answer.answer acted did.kept did.frame
+
+pub returns-in_err-answer-clause-complete : goal.returns-in_err-answer-clause-complete
+returns-in_err-answer-clause-complete g c u =
+    let acted = subst (λ v. Acts g.O.Directory (record v { is_open = false }) c.act.new.self c.args.event.now (Err c.in_err-answer.field-0.0)) c.self.view_is c.in_err-answer.ensures in
+    let e = err_from_is_err_and c.from_residual.result c.from_residual.ensures.1 in
+    rw (e.1, e.2) (undisturbed g.O.Directory c.args.self.now c.act.new.self c.args.event.now u c.in_err-answer.field-0.0 acted.faults.cause)
+
+pub returns-in_err-tell-clause-complete : goal.returns-in_err-tell-clause-complete
+returns-in_err-tell-clause-complete g c u =
+    let acted = subst (λ v. Acts g.O.Directory (record v { is_open = false }) c.act.new.self c.args.event.now (Ok c.in_ok-answer.answer)) c.self.view_is c.in_ok-answer.ensures in
+    absurd (u.quiet (subst (λ (n : ℕ). Rose n (g.O.Directory.view c.tell.new.self.outside).faults) acted.faults.quiet c.in_err-tell.ensures.faults.cause.1))

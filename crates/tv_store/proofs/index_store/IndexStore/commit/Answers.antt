@@ -1,13 +1,12 @@
-use Rattle.std.proofs.Common.{◌≡◌, [], ◌∷◌, codes, sym, ap, subst, ◌∙◌}
+use Rattle.std.proofs.Common.{◌≡◌, sym, ap, subst, ◌∙◌}
 use Rattle.std.specs.List.{AllByRecursion}
 use Rattle.std.proofs.lemmas.Bool.{ne_eqb}
-use Rattle.tv_model.specs.Lines.{line}
 use Rattle.tv_model.specs.Commits.{IsSegment}
 use Rattle.tv_model.specs.State.{Catalog}
 use Rattle.tv_model.specs.CommitEvents.{chosen, commit_step, first_unknown, last_stamp}
-use Rattle.tv_store.specs.Committing.{commit_of, unknown_line}
+use Rattle.tv_store.specs.Committing.{commit_of}
 use Rattle.tv_store.proofs.CommitEvents.{chosen_are_segments}
-use Rattle.tv_store.proofs.Committing.{refuses, commits_as, known_step}
+use Rattle.tv_store.proofs.Committing.{commits_as, known_step}
 use Rattle.tv_store.proofs.index_store.IndexStore.commit.Goals as goal
 
 pub returns : goal.returns

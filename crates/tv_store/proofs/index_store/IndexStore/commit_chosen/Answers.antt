@@ -1,6 +1,6 @@
-use Rattle.std.proofs.Common.{◌++◌, ◌∷◌, [], List, ℕ, ap, ◌∙◌}
+use Rattle.std.proofs.Common.{◌++◌, ◌∷◌, [], List, ℕ, ◌<◌, ◌^◌, ap, subst, ◌∙◌, arith}
 use Rattle.std.specs.List.{AllByRecursion}
-use Rattle.tv_model.specs.Commits.{Commit, IsSegment, printed, default_settings}
+use Rattle.tv_model.specs.Commits.{Commit, IndexForm, IsSegment, printed, default_settings}
 use Rattle.tv_store.specs.Committing.{IsPrinted, commit_of}
 use Rattle.tv_store.proofs.Committing.{commits_as}
 use Rattle.tv_store.proofs.index_store.IndexStore.commit_chosen.Goals as goal
@@ -18,7 +18,10 @@ returns g c =
       record {
         opstamp = ap (λ (k : Commit). k.opstamp) made.commit ∙ c.next_opstamp.ensures ∙ ap (λ v. v.kept.catalog.next) c.self.view_is;
         sound = made.sound are_segments;
-        text_is = c.as_slice-2.ensures.value ∙ c.in_ok-text.ensures ∙ ap (λ (x : List ℕ). printed default_settings x commit ++ 10 ∷ []) (c.as_slice.ensures ∙ ap (λ v. v.kept.schema) c.self.view_is);
+        blocksize = subst (λ (f : IndexForm). f.settings.blocksize < 2 ^ 64) (ap (λ v. v.kept.form) c.self.view_is) (omega arith);
+        text_is =
+            c.as_slice-2.ensures.value ∙ c.in_ok-text.ensures ∙ ap (λ (x : List ℕ). printed default_settings x commit ++ 10 ∷ []) c.as_slice.ensures
+            ∙ ap (λ (f : IndexForm). printed f.settings f.schema commit ++ 10 ∷ []) (ap (λ v. v.kept.form) c.self.view_is);
       },
       ap (λ (k : Commit). commit_of s k.payload k.segments) made.commit,
     ))

@@ -1,8 +1,5 @@
-use Rattle.std.proofs.Common.{[], ◌∷◌, codes, true, is_some, refl, sym, ap, subst, ◌∙◌}
-use Rattle.tv_model.specs.Segments.{name_of}
-use Rattle.tv_model.specs.State.{file_at}
-use Rattle.tv_model.specs.FileEvents.{open_name, open_step}
-use Rattle.tv_store.proofs.FileEvents.{file_known, open_by, open_exists, open_made, live_found, inside_holds, asked_holds, refused, Short, short_opened}
+use Rattle.std.proofs.Common.{sym, ap, subst, ◌∙◌}
+use Rattle.tv_store.proofs.FileEvents.{open_exists, open_made, live_found, inside_holds, asked_holds, Short, short_opened}
 use Rattle.tv_store.proofs.index_store.IndexStore.open_file.Goals as goal
 
 pub returns-then-not-branch-clause-step : goal.returns-then-not-branch-clause-step

@@ -1,5 +1,4 @@
 use Rattle.std.proofs.Common.{arith}
-use Rattle.std.proofs.lemmas.Result.{err_from_is_err_and}
 use Rattle.tv_store.proofs.Committing.{publishes}
 use Rattle.tv_store.proofs.index_store.IndexStore.publish_as.Goals as goal
 

@@ -1,9 +1,9 @@
-use Rattle.std.proofs.Common.{◌≡◌, ◌<◌, length, ◌∙◌, arith, rules}
+use Rattle.std.proofs.Common.{◌≡◌, ◌<◌, length, sym, ◌∙◌, arith, rules}
 use Rattle.tv_model.specs.Files.{Rose}
 use Rattle.tv_store.specs.Bodies.{FailsAt}
 use Rattle.tv_store.proofs.Asking.{asks_later}
 use Rattle.tv_store.proofs.Holding.{same_holds}
-use Rattle.tv_store.proofs.ReaderEvents.{failed_as, fails_here, bodies_more}
+use Rattle.tv_store.proofs.ReaderEvents.{failed_as, fails_here, bodies_more, good_more}
 use Rattle.tv_store.proofs.index_store.IndexStore.read_bodies.Goals as goal
 
 pub returns-in_err-body-clause-faults : goal.returns-in_err-body-clause-faults
@@ -20,7 +20,7 @@ returns-in_err-body-clause-faults g c =
           c.from_residual.ensures.1
           (fails_here tells (D.view c.args.self.now.outside).reads (D.view c.loop-name.self.outside).reads c.args.names.now c.loop-name.name-index c.name-item.result
           (D.view c.args.self.now.outside).faults (D.view c.loop-name.self.outside).faults (D.view c.read_body.new.self.outside).faults c.in_err-body.field-0.0
-          so_far.asks.below.content so_far.quiet within c.name-item.is c.in_err-body.ensures.faults.cause);
+          so_far.asks.below.content so_far.quiet within c.name-item.is so_far.good c.in_err-body.ensures.faults.cause);
     }
 
 pub loop-name-preserved : goal.loop-name-preserved
@@ -34,6 +34,10 @@ loop-name-preserved g c =
           let within : c.loop-name.name-index < length c.args.names.now = omega arith in
           bodies_more (D.view c.loop-name.self.outside).reads c.loop-name.self.kept s c.args.names.now c.loop-name.name-index c.name-item.result c.in_ok-body.body c.loop-name.bodies.items c.push.new.self.items
           within c.name-item.is sealed now (asked.body tells) c.in_ok-push.ensures.items (so_far.read tells s held sealed);
+      good = λ tells.
+          let within : c.loop-name.name-index < length c.args.names.now = omega arith in
+          good_more (D.view c.args.self.now.outside).reads c.args.names.now c.loop-name.name-index c.name-item.result c.in_ok-body.body within c.name-item.is
+          (let read = asked.body tells in (read.0, sym (so_far.asks.below.content tells c.name-item.result) ∙ read.1, read.2)) (so_far.good tells);
       asks = asks_later so_far.asks asked.frame;
       quiet = asked.faults.quiet ∙ so_far.quiet;
     }

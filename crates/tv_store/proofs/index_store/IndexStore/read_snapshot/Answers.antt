@@ -5,7 +5,6 @@ use Rattle.tv_model.specs.Files.{Rose}
 use Rattle.tv_model.specs.State.{Catalog}
 use Rattle.tv_store.specs.declared.snapshot.SegmentReader.{SegmentReader}
 use Rattle.tv_store.specs.Applying.{LacksIn, HoldsNone}
-use Rattle.tv_store.specs.Kept.{Kept}
 use Rattle.tv_store.specs.ReadCauses.{ApplyCause}
 use Rattle.tv_store.proofs.Asking.{asks_later}
 use Rattle.tv_store.proofs.Holding.{same_holds}
@@ -27,7 +26,9 @@ returns-in_err-reader-clause-faults g c =
           c.from_residual-in_err-reader.ensures.1
           (snapshot_fails tells (D.view c.args.self.now.outside).reads (D.view c.loop-entry.self.outside).reads c.args.self.now.kept segments c.loop-entry.entry-index c.entry-item.result
           (D.view c.args.self.now.outside).faults (D.view c.loop-entry.self.outside).faults (D.view c.read_segment.new.self.outside).faults c.in_err-reader.field-0.0
-          so_far.asks.below.content so_far.quiet (c.deref-entry-items.ensures.value ∙ c.in_ok-segments.ensures ∙ ap (λ (k : Commit). k.segments) c.commit.ensures ∙ ap (λ v. v.kept.catalog.commit.segments) c.self.view_is) within c.entry-item.is c.in_err-reader.ensures.faults.cause);
+          so_far.asks.below.content so_far.quiet (c.deref-entry-items.ensures.value ∙ c.in_ok-segments.ensures ∙ ap (λ (k : Commit). k.segments) c.commit.ensures ∙ ap (λ v. v.kept.catalog.commit.segments) c.self.view_is) within c.entry-item.is
+          (λ t s held whole. record { each = (so_far.read t s held whole (c.deref-entry-items.ensures.value ∙ c.in_ok-segments.ensures ∙ ap (λ (k : Commit). k.segments) c.commit.ensures ∙ ap (λ v. v.kept.catalog.commit.segments) c.self.view_is ∙ ap (λ (k : Catalog). k.commit.segments) held.catalog)).good })
+          c.in_err-reader.ensures.faults.cause);
     }
 
 pub loop-entry-preserved : goal.loop-entry-preserved

@@ -1,6 +1,4 @@
-use Rattle.std.proofs.Common.{◌≡◌, ◌∷◌, [], None, Some, codes, refl, sym, ap, subst, ◌∙◌}
-use Rattle.std.proofs.lemmas.Result.{IfOk-weaker}
-use Rattle.tv_model.specs.Lines.{refuse}
+use Rattle.std.proofs.Common.{◌≡◌, Some, refl, sym, ap, subst, ◌∙◌}
 use Rattle.tv_model.specs.State.{Catalog, State, StepResult, live_at}
 use Rattle.tv_model.specs.CollectionEvents.{release_segment_step, released}
 use Rattle.tv_store.specs.FileCalls.{LeavesFiles}

@@ -1,38 +1,32 @@
-use Rattle.std.proofs.Common.{◌≡◌, true, ◌∷◌, [], ℕ, ◌+◌, ◌≤◌, codes, None, Some, is_some, sym, ap, subst, ◌∙◌, refl, rules, arith}
-use Rattle.std.proofs.lemmas.Result.{IfOk-weaker}
+use Rattle.std.proofs.Common.{◌≡◌, true, false, Some, is_some, sym, ap, subst, ◌∙◌, refl, rules, arith}
 use Rattle.std.specs.Prelude.{IsSome}
-use Rattle.std.specs.Fmt.{decimal}
 use Rattle.tv_model.specs.Files.{Rose}
-use Rattle.tv_model.specs.Lines.{line}
-use Rattle.tv_model.specs.Commits.{Commit}
 use Rattle.tv_model.specs.declared.event.Event.TheVariants as events
 use Rattle.tv_model.specs.State.{Catalog, Reader, reader_at}
-use Rattle.tv_model.specs.ReaderEvents.{snapshot_in}
 use Rattle.tv_managed.specs.Collecting.{meta_lock_name}
-use Rattle.tv_store.specs.Kept.{Kept, Holds, kept_of}
-use Rattle.tv_store.specs.ReaderNumbers.{FewNumbers, NumbersSpent}
+use Rattle.tv_store.specs.Kept.{Kept}
+use Rattle.tv_store.specs.Exhausted.{PassesEnd, number_after}
+use Rattle.tv_store.specs.ReaderNumbers.{FewNumbers}
 use Rattle.tv_store.specs.Applying.{BadIn, HoldsNone}
 use Rattle.tv_store.specs.StoreCauses.{IsBusy}
-use Rattle.tv_store.specs.ReadCauses.{ApplyCause}
-use Rattle.tv_store.proofs.Holding.{same_holds}
-use Rattle.tv_store.proofs.FewNumbers.{few_more}
-use Rattle.tv_store.proofs.ReaderNumbers.{few_found}
-use Rattle.tv_store.proofs.ReaderEvents.{busy_before, failed_as, few_with_reloaded, later_fails, mapped, isnt_there}
+use Rattle.tv_store.specs.ReadCauses.{ApplyCause, IsReadError}
+use Rattle.tv_store.proofs.ReaderEvents.{busy_before, failed_as, few_with_reloaded, later_fails, mapped, reload_reads, reload_passes}
 use Rattle.tv_store.proofs.index_store.IndexStore.reload.Goals as goal
 
 pub returns-then-generation-clause-faults : goal.returns-then-generation-clause-faults
 returns-then-generation-clause-faults g c = record {
   quiet = tt;
   free = λ told takes. tt;
+  reads = λ told r. absurd r;
   cause = (
     refl,
-    λ bound few.
+    reload_passes c.args.self.now.kept.catalog c.args.number (
         let found = mapped (λ (r : Reader). r.next) (reader_at c.self.inside.catalog c.args.number) c.in-Some.generation (sym c.in-Some.is ∙ c.next_generation.ensures) in
-        let same : c.self.inside.catalog ≡ c.args.self.now.kept.catalog = ap (λ v. v.kept.catalog) c.self.view_is in
-        let below : found.0.next ≤ bound = few_found bound c.self.inside.catalog.reading c.args.number found.0 (subst (λ (k : Catalog). FewNumbers bound k.reading) (sym same) few) found.1 in
+        let there : reader_at c.args.self.now.kept.catalog c.args.number ≡ Some found.0 = ap (λ v. reader_at v.kept.catalog c.args.number) (sym c.self.view_is) ∙ found.1 in
         let last : c.in-Some.generation ≡ 18446744073709551615 = c.if-generation.true in
         let next : c.in-Some.generation ≡ found.0.next = found.2 in
-        omega (arith, below, last, next),
+        (found.0, there, omega (arith, last, next))
+        ),
   );
 }
 
@@ -50,12 +44,14 @@ returns-in_err-shown-clause-faults g c =
     record {
       quiet = search rules;
       free = search rules;
+      reads = λ told. failed_as c.from_residual-in_err-shown.result c.in_err-shown.field-0.0 (λ error. IsReadError error → (D.view old.outside).locks meta_lock_name ≡ false) c.from_residual-in_err-shown.ensures.1
+          (λ r. sym (room.frame.below.kept.frame.locks told meta_lock_name) ∙ c.in_err-shown.ensures.faults.reads told r);
       cause =
           failed_as c.from_residual-in_err-shown.result c.in_err-shown.field-0.0
-          (ApplyCause busy (Rose start end) (end ≡ start) (NumbersSpent old.kept.catalog.reading 1) (BadIn tells (D.view old.outside).reads old.kept (events.Reload c.args.number)) (λ path. HoldsNone tells (D.view old.outside).reads old.kept))
+          (ApplyCause busy (Rose start end) (end ≡ start) (PassesEnd (number_after old.kept.catalog (events.Reload c.args.number))) (BadIn tells (D.view old.outside).reads old.kept (events.Reload c.args.number)) (λ path. HoldsNone tells (D.view old.outside).reads old.kept))
           c.from_residual-in_err-shown.ensures.1
           (later_fails tells (D.view old.outside).reads (D.view c.ready.new.self.outside).reads old.kept c.ready.new.self.kept (events.Reload c.args.number)
-          (λ s held. subst (λ (k : Catalog). IsSome (reader_at k c.args.number)) held.catalog there) (NumbersSpent old.kept.catalog.reading 1) _ busy
+          (λ s held. reload_reads s c.args.number (subst (λ (k : Catalog). IsSome (reader_at k c.args.number)) held.catalog there)) (PassesEnd (number_after old.kept.catalog (events.Reload c.args.number))) _ busy
           start (D.view c.ready.new.self.outside).faults end c.in_err-shown.field-0.0
           (λ b. (there, busy_before _ _ _ _ _ (λ told. room.frame.below.kept.frame.locks told meta_lock_name) room.faults b)) room.frame.below.content room.frame.kept room.faults c.in_err-shown.ensures.faults.cause);
     }

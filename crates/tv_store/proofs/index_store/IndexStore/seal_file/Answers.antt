@@ -1,7 +1,6 @@
-use Rattle.std.proofs.Common.{[], ◌∷◌, codes, None, length, option_map, sym, ap, subst, ◌∙◌}
+use Rattle.std.proofs.Common.{length, option_map, sym, ap, subst, ◌∙◌}
 use Rattle.tv_model.specs.State.{at}
-use Rattle.tv_model.specs.FileEvents.{seal_name, seal_step, sealed_as}
-use Rattle.tv_store.proofs.FileEvents.{file_known, body_step, live_found, inside_holds, asked_holds, refused, sealed_file, Short, short_closed}
+use Rattle.tv_store.proofs.FileEvents.{live_found, inside_holds, asked_holds, sealed_file, Short, short_closed}
 use Rattle.tv_store.proofs.index_store.IndexStore.seal_file.Goals as goal
 
 pub returns-in_err-seal-clause-lens : goal.returns-in_err-seal-clause-lens

@@ -1,6 +1,8 @@
-use Rattle.std.proofs.Common.{◌≡◌, ◌∙◌, ap, rules}
+use Rattle.std.proofs.Common.{◌≡◌, ◌∙◌, ap, false, rules}
 use Rattle.std.proofs.lemmas.Result.{IfErr-weaker}
+use Rattle.tv_managed.specs.Collecting.{meta_lock_name}
 use Rattle.tv_store.specs.Kept.{Kept, kept_of}
+use Rattle.tv_store.specs.ReadCauses.{IsReadError}
 use Rattle.tv_store.proofs.Asking.{kept_by_files}
 use Rattle.tv_store.proofs.ReaderEvents.{read_later}
 use Rattle.tv_store.proofs.index_store.IndexStore.snapshot.Goals as goal
@@ -11,9 +13,11 @@ returns-clause-faults g c =
     let took = c.in_ok-lock.ensures in
     let later : Kept = kept_of c.self.inside.schema c.self.inside.catalog c.acquire_lock.new.self in
     let kept_is : later ≡ c.args.self.now.kept = kept_by_files c.self.inside.schema c.self.inside.catalog took.frame ∙ ap (λ v. v.kept) c.self.view_is in
+    let was_free : D.told.locks → (D.view c.args.self.now.outside).locks meta_lock_name ≡ false = search rules in
     record {
       quiet = search rules;
       free = search rules;
+      reads = λ told. IfErr-weaker c.read_snapshot-shown.result _ (λ error. IsReadError error → (D.view c.args.self.now.outside).locks meta_lock_name ≡ false) (λ error why r. was_free told) c.read_snapshot-shown.ensures.faults.cause;
       cause =
           IfErr-weaker c.read_snapshot-shown.result _ _
           (λ error why.

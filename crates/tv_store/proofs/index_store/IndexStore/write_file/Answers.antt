@@ -1,17 +1,15 @@
-use Rattle.std.proofs.Common.{◌≡◌, ℕ, ◌+◌, ◌≤◌, List, [], ◌∷◌, ◌++◌, None, length, codes, option_map, refl, sym, ap, subst, ◌∙◌, rules}
+use Rattle.std.proofs.Common.{◌≡◌, ℕ, ◌+◌, ◌≤◌, List, [], ◌∷◌, ◌++◌, length, codes, option_map, refl, sym, ap, subst, ◌∙◌, rules}
 use Rattle.std.specs.Fmt.{decimal}
 use Rattle.std.specs.Map.{remove_entry}
 use Rattle.std.specs.BTreeMap.{is_at, insert_entry}
 use Rattle.tv_model.specs.Names.{byte_cmp}
 use Rattle.tv_model.specs.Lines.{line}
-use Rattle.tv_model.specs.State.{at}
-use Rattle.tv_model.specs.FileEvents.{write_name, write_step, wrote}
-use Rattle.tv_store.proofs.FileEvents.{file_known, body_step, live_found, inside_holds, asked_holds, refused, written, Short, short_same, short_closed, short_written, is_spent, sum_is, sum_isnt}
+use Rattle.tv_model.specs.State.{at, live_at}
+use Rattle.tv_store.proofs.FileEvents.{live_found, inside_holds, asked_holds, written, Short, short_same, short_closed, short_written, length_passes, sum_is, sum_isnt}
 use Rattle.tv_store.proofs.index_store.IndexStore.write_file.Goals as goal
 
 pub returns-in_default-checked_add-clause-does : goal.returns-in_default-checked_add-clause-does
 returns-in_default-checked_add-clause-does g c =
-    let open_files = c.args.self.now.kept.open_files in
     let files = ap (λ v. v.kept.open_files) c.self.view_is in
     let large = sum_isnt c.checked_add.result (c.in-Some-body_len.len + length c.as_slice-bytes.result.now) c.checked_add.ensures c.in_default-checked_add.is in
     record {
@@ -20,11 +18,14 @@ returns-in_default-checked_add-clause-does g c =
         quiet = tt;
         cause = (
           refl,
-          λ bound h. is_spent bound c.in-Some-body_len.len (length c.args.bytes.now) open_files c.in_ok-name.name (sym c.in-Some-body_len.is ∙ c.body_len.ensures ∙ ap (λ es. option_map length (at es c.in_ok-name.name)) files)
-              (subst (λ (bs : List ℕ). 18446744073709551616 ≤ c.in-Some-body_len.len + length bs) c.as_slice-bytes.ensures large) h,
+          length_passes c.args.self.now.kept c.args.id c.args.component c.in-Some.segment c.in_ok-name.name c.args.bytes.now c.in-Some-body_len.len
+              (ap (λ v. live_at v.kept.catalog c.args.id) (sym c.self.view_is) ∙ sym c.live_segment.ensures ∙ c.in-Some.is) c.in_ok-name.ensures.name
+              (sym c.in-Some-body_len.is ∙ c.body_len.ensures ∙ ap (λ es. option_map length (at es c.in_ok-name.name)) files)
+              (subst (λ (bs : List ℕ). 18446744073709551616 ≤ c.in-Some-body_len.len + length bs) c.as_slice-bytes.ensures large),
         );
       };
       meta = search rules;
+      dotted = search rules;
       frame = search rules;
     }
 

@@ -1,0 +1,89 @@
+-- A sound start opens to a sound state.
+use Rattle.std.proofs.Common.{◌≡◌, ◌⊎◌, inl, inr, ℕ, ◌<◌, ◌^◌, ◌==◌, true, false, true≢false, cond, List, [], ◌∷◌, Option, Some, None, refl, sym, ap, subst, ◌∙◌, ◌+◌, arith}
+use Rattle.std.specs.Prelude.{IsSome, is_some, option_map}
+use Rattle.std.specs.List.{AllByRecursion}
+use Rattle.std.proofs.lemmas.Bool.Decides.{nat_tests}
+use Rattle.tv_model.specs.declared.segment.LiveSegment.{LiveSegment}
+use Rattle.tv_model.specs.Names.{has, list_name, meta_name}
+use Rattle.tv_model.specs.Files.{Reads}
+use Rattle.tv_model.specs.Footer.{IsGood}
+use Rattle.tv_model.specs.Segments.{all_required}
+use Rattle.tv_model.specs.Commits.{Commit, Settings, IsSegment}
+use Rattle.tv_model.specs.CommitEvents.{is_sealed, last_stamp}
+use Rattle.tv_model.specs.State.{State, FileState, Sealed, file_at}
+use Rattle.tv_model.specs.Index.{HasFiles, IsSoundMeta, IsSoundImage, OpensWith, OpensTo, next_after}
+use Rattle.tv_model.specs.SoundStates.{AreGood, AreWithin, IsSoundState}
+use Rattle.tv_model.proofs.Entries.{has_inserted, has_kept}
+use Rattle.tv_model.proofs.Required.{required_is_file}
+use Rattle.tv_model.proofs.PrintedTexts.{lists_one, segments_one}
+
+-- what is known of the commit and of the managed names, whether there is a `meta.json` or not
+record Starts (reads : Reads) (listed : List (List ℕ)) (s : State) : Type 0 where
+  files : HasFiles reads s.catalog.commit
+  segments : AllByRecursion IsSegment s.catalog.commit.segments
+  opstamp : s.catalog.commit.opstamp < 2 ^ 64
+  meta : has s.managed meta_name ≡ true
+  kept : (n : List ℕ) → has listed n ≡ true → has s.managed n ≡ true
+
+starts : (settings : Settings) (schema : List ℕ) (reads : Reads) (listed : List (List ℕ)) (s : State) (read : Option (List ℕ)) → (IsSome read → has listed meta_name ≡ true)
+    → OpensWith settings schema read listed s → IsSoundMeta schema reads read → Starts reads listed s
+starts settings schema reads listed s None there o sound = record {
+  files = record { each = λ n is. absurd (true≢false (sym is ∙ ap (λ (c : Commit). has (all_required c.segments) n) o.1)) };
+  segments = subst (λ (c : Commit). AllByRecursion IsSegment c.segments) (sym o.1) tt;
+  opstamp = omega (arith, ap (λ (c : Commit). c.opstamp) o.1);
+  meta = rw o.2 (has_inserted listed meta_name);
+  kept = λ n h. rw o.2 (has_kept listed meta_name n h);
+}
+starts settings schema reads listed s (Some text) there o sound =
+    let same : s.catalog.commit.segments ≡ sound.1.segments = segments_one settings sound.0 schema text s.catalog.commit sound.1 o.0 sound.2 in
+    record {
+      files = record { each = λ n is. sound.3.each n (subst (λ (segments : List (List ℕ × LiveSegment)). has (all_required segments) n ≡ true) same is) };
+      segments = o.0.is_commit.segments;
+      opstamp = o.0.is_commit.opstamp;
+      meta = rw o.1 (there refl);
+      kept = λ n h. rw o.1 h;
+    }
+
+there_reads : (read : Option (List ℕ)) → is_some (option_map Sealed read) ≡ true → is_some read ≡ true
+there_reads None h = h
+there_reads (Some bytes) h = refl
+
+-- a file is sealed with one list of bytes
+same_good : (file : Option FileState) (bytes other : List ℕ) → file ≡ Some (Sealed bytes) → IsGood bytes → file ≡ Some (Sealed other) → IsGood other
+same_good file bytes other e good k = let same : bytes ≡ other = cc in subst IsGood same good
+
+-- the number after a commit's
+stamps_after : (opstamp next : ℕ) → next ≡ next_after opstamp → (opstamp < next) ⊎ ((opstamp ≡ last_stamp) × (next ≡ last_stamp))
+stamps_after opstamp next e =
+    elim (opstamp == last_stamp) as (λ b. (opstamp == last_stamp) ≡ b → next ≡ cond b last_stamp (opstamp + 1) → (opstamp < next) ⊎ ((opstamp ≡ last_stamp) × (next ≡ last_stamp))) [
+      | true ↦ λ t k. inr (grind (arith, nat_tests, t), k)
+      | false ↦ λ t k. inl (omega (arith, k))
+    ] refl e
+
+segments_within : (segments : List (List ℕ × LiveSegment)) → AllByRecursion IsSegment segments → AreWithin segments
+segments_within [] h = tt
+segments_within (e ∷ segments) h = (h.0.deletes, segments_within segments h.1)
+
+pub opens_sound : (settings : Settings) (schema : List ℕ) (reads : Reads) (s : State) → IsSoundImage schema reads → OpensTo settings schema reads s → IsSoundState s
+opens_sound settings schema reads s sound o =
+    let names : sound.names ≡ o.listed = lists_one (reads list_name) sound.names o.listed sound.listing o.listing in
+    let on_list : (n : List ℕ) → has sound.names n ≡ true → has o.listed n ≡ true = λ n h. subst (λ (ns : List (List ℕ)). has ns n ≡ true) names h in
+    let start = starts settings schema reads o.listed s (reads meta_name) (λ some. on_list meta_name (sound.listed meta_name refl some)) o.opened sound.commit in
+    let read : (n : List ℕ) → has (all_required s.catalog.commit.segments) n ≡ true → (bytes : List ℕ) × (file_at s n ≡ Some (Sealed bytes)) × IsGood bytes = λ n is.
+    let f = start.files.each n is in
+    (f.0, o.files n (required_is_file s.catalog.commit.segments n start.segments is) ∙ ap (option_map Sealed) f.1, f.2) in
+    let good : AreGood s s.catalog.commit.segments = λ n bytes is e. let f = read n is in same_good (file_at s n) f.0 bytes f.1 f.2 e in
+    let within : AreWithin s.catalog.commit.segments = segments_within s.catalog.commit.segments start.segments in
+    record {
+      meta = start.meta;
+      names = o.names;
+      listed = λ n there.
+          let named = o.names n there in
+          start.kept n (on_list n (sound.listed n named.0 (there_reads (reads n) (sym (ap is_some (o.files n named)) ∙ there))));
+      whole = record { each = λ n is. ap is_sealed (read n is).1 };
+      good = good;
+      live = subst (AreGood s) (sym o.live) good;
+      stamps = stamps_after s.catalog.commit.opstamp s.catalog.next o.next;
+      within = within;
+      live_within = subst AreWithin (sym o.live) within;
+    }

@@ -1,0 +1,28 @@
+-- What would pass 64 bits: the number of a reader, of a snapshot or of a searcher, or the length of an open file.
+use Rattle.std.specs.Prelude.{ℕ, ◌≡◌, ◌≤◌, ◌+◌, ◌^◌, ◌⊎◌, ◌++◌, length, Option, Some, None, option_map, option_and_then}
+use Rattle.tv_model.specs.Segments.{name_of}
+use Rattle.tv_model.specs.State.{Catalog, at, live_at, reader_at}
+use Rattle.tv_model.specs.declared.event.Event.{Event}
+use Rattle.tv_model.specs.declared.event.Event.TheVariants as events
+use Rattle.tv_store.specs.Kept.{Kept}
+
+-- the number after the one that an event gives, to a new reader, to a reader's next snapshot or to a new searcher
+abbrev pub number_after : Catalog → Event → Option ℕ
+number_after c (events.Reader policy) = Some (c.reading.next_reader + 1)
+number_after c (events.Reload number) = option_map (λ reader. reader.next + 1) (reader_at c number)
+number_after c (events.Searcher number) = Some (c.reading.next_searcher + 1)
+number_after c other = None
+
+-- how long the open file is after an event that writes to it
+abbrev pub length_after : Kept → Event → Option ℕ
+length_after kept (events.Write id component bytes) =
+    option_and_then (λ segment. option_map (λ body. length (body ++ bytes)) (at kept.open_files (name_of id segment.deletes component))) (live_at kept.catalog id)
+length_after kept other = None
+
+-- a number that 64 bits can't hold
+abbrev pub PassesEnd : Option ℕ → Type 0
+PassesEnd number = (n : ℕ) × (number ≡ Some n) × (2 ^ 64 ≤ n)
+
+-- the event would make such a number, or such a file
+abbrev pub IsExhausted : Kept → Event → Type 0
+IsExhausted kept event = PassesEnd (number_after kept.catalog event) ⊎ PassesEnd (length_after kept event)
