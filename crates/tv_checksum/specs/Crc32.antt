@@ -1,8 +1,13 @@
 -- What a checksum in progress has taken.
-use Rattle.std.specs.Prelude.{ℕ, ◌≡◌, List}
-use Rattle.tv_model.specs.Checksum.{register_after}
+use Rattle.std.specs.Prelude.{ℕ, ◌≡◌, List, fold}
+use Rattle.std.specs.List.{flat_map}
+use Rattle.tv_model.specs.Checksum.{bits, shift_in, register_after}
 use Rattle.tv_checksum.specs.declared.crc32.Crc32.{Crc32}
 
 -- it took these bytes
 abbrev pub HasTaken : Crc32 → List ℕ → Type 0
 HasTaken c taken = c.register ≡ register_after taken
+
+-- the register after these bytes, where it was this one before
+unfoldable pub register_with : ℕ → List ℕ → ℕ
+register_with register bytes = fold shift_in register (flat_map bits bytes)

@@ -1,16 +1,16 @@
-//! CRC-32, bit by bit.
-ghost use Rattle.std.specs.Prelude.{◌≡◌, ◌≤◌, fold};
-ghost use Rattle.tv_model.specs.Checksum.{bits, shift_in, crc32};
+//! CRC-32, eight bytes at a time.
+ghost use Rattle.std.specs.Prelude.{◌≡◌, ◌+◌, ◌<◌, [], ◌∷◌, replicate};
+ghost use Rattle.std.specs.List.{concat};
+ghost use Rattle.tv_model.specs.Checksum.{crc32};
+ghost use Rattle.tv_checksum.specs.Crc32.{register_with};
 
 use crate::Checksum;
-
-// The polynomial, its lowest power in the highest bit.
-const POLYNOMIAL: u32 = 0xEDB8_8320;
+use crate::tables::TABLES;
 
 /// CRC-32 as in ISO-HDLC, the one of zip files and PNG.
 ///
 /// The polynomial is 0xEDB88320 with its bits reflected. The register begins with all bits set, and
-/// all its bits are turned at the end. No table is kept: each byte goes in bit by bit.
+/// all its bits are turned at the end. Eight bytes go in at a time, by a look-up for each of them.
 #[derive(Clone, Copy, Debug)]
 pub struct Crc32 {
     register: u32,
@@ -28,9 +28,8 @@ impl Checksum for Crc32 {
     }
 
     fn update(&mut self, bytes: &[u8]) {
-        for byte in bytes {
-            self.register = with_byte(self.register, *byte);
-        }
+        let (chunks, rest) = bytes.as_chunks::<8>();
+        self.register = with_bytes(with_chunks(self.register, chunks), rest);
     }
 
     fn finish(self) -> u32 {
@@ -38,24 +37,58 @@ impl Checksum for Crc32 {
     }
 }
 
-// The register after the bits of a byte, the lowest bit first.
-fn with_byte(mut register: u32, byte: u8) -> u32
-    ensures { result ≡ fold shift_in register (bits byte) }
+// The register after these eight bytes each.
+fn with_chunks(mut register: u32, chunks: &[[u8; 8]]) -> u32
+    ensures { result ≡ register_with register (concat chunks.now) }
 {
-    for place in 0..u8::BITS {
-        register = with_bit(register, u32::from(byte >> place) & 1);
+    for chunk in chunks {
+        register = with_eight(register, *chunk);
     }
     register
 }
 
-// The register after one more bit.
-fn with_bit(register: u32, bit: u32) -> u32
-    requires { bit ≤ 1 }
-    ensures { result ≡ shift_in register bit }
+// The register after these bytes.
+fn with_bytes(mut register: u32, bytes: &[u8]) -> u32
+    ensures { result ≡ register_with register bytes.now }
 {
-    if register & 1 == bit {
-        register >> 1
-    } else {
-        (register >> 1) ^ POLYNOMIAL
+    for byte in bytes {
+        register = with_byte(register, *byte);
     }
+    register
+}
+
+// The register after eight bytes. The first four are added to those of the register, and then each
+// goes on alone, since what becomes of a sum is the sum of what becomes of its parts.
+#[inline]
+fn with_eight(register: u32, bytes: [u8; 8]) -> u32
+    ensures { result ≡ register_with register bytes }
+{
+    let [p, q, r, s] = register.to_le_bytes();
+    let [a, b, c, d, e, f, g, h] = bytes;
+    entry(7, p ^ a)
+        ^ entry(6, q ^ b)
+        ^ entry(5, r ^ c)
+        ^ entry(4, s ^ d)
+        ^ entry(3, e)
+        ^ entry(2, f)
+        ^ entry(1, g)
+        ^ entry(0, h)
+}
+
+// The register after a byte.
+#[inline]
+fn with_byte(register: u32, byte: u8) -> u32
+    ensures { result ≡ register_with register (byte ∷ []) }
+{
+    let [lowest, _, _, _] = register.to_le_bytes();
+    entry(0, lowest ^ byte) ^ (register >> 8)
+}
+
+// The register after that many zeros and one more, where it was no more than a byte.
+#[inline]
+fn entry(zeros: usize, register: u8) -> u32
+    requires { zeros < 8 }
+    ensures { result ≡ register_with register (replicate (zeros + 1) 0) }
+{
+    TABLES[zeros][usize::from(register)]
 }

@@ -4,6 +4,7 @@
 ghost use Rattle.std.specs.Prelude.{◌≡◌, ℕ, List, [], ◌++◌};
 
 mod crc32;
+mod tables;
 
 pub use crc32::Crc32;
 

@@ -1,0 +1,21 @@
+use Rattle.std.proofs.Common.{rules, arith, ℕ, ◌≡◌, List, get_or, replicate, ap, ap₂, ◌∙◌}
+use lib.Bits.{bit_xor}
+use Rattle.tv_checksum.specs.Crc32.{register_with}
+use Rattle.tv_checksum.proofs.Registers.{eight_bytes}
+use Rattle.tv_checksum.proofs.crc32.with_eight.Goals as goal
+
+-- the place of a byte that meets one of the register
+meet : {l m : List ℕ} (n i : ℕ) (bs : List ℕ) → l ≡ m → register_with (bit_xor (get_or l i 0) (get_or bs i 0)) (replicate n 0) ≡ register_with (bit_xor (get_or m i 0) (get_or bs i 0)) (replicate n 0)
+meet n i bs = ap (λ (k : List ℕ). register_with (bit_xor (get_or k i 0) (get_or bs i 0)) (replicate n 0))
+
+pub returns : goal.returns
+returns c =
+    let bs = c.args.bytes in
+    let low = c.to_le_bytes.ensures in
+    let first = c.entry.ensures ∙ meet 8 0 bs low in
+    let second = c.entry-2.ensures ∙ meet 7 1 bs low in
+    let third = c.entry-3.ensures ∙ meet 6 2 bs low in
+    let fourth = c.entry-4.ensures ∙ meet 5 3 bs low in
+    ap₂ bit_xor (ap₂ bit_xor (ap₂ bit_xor (ap₂ bit_xor (ap₂ bit_xor (ap₂ bit_xor (ap₂ bit_xor
+    first second) third) fourth) c.entry-5.ensures) c.entry-6.ensures) c.entry-7.ensures) c.entry-8.ensures
+    ∙ eight_bytes c.args.register bs (omega arith) (search rules) (search rules)
