@@ -5,7 +5,7 @@ use Rattle.std.proofs.lemmas.List.{get_or-map}
 use lib.ListN.{length-map}
 use Rattle.std.proofs.lemmas.List.FromFn.{get_or-range_with_len}
 use Rattle.tv_checksum.proofs.Registers.{with-append}
-use Rattle.tv_checksum.specs.Crc32.{register_with}
+use Rattle.tv_checksum.specs.Crc32.{register_with, after_zeros}
 use Rattle.tv_checksum.specs.declared.tables.TheConstants.{TABLES}
 
 -- the register after one zero
@@ -22,19 +22,20 @@ computed : TABLES ≡ tables 8 (range_with_len 0 256)
 unfolding tables next register_with
 computed = refl
 
-entry-tables : (n k i : ℕ) (table : List ℕ) → k < n → i < length table → get_or (get_or (tables n table) k []) i 0 ≡ register_with (get_or table i 0) (replicate (suc k) 0)
+entry-tables : (n k i : ℕ) (table : List ℕ) → k < n → i < length table
+    → get_or (get_or (tables n table) k []) i 0 ≡ after_zeros (suc k) (get_or table i 0)
 unfolding tables next
 entry-tables zero k i table p q = absurd (omega arith)
 entry-tables (suc n) zero i table p q = get_or-map next table i 0 0 q
 entry-tables (suc n) (suc k) i table p q =
     let long : i < length (map next table) = omega (arith, length-map table next) in
     entry-tables n k i (map next table) (omega arith) long
-    ∙ ap (λ m. register_with m (replicate (suc k) 0)) (get_or-map next table i 0 0 q)
+    ∙ ap (after_zeros (suc k)) (get_or-map next table i 0 0 q)
     ∙ sym (with-append (get_or table i 0) (0 ∷ []) (replicate (suc k) 0))
 
-pub entry_at : (k i : ℕ) → k < 8 → i < 256 → get_or (get_or TABLES k []) i 0 ≡ register_with i (replicate (suc k) 0)
+pub entry_at : (k i : ℕ) → k < 8 → i < 256 → get_or (get_or TABLES k []) i 0 ≡ after_zeros (suc k) i
 entry_at k i p q =
     let same : get_or (range_with_len 0 256) i 0 ≡ i = omega (arith, get_or-range_with_len 0 256 i 0 q) in
     ap (λ (ts : List (List ℕ)). get_or (get_or ts k []) i 0) computed
     ∙ entry-tables 8 k i (range_with_len 0 256) p q
-    ∙ ap (λ m. register_with m (replicate (suc k) 0)) same
+    ∙ ap (after_zeros (suc k)) same

@@ -1,16 +1,15 @@
 -- The register of CRC-32 is a sum over its bits: what goes in is added to it, and each of its parts goes on alone.
-use Rattle.std.proofs.Common.{◌≡◌, ℕ, zero, suc, ◌+◌, ◌*◌, ◌/◌, ◌%◌, ◌^◌, ◌<◌, ◌==◌, cond, List, [], ◌∷◌, ◌++◌, length, replicate, fold, refl, sym, ap, ap₂, ◌∙◌, arith, get_or, take, drop, append_assoc, append-nil, suc-mul, zero-mul, drop-drop, take-append-drop, length-drop, drop-cons, pow-suc, mul_assoc}
-use Rattle.std.specs.List.{flat_map, concat}
-use Rattle.std.specs.Simd.{first_chunks}
+use Rattle.std.proofs.Common.{◌≡◌, ℕ, zero, suc, ◌+◌, ◌*◌, ◌/◌, ◌%◌, ◌^◌, ◌<◌, ◌==◌, cond, List, [], ◌∷◌, ◌++◌, length, replicate, get_or, drop, fold}
+use Rattle.std.proofs.Common.{refl, sym, ap, ap₂, ◌∙◌, arith, length-drop, drop-cons, pow-suc, mul_assoc}
+use Rattle.std.specs.List.{flat_map}
 use Rattle.std.specs.Int.Bits.{bit_xor}
 use Rattle.std.proofs.lemmas.Nat.{xor_comm, xor_shr}
-use Rattle.std.proofs.lemmas.List.{drop_all, take_more}
-use Rattle.std.proofs.lemmas.List.Folds.{concat-append}
+use Rattle.std.proofs.lemmas.List.{drop_all}
 use Rattle.std.proofs.lemmas.List.Sums.{fold-append}
 use Rattle.std.proofs.lemmas.Grind.{flat_map-append}
 use lib.Bits.{xor_shifted, xor_assoc, xor_zero_r, xor_add_and}
-use Rattle.tv_model.specs.Checksum.{bits, polynomial, shift_in, register_after}
-use Rattle.tv_checksum.specs.Crc32.{register_with}
+use Rattle.tv_model.specs.Checksum.{bits, polynomial, shift_in}
+use Rattle.tv_checksum.specs.Crc32.{register_with, after_zeros}
 
 -- the middle of three
 swap : (a b c : ℕ) → bit_xor (bit_xor a b) c ≡ bit_xor (bit_xor a c) b
@@ -23,15 +22,15 @@ regroup a b c d = sym (xor_assoc (bit_xor a b) c d) ∙ ap (λ n. bit_xor n d) (
 half : (a b : ℕ) → bit_xor a b / 2 ≡ bit_xor (a / 2) (b / 2)
 half a b = xor_shr a b 1
 
--- one bit of zero goes in
+-- the register after a bit that is zero
 unfoldable shift : ℕ → ℕ
 shift r = bit_xor (r / 2) (r % 2 * polynomial)
 
 parity : (a b : ℕ) → bit_xor a b % 2 ≡ (a % 2 + b % 2) % 2
 parity a b = omega (arith, xor_add_and a b)
 
--- the polynomials of two bits, which cancel
-poly : (m n : ℕ) → m < 2 → n < 2 → (m + n) % 2 * 3988292384 ≡ bit_xor (m * 3988292384) (n * 3988292384)
+-- Where two bits are set, their polynomials cancel.
+poly : (m n : ℕ) → m < 2 → n < 2 → (m + n) % 2 * polynomial ≡ bit_xor (m * polynomial) (n * polynomial)
 poly zero zero p q = refl
 poly zero (suc zero) p q = refl
 poly (suc zero) zero p q = refl
@@ -54,8 +53,8 @@ shift-even n =
     let high : n * 2 / 2 ≡ n = omega arith in
     ap₂ (λ x y. bit_xor x (y * polynomial)) high low ∙ xor_zero_r n
 
--- a bit that goes in is added first
-by_bit : (h r b : ℕ) → r < 2 → b < 2 → cond (r == b) h (bit_xor h 3988292384) ≡ bit_xor h ((r + b) % 2 * 3988292384)
+-- A bit that goes in decides by its sum with the one that leaves.
+by_bit : (h r b : ℕ) → r < 2 → b < 2 → cond (r == b) h (bit_xor h polynomial) ≡ bit_xor h ((r + b) % 2 * polynomial)
 by_bit h zero zero p q = sym (xor_zero_r h)
 by_bit h zero (suc zero) p q = refl
 by_bit h (suc zero) zero p q = refl
@@ -64,7 +63,7 @@ by_bit h zero (suc (suc b)) p q = absurd (omega arith)
 by_bit h (suc zero) (suc (suc b)) p q = absurd (omega arith)
 by_bit h (suc (suc r)) b p q = absurd (omega arith)
 
--- the lowest bit of a byte goes in, and the others are added: all of them could have been added before
+-- The lowest bit of a byte goes in, and then the others are added: all of them could have been added before.
 enter : (r b : ℕ) → bit_xor (shift_in r (b % 2)) (b / 2) ≡ shift (bit_xor r b)
 unfolding shift
 enter r b =
@@ -72,6 +71,7 @@ enter r b =
     ∙ swap (r / 2) ((r % 2 + b % 2) % 2 * polynomial) (b / 2)
     ∙ sym (ap₂ (λ x y. bit_xor x (y * polynomial)) (half r b) (parity r b))
 
+-- after so many of them
 unfoldable shifts : ℕ → ℕ → ℕ
 shifts zero r = r
 shifts (suc n) r = shifts n (shift r)
@@ -81,11 +81,12 @@ unfolding shifts
 shifts-xor zero a b = refl
 shifts-xor (suc n) a b = ap (shifts n) (shift-xor a b) ∙ shifts-xor n (shift a) (shift b)
 
--- the lowest bits, the lowest first
+-- so many of the lowest bits, the lowest first
 low_bits : ℕ → ℕ → List ℕ
 low_bits zero b = []
 low_bits (suc n) b = b % 2 ∷ low_bits n (b / 2)
 
+-- Bits that go in one by one could have been added before.
 shift_low_bits : (n r b : ℕ) → b < 2 ^ n → fold shift_in r (low_bits n b) ≡ shifts n (bit_xor r b)
 unfolding shifts low_bits
 shift_low_bits zero r b h = let none : b ≡ 0 = omega arith in sym (ap (bit_xor r) none ∙ xor_zero_r r)
@@ -131,8 +132,8 @@ with-cons r b bs = fold-append shift_in r (bits b) (flat_map bits bs) ∙ ap (λ
 with-zero : (r : ℕ) (bs : List ℕ) → register_with r (0 ∷ bs) ≡ register_with (shifts 8 r) bs
 with-zero r bs = with-cons r 0 bs ∙ ap (λ n. register_with (shifts 8 n) bs) (xor_zero_r r)
 
--- of two parts of a register one goes on alone
-with-xor : (bs : List ℕ) (a b : ℕ) → register_with (bit_xor a b) bs ≡ bit_xor (register_with a bs) (register_with b (replicate (length bs) 0))
+-- Of two parts of a register, one takes the bytes, and the other goes on over zeros.
+with-xor : (bs : List ℕ) (a b : ℕ) → register_with (bit_xor a b) bs ≡ bit_xor (register_with a bs) (after_zeros (length bs) b)
 unfolding register_with
 with-xor [] a b = refl
 with-xor (x ∷ bs) a b =
@@ -142,7 +143,7 @@ with-xor (x ∷ bs) a b =
     ∙ with-xor bs (shifts 8 (bit_xor a n)) (shifts 8 b)
     ∙ sym (ap₂ bit_xor (with-cons a x bs) (with-zero b (replicate (length bs) 0)))
 
--- bits above those that go out
+-- Bits above those that leave only move down.
 shifts-high : (n h : ℕ) → shifts n (h * 2 ^ n) ≡ h
 unfolding shifts
 shifts-high zero h = omega arith
@@ -150,9 +151,9 @@ shifts-high (suc n) h =
     let twice : h * 2 ^ suc n ≡ h * 2 ^ n * 2 = ap (λ m. h * m) (pow-suc 2 n) ∙ sym (mul_assoc h (2 ^ n) 2) in
     ap (λ m. shifts n (shift m)) twice ∙ ap (shifts n) (shift-even (h * 2 ^ n)) ∙ shifts-high n h
 
--- A byte meets the lowest one of the register, and these go on alone; the others move down.
+-- The first byte is added to the lowest one of the register, and the sum goes on over zeros; the others move down and take the rest.
 pub first_byte : (r b : ℕ) (bs : List ℕ) → b < 256
-    → register_with r (b ∷ bs) ≡ bit_xor (register_with (bit_xor (r % 256) b) (0 ∷ replicate (length bs) 0)) (register_with (r / 256) bs)
+    → register_with r (b ∷ bs) ≡ bit_xor (after_zeros (suc (length bs)) (bit_xor (r % 256) b)) (register_with (r / 256) bs)
 first_byte r b bs h =
     let low = bit_xor (r % 256) b in
     let is_byte : b % 256 ≡ b = omega arith in
@@ -162,38 +163,38 @@ first_byte r b bs h =
     ∙ ap (λ n. register_with (shifts 8 n) bs) (ap (bit_xor r) is_byte ∙ parts)
     ∙ ap (λ n. register_with n bs) (shifts-xor 8 (r / 256 * 256) low ∙ ap (λ n. bit_xor n (shifts 8 low)) (shifts-high 8 (r / 256)))
     ∙ with-xor bs (r / 256) (shifts 8 low)
-    ∙ xor_comm (register_with (r / 256) bs) (register_with (shifts 8 low) (replicate (length bs) 0))
+    ∙ xor_comm (register_with (r / 256) bs) (after_zeros (length bs) (shifts 8 low))
     ∙ ap (λ n. bit_xor n (register_with (r / 256) bs)) (sym (with-zero low (replicate (length bs) 0)))
 
--- the same of a byte in the middle, which n more follow
+-- the same of a byte in the middle, behind which n more stand
 at_byte : (bs : List ℕ) → ((i : ℕ) → get_or bs i 0 < 256) → (i n r : ℕ) → i + suc n ≡ length bs
-    → register_with r (drop i bs) ≡ bit_xor (register_with (bit_xor (r % 256) (get_or bs i 0)) (replicate (suc n) 0)) (register_with (r / 256) (drop (suc i) bs))
+    → register_with r (drop i bs) ≡ bit_xor (after_zeros (suc n) (bit_xor (r % 256) (get_or bs i 0))) (register_with (r / 256) (drop (suc i) bs))
 at_byte bs byte i n r long =
     let rest : length (drop (suc i) bs) ≡ n = omega (arith, length-drop (suc i) bs) in
     ap (register_with r) (drop-cons bs i 0 (omega arith))
     ∙ first_byte r (get_or bs i 0) (drop (suc i) bs) (byte i)
-    ∙ ap (λ m. bit_xor (register_with (bit_xor (r % 256) (get_or bs i 0)) (0 ∷ replicate m 0)) (register_with (r / 256) (drop (suc i) bs))) rest
+    ∙ ap (λ m. bit_xor (after_zeros (suc m) (bit_xor (r % 256) (get_or bs i 0))) (register_with (r / 256) (drop (suc i) bs))) rest
 
--- where the register is used up
+-- the same where all of the register has left
 lone_byte : (bs : List ℕ) → ((i : ℕ) → get_or bs i 0 < 256) → (i n : ℕ) → i + suc n ≡ length bs
-    → register_with 0 (drop i bs) ≡ bit_xor (register_with (get_or bs i 0) (replicate (suc n) 0)) (register_with 0 (drop (suc i) bs))
+    → register_with 0 (drop i bs) ≡ bit_xor (after_zeros (suc n) (get_or bs i 0)) (register_with 0 (drop (suc i) bs))
 lone_byte bs byte i n = at_byte bs byte i n 0
 
 pub with-none : (r : ℕ) → register_with r [] ≡ r
 unfolding register_with
 with-none r = refl
 
--- Eight bytes, the first four of which meet one of the register each.
+-- eight bytes, of which the first four are added to one of the register each
 pub eight_bytes : (r : ℕ) (bs : List ℕ) → r < 4294967296 → length bs ≡ 8 → ((i : ℕ) → get_or bs i 0 < 256)
     → bit_xor (bit_xor (bit_xor (bit_xor (bit_xor (bit_xor (bit_xor
-    (register_with (bit_xor (r % 256) (get_or bs 0 0)) (replicate 8 0))
-    (register_with (bit_xor (r / 256 % 256) (get_or bs 1 0)) (replicate 7 0)))
-    (register_with (bit_xor (r / 65536 % 256) (get_or bs 2 0)) (replicate 6 0)))
-    (register_with (bit_xor (r / 16777216 % 256) (get_or bs 3 0)) (replicate 5 0)))
-    (register_with (get_or bs 4 0) (replicate 4 0)))
-    (register_with (get_or bs 5 0) (replicate 3 0)))
-    (register_with (get_or bs 6 0) (replicate 2 0)))
-    (register_with (get_or bs 7 0) (replicate 1 0)) ≡ register_with r bs
+    (after_zeros 8 (bit_xor (r % 256) (get_or bs 0 0)))
+    (after_zeros 7 (bit_xor (r / 256 % 256) (get_or bs 1 0))))
+    (after_zeros 6 (bit_xor (r / 65536 % 256) (get_or bs 2 0))))
+    (after_zeros 5 (bit_xor (r / 16777216 % 256) (get_or bs 3 0))))
+    (after_zeros 4 (get_or bs 4 0)))
+    (after_zeros 3 (get_or bs 5 0)))
+    (after_zeros 2 (get_or bs 6 0)))
+    (after_zeros 1 (get_or bs 7 0)) ≡ register_with r bs
 eight_bytes r bs small long byte =
     let two : r / 65536 ≡ r / 256 / 256 = omega arith in
     let three : r / 16777216 ≡ r / 65536 / 256 = omega arith in
@@ -207,40 +208,8 @@ eight_bytes r bs small long byte =
     let seventh = lone_byte bs byte 6 1 (omega arith) in
     let eighth = lone_byte bs byte 7 0 (omega arith) in
     let last : register_with 0 (drop 8 bs) ≡ 0 = ap (register_with 0) (drop_all 8 bs (omega arith)) ∙ with-none 0 in
-    let alone = xor_zero_r (register_with (get_or bs 7 0) (replicate 1 0)) in
+    let alone = xor_zero_r (after_zeros 1 (get_or bs 7 0)) in
     simp xor_assoc (cc)
 
-pub one_byte : (r b : ℕ) → b < 256 → register_with r (b ∷ []) ≡ bit_xor (register_with (bit_xor (r % 256) b) (0 ∷ [])) (r / 256)
-one_byte r b h = first_byte r b [] h ∙ ap (bit_xor (register_with (bit_xor (r % 256) b) (0 ∷ []))) (with-none (r / 256))
-
--- register_with of a register of the checksum
-pub after-append : (xs ys : List ℕ) → register_after (xs ++ ys) ≡ register_with (register_after xs) ys
-unfolding register_with
-after-append xs ys = with-append 4294967295 xs ys
-
--- one more byte, or one more piece
-pub byte_more : (r : ℕ) (bs : List ℕ) (i : ℕ) → i < length bs → register_with (register_with r (take i bs)) (get_or bs i 0 ∷ []) ≡ register_with r (take (i + 1) bs)
-byte_more r bs i h = sym (with-append r (take i bs) (get_or bs i 0 ∷ [])) ∙ ap (register_with r) (sym (take_more bs i 0 h))
-
-pub piece_more : (r : ℕ) (ps : List (List ℕ)) (i : ℕ) → i < length ps
-    → register_with (register_with r (concat (take i ps))) (get_or ps i []) ≡ register_with r (concat (take (i + 1) ps))
-piece_more r ps i h =
-    let piece = get_or ps i [] in
-    let one : concat (piece ∷ []) ≡ piece = append-nil piece in
-    sym (with-append r (concat (take i ps)) piece)
-    ∙ ap (λ (bs : List ℕ). register_with r (concat (take i ps) ++ bs)) (sym one)
-    ∙ ap (register_with r) (sym (concat-append (take i ps) (piece ∷ [])))
-    ∙ ap (λ (qs : List (List ℕ)). register_with r (concat qs)) (sym (take_more ps i [] h))
-
--- the pieces and what is left behind them
-uncut : (n k : ℕ) (bs : List ℕ) → concat (first_chunks n k bs) ++ drop (k * n) bs ≡ bs
-uncut n zero bs = ap (λ m. drop m bs) (zero-mul n)
-uncut n (suc k) bs =
-    let more : suc k * n ≡ n + k * n = omega (arith, suc-mul k n) in
-    append_assoc (take n bs) (concat (first_chunks n k (drop n bs))) (drop (suc k * n) bs)
-    ∙ ap (λ (cs : List ℕ). take n bs ++ (concat (first_chunks n k (drop n bs)) ++ cs)) (ap (λ m. drop m bs) more ∙ sym (drop-drop (k * n) n bs))
-    ∙ ap (λ (cs : List ℕ). take n bs ++ cs) (uncut n k (drop n bs))
-    ∙ take-append-drop n bs
-
-pub by_pieces : (r n k : ℕ) (bs : List ℕ) → register_with (register_with r (concat (first_chunks n k bs))) (drop (k * n) bs) ≡ register_with r bs
-by_pieces r n k bs = sym (with-append r (concat (first_chunks n k bs)) (drop (k * n) bs)) ∙ ap (register_with r) (uncut n k bs)
+pub one_byte : (r b : ℕ) → b < 256 → register_with r (b ∷ []) ≡ bit_xor (after_zeros 1 (bit_xor (r % 256) b)) (r / 256)
+one_byte r b h = first_byte r b [] h ∙ ap (bit_xor (after_zeros 1 (bit_xor (r % 256) b))) (with-none (r / 256))

@@ -1,8 +1,8 @@
 //! CRC-32, eight bytes at a time.
-ghost use Rattle.std.specs.Prelude.{◌≡◌, ◌+◌, ◌<◌, [], ◌∷◌, replicate};
+ghost use Rattle.std.specs.Prelude.{◌≡◌, ◌+◌, ◌<◌, [], ◌∷◌};
 ghost use Rattle.std.specs.List.{concat};
 ghost use Rattle.tv_model.specs.Checksum.{crc32};
-ghost use Rattle.tv_checksum.specs.Crc32.{register_with};
+ghost use Rattle.tv_checksum.specs.Crc32.{register_with, after_zeros};
 
 use crate::Checksum;
 use crate::tables::TABLES;
@@ -84,11 +84,11 @@ fn with_byte(register: u32, byte: u8) -> u32
     entry(0, lowest ^ byte) ^ (register >> 8)
 }
 
-// The register after that many zeros and one more, where it was no more than a byte.
+// The register after that many bytes of zeros and one more, where it was no more than a byte.
 #[inline]
 fn entry(zeros: usize, register: u8) -> u32
     requires { zeros < 8 }
-    ensures { result ≡ register_with register (replicate (zeros + 1) 0) }
+    ensures { result ≡ after_zeros (zeros + 1) register }
 {
     TABLES[zeros][usize::from(register)]
 }

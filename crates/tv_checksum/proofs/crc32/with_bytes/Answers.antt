@@ -1,6 +1,7 @@
 use Rattle.std.proofs.Common.{[], ◌∷◌, get_or, sym, ap, ◌∙◌}
 use Rattle.tv_checksum.specs.Crc32.{register_with}
-use Rattle.tv_checksum.proofs.Registers.{with-none, byte_more}
+use Rattle.tv_checksum.proofs.Registers.{with-none}
+use Rattle.tv_checksum.proofs.Pieces.{byte_more}
 use Rattle.tv_checksum.proofs.crc32.with_bytes.Goals as goal
 
 pub loop-byte-init : goal.loop-byte-init

@@ -1,6 +1,7 @@
 use Rattle.std.proofs.Common.{[], get_or, sym, ap, ◌∙◌}
 use Rattle.tv_checksum.specs.Crc32.{register_with}
-use Rattle.tv_checksum.proofs.Registers.{with-none, piece_more}
+use Rattle.tv_checksum.proofs.Registers.{with-none}
+use Rattle.tv_checksum.proofs.Pieces.{piece_more}
 use Rattle.tv_checksum.proofs.crc32.with_chunks.Goals as goal
 
 pub loop-chunk-init : goal.loop-chunk-init

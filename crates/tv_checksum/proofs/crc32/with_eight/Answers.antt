@@ -1,12 +1,12 @@
-use Rattle.std.proofs.Common.{rules, arith, ℕ, ◌≡◌, List, get_or, replicate, ap, ap₂, ◌∙◌}
+use Rattle.std.proofs.Common.{rules, arith, ℕ, ◌≡◌, List, get_or, ap, ap₂, ◌∙◌}
 use lib.Bits.{bit_xor}
-use Rattle.tv_checksum.specs.Crc32.{register_with}
+use Rattle.tv_checksum.specs.Crc32.{after_zeros}
 use Rattle.tv_checksum.proofs.Registers.{eight_bytes}
 use Rattle.tv_checksum.proofs.crc32.with_eight.Goals as goal
 
--- the place of a byte that meets one of the register
-meet : {l m : List ℕ} (n i : ℕ) (bs : List ℕ) → l ≡ m → register_with (bit_xor (get_or l i 0) (get_or bs i 0)) (replicate n 0) ≡ register_with (bit_xor (get_or m i 0) (get_or bs i 0)) (replicate n 0)
-meet n i bs = ap (λ (k : List ℕ). register_with (bit_xor (get_or k i 0) (get_or bs i 0)) (replicate n 0))
+-- a byte that is added to one of the register
+meet : {l m : List ℕ} (n i : ℕ) (bs : List ℕ) → l ≡ m → after_zeros n (bit_xor (get_or l i 0) (get_or bs i 0)) ≡ after_zeros n (bit_xor (get_or m i 0) (get_or bs i 0))
+meet n i bs = ap (λ (k : List ℕ). after_zeros n (bit_xor (get_or k i 0) (get_or bs i 0)))
 
 pub returns : goal.returns
 returns c =

@@ -1,7 +1,7 @@
 use Rattle.std.proofs.Common.{ℕ, ◌/◌, List, length, sym, ap, ap₂, ◌∙◌}
 use Rattle.std.specs.List.{concat}
 use Rattle.tv_checksum.specs.Crc32.{register_with}
-use Rattle.tv_checksum.proofs.Registers.{by_pieces, after-append}
+use Rattle.tv_checksum.proofs.Pieces.{by_pieces, after-append}
 use Rattle.tv_checksum.proofs.crc32.Crc32Checksum.update.Goals as goal
 
 pub returns : goal.returns
