@@ -153,7 +153,7 @@ shifts-high (suc n) h =
 
 -- The first byte is added to the lowest one of the register, and the sum goes on over zeros; the others move down and take the rest.
 pub first_byte : (r b : ℕ) (bs : List ℕ) → b < 256
-    → register_with r (b ∷ bs) ≡ bit_xor (after_zeros (suc (length bs)) (bit_xor (r % 256) b)) (register_with (r / 256) bs)
+    → register_with r (b ∷ bs) ≡ bit_xor (register_with (r / 256) bs) (after_zeros (suc (length bs)) (bit_xor (r % 256) b))
 first_byte r b bs h =
     let low = bit_xor (r % 256) b in
     let is_byte : b % 256 ≡ b = omega arith in
@@ -163,21 +163,20 @@ first_byte r b bs h =
     ∙ ap (λ n. register_with (shifts 8 n) bs) (ap (bit_xor r) is_byte ∙ parts)
     ∙ ap (λ n. register_with n bs) (shifts-xor 8 (r / 256 * 256) low ∙ ap (λ n. bit_xor n (shifts 8 low)) (shifts-high 8 (r / 256)))
     ∙ with-xor bs (r / 256) (shifts 8 low)
-    ∙ xor_comm (register_with (r / 256) bs) (after_zeros (length bs) (shifts 8 low))
-    ∙ ap (λ n. bit_xor n (register_with (r / 256) bs)) (sym (with-zero low (replicate (length bs) 0)))
+    ∙ ap (bit_xor (register_with (r / 256) bs)) (sym (with-zero low (replicate (length bs) 0)))
 
 -- the same of a byte in the middle, behind which n more stand
 at_byte : (bs : List ℕ) → ((i : ℕ) → get_or bs i 0 < 256) → (i n r : ℕ) → i + suc n ≡ length bs
-    → register_with r (drop i bs) ≡ bit_xor (after_zeros (suc n) (bit_xor (r % 256) (get_or bs i 0))) (register_with (r / 256) (drop (suc i) bs))
+    → register_with r (drop i bs) ≡ bit_xor (register_with (r / 256) (drop (suc i) bs)) (after_zeros (suc n) (bit_xor (r % 256) (get_or bs i 0)))
 at_byte bs byte i n r long =
     let rest : length (drop (suc i) bs) ≡ n = omega (arith, length-drop (suc i) bs) in
     ap (register_with r) (drop-cons bs i 0 (omega arith))
     ∙ first_byte r (get_or bs i 0) (drop (suc i) bs) (byte i)
-    ∙ ap (λ m. bit_xor (after_zeros (suc m) (bit_xor (r % 256) (get_or bs i 0))) (register_with (r / 256) (drop (suc i) bs))) rest
+    ∙ ap (λ m. bit_xor (register_with (r / 256) (drop (suc i) bs)) (after_zeros (suc m) (bit_xor (r % 256) (get_or bs i 0)))) rest
 
 -- the same where all of the register has left
 lone_byte : (bs : List ℕ) → ((i : ℕ) → get_or bs i 0 < 256) → (i n : ℕ) → i + suc n ≡ length bs
-    → register_with 0 (drop i bs) ≡ bit_xor (after_zeros (suc n) (get_or bs i 0)) (register_with 0 (drop (suc i) bs))
+    → register_with 0 (drop i bs) ≡ bit_xor (register_with 0 (drop (suc i) bs)) (after_zeros (suc n) (get_or bs i 0))
 lone_byte bs byte i n = at_byte bs byte i n 0
 
 pub with-none : (r : ℕ) → register_with r [] ≡ r
@@ -187,14 +186,14 @@ with-none r = refl
 -- eight bytes, of which the first four are added to one of the register each
 pub eight_bytes : (r : ℕ) (bs : List ℕ) → r < 4294967296 → length bs ≡ 8 → ((i : ℕ) → get_or bs i 0 < 256)
     → bit_xor (bit_xor (bit_xor (bit_xor (bit_xor (bit_xor (bit_xor
-    (after_zeros 8 (bit_xor (r % 256) (get_or bs 0 0)))
-    (after_zeros 7 (bit_xor (r / 256 % 256) (get_or bs 1 0))))
-    (after_zeros 6 (bit_xor (r / 65536 % 256) (get_or bs 2 0))))
-    (after_zeros 5 (bit_xor (r / 16777216 % 256) (get_or bs 3 0))))
-    (after_zeros 4 (get_or bs 4 0)))
-    (after_zeros 3 (get_or bs 5 0)))
+    (after_zeros 1 (get_or bs 7 0))
     (after_zeros 2 (get_or bs 6 0)))
-    (after_zeros 1 (get_or bs 7 0)) ≡ register_with r bs
+    (after_zeros 3 (get_or bs 5 0)))
+    (after_zeros 4 (get_or bs 4 0)))
+    (after_zeros 5 (bit_xor (r / 16777216 % 256) (get_or bs 3 0))))
+    (after_zeros 6 (bit_xor (r / 65536 % 256) (get_or bs 2 0))))
+    (after_zeros 7 (bit_xor (r / 256 % 256) (get_or bs 1 0))))
+    (after_zeros 8 (bit_xor (r % 256) (get_or bs 0 0))) ≡ register_with r bs
 eight_bytes r bs small long byte =
     let two : r / 65536 ≡ r / 256 / 256 = omega arith in
     let three : r / 16777216 ≡ r / 65536 / 256 = omega arith in
@@ -208,8 +207,7 @@ eight_bytes r bs small long byte =
     let seventh = lone_byte bs byte 6 1 (omega arith) in
     let eighth = lone_byte bs byte 7 0 (omega arith) in
     let last : register_with 0 (drop 8 bs) ≡ 0 = ap (register_with 0) (drop_all 8 bs (omega arith)) ∙ with-none 0 in
-    let alone = xor_zero_r (after_zeros 1 (get_or bs 7 0)) in
-    simp xor_assoc (cc)
+    cc
 
-pub one_byte : (r b : ℕ) → b < 256 → register_with r (b ∷ []) ≡ bit_xor (after_zeros 1 (bit_xor (r % 256) b)) (r / 256)
-one_byte r b h = first_byte r b [] h ∙ ap (bit_xor (after_zeros 1 (bit_xor (r % 256) b))) (with-none (r / 256))
+pub one_byte : (r b : ℕ) → b < 256 → register_with r (b ∷ []) ≡ bit_xor (r / 256) (after_zeros 1 (bit_xor (r % 256) b))
+one_byte r b h = first_byte r b [] h ∙ ap (λ n. bit_xor n (after_zeros 1 (bit_xor (r % 256) b))) (with-none (r / 256))

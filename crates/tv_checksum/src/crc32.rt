@@ -58,21 +58,22 @@ fn with_bytes(mut register: u32, bytes: &[u8]) -> u32
 }
 
 // The register after eight bytes. The first four are added to those of the register, and then each
-// goes on alone, since what becomes of a sum is the sum of what becomes of its parts.
+// goes on alone, since what becomes of a sum is the sum of what becomes of its parts. The look-ups
+// that wait for the register come last.
 #[inline]
 fn with_eight(register: u32, bytes: [u8; 8]) -> u32
     ensures { result ≡ register_with register bytes }
 {
     let [p, q, r, s] = register.to_le_bytes();
     let [a, b, c, d, e, f, g, h] = bytes;
-    entry(7, p ^ a)
-        ^ entry(6, q ^ b)
-        ^ entry(5, r ^ c)
-        ^ entry(4, s ^ d)
-        ^ entry(3, e)
-        ^ entry(2, f)
+    entry(0, h)
         ^ entry(1, g)
-        ^ entry(0, h)
+        ^ entry(2, f)
+        ^ entry(3, e)
+        ^ entry(4, s ^ d)
+        ^ entry(5, r ^ c)
+        ^ entry(6, q ^ b)
+        ^ entry(7, p ^ a)
 }
 
 // The register after a byte.
@@ -81,7 +82,7 @@ fn with_byte(register: u32, byte: u8) -> u32
     ensures { result ≡ register_with register (byte ∷ []) }
 {
     let [lowest, _, _, _] = register.to_le_bytes();
-    entry(0, lowest ^ byte) ^ (register >> 8)
+    (register >> 8) ^ entry(0, lowest ^ byte)
 }
 
 // The register after that many bytes of zeros and one more, where it was no more than a byte.

@@ -5,17 +5,18 @@ use Rattle.tv_checksum.proofs.Registers.{eight_bytes}
 use Rattle.tv_checksum.proofs.crc32.with_eight.Goals as goal
 
 -- a byte that is added to one of the register
-meet : {l m : List ℕ} (n i : ℕ) (bs : List ℕ) → l ≡ m → after_zeros n (bit_xor (get_or l i 0) (get_or bs i 0)) ≡ after_zeros n (bit_xor (get_or m i 0) (get_or bs i 0))
+meet : {l m : List ℕ} (n i : ℕ) (bs : List ℕ) → l ≡ m
+    → after_zeros n (bit_xor (get_or l i 0) (get_or bs i 0)) ≡ after_zeros n (bit_xor (get_or m i 0) (get_or bs i 0))
 meet n i bs = ap (λ (k : List ℕ). after_zeros n (bit_xor (get_or k i 0) (get_or bs i 0)))
 
 pub returns : goal.returns
 returns c =
     let bs = c.args.bytes in
     let low = c.to_le_bytes.ensures in
-    let first = c.entry.ensures ∙ meet 8 0 bs low in
-    let second = c.entry-2.ensures ∙ meet 7 1 bs low in
-    let third = c.entry-3.ensures ∙ meet 6 2 bs low in
-    let fourth = c.entry-4.ensures ∙ meet 5 3 bs low in
+    let fourth = c.entry-5.ensures ∙ meet 5 3 bs low in
+    let third = c.entry-6.ensures ∙ meet 6 2 bs low in
+    let second = c.entry-7.ensures ∙ meet 7 1 bs low in
+    let first = c.entry-8.ensures ∙ meet 8 0 bs low in
     ap₂ bit_xor (ap₂ bit_xor (ap₂ bit_xor (ap₂ bit_xor (ap₂ bit_xor (ap₂ bit_xor (ap₂ bit_xor
-    first second) third) fourth) c.entry-5.ensures) c.entry-6.ensures) c.entry-7.ensures) c.entry-8.ensures
+    c.entry.ensures c.entry-2.ensures) c.entry-3.ensures) c.entry-4.ensures) fourth) third) second) first
     ∙ eight_bytes c.args.register bs (omega arith) (search rules) (search rules)
