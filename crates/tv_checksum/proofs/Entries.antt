@@ -18,7 +18,7 @@ unfoldable tables : ℕ → List ℕ → List (List ℕ)
 tables zero table = []
 tables (suc n) table = let more = map next table in more ∷ tables n more
 
-computed : TABLES ≡ tables 8 (range_with_len 0 256)
+computed : TABLES ≡ tables 16 (range_with_len 0 256)
 unfolding tables next register_with
 computed = refl
 
@@ -33,9 +33,9 @@ entry-tables (suc n) (suc k) i table p q =
     ∙ ap (after_zeros (suc k)) (get_or-map next table i 0 0 q)
     ∙ sym (with-append (get_or table i 0) (0 ∷ []) (replicate (suc k) 0))
 
-pub entry_at : (k i : ℕ) → k < 8 → i < 256 → get_or (get_or TABLES k []) i 0 ≡ after_zeros (suc k) i
+pub entry_at : (k i : ℕ) → k < 16 → i < 256 → get_or (get_or TABLES k []) i 0 ≡ after_zeros (suc k) i
 entry_at k i p q =
     let same : get_or (range_with_len 0 256) i 0 ≡ i = omega (arith, get_or-range_with_len 0 256 i 0 q) in
     ap (λ (ts : List (List ℕ)). get_or (get_or ts k []) i 0) computed
-    ∙ entry-tables 8 k i (range_with_len 0 256) p q
+    ∙ entry-tables 16 k i (range_with_len 0 256) p q
     ∙ ap (after_zeros (suc k)) same

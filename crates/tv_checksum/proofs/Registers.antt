@@ -183,31 +183,48 @@ pub with-none : (r : ℕ) → register_with r [] ≡ r
 unfolding register_with
 with-none r = refl
 
--- eight bytes, of which the first four are added to one of the register each
-pub eight_bytes : (r : ℕ) (bs : List ℕ) → r < 4294967296 → length bs ≡ 8 → ((i : ℕ) → get_or bs i 0 < 256)
-    → bit_xor (bit_xor (bit_xor (bit_xor (bit_xor (bit_xor (bit_xor
-    (after_zeros 1 (get_or bs 7 0))
-    (after_zeros 2 (get_or bs 6 0)))
-    (after_zeros 3 (get_or bs 5 0)))
-    (after_zeros 4 (get_or bs 4 0)))
-    (after_zeros 5 (bit_xor (r / 16777216 % 256) (get_or bs 3 0))))
-    (after_zeros 6 (bit_xor (r / 65536 % 256) (get_or bs 2 0))))
-    (after_zeros 7 (bit_xor (r / 256 % 256) (get_or bs 1 0))))
-    (after_zeros 8 (bit_xor (r % 256) (get_or bs 0 0))) ≡ register_with r bs
-eight_bytes r bs small long byte =
-    let two : r / 65536 ≡ r / 256 / 256 = omega arith in
-    let three : r / 16777216 ≡ r / 65536 / 256 = omega arith in
+-- what n bytes from place i on make where they go on alone
+unfoldable lone : List ℕ → ℕ → ℕ → ℕ
+lone bs zero i = 0
+lone bs (suc n) i = bit_xor (lone bs n (suc i)) (after_zeros (suc n) (get_or bs i 0))
+
+lone-is : (bs : List ℕ) → ((i : ℕ) → get_or bs i 0 < 256) → (n i : ℕ) → i + n ≡ length bs → register_with 0 (drop i bs) ≡ lone bs n i
+unfolding lone
+lone-is bs byte zero i long = ap (register_with 0) (drop_all i bs (omega arith)) ∙ with-none 0
+lone-is bs byte (suc n) i long =
+    lone_byte bs byte i n long ∙ ap (λ m. bit_xor m (after_zeros (suc n) (get_or bs i 0))) (lone-is bs byte n (suc i) (omega arith))
+
+-- sixteen bytes, of which the first four are added to one of the register each
+pub sixteen_bytes : (r : ℕ) (bs : List ℕ) → r < 4294967296 → length bs ≡ 16 → ((i : ℕ) → get_or bs i 0 < 256)
+    → bit_xor (bit_xor (bit_xor (bit_xor (bit_xor (bit_xor (bit_xor (bit_xor (bit_xor (bit_xor (bit_xor (bit_xor (bit_xor (bit_xor (bit_xor
+    (after_zeros 1 (get_or bs 15 0))
+    (after_zeros 2 (get_or bs 14 0)))
+    (after_zeros 3 (get_or bs 13 0)))
+    (after_zeros 4 (get_or bs 12 0)))
+    (after_zeros 5 (get_or bs 11 0)))
+    (after_zeros 6 (get_or bs 10 0)))
+    (after_zeros 7 (get_or bs 9 0)))
+    (after_zeros 8 (get_or bs 8 0)))
+    (after_zeros 9 (get_or bs 7 0)))
+    (after_zeros 10 (get_or bs 6 0)))
+    (after_zeros 11 (get_or bs 5 0)))
+    (after_zeros 12 (get_or bs 4 0)))
+    (after_zeros 13 (bit_xor (r / 16777216 % 256) (get_or bs 3 0))))
+    (after_zeros 14 (bit_xor (r / 65536 % 256) (get_or bs 2 0))))
+    (after_zeros 15 (bit_xor (r / 256 % 256) (get_or bs 1 0))))
+    (after_zeros 16 (bit_xor (r % 256) (get_or bs 0 0))) ≡ register_with r bs
+unfolding lone
+sixteen_bytes r bs small long byte =
+    let two : r / 256 / 256 ≡ r / 65536 = omega arith in
+    let three : r / 65536 / 256 ≡ r / 16777216 = omega arith in
     let four : r / 16777216 / 256 ≡ 0 = omega arith in
-    let first = at_byte bs byte 0 7 r (omega arith) in
-    let second = at_byte bs byte 1 6 (r / 256) (omega arith) in
-    let third = at_byte bs byte 2 5 (r / 65536) (omega arith) in
-    let fourth = at_byte bs byte 3 4 (r / 16777216) (omega arith) in
-    let fifth = lone_byte bs byte 4 3 (omega arith) in
-    let sixth = lone_byte bs byte 5 2 (omega arith) in
-    let seventh = lone_byte bs byte 6 1 (omega arith) in
-    let eighth = lone_byte bs byte 7 0 (omega arith) in
-    let last : register_with 0 (drop 8 bs) ≡ 0 = ap (register_with 0) (drop_all 8 bs (omega arith)) ∙ with-none 0 in
-    cc
+    let rest = ap (λ m. register_with m (drop 4 bs)) four ∙ lone-is bs byte 12 4 (omega arith) in
+    let third = at_byte bs byte 3 12 (r / 16777216) (omega arith) ∙ ap (λ m. bit_xor m (after_zeros 13 (bit_xor (r / 16777216 % 256) (get_or bs 3 0)))) rest in
+    let second = at_byte bs byte 2 13 (r / 65536) (omega arith)
+    ∙ ap (λ m. bit_xor m (after_zeros 14 (bit_xor (r / 65536 % 256) (get_or bs 2 0)))) (ap (λ m. register_with m (drop 3 bs)) three ∙ third) in
+    let first = at_byte bs byte 1 14 (r / 256) (omega arith)
+    ∙ ap (λ m. bit_xor m (after_zeros 15 (bit_xor (r / 256 % 256) (get_or bs 1 0)))) (ap (λ m. register_with m (drop 2 bs)) two ∙ second) in
+    sym (at_byte bs byte 0 15 r (omega arith) ∙ ap (λ m. bit_xor m (after_zeros 16 (bit_xor (r % 256) (get_or bs 0 0)))) first)
 
 pub one_byte : (r b : ℕ) → b < 256 → register_with r (b ∷ []) ≡ bit_xor (r / 256) (after_zeros 1 (bit_xor (r % 256) b))
 one_byte r b h = first_byte r b [] h ∙ ap (λ n. bit_xor n (after_zeros 1 (bit_xor (r % 256) b))) (with-none (r / 256))

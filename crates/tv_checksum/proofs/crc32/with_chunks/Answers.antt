@@ -11,6 +11,6 @@ pub loop-chunk-preserved : goal.loop-chunk-preserved
 loop-chunk-preserved c =
     let chunks = c.args.chunks.now in
     let index = c.loop-chunk.chunk-index in
-    c.with_eight-register.ensures
+    c.with_sixteen-register.ensures
     ∙ ap (λ r. register_with r (get_or chunks index [])) c.loop-chunk.invariant
     ∙ piece_more c.args.register chunks index c.loop-chunk-test.true

@@ -11,6 +11,6 @@ returns c taken was =
     let front = ap (λ (ps : List (List ℕ)). register_with start (concat ps)) c.as_chunks.ensures.front in
     c.with_bytes-self.ensures
     ∙ ap₂ register_with (c.with_chunks.ensures ∙ front) c.as_chunks.ensures.back
-    ∙ by_pieces start 8 (length bytes / 8) bytes
+    ∙ by_pieces start 16 (length bytes / 16) bytes
     ∙ ap (λ r. register_with r bytes) was
     ∙ sym (after-append taken bytes)
