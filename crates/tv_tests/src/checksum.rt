@@ -22,3 +22,34 @@ fn checksums_of_known_messages(rt: HostRuntime) {
         );
     }
 }
+
+// Two steps of sixteen bytes, and one byte more.
+const MESSAGE: &[u8] = &[
+    0xC8, 0xED, 0x12, 0x37, 0x5C, 0x81, 0xA6, 0xCB, 0xF0, 0x15, 0x3A, 0x5F, 0x84, 0xA9, 0xCE, 0xF3,
+    0x18, 0x3D, 0x62, 0x87, 0xAC, 0xD1, 0xF6, 0x1B, 0x40, 0x65, 0x8A, 0xAF, 0xD4, 0xF9, 0x1E, 0x43,
+    0x68,
+];
+
+// What zlib 1.2.13 has for its first bytes, from none of them to all.
+const PREFIXES: &[u32] = &[
+    0x00000000, 0x47BDA50F, 0x9C41D17C, 0x7894E203, 0xF3CE8FDA, 0xD62A0717, 0xCBB8F3FB, 0xC7137A37,
+    0x66CE42C0, 0xF4BD1163, 0x6B908695, 0x9400C172, 0x9749B339, 0x6745690F, 0xEDD0AC39, 0xF136589E,
+    0xE1F0C430, 0xE756B7B3, 0xD8E5171D, 0x12606637, 0x19713C67, 0xDEAD8589, 0xB76C9BCE, 0xFAB73B88,
+    0xBBFE9A48, 0xDC629925, 0xA402CC84, 0x351EC046, 0x0BE1AB91, 0xD4BFBB39, 0x49B29286, 0x2C9F4669,
+    0x0995B91D, 0xF264FF87,
+];
+
+// However a message is cut around a step, its checksum is the same.
+#[test]
+fn checksums_of_pieces(rt: HostRuntime) {
+    for (len, want) in PREFIXES.iter().enumerate() {
+        for cut in 0..=len {
+            let (front, back) = MESSAGE[..len].split_at(cut);
+            assert_eq!(rt;
+                checksum_of::<Crc32>(&[front, back]),
+                *want,
+                "of {len} bytes, cut at {cut}"
+            );
+        }
+    }
+}
