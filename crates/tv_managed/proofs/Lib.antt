@@ -1,5 +1,6 @@
 pub mod Texts
 pub mod SetsOfTexts
+pub mod ListTrees
 pub mod Saves
 pub mod Removals
 pub mod Tried

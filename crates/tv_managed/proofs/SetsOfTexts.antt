@@ -13,6 +13,7 @@ use Rattle.std.proofs.lemmas.Str.{IsUtf8-string_bytes}
 use Rattle.tv_model.specs.Names.{byte_cmp, has, is_plain}
 use Rattle.tv_model.specs.Listing.{IsListed, IsListOf, list_text}
 use Rattle.tv_model.proofs.Entries.{is_by_order, sorted_put}
+use Rattle.tv_model.proofs.ListTexts.{written_is_list}
 use Rattle.tv_model.proofs.PlainNames.{both}
 use Rattle.tv_managed.specs.Managed.{AreManaged}
 
@@ -68,7 +69,7 @@ had_is keys old name b e f = ap (λ (ns : List (List ℕ)). has ns name) (sym f)
 
 -- the text of the list stands for the names
 pub list_of : (keys : List (String Global)) (names : List (List ℕ)) → map string_bytes keys ≡ names → AreManaged (map string_bytes keys) → IsListOf (list_text names) names
-list_of keys names e h = subst (λ (ns : List (List ℕ)). IsListOf (list_text ns) ns) e (record { each = are_listed keys h.plain; ordered = h.ordered; text = refl })
+list_of keys names e h = subst (λ (ns : List (List ℕ)). IsListOf (list_text ns) ns) e (written_is_list (map string_bytes keys) (are_listed keys h.plain) h.ordered)
 
 -- no names
 pub none_managed : (keys : List (String Global)) → keys ≡ [] → AreManaged (map string_bytes keys)

@@ -3,3 +3,5 @@ pub mod Writers
 pub mod Managed
 pub mod Collecting
 pub mod Frames
+pub mod ListTrees
+pub mod Wrapping

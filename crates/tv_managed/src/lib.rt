@@ -3,6 +3,7 @@
 
 mod collecting;
 mod list;
+mod list_json;
 mod managed_directory;
 mod reading;
 mod sharing;

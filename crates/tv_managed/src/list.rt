@@ -1,11 +1,16 @@
 //! The file that lists the managed files.
-ghost use Rattle.std.specs.Prelude.{◌≡◌, [], ◌∷◌, ◌++◌, IfOk, OnOk, map, string_bytes, if◌then◌else◌};
-ghost use Rattle.tv_model.specs.Listing.{list_text, quoted};
-ghost use Rattle.tv_managed.specs.Managed.{SavesNames};
+ghost use Rattle.std.specs.Prelude.{◌≡◌, [], ◌∷◌, ◌++◌, Some, IfOk, OnOk, map, option_map, string_bytes, if◌then◌else◌};
+ghost use Rattle.tv_model.specs.Names.{list_name};
+ghost use Rattle.tv_model.specs.Listing.{Lists, list_text, quoted};
+ghost use Rattle.tv_directory.specs.View.{OnlyReads};
+ghost use Rattle.tv_managed.specs.Collecting.{names_of};
+ghost use Rattle.tv_managed.specs.Managed.{AreManaged, SavesNames};
+ghost use Rattle.tv_managed.specs.Wrapping.{ListFaults};
 
+use crate::list_json::read_names;
 use std::alloc::Global;
 use std::collections::BTreeSet;
-use tv_base::{IoError, MANAGED_FILEPATH};
+use tv_base::{DataCorruption, IoError, MANAGED_FILEPATH, OpenReadError, TantivyError};
 use tv_directory::Directory;
 use tv_model::Memory;
 
@@ -51,4 +56,37 @@ pub(crate) fn save_managed_paths<D: Directory>(
     directory.atomic_write(MANAGED_FILEPATH, text.as_slice())?;
     directory.sync_directory()?;
     Ok(())
+}
+
+// What is wrong with a list that isn't one.
+fn corruption(alloc: Global) -> Result<DataCorruption, Memory>
+    ensures { IfOk result (λ why. option_map string_bytes why.filepath ≡ Some list_name) }
+{
+    let filepath = String::from_str(alloc, MANAGED_FILEPATH)?;
+    let comment = String::from_str(alloc, "not an array of file names")?;
+    Ok(DataCorruption::new(filepath, comment))
+}
+
+/// The names for which the list stands: none where there is no file of it.
+#[tactic(auto, using(crate::proofs::ListTrees::listed_managed))]
+pub(crate) fn load_managed_paths<D: Directory>(
+    alloc: Global,
+    directory: &mut D,
+) -> Result<BTreeSet<String>, TantivyError>
+    ensures names { D.told.content → IfOk result (λ names.
+        Lists ((D.view directory.old).reads list_name) (names_of names.keys)) }
+    ensures managed { IfOk result (λ names. AreManaged (names_of names.keys)) }
+    ensures faults { ListFaults D.told (D.view directory.old) (D.view directory.new) result }
+    ensures frame { OnlyReads D.told (D.view directory.old) (D.view directory.new) }
+{
+    match directory.atomic_read(MANAGED_FILEPATH) {
+        Ok(bytes) => match read_names(alloc, bytes.as_slice())? {
+            Some(names) => Ok(names),
+            None => Err(TantivyError::DataCorruption(corruption(alloc)?)),
+        },
+        Err(OpenReadError::FileDoesNotExist(_)) => Ok(BTreeSet::new(alloc)),
+        Err(OpenReadError::IoError { io_error, .. }) => Err(TantivyError::IoError(io_error)),
+        Err(OpenReadError::Memory) => Err(TantivyError::Memory),
+        Err(OpenReadError::IncompatibleIndex(_)) => unreachable!(),
+    }
 }

@@ -1,5 +1,5 @@
 //! A directory that writes down the name of each file before it makes the file.
-ghost use Rattle.std.specs.Prelude.{List, ℕ, ◌≡◌, ◌≢◌, ◌<◌, ◌+◌, ◌^◌, [], ◌∷◌, true, length, Some, None, is_some, IfOk, IfErr, OnOk, OnErr, IsOkAnd, map, string_bytes};
+ghost use Rattle.std.specs.Prelude.{List, ℕ, ◌≡◌, ◌≢◌, ◌<◌, ◌+◌, ◌^◌, [], ◌∷◌, true, length, Some, None, is_some, IfOk, IfErr, OnOk, OnErr, map, string_bytes};
 ghost use Rattle.std.specs.List.{list_all};
 ghost use Rattle.std.specs.BTreeSet.{insert_key};
 ghost use Rattle.tv_model.specs.Names.{byte_cmp, is_file_name, is_plain, is_undotted, list_name};
@@ -14,8 +14,9 @@ ghost use Rattle.tv_directory.specs.Device.{IsSilent};
 ghost use Rattle.tv_managed.specs.Writers.{HandsOn, IsNewManaged, IsSummed};
 ghost use Rattle.tv_managed.specs.Managed.{HasListed, OnlySaves, Registers, KeepsList, Creates, GivesFile, SealsBody};
 ghost use Rattle.tv_managed.specs.Frames.{KeepsNames, MakeFaults, OnlyAsks};
+ghost use Rattle.tv_managed.specs.Wrapping.{NotWrapped, Wraps};
 
-use crate::list::save_managed_paths;
+use crate::list::{load_managed_paths, save_managed_paths};
 use crate::writer::ManagedWriter;
 use std::alloc::Global;
 use std::collections::BTreeSet;
@@ -72,16 +73,22 @@ fn footer_bytes(alloc: Global, checksum: Crc32) -> Result<Vec<u8>, Memory>
 }
 
 impl<D: Directory> ManagedDirectory<D> {
-    /// A directory in which no file is listed yet.
+    /// A directory that manages the names for which its list stands, none where it has no list.
+    /// `DataCorruption` comes where the file of the list is none. A refusal gives the directory back.
     pub fn wrap(alloc: Global, directory: D) -> Result<ManagedDirectory<D>, Refused<D>>
-        requires { D.told.content → (D.view directory).reads list_name ≡ None }
-        ensures { IsOkAnd result (λ managed. managed ≡ (directory, [])) }
+        ensures wraps { IfOk result (Wraps D.Directory directory) }
+        ensures refused { IfErr result (λ refused.
+            NotWrapped D.Directory directory refused.directory refused.error) }
     {
-        Ok(ManagedDirectory {
-            alloc,
-            directory,
-            managed: BTreeSet::new(alloc),
-        })
+        let mut directory = directory;
+        match load_managed_paths(alloc, &mut directory) {
+            Ok(managed) => Ok(ManagedDirectory {
+                alloc,
+                directory,
+                managed,
+            }),
+            Err(error) => Err(Refused { error, directory }),
+        }
     }
 
     /// The directory. Takes no memory.

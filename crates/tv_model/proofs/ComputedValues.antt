@@ -1,5 +1,5 @@
 -- Checksums, the bytes of sealed files, names, lists and printed commits, computed.
-use Rattle.std.proofs.Common.{◌≡◌, [], refl, codes, ◌∷◌, ◌++◌, length, Some, None, false}
+use Rattle.std.proofs.Common.{◌≡◌, ℕ, List, [], refl, codes, ◌∷◌, ◌++◌, length, Some, None, false}
 use Rattle.tv_model.specs.Checksum.{crc32}
 use Rattle.std.specs.Fmt.{digits}
 use Rattle.hex.specs.Hex.{encode_with}
@@ -12,8 +12,12 @@ use Rattle.tv_model.specs.declared.segment.SegmentComponent.TheVariants.{Delete}
 use Rattle.tv_model.specs.Segments.{name_of, required_names}
 use Rattle.tv_model.specs.Listing.{list_text}
 use Rattle.uuid.specs.Text.{by_index}
-use Rattle.tv_model.specs.Commits.{printed, segment_text, settings_text, first_commit, default_settings, text_schema, payload_text}
+use Rattle.tv_model.specs.Commits.{printed, segment_text, settings_text, first_commit, default_settings, payload_text}
 use Rattle.tv_model.specs.declared.event.Event.TheVariants as events
+
+-- a schema with one field
+abbrev text_schema : List ℕ
+text_schema = codes "[{\"name\":\"text\",\"type\":\"text\",\"options\":{\"indexing\":{\"record\":\"position\",\"fieldnorms\":true,\"tokenizer\":\"default\"},\"stored\":false,\"fast\":false}}]"
 
 -- of no bytes
 pub empty_crc : crc32 [] ≡ 0

@@ -28,7 +28,9 @@ pub first_opens : (schema : List ℕ) → OpensTo default_settings schema (λ n.
 first_opens schema = record {
   listed = [];
   listing = refl;
-  opened = (refl, refl, refl);
+  covered = λ some. absurd (true≢false (sym some));
+  found = (refl, refl);
+  managed = refl;
   live = refl;
   next = refl;
   reading = refl;

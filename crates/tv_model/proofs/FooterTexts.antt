@@ -39,7 +39,7 @@ unfolding json_on_literals
 printed a b c d e = refl
 
 -- a text with these tokens reads as their tree
-read_of_tokens : (text : List ℕ) (j : json.Json) → tokens text ≡ json_tokens j → depth j ≤ 127 → read text ≡ of_json j
+pub read_of_tokens : (text : List ℕ) (j : json.Json) → tokens text ≡ json_tokens j → depth j ≤ 127 → read text ≡ of_json j
 read_of_tokens text j is shallow =
     ap (λ o. option_and_then of_json (option_and_then (λ p. json.if_last p.0 p.1) o))
     (ap (json.value 127) (is ∙ sym (append-nil (json_tokens j))) ∙ value-json_tokens j 127 [] shallow)

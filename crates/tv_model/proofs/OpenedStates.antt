@@ -11,11 +11,13 @@ use Rattle.tv_model.specs.Segments.{all_required}
 use Rattle.tv_model.specs.Commits.{Commit, Settings, IsSegment}
 use Rattle.tv_model.specs.CommitEvents.{is_sealed, last_stamp}
 use Rattle.tv_model.specs.State.{State, FileState, Sealed, file_at}
-use Rattle.tv_model.specs.Index.{HasFiles, IsSoundMeta, IsSoundImage, OpensWith, OpensTo, next_after}
+use Rattle.tv_model.specs.Index.{HasFiles, IsSoundMeta, IsSoundImage, FindsCommit, managed_with, OpensTo, next_after}
 use Rattle.tv_model.specs.SoundStates.{AreGood, AreWithin, IsSoundState}
 use Rattle.tv_model.proofs.Entries.{has_inserted, has_kept}
 use Rattle.tv_model.proofs.Required.{required_is_file}
-use Rattle.tv_model.proofs.PrintedTexts.{lists_one, segments_one}
+use Rattle.tv_model.proofs.OneMeaning.{means_one}
+use Rattle.tv_model.proofs.ListTexts.{lists_one}
+use Rattle.tv_model.proofs.SpelledCommits.{means_commit}
 
 -- what is known of the commit and of the managed names, whether there is a `meta.json` or not
 record Starts (reads : Reads) (listed : List (List ℕ)) (s : State) : Type 0 where
@@ -26,22 +28,23 @@ record Starts (reads : Reads) (listed : List (List ℕ)) (s : State) : Type 0 wh
   kept : (n : List ℕ) → has listed n ≡ true → has s.managed n ≡ true
 
 starts : (settings : Settings) (schema : List ℕ) (reads : Reads) (listed : List (List ℕ)) (s : State) (read : Option (List ℕ)) → (IsSome read → has listed meta_name ≡ true)
-    → OpensWith settings schema read listed s → IsSoundMeta schema reads read → Starts reads listed s
-starts settings schema reads listed s None there o sound = record {
+    → FindsCommit schema read settings s.catalog.commit → s.managed ≡ managed_with read listed → IsSoundMeta schema reads read → Starts reads listed s
+starts settings schema reads listed s None there o managed sound = record {
   files = record { each = λ n is. absurd (true≢false (sym is ∙ ap (λ (c : Commit). has (all_required c.segments) n) o.1)) };
   segments = subst (λ (c : Commit). AllByRecursion IsSegment c.segments) (sym o.1) tt;
   opstamp = omega (arith, ap (λ (c : Commit). c.opstamp) o.1);
-  meta = rw o.2 (has_inserted listed meta_name);
-  kept = λ n h. rw o.2 (has_kept listed meta_name n h);
+  meta = rw managed (has_inserted listed meta_name);
+  kept = λ n h. rw managed (has_kept listed meta_name n h);
 }
-starts settings schema reads listed s (Some text) there o sound =
-    let same : s.catalog.commit.segments ≡ sound.1.segments = segments_one settings sound.0 schema text s.catalog.commit sound.1 o.0 sound.2 in
+starts settings schema reads listed s (Some text) there o managed sound =
+    let same : s.catalog.commit ≡ sound.1 = (means_one settings sound.0 schema text s.catalog.commit sound.1 o sound.2).1 in
+    let commit = means_commit settings schema text s.catalog.commit o in
     record {
-      files = record { each = λ n is. sound.3.each n (subst (λ (segments : List (List ℕ × LiveSegment)). has (all_required segments) n ≡ true) same is) };
-      segments = o.0.is_commit.segments;
-      opstamp = o.0.is_commit.opstamp;
-      meta = rw o.1 (there refl);
-      kept = λ n h. rw o.1 h;
+      files = subst (HasFiles reads) (sym same) sound.3;
+      segments = commit.segments;
+      opstamp = commit.opstamp;
+      meta = rw managed (there refl);
+      kept = λ n h. rw managed h;
     }
 
 there_reads : (read : Option (List ℕ)) → is_some (option_map Sealed read) ≡ true → is_some read ≡ true
@@ -68,7 +71,7 @@ pub opens_sound : (settings : Settings) (schema : List ℕ) (reads : Reads) (s :
 opens_sound settings schema reads s sound o =
     let names : sound.names ≡ o.listed = lists_one (reads list_name) sound.names o.listed sound.listing o.listing in
     let on_list : (n : List ℕ) → has sound.names n ≡ true → has o.listed n ≡ true = λ n h. subst (λ (ns : List (List ℕ)). has ns n ≡ true) names h in
-    let start = starts settings schema reads o.listed s (reads meta_name) (λ some. on_list meta_name (sound.listed meta_name refl some)) o.opened sound.commit in
+    let start = starts settings schema reads o.listed s (reads meta_name) o.covered o.found o.managed sound.commit in
     let read : (n : List ℕ) → has (all_required s.catalog.commit.segments) n ≡ true → (bytes : List ℕ) × (file_at s n ≡ Some (Sealed bytes)) × IsGood bytes = λ n is.
     let f = start.files.each n is in
     (f.0, o.files n (required_is_file s.catalog.commit.segments n start.segments is) ∙ ap (option_map Sealed) f.1, f.2) in

@@ -1,5 +1,5 @@
 -- Commits, and what `meta.json` says.
-use Rattle.std.specs.Prelude.{ℕ, ◌≡◌, ◌≤◌, ◌<◌, ◌^◌, ◌/◌, ◌%◌, ◌+◌, ◌==◌, ◌||◌, nat_lt, Bool, true, false, List, [], ◌∷◌, ◌++◌, map, codes, Option, Some, None, IfSome, if◌then◌else◌}
+use Rattle.std.specs.Prelude.{ℕ, ◌≤◌, ◌<◌, ◌^◌, ◌/◌, ◌%◌, ◌+◌, ◌==◌, nat_lt, Bool, true, false, List, [], ◌∷◌, ◌++◌, map, codes, Option, Some, None, IfSome, if◌then◌else◌}
 use Rattle.std.specs.Fmt.{decimal}
 use Rattle.std.specs.List.{flat_map, join_with_byte, AllByRecursion}
 use Rattle.std.specs.List.Sorted.{IsStrictlySortedBy}
@@ -7,7 +7,7 @@ use Rattle.std.specs.Str.{IsUtf8}
 use Rattle.uuid.specs.Text.{hyphenated_text, lower}
 use Rattle.tv_model.specs.declared.segment.DeleteMeta.{DeleteMeta}
 use Rattle.tv_model.specs.declared.segment.LiveSegment.{LiveSegment}
-use Rattle.tv_model.specs.Names.{byte_cmp, is}
+use Rattle.tv_model.specs.Names.{byte_cmp}
 use Rattle.tv_model.specs.Ids.{IsId}
 use Rattle.tv_model.specs.Segments.{num_deleted, delete_opstamp}
 
@@ -103,22 +103,3 @@ printed settings schema commit =
     ++ codes ",\"opstamp\":" ++ decimal commit.opstamp
     ++ payload_text commit.payload
     ++ codes "}"
-
--- The bytes mean this commit under these settings and this schema. (So far only as they are printed here, with a line feed; other spellings of the JSON
--- will join, and then bytes may also mean a commit of another schema.)
-pub record Means (settings : Settings) (schema bytes : List ℕ) (commit : Commit) : Type 0 where
-  pub is_commit : IsCommit commit
-  pub blocksize : settings.blocksize < 2 ^ 64
-  pub text : bytes ≡ printed settings schema commit ++ 10 ∷ []
-
--- the one schema with a field that is accepted so far
-abbrev pub text_schema : List ℕ
-text_schema = codes "[{\"name\":\"text\",\"type\":\"text\",\"options\":{\"indexing\":{\"record\":\"position\",\"fieldnorms\":true,\"tokenizer\":\"default\"},\"stored\":false,\"fast\":false}}]"
-
--- the schemas that are accepted so far, byte for byte: the empty one, and the one above
-abbrev pub is_schema : List ℕ → Bool
-is_schema bytes = is bytes (codes "[]") || is bytes text_schema
-
--- the text of the schema that these bytes spell (so far the bytes themselves)
-abbrev pub IsSchema : (bytes text : List ℕ) → Type 0
-IsSchema bytes text = (is_schema bytes ≡ true) × (text ≡ bytes)

@@ -6,7 +6,9 @@ use Rattle.tv_model.specs.Files.{Reads}
 use Rattle.tv_model.specs.Footer.{IsGood}
 use Rattle.tv_model.specs.Listing.{Lists}
 use Rattle.tv_model.specs.Segments.{all_required}
-use Rattle.tv_model.specs.Commits.{Commit, Settings, IndexForm, default_settings, IsSchema, Means, first_commit}
+use Rattle.tv_model.specs.Commits.{Commit, Settings, IndexForm, default_settings, first_commit}
+use Rattle.tv_model.specs.Schemas.{IsSchema}
+use Rattle.tv_model.specs.Meaning.{Means}
 use Rattle.tv_model.specs.CommitEvents.{last_stamp}
 use Rattle.tv_model.specs.State.{Catalog, State, FileState, Sealed, Open, Left, file_at, no_readers}
 
@@ -53,16 +55,24 @@ pub record IsSoundStart (schema : List ℕ) (reads : Reads) (held : List ℕ →
 abbrev pub next_after : ℕ → ℕ
 next_after opstamp = if opstamp == last_stamp then last_stamp else opstamp + 1
 
--- the commit and the managed names with which an index opens; where there is no `meta.json`, an empty commit is made
-abbrev pub OpensWith : Settings → List ℕ → Option (List ℕ) → List (List ℕ) → State → Type 0
-OpensWith settings schema None listed s = (settings ≡ default_settings) × (s.catalog.commit ≡ first_commit) × (s.managed ≡ insert_key byte_cmp listed meta_name)
-OpensWith settings schema (Some text) listed s = Means settings schema text s.catalog.commit × (s.managed ≡ listed)
+-- the settings and the commit of the index that stands: those that `meta.json` means, or, where there is none, those of a new index
+abbrev pub FindsCommit : (schema : List ℕ) → Option (List ℕ) → Settings → Commit → Type 0
+FindsCommit schema None settings commit = (settings ≡ default_settings) × (commit ≡ first_commit)
+FindsCommit schema (Some text) settings commit = Means settings schema text commit
+
+-- the managed names of an index that was opened: those on the list, and `meta.json`, which is made where there is none
+abbrev pub managed_with : Option (List ℕ) → List (List ℕ) → List (List ℕ)
+managed_with None listed = insert_key byte_cmp listed meta_name
+managed_with (Some text) listed = listed
 
 -- a directory that reads so opens to this state
 pub record OpensTo (settings : Settings) (schema : List ℕ) (reads : Reads) (s : State) : Type 0 where
   pub listed : List (List ℕ)
   pub listing : Lists (reads list_name) listed
-  pub opened : OpensWith settings schema (reads meta_name) listed s
+  -- a `meta.json` that is there is on the list
+  pub covered : IsSome (reads meta_name) → has listed meta_name ≡ true
+  pub found : FindsCommit schema (reads meta_name) settings s.catalog.commit
+  pub managed : s.managed ≡ managed_with (reads meta_name) listed
   pub live : s.catalog.live ≡ s.catalog.commit.segments
   pub next : s.catalog.next ≡ next_after s.catalog.commit.opstamp
   pub reading : s.catalog.reading ≡ no_readers
@@ -76,12 +86,20 @@ pub record OpenedIndex (schema : List ℕ) (reads : Reads) : Type 0 where
   pub spelled : IsSchema schema form.schema
   pub opens : OpensTo form.settings form.schema reads state
 
--- no index stands in the directory
-pub record HasNoIndex (reads : Reads) : Type 0 where
-  pub listing : reads list_name ≡ None
-  pub meta : reads meta_name ≡ None
+-- the index that stands in a directory which reads so, under the schema that these bytes spell; where there is no `meta.json`, a new one
+pub record FoundIndex (schema : List ℕ) (reads : Reads) : Type 0 where
+  pub form : IndexForm
+  pub commit : Commit
+  pub listed : List (List ℕ)
+  pub spelled : IsSchema schema form.schema
+  pub listing : Lists (reads list_name) listed
+  pub found : FindsCommit form.schema (reads meta_name) form.settings commit
 
--- the catalog of an index that was just made
+-- the catalog of an index that was just opened with this commit
+abbrev pub opened_catalog : Commit → Catalog
+opened_catalog commit = record { live = commit.segments; next = next_after commit.opstamp; commit = commit; reading = no_readers }
+
+-- and of one that was just made
 abbrev pub first_catalog : Catalog
 first_catalog = record { live = []; next = 1; commit = first_commit; reading = no_readers }
 

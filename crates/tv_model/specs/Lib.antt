@@ -27,3 +27,7 @@ pub mod Readable
 pub mod Serving
 pub mod Collecting
 pub mod Telling
+pub mod JsonFields
+pub mod Schemas
+pub mod MetaJson
+pub mod Meaning

@@ -1,15 +1,17 @@
--- The list of managed files.
+-- The list of managed files: how it is written, and what any spelling of its JSON stands for.
 use Rattle.std.specs.Prelude.{ℕ, ◌≡◌, true, List, [], ◌∷◌, ◌++◌, map, Option, Some, None}
 use Rattle.std.specs.List.{join_with_byte, AllByRecursion}
 use Rattle.std.specs.List.Sorted.{IsStrictlySortedBy}
 use Rattle.std.specs.Str.{IsUtf8}
-use Rattle.tv_model.specs.Names.{is_plain, byte_cmp}
+use Rattle.serde_json.specs.Data.{string, array, Items, no_items, item}
+use Rattle.serde_json.specs.Read.{read}
+use Rattle.tv_model.specs.Names.{is_plain, byte_cmp, has}
 
 -- a name between quotation marks
 abbrev pub quoted : List ℕ → List ℕ
 quoted name = 34 ∷ name ++ 34 ∷ []
 
--- the text of the list: the names with `,` between, in brackets, and a line feed
+-- the text of the list as it is written: the names with `,` between, in brackets, and a line feed
 abbrev pub list_text : List (List ℕ) → List ℕ
 list_text names = 91 ∷ join_with_byte 44 (map quoted names) ++ 93 ∷ 10 ∷ []
 
@@ -17,11 +19,24 @@ list_text names = 91 ∷ join_with_byte 44 (map quoted names) ++ 93 ∷ 10 ∷ [
 abbrev pub IsListed : List ℕ → Type 0
 IsListed name = (is_plain name ≡ true) × IsUtf8 name
 
--- The bytes are the list of these names, which stand in their order and each once. (So far only as they are written here; other spellings of the JSON will join.)
+-- each item is the string at its place
+abbrev pub AreStrings : Items → List (List ℕ) → Type 0
+AreStrings no_items [] = Unit {0}
+AreStrings no_items (s ∷ ss) = ⊥
+AreStrings (item d ds) [] = ⊥
+AreStrings (item d ds) (s ∷ ss) = (d ≡ string s) × AreStrings ds ss
+
+-- The bytes are the list of these names, which stand in their order and each once: they spell an array of strings, which are these names, in any order, some of them
+-- perhaps several times.
 pub record IsListOf (bytes : List ℕ) (names : List (List ℕ)) : Type 0 where
-  pub each : AllByRecursion IsListed names
+  pub utf8 : IsUtf8 bytes
+  pub items : Items
+  pub parsed : read bytes ≡ Some (array items)
+  pub found : List (List ℕ)
+  pub strings : AreStrings items found
+  pub each : AllByRecursion IsListed found
+  pub same : (n : List ℕ) → has names n ≡ has found n
   pub ordered : IsStrictlySortedBy byte_cmp names
-  pub text : bytes ≡ list_text names
 
 -- what the file of the list stands for: no names where there is none
 abbrev pub Lists : Option (List ℕ) → List (List ℕ) → Type 0

@@ -1,18 +1,25 @@
 //! The ids of segments.
-ghost use Rattle.std.specs.Prelude.{◌≡◌, length, IfOk, string_bytes};
+ghost use Rattle.std.specs.Prelude.{◌≡◌, Some, None, length, take, IfOk, MatchResult, string_bytes};
 ghost use Rattle.hex.specs.Hex.{encode_lower};
-ghost use Rattle.uuid.specs.Text.{hyphenated_text, lower};
+ghost use Rattle.uuid.specs.Text.{hyphenated_text, lower, parsed};
 ghost use Rattle.tv_model.specs.Ids.{IsId};
 
 use crate::memory::Memory;
 use std::alloc::Global;
 use std::fmt;
 use std::marker::Model;
+use std::str::FromStr;
+use thiserror::Error;
 use uuid::Uuid;
 
 /// The id of a segment: sixteen bytes, by which ids are ordered. Source: RFC 9562.
-#[derive(Clone, Copy, PartialEq, Eq, PartialOrd, Ord)]
+#[derive(Clone, Copy, PartialEq, Eq, PartialOrd, Ord, Hash)]
 pub struct SegmentId(Uuid);
+
+/// A text that spells no id, and what `uuid` says of it.
+#[derive(Clone, Copy, Debug, PartialEq, Eq, Error)]
+#[error("{0}")]
+pub struct SegmentIdParseError(uuid::Error);
 
 impl Model for SegmentId {
     ghost use Rattle.std.specs.Prelude.{List, ℕ};
@@ -30,6 +37,17 @@ impl SegmentId {
         ensures { result ≡ bytes }
     {
         SegmentId(Uuid::from_bytes(bytes))
+    }
+
+    /// The id that a text spells in one of the forms of a UUID: 32 hexadecimal digits of either case,
+    /// plain or with hyphens, and these in braces or as a URN.
+    pub fn from_uuid_string(text: &str) -> Result<SegmentId, SegmentIdParseError>
+        ensures { MatchResult result (λ id. parsed text.now ≡ Some id) (λ _. parsed text.now ≡ None) }
+    {
+        match Uuid::parse_str(text) {
+            Ok(id) => Ok(SegmentId(id)),
+            Err(error) => Err(SegmentIdParseError(error)),
+        }
     }
 
     /// Its sixteen bytes.
@@ -61,6 +79,15 @@ impl SegmentId {
         Ok(text)
     }
 
+    /// The first 8 of its digits.
+    pub fn short_uuid_string(&self, alloc: Global) -> Result<String, Memory>
+        ensures { IfOk result (λ text. string_bytes text ≡ take 8 (encode_lower self.now)) }
+    {
+        let bytes: &[u8; 16] = self.0.as_bytes();
+        let text = hex::encode(alloc, &bytes[..4])?;
+        Ok(text)
+    }
+
     /// Its digits in groups of 8, 4, 4, 4 and 12, with hyphens between.
     pub fn hyphenated_string(&self, alloc: Global) -> Result<String, Memory>
         ensures { IfOk result (λ text. string_bytes text ≡ hyphenated_text lower self.now) }
@@ -68,6 +95,19 @@ impl SegmentId {
         let mut buffer = [0u8; 36];
         let text = String::from_str(alloc, self.0.hyphenated().encode_lower(&mut buffer))?;
         Ok(text)
+    }
+}
+
+impl FromStr for SegmentId {
+    type Err = SegmentIdParseError;
+
+    ghost use Rattle.std.specs.Prelude.{◌≡◌, Some, None, MatchResult};
+    ghost use Rattle.uuid.specs.Text.{parsed};
+
+    ghost from_str_gives = { λ text r. MatchResult r (λ id. parsed text ≡ Some id) (λ _. parsed text ≡ None) };
+
+    fn from_str(text: &str) -> Result<SegmentId, SegmentIdParseError> {
+        SegmentId::from_uuid_string(text)
     }
 }
 

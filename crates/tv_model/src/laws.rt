@@ -1,17 +1,24 @@
 //! Laws of the machine. Each function does nothing: its contract is the law.
-ghost use Rattle.std.specs.Prelude.{◌≡◌, Bool, List, true, ℕ};
+ghost use Rattle.std.specs.Prelude.{◌≡◌, ◌<◌, ◌^◌, ◌∷◌, ◌++◌, Bool, IsSome, IsUtf8};
+ghost use Rattle.std.specs.Prelude.{List, [], Some, true, ℕ};
 ghost use Rattle.std.specs.List.{AllByRecursion};
 ghost use Rattle.std.specs.List.Sorted.{IsStrictlySortedBy};
+ghost use Rattle.serde_json.specs.Data.{Data};
+ghost use Rattle.serde_json.specs.Read.{read};
 ghost use Rattle.tv_model.specs.declared.event.Event.{Event};
 ghost use Rattle.tv_model.specs.Collecting.{Collects, CollectsIn};
-ghost use Rattle.tv_model.specs.Commits.{Settings};
+ghost use Rattle.tv_model.specs.Commits.{Commit, IsCommit, Settings, printed};
 ghost use Rattle.tv_model.specs.Files.{Reads};
 ghost use Rattle.tv_model.specs.Footer.{HasBody, IsFramed, body_of, sealed};
 ghost use Rattle.tv_model.specs.FooterForm.{FooterNumbers};
 ghost use Rattle.tv_model.specs.Index.{IsSoundImage, OpensTo};
+ghost use Rattle.tv_model.specs.Listing.{IsListed, IsListOf, list_text};
 ghost use Rattle.tv_model.specs.Machine.{Turn, events_of, step};
+ghost use Rattle.tv_model.specs.Meaning.{Means};
+ghost use Rattle.tv_model.specs.MetaJson.{SpellsMeta};
 ghost use Rattle.tv_model.specs.Names.{byte_cmp};
 ghost use Rattle.tv_model.specs.Readable.{CanRead};
+ghost use Rattle.tv_model.specs.Schemas.{IsSchemaText, IsSchemaTree, stripped};
 ghost use Rattle.tv_model.specs.Script.{Fits};
 ghost use Rattle.tv_model.specs.Serving.{IsJustOpened, Serves, ServesAsSealed};
 ghost use Rattle.tv_model.specs.SoundStates.{IsSoundState};
@@ -27,9 +34,11 @@ pub fn searchers_keep_their_commit()
         → AllByRecursion Fits (events_of turns) → ServesAsSealed s turns }
 {}
 
-/// A sound start opens to a sound state, and each event of a script leaves a sound state sound. The
-/// files that the commit of such a state requires can be read.
+/// A sound start opens to a state, and to sound states alone. Each event of a script leaves a sound
+/// state sound. The files that the commit of such a state requires can be read.
 pub fn sound_starts_open_to_sound_states()
+    ensures exists { (schema : List ℕ) (reads : Reads) → IsSoundImage schema reads
+        → (settings : Settings) × (s : State) × OpensTo settings schema reads s }
     ensures opens { (settings : Settings) (schema : List ℕ) (reads : Reads) (s : State)
         → IsSoundImage schema reads → OpensTo settings schema reads s → IsSoundState s }
     ensures steps { (s : State) (event : Event) (outcomes : List Bool) → Fits event
@@ -66,4 +75,37 @@ pub fn files_keep_their_body()
     ensures one { (bytes : List ℕ) (first second : FooterNumbers) (body other : List ℕ)
         → IsFramed bytes first body → IsFramed bytes second other
         → (first ≡ second) × (body ≡ other) }
+{}
+
+/// What `meta.json` says. The printed form of a commit, with a line feed, means this commit. Bytes
+/// spell one commit at most, under one settings and with one schema, and what they spell is a commit.
+pub fn meta_json_keeps_commits()
+    ensures printed { (settings : Settings) (schema : List ℕ) (tree : Data) (commit : Commit)
+        → IsCommit commit → settings.blocksize < 2 ^ 64 → IsSchemaText schema tree
+        → Means settings schema (printed settings schema commit ++ 10 ∷ []) commit }
+    ensures one { (bytes : List ℕ) (first second : Settings) (commit other : Commit)
+        (tree schema : Data) → SpellsMeta bytes first commit tree
+        → SpellsMeta bytes second other schema
+        → (first ≡ second) × (commit ≡ other) × (tree ≡ schema) }
+    ensures is_commit { (bytes : List ℕ) (settings : Settings) (commit : Commit) (tree : Data)
+        → SpellsMeta bytes settings commit tree
+        → IsCommit commit × (settings.blocksize < 2 ^ 64) }
+{}
+
+/// A text without blanks that has the tree of a schema, and that is read inside an array too, is the
+/// text of a schema: it begins with its bracket.
+pub fn stripped_schemas_are_texts()
+    ensures texts { (bytes : List ℕ) (tree : Data) (names : List (List ℕ))
+        → IsUtf8 (stripped bytes) → read (stripped bytes) ≡ Some tree
+        → IsSome (read (91 ∷ stripped bytes ++ 93 ∷ [])) → IsSchemaTree tree names
+        → IsSchemaText (stripped bytes) tree }
+{}
+
+/// The list of managed names as it is written is the list of these names, and no bytes are the list of
+/// other names too.
+pub fn lists_tell_their_names()
+    ensures written { (names : List (List ℕ)) → AllByRecursion IsListed names
+        → IsStrictlySortedBy byte_cmp names → IsListOf (list_text names) names }
+    ensures one { (bytes : List ℕ) (names others : List (List ℕ)) → IsListOf bytes names
+        → IsListOf bytes others → names ≡ others }
 {}

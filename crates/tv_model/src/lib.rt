@@ -18,7 +18,7 @@ pub use answer::Answer;
 pub use blob::{Blob, IdList, Text};
 pub use event::Event;
 pub use file_name::{FileName, segment_file_name};
-pub use id::SegmentId;
+pub use id::{SegmentId, SegmentIdParseError};
 pub use memory::Memory;
 pub use reload_policy::ReloadPolicy;
 pub use segment::{DeleteMeta, LiveSegment, SegmentComponent};

@@ -22,12 +22,17 @@ use Rattle.tv_model.specs.declared.segment.LiveSegment.{LiveSegment}
 use Rattle.tv_model.specs.Names.{byte_cmp, has, list_name, meta_name}
 use Rattle.tv_model.specs.Files.{Reads, Heard, Rose, RoseBy}
 use Rattle.tv_model.specs.Listing.{Lists}
-use Rattle.tv_model.specs.Commits.{Commit, IndexForm, is_schema, default_settings, new_form, Means}
+use Rattle.tv_model.specs.Commits.{Commit, IndexForm}
+use Rattle.tv_model.specs.Meaning.{Means}
 use Rattle.tv_model.specs.Segments.{all_required, name_of}
 use Rattle.tv_model.specs.State.{Catalog, State, Reader, FileState, Sealed, Left, at, file_at, live_at, reader_at}
 use Rattle.tv_model.specs.Lines.{opening_of}
 use Rattle.tv_model.specs.Machine.{Turn, step, answers, report, after, events_of, refused_in, all_refused}
-use Rattle.tv_model.specs.Index.{FileReads, DirectoryHolds, OpensWith, OpensTo, OpenedIndex, IsSoundImage, HasNoIndex, first_state}
+use Rattle.tv_model.specs.Index.{FileReads, DirectoryHolds, FoundIndex, OpenedIndex, IsSoundImage}
+use Rattle.tv_model.specs.CommitEvents.{is_sealed}
+use Rattle.tv_model.specs.Readable.{CanRead}
+use Rattle.tv_model.proofs.SoundOpenings.{sound_index, opens_managed_sorted}
+use Rattle.tv_store.specs.OpeningCauses.{IsSomeSchema}
 use Rattle.tv_model.proofs.OpenedStates.{opens_sound}
 use Rattle.tv_model.specs.Script.{line_limit, lines_of, Fits}
 use Rattle.tv_model.specs.SoundStates.{IsWhole, IsSoundState}
@@ -98,7 +103,7 @@ fits-last : (events : List Event) (e : Event) → AllByRecursion Fits events →
 fits-last [] e all fits = (fits, tt)
 fits-last (first ∷ events) e all fits = (all.0, fits-last events e all.1 fits)
 
-turns_sound : (s : State) (turns : List Turn) → AllByRecursion Fits (events_of turns) → IsSoundState s → IsSoundState (after s turns)
+pub turns_sound : (s : State) (turns : List Turn) → AllByRecursion Fits (events_of turns) → IsSoundState s → IsSoundState (after s turns)
 turns_sound s [] all h = h
 turns_sound s (t ∷ turns) all h = turns_sound (step s t.0 t.1).1 turns all.1 (step_sound s t.0 t.1 all.0 h)
 
@@ -116,7 +121,7 @@ all_there : {K X : Type 0} (P : X → Type 0) (f : K → Bool) (entries : List (
 all_there P f [] x all e = absurd cc
 all_there P f (entry ∷ entries) x all e = either_entry P (f entry.0) entry.1 x (lookup f entries) all.0 (all_there P f entries x all.1) e
 
-mapped : {A B : Type 0} (f : A → B) (o : Option A) (b : B) → option_map f o ≡ Some b → (x : A) × (o ≡ Some x) × (f x ≡ b)
+pub mapped : {A B : Type 0} (f : A → B) (o : Option A) (b : B) → option_map f o ≡ Some b → (x : A) × (o ≡ Some x) × (f x ≡ b)
 mapped f None b e = absurd cc
 mapped f (Some x) b e = (x, refl, cc)
 
@@ -332,7 +337,7 @@ module _ (c : Causes) where
 
 -- a run's, as a replay's
 pub run_cause : {O W C : Type 0} (g : Ghosts O W C) (old new : StoreState O) (script script_now : SourceView) (tells : Type 0) (schema : List ℕ) (reads : Reads) (busy more all : Type 0) (error : TantivyError) → FailsRun g old new script script_now error
-    → is_schema schema ≡ true → (tells → HasNoIndex reads) → ((run_causes g old new script script_now).busy → busy) → ((run_causes g old new script script_now).refused → more) → ((run_causes g old new script script_now).quiet → all)
+    → IsSomeSchema schema → (tells → FoundIndex schema reads) → ((run_causes g old new script script_now).busy → busy) → ((run_causes g old new script script_now).refused → more) → ((run_causes g old new script script_now).quiet → all)
     → ReplayCause tells schema reads script.left busy more all error
 run_cause g old new script script_now tells schema reads busy more all (errors.InvalidArgument t) h is none y f q = (q h.0, inr (is, none, h.1))
 run_cause g old new script script_now tells schema reads busy more all (errors.IoError fault) h is none y f q = (is, h.0, f h.1)
@@ -367,56 +372,11 @@ directory_holds form reads kept s is h = record {
   listing = h.listing;
 }
 
-unread : (read : Option (List ℕ)) → (IsSome read → ⊥) → ◌≡◌ {A = Option FileState} None (option_map Sealed read)
-unread None none = refl
-unread (Some bytes) none = absurd (none refl)
-
-pub no_names : (read : Option (List ℕ)) (names : List (List ℕ)) → Lists read names → read ≡ None → names ≡ []
-no_names None names h e = h
-no_names (Some bytes) names h e = absurd cc
-
-unlisted : (names : List (List ℕ)) (n : List ℕ) → names ≡ [] → has names n ≡ true → ⊥
-unlisted names n none h = true≢false (sym h ∙ ap (λ (ns : List (List ℕ)). has ns n) none)
-
--- a sound directory without index opens to the first state
-pub opens_first : (schema : List ℕ) (reads : Reads) → HasNoIndex reads → IsSoundImage schema reads → OpensTo default_settings schema reads first_state
-opens_first schema reads none sound = record {
-  listed = [];
-  listing = subst (λ (r : Option (List ℕ)). Lists r []) (sym none.listing) refl;
-  opened = subst (λ (r : Option (List ℕ)). OpensWith default_settings schema r [] first_state) (sym none.meta) (refl, refl, refl);
-  live = refl;
-  next = refl;
-  reading = refl;
-  names = λ n h. absurd (true≢false (sym h));
-  files = λ n file.
-      let no : sound.names ≡ [] = no_names (reads list_name) sound.names sound.listing none.listing in
-      unread (reads n) (λ some. unlisted sound.names n no (sound.listed n file.0 some));
-}
-
-abbrev pub first_index : (schema : List ℕ) (reads : Reads) → is_schema schema ≡ true → HasNoIndex reads → IsSoundImage schema reads → OpenedIndex schema reads
-first_index schema reads accepted none sound = record { form = new_form schema; state = first_state; spelled = (accepted, refl); opens = opens_first schema reads none sound }
-
 -- ---- the whole replay
 
--- an index that is made in a directory without one has no segments, so its commit requires no files
-no_files : (segments : List (List ℕ × LiveSegment)) (n : List ℕ) → segments ≡ [] → has (all_required segments) n ≡ true → ⊥
-no_files segments n none h = true≢false (sym h ∙ ap (λ (es : List (List ℕ × LiveSegment)). has (all_required es) n) none)
-
-pub opens_whole : (schema : List ℕ) (reads : Reads) (index : OpenedIndex schema reads) → HasNoIndex reads → IsWhole index.state
-opens_whole schema reads index none =
-    let o = index.opens in
-    let opened : OpensWith index.form.settings index.form.schema None o.listed index.state = subst (λ (r : Option (List ℕ)). OpensWith index.form.settings index.form.schema r o.listed index.state) none.meta o.opened in
-    record { each = λ n h. absurd (no_files index.state.catalog.commit.segments n (ap (λ (c : Commit). c.segments) opened.1) h) }
-
--- an index that opens where none stood lists `meta.json` alone
-opens_sorted : (schema : List ℕ) (reads : Reads) (index : OpenedIndex schema reads) → HasNoIndex reads → IsStrictlySortedBy byte_cmp index.state.managed
-unfolding IsStrictlySortedBy
-opens_sorted schema reads index none =
-    let o = index.opens in
-    let opened : OpensWith index.form.settings index.form.schema None o.listed index.state = subst (λ (r : Option (List ℕ)). OpensWith index.form.settings index.form.schema r o.listed index.state) none.meta o.opened in
-    let listed : Lists None o.listed = subst (λ (r : Option (List ℕ)). Lists r o.listed) none.listing o.listing in
-    let managed : index.state.managed ≡ meta_name ∷ [] = opened.2 ∙ ap (λ (ns : List (List ℕ)). insert_key byte_cmp ns meta_name) listed in
-    subst (IsStrictlySortedBy byte_cmp) (sym managed) (tt, tt)
+-- what can be read is sealed
+pub reads_whole : (s : State) → CanRead s → IsWhole s
+reads_whole s h = record { each = λ n required. ap is_sealed (h.each n required).1 }
 
 pub replays : {O W C : Type 0} (g : Ghosts O W C) (before : O) (schema : List ℕ) (mid new : StoreState O) (now : O) (text left : Option (List ℕ)) (tally : Tally)
     → Opens g before schema mid
@@ -428,7 +388,7 @@ pub replays : {O W C : Type 0} (g : Ghosts O W C) (before : O) (schema : List �
     → Runs g mid new text left tally → Replays g before now schema text tally
 replays g before schema mid new now text left tally opened said refusals holds heard later refusals_now locked r =
     let old_reads = (g.view before).reads in
-    let whole : g.told.content → (index : OpenedIndex schema old_reads) → IsWhole index.state = λ t index. opens_whole schema old_reads index (opened.none t) in
+    let whole : g.told.content → (index : OpenedIndex schema old_reads) → IsWhole index.state = λ t index. reads_whole index.state (opened.holds t index).2 in
     let stands : g.told.content → (index : OpenedIndex schema old_reads) → DirectoryHolds index.form.settings index.form.schema (g.view now).reads (after index.state r.turns) =
     λ t index.
     let h = opened.holds t index in
@@ -436,9 +396,9 @@ replays g before schema mid new now text left tally opened said refusals holds h
     record {
       turns = r.turns;
       counted = r.counted;
-      accepted = opened.spelled.0;
+      spelled = (mid.kept.form.schema, opened.spelled);
       lines = λ whole told. (r.lines whole told).0;
-      none = opened.none;
+      found = opened.found;
       told = λ t th index.
           let h = (opened.holds t index).1 in
           let first : TellsLine (g.view before).heard (g.view mid.outside).heard (g.view before).moment (g.view mid.outside).moment (opening_of index.state.catalog.commit) =
@@ -450,18 +410,21 @@ replays g before schema mid new now text left tally opened said refusals holds h
       readable = λ t index. r.applied.readable t index.state (opened.holds t index).1 (whole t index);
       unlocked = λ t locks held index. r.applied.unlocked t locks (locked locks held) index.state (opened.holds t index).1 (whole t index);
       serves = λ t index. serves index.state r.turns index.opens.reading index.opens.next;
-      collects = λ t index. collects_in index.state r.turns (opens_sorted schema old_reads index (opened.none t));
+      collects = λ t index. collects_in index.state r.turns (opens_managed_sorted index.form.settings index.form.schema old_reads index.state index.opens);
       refused =
           subst (λ (n : ℕ). RoseBy (all_refused r.turns) n (g.view now).refusals) refusals
           (subst (λ (n : ℕ). RoseBy (all_refused r.turns) (g.view mid.outside).refusals n) (sym refusals_now) r.applied.refused);
-      opens = λ t sound. first_index schema old_reads opened.spelled.0 (opened.none t) sound;
-      as_sealed = λ t sound index.
-          let as_text : IsSoundImage index.form.schema old_reads = subst (λ (x : List ℕ). IsSoundImage x old_reads) (sym index.spelled.1) sound in
+      opens = λ t text spelled sound. sound_index schema text old_reads spelled sound;
+      as_sealed = λ t text spelled sound index.
+          let as_text : IsSoundImage index.form.schema old_reads = subst (λ (x : List ℕ). IsSoundImage x old_reads) (spelled.text_is ∙ sym index.spelled.text_is) sound in
           serves_as_sealed index.state r.turns (opens_sound index.form.settings index.form.schema old_reads index.state as_text index.opens) r.applied.fits;
-      sound = λ t sound.
-          let index = first_index schema old_reads opened.spelled.0 (opened.none t) sound in
-          holds_sound default_settings schema (g.view now).reads (after first_state r.turns) (stands t index)
-          (turns_sound first_state r.turns r.applied.fits first_sound);
+      sound = λ t text spelled sound.
+          let index = sound_index schema text old_reads spelled sound in
+          let same : text ≡ index.form.schema = spelled.text_is ∙ sym index.spelled.text_is in
+          let as_text : IsSoundImage index.form.schema old_reads = subst (λ (x : List ℕ). IsSoundImage x old_reads) same sound in
+          let start = opens_sound index.form.settings index.form.schema old_reads index.state as_text index.opens in
+          subst (λ (x : List ℕ). IsSoundImage x (g.view now).reads) (sym same)
+          (holds_sound index.form.settings index.form.schema (g.view now).reads (after index.state r.turns) (stands t index) (turns_sound index.state r.turns r.applied.fits start));
     }
 
 -- what follows from two things that are true of an error

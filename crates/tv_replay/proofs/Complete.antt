@@ -1,7 +1,7 @@
 -- A replay that is ready stops only for want of memory, or where a device refused a call.
 use Rattle.std.proofs.Common.{◌≡◌, ◌≢◌, ◌⊎◌, inl, inr, ℕ, ◌+◌, ◌≤◌, Bool, cond, true, false, true≢false, List, [], ◌∷◌, ◌++◌, length, length-append, Option, Some, None, refl, sym, ap, subst, ◌∙◌, arith}
 use Rattle.std.specs.Prelude.{IsSome, string_bytes}
-use Rattle.std.specs.List.{onto_first}
+use Rattle.std.specs.List.{onto_first, AllByRecursion}
 use Rattle.tv_base.specs.declared.open_errors.OpenReadError.{OpenReadError}
 use Rattle.tv_base.specs.declared.open_errors.OpenReadError.TheVariants as read
 use Rattle.tv_base.specs.declared.open_errors.OpenWriteError.{OpenWriteError}
@@ -10,26 +10,42 @@ use Rattle.tv_base.specs.declared.error.TantivyError.{TantivyError}
 use Rattle.tv_base.specs.declared.open_errors.LockError.TheVariants as lock
 use Rattle.tv_base.specs.declared.error.TantivyError.TheVariants as errors
 use Rattle.tv_model.specs.declared.event.Event.{Event}
-use Rattle.tv_model.specs.Footer.{IsGood}
+use Rattle.tv_model.specs.declared.event.Event.TheVariants as events
+use Rattle.tv_model.specs.Footer.{IsGood, HasBody}
 use Rattle.tv_directory.specs.Locks.{Locks}
-use Rattle.tv_model.specs.State.{Sealed, file_at}
-use Rattle.tv_model.specs.Machine.{Turn, after, report}
-use Rattle.tv_model.proofs.WholeStates.{sealed_since}
+use Rattle.tv_model.specs.State.{State, FileState, Reader, Sealed, file_at, reader_at}
+use Rattle.tv_model.specs.Machine.{Turn, after, events_of, report}
+use Rattle.tv_model.specs.Readable.{read_by}
+use Rattle.tv_model.specs.Names.{has, meta_name}
+use Rattle.tv_model.specs.Segments.{all_required}
+use Rattle.tv_model.specs.SoundStates.{IsSoundState}
+use Rattle.tv_model.proofs.Entries.{is_itself}
+use Rattle.tv_model.proofs.OneMeaning.{means_one, one_meaning}
+use Rattle.tv_model.proofs.OpenedStates.{opens_sound}
+use Rattle.tv_model.proofs.SoundOpenings.{sound_index}
+use Rattle.tv_model.proofs.SoundStates.{sound_reads}
 use Rattle.tv_model.specs.Files.{Reads}
-use Rattle.tv_model.specs.Commits.{is_schema}
-use Rattle.tv_model.specs.Index.{HasNoIndex, OpenedIndex, first_state}
-use Rattle.tv_model.specs.Script.{line_limit, lines_of, IsLine, AreLines}
+use Rattle.serde_json.specs.Data.{Data}
+use Rattle.serde_json.specs.Read as json
+use Rattle.tv_base.specs.declared.error.DataCorruption.{DataCorruption}
+use Rattle.tv_model.specs.Commits.{Commit, Settings}
+use Rattle.tv_model.specs.Meaning.{Means, MeansOther, MeansNothing}
+use Rattle.tv_model.specs.Schemas.{IsSchema}
+use Rattle.tv_model.specs.Index.{FindsCommit, FoundIndex, HasFiles, IsSoundImage, IsSoundMeta, OpenedIndex}
+use Rattle.tv_model.specs.Script.{line_limit, lines_of, Fits, IsLine, AreLines}
 use Rattle.tv_replay.specs.ScriptLines.{IsNoEvent, IsTooLong}
-use Rattle.tv_store.specs.StoreCauses.{WriteFault, HasIndex, OpeningRefusal}
+use Rattle.tv_index.specs.Opening.{OfBytes, OpenCause}
+use Rattle.tv_store.specs.StoreCauses.{WriteFault, writer_lock_name}
+use Rattle.tv_store.specs.OpeningCauses.{IndexMissing, IndexRefused, IsFirstBad, OpeningCause}
 use Rattle.tv_store.specs.ReadCauses.{ReadFault}
 use Rattle.tv_managed.specs.Collecting.{meta_lock_name}
 use Rattle.tv_directory.specs.declared.directory.Directory.{Ghosts}
 use Rattle.tv_base.specs.Streams.{SourceView}
 use Rattle.tv_store.specs.Applying.{MeetsBadAt}
-use Rattle.tv_replay.specs.Replays.{ReplayCause, RefusesOpening, StopsAt, StopsFor, StopsReplay, StopsAtLine, LineRefusal}
+use Rattle.tv_replay.specs.Replays.{ReplayCause, RefusesOpening, StopsAt, StopsFor, StopsReplay, StopsRunning, StopsAtLine, LineRefusal}
 use Rattle.tv_replay.specs.Completeness.{IsScript, IsReady}
 use Rattle.tv_replay.proofs.Progress.{AreLines-length}
-use Rattle.tv_replay.proofs.AppliedEvents.{first_index}
+use Rattle.tv_replay.proofs.AppliedEvents.{mapped, turns_sound}
 
 -- the event whose line stands after some others
 event_there : (texts : List (List ℕ)) (text : List ℕ) (more : List (List ℕ)) (events : List Event) → AreLines (texts ++ text ∷ more) events → (event : Event) × IsLine text event
@@ -69,14 +85,6 @@ no_more_lines whole rest valid stops some =
     let events : length (lines_of whole) ≡ length valid.0 = AreLines-length (lines_of whole) valid.0 valid.1 in
     omega (arith, stops.place, some_line rest some, valid.2)
 
-isnt_absent : {X : Type 0} (o : Option X) → o ≡ None → IsSome o → ⊥
-isnt_absent None e h = true≢false (sym h)
-isnt_absent (Some x) e h = absurd cc
-
-no_index : (reads : Reads) → HasNoIndex reads → HasIndex reads → ⊥
-no_index reads none (inl h) = isnt_absent _ none.listing h
-no_index reads none (inr h) = isnt_absent _ none.meta h
-
 no_line_refusal : (schema : List ℕ) (script : Option (List ℕ)) (reads : Reads) (held : Locks) (text : List ℕ) → IsReady schema script reads held → LineRefusal script text → ⊥
 no_line_refusal schema script reads held text ready (number, inl h) =
     let stop = h.1 ready.text ready.told in
@@ -85,27 +93,109 @@ no_line_refusal schema script reads held text ready (number, inr h) =
     let stop = h.1 ready.text ready.told in
     no_long_line ready.text number stop.0 ready.valid stop.1 stop.2
 
-no_refusal : (tells : Type 0) (schema : List ℕ) (script : Option (List ℕ)) (reads : Reads) (held : Locks) (text : List ℕ) → tells → IsReady schema script reads held
-    → OpeningRefusal tells schema reads text ⊎ ((is_schema schema ≡ true) × (tells → HasNoIndex reads) × LineRefusal script text) → ⊥
-no_refusal tells schema script reads held text t ready (inl (inl h)) = true≢false (sym ready.accepted ∙ h.0)
-no_refusal tells schema script reads held text t ready (inl (inr h)) = no_index reads ready.none (h.2 t)
-no_refusal tells schema script reads held text t ready (inr h) = no_line_refusal schema script reads held text ready (h.2)
+-- ---- the opening
 
--- in a run from an index that was just made no file is met that can't be read: those that an event reads were sealed in the run
-no_bad_file : (turns : List Turn) (event : Event) (error : OpenReadError) → MeetsBadAt (after first_state turns) event error → ⊥
-no_bad_file turns event error (commit, reads, met) = stood (sealed_since first_state turns met.path met.bytes met.sealed) where
-  stood : (file_at first_state met.path ≡ Some (Sealed met.bytes)) ⊎ IsGood met.bytes → ⊥
-  stood (inl none) = absurd cc
-  stood (inr good) = met.no_body good.body good.has_body
+has_middle : (front : List (List ℕ)) (path : List ℕ) (rest : List (List ℕ)) → has (front ++ path ∷ rest) path ≡ true
+has_middle [] path rest = rw (is_itself path) refl
+has_middle (name ∷ front) path rest = grind (arith, has_middle front path rest)
 
-no_read_fault : (refused quiet : Type 0) (script : Option (List ℕ)) (turns : List Turn) (held free : Type 0) (error : OpenReadError) → (refused → ⊥)
-    → ReadFault refused quiet (λ e. Unit {0}) (λ path. Unit {0}) error → StopsFor script first_state turns held free (errors.OpenReadError error) → ⊥
-no_read_fault refused quiet script turns held free (read.IoError fault path) f (inl h) stop = f h.1
-no_read_fault refused quiet script turns held free (read.IoError fault path) f (inr h) (inl device) = h.0 device.0
-no_read_fault refused quiet script turns held free (read.IoError fault path) f (inr h) (inr met) = no_bad_file turns met.3.0 (read.IoError fault path) met.3.3
-no_read_fault refused quiet script turns held free (read.FileDoesNotExist path) f h stop = stop.2
-no_read_fault refused quiet script turns held free (read.IncompatibleIndex why) f h stop = no_bad_file turns stop.1.0 (read.IncompatibleIndex why) stop.1.3
-no_read_fault refused quiet script turns held free other f h stop = absurd h
+some_text : {o : Option (List ℕ)} {a b : List ℕ} → o ≡ Some a → o ≡ Some b → a ≡ b
+some_text e k = let both = sym e ∙ k in cc
+
+no_text : {o : Option (List ℕ)} {a : List ℕ} → o ≡ None → o ≡ Some a → ⊥
+no_text e k = let both = sym e ∙ k in cc
+
+sealed_text : {o : Option FileState} {a b : List ℕ} → o ≡ Some (Sealed a) → o ≡ Some (Sealed b) → a ≡ b
+sealed_text e k = let both = sym e ∙ k in cc
+
+-- from a sound start the index that stands has one commit, and its files can be read
+module _ (schema form : List ℕ) (reads : Reads) (spelled : IsSchema schema form) (sound : IsSoundImage form reads) where
+  same_commit : (text : List ℕ) (read : Option (List ℕ)) (settings : Settings) (commit : Commit) → text ≡ form → FindsCommit text read settings commit → IsSoundMeta form reads read → HasFiles reads commit
+  same_commit text None settings commit is found h = record { each = λ n required. absurd (true≢false (sym required ∙ ap (λ (c : Commit). has (all_required c.segments) n) found.1)) }
+  same_commit text (Some bytes) settings commit is found h =
+      let means : Means settings form bytes commit = subst (λ (x : List ℕ). Means settings x bytes commit) is found in
+      let same : commit ≡ h.1 = (means_one settings h.0 form bytes commit h.1 means h.2).1 in
+      subst (HasFiles reads) (sym same) h.3
+
+  has_files : (index : FoundIndex schema reads) → HasFiles reads index.commit
+  has_files index = same_commit index.form.schema (reads meta_name) index.form.settings index.commit (index.spelled.text_is ∙ sym spelled.text_is) index.found sound.commit
+
+  there_good : (index : FoundIndex schema reads) (path : List ℕ) → IsFirstBad reads (all_required index.commit.segments) path → (bytes : List ℕ) × (reads path ≡ Some bytes) × IsGood bytes
+  there_good index path bad =
+      (has_files index).each path (subst (λ (names : List (List ℕ)). has names path ≡ true) (sym bad.split) (has_middle bad.front path bad.rest))
+
+  no_refused_file : (error : OpenReadError) → IndexRefused schema reads error → ⊥
+  no_refused_file error (index, met) =
+      let refused = met.2 in
+      let good = there_good index met.0 met.1 in
+      let same : refused.bytes ≡ good.0 = some_text refused.there good.1 in
+      refused.no_body good.2.body (subst (λ (bytes : List ℕ). HasBody bytes good.2.body) (sym same) good.2.has_body)
+
+  no_missing_file : (path : List ℕ) → IndexMissing schema reads path → ⊥
+  no_missing_file path (index, met) = let good = there_good index path met.0 in no_text met.1 good.1
+
+  no_damage : (tells refused quiet : Type 0) (why : DataCorruption) (text : List ℕ) → tells → OpenCause tells text reads refused quiet (errors.DataCorruption why) → ⊥
+  no_damage tells refused quiet why text t (inl h) = h.2 t sound.names sound.listing
+  no_damage tells refused quiet why text t (inr h) = meaning (reads meta_name) sound.commit (h.1.2 t) where
+    meaning : (read : Option (List ℕ)) → IsSoundMeta form reads read → OfBytes MeansNothing read → ⊥
+    meaning None m none = none
+    meaning (Some bytes) m none = none m.0 m.1 m.2.tree m.2.spelled
+
+  no_other_schema : (tells refused quiet : Type 0) (text : _) (own : List ℕ) → tells → own ≡ form → OpenCause tells own reads refused quiet (errors.SchemaError text) → ⊥
+  no_other_schema tells refused quiet text own t is h = meaning (reads meta_name) sound.commit (h.1.2 t) where
+    meaning : (read : Option (List ℕ)) → IsSoundMeta form reads read → OfBytes (MeansOther own) read → ⊥
+    meaning None m none = none
+    meaning (Some bytes) m other =
+        let one = one_meaning bytes m.0 other.settings m.1 other.commit m.2.tree other.tree m.2.spelled other.spelled in
+        other.other (ap json.read is ∙ m.2.schema_is.parsed ∙ ap (λ (d : Data). Some d) one.2)
+
+  no_opening_fault : (refused quiet busy free : Type 0) (error : OpenReadError) → (refused → ⊥) → ReadFault refused quiet (λ e. Unit {0}) (λ path. Unit {0}) error
+      → OpeningCause (Unit {0}) schema reads busy free (Unit {0}) (Unit {0}) (errors.OpenReadError error) → ⊥
+  no_opening_fault refused quiet busy free (read.IoError fault path) f (inl h) opening = f h.1
+  no_opening_fault refused quiet busy free (read.IoError fault path) f (inr h) opening = met opening.3 where
+    met : ReadFault (Unit {0}) (Unit {0}) (λ e. Unit {0} → IndexRefused schema reads e) (λ path. Unit {0} → IndexMissing schema reads path) (read.IoError fault path) → ⊥
+    met (inl device) = h.0 device.0
+    met (inr bad) = no_refused_file (read.IoError fault path) (bad.3 tt)
+  no_opening_fault refused quiet busy free (read.FileDoesNotExist path) f h opening = no_missing_file (string_bytes path) (opening.3.2 tt)
+  no_opening_fault refused quiet busy free (read.IncompatibleIndex why) f h opening = no_refused_file (read.IncompatibleIndex why) (opening.3.1 tt)
+  no_opening_fault refused quiet busy free read.Memory f h opening = h
+
+-- ---- the run
+
+prefix_fits : (turns ahead : List Turn) → AllByRecursion Fits (events_of (turns ++ ahead)) → AllByRecursion Fits (events_of turns)
+prefix_fits [] ahead h = tt
+prefix_fits (t ∷ turns) ahead h = (h.0, prefix_fits turns ahead h.1)
+
+lines_fit : (texts : List (List ℕ)) (events : List Event) → AreLines texts events → AllByRecursion Fits events
+lines_fit [] [] h = tt
+lines_fit (text ∷ texts) (event ∷ events) h = (h.0.fits, lines_fit texts events h.1)
+lines_fit [] (event ∷ events) h = absurd h
+lines_fit (text ∷ texts) [] h = absurd h
+
+-- an event that reads a commit's files reads those of the current one
+reads_current : (s : State) (event : Event) (commit : Commit) → read_by s event ≡ Some commit → s.catalog.commit ≡ commit
+reads_current s (events.Reader policy) commit e = cc
+reads_current s (events.Reload number) commit e = let found = mapped (λ (r : Reader). s.catalog.commit) (reader_at s.catalog number) commit e in found.2
+reads_current s other commit e = absurd cc
+
+-- in a sound state no file is met that can't be read
+no_bad_file : (s : State) (event : Event) (error : OpenReadError) → IsSoundState s → MeetsBadAt s event error → ⊥
+no_bad_file s event error sound (commit, reads, met) =
+    let required : has (all_required s.catalog.commit.segments) met.path ≡ true =
+    subst (λ (c : Commit). has (all_required c.segments) met.path ≡ true) (sym (reads_current s event commit reads))
+    (subst (λ (names : List (List ℕ)). has names met.path ≡ true) (sym met.split) (has_middle met.front met.path met.rest)) in
+    let good = (sound_reads s sound).each met.path required in
+    let same : met.bytes ≡ good.0 = sealed_text met.sealed good.1 in
+    met.no_body good.2.body (subst (λ (bytes : List ℕ). HasBody bytes good.2.body) (sym same) good.2.has_body)
+
+no_read_fault : (refused quiet : Type 0) (script : Option (List ℕ)) (start : State) (turns : List Turn) (held free : Type 0) (error : OpenReadError) → (refused → ⊥) → IsSoundState (after start turns)
+    → ReadFault refused quiet (λ e. Unit {0}) (λ path. Unit {0}) error → StopsFor script start turns held free (errors.OpenReadError error) → ⊥
+no_read_fault refused quiet script start turns held free (read.IoError fault path) f sound (inl h) stop = f h.1
+no_read_fault refused quiet script start turns held free (read.IoError fault path) f sound (inr h) (inl device) = h.0 device.0
+no_read_fault refused quiet script start turns held free (read.IoError fault path) f sound (inr h) (inr met) = no_bad_file (after start turns) met.3.0 (read.IoError fault path) sound met.3.3
+no_read_fault refused quiet script start turns held free (read.FileDoesNotExist path) f sound h stop = stop.2
+no_read_fault refused quiet script start turns held free (read.IncompatibleIndex why) f sound h stop = no_bad_file (after start turns) stop.1.0 (read.IncompatibleIndex why) sound stop.1.3
+no_read_fault refused quiet script start turns held free other f sound h stop = absurd h
 
 no_write_fault : (refused : Type 0) (error : OpenWriteError) → (refused → ⊥) → WriteFault refused error → ⊥
 no_write_fault refused (write.IoError fault path) f h = f h.1
@@ -113,16 +203,27 @@ no_write_fault refused other f h = h
 
 pub only_memory : {O W C : Type 0} (g : Ghosts O W C) (before now : O) (schema : List ℕ) (script script_now : SourceView) (busy refused quiet : Type 0) (error : TantivyError) → g.told.content → IsReady schema script.left (g.view before).reads (g.view before).locks → (busy → ⊥) → (refused → ⊥)
     → ReplayCause g.told.content schema (g.view before).reads script.left busy refused quiet error → StopsReplay g before now schema script script_now error → error ≡ errors.Memory
-only_memory g before now schema script script_now busy refused quiet (errors.InvalidArgument text) t ready y f h stops = absurd (no_refusal g.told.content schema script.left (g.view before).reads (g.view before).locks (string_bytes text) t ready h.1)
+only_memory g before now schema script script_now busy refused quiet (errors.InvalidArgument text) t ready y f (_, inl h) stops = absurd (h.0 ready.form ready.spelled)
+only_memory g before now schema script script_now busy refused quiet (errors.InvalidArgument text) t ready y f (_, inr h) stops =
+    absurd (no_line_refusal schema script.left (g.view before).reads (g.view before).locks (string_bytes text) ready h.2)
+only_memory g before now schema script script_now busy refused quiet (errors.DataCorruption why) t ready y f h stops =
+    absurd (no_damage schema ready.form (g.view before).reads ready.spelled ready.sound.image g.told.content refused quiet why h.0 t h.2)
+only_memory g before now schema script script_now busy refused quiet (errors.SchemaError text) t ready y f h stops =
+    absurd (no_other_schema schema ready.form (g.view before).reads ready.spelled ready.sound.image g.told.content refused quiet text h.0 t (h.1.text_is ∙ sym ready.spelled.text_is) h.2)
 only_memory g before now schema script script_now busy refused quiet (errors.IoError fault) t ready y f h stops = absurd (f h.2)
 only_memory g before now schema script script_now busy refused quiet (errors.OpenWriteError error) t ready y f h stops = absurd (no_write_fault refused error f h.2)
 only_memory g before now schema script script_now busy refused quiet (errors.OpenReadError error) t ready y f h stops = absurd (met (stops t)) where
-  met : RefusesOpening g.told schema (g.view before) (g.view now) script script_now (errors.OpenReadError error)
-      ⊎ (HasNoIndex (g.view before).reads × ((index : OpenedIndex schema (g.view before).reads) → StopsAt g.told (record { form = index.form; script = script; start = index.state; lines_of_turns = report index.state }) (g.view before) (g.view now) script_now (errors.OpenReadError error))) → ⊥
-  met (inl opening) = opening.cause
+  met : RefusesOpening g.told schema (g.view before) (g.view now) script script_now (errors.OpenReadError error) ⊎ StopsRunning g before now schema script script_now (errors.OpenReadError error) → ⊥
+  met (inl opening) = no_opening_fault schema ready.form (g.view before).reads ready.spelled ready.sound.image refused quiet (g.told.locks → (g.view before).locks writer_lock_name ≡ true) (g.told.locks → (g.view before).locks writer_lock_name ≡ false) error f h.2 opening.cause
   met (inr run) =
-      let stop = run.1 (first_index schema (g.view before).reads ready.accepted ready.none ready.sound.image) in
-      no_read_fault refused quiet script.left stop.turns (g.told.locks → (g.view before).locks meta_lock_name ≡ true) (g.told.locks → (g.view before).locks meta_lock_name ≡ false) error f h.2 stop.cause
+      let index = sound_index schema ready.form (g.view before).reads ready.spelled ready.sound.image in
+      let stop = run.stops index in
+      let begun = stop.lines ready.text ready.told in
+      let fit : AllByRecursion Fits (events_of stop.turns) = prefix_fits stop.turns stop.ahead (lines_fit begun.texts (events_of (stop.turns ++ stop.ahead)) begun.each) in
+      let as_text : IsSoundImage index.form.schema (g.view before).reads = subst (λ (x : List ℕ). IsSoundImage x (g.view before).reads) (ready.spelled.text_is ∙ sym index.spelled.text_is) ready.sound.image in
+      let start = opens_sound index.form.settings index.form.schema (g.view before).reads index.state as_text index.opens in
+      no_read_fault refused quiet script.left index.state stop.turns (g.told.locks → (g.view before).locks meta_lock_name ≡ true) (g.told.locks → (g.view before).locks meta_lock_name ≡ false) error f
+      (turns_sound index.state stop.turns fit start) h.2 stop.cause
 only_memory g before now schema script script_now busy refused quiet (errors.LockFailure lock.LockBusy text) t ready y f h stops = absurd (y h.2)
 only_memory g before now schema script script_now busy refused quiet (errors.LockFailure (lock.IoError fault) text) t ready y f h stops = absurd (f h.2.1)
 only_memory g before now schema script script_now busy refused quiet (errors.LockFailure lock.Memory text) t ready y f h stops = absurd h.2

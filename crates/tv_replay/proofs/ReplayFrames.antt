@@ -1,11 +1,16 @@
 -- What one call after the other keeps.
-use Rattle.std.proofs.Common.{◌≡◌, inl, inr, refl, ap, ◌∙◌, arith}
+use Rattle.std.proofs.Common.{◌≡◌, inl, inr, refl, sym, ap, subst, ◌∙◌, arith}
 use Rattle.tv_model.specs.Names.{meta_name}
 use Rattle.tv_model.specs.declared.event.Event.{Event}
 use Rattle.tv_model.specs.declared.event.Event.TheVariants as events
+use Rattle.tv_directory.specs.Calls.{Frees}
+use Rattle.tv_directory.specs.Locks.{TakesLock}
 use Rattle.tv_directory.specs.View.{View, Told, GoesOn}
 use Rattle.tv_directory.specs.Watch.{WatchState, MayNote, noted}
 use Rattle.tv_store.specs.Applying.{MayNoteAt}
+use Rattle.tv_store.specs.Stays.{MayNotify}
+use Rattle.tv_store.specs.StoreCauses.{writer_lock_name}
+use Rattle.tv_store.proofs.StoreLocks.{freed_again}
 use Rattle.tv_replay.specs.Replays.{ReplayFrame}
 
 pub goes_then : {W : Type 0} {told : Told} {first next last : View W} → GoesOn told first next → GoesOn told next last → GoesOn told first last
@@ -43,4 +48,15 @@ no_time told view = record {
   goes_on = record { writers = λ w h. h; ended = λ tells w o h. h; clock = omega arith };
   locks = λ tells n. refl;
   watched = inl refl;
+}
+
+-- an opening, a run, and the lock freed again
+pub run_frame : {W : Type 0} {told : Told} {before mid new now : View W} → MayNotify told before mid → (told.locks → TakesLock before.locks mid.locks writer_lock_name) → ReplayFrame told mid new → Frees told writer_lock_name new now → ReplayFrame told before now
+run_frame {W} {told} {before} {mid} {new} {now} opened took ran freed = record {
+  dotted = λ tells n dot other. freed.frame.content tells n ∙ ran.dotted tells n dot other ∙ opened.dotted tells n dot other;
+  goes_on = goes_then opened.deletes_none.goes_on (goes_then ran.goes_on freed.frame.tells_none.deletes_none.goes_on);
+  locks = λ tells.
+      freed_again before.locks before.locks mid.locks now.locks writer_lock_name (λ n. refl) (took tells)
+      (record { is_free = (freed.freed tells).is_free; others = λ n other. (freed.freed tells).others n other ∙ ran.locks tells n });
+  watched = subst (λ (w : WatchState). MayNote meta_name before.watched w) (sym freed.frame.watched) (notes_then opened.watched ran.watched);
 }

@@ -1,6 +1,7 @@
 -- What a run tells or says: no line feed stands in the lines of errors, and what each refusal leads to.
 use Rattle.std.proofs.Common.{◌≡◌, ◌≢◌, ◌⊎◌, inl, inr, ℕ, zero, suc, ◌+◌, ◌<◌, ◌/◌, ◌%◌, ◌==◌, Bool, true, false, not, nat_lt, if◌then◌else◌, ◌≤◌, List, [], ◌∷◌, ◌++◌, length, get_or, codes, refl, sym, ap, subst, ◌∙◌, arith, string_bytes, Result, Ok, Err}
-use Rattle.std.specs.Prelude.{nat_eq, map, Option, Some, IsSome}
+use Rattle.std.specs.Global.{Global}
+use Rattle.std.specs.Prelude.{nat_eq, map, option_map, String, Option, Some, None, IsSome}
 use Rattle.std.specs.Cmp.Lexicographic.{pointwise, same_text}
 use Rattle.std.specs.List.{starts_with}
 use Rattle.std.specs.Fmt.{decimal, digits, digits_onto, digit_glyph}
@@ -8,6 +9,7 @@ use Rattle.std.proofs.lemmas.Bool.{ne_eqb}
 use Rattle.tv_directory.specs.declared.directory.Directory.{Ghosts}
 use Rattle.tv_model.specs.Files.{Reads, Rose}
 use Rattle.tv_model.specs.Lines.{has_no_feed}
+use Rattle.tv_model.specs.Names.{list_name, meta_name}
 use Rattle.tv_model.proofs.NoFeeds.{no_feed_append, no_feed_name}
 use Rattle.tv_base.specs.Causes.{IoCause}
 use Rattle.tv_base.specs.Errors.{of_io, of_open_directory}
@@ -29,7 +31,7 @@ use Rattle.tv_base.specs.declared.error.TantivyError.TheVariants as errors
 use Rattle.tv_base.specs.declared.open_errors.OpenWriteError.{OpenWriteError}
 use Rattle.tv_base.specs.declared.open_errors.OpenWriteError.TheVariants as write
 use Rattle.tv_store.specs.StoreCauses.{WriteFault}
-use Rattle.tv_replay.specs.ErrorLines.{argument_line, io_line, fault_line, format_line, lock_line, read_line, write_line, error_line}
+use Rattle.tv_replay.specs.ErrorLines.{argument_line, corrupt_line, io_line, fault_line, format_line, lock_line, read_line, write_line, error_line}
 use Rattle.tv_store.specs.ReadCauses.{ReadFault}
 use Rattle.tv_replay.specs.PlaceView.{PlaceTold, PlaceView, KeepsTexts, KeepsFolders, PlaceKept, LendCause, Says, SayFaults, SaysPart}
 use Rattle.tv_replay.specs.Replays.{ReplayCause, LineRefusal, IsLockBusy, IsRefusedAt, IsQuietAt}
@@ -37,7 +39,6 @@ use Rattle.tv_replay.specs.Completeness.{IsReady}
 use Rattle.tv_replay.proofs.Complete.{only_memory}
 use Rattle.tv_replay.proofs.Stopping.{none_met}
 use Rattle.tv_replay.specs.Runs.{schema_line, folder_line, replay_words, SaysLine, OnlySays, SaysError, PlaceRefuses, AskedReplay, Scene, Reports, ReportsError, Stops, EndsReplay, IsUndisturbedRun}
-use Rattle.tv_store.specs.StoreCauses.{OpeningRefusal}
 
 -- a digit is no line feed
 glyph_no_feed : (d : ℕ) → not (digit_glyph false d == 10) ≡ true
@@ -65,10 +66,6 @@ numbered_no_feed number more h = no_feed_append (codes "line " ++ decimal number
 
 argument_no_feed : (text : List ℕ) → has_no_feed text ≡ true → has_no_feed (argument_line text) ≡ true
 argument_no_feed text h = whichever (starts_with nat_eq text (codes "line ")) (codes "error " ++ text) (codes "error argument") (no_feed_append (codes "error ") text refl h) refl
-
-opening_no_feed : (tells : Type 0) (schema : List ℕ) (reads : Reads) (text : List ℕ) → OpeningRefusal tells schema reads text → has_no_feed text ≡ true
-opening_no_feed tells schema reads text (inl (_, is)) = rw is refl
-opening_no_feed tells schema reads text (inr (_, is, _)) = rw is refl
 
 line_no_feed : (script : Option (List ℕ)) (text : List ℕ) → LineRefusal script text → has_no_feed text ≡ true
 line_no_feed script text (number, inl h) = rw h.0 (numbered_no_feed number (codes " is not of the event grammar") refl)
@@ -105,15 +102,20 @@ write_no_feed : (refused : Type 0) (error : OpenWriteError) → WriteFault refus
 write_no_feed refused (write.IoError fault path) h = io_no_feed fault.kind
 write_no_feed refused other h = absurd h
 
+corrupt_no_feed : (path : Option (String Global)) (name : List ℕ) → option_map string_bytes path ≡ Some name → has_no_feed name ≡ true → has_no_feed (corrupt_line path) ≡ true
+corrupt_no_feed None name is h = refl
+corrupt_no_feed (Some path) name is h = let same : string_bytes path ≡ name = cc in no_feed_append (codes "error corrupt ") (string_bytes path) refl (rw same h)
+
 -- no line feed stands in the line of an error that a replay answers
 pub error_no_feed : (tells : Type 0) (schema : List ℕ) (reads : Reads) (script : _) (busy refused quiet : Type 0) (error : TantivyError) → ReplayCause tells schema reads script busy refused quiet error → has_no_feed (error_line error) ≡ true
-error_no_feed tells schema reads script busy refused quiet (errors.InvalidArgument text) (_, inl opening) = argument_no_feed (string_bytes text) (opening_no_feed tells schema reads (string_bytes text) opening)
+error_no_feed tells schema reads script busy refused quiet (errors.InvalidArgument text) (_, inl (_, is)) = argument_no_feed (string_bytes text) (rw is refl)
 error_no_feed tells schema reads script busy refused quiet (errors.InvalidArgument text) (_, inr (_, _, line)) = argument_no_feed (string_bytes text) (line_no_feed script (string_bytes text) line)
 error_no_feed tells schema reads script busy refused quiet (errors.OpenReadError error) (_, _, fault) = read_no_feed refused quiet (λ e. Unit {0}) (λ path. Unit {0}) error fault
 error_no_feed tells schema reads script busy refused quiet (errors.LockFailure why text) h = lock_no_feed why
 error_no_feed tells schema reads script busy refused quiet (errors.IoError fault) h = io_no_feed fault.kind
 error_no_feed tells schema reads script busy refused quiet (errors.OpenWriteError error) (_, _, fault) = write_no_feed refused error fault
-error_no_feed tells schema reads script busy refused quiet (errors.DataCorruption why) h = absurd h
+error_no_feed tells schema reads script busy refused quiet (errors.DataCorruption why) (_, _, inl (_, is, _)) = corrupt_no_feed why.filepath list_name is refl
+error_no_feed tells schema reads script busy refused quiet (errors.DataCorruption why) (_, _, inr (_, (_, is, _))) = corrupt_no_feed why.filepath meta_name is refl
 error_no_feed tells schema reads script busy refused quiet other h = refl
 
 -- why a schema wasn't had: a device refused it, or memory was wanted

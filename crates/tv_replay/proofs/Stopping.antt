@@ -8,7 +8,8 @@ use Rattle.tv_base.specs.declared.open_errors.LockError.TheVariants as lock
 use Rattle.tv_base.specs.declared.open_errors.OpenReadError.{OpenReadError}
 use Rattle.tv_model.specs.Names.{meta_name}
 use Rattle.tv_model.specs.Files.{Reads, Heard, Rose}
-use Rattle.tv_model.specs.Commits.{IndexForm, Means}
+use Rattle.tv_model.specs.Commits.{IndexForm}
+use Rattle.tv_model.specs.Meaning.{Means}
 use Rattle.tv_model.specs.State.{State}
 use Rattle.tv_model.specs.Lines.{opening_of}
 use Rattle.tv_model.specs.declared.event.Event.{Event}
@@ -24,7 +25,9 @@ use Rattle.tv_store.specs.Kept.{StoreState, Holds}
 use Rattle.tv_store.specs.Telling.{TellsLine, TellsNoLine}
 use Rattle.tv_store.specs.Applying.{LeavesCommit, LeavesOldOrNew, MeetsBadAt}
 use Rattle.tv_store.specs.ReadCauses.{ApplyCause, IsReadError, TakesMetaLock}
-use Rattle.tv_store.specs.StoreCauses.{IsBusy, IsRefusal, OpeningCause, OpeningRefusal, writer_lock_name}
+use Rattle.tv_index.specs.Opening.{OpenCause}
+use Rattle.tv_store.specs.OpeningCauses.{IndexMissing, IndexRefused, OpeningCause}
+use Rattle.tv_store.specs.StoreCauses.{IsBusy, IsRefusal, writer_lock_name}
 use Rattle.tv_replay.specs.declared.next_event.ScriptError.{ScriptError}
 use Rattle.tv_replay.specs.declared.next_event.ScriptError.TheVariants as failed
 use Rattle.tv_replay.specs.declared.lines.LineError.TheVariants as line
@@ -33,7 +36,7 @@ use Rattle.tv_base.specs.Streams.{SourceView}
 use Rattle.tv_replay.specs.ScriptLines.{TakesNextEvent, IsNoEvent, IsTooLong, IsAhead, ReadsAhead, pending}
 use Rattle.tv_replay.proofs.LineLemmas.{pending_some}
 use Rattle.tv_replay.specs.AppliedEvents.{StopsRun, EndCause, IsErrorOf}
-use Rattle.tv_replay.specs.Replays.{BeginsWith, RunFrom, StopsFor, HearsTurns, StopsAt, TakesNoLock, IsNext, IsRefusedNext, IsLockBusy, line_refusal, long_refusal}
+use Rattle.tv_replay.specs.Replays.{BeginsWith, RunFrom, StopsFor, HearsTurns, StopsAt, TakesNoLock, IsNext, IsRefusedNext, IsLockBusy, ReplayCause, line_refusal, long_refusal}
 use Rattle.tv_replay.proofs.Progress.{after-last, events-last, HasRead, begins_next}
 use Rattle.tv_replay.proofs.AppliedEvents.{Progress, read_fault, tells_first}
 
@@ -260,18 +263,50 @@ stops_report told given form script script_now s first opened new now error form
 }
 
 -- why an opening is refused, where the directory tells its content
-pub opening_told : (tells tells_locks : Type 0) (schema : List ℕ) (reads : Reads) (held refused quiet : Type 0) (error : TantivyError) → tells → OpeningCause tells schema reads (IsBusy tells_locks held refused) refused quiet error
-    → OpeningCause (Unit {0}) schema reads (tells_locks → held) (Unit {0}) (Unit {0}) error
-opening_told tells tells_locks schema reads held refused quiet (errors.InvalidArgument text) t h = (tt, refusal h.1) where
-  refusal : OpeningRefusal tells schema reads (string_bytes text) → OpeningRefusal (Unit {0}) schema reads (string_bytes text)
-  refusal (inl r) = inl r
-  refusal (inr r) = inr (r.0, r.1, λ u. r.2 t)
-opening_told tells tells_locks schema reads held refused quiet (errors.LockFailure lock.LockBusy text) t h = (h.0, (λ u. h.1 t), h.2.told, h.3)
-opening_told tells tells_locks schema reads held refused quiet (errors.LockFailure (lock.IoError fault) text) t h = (h.0, (λ u. h.1 t), (h.2.0, tt), h.3)
-opening_told tells tells_locks schema reads held refused quiet (errors.LockFailure lock.Memory text) t h = absurd h.2
-opening_told tells tells_locks schema reads held refused quiet (errors.IoError fault) t h = (h.0, h.1, tt)
-opening_told tells tells_locks schema reads held refused quiet errors.Memory t h = tt
-opening_told tells tells_locks schema reads held refused quiet other t h = absurd h
+pub opening_told : (tells tells_locks : Type 0) (schema : List ℕ) (reads : Reads) (held free refused quiet : Type 0) (error : TantivyError) → tells
+    → OpeningCause tells schema reads (IsBusy tells_locks held refused) free refused quiet error
+    → OpeningCause (Unit {0}) schema reads (tells_locks → held) free (Unit {0}) (Unit {0}) error
+opening_told tells tells_locks schema reads held free refused quiet (errors.InvalidArgument text) t h = (tt, h.1, h.2)
+opening_told tells tells_locks schema reads held free refused quiet (errors.LockFailure lock.LockBusy text) t h = (h.0, (λ u. h.1 t), h.2.told, h.3)
+opening_told tells tells_locks schema reads held free refused quiet (errors.LockFailure (lock.IoError fault) text) t h = (h.0, (λ u. h.1 t), (h.2.0, tt), h.3)
+opening_told tells tells_locks schema reads held free refused quiet (errors.LockFailure lock.Memory text) t h = absurd h.2
+opening_told tells tells_locks schema reads held free refused quiet (errors.OpenReadError error) t h = (
+  h.0,
+  (λ u. h.1 t),
+  h.2,
+  read_fault {bad = λ e. tells → IndexRefused schema reads e} {worse = λ e. Unit {0} → IndexRefused schema reads e} {absent = λ path. tells → IndexMissing schema reads path} {gone = λ path. Unit {0} → IndexMissing schema reads path}
+      error (λ r. tt) (λ q. tt) (λ e bad u. bad t) (λ path absent u. absent t) h.3,
+)
+opening_told tells tells_locks schema reads held free refused quiet (errors.IoError fault) t h = (h.0, h.1, (h.2.0, tt))
+opening_told tells tells_locks schema reads held free refused quiet (errors.DataCorruption why) t h = (h.0, h.1, damaged h.2) where
+  damaged : OpenCause tells h.0 reads refused quiet (errors.DataCorruption why) → OpenCause (Unit {0}) h.0 reads (Unit {0}) (Unit {0}) (errors.DataCorruption why)
+  damaged (inl d) = inl (tt, d.1, λ u. d.2 t)
+  damaged (inr d) = inr ((λ u. d.0 t), (tt, d.1.1, λ u. d.1.2 t))
+opening_told tells tells_locks schema reads held free refused quiet (errors.SchemaError text) t h = (h.0, h.1, ((λ u. h.2.0 t), (tt, h.2.1.1, λ u. h.2.1.2 t)))
+opening_told tells tells_locks schema reads held free refused quiet errors.Memory t h = tt
+opening_told tells tells_locks schema reads held free refused quiet other t h = absurd h.2
+
+-- and as a replay's
+pub opening_cause : (tells : Type 0) (schema : List ℕ) (reads : Reads) (script : Option (List ℕ)) (busy free refused quiet : Type 0) {held more all : Type 0} (error : TantivyError)
+    → (busy → held) → (refused → more) → (quiet → all) → OpeningCause tells schema reads busy free refused quiet error → ReplayCause tells schema reads script held more all error
+opening_cause tells schema reads script busy free refused quiet (errors.InvalidArgument text) y f q h = (q h.0, inl (h.1, h.2))
+opening_cause tells schema reads script busy free refused quiet (errors.LockFailure lock.LockBusy text) y f q h = (h.0, h.1, y h.2, h.3)
+opening_cause tells schema reads script busy free refused quiet (errors.LockFailure (lock.IoError fault) text) y f q h = (h.0, h.1, (h.2.0, f h.2.1), h.3)
+opening_cause tells schema reads script busy free refused quiet (errors.LockFailure lock.Memory text) y f q h = absurd h.2
+opening_cause tells schema reads script busy free refused quiet (errors.OpenReadError error) y f q h = (
+  h.0,
+  h.1,
+  read_fault {bad = λ e. tells → IndexRefused schema reads e} {worse = λ e. Unit {0}} {absent = λ path. tells → IndexMissing schema reads path} {gone = λ path. Unit {0}}
+      error f q (λ e bad. tt) (λ path absent. tt) h.3,
+)
+opening_cause tells schema reads script busy free refused quiet (errors.IoError fault) y f q h = ((h.0, h.1), h.2.0, f h.2.1)
+opening_cause tells schema reads script busy free refused quiet {held} {more} {all} (errors.DataCorruption why) y f q h = (h.0, h.1, damaged h.2) where
+  damaged : OpenCause tells h.0 reads refused quiet (errors.DataCorruption why) → OpenCause tells h.0 reads more all (errors.DataCorruption why)
+  damaged (inl d) = inl (q d.0, d.1, d.2)
+  damaged (inr d) = inr (d.0, (q d.1.0, d.1.1, d.1.2))
+opening_cause tells schema reads script busy free refused quiet (errors.SchemaError text) y f q h = (h.0, h.1, (h.2.0, (q h.2.1.0, h.2.1.1, h.2.1.2)))
+opening_cause tells schema reads script busy free refused quiet errors.Memory y f q h = q h
+opening_cause tells schema reads script busy free refused quiet other y f q h = absurd h.2
 
 -- ---- locks
 

@@ -5,8 +5,8 @@ use Rattle.tv_directory.specs.Locks.{Locks}
 use Rattle.tv_directory.specs.declared.directory.Directory.{Ghosts}
 use Rattle.tv_model.specs.declared.event.Event.{Event}
 use Rattle.tv_model.specs.Files.{Reads}
-use Rattle.tv_model.specs.Commits.{is_schema}
-use Rattle.tv_model.specs.Index.{IsSoundStart, HasNoIndex}
+use Rattle.tv_model.specs.Schemas.{IsSchema}
+use Rattle.tv_model.specs.Index.{IsSoundStart}
 use Rattle.tv_model.specs.Script.{lines_of, AreLines}
 use Rattle.tv_replay.specs.declared.replaying.Replayed.{Replayed}
 use Rattle.tv_replay.specs.Replays.{IsRefusedAt}
@@ -15,14 +15,14 @@ use Rattle.tv_replay.specs.Replays.{IsRefusedAt}
 abbrev pub IsScript : List ℕ → Type 0
 IsScript text = (events : List Event) × AreLines (lines_of text) events × (length events < 2 ^ 32)
 
--- a valid schema, a valid script, which is told, and a sound start without an index
+-- a valid schema, a valid script, which is told, and a sound start
 pub record IsReady (schema : List ℕ) (script : Option (List ℕ)) (reads : Reads) (held : Locks) : Type 0 where
-  pub accepted : is_schema schema ≡ true
+  pub form : List ℕ
+  pub spelled : IsSchema schema form
   pub text : List ℕ
   pub told : script ≡ Some text
   pub valid : IsScript text
-  pub sound : IsSoundStart schema reads held
-  pub none : HasNoIndex reads
+  pub sound : IsSoundStart form reads held
 
 -- All of that stands in a directory that tells its content and its locks, and no call but deletes is refused.
 pub record IsUndisturbed {O W C : Type 0} (g : Ghosts O W C) (before : O) (schema : List ℕ) (script script_now : SourceView) (result : Replayed O) : Type 0 where

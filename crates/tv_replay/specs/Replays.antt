@@ -4,14 +4,16 @@ use Rattle.std.specs.Fmt.{decimal}
 use Rattle.tv_model.specs.declared.event.Event.{Event}
 use Rattle.tv_model.specs.Names.{meta_name}
 use Rattle.tv_model.specs.Files.{Reads, Same, Heard, Rose, RoseBy}
-use Rattle.tv_model.specs.Commits.{IndexForm, is_schema, Means}
+use Rattle.tv_model.specs.Commits.{IndexForm}
+use Rattle.tv_model.specs.Schemas.{IsSchema, IsNoSchema}
+use Rattle.tv_model.specs.Meaning.{Means}
 use Rattle.tv_model.specs.State.{State}
 use Rattle.tv_model.specs.Machine.{Turn, step, after, report, events_of, all_refused}
 use Rattle.tv_model.specs.Readable.{AllReadGood}
 use Rattle.tv_model.specs.Serving.{Serves, ServesAsSealed}
 use Rattle.tv_model.specs.Collecting.{CollectsIn}
 use Rattle.tv_model.specs.Script.{lines_of, AreLines}
-use Rattle.tv_model.specs.Index.{DirectoryHolds, IsSoundImage, OpenedIndex, HasNoIndex}
+use Rattle.tv_model.specs.Index.{DirectoryHolds, FoundIndex, HasFiles, IsSoundImage, OpenedIndex}
 use Rattle.tv_base.specs.Causes.{IsDevice}
 use Rattle.tv_base.specs.Streams.{SourceView}
 use Rattle.tv_directory.specs.Locks.{Locks, LockCause, SameLocks}
@@ -26,8 +28,11 @@ use Rattle.tv_replay.specs.declared.replaying.Replayed.{Replayed}
 use Rattle.tv_replay.specs.declared.replaying.Tally.{Tally}
 use Rattle.tv_replay.specs.ScriptLines.{IsNoEvent, IsTooLong, IsAhead}
 use Rattle.tv_store.specs.ReadCauses.{ReadFault, TakesMetaLock}
-use Rattle.tv_store.specs.StoreCauses.{IsBusy, IsArgument, OpeningCause, OpeningRefusal, WriteFault, writer_lock_name}
-use Rattle.tv_store.specs.Applying.{MakesFirst, MeetsBadAt}
+use Rattle.tv_index.specs.Opening.{OpenCause}
+use Rattle.tv_store.specs.StoreCauses.{IsBusy, WriteFault, writer_lock_name}
+use Rattle.tv_store.specs.OpeningCauses.{IsSomeSchema, OpeningCause, schema_refusal}
+use Rattle.tv_store.specs.Making.{IsRefusedFirst, LeavesRefused}
+use Rattle.tv_store.specs.Applying.{MeetsBadAt}
 use Rattle.tv_store.specs.Stays.{KeepsDotted}
 use Rattle.tv_store.specs.Telling.{TellsLines, TellsNoLine}
 
@@ -36,16 +41,16 @@ abbrev pub TakesNoLock : State → List Turn → Type 0
 TakesNoLock s [] = Unit {0}
 TakesNoLock s (turn ∷ turns) = (TakesMetaLock s.catalog turn.0 → ⊥) × TakesNoLock (step s turn.0 turn.1).1 turns
 
--- A replay that answered Ok: the script is the lines of some events; from the state of each index to which the directory opened, the report of the machine's run
+-- A replay that answered Ok: an index stood there, or was made, whose files can be read; the script is the lines of some events; from the state of each index to which the directory opened, the report of the machine's run
 -- on these events was told, line by line, and the directory holds the run's last state; each event that reads a commit's files found that it could, and where the
 -- meta lock was held none takes it; no more deletes were refused than their count rose; and from a sound start what it reads is sound. The run's readers and
 -- searchers serve as `Serves` says, and from a sound start they show each file as it was sealed; its collections take what nothing needs, as `CollectsIn` says.
 pub record Replays {O W C : Type 0} (g : Ghosts O W C) (before now : O) (schema : List ℕ) (script : Option (List ℕ)) (tally : Tally) : Type 0 where
   pub turns : List Turn
   pub counted : tally.events ≡ length turns
-  pub accepted : is_schema schema ≡ true
+  pub spelled : IsSomeSchema schema
   pub lines : (text : List ℕ) → script ≡ Some text → AreLines (lines_of text) (events_of turns)
-  pub none : g.told.content → HasNoIndex (g.view before).reads
+  pub found : g.told.content → (index : FoundIndex schema (g.view before).reads) × HasFiles (g.view before).reads index.commit
   pub told : g.told.content → g.told.heard → (index : OpenedIndex schema (g.view before).reads) → TellsLines (g.view before).heard (g.view now).heard (g.view before).moment (g.view now).moment (report index.state turns)
   pub holds : g.told.content → (index : OpenedIndex schema (g.view before).reads) → DirectoryHolds index.form.settings index.form.schema (g.view now).reads (after index.state turns)
   pub readable : g.told.content → (index : OpenedIndex schema (g.view before).reads) → AllReadGood index.state turns
@@ -53,9 +58,9 @@ pub record Replays {O W C : Type 0} (g : Ghosts O W C) (before now : O) (schema 
   pub serves : g.told.content → (index : OpenedIndex schema (g.view before).reads) → Serves index.state turns
   pub collects : g.told.content → (index : OpenedIndex schema (g.view before).reads) → CollectsIn index.state turns
   pub refused : RoseBy (all_refused turns) (g.view before).refusals (g.view now).refusals
-  pub opens : g.told.content → IsSoundImage schema (g.view before).reads → OpenedIndex schema (g.view before).reads
-  pub as_sealed : g.told.content → IsSoundImage schema (g.view before).reads → (index : OpenedIndex schema (g.view before).reads) → ServesAsSealed index.state turns
-  pub sound : g.told.content → IsSoundImage schema (g.view before).reads → IsSoundImage schema (g.view now).reads
+  pub opens : g.told.content → (text : List ℕ) → IsSchema schema text → IsSoundImage text (g.view before).reads → OpenedIndex schema (g.view before).reads
+  pub as_sealed : g.told.content → (text : List ℕ) → IsSchema schema text → IsSoundImage text (g.view before).reads → (index : OpenedIndex schema (g.view before).reads) → ServesAsSealed index.state turns
+  pub sound : g.told.content → (text : List ℕ) → IsSchema schema text → IsSoundImage text (g.view before).reads → IsSoundImage text (g.view now).reads
 
 -- what was told of a script was read to its end
 abbrev pub IsReadOut : SourceView → SourceView → Type 0
@@ -164,34 +169,39 @@ pub record StopsAt {W : Type 0} (told : Told) (run : RunFrom) (before now : View
   -- why the run stopped here
   pub cause : StopsFor run.script.left run.start turns (told.locks → before.locks meta_lock_name ≡ true) (told.locks → before.locks meta_lock_name ≡ false) error
 
--- What an opening that was refused leaves: no whole line was told, nothing was read of the script, and an index that was being made, where none stood, has its first
--- commit or none; an argument that was refused changed nothing. The error is the first that holds, in the order of an opening.
+-- What an opening that was refused leaves: no whole line was told, and nothing was read of the script. Where `meta.json` was there each name reads what it read, and
+-- where it wasn't there may be the first commit of a new index; an argument and bytes that were refused changed nothing. The error is the first that holds, in the order
+-- of an opening.
 pub record RefusesOpening {W : Type 0} (told : Told) (schema : List ℕ) (before now : View W) (script script_now : SourceView) (error : TantivyError) : Type 0 where
   pub silent : told.heard → TellsNoLine before.heard now.heard
   pub unread : script_now ≡ script
-  pub first : MakesFirst before.reads now.reads schema
-  pub unchanged : IsArgument error → Same before.reads now.reads
-  pub cause : OpeningCause (Unit {0}) schema before.reads (told.locks → before.locks writer_lock_name ≡ true) (Unit {0}) (Unit {0}) error
+  pub leaves : LeavesRefused before.reads now.reads schema
+  pub unchanged : IsRefusedFirst error → Same before.reads now.reads
+  pub cause : OpeningCause (Unit {0}) schema before.reads (told.locks → before.locks writer_lock_name ≡ true) (told.locks → before.locks writer_lock_name ≡ false) (Unit {0}) (Unit {0}) error
 
--- where a replay stopped with this error: at its opening; or, where no index stood, in a run from the state of each index to which the directory opened
+-- an index stood there, or was made, whose files can be read; and a run stopped that began at the state of each index to which the directory opened
+pub record StopsRunning {O W C : Type 0} (g : Ghosts O W C) (before now : O) (schema : List ℕ) (script script_now : SourceView) (error : TantivyError) : Type 0 where
+  pub found : FoundIndex schema (g.view before).reads
+  pub files : HasFiles (g.view before).reads found.commit
+  pub stops : (index : OpenedIndex schema (g.view before).reads) → StopsAt g.told (record { form = index.form; script = script; start = index.state; lines_of_turns = report index.state }) (g.view before) (g.view now) script_now error
+
+-- where a replay stopped with this error: at its opening, or in its run
 abbrev pub StopsReplay : {O W C : Type 0} → Ghosts O W C → (before now : O) → (schema : List ℕ) → (script script_now : SourceView) → TantivyError → Type 0
 StopsReplay g before now schema script script_now error =
-    g.told.content
-    → RefusesOpening g.told schema (g.view before) (g.view now) script script_now error
-    ⊎ (HasNoIndex (g.view before).reads
-    × ((index : OpenedIndex schema (g.view before).reads)
-    → StopsAt g.told (record { form = index.form; script = script; start = index.state; lines_of_turns = report index.state }) (g.view before) (g.view now) script_now error))
+    g.told.content → RefusesOpening g.told schema (g.view before) (g.view now) script script_now error ⊎ StopsRunning g before now schema script script_now error
 
 -- Why a replay answers an error, whatever the directory tells: `busy` where a lock isn't given, `refused` where a device refused a call, `quiet` where none did.
 abbrev pub ReplayCause : (tells : Type 0) → (schema : List ℕ) → Reads → (script : Option (List ℕ)) → (busy refused quiet : Type 0) → TantivyError → Type 0
 ReplayCause tells schema reads script busy refused quiet (errors.InvalidArgument text) =
-    quiet × (OpeningRefusal tells schema reads (string_bytes text) ⊎ ((is_schema schema ≡ true) × (tells → HasNoIndex reads) × LineRefusal script (string_bytes text)))
-ReplayCause tells schema reads script busy refused quiet (errors.LockFailure why text) = (is_schema schema ≡ true) × (tells → HasNoIndex reads) × LockCause busy refused ⊥ why × (text ≡ None)
-ReplayCause tells schema reads script busy refused quiet (errors.IoError fault) = (is_schema schema ≡ true) × IsDevice fault × refused
-ReplayCause tells schema reads script busy refused quiet (errors.OpenWriteError error) = (is_schema schema ≡ true) × (tells → HasNoIndex reads) × WriteFault refused error
+    quiet × ((IsNoSchema schema × (string_bytes text ≡ schema_refusal)) ⊎ (IsSomeSchema schema × (tells → FoundIndex schema reads) × LineRefusal script (string_bytes text)))
+ReplayCause tells schema reads script busy refused quiet (errors.DataCorruption why) = (text : List ℕ) × IsSchema schema text × OpenCause tells text reads refused quiet (errors.DataCorruption why)
+ReplayCause tells schema reads script busy refused quiet (errors.SchemaError text) = (own : List ℕ) × IsSchema schema own × OpenCause tells own reads refused quiet (errors.SchemaError text)
+ReplayCause tells schema reads script busy refused quiet (errors.LockFailure why text) = IsSomeSchema schema × (tells → FoundIndex schema reads) × LockCause busy refused ⊥ why × (text ≡ None)
+ReplayCause tells schema reads script busy refused quiet (errors.IoError fault) = IsSomeSchema schema × IsDevice fault × refused
+ReplayCause tells schema reads script busy refused quiet (errors.OpenWriteError error) = IsSomeSchema schema × (tells → FoundIndex schema reads) × WriteFault refused error
 ReplayCause tells schema reads script busy refused quiet (errors.OpenReadError error) =
-    (is_schema schema ≡ true) × (tells → HasNoIndex reads) × ReadFault refused quiet (λ e. Unit {0}) (λ path. Unit {0}) error
-ReplayCause tells schema reads script busy refused quiet errors.Exhausted = quiet × (is_schema schema ≡ true) × (tells → HasNoIndex reads) × IsTooMany script
+    IsSomeSchema schema × (tells → FoundIndex schema reads) × ReadFault refused quiet (λ e. Unit {0}) (λ path. Unit {0}) error
+ReplayCause tells schema reads script busy refused quiet errors.Exhausted = quiet × IsSomeSchema schema × (tells → FoundIndex schema reads) × IsTooMany script
 ReplayCause tells schema reads script busy refused quiet errors.Memory = quiet
 ReplayCause tells schema reads script busy refused quiet other = ⊥
 

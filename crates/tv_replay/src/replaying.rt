@@ -35,10 +35,15 @@ pub struct Replayed<O> {
     pub outcome: Result<Tally, TantivyError>,
 }
 
-/// Makes an index with this schema in a directory, applies the events of a script to it, one a line,
-/// and tells the opening line and the line of each event.
+/// Opens the index that stands in a directory, or makes one with this schema where there is none,
+/// applies the events of a script to it, one a line, and tells the opening line and the line of each
+/// event.
 ///
-/// Ok means that the script was read to its end. The directory comes back after an error too.
+/// Ok means that the script was read to its end. The directory comes back after an error too. A stored
+/// commit is never taken away by an opening. Errors of the opening come in this order:
+/// `InvalidArgument` for the schema, `DataCorruption` for the list of managed files, `DataCorruption`
+/// and `SchemaError` for `meta.json`, `LockFailure` for the writer lock, `OpenReadError` for the first
+/// file of the commit that can't be read.
 pub fn replay<O: Outside, R: Source>(
     alloc: Global,
     outside: O,
@@ -52,8 +57,8 @@ pub fn replay<O: Outside, R: Source>(
     // Where it stopped with an error, what was told by then, and which commit stands.
     ensures stops { IfErr result.outcome (StopsReplay O.Directory outside result.outside schema.now
         (R.view script.old) (R.view script.new)) }
-    // Where it is told a valid schema, a valid script and a sound start without an index, no lock is held,
-    // and no call but deletes is refused, it comes to its end, or wants memory.
+    // Where it is told a valid schema, a valid script and a sound start, no lock is held, and no call but
+    // deletes is refused, it comes to its end, or wants memory.
     ensures complete { IsUndisturbed O.Directory outside schema.now (R.view script.old)
         (R.view script.new) result
         → IfErr result.outcome (λ error. error ≡ TantivyError.Memory) }

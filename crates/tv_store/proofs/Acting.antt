@@ -22,7 +22,8 @@ use Rattle.tv_store.specs.ReaderNumbers.{FewNumbers}
 use Rattle.tv_store.specs.StoreCauses.{IsBusy}
 use Rattle.tv_store.specs.ReadCauses.{IsReadError, TakesMetaLock}
 use Rattle.tv_store.specs.Applying.{Stepped, ActCause, ApplyFaults, MayNoteAt, BadIn, HoldsNone, written_by}
-use Rattle.tv_store.specs.Stays.{Asks, Stays, KeepsDotted, KeepsReaders, EventFaults, FrameNotes}
+use Rattle.tv_store.specs.Stays.{Asks, Stays, KeepsDotted, KeepsReaders, EventFaults}
+use Rattle.tv_index.specs.Saving.{FrameNotes}
 use Rattle.tv_store.specs.Committing.{Commits}
 use Rattle.tv_store.specs.Acting.{Acts, KeepsMeta, OnFiles, LeavesStep, Passes, StepsTo, StepsReading, StepsDeleting}
 use Rattle.tv_store.specs.Catalogs.{CatalogCause, FitsCatalog}

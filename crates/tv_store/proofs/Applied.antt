@@ -5,12 +5,15 @@ use Rattle.tv_base.specs.declared.error.TantivyError.{TantivyError}
 use Rattle.tv_base.specs.declared.error.TantivyError.TheVariants as errors
 use Rattle.tv_directory.specs.View.{OnlyTells}
 use Rattle.tv_directory.specs.declared.directory.Directory.{Ghosts}
-use Rattle.tv_model.specs.Files.{Heard}
+use Rattle.tv_model.specs.Files.{Heard, Rose, RoseBy}
+use Rattle.tv_base.specs.declared.io.IoFault.{IoFault}
+use Rattle.tv_model.specs.Machine.{step, refused_in}
+use Rattle.tv_model.specs.Meaning.{Means}
 use Rattle.tv_model.specs.declared.event.Event.{Event}
-use Rattle.tv_store.specs.Kept.{Kept, StoreState, AtMost}
+use Rattle.tv_store.specs.Kept.{Kept, StoreState, Holds, AtMost}
 use Rattle.tv_store.specs.ReaderNumbers.{FewNumbers}
 use Rattle.tv_store.specs.Acting.{Acts}
-use Rattle.tv_store.specs.Applying.{ActCause, Grows, ApplyFaults, IsUndisturbedEvent, MeetsBadAt, written_by}
+use Rattle.tv_store.specs.Applying.{ActCause, Grows, ApplyFaults, IsUndisturbedEvent, LeavesMeta, MeetsBadAt, Stepped, written_by}
 use Rattle.tv_store.proofs.ReaderEvents.{has_middle}
 use Rattle.tv_base.specs.declared.open_errors.LockError.TheVariants as lock
 use Rattle.tv_base.specs.declared.open_errors.OpenReadError.{OpenReadError}
@@ -21,9 +24,10 @@ use Rattle.tv_model.specs.Footer.{IsGood}
 use Rattle.tv_model.specs.Readable.{AreGoodFiles, IsGoodFile, ReadsGood}
 use Rattle.tv_model.specs.Segments.{all_required}
 use Rattle.tv_model.specs.State.{State, Sealed}
-use Rattle.tv_model.specs.Commits.{Commit}
+use Rattle.tv_model.specs.Commits.{Commit, IndexForm}
 use Rattle.tv_model.specs.Names.{has}
-use Rattle.tv_store.specs.Telling.{TellsAnswer, TellsNoLine, TriesLine}
+use Rattle.tv_store.specs.Telling.{TellsAnswer, TellsFirstPart, TellsNoLine, TriesLine}
+use Rattle.tv_store.proofs.Holding.{same_holds}
 use Rattle.tv_store.proofs.FewNumbers.{few_below}
 use Rattle.tv_store.proofs.Steps.{longer}
 
@@ -101,3 +105,44 @@ module _ {O W C : Type 0} (g : Ghosts O W C) (old new : StoreState O) (event : E
   undisturbed errors.Exhausted h = absurd (u.fits h.1)
   undisturbed errors.Memory h = refl
   undisturbed other h = absurd h
+
+-- ---- what stands after the line
+
+module _ {O W C : Type 0} (g : Ghosts O W C) (old mid new : StoreState O) (event : Event) (answer : List ℕ)
+    (acted : Acts g (record old { is_open = false }) mid event (Ok answer)) (kept : new.kept ≡ mid.kept) (told : OnlyTells g.told (g.view mid.outside) (g.view new.outside)) where
+  held_told : g.told.content → (s : State) → Holds (g.view mid.outside).reads mid.kept s → Holds (g.view new.outside).reads new.kept s
+  held_told t s h = same_holds (g.view mid.outside).reads (g.view new.outside).reads mid.kept new.kept s (told.content t) kept h
+
+  pub step_told : Stepped g old new event answer
+  step_told =
+      let stepped = acted.step in (
+        stepped.0,
+        subst (λ (n : ℕ). RoseBy (refused_in stepped.0) (g.view old.outside).refusals n) (sym told.deletes_none.refusals) stepped.1,
+        λ t s h w. let k = stepped.2 t s h w in (k.0, held_told t (step s event stepped.0).1 k.1, k.2),
+      )
+
+  pub leaves_untold : {A : Type 0} (fault : IoFault) → TriesLine {A = A} {E = IoFault} g.told (g.view mid.outside) (g.view new.outside) answer (Err fault) → Rose (g.view mid.outside).faults (g.view new.outside).faults
+      → LeavesMeta g old new event (Err (errors.IoError fault))
+  leaves_untold fault tries rose = record {
+    meta = λ t s h w.
+        let stepped = acted.step in
+        let k = stepped.2 t s h w in
+        let held = held_told t (step s event stepped.0).1 k.1 in
+        let form : new.kept.form ≡ old.kept.form = ap (λ (x : Kept). x.form) kept ∙ acted.frame.form in (
+          stepped.0,
+          inr (
+            subst (λ (n : ℕ). Rose n (g.view new.outside).faults) acted.faults.quiet rose,
+            (held.meta.0, held.meta.1, subst (λ (f : IndexForm). Means f.settings f.schema held.meta.0 (step s event stepped.0).1.catalog.commit) form held.meta.2),
+          ),
+        );
+    memory = λ t e. absurd (not_memory e);
+    part = λ t h s held w.
+        let stepped = acted.step in
+        let k = stepped.2 t s held w in (
+          stepped.0,
+          subst (λ (line : List ℕ). TellsFirstPart (g.view old.outside).heard (g.view new.outside).heard line) k.0
+              (subst (λ (x : Heard). TellsFirstPart x (g.view new.outside).heard answer) acted.frame.below.heard (tries.part h)),
+        );
+  } where
+    not_memory : errors.IoError fault ≡ errors.Memory → ⊥
+    not_memory e = cc

@@ -17,12 +17,14 @@ use Rattle.tv_model.specs.Ids.{IsId}
 use Rattle.tv_model.specs.Files.{Reads}
 use Rattle.tv_model.specs.Listing.{Lists}
 use Rattle.tv_model.specs.Segments.{name_of, num_docs, delete_opstamp, extension, is_delete, required_components, required_names, all_required}
-use Rattle.tv_model.specs.Commits.{Commit, IsSegment, Means}
+use Rattle.tv_model.specs.Commits.{Commit, IsSegment, printed}
+use Rattle.tv_model.specs.Meaning.{Means}
 use Rattle.tv_model.specs.State.{Catalog, State, at, file_at}
 use Rattle.tv_model.specs.CommitEvents.{chosen, committed}
 use Rattle.tv_model.specs.Index.{IsFileOf}
 use Rattle.tv_model.proofs.Entries.{insert_present}
 use Rattle.tv_model.proofs.PlainNames.{undotted}
+use Rattle.tv_model.proofs.ReadPrinted.{printed_means}
 use Rattle.tv_managed.specs.Managed.{KeepsOtherFiles}
 use Rattle.tv_store.specs.Kept.{Kept, Holds, FileHolds}
 use Rattle.tv_store.specs.Committing.{IsPrinted}
@@ -111,24 +113,26 @@ next_commit : (catalog held : Catalog) (commit : Commit) → catalog ≡ held �
 next_commit catalog held commit same is =
     ap (λ (n : ℕ). record { opstamp = n; payload = commit.payload; segments = commit.segments }) (is ∙ ap (λ (c : Catalog). c.next) same)
 
--- and its text means it
-pub means_next : (kept : Kept) (held : Catalog) (commit : Commit) (text : List ℕ) → kept.catalog ≡ held → IsPrinted kept commit text
-    → Means kept.form.settings kept.form.schema text (committed held commit.payload commit.segments).1.commit
-means_next kept held commit text same h =
-    subst (λ (c : Commit). Means kept.form.settings kept.form.schema text c) (next_commit kept.catalog held commit same h.opstamp)
-    (record { is_commit = h.sound; blocksize = h.blocksize; text = h.text_is })
+-- and its text means it, under the schema that was meant before
+pub means_next : (reads : Reads) (kept : Kept) (s : State) (commit : Commit) (text : List ℕ) → Holds reads kept s → IsPrinted kept commit text
+    → Means kept.form.settings kept.form.schema text (committed s.catalog commit.payload commit.segments).1.commit
+means_next reads kept s commit text h p =
+    let means : Means kept.form.settings kept.form.schema (printed kept.form.settings kept.form.schema commit ++ 10 ∷ []) commit =
+    printed_means kept.form.settings kept.form.schema h.meta.2.tree commit p.sound p.blocksize h.meta.2.schema_is in
+    subst (λ (c : Commit). Means kept.form.settings kept.form.schema text c) (next_commit kept.catalog s.catalog commit h.catalog p.opstamp)
+    (subst (λ (t : List ℕ). Means kept.form.settings kept.form.schema t commit) (sym p.text_is) means)
 
 -- the state after a commit
 pub published : (before now : Reads) (kept after : Kept) (s : State) (commit : Commit) (text : List ℕ) → Holds before kept s → IsPrinted kept commit text
     → after ≡ record kept { catalog = record kept.catalog { next = kept.catalog.next + 1; commit = commit }; managed = insert_key byte_cmp kept.managed meta_name }
     → now meta_name ≡ Some text → KeepsOtherFiles before now meta_name → (Lists (before list_name) kept.managed → Lists (now list_name) after.managed)
     → Holds now after (record s { catalog = (committed s.catalog commit.payload commit.segments).1 })
-published before now kept after s commit text h printed is_after saved others list =
+published before now kept after s commit text h is is_after saved others list =
     let names : insert_key byte_cmp kept.managed meta_name ≡ s.managed =
     ap (λ (ns : List (List ℕ)). insert_key byte_cmp ns meta_name) h.managed ∙ insert_present s.managed meta_name h.listed (listed_sorted (before list_name) s.managed meta_name h.listing h.listed) in
     let catalog : record kept.catalog { next = kept.catalog.next + 1; commit = commit } ≡ (committed s.catalog commit.payload commit.segments).1 =
     ap (λ (c : Catalog). record c { next = c.next + 1; commit = commit }) h.catalog
-    ∙ ap (λ (k : Commit). record s.catalog { next = s.catalog.next + 1; commit = k }) (next_commit kept.catalog s.catalog commit h.catalog printed.opstamp) in
+    ∙ ap (λ (k : Commit). record s.catalog { next = s.catalog.next + 1; commit = k }) (next_commit kept.catalog s.catalog commit h.catalog is.opstamp) in
     let listing : Lists (now list_name) (insert_key byte_cmp kept.managed meta_name) =
     subst (λ (k : Kept). Lists (now list_name) k.managed) is_after (list (subst (λ (ns : List (List ℕ)). Lists (before list_name) ns) (sym h.managed) h.listing)) in
     subst (λ (k : Kept). Holds now k (record s { catalog = (committed s.catalog commit.payload commit.segments).1 })) (sym is_after) (record {
@@ -138,7 +142,7 @@ published before now kept after s commit text h printed is_after saved others li
       names = h.names;
       files = λ n file. subst (λ (read : Option (List ℕ)). FileHolds (file_at s n) read (at kept.open_files n)) (sym (others n file.1 (undotted_isnt_list n file.0))) (h.files n file);
       left = h.left;
-      meta = (text, saved, means_next kept s.catalog commit text h.catalog printed);
+      meta = (text, saved, means_next before kept s commit text h is);
       listing = subst (λ (ns : List (List ℕ)). Lists (now list_name) ns) names listing;
       listed = h.listed;
     })

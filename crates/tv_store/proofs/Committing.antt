@@ -1,9 +1,10 @@
 -- What the calls that commit do, put together.
-use Rattle.std.proofs.Common.{ℕ, ◌≡◌, inl, ◌<◌, false, List, [], ◌∷◌, length, codes, Option, Some, None, Result, Ok, Err, IfErr, refl, sym, ap, subst, ◌∙◌}
+use Rattle.std.proofs.Common.{ℕ, ◌≡◌, ◌⊎◌, inl, inr, ◌<◌, false, List, [], ◌∷◌, length, codes, Option, Some, None, Result, Ok, Err, IfErr, refl, sym, ap, subst, ◌∙◌}
 use Rattle.std.specs.Prelude.{IfOk, OnOk, OnErr, is_some, option_map, ◌==◌}
 use Rattle.std.proofs.lemmas.Result.{on_err_weaker}
 use Rattle.tv_base.specs.declared.error.TantivyError.{TantivyError}
 use Rattle.tv_base.specs.declared.error.TantivyError.TheVariants as errors
+use Rattle.tv_base.specs.declared.open_errors.OpenWriteError.TheVariants as write
 use Rattle.tv_directory.specs.View.{OnlyReads}
 use Rattle.tv_directory.specs.declared.directory.Directory.{Ghosts}
 use Rattle.tv_model.specs.declared.segment.LiveSegment.{LiveSegment}
@@ -11,6 +12,7 @@ use Rattle.tv_model.specs.Names.{meta_name}
 use Rattle.tv_model.specs.Files.{Rose}
 use Rattle.tv_model.specs.Lines.{unless, words_of}
 use Rattle.tv_model.specs.Commits.{Commit, IndexForm}
+use Rattle.tv_model.specs.Meaning.{Means}
 use Rattle.tv_model.specs.State.{State, StepResult, on_catalog}
 use Rattle.tv_model.specs.CommitEvents.{commit_step, committed, chosen, first_unknown, first_unsealed, last_stamp}
 use Rattle.tv_managed.specs.Managed.{KeepsOtherFiles}
@@ -21,7 +23,7 @@ use Rattle.tv_store.specs.Stays.{Asks, EventFaults}
 use Rattle.tv_store.specs.Committing.{Commits, IsPrinted, KeepsRest, Publishes, commit_line, commit_of, unsealed_line}
 use Rattle.tv_store.proofs.Asking.{notes_later}
 use Rattle.tv_store.proofs.Holding.{same_holds, dotted_others}
-use Rattle.tv_store.proofs.CommitEvents.{published}
+use Rattle.tv_store.proofs.CommitEvents.{means_next, published}
 
 module _ {O W C : Type 0} (g : Ghosts O W C) (given : Type 0) (old new : StoreState O) where
   -- what was only asked for stays
@@ -143,6 +145,19 @@ sealed_step s payload segments h = told (first_unsealed s segments) h where
 
 -- ---- what publishing does
 
+-- after an error stands what was read, or a text that means the commit
+left_so : (error : TantivyError) (refused quiet : Type 0) (before now : Option (List ℕ)) (text : List ℕ) (form : IndexForm) (commit : Commit)
+    → EventCause refused quiet ⊥ error → (error ≡ errors.Memory → now ≡ before) → (now ≡ Some text) ⊎ (now ≡ before)
+    → Means form.settings form.schema text commit → LeavesCommit refused before now form commit
+left_so errors.Memory refused quiet before now text form commit cause memory either means = inl (memory refl)
+left_so error refused quiet before now text form commit cause memory (inr same) means = inl same
+left_so (errors.IoError fault) refused quiet before now text form commit cause memory (inl is) means = inr (cause.1, (text, is, means))
+left_so (errors.OpenWriteError (write.IoError fault path)) refused quiet before now text form commit cause memory (inl is) means =
+    inr (cause.1, (text, is, means))
+left_so (errors.OpenWriteError other) refused quiet before now text form commit cause memory (inl is) means = absurd cause
+left_so errors.Exhausted refused quiet before now text form commit cause memory (inl is) means = absurd cause.1
+left_so other refused quiet before now text form commit cause memory (inl is) means = absurd cause
+
 module _ {O W C : Type 0} (g : Ghosts O W C) (old new : StoreState O) (commit : Commit) (text answer : List ℕ) where
   abbrev Given : Type 0
   Given = IsPrinted old.kept commit text × (answer ≡ commit_line commit.opstamp commit.segments)
@@ -162,6 +177,24 @@ module _ {O W C : Type 0} (g : Ghosts O W C) (old new : StoreState O) (commit : 
     memory = λ tells. tt;
     room = room;
     faults = record { quiet = quiet; cause = tt };
+    dotted = λ tells. dotted_others (g.view old.outside).reads (g.view new.outside).reads meta_name refl (others tells);
+    frame = frame;
+  }
+
+  pub not_published : (error : TantivyError) → (g.told.content → ((g.view new.outside).reads meta_name ≡ Some text) ⊎ ((g.view new.outside).reads meta_name ≡ (g.view old.outside).reads meta_name))
+      → (g.told.content → error ≡ errors.Memory → (g.view new.outside).reads meta_name ≡ (g.view old.outside).reads meta_name)
+      → (g.told.content → KeepsOtherFiles (g.view old.outside).reads (g.view new.outside).reads meta_name)
+      → EventCause (Rose (g.view old.outside).faults (g.view new.outside).faults) ((g.view new.outside).faults ≡ (g.view old.outside).faults) ⊥ error
+      → KeepsRest g.told g.view old new → Commits g Given old new told (Err error)
+  not_published error either memory others cause frame = record {
+    step = λ tells s held known. tt;
+    meta = λ tells s held known.
+        left_so error (Rose (g.view old.outside).faults (g.view new.outside).faults) ((g.view new.outside).faults ≡ (g.view old.outside).faults)
+        ((g.view old.outside).reads meta_name) ((g.view new.outside).reads meta_name) text old.kept.form (told s).1.catalog.commit
+        cause (memory tells) (either tells) (means_next (g.view old.outside).reads old.kept s commit text held known.0);
+    memory = memory;
+    room = tt;
+    faults = record { quiet = tt; cause = cause };
     dotted = λ tells. dotted_others (g.view old.outside).reads (g.view new.outside).reads meta_name refl (others tells);
     frame = frame;
   }

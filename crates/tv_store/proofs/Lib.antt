@@ -1,4 +1,3 @@
-pub mod Printing
 pub mod CollectionEvents
 pub mod OpenFiles
 pub mod Removals
@@ -8,7 +7,6 @@ pub mod Named
 pub mod FileEvents
 pub mod ChosenSegments
 pub mod CommitEvents
-pub mod Creation
 pub mod Lifting
 pub mod Steps
 pub mod FewNumbers
@@ -20,3 +18,9 @@ pub mod Asking
 pub mod Acting
 pub mod Applied
 pub mod Opened
+pub mod FoundStates
+pub mod Unopened
+pub mod OpenedCatalogs
+pub mod CheckedFiles
+pub mod Starting
+pub mod Unfound

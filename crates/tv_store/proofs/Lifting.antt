@@ -8,7 +8,8 @@ use Rattle.tv_model.specs.declared.segment.DeleteMeta.{DeleteMeta}
 use Rattle.tv_model.specs.declared.segment.LiveSegment.{LiveSegment}
 use Rattle.tv_model.specs.Segments.{num_deleted}
 use Rattle.tv_directory.specs.Watch.{WatchState}
-use Rattle.tv_model.specs.Commits.{Commit, IsSegment, Means}
+use Rattle.tv_model.specs.Commits.{Commit, IsSegment}
+use Rattle.tv_model.specs.Meaning.{Means}
 use Rattle.tv_model.specs.Files.{Reads}
 use Rattle.tv_model.specs.Machine.{catalog_step}
 use Rattle.tv_model.specs.Readable.{ReadsGood}

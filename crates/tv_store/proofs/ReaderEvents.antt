@@ -25,6 +25,7 @@ use Rattle.tv_model.specs.Readable.{IsGoodFile, AreGoodFiles, read_by}
 use Rattle.tv_model.specs.ReaderEvents.{body_in, with_new_reader, with_reloaded}
 use Rattle.tv_model.proofs.Entries.{is_itself, is_text}
 use Rattle.tv_model.proofs.Bodies.{body_of_good}
+use Rattle.tv_model.proofs.SpelledCommits.{means_commit}
 use Rattle.tv_base.specs.Errors.{of_open_read}
 use Rattle.tv_base.specs.declared.io.IoFault.{IoFault}
 use Rattle.tv_base.specs.declared.io.IoKind.{IoKind}
@@ -38,7 +39,7 @@ use Rattle.tv_base.specs.declared.open_errors.LockError.TheVariants as lock
 use Rattle.tv_base.specs.declared.error.TantivyError.TheVariants as errors
 use Rattle.tv_framing.specs.Footers.{Refuses}
 use Rattle.tv_managed.specs.Reading.{HasNoBody, NamesFile, ReadsBody, OpenBodyCause, ReadsOther, ReadsRefused, ReadsSuch, SomeOther, SomeRefused}
-use Rattle.tv_store.specs.StoreCauses.{IsBusy, WriteFault}
+use Rattle.tv_store.specs.StoreCauses.{IsBusy, MakesNoFile, WriteFault}
 use Rattle.tv_store.specs.ReadCauses.{ReadFault, ApplyCause}
 use Rattle.tv_store.specs.Bodies.{RefusesAt, RefusesFile, RefusesFirst, ReadsGoodFile, AreBodies, AreSealed, ReadsSegment, FailsAt}
 use Rattle.tv_store.specs.Kept.{Kept, FileHolds, Holds}
@@ -100,6 +101,11 @@ pub failed_as : {A : Type 0} (result : Result A TantivyError) (given : TantivyEr
 failed_as (Ok a) given P h p = tt
 failed_as (Err e) given P h p = subst P (sym h) p
 
+-- the error of a read isn't that of a file that was to be made
+pub reads_make_none : (error : OpenReadError) → MakesNoFile (of_open_read error)
+reads_make_none read.Memory = tt
+reads_make_none other = tt
+
 -- seen from the directory's value
 pub body_fails : {D : Type 0} (tells : Type 0) (reads : D → Reads) (faults : D → ℕ) (inside value after : D) (name given : List ℕ) (error : OpenReadError)
     → inside ≡ value → given ≡ name → is_file_name given ≡ true
@@ -126,7 +132,7 @@ read_weaker refused quiet refused2 quiet2 bad bad2 absent absent2 (read.Incompat
 read_weaker refused quiet refused2 quiet2 bad bad2 absent absent2 other f g b a h = absurd h
 
 -- a cause that says more
-cause_weaker : (busy refused quiet spent busy2 refused2 quiet2 spent2 : Type 0) (bad bad2 : OpenReadError → Type 0) (absent absent2 : List ℕ → Type 0) (error : TantivyError)
+pub cause_weaker : (busy refused quiet spent busy2 refused2 quiet2 spent2 : Type 0) (bad bad2 : OpenReadError → Type 0) (absent absent2 : List ℕ → Type 0) (error : TantivyError)
     → (busy → busy2) → (refused → refused2) → (quiet → quiet2) → (spent → spent2) → ((error : OpenReadError) → bad error → bad2 error) → ((path : List ℕ) → absent path → absent2 path)
     → ApplyCause busy refused quiet spent bad absent error → ApplyCause busy2 refused2 quiet2 spent2 bad2 absent2 error
 cause_weaker busy refused quiet spent busy2 refused2 quiet2 spent2 bad bad2 absent absent2 (errors.IoError fault) y f g k b a h = (h.0, f h.1)
@@ -274,7 +280,8 @@ has_required (e ∷ es) (suc i) entry n within at_i h =
 pub segment_is_sealed : (reads : Reads) (kept : Kept) (s : State) (segments : List (List ℕ × LiveSegment)) (i : ℕ) (entry : List ℕ × LiveSegment)
     → segments ≡ s.catalog.commit.segments → i < length segments → entry ≡ get_or segments i entry → IsWhole s → Holds reads kept s → AreSealed s (required_names entry.0 entry.1)
 segment_is_sealed reads kept s segments i entry are within at_i whole held =
-    let segment : IsSegment entry = all_at IsSegment segments i entry (subst (AllByRecursion IsSegment) (sym are) held.meta.2.is_commit.segments) within at_i in
+    let commit = means_commit kept.form.settings kept.form.schema held.meta.0 s.catalog.commit held.meta.2 in
+    let segment : IsSegment entry = all_at IsSegment segments i entry (subst (AllByRecursion IsSegment) (sym are) commit.segments) within at_i in
     record {
       files = required_are_files entry.0 entry.1 segment.id;
       sealed = λ n h. whole.each n (subst (λ (es : List (List ℕ × LiveSegment)). has (all_required es) n ≡ true) are (has_required segments i entry n within at_i h));

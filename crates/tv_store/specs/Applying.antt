@@ -9,7 +9,8 @@ use Rattle.tv_directory.specs.Watch.{WatchState, MayNote}
 use Rattle.tv_directory.specs.declared.directory.Directory.{Ghosts}
 use Rattle.tv_model.specs.Names.{meta_name}
 use Rattle.tv_model.specs.Files.{Reads, Heard, Rose, RoseBy}
-use Rattle.tv_model.specs.Commits.{Commit, IndexForm, Means, new_form, first_commit}
+use Rattle.tv_model.specs.Commits.{Commit, IndexForm}
+use Rattle.tv_model.specs.Meaning.{Means}
 use Rattle.tv_model.specs.Segments.{all_required}
 use Rattle.tv_model.specs.State.{State}
 use Rattle.tv_model.specs.declared.event.Event.{Event}
@@ -18,7 +19,6 @@ use Rattle.tv_model.specs.SoundStates.{IsWhole}
 use Rattle.tv_model.specs.Machine.{step, refused_in}
 use Rattle.tv_model.specs.Readable.{ReadsGood, read_by}
 use Rattle.tv_managed.specs.Collecting.{meta_lock_name}
-use Rattle.tv_managed.specs.Managed.{KeepsOtherFiles}
 use Rattle.tv_store.specs.Kept.{Kept, StoreState, Holds, AtMost}
 use Rattle.tv_store.specs.Exhausted.{IsExhausted}
 use Rattle.tv_store.specs.ReaderNumbers.{FewNumbers}
@@ -47,10 +47,6 @@ Stepped g old new event answer =
 -- what `meta.json` reads after an error: what it read before; or, where this is so, a text that means this commit
 abbrev pub LeavesCommit : (given : Type 0) (before now : Option (List ℕ)) → IndexForm → Commit → Type 0
 LeavesCommit given before now form commit = (now ≡ before) ⊎ (given × ((text : List ℕ) × (now ≡ Some text) × Means form.settings form.schema text commit))
-
--- An index was made, or not: only the list and `meta.json` may have changed. This reads what it read before; or, where it read nothing, the first commit.
-abbrev pub MakesFirst : Reads → Reads → (schema : List ℕ) → Type 0
-MakesFirst old new schema = KeepsOtherFiles old new meta_name × LeavesCommit (old meta_name ≡ None) (old meta_name) (new meta_name) (new_form schema) first_commit
 
 -- an event failed: `meta.json` reads what it read before; or, where a call was refused, the commit that the event makes
 abbrev pub LeavesOldOrNew : (refused : Type 0) (before now : Option (List ℕ)) → IndexForm → State → Event → Type 0

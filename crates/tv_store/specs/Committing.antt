@@ -17,7 +17,8 @@ use Rattle.tv_model.specs.Commits.{Commit, IsCommit, printed}
 use Rattle.tv_model.specs.State.{State, StepResult, on_catalog}
 use Rattle.tv_store.specs.Kept.{Kept, StoreState, Holds}
 use Rattle.tv_store.specs.Applying.{LeavesCommit}
-use Rattle.tv_store.specs.Stays.{Stays, KeepsDotted, FrameNotes, EventFaults}
+use Rattle.tv_store.specs.Stays.{Stays, KeepsDotted, EventFaults}
+use Rattle.tv_index.specs.Saving.{FrameNotes}
 
 -- The open files, who reads, the schema and whether the store is open stay; nothing was told, and a notice of a commit may stand.
 pub record KeepsRest {O W : Type 0} (told : ToldParts) (view : O → View W) (old new : StoreState O) : Type 0 where

@@ -16,8 +16,8 @@ use Rattle.tv_model.specs.State.{at}
 use Rattle.tv_store.specs.Bodies.{RefusesAt}
 use Rattle.tv_store.specs.Kept.{FilesState}
 use Rattle.tv_store.specs.ReadCauses.{ApplyCause}
-use Rattle.tv_store.specs.Stays.{FrameNotes}
-use Rattle.tv_store.specs.StoreCauses.{IsBusy, LockingCause}
+use Rattle.tv_index.specs.Saving.{FrameNotes}
+use Rattle.tv_store.specs.StoreCauses.{IsBusy, LockingCause, MakesNoFile}
 
 -- Whether a file is there, isn't open and wasn't left, by what its name reads, what was written to it where it is open, and whether it was left.
 pub record Asked (read written : Option (List ℕ)) (left found : Bool) : Type 0 where
@@ -44,6 +44,7 @@ pub record FindsFile {O W C : Type 0} (g : Ghosts O W C) (old new : FilesState O
 pub record ReadBodyFaults {A O W C : Type 0} (g : Ghosts O W C) (old new : O) (name : List ℕ) (result : Result A TantivyError) : Type 0 where
   pub quiet : OnOk result ((g.view new).faults ≡ (g.view old).faults)
   pub cause : IfErr result (ApplyCause ⊥ (Rose (g.view old).faults (g.view new).faults) ((g.view new).faults ≡ (g.view old).faults) ⊥ (λ error. g.told.content → RefusesAt (g.view old).reads name error) (λ path. (path ≡ name) × (g.told.content → (g.view old).reads path ≡ None)))
+  pub file : IfErr result MakesNoFile
 
 -- What trying these names gave: each is told as done or as failed, in their order.
 pub record Tried (names before after deleted failed : List (List ℕ)) (tells : Type 0) (old new : Reads) : Type 0 where

@@ -4,7 +4,8 @@ use Rattle.std.specs.List.{AllByRecursion}
 use Rattle.tv_model.specs.Names.{has, list_name, meta_name}
 use Rattle.tv_model.specs.Files.{Reads}
 use Rattle.tv_model.specs.Listing.{Lists}
-use Rattle.tv_model.specs.Commits.{IndexForm, IsSegment, Means, new_form}
+use Rattle.tv_model.specs.Commits.{IndexForm, IsSegment}
+use Rattle.tv_model.specs.Meaning.{Means}
 use Rattle.tv_model.specs.State.{Catalog, State, FileState, Sealed, Open, Left, at, file_at}
 use Rattle.tv_model.specs.Index.{IsFileOf}
 
@@ -29,9 +30,9 @@ pub record FilesState (O : Type 0) : Type 0 where
   pub open_files : List (List ℕ × List ℕ)
   pub left : List (List ℕ)
 
--- what a store keeps of a new index with this schema, with this catalog and these files
-abbrev pub kept_of : {O : Type 0} → (schema : List ℕ) → Catalog → FilesState O → Kept
-kept_of schema catalog files = record { form = new_form schema; catalog = catalog; managed = files.managed; open_files = files.open_files; left = files.left }
+-- what a store keeps of an index, with this catalog and these files
+abbrev pub kept_of : {O : Type 0} → IndexForm → Catalog → FilesState O → Kept
+kept_of form catalog files = record { form = form; catalog = catalog; managed = files.managed; open_files = files.open_files; left = files.left }
 
 -- a file of the machine, next to what its name reads and what was written to it
 abbrev pub FileHolds : Option FileState → Option (List ℕ) → Option (List ℕ) → Type 0

@@ -15,5 +15,6 @@ pub mod Committing
 pub mod FileCalls
 pub mod SnapshotCalls
 pub mod Acting
+pub mod OpeningCauses
 pub mod Making
 pub mod Opening

@@ -1,63 +1,106 @@
--- How an index is made, or isn't.
-use Rattle.std.specs.Prelude.{ℕ, ◌≡◌, ◌<◌, true, List, [], ◌++◌, ◌∷◌, length, Result, IfErr, OnOk}
+-- How an index is found and shown, or isn't.
+use Rattle.std.specs.Prelude.{ℕ, ◌≡◌, true, List, [], map, Result, IfErr, OnOk, OnErr}
+use Rattle.std.specs.List.Sorted.{IsStrictlySortedBy}
 use Rattle.tv_base.specs.declared.error.TantivyError.{TantivyError}
+use Rattle.tv_base.specs.declared.error.TantivyError.TheVariants as errors
 use Rattle.tv_directory.specs.declared.directory.Directory.{Ghosts}
 use Rattle.tv_directory.specs.Locks.{FreesLock}
-use Rattle.tv_directory.specs.View.{DeletesNone, OnlyTells}
-use Rattle.tv_model.specs.Files.{Rose, Same}
+use Rattle.tv_directory.specs.View.{DeletesNone, OnlyReads, OnlyTells}
+use Rattle.tv_index.specs.Opening.{Finds, LeavesFound, LeavesUnopened}
+use Rattle.tv_index.specs.Saving.{FrameNotes}
+use Rattle.tv_model.specs.Commits.{IndexForm, IsCommit}
+use Rattle.tv_model.specs.Files.{Reads, Rose, Same}
+use Rattle.tv_model.specs.Index.{opened_catalog}
 use Rattle.tv_model.specs.Lines.{opening_of}
-use Rattle.tv_model.specs.Commits.{is_schema, default_settings, first_commit, printed}
-use Rattle.tv_model.specs.State.{State}
-use Rattle.tv_model.specs.Index.{HasNoIndex, OpensTo, first_catalog}
-use Rattle.tv_store.specs.Kept.{FilesState, StoreState, Holds, kept_of}
-use Rattle.tv_store.specs.StoreCauses.{EventCause, MakesNoFile, OpeningCause, IsArgument, writer_lock_name}
-use Rattle.tv_store.specs.Applying.{MakesFirst}
-use Rattle.tv_store.specs.Stays.{FrameNotes}
+use Rattle.tv_model.specs.Listing.{Lists}
+use Rattle.tv_managed.specs.Managed.{KeepsOtherFiles}
+use Rattle.tv_model.specs.Names.{byte_cmp, has, list_name, meta_name}
+use Rattle.tv_model.specs.declared.segment.LiveSegment.{LiveSegment}
+use Rattle.tv_model.specs.Schemas.{IsSchema}
+use Rattle.tv_model.specs.Segments.{all_required}
+use Rattle.tv_model.specs.State.{Catalog}
+use Rattle.tv_store.specs.Bodies.{ReadsGoodFile}
+use Rattle.tv_store.specs.Kept.{FilesState, StoreState}
+use Rattle.tv_store.specs.OpeningCauses.{MeetsMissing, MeetsRefused, OpeningCause}
+use Rattle.tv_store.specs.ReadCauses.{ApplyCause}
+use Rattle.tv_store.specs.Stays.{Asks}
+use Rattle.tv_store.specs.StoreCauses.{MakesNoFile, writer_lock_name}
 use Rattle.tv_store.specs.Telling.{TellsLine, TellsFirstPart, TellsNoLine}
 
--- the text of the first commit of an index with this schema
-abbrev pub first_text : List ℕ → List ℕ
-first_text schema = printed default_settings schema first_commit ++ 10 ∷ []
+-- the segments stand in the order of their ids, each once
+abbrev pub IsSorted : List (List ℕ × LiveSegment) → Type 0
+IsSorted segments = IsStrictlySortedBy byte_cmp (map (λ e. e.0) segments)
 
--- Before an index is made the schema is refused, or one stands, or the device refused a call, or memory was wanted.
-pub record CheckFaults {A O W C : Type 0} (g : Ghosts O W C) (old new : O) (schema : List ℕ) (result : Result A TantivyError) : Type 0 where
-  pub quiet : OnOk result ((g.view new).faults ≡ (g.view old).faults)
-  pub cause : IfErr result (OpeningCause g.told.content schema (g.view old).reads ⊥ (Rose (g.view old).faults (g.view new).faults) ((g.view new).faults ≡ (g.view old).faults))
+-- what a refused opening leaves, under the schema that these bytes spell
+abbrev pub LeavesRefused : Reads → Reads → (schema : List ℕ) → Type 0
+LeavesRefused old new schema = (text : List ℕ) → IsSchema schema text → LeavesUnopened old new text
 
--- The files of an index with this schema were made in this directory, where none stood; its opening line is yet to be told, in room that was made for it.
-pub record Made {O W C : Type 0} (g : Ghosts O W C) (outside : O) (schema : List ℕ) (files : FilesState O) (line : List ℕ) : Type 0 where
-  pub accepted : is_schema schema ≡ true
-  pub none : g.told.content → HasNoIndex (g.view outside).reads
-  pub holds : g.told.content → (s : State) → OpensTo default_settings schema (g.view outside).reads s → Holds (g.view files.outside).reads (kept_of schema first_catalog files) s
-  pub first : g.told.content → MakesFirst (g.view outside).reads (g.view files.outside).reads schema
-  pub line_is : line ≡ opening_of first_commit
-  pub room : length line < (g.view files.outside).room
+-- an argument was refused, or bytes were
+abbrev pub IsRefusedFirst : TantivyError → Type 0
+IsRefusedFirst (errors.InvalidArgument text) = Unit {0}
+IsRefusedFirst (errors.DataCorruption why) = Unit {0}
+IsRefusedFirst (errors.SchemaError text) = Unit {0}
+IsRefusedFirst other = ⊥
+
+-- The index that stands in this directory was found, or a new one was made: its settings and its schema, its catalog, and its files, none of them open.
+pub record FindsFiles {O W C : Type 0} (g : Ghosts O W C) (outside : O) (schema : List ℕ) (form : IndexForm) (catalog : Catalog) (files : FilesState O) : Type 0 where
+  pub spelled : IsSchema schema form.schema
+  pub is_commit : IsCommit catalog.commit
+  pub opened : catalog ≡ opened_catalog catalog.commit
+  pub finds : g.told.content → Finds (g.view outside).reads form catalog.commit files.managed
+  pub leaves : g.told.content → LeavesFound (g.view outside).reads (g.view files.outside).reads form.schema
+  pub lists : g.told.content → Lists ((g.view files.outside).reads list_name) files.managed
   pub open_files : files.open_files ≡ []
+  pub left : files.left ≡ []
   pub quiet : (g.view files.outside).faults ≡ (g.view outside).faults
   pub frame : FrameNotes g.told (g.view outside) (g.view files.outside)
 
--- it wasn't made, and the directory comes back; a refused argument changed nothing
-pub record NotMade {O W C : Type 0} (g : Ghosts O W C) (outside : O) (schema : List ℕ) (now : O) (error : TantivyError) : Type 0 where
-  pub first : g.told.content → MakesFirst (g.view outside).reads (g.view now).reads schema
-  pub unchanged : g.told.content → IsArgument error → Same (g.view outside).reads (g.view now).reads
-  pub cause : OpeningCause g.told.content schema (g.view outside).reads ⊥ (Rose (g.view outside).faults (g.view now).faults) ((g.view now).faults ≡ (g.view outside).faults) error
+-- None was, and the directory comes back. A refused argument, and refused bytes, changed nothing.
+pub record FindsNone {O W C : Type 0} (g : Ghosts O W C) (outside : O) (schema : List ℕ) (now : O) (error : TantivyError) : Type 0 where
+  pub leaves : g.told.content → LeavesRefused (g.view outside).reads (g.view now).reads schema
+  pub unchanged : g.told.content → IsRefusedFirst error → Same (g.view outside).reads (g.view now).reads
+  pub others : g.told.content → KeepsOtherFiles (g.view outside).reads (g.view now).reads meta_name
+  pub cause : OpeningCause g.told.content schema (g.view outside).reads ⊥ ⊥ (Rose (g.view outside).faults (g.view now).faults) ((g.view now).faults ≡ (g.view outside).faults) error
   pub frame : FrameNotes g.told (g.view outside) (g.view now)
 
--- A store with this schema and these files is open, and this line was told.
-pub record Begins {O W C : Type 0} (g : Ghosts O W C) (schema : List ℕ) (files : FilesState O) (line : List ℕ) (store : StoreState O) : Type 0 where
-  pub kept : store.kept ≡ kept_of schema first_catalog files
-  pub is_open : store.is_open ≡ true
-  pub told : g.told.heard → TellsLine (g.view files.outside).heard (g.view store.outside).heard (g.view files.outside).moment (g.view store.outside).moment line
-  pub quiet : (g.view store.outside).faults ≡ (g.view files.outside).faults
-  pub frame : OnlyTells g.told (g.view files.outside) (g.view store.outside)
+-- Each of these files can be read; or the first that can't be is refused, or the device refused a call, or memory was wanted.
+pub record ChecksFiles {A O W C : Type 0} (g : Ghosts O W C) (old new : StoreState O) (names : List (List ℕ)) (result : Result A TantivyError) : Type 0 where
+  pub good : g.told.content → OnOk result ((n : List ℕ) → has names n ≡ true → ReadsGoodFile ((g.view old.outside).reads n))
+  pub quiet : OnOk result ((g.view new.outside).faults ≡ (g.view old.outside).faults)
+  pub cause : IfErr result (ApplyCause ⊥ (Rose (g.view old.outside).faults (g.view new.outside).faults) ((g.view new.outside).faults ≡ (g.view old.outside).faults) ⊥ (λ error. g.told.content → MeetsRefused (g.view old.outside).reads names error) (λ path. g.told.content → MeetsMissing (g.view old.outside).reads names path))
+  pub file : IfErr result MakesNoFile
+  pub frame : Asks (OnlyReads g.told) g.view old new
 
--- The line wasn't told: the directory comes back, and its writer lock is free.
-pub record NotBegun {O W C : Type 0} (g : Ghosts O W C) (files : FilesState O) (line : List ℕ) (now : O) (error : TantivyError) : Type 0 where
-  pub told : g.told.heard → TellsNoLine (g.view files.outside).heard (g.view now).heard
-  pub part : g.told.heard → TellsFirstPart (g.view files.outside).heard (g.view now).heard line
-  pub freed : g.told.locks → FreesLock (g.view files.outside).locks (g.view now).locks writer_lock_name
-  pub cause : EventCause (Rose (g.view files.outside).faults (g.view now).faults) ((g.view now).faults ≡ (g.view files.outside).faults) ⊥ error
+-- The files of the commit can be read, the opening line was told, and the store is open.
+pub record Begins {O W C : Type 0} (g : Ghosts O W C) (old new : StoreState O) : Type 0 where
+  pub kept : new.kept ≡ old.kept
+  pub is_open : new.is_open ≡ true
+  pub good : g.told.content → (n : List ℕ) → has (all_required old.kept.catalog.commit.segments) n ≡ true → ReadsGoodFile ((g.view old.outside).reads n)
+  pub told : g.told.heard → TellsLine (g.view old.outside).heard (g.view new.outside).heard (g.view old.outside).moment (g.view new.outside).moment (opening_of old.kept.catalog.commit)
+  pub quiet : (g.view new.outside).faults ≡ (g.view old.outside).faults
+  pub frame : OnlyTells g.told (g.view old.outside) (g.view new.outside)
+
+-- The line wasn't told: of the files the first that can't be read is refused, or the device refused a call, or memory was wanted. The directory comes back, and its
+-- writer lock is free.
+pub record NotBegun {O W C : Type 0} (g : Ghosts O W C) (old : StoreState O) (now : O) (error : TantivyError) : Type 0 where
+  pub told : g.told.heard → TellsNoLine (g.view old.outside).heard (g.view now).heard
+  pub part : g.told.heard → TellsFirstPart (g.view old.outside).heard (g.view now).heard (opening_of old.kept.catalog.commit)
+  pub freed : g.told.locks → FreesLock (g.view old.outside).locks (g.view now).locks writer_lock_name
+  pub cause : ApplyCause ⊥ (Rose (g.view old.outside).faults (g.view now).faults) ((g.view now).faults ≡ (g.view old.outside).faults) ⊥ (λ e. g.told.content → MeetsRefused (g.view old.outside).reads (all_required old.kept.catalog.commit.segments) e) (λ path. g.told.content → MeetsMissing (g.view old.outside).reads (all_required old.kept.catalog.commit.segments) path) error
   pub file : MakesNoFile error
-  pub deletes_none : DeletesNone g.told (g.view files.outside) (g.view now)
-  pub watched : (g.view now).watched ≡ (g.view files.outside).watched
-  pub content : g.told.content → Same (g.view files.outside).reads (g.view now).reads
+  pub deletes_none : DeletesNone g.told (g.view old.outside) (g.view now)
+  pub watched : (g.view now).watched ≡ (g.view old.outside).watched
+  pub content : g.told.content → Same (g.view old.outside).reads (g.view now).reads
+
+-- what a call does that begins
+pub record Starts {A O W C : Type 0} (g : Ghosts O W C) (old new : StoreState O) (result : Result A TantivyError) : Type 0 where
+  pub kept : new.kept ≡ old.kept
+  pub is_open : OnOk result (new.is_open ≡ true)
+  pub good : g.told.content → OnOk result ((n : List ℕ) → has (all_required old.kept.catalog.commit.segments) n ≡ true → ReadsGoodFile ((g.view old.outside).reads n))
+  pub told : g.told.heard → OnOk result (TellsLine (g.view old.outside).heard (g.view new.outside).heard (g.view old.outside).moment (g.view new.outside).moment (opening_of old.kept.catalog.commit))
+  pub untold : g.told.heard → OnErr result (TellsNoLine (g.view old.outside).heard (g.view new.outside).heard)
+  pub part : g.told.heard → OnErr result (TellsFirstPart (g.view old.outside).heard (g.view new.outside).heard (opening_of old.kept.catalog.commit))
+  pub quiet : OnOk result ((g.view new.outside).faults ≡ (g.view old.outside).faults)
+  pub cause : IfErr result (ApplyCause ⊥ (Rose (g.view old.outside).faults (g.view new.outside).faults) ((g.view new.outside).faults ≡ (g.view old.outside).faults) ⊥ (λ e. g.told.content → MeetsRefused (g.view old.outside).reads (all_required old.kept.catalog.commit.segments) e) (λ path. g.told.content → MeetsMissing (g.view old.outside).reads (all_required old.kept.catalog.commit.segments) path))
+  pub file : IfErr result MakesNoFile
+  pub frame : OnlyTells g.told (g.view old.outside) (g.view new.outside)

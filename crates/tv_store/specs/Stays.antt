@@ -3,7 +3,7 @@ use Rattle.std.specs.Prelude.{ℕ, ◌≡◌, ◌≢◌, false, List, Result, On
 use Rattle.tv_model.specs.Files.{Reads, Rose}
 use Rattle.tv_model.specs.Names.{is_undotted, list_name, meta_name}
 use Rattle.tv_base.specs.declared.error.TantivyError.{TantivyError}
-use Rattle.tv_directory.specs.View.{View, Told, DeletesNone, Frame, Kept, OnlyReads}
+use Rattle.tv_directory.specs.View.{View, Told, DeletesNone, Kept, OnlyReads}
 use Rattle.tv_directory.specs.declared.directory.Directory.{Ghosts}
 use Rattle.tv_directory.specs.Watch.{MayNote}
 use Rattle.tv_store.specs.Kept.{FilesState, StoreState}
@@ -46,11 +46,6 @@ KeepsDotted old new = (n : List ℕ) → is_undotted n ≡ false → n ≢ list_
 pub record MayNotify {W : Type 0} (told : Told) (old new : View W) : Type 0 where
   pub deletes_none : DeletesNone told old new
   pub dotted : told.content → KeepsDotted old.reads new.reads
-  pub watched : MayNote meta_name old.watched new.watched
-
--- And nothing was told, and no lock was taken or freed.
-pub record FrameNotes {W : Type 0} (told : Told) (old new : View W) : Type 0 where
-  pub frame : Frame told old new
   pub watched : MayNote meta_name old.watched new.watched
 
 -- A call fails where the device refused one, where memory was wanted, or where a number is spent; and the device refused none where the call succeeds.

@@ -2,11 +2,10 @@
 ghost use Rattle.std.specs.Prelude.{◌≡◌, ◌<◌, ◌+◌, List, ℕ, IfOk, IsSome, OnOk, option_map, map, string_bytes, Some};
 ghost use Rattle.tv_model.specs.CollectionEvents.{without_live};
 ghost use Rattle.tv_model.specs.CommitEvents.{chosen, first_unknown, last_stamp};
-ghost use Rattle.tv_model.specs.Index.{first_catalog};
 ghost use Rattle.tv_model.specs.Living.{living};
 ghost use Rattle.tv_model.specs.Names.{has};
 ghost use Rattle.tv_model.specs.ReaderEvents.{with_new_reader, with_reloaded};
-ghost use Rattle.tv_model.specs.State.{Reader as ReaderState, live_at, reader_at};
+ghost use Rattle.tv_model.specs.State.{Reader as ReaderState, live_at, no_readers, reader_at};
 
 use crate::chosen::choose;
 use crate::commit::{Commit, listed};
@@ -42,15 +41,25 @@ impl Model for Catalog {
 }
 
 impl Catalog {
-    /// That of an index that was just made. Takes no memory.
-    pub(crate) fn new(alloc: Global) -> Catalog
-        ensures { result ≡ first_catalog }
+    /// That of an index with these live segments and this commit, where nobody reads. Takes no memory.
+    pub(crate) fn new(
+        alloc: Global,
+        live: BTreeMap<SegmentId, LiveSegment>,
+        next: Opstamp,
+        commit: Commit,
+    ) -> Catalog
+        ensures { result ≡ record {
+          live = live.entries;
+          next = next;
+          commit = commit;
+          reading = no_readers;
+        } }
     {
         Catalog {
             alloc,
-            live: BTreeMap::new(alloc),
-            next: 1,
-            commit: Commit::first(alloc),
+            live,
+            next,
+            commit,
             readers: Readers::new(alloc),
         }
     }

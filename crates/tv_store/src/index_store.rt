@@ -7,27 +7,29 @@ ghost use Rattle.tv_directory.specs.View.{OnlyTells};
 ghost use Rattle.tv_store.specs.Acting.{Acts};
 ghost use Rattle.tv_store.specs.Applying.{Stepped, LeavesMeta, Grows, ApplyFaults, AppliesFrame, IsUndisturbedEvent};
 ghost use Rattle.tv_store.specs.Kept.{Holds};
-ghost use Rattle.tv_store.specs.Making.{Begins, NotBegun};
-ghost use Rattle.tv_store.specs.Opening.{Opens, LeavesFirst, TellsOpening, TakesWriterLock, OpeningFaults, OpeningFrame};
+ghost use Rattle.tv_store.specs.Making.{Begins, ChecksFiles, NotBegun, Starts};
+ghost use Rattle.tv_store.specs.Opening.{Opens, LeavesIndex, TellsOpening, TakesWriterLock, OpeningFaults, OpeningFrame};
 ghost use Rattle.tv_store.specs.StoreCauses.{writer_lock_name};
 ghost use Rattle.tv_store.specs.Telling.{TellsAnswer, TriesLine};
 
 use crate::catalog::Catalog;
 use crate::files::Files;
-use crate::opening::{copied, make};
+use crate::form::Form;
+use crate::names::required_files;
+use crate::opening::{Found, find, opening_line};
 use std::alloc::Global;
 use std::marker::Model;
 use tv_base::{IoFault, TantivyError};
 use tv_directory::{DirectoryLock, Outside, index_writer_lock};
 use tv_managed::Refused;
-use tv_model::{Answer, Blob, Event};
+use tv_model::{Answer, Event, FileName};
 
 /// An index over a directory, whose writer lock it holds. One event after the other is applied to it,
 /// and the line of each is told. To a contract it is what is kept in memory, the directory, and
 /// whether it is open.
 pub struct IndexStore<O: Outside> {
     pub(crate) alloc: Global,
-    pub(crate) schema: Blob,
+    pub(crate) form: Form,
     pub(crate) catalog: Catalog,
     pub(crate) files: Files<O>,
     pub(crate) lock: DirectoryLock,
@@ -42,7 +44,7 @@ impl<O: Outside> Model for IndexStore<O> {
     ghost Value = { StoreState O };
 
     ghost view = { λ a. record {
-      kept = kept_of a.schema a.catalog a.files;
+      kept = kept_of a.form a.catalog a.files;
       outside = a.files.outside;
       is_open = a.is_open;
     } };
@@ -51,20 +53,36 @@ impl<O: Outside> Model for IndexStore<O> {
 }
 
 impl<O: Outside> IndexStore<O> {
-    /// Makes an index with this schema in a directory where none stands, takes the writer lock, and
-    /// tells the opening line. A refusal gives the directory back, with the locks that it had.
+    /// Opens the index that stands in a directory, or makes one with this schema where there is no
+    /// `meta.json`; takes the writer lock, sees that the files of the commit can be read, and tells the
+    /// opening line. A refusal gives the directory back, with the locks that it had.
+    ///
+    /// Refusals come in this order: `InvalidArgument` for the schema, `DataCorruption` for the list of
+    /// managed files, `DataCorruption` and `SchemaError` for `meta.json`, `LockFailure` for the lock,
+    /// `OpenReadError` for the first file of the commit that can't be read.
     pub fn open(alloc: Global, outside: O, schema: &[u8]) -> Result<IndexStore<O>, Refused<O>>
         ensures opens { IfOk result (Opens O.Directory outside schema.now) }
-        ensures leaves { IfErr result (LeavesFirst O.Directory outside schema.now) }
-        ensures tells { TellsOpening O.Directory outside result }
+        ensures leaves { IfErr result (LeavesIndex O.Directory outside schema.now) }
+        ensures tells { TellsOpening O.Directory outside schema.now result }
         ensures locks { TakesWriterLock O.Directory outside result }
         ensures faults { OpeningFaults O.Directory outside schema.now result }
         ensures frame { OpeningFrame O.Directory outside result }
     {
-        let (outside, text) = copied(alloc, outside, schema)?;
-        let (mut files, line) = make(alloc, outside, text.as_slice())?;
+        let Found {
+            form,
+            catalog,
+            mut files,
+        } = find(alloc, outside, schema)?;
         match files.acquire_lock(&index_writer_lock()) {
-            Ok(lock) => IndexStore::begin(alloc, text, files, lock, &line),
+            Ok(lock) => IndexStore {
+                alloc,
+                form,
+                catalog,
+                files,
+                lock,
+                is_open: false,
+            }
+            .begin(),
             Err(error) => Err(Refused {
                 error: TantivyError::from(error),
                 directory: files.into_outside(),
@@ -72,35 +90,42 @@ impl<O: Outside> IndexStore<O> {
         }
     }
 
-    // Tells the opening line of an index that was made, under its lock.
-    fn begin(
-        alloc: Global,
-        schema: Blob,
-        files: Files<O>,
-        lock: DirectoryLock,
-        line: &Answer,
-    ) -> Result<IndexStore<O>, Refused<O>>
-        requires lock { lock ≡ writer_lock_name }
-        requires room { length line.now < (O.view files.outside).room }
-        ensures begun { IfOk result (Begins O.Directory schema files line.now) }
+    // Tells the opening line of an index that was found, under its lock.
+    fn begin(self) -> Result<IndexStore<O>, Refused<O>>
+        ensures begun { IfOk result (Begins O.Directory self) }
         ensures refused { IfErr result (λ refused.
-            NotBegun O.Directory files line.now refused.directory refused.error) }
+            NotBegun O.Directory self refused.directory refused.error) }
     {
-        let mut store = IndexStore {
-            alloc,
-            schema,
-            catalog: Catalog::new(alloc),
-            files,
-            lock,
-            is_open: false,
-        };
-        match store.tell(line) {
+        let mut store = self;
+        match store.start() {
             Ok(()) => Ok(store),
-            Err(fault) => Err(Refused {
-                error: TantivyError::from(fault),
+            Err(error) => Err(Refused {
+                error,
                 directory: store.into_outside(),
             }),
         }
+    }
+
+    // Sees that the files of the commit can be read, and tells the opening line.
+    fn start(&mut self) -> Result<(), TantivyError>
+        ensures { Starts O.Directory self.old self.new result }
+    {
+        let names = required_files(self.alloc, self.catalog.commit().by_id())?;
+        let line = opening_line(self.alloc, self.catalog.commit())?;
+        self.check_files(names.as_slice())?;
+        let line = self.ready(line)?;
+        self.tell(&line)?;
+        Ok(())
+    }
+
+    // Sees that each of these files can be read.
+    fn check_files(&mut self, names: &[FileName]) -> Result<(), TantivyError>
+        ensures { ChecksFiles O.Directory self.old self.new names.now result }
+    {
+        for name in names {
+            let _body = self.read_body(name)?;
+        }
+        Ok(())
     }
 
     /// Makes one step of the machine, and tells its line. After an error the store isn't open.
@@ -182,7 +207,7 @@ impl<O: Outside> IndexStore<O> {
     {
         let IndexStore {
             alloc: _,
-            schema: _,
+            form: _,
             catalog: _,
             files,
             lock,

@@ -1,107 +1,34 @@
-//! How an index is made in a directory where none stands.
-ghost use Rattle.std.specs.Prelude.{◌≡◌, ◌<◌, true, length, is_some, IfOk, IfErr, OnOk};
-ghost use Rattle.tv_model.specs.Names.{is_file_name, meta_name};
+//! How the index is found that stands in a directory, or is made where there is none.
+ghost use Rattle.std.specs.Prelude.{◌≡◌, IfOk, IfErr, map, option_map, string_bytes};
+ghost use Rattle.tv_model.specs.Commits.{IsCommit};
+ghost use Rattle.tv_model.specs.Index.{next_after, opened_catalog};
 ghost use Rattle.tv_model.specs.Lines.{opening_of};
-ghost use Rattle.tv_model.specs.Commits.{is_schema, first_commit};
-ghost use Rattle.tv_model.specs.Index.{HasNoIndex};
-ghost use Rattle.tv_directory.specs.View.{OnlyReads};
-ghost use Rattle.tv_managed.specs.Managed.{KeepsOtherFiles};
-ghost use Rattle.tv_store.specs.FileCalls.{KeepsOpenFiles, LeavesText, SavesMeta};
-ghost use Rattle.tv_store.specs.Making.{CheckFaults, Made, NotMade, first_text};
-ghost use Rattle.tv_store.specs.StoreCauses.{IsRefusal};
-ghost use Rattle.tv_store.specs.Stays.{Faults};
+ghost use Rattle.tv_index.specs.Metas.{commit_of};
+ghost use Rattle.tv_index.specs.Opening.{form_of};
+ghost use Rattle.tv_index.specs.Segments.{entry_of};
+ghost use Rattle.tv_store.specs.Making.{FindsFiles, FindsNone, IsSorted};
 
+use crate::catalog::Catalog;
 use crate::commit::Commit;
 use crate::files::Files;
+use crate::form::Form;
 use std::alloc::Global;
-use tv_base::{MANAGED_FILEPATH, META_FILEPATH, OpenReadError, TantivyError};
+use std::collections::BTreeMap;
+use tv_base::TantivyError;
 use tv_directory::Outside;
-use tv_managed::{ManagedDirectory, Refused};
-use tv_model::{Answer, Blob, Memory};
+use tv_index::{InnerSegmentMeta, Schema, UntrackedIndexMeta, open_or_create};
+use tv_managed::Refused;
+use tv_model::{Answer, LiveSegment, Memory, Opstamp, SegmentId, Text};
 
-// The one schema with a field that is accepted so far.
-const TEXT_SCHEMA: &str =
-    "[{\"name\":\"text\",\"type\":\"text\",\"options\":{\"indexing\":{\"record\":\"position\",\"fieldnorms\":true,\"tokenizer\":\"default\"},\"stored\":false,\"fast\":false}}]";
-
-// Whether the schema is one of those that are accepted so far.
-fn is_accepted(schema: &[u8]) -> bool
-    ensures { result ≡ is_schema schema.now }
-{
-    schema == b"[]".as_slice() || schema == TEXT_SCHEMA.as_bytes()
+/// An index that was found: how it is made, what is known of it, and its files.
+pub(crate) struct Found<O: Outside> {
+    pub(crate) form: Form,
+    pub(crate) catalog: Catalog,
+    pub(crate) files: Files<O>,
 }
 
-// A refusal with this text.
-fn invalid_argument(alloc: Global, text: &str) -> TantivyError
-    ensures { IsRefusal text.now result }
-{
-    match String::from_str(alloc, text) {
-        Ok(text) => TantivyError::InvalidArgument(text),
-        Err(_) => TantivyError::Memory,
-    }
-}
-
-// Whether a file reads.
-fn reads_file<O: Outside>(outside: &mut O, name: &str) -> Result<bool, TantivyError>
-    requires { is_file_name name.now ≡ true }
-    ensures answer { O.told.content → IfOk result (λ found. found
-        ≡ is_some ((O.view outside.old).reads name.now)) }
-    ensures faults { Faults (O.view outside.old) (O.view outside.new) result }
-    ensures frame { OnlyReads O.told (O.view outside.old) (O.view outside.new) }
-{
-    match outside.exists(name) {
-        Ok(found) => Ok(found),
-        Err(OpenReadError::Memory) => Err(TantivyError::Memory),
-        Err(OpenReadError::IoError { io_error, .. }) => Err(TantivyError::IoError(io_error)),
-        Err(OpenReadError::FileDoesNotExist(_)) => unreachable!(),
-        Err(OpenReadError::IncompatibleIndex(_)) => unreachable!(),
-    }
-}
-
-/// Looks at the schema, syncs the directory, and sees that no index stands there.
-pub(crate) fn check_empty<O: Outside>(
-    alloc: Global,
-    outside: &mut O,
-    schema: &[u8],
-) -> Result<(), TantivyError>
-    ensures schema { OnOk result (is_schema schema.now ≡ true) }
-    ensures none { O.told.content → OnOk result (HasNoIndex (O.view outside.old).reads) }
-    ensures faults { CheckFaults O.Directory outside.old outside.new schema.now result }
-    ensures frame { OnlyReads O.told (O.view outside.old) (O.view outside.new) }
-{
-    if !is_accepted(schema) {
-        return Err(invalid_argument(alloc, "the schema is not of the stated form"));
-    }
-    outside.sync_directory()?;
-    if reads_file(outside, MANAGED_FILEPATH)? {
-        return Err(invalid_argument(alloc, "an index stands here"));
-    }
-    if reads_file(outside, META_FILEPATH)? {
-        return Err(invalid_argument(alloc, "an index stands here"));
-    }
-    Ok(())
-}
-
-/// A copy of the schema's text, beside the directory, which comes back where memory is wanted.
-pub(crate) fn copied<O: Outside>(
-    alloc: Global,
-    outside: O,
-    schema: &[u8],
-) -> Result<(O, Blob), Refused<O>>
-    ensures ok { IfOk result (λ both. both ≡ (outside, schema.now)) }
-    ensures err { IfErr result (λ refused. (refused.error ≡ TantivyError.Memory)
-        × (refused.directory ≡ outside)) }
-{
-    match Vec::from_slice(alloc, schema) {
-        Ok(text) => Ok((outside, Blob::new(text))),
-        Err(_) => Err(Refused {
-            error: TantivyError::Memory,
-            directory: outside,
-        }),
-    }
-}
-
-// The opening line of a commit.
-fn opening_line(alloc: Global, commit: &Commit) -> Result<Answer, Memory>
+/// The opening line of a commit.
+pub(crate) fn opening_line(alloc: Global, commit: &Commit) -> Result<Answer, Memory>
     ensures { IfOk result (λ line. line ≡ opening_of commit.now) }
 {
     Answer::new(alloc, "open")?
@@ -109,56 +36,109 @@ fn opening_line(alloc: Global, commit: &Commit) -> Result<Answer, Memory>
         .number(commit.len() as u64)
 }
 
-// Writes the first commit of an index, and answers its opening line, in room that is made for it.
-fn create<O: Outside>(
+// The segments of a commit by their ids.
+fn by_id(
     alloc: Global,
-    files: &mut Files<O>,
-    schema: &[u8],
-) -> Result<Answer, TantivyError>
-    ensures line { IfOk result (λ line. (line ≡ opening_of first_commit)
-        × (length line < (O.view files.new.outside).room)) }
-    ensures saves { OnOk result (SavesMeta O.Directory files.old files.new
-        (first_text schema.now)) }
-    ensures others { O.told.content → KeepsOtherFiles (O.view files.old.outside).reads
-        (O.view files.new.outside).reads meta_name }
-    ensures leaves { LeavesText O.Directory files.old.outside files.new.outside
-        (first_text schema.now) result }
-    ensures faults { Faults (O.view files.old.outside) (O.view files.new.outside) result }
-    ensures frame { KeepsOpenFiles O.told O.view files.old files.new }
+    segments: &[InnerSegmentMeta],
+) -> Result<BTreeMap<SegmentId, LiveSegment>, Memory>
+    ensures { IfOk result (λ by_id. IsSorted (map entry_of segments.now)
+        → by_id.entries ≡ map entry_of segments.now) }
 {
-    let commit = Commit::first(alloc);
-    let text = commit.print(alloc, schema)?;
-    let line = opening_line(alloc, &commit)?;
-    files.ready(line.as_slice().len())?;
-    files.save_meta(text.as_slice())?;
-    Ok(line)
+    let mut by_id = BTreeMap::new(alloc);
+    for segment in segments {
+        by_id.insert(
+            segment.segment_id,
+            LiveSegment {
+                max_doc: segment.max_doc,
+                deletes: segment.deletes,
+            },
+        )?;
+    }
+    Ok(by_id)
 }
 
-/// Makes the files of an index with this schema in a directory where none stands. Its opening line is
-/// yet to be told, in room that was made for it. A refusal gives the directory back.
-pub(crate) fn make<O: Outside>(
+// The number of the commit after the one with this number.
+fn next_after(opstamp: Opstamp) -> Opstamp
+    ensures { result ≡ next_after opstamp }
+{
+    opstamp.saturating_add(1)
+}
+
+// The catalog of an index that was just opened with this commit.
+fn opened_catalog(
+    alloc: Global,
+    segments: &[InnerSegmentMeta],
+    opstamp: Opstamp,
+    payload: Option<String>,
+) -> Result<Catalog, Memory>
+    ensures { IfOk result (λ catalog. IsSorted (map entry_of segments.now)
+        → catalog ≡ opened_catalog (record {
+          opstamp = opstamp;
+          payload = option_map string_bytes payload;
+          segments = map entry_of segments.now;
+        })) }
+{
+    let payload = match payload {
+        Some(text) => Some(Text::new(text)),
+        None => None,
+    };
+    let commit = Commit::new(opstamp, payload, by_id(alloc, segments)?);
+    let live = by_id(alloc, segments)?;
+    Ok(Catalog::new(alloc, live, next_after(opstamp), commit))
+}
+
+// How an index is made, and what is known of it where it was just opened.
+fn parts_of(alloc: Global, meta: UntrackedIndexMeta) -> Result<(Form, Catalog), Memory>
+    ensures form { IfOk result (λ parts. parts.0 ≡ form_of meta) }
+    ensures catalog { IsCommit (commit_of meta)
+        → IfOk result (λ parts. parts.1 ≡ opened_catalog (commit_of meta)) }
+{
+    let UntrackedIndexMeta {
+        index_settings,
+        segments,
+        schema,
+        opstamp,
+        payload,
+    } = meta;
+    let catalog = opened_catalog(alloc, segments.as_slice(), opstamp, payload)?;
+    let form = Form {
+        settings: index_settings,
+        schema,
+    };
+    Ok((form, catalog))
+}
+
+/// Finds the index that stands in a directory, or makes one with this schema where there is none. A
+/// refusal gives the directory back.
+pub(crate) fn find<O: Outside>(
     alloc: Global,
     outside: O,
     schema: &[u8],
-) -> Result<(Files<O>, Answer), Refused<O>>
-    ensures made { IfOk result (λ made. Made O.Directory outside schema.now made.0 made.1) }
-    ensures refused { IfErr result (λ refused.
-        NotMade O.Directory outside schema.now refused.directory refused.error) }
+) -> Result<Found<O>, Refused<O>>
+    ensures found { IfOk result (λ found.
+        FindsFiles O.Directory outside schema.now found.form found.catalog found.files) }
+    ensures none { IfErr result (λ refused.
+        FindsNone O.Directory outside schema.now refused.directory refused.error) }
 {
-    let mut outside = outside;
-    if let Err(error) = check_empty(alloc, &mut outside, schema) {
-        return Err(Refused {
-            error,
-            directory: outside,
-        });
-    }
-    let directory = ManagedDirectory::wrap(alloc, outside)?;
-    let mut files = Files::new(alloc, directory);
-    match create(alloc, &mut files, schema) {
-        Ok(line) => Ok((files, line)),
-        Err(error) => Err(Refused {
-            error,
-            directory: files.into_outside(),
+    let schema = match Schema::from_bytes(alloc, schema) {
+        Ok(schema) => schema,
+        Err(error) => {
+            return Err(Refused {
+                error,
+                directory: outside,
+            });
+        }
+    };
+    let (directory, meta) = open_or_create(alloc, outside, &schema)?;
+    match parts_of(alloc, meta) {
+        Ok((form, catalog)) => Ok(Found {
+            form,
+            catalog,
+            files: Files::new(alloc, directory),
+        }),
+        Err(memory) => Err(Refused {
+            error: TantivyError::from(memory),
+            directory: directory.into_directory(),
         }),
     }
 }

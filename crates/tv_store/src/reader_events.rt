@@ -47,7 +47,7 @@ fn shown_line(
 
 impl<O: Outside> IndexStore<O> {
     // The body of a sealed file.
-    fn read_body(&mut self, name: &FileName) -> Result<FileSlice, TantivyError>
+    pub(crate) fn read_body(&mut self, name: &FileName) -> Result<FileSlice, TantivyError>
         ensures body { O.told.content → IfOk result
             (ReadsBody ((O.view self.old.outside).reads name.now)) }
         ensures faults { ReadBodyFaults O.Directory self.old.outside

@@ -41,9 +41,9 @@ fn a_collection_deletes_what_does_not_live(rt: HostRuntime) {
     assert_eq!(rt; faults_of(&rt, rt.alloc(), &[], &[], LIVING_AND_NOT), 0);
 }
 
-// Four files, of which the last one isn't there any more, by the calls 0 to 12 of the device. A
-// collection takes the meta lock (call 13) and syncs, deletes (calls 15 to 18), and syncs, writes the list,
-// and syncs again.
+// Four files, of which the last one isn't there any more, by the calls 1 to 13 of the device, behind a read
+// of the list. A collection takes the meta lock (call 14) and syncs, deletes (calls 16 to 19), and syncs,
+// writes the list, and syncs again.
 const FOUR: &[Step] = &[
     Step::On(Call::AtomicWrite, "a.idx", "a", Want::Done),
     Step::On(Call::AtomicWrite, "b.idx", "b", Want::Done),
@@ -66,7 +66,7 @@ const ALL_BUT_ONE: &[Step] = &[
     Step::List("[\"b.idx\"]\n"),
 ];
 
-// The calls 15 and 17 are refused.
+// The calls 16 and 18 are refused.
 const TWO_FAIL: &[Step] = &[
     Step::Collect(
         &["d.idx"],
@@ -82,7 +82,7 @@ const TWO_FAIL: &[Step] = &[
     Step::List("[\"a.idx\",\"c.idx\",\"d.idx\"]\n"),
 ];
 
-// Call 15 is refused, which isn't one of the collection's.
+// Call 16 is refused, which isn't one of the collection's.
 const NOTHING_TO_DELETE: &[Step] = &[
     Step::Collect(
         &["a.idx", "b.idx", "c.idx", "d.idx"],
@@ -122,12 +122,12 @@ const FAILS_SAVING: &[Step] = &[
 // The calls that are refused, what is done, and how many of the refused ones weren't deletes.
 const COLLECTIONS: &[(&[u64], &[Step], u64)] = &[
     (&[], ALL_BUT_ONE, 0),
-    (&[15, 17], TWO_FAIL, 0),
-    (&[15], NOTHING_TO_DELETE, 1),
-    (&[14], FAILS_BEFORE, 1),
-    (&[19], FAILS_AFTER, 1),
-    (&[20], FAILS_SAVING, 1),
+    (&[16, 18], TWO_FAIL, 0),
+    (&[16], NOTHING_TO_DELETE, 1),
+    (&[15], FAILS_BEFORE, 1),
+    (&[20], FAILS_AFTER, 1),
     (&[21], FAILS_SAVING, 1),
+    (&[22], FAILS_SAVING, 1),
 ];
 
 // Takes the steps behind `FOUR`, and looks how many of the refused calls weren't deletes.

@@ -1,11 +1,13 @@
 //! What the library's one large error says, as far as tests look at it.
-use tv_base::{IoKind, OpenWriteError, TantivyError};
+use tv_base::{DataCorruption, IoKind, OpenWriteError, TantivyError};
 
 #[derive(Clone, Copy)]
 pub(crate) enum Failure<'a> {
     Io(IoKind),
     // A file of this name is there.
     Exists(&'a str),
+    // The file of this name isn't of its form.
+    Corrupt(&'a str),
     System(&'a str),
     Poisoned,
     Other,
@@ -18,6 +20,12 @@ pub(crate) fn failure_of(error: &TantivyError) -> Failure<'_> {
         TantivyError::OpenWriteError(OpenWriteError::FileAlreadyExists(path)) => {
             Failure::Exists(path.as_str())
         }
+        TantivyError::DataCorruption(
+            DataCorruption {
+                filepath: Some(path),
+                ..
+            },
+        ) => Failure::Corrupt(path.as_str()),
         TantivyError::SystemError(text) => Failure::System(text.as_str()),
         TantivyError::Poisoned => Failure::Poisoned,
         _ => Failure::Other,

@@ -31,6 +31,8 @@ mod future_results;
 #[cfg(test)]
 mod inventory;
 #[cfg(test)]
+mod lists;
+#[cfg(test)]
 mod managed;
 #[cfg(test)]
 mod model;

@@ -1,5 +1,5 @@
 //! A managed directory, one call after the other, over a directory that fails.
-ghost use Rattle.std.specs.Prelude.{◌≡◌, ◌≢◌, ◌+◌, ◌<◌, ◌^◌, true, length, None, OnOk};
+ghost use Rattle.std.specs.Prelude.{◌≡◌, ◌≢◌, ◌+◌, ◌<◌, ◌^◌, true, length, OnOk};
 ghost use Rattle.tv_model.specs.Names.{is_file_name, list_name};
 
 use crate::answers::{Answer, Want, ends};
@@ -9,7 +9,7 @@ use std::alloc::Global;
 use std::collections::BTreeSet;
 use std::process::Abort;
 use tv_base::{IoError, MANAGED_FILEPATH, TantivyError, is_plain_name};
-use tv_directory::{Bench, Directory, NoWatch, meta_lock};
+use tv_directory::{Bench, Directory, meta_lock};
 use tv_managed::{GarbageCollectionResult, ManagedDirectory, ManagedWriter};
 
 /// A call on a file.
@@ -204,25 +204,14 @@ fn take_all<R: Abort, D: Empty>(
     }
 }
 
-// A directory without files.
-fn without_files<R: Abort>(rt: &R, alloc: Global) -> TestBench
-    ensures { (⟦<Bench<NoWatch> as Directory>⟧.view result).reads list_name ≡ None }
-{
-    Bench::new(alloc, Vec::new(alloc)).expect(rt, "memory")
-}
-
 // A directory without files, whose device refuses the calls with these numbers.
-fn refusing<R: Abort>(rt: &R, alloc: Global, refused: &[u64]) -> TestBench
-    ensures { (⟦<Bench<NoWatch> as Directory>⟧.view result).reads list_name ≡ None }
-{
-    let mut bench = without_files(rt, alloc);
+fn refusing<R: Abort>(rt: &R, alloc: Global, refused: &[u64]) -> TestBench {
+    let mut bench: TestBench = Bench::new(alloc, Vec::new(alloc)).expect(rt, "memory");
     bench.fail_at(Vec::from_slice(alloc, refused).expect(rt, "memory"));
     bench
 }
 
-fn wrapped<R: Abort, D: Empty>(rt: &R, alloc: Global, directory: D) -> ManagedDirectory<D>
-    requires { (D.view directory).reads list_name ≡ None }
-{
+fn wrapped<R: Abort, D: Empty>(rt: &R, alloc: Global, directory: D) -> ManagedDirectory<D> {
     match ManagedDirectory::wrap(alloc, directory) {
         Ok(managed) => managed,
         Err(_) => panic!(rt; "it is wrapped"),
@@ -307,9 +296,10 @@ const REFUSED: &[Step] = &[
     Step::On(Call::GetFileHandle, "a.idx", "", Want::Text("123456789")),
 ];
 
-// The calls of the device are: a write of the list; whether the file is there, a write of the list, and a
-// sync; a read of the list; whether the file is there, a write of the list, a sync, and the making.
+// The calls of the device are: a read of the list; a write of it; whether the file is there, a write of the
+// list, and a sync; a read of the list; whether the file is there, a write of the list, a sync, and the
+// making.
 #[test]
 fn a_refused_registration_manages_no_name(rt: HostRuntime) {
-    assert_eq!(rt; faults_of(&rt, rt.alloc(), &[0, 3, 8], &[], REFUSED), 3);
+    assert_eq!(rt; faults_of(&rt, rt.alloc(), &[1, 4, 9], &[], REFUSED), 3);
 }

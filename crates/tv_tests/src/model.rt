@@ -78,4 +78,7 @@ fn laws_are_called() {
     laws::lines_tell_outcomes();
     laws::reports_determine_runs();
     laws::files_keep_their_body();
+    laws::meta_json_keeps_commits();
+    laws::stripped_schemas_are_texts();
+    laws::lists_tell_their_names();
 }

@@ -139,7 +139,8 @@ const FILES: &[Step] = &[
     )),
 ];
 
-fn slice_of(bytes: Bytes) -> &'static [u8] {
+/// These bytes.
+pub(crate) fn slice_of(bytes: Bytes) -> &'static [u8] {
     match bytes {
         Bytes::Text(text) => text.as_bytes(),
         Bytes::Raw(bytes) => bytes,

@@ -6,12 +6,13 @@ use Rattle.tv_model.specs.Commits.{Commit}
 use Rattle.tv_model.specs.State.{Catalog}
 use Rattle.tv_model.specs.Lines.{opening_of}
 use Rattle.tv_store.specs.Telling.{TellsLine}
-use Rattle.tv_store.specs.StoreCauses.{writer_lock_name}
+use Rattle.tv_store.specs.StoreCauses.{IsBusy, writer_lock_name}
 use Rattle.tv_replay.specs.AppliedEvents.{Runs, FailsRun, StopsRun}
 use Rattle.tv_replay.specs.Replays.{Replays, ReplayCause, IsLockBusy, IsRefusedAt, IsQuietAt, IsReadOut, FailsReplay, StopsReplay}
-use Rattle.tv_replay.proofs.AppliedEvents.{replays, run_cause, either_rose, opens_whole, if_err_both}
+use Rattle.tv_replay.proofs.AppliedEvents.{replays, run_cause, either_rose, reads_whole, if_err_both}
 use Rattle.tv_replay.proofs.Complete.{only_memory}
-use Rattle.tv_replay.proofs.Stopping.{stops_report, opening_told, busy_since_opening, meta_since, none_met}
+use Rattle.tv_replay.proofs.ReplayFrames.{run_frame}
+use Rattle.tv_replay.proofs.Stopping.{stops_report, opening_cause, opening_told, busy_since_opening, meta_since, none_met}
 use Rattle.tv_replay.proofs.replaying.replay.Goals as goal
 
 pub returns-in-Err-clause-stops : goal.returns-in-Err-clause-stops
@@ -23,10 +24,39 @@ returns-in-Err-clause-stops g c tells =
     inl (record {
       silent = refused.tells.err;
       unread = refl;
-      first = refused.leaves.first tells;
+      leaves = refused.leaves.leaves tells;
       unchanged = refused.leaves.unchanged tells;
-      cause = opening_told D.told.content D.told.locks c.args.schema.now before.reads (before.locks writer_lock_name ≡ true) (Rose before.faults now.faults) (now.faults ≡ before.faults) c.in-Err.field-0.error tells refused.faults.cause;
+      cause = opening_told D.told.content D.told.locks c.args.schema.now before.reads (before.locks writer_lock_name ≡ true) (D.told.locks → before.locks writer_lock_name ≡ false) (Rose before.faults now.faults) (now.faults ≡ before.faults) c.in-Err.field-0.error tells refused.faults.cause;
     })
+
+pub returns-in-Err-clause-faults : goal.returns-in-Err-clause-faults
+returns-in-Err-clause-faults g c =
+    let D = g.O.Directory in
+    let before = D.view c.args.outside in
+    let now = D.view c.in-Err.field-0.directory in
+    let script = g.R.Source.view c.args.script.now in
+    let refused = c.in-Err.ensures in
+    record {
+      quiet = tt;
+      free = λ t. tt;
+      cause =
+          opening_cause D.told.content c.args.schema.now before.reads script.left
+          (IsBusy D.told.locks (before.locks writer_lock_name ≡ true) (Rose before.faults now.faults)) (D.told.locks → before.locks writer_lock_name ≡ false) (Rose before.faults now.faults) (now.faults ≡ before.faults) c.in-Err.field-0.error
+          (λ busy. record { told = λ t. inl (busy.told t); untold = busy.untold }) (λ rose. inl rose) (λ quiet. (quiet, refl)) refused.faults.cause;
+    }
+
+pub returns-in-Err-clause-complete : goal.returns-in-Err-clause-complete
+returns-in-Err-clause-complete g c all =
+    let D = g.O.Directory in
+    let before = D.view c.args.outside in
+    let now = D.view c.in-Err.field-0.directory in
+    let script = g.R.Source.view c.args.script.now in
+    only_memory D c.args.outside c.in-Err.field-0.directory c.args.schema.now script script (IsLockBusy D.told.locks before.locks (Rose before.faults now.faults)) (IsRefusedAt before now script script) (IsQuietAt before now script script) c.in-Err.field-0.error
+    all.content all.ready (none_met D.told.locks before.locks (Rose before.faults now.faults) all.locks all.ready.sound.free) all.quiet
+    (returns-in-Err-clause-faults g c).cause (returns-in-Err-clause-stops g c)
+
+pub returns-clause-frame : goal.returns-clause-frame
+returns-clause-frame g c = run_frame c.in-Ok.ensures.frame.ok c.in-Ok.ensures.locks.ok c.apply_all-outcome.ensures.frame c.into_outside.ensures.frees
 
 pub returns-clause-faults : goal.returns-clause-faults
 returns-clause-faults g c =
@@ -49,7 +79,7 @@ returns-clause-faults g c =
           (λ error cause.
           subst (λ (n : ℕ). ReplayCause D.told.content c.args.schema.now before.reads script.left (IsLockBusy D.told.locks before.locks (Rose before.faults n)) (Rose before.faults n ⊎ more) ((n ≡ before.faults) × same) error) (sym faults)
           (run_cause D c.in-Ok.store c.apply_all-outcome.new.store script script_now D.told.content c.args.schema.now before.reads (IsLockBusy D.told.locks before.locks (Rose before.faults new.faults)) (IsRefusedAt before new script script_now) (IsQuietAt before new script script_now) error cause
-          opened.opens.spelled.0 opened.opens.none
+          (c.in-Ok.store.kept.form.schema, opened.opens.spelled) (λ tells. (opened.opens.found tells).0)
           (busy_since_opening D.told.locks before.locks mid.locks before.faults mid.faults new.faults opened.locks.ok opened.faults.quiet)
           (either_rose before.faults mid.faults new.faults more opened.faults.quiet)
           (λ quiet. (quiet.0 ∙ opened.faults.quiet, quiet.1))))
@@ -91,15 +121,16 @@ returns-clause-stops g c =
     let script_now = g.R.Source.view c.apply_all-outcome.new.script in
     let freed = c.into_outside.ensures in
     IfErr-weaker c.apply_all-outcome.result (StopsRun D store c.apply_all-outcome.new.store script script_now) (StopsReplay D c.args.outside c.into_outside.result c.args.schema.now script script_now)
-    (λ error stopped tells. inr (
-      opened.opens.none tells,
-      λ index.
+    (λ error stopped tells. inr (record {
+      found = (opened.opens.found tells).0;
+      files = (opened.opens.found tells).1;
+      stops = λ index.
           let held = opened.opens.holds tells index in
           stops_report D.told store.kept.form index.form script script_now index.state before mid new now error
           held.0 (λ th. subst (λ (commit : Commit). TellsLine before.heard mid.heard before.moment mid.moment (opening_of commit)) (ap (λ (catalog : Catalog). catalog.commit) held.1.catalog) (opened.tells.ok th))
           opened.locks.ok opened.faults.quiet freed.frees.faults
-          freed.frees.frame.tells_none.heard freed.frees.frame.tells_none.deletes_none.goes_on.clock (freed.frees.frame.content tells meta_name) (stopped tells index.state held.1 (opens_whole c.args.schema.now before.reads index (opened.opens.none tells))),
-    ))
+          freed.frees.frame.tells_none.heard freed.frees.frame.tells_none.deletes_none.goes_on.clock (freed.frees.frame.content tells meta_name) (stopped tells index.state held.1 (reads_whole index.state held.2));
+    }))
     c.apply_all-outcome.ensures.stops
 
 pub returns-clause-complete : goal.returns-clause-complete

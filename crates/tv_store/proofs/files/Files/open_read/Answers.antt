@@ -4,7 +4,8 @@ use Rattle.tv_model.specs.Files.{Rose}
 use Rattle.tv_store.specs.Bodies.{RefusesAt}
 use Rattle.tv_store.specs.ReadCauses.{ApplyCause}
 use Rattle.tv_store.proofs.OpenFiles.{still_open}
-use Rattle.tv_store.proofs.ReaderEvents.{body_fails, failed_as}
+use Rattle.tv_store.specs.StoreCauses.{MakesNoFile}
+use Rattle.tv_store.proofs.ReaderEvents.{body_fails, failed_as, reads_make_none}
 use Rattle.tv_store.proofs.files.Files.open_read.Goals as goal
 
 pub returns-in_err-body-clause-faults : goal.returns-in_err-body-clause-faults
@@ -21,6 +22,7 @@ returns-in_err-body-clause-faults g c =
           c.from_residual.ensures.1
           (body_fails D.told.content (λ d. (D.view d).reads) (λ d. (D.view d).faults) c.self.inside.directory.0 value after c.args.name.now c.as_str.result.now c.in_err-body.field-0.0
           (ap (λ v. v.outside) c.self.view_is) c.as_str.ensures.text c.as_str.ensures.name why.cause why.path why.err why.outside);
+      file = failed_as c.from_residual.result (of_open_read c.in_err-body.field-0.0) MakesNoFile c.from_residual.ensures.1 (reads_make_none c.in_err-body.field-0.0);
     }
 
 pub invariant_of-self-2 : goal.invariant_of-self-2

@@ -3,7 +3,7 @@ use Rattle.std.proofs.lemmas.Result.{err_from_is_err_and}
 use Rattle.tv_base.specs.declared.error.TantivyError.TheVariants as errors
 use Rattle.tv_model.specs.Files.{Rose}
 use Rattle.tv_store.specs.Acting.{Acts}
-use Rattle.tv_store.proofs.Applied.{grows_failed, faults_failed, grows_told, tells_untold, grows_untold, undisturbed}
+use Rattle.tv_store.proofs.Applied.{grows_failed, faults_failed, grows_told, tells_untold, grows_untold, undisturbed, leaves_untold, step_told}
 use Rattle.tv_store.proofs.index_store.IndexStore.apply.Goals as goal
 
 pub returns-in_err-answer-clause-grows : goal.returns-in_err-answer-clause-grows
@@ -48,3 +48,16 @@ pub returns-in_err-tell-clause-complete : goal.returns-in_err-tell-clause-comple
 returns-in_err-tell-clause-complete g c u =
     let acted = subst (λ v. Acts g.O.Directory (record v { is_open = false }) c.act.new.self c.args.event.now (Ok c.in_ok-answer.answer)) c.self.view_is c.in_ok-answer.ensures in
     absurd (u.quiet (subst (λ (n : ℕ). Rose n (g.O.Directory.view c.tell.new.self.outside).faults) acted.faults.quiet c.in_err-tell.ensures.faults.cause.1))
+
+pub returns-in_err-tell-clause-leaves : goal.returns-in_err-tell-clause-leaves
+returns-in_err-tell-clause-leaves g c =
+    let acted = subst (λ v. Acts g.O.Directory (record v { is_open = false }) c.act.new.self c.args.event.now (Ok c.in_ok-answer.answer)) c.self.view_is c.in_ok-answer.ensures in
+    let did = c.in_err-tell.ensures in
+    let e = err_from_is_err_and c.from_residual-in_err-tell.result c.from_residual-in_err-tell.ensures.1 in
+    rw (e.1, e.2) (leaves_untold g.O.Directory c.args.self.now c.act.new.self c.tell.new.self c.args.event.now c.in_ok-answer.answer acted did.kept did.frame c.in_err-tell.field-0.0 did.tells did.faults.cause.1)
+
+pub returns-clause-step : goal.returns-clause-step
+returns-clause-step g c =
+    let acted = subst (λ v. Acts g.O.Directory (record v { is_open = false }) c.act.new.self c.args.event.now (Ok c.in_ok-answer.answer)) c.self.view_is c.in_ok-answer.ensures in
+    let did = c.in_ok-tell.ensures in
+    step_told g.O.Directory c.args.self.now c.act.new.self c.tell.new.self c.args.event.now c.in_ok-answer.answer acted did.kept did.frame

@@ -1,6 +1,7 @@
 use Rattle.std.proofs.Common.{◌++◌, ◌∷◌, [], List, ℕ, ◌<◌, ◌^◌, ap, subst, ◌∙◌, arith}
 use Rattle.std.specs.List.{AllByRecursion}
-use Rattle.tv_model.specs.Commits.{Commit, IndexForm, IsSegment, printed, default_settings}
+use Rattle.tv_model.specs.Commits.{Commit, IndexForm, IsSegment, printed}
+use Rattle.tv_store.proofs.FoundStates.{means_commit}
 use Rattle.tv_store.specs.Committing.{IsPrinted, commit_of}
 use Rattle.tv_store.proofs.Committing.{commits_as}
 use Rattle.tv_store.proofs.index_store.IndexStore.commit_chosen.Goals as goal
@@ -11,17 +12,16 @@ returns g c =
     let segments = c.args.segments.entries in
     let commit = c.in_ok-commit.commit in
     let made = c.in_ok-commit.ensures in
-    let text = c.as_slice-2.result.now in
+    let text = c.as_slice.result.now in
     commits_as g.O.Directory (IsPrinted kept commit text) c.args.self.now c.commit_printed.new.self (AllByRecursion IsSegment segments)
     (λ s. commit_of s commit.payload commit.segments) (λ s. commit_of s c.args.payload.now segments) c.commit_printed.result c.commit_printed.ensures
     (λ tells s held are_segments. (
       record {
         opstamp = ap (λ (k : Commit). k.opstamp) made.commit ∙ c.next_opstamp.ensures ∙ ap (λ v. v.kept.catalog.next) c.self.view_is;
         sound = made.sound are_segments;
-        blocksize = subst (λ (f : IndexForm). f.settings.blocksize < 2 ^ 64) (ap (λ v. v.kept.form) c.self.view_is) (omega arith);
+        blocksize = (means_commit kept.form.settings kept.form.schema held.meta.0 s.catalog.commit held.meta.2).1;
         text_is =
-            c.as_slice-2.ensures.value ∙ c.in_ok-text.ensures ∙ ap (λ (x : List ℕ). printed default_settings x commit ++ 10 ∷ []) c.as_slice.ensures
-            ∙ ap (λ (f : IndexForm). printed f.settings f.schema commit ++ 10 ∷ []) (ap (λ v. v.kept.form) c.self.view_is);
+            c.as_slice.ensures.value ∙ c.in_ok-text.ensures ∙ ap (λ (f : IndexForm). printed f.settings f.schema commit ++ 10 ∷ []) (ap (λ v. v.kept.form) c.self.view_is);
       },
       ap (λ (k : Commit). commit_of s k.payload k.segments) made.commit,
     ))

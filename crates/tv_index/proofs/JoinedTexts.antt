@@ -1,0 +1,52 @@
+-- Texts that are printed piece by piece, and in lists with commas.
+use Rattle.std.proofs.Common.{◌≡◌, ℕ, Bool, true, false, List, [], ◌∷◌, ◌++◌, map, refl, sym, ap, ◌∙◌, append_assoc}
+use Rattle.std.specs.Prelude.{if◌then◌else◌}
+use Rattle.std.specs.List.{join_with_byte}
+
+-- whether a list has no item
+abbrev pub is_nil : {A : Type 0} → List A → Bool
+is_nil [] = true
+is_nil (x ∷ xs) = false
+
+-- what stands before the next item
+abbrev pub separator : Bool → List ℕ
+separator first = if first then [] else 44 ∷ []
+
+pub is_nil_append : {A : Type 0} (xs : List A) (x : A) → is_nil (xs ++ x ∷ []) ≡ false
+is_nil_append [] x = refl
+is_nil_append (y ∷ xs) x = refl
+
+join_more : (x : List ℕ) (xs : List (List ℕ)) (y : List ℕ) → join_with_byte 44 ((x ∷ xs) ++ y ∷ []) ≡ join_with_byte 44 (x ∷ xs) ++ 44 ∷ y
+join_more x [] y = refl
+join_more x (z ∷ xs) y = ap (λ (t : List ℕ). x ++ (44 ∷ t)) (join_more z xs y) ∙ sym (append_assoc x (44 ∷ join_with_byte 44 (z ∷ xs)) (44 ∷ y))
+
+map_last : {A : Type 0} (f : A → List ℕ) (xs : List A) (x : A) → map f (xs ++ x ∷ []) ≡ map f xs ++ f x ∷ []
+map_last f [] x = refl
+map_last f (y ∷ xs) x = ap (λ (t : List (List ℕ)). f y ∷ t) (map_last f xs x)
+
+pub join_last : {A : Type 0} (f : A → List ℕ) (xs : List A) (x : A) (first : Bool) → first ≡ is_nil xs
+    → join_with_byte 44 (map f (xs ++ x ∷ [])) ≡ join_with_byte 44 (map f xs) ++ (separator first ++ f x)
+join_last f [] x first e = rw e refl
+join_last f (y ∷ xs) x first e = rw e (ap (join_with_byte 44) (map_last f (y ∷ xs) x) ∙ join_more (f y) (map f xs) (f x))
+
+-- two maps in a row are one
+pub map_map : {A B C : Type 0} (f : B → C) (g : A → B) (xs : List A) → map f (map g xs) ≡ map (λ x. f (g x)) xs
+map_map f g [] = refl
+map_map {C = C} f g (x ∷ xs) = ap (λ (t : List C). f (g x) ∷ t) (map_map f g xs)
+
+-- one item more, with what stands before it
+pub join_added : {A : Type 0} (f : A → List ℕ) (xs : List A) (x : A) (first : Bool) (out old between new : List ℕ)
+    → old ≡ out ++ join_with_byte 44 (map f xs) → first ≡ is_nil xs
+    → between ≡ old ++ separator first → new ≡ between ++ f x
+    → new ≡ out ++ join_with_byte 44 (map f (xs ++ x ∷ []))
+join_added f xs x first out old between new e first_is b n =
+    n ∙ ap (λ (t : List ℕ). t ++ f x) b ∙ append_assoc old (separator first) (f x)
+    ∙ ap (λ (t : List ℕ). t ++ (separator first ++ f x)) e
+    ∙ append_assoc out (join_with_byte 44 (map f xs)) (separator first ++ f x)
+    ∙ ap (λ (t : List ℕ). out ++ t) (sym (join_last f xs x first first_is))
+
+-- the pieces of a commit, one after the other
+pub print_pieces : (a settings b segments c schema d opstamp payload e : List ℕ) (o1 o2 o3 o4 o5 o6 : List ℕ)
+    → o1 ≡ a ++ settings → o2 ≡ o1 ++ (b ++ segments) → o3 ≡ o2 ++ (c ++ schema) → o4 ≡ o3 ++ (d ++ opstamp) → o5 ≡ o4 ++ payload → o6 ≡ o5 ++ e
+    → o6 ≡ a ++ settings ++ b ++ segments ++ c ++ schema ++ d ++ opstamp ++ payload ++ e
+print_pieces a settings b segments c schema d opstamp payload e o1 o2 o3 o4 o5 o6 e1 e2 e3 e4 e5 e6 = rw (e6, e5, e4, e3, e2, e1) (simp append_assoc)

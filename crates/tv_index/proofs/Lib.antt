@@ -1,0 +1,16 @@
+pub mod Options
+pub mod HandedOn
+pub mod BoundedTrees
+pub mod Canonical
+pub mod Inside
+pub mod Blanks
+pub mod SeenNames
+pub mod FieldNames
+pub mod SchemaForms
+pub mod SchemaTexts
+pub mod InOrder
+pub mod SegmentForms
+pub mod MetaForms
+pub mod Parsed
+pub mod JoinedTexts
+pub mod Openings

@@ -1,0 +1,131 @@
+-- How an index is opened, or made where there is none.
+use Rattle.std.specs.Prelude.{◌≡◌, ◌⊎◌, ◌<◌, ◌^◌, ◌++◌, ◌∷◌, [], ℕ, List, codes, Option, Some, None, IsSome, option_map, string_bytes, Result, IfErr, OnOk}
+use Rattle.tv_base.specs.Causes.{IsDevice}
+use Rattle.tv_base.specs.declared.error.TantivyError.{TantivyError}
+use Rattle.tv_base.specs.declared.error.TantivyError.TheVariants as errors
+use Rattle.tv_directory.specs.declared.directory.Directory.{Ghosts}
+use Rattle.tv_managed.specs.Managed.{KeepsOtherFiles}
+use Rattle.tv_managed.specs.Wrapping.{ListsNothing}
+use Rattle.tv_model.specs.Commits.{Commit, IndexForm, IsCommit, default_settings, first_commit, printed}
+use Rattle.tv_model.specs.Files.{Reads, Rose, Same}
+use Rattle.tv_model.specs.Index.{FindsCommit, managed_with}
+use Rattle.tv_model.specs.Listing.{Lists}
+use Rattle.tv_model.specs.Meaning.{Means, MeansOther, MeansNothing}
+use Rattle.tv_model.specs.Names.{list_name, meta_name}
+use Rattle.tv_index.specs.Metas.{commit_of, settings_of}
+use Rattle.tv_index.specs.Saving.{FrameNotes}
+use Rattle.tv_index.specs.declared.index_meta.UntrackedIndexMeta.{UntrackedIndexMeta}
+
+-- what an index keeps of how it is made
+abbrev pub form_of : UntrackedIndexMeta → IndexForm
+form_of meta = record { settings = settings_of meta; schema = meta.schema }
+
+-- the text of the first commit of an index with this schema
+abbrev pub first_text : List ℕ → List ℕ
+first_text schema = printed default_settings schema first_commit ++ 10 ∷ []
+
+-- the value is a commit, under this schema
+pub record HasCommit (schema : List ℕ) (meta : UntrackedIndexMeta) : Type 0 where
+  pub schema_is : meta.schema ≡ schema
+  pub is_commit : IsCommit (commit_of meta)
+  pub blocksize : (settings_of meta).blocksize < 2 ^ 64
+
+-- what is read of `meta.json` under this schema: nothing where it isn't there, and else what it means
+abbrev pub Loads : (schema : List ℕ) → Option (List ℕ) → Option UntrackedIndexMeta → Type 0
+Loads schema None found = found ≡ None
+Loads schema (Some bytes) None = ⊥
+Loads schema (Some bytes) (Some meta) = Means (settings_of meta) schema bytes (commit_of meta)
+
+-- what is said of the bytes that are read, where there are some
+abbrev pub OfBytes : (List ℕ → Type 0) → Option (List ℕ) → Type 0
+OfBytes says None = ⊥
+OfBytes says (Some bytes) = says bytes
+
+-- Why `meta.json` isn't read, where `tells` says that the content is told: it means no commit; or one of another schema; or the device refused the call, which is
+-- `refused`, or memory was wanted. `quiet` says that no call was refused.
+abbrev pub LoadCause : (tells : Type 0) → (schema : List ℕ) → (read : Option (List ℕ)) → (refused quiet : Type 0) → TantivyError → Type 0
+LoadCause tells schema read refused quiet (errors.DataCorruption why) = quiet × (option_map string_bytes why.filepath ≡ Some meta_name) × (tells → OfBytes MeansNothing read)
+LoadCause tells schema read refused quiet (errors.SchemaError text) =
+    quiet × (string_bytes text ≡ codes "An index exists but the schema does not match.") × (tells → OfBytes (MeansOther schema) read)
+LoadCause tells schema read refused quiet (errors.IoError fault) = IsDevice fault × refused
+LoadCause tells schema read refused quiet errors.Memory = quiet
+LoadCause tells schema read refused quiet other = ⊥
+
+-- it fails for one of these causes
+pub record LoadFaults {A D W C : Type 0} (g : Ghosts D W C) (old new : D) (schema : List ℕ) (result : Result A TantivyError) : Type 0 where
+  pub quiet : OnOk result ((g.view new).faults ≡ (g.view old).faults)
+  pub cause : IfErr result (LoadCause g.told.content schema ((g.view old).reads meta_name) (Rose (g.view old).faults (g.view new).faults) ((g.view new).faults ≡ (g.view old).faults))
+
+-- the list is one of some names
+abbrev pub ListsSome : Option (List ℕ) → Type 0
+ListsSome read = (names : List (List ℕ)) × Lists read names
+
+-- Why an index isn't opened, in this order: its list is no list; its `meta.json` means no commit, or one of another schema. Each is so, and none before it. A device
+-- may refuse a call, and memory may be wanted, at any time.
+abbrev pub OpenCause : (tells : Type 0) → (schema : List ℕ) → Reads → (refused quiet : Type 0) → TantivyError → Type 0
+OpenCause tells schema reads refused quiet (errors.DataCorruption why) =
+    (quiet × (option_map string_bytes why.filepath ≡ Some list_name) × (tells → ListsNothing (reads list_name)))
+    ⊎ ((tells → ListsSome (reads list_name)) × LoadCause tells schema (reads meta_name) refused quiet (errors.DataCorruption why))
+OpenCause tells schema reads refused quiet (errors.SchemaError text) =
+    (tells → ListsSome (reads list_name)) × LoadCause tells schema (reads meta_name) refused quiet (errors.SchemaError text)
+OpenCause tells schema reads refused quiet (errors.IoError fault) = IsDevice fault × refused
+OpenCause tells schema reads refused quiet errors.Memory = quiet
+OpenCause tells schema reads refused quiet other = ⊥
+
+-- the list, the settings and the commit with which an index opens that reads so, and its managed names then
+pub record Finds (reads : Reads) (form : IndexForm) (commit : Commit) (managed : List (List ℕ)) : Type 0 where
+  pub listed : List (List ℕ)
+  pub listing : Lists (reads list_name) listed
+  pub found : FindsCommit form.schema (reads meta_name) form.settings commit
+  pub managed_is : managed ≡ managed_with (reads meta_name) listed
+
+-- What an opening leaves: where there was a `meta.json`, each name reads what it read; where there was none, only the list and it were written.
+pub record LeavesFound (old new : Reads) (schema : List ℕ) : Type 0 where
+  pub stood : IsSome (old meta_name) → Same old new
+  pub others : KeepsOtherFiles old new meta_name
+  pub made : old meta_name ≡ None → new meta_name ≡ Some (first_text schema)
+
+-- An index with this schema is open in this directory: the one that stood there, or a new one.
+pub record OpensIndex {D W C : Type 0} (g : Ghosts D W C) (before : D) (schema : List ℕ) (now : D × List (List ℕ)) (meta : UntrackedIndexMeta) : Type 0 where
+  pub has : HasCommit schema meta
+  pub finds : g.told.content → Finds (g.view before).reads (form_of meta) (commit_of meta) now.1
+  pub left : g.told.content → LeavesFound (g.view before).reads (g.view now.0).reads schema
+  pub lists : g.told.content → Lists ((g.view now.0).reads list_name) now.1
+  pub quiet : (g.view now.0).faults ≡ (g.view before).faults
+  pub frame : FrameNotes g.told (g.view before) (g.view now.0)
+
+-- What a refused opening leaves: where there was a `meta.json`, each name reads what it read; where there was none, only the list and it may have been written.
+pub record LeavesUnopened (old new : Reads) (schema : List ℕ) : Type 0 where
+  pub stood : IsSome (old meta_name) → Same old new
+  pub others : KeepsOtherFiles old new meta_name
+  pub made : old meta_name ≡ None → (new meta_name ≡ None) ⊎ (new meta_name ≡ Some (first_text schema))
+
+-- bytes were refused
+abbrev pub IsRefusedBytes : TantivyError → Type 0
+IsRefusedBytes (errors.DataCorruption why) = Unit {0}
+IsRefusedBytes (errors.SchemaError text) = Unit {0}
+IsRefusedBytes other = ⊥
+
+-- It isn't open, and the directory comes back. Where bytes were refused, nothing was changed.
+pub record NotOpened {D W C : Type 0} (g : Ghosts D W C) (before : D) (schema : List ℕ) (now : D) (error : TantivyError) : Type 0 where
+  pub left : g.told.content → LeavesUnopened (g.view before).reads (g.view now).reads schema
+  pub unchanged : g.told.content → IsRefusedBytes error → Same (g.view before).reads (g.view now).reads
+  pub cause : OpenCause g.told.content schema (g.view before).reads (Rose (g.view before).faults (g.view now).faults) ((g.view now).faults ≡ (g.view before).faults) error
+  pub frame : FrameNotes g.told (g.view before) (g.view now)
+
+-- The same behind the list of managed names, which was read: the index that stood there, or a new one, and its managed names.
+pub record LoadsOrCreates {D W C : Type 0} (g : Ghosts D W C) (old new : D × List (List ℕ)) (schema : List ℕ) (meta : UntrackedIndexMeta) : Type 0 where
+  pub has : HasCommit schema meta
+  pub found : g.told.content → FindsCommit schema ((g.view old.0).reads meta_name) (settings_of meta) (commit_of meta)
+  pub managed : g.told.content → new.1 ≡ managed_with ((g.view old.0).reads meta_name) old.1
+  pub left : g.told.content → LeavesFound (g.view old.0).reads (g.view new.0).reads schema
+  pub lists : g.told.content → Lists ((g.view old.0).reads list_name) old.1 → Lists ((g.view new.0).reads list_name) new.1
+  pub quiet : (g.view new.0).faults ≡ (g.view old.0).faults
+  pub frame : FrameNotes g.told (g.view old.0) (g.view new.0)
+
+-- it wasn't opened
+pub record NotLoaded {D W C : Type 0} (g : Ghosts D W C) (old : D × List (List ℕ)) (now : D) (schema : List ℕ) (error : TantivyError) : Type 0 where
+  pub left : g.told.content → LeavesUnopened (g.view old.0).reads (g.view now).reads schema
+  pub unchanged : g.told.content → IsRefusedBytes error → Same (g.view old.0).reads (g.view now).reads
+  pub cause : LoadCause g.told.content schema ((g.view old.0).reads meta_name) (Rose (g.view old.0).faults (g.view now).faults) ((g.view now).faults ≡ (g.view old.0).faults) error
+  pub frame : FrameNotes g.told (g.view old.0) (g.view now)

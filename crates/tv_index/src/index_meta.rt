@@ -1,0 +1,147 @@
+//! A commit, as `meta.json` has it.
+ghost use Rattle.std.specs.Prelude.{◌≡◌, ℕ, List, Option, IfOk, IfErr, MatchResult, option_map};
+ghost use Rattle.serde_json.specs.View.{view};
+ghost use Rattle.tv_model.specs.Commits.{printed};
+ghost use Rattle.tv_model.specs.Meaning.{Means, MeansNothing};
+ghost use Rattle.tv_model.specs.Schemas.{IsSchemaTree};
+ghost use Rattle.tv_index.specs.Metas.{commit_of, settings_of};
+ghost use Rattle.tv_index.specs.Parsing.{IsForExpected, MeansOtherThan, ParseCause};
+ghost use Rattle.tv_index.specs.Choosing.{Chooses, Reads};
+ghost use Rattle.tv_index.specs.Reads.{IfCorrupt};
+ghost use Rattle.tv_index.specs.SchemaReading.{texts};
+
+use crate::index_settings::IndexSettings;
+use crate::json_text::tree_of;
+use crate::printing::{put, put_opstamp, put_payload, put_schema, put_segments, put_settings};
+use crate::read_error::ReadError;
+use crate::reading::body_of;
+use crate::schema::Schema;
+use crate::segment_meta::InnerSegmentMeta;
+use serde_json::Value;
+use std::alloc::Global;
+use tv_base::{DataCorruption, META_FILEPATH, Opstamp, TantivyError};
+use tv_model::Memory;
+
+/// A commit, its settings and its schema, as `meta.json` has them.
+#[derive(Debug, Drop)]
+pub struct UntrackedIndexMeta {
+    /// How the documents of the index are kept.
+    pub index_settings: IndexSettings,
+    /// The segments of the commit.
+    pub segments: Vec<InnerSegmentMeta>,
+    /// The schema of the index.
+    pub schema: Schema,
+    /// The number of the commit.
+    pub opstamp: Opstamp,
+    /// What its writer added.
+    pub payload: Option<String>,
+}
+
+impl UntrackedIndexMeta {
+    /// The commit that the bytes of `meta.json` mean. Its segments stand in the order of their ids.
+    ///
+    /// The schema is the expected one; where none is expected it is the one that the bytes spell, with
+    /// its keys in the order of their bytes and without blanks.
+    pub fn parse(
+        alloc: Global,
+        bytes: &[u8],
+        expected: Option<&Schema>,
+    ) -> Result<UntrackedIndexMeta, TantivyError>
+        ensures ok { IfOk result (λ meta.
+            Means (settings_of meta) meta.schema bytes.now (commit_of meta)) }
+        ensures schema { IfOk result (λ meta.
+            IsForExpected (option_map (λ s. s.now) expected.entry) meta.schema) }
+        ensures err { IfErr result (ParseCause (option_map (λ s. s.now) expected.entry) bytes.now) }
+    {
+        match read(alloc, bytes, expected) {
+            Ok(Some(meta)) => Ok(meta),
+            Ok(None) => Err(other_schema(alloc)),
+            Err(ReadError::Corrupt) => Err(corrupt(alloc)),
+            Err(ReadError::Memory) => Err(TantivyError::Memory),
+        }
+    }
+
+    /// The text of `meta.json`, without its line feed.
+    pub fn print(&self, alloc: Global) -> Result<Vec<u8>, Memory>
+        ensures text { IfOk result (λ text. text.items
+            ≡ printed (settings_of self.now) self.now.schema (commit_of self.now)) }
+    {
+        let mut text = Vec::new(alloc);
+        put_settings(&mut text, &self.index_settings)?;
+        put_segments(alloc, &mut text, self.segments.as_slice())?;
+        put_schema(&mut text, &self.schema)?;
+        put_opstamp(&mut text, self.opstamp)?;
+        put_payload(&mut text, &self.payload)?;
+        put(&mut text, "}")?;
+        Ok(text)
+    }
+}
+
+// The commit that the bytes mean; nothing where they mean one of another schema than the expected one.
+fn read(
+    alloc: Global,
+    bytes: &[u8],
+    expected: Option<&Schema>,
+) -> Result<Option<UntrackedIndexMeta>, ReadError>
+    ensures { MatchResult result
+        (Reads (option_map (λ s. s.now) expected.entry) bytes.now)
+        (λ e. IfCorrupt e (MeansNothing bytes.now)) }
+{
+    let tree = tree_of(alloc, bytes)?;
+    let (body, schema_tree) = body_of(alloc, &tree)?;
+    let Some(schema) = schema_for(alloc, expected, body.names, schema_tree)? else {
+        return Ok(None);
+    };
+    Ok(Some(UntrackedIndexMeta {
+        index_settings: body.index_settings,
+        segments: body.segments,
+        schema,
+        opstamp: body.opstamp,
+        payload: body.payload,
+    }))
+}
+
+// The schema with this tree: the expected one, where one is expected; nothing where that has another
+// tree.
+fn schema_for(
+    alloc: Global,
+    expected: Option<&Schema>,
+    names: Vec<String>,
+    tree: &Value,
+) -> Result<Option<Schema>, Memory>
+    requires form { IsSchemaTree (view tree.now) (texts names) }
+    ensures { IfOk result (Chooses (option_map (λ s. s.now) expected.entry) (view tree.now)) }
+{
+    let Some(schema) = expected else {
+        return Ok(Some(Schema::of_tree(alloc, names, tree)?));
+    };
+    if !schema.has_tree(alloc, tree)? {
+        return Ok(None);
+    }
+    Ok(Some(schema.share(alloc)?))
+}
+
+// The refusal of bytes that mean no commit.
+fn corrupt(alloc: Global) -> TantivyError
+    ensures { (expected : Option (List ℕ)) (bytes : List ℕ)
+        → MeansNothing bytes → ParseCause expected bytes result }
+{
+    let Ok(filepath) = String::from_str(alloc, META_FILEPATH) else {
+        return TantivyError::Memory;
+    };
+    match String::from_str(alloc, "the commit is not of the stated form") {
+        Ok(comment) => TantivyError::DataCorruption(DataCorruption::new(filepath, comment)),
+        Err(_) => TantivyError::Memory,
+    }
+}
+
+// The refusal of a commit of another schema than the expected one.
+fn other_schema(alloc: Global) -> TantivyError
+    ensures { (expected : Option (List ℕ)) (bytes : List ℕ)
+        → MeansOtherThan expected bytes → ParseCause expected bytes result }
+{
+    match String::from_str(alloc, "An index exists but the schema does not match.") {
+        Ok(text) => TantivyError::SchemaError(text),
+        Err(_) => TantivyError::Memory,
+    }
+}

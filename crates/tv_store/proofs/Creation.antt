@@ -1,1 +1,0 @@
--- What an index holds that was just made.

@@ -1,0 +1,135 @@
+-- What a refused opening leaves, where no index was found or where the lock wasn't given.
+use Rattle.std.proofs.Common.{◌≡◌, ◌⊎◌, inl, inr, ℕ, true, false, List, None, Result, Ok, Err, refl, sym, subst, ◌∙◌}
+use Rattle.std.proofs.Math.Logic.{⊎_map}
+use Rattle.tv_base.specs.Errors.{of_lock}
+use Rattle.tv_base.specs.declared.error.TantivyError.{TantivyError}
+use Rattle.tv_base.specs.declared.error.TantivyError.TheVariants as errors
+use Rattle.tv_base.specs.declared.open_errors.LockError.{LockError}
+use Rattle.tv_base.specs.declared.open_errors.LockError.TheVariants as lock
+use Rattle.tv_directory.specs.Calls.{LockFaults}
+use Rattle.tv_directory.specs.Locks.{LockCause, SameLocks}
+use Rattle.tv_directory.specs.View.{OnlyLocks}
+use Rattle.tv_directory.specs.Watch.{WatchState, MayNote}
+use Rattle.tv_directory.specs.declared.directory.Directory.{Ghosts}
+use Rattle.tv_managed.specs.declared.managed_directory.Refused.{Refused}
+use Rattle.tv_model.specs.Commits.{IndexForm}
+use Rattle.tv_model.specs.Files.{Reads, Heard, Rose}
+use Rattle.tv_model.specs.Index.{FoundIndex}
+use Rattle.tv_model.specs.Lines.{opening_of}
+use Rattle.tv_model.specs.Names.{meta_name}
+use Rattle.tv_model.specs.State.{Catalog}
+use Rattle.tv_index.specs.Opening.{LeavesUnopened}
+use Rattle.tv_store.specs.Kept.{FilesState, StoreState}
+use Rattle.tv_store.specs.Making.{FindsFiles, FindsNone, IsRefusedFirst, LeavesRefused}
+use Rattle.tv_store.specs.Opening.{LeavesIndex, OpeningFaults, OpeningFrame, TakesWriterLock, TellsOpening}
+use Rattle.tv_store.specs.OpeningCauses.{OpeningCause}
+use Rattle.tv_store.specs.Stays.{KeepsFiles, MayNotify}
+use Rattle.tv_store.specs.StoreCauses.{IsBusy, writer_lock_name}
+use Rattle.tv_store.specs.Telling.{TellsFirstPart, TellsNoLine}
+use Rattle.tv_store.proofs.Asking.{deletes_later}
+use Rattle.tv_store.proofs.FoundStates.{the_found}
+use Rattle.tv_store.proofs.Holding.{dotted_others}
+use Rattle.tv_store.proofs.Opened.{heard_yet, notified, same_unopened}
+
+-- nothing was told
+untold : {before now : Heard} → now ≡ before → TellsNoLine before now
+untold {before} is = subst (TellsNoLine before) (sym is) (inl refl)
+
+no_part : {before now : Heard} (line : List ℕ) → now ≡ before → TellsFirstPart before now line
+no_part {before} line is = subst (λ (h : Heard). TellsFirstPart before h line) (sym is) (inl refl)
+
+-- a cause before the lock is one of an opening
+sooner : (tells : Type 0) (schema : List ℕ) (reads : Reads) (busy free refused quiet : Type 0) (error : TantivyError) → OpeningCause tells schema reads ⊥ ⊥ refused quiet error → OpeningCause tells schema reads busy free refused quiet error
+sooner tells schema reads busy free refused quiet (errors.LockFailure lock.LockBusy text) h = absurd h.2
+sooner tells schema reads busy free refused quiet (errors.LockFailure (lock.IoError fault) text) h = h
+sooner tells schema reads busy free refused quiet (errors.LockFailure lock.Memory text) h = absurd h.2
+sooner tells schema reads busy free refused quiet (errors.OpenReadError error) h = absurd h.2
+sooner tells schema reads busy free refused quiet (errors.InvalidArgument text) h = h
+sooner tells schema reads busy free refused quiet errors.Memory h = h
+sooner tells schema reads busy free refused quiet other h = h
+
+module _ {O W C : Type 0} (g : Ghosts O W C) (outside : O) (schema : List ℕ) (refused : Refused O) (r : FindsNone g outside schema refused.directory refused.error) where
+  pub none_leaves : LeavesIndex g outside schema refused
+  none_leaves = record { leaves = r.leaves; unchanged = r.unchanged }
+
+  pub none_tells : TellsOpening g outside schema (Err refused)
+  none_tells = record {
+    ok = λ t. tt;
+    err = λ t. untold r.frame.frame.tells_none.heard;
+    part = λ t h index. no_part (opening_of index.commit) r.frame.frame.tells_none.heard;
+  }
+
+  pub none_takes : TakesWriterLock g outside (Err refused)
+  none_takes = record { ok = λ t. tt; err = r.frame.frame.locks }
+
+  pub none_fails : OpeningFaults g outside schema (Err refused)
+  none_fails = record { quiet = tt; cause = sooner g.told.content schema (g.view outside).reads _ _ _ _ refused.error r.cause }
+
+  pub none_stays : OpeningFrame g outside (Err refused)
+  none_stays = record {
+    ok = tt;
+    err = record {
+      deletes_none = r.frame.frame.tells_none.deletes_none;
+      dotted = λ t. dotted_others (g.view outside).reads (g.view refused.directory).reads meta_name refl (r.others t);
+      watched = r.frame.watched;
+    };
+  }
+
+-- the lock wasn't given
+module _ {O W C : Type 0} (g : Ghosts O W C) (outside : O) (schema : List ℕ) (form : IndexForm) (catalog : Catalog) (files locked : FilesState O)
+    (f : FindsFiles g outside schema form catalog files) (frame : KeepsFiles (OnlyLocks g.told) g.view files locked) (error : TantivyError) where
+  abbrev back : Refused O
+  back = record { error = error; directory = locked.outside }
+
+  pub unlocked_leaves : (IsRefusedFirst error → ⊥) → LeavesIndex g outside schema back
+  unlocked_leaves other = record {
+    leaves = λ t text is.
+        subst (LeavesUnopened (g.view outside).reads (g.view locked.outside).reads) (f.spelled.text_is ∙ sym is.text_is)
+        (same_unopened (g.view outside).reads (g.view files.outside).reads (g.view locked.outside).reads form.schema (f.leaves t) (frame.managed.below.content t));
+    unchanged = λ t first. absurd (other first);
+  }
+
+  pub unlocked_tells : TellsOpening g outside schema (Err back)
+  unlocked_tells = record {
+    ok = λ t. tt;
+    err = λ t. untold (heard_yet g outside schema form catalog files locked f frame);
+    part = λ t h index. no_part (opening_of index.commit) (heard_yet g outside schema form catalog files locked f frame);
+  }
+
+  pub unlocked_takes : (g.told.locks → SameLocks (g.view files.outside).locks (g.view locked.outside).locks) → TakesWriterLock g outside (Err back)
+  unlocked_takes same = record { ok = λ t. tt; err = λ t n. same t n ∙ f.frame.frame.locks t n }
+
+  pub unlocked_stays : OpeningFrame g outside (Err back)
+  unlocked_stays = record { ok = tt; err = notified g outside schema form catalog files locked f frame }
+
+  -- why it wasn't
+  pub unlocked_fails : (why : LockError) → of_lock why ≡ error → LockFaults {A = Unit {0}} g.told (g.view files.outside) (g.view locked.outside) writer_lock_name (Err why) → OpeningFaults g outside schema (Err back)
+  unlocked_fails why is faults = record { quiet = tt; cause = subst Cause is (cause why faults.busy faults.cause) } where
+    Cause : TantivyError → Type 0
+    Cause = OpeningCause g.told.content schema (g.view outside).reads
+        (IsBusy g.told.locks ((g.view outside).locks writer_lock_name ≡ true) (Rose (g.view outside).faults (g.view locked.outside).faults)) (g.told.locks → (g.view outside).locks writer_lock_name ≡ false)
+        (Rose (g.view outside).faults (g.view locked.outside).faults) ((g.view locked.outside).faults ≡ (g.view outside).faults)
+
+    rose : Rose (g.view files.outside).faults (g.view locked.outside).faults → Rose (g.view outside).faults (g.view locked.outside).faults
+    rose r = subst (λ (n : ℕ). Rose n (g.view locked.outside).faults) f.quiet r
+
+    cause : (why : LockError) → (g.told.locks → LockCause ((g.view files.outside).locks writer_lock_name ≡ true) (Unit {0}) (Unit {0}) why)
+        → LockCause ((g.told.locks × ((g.view locked.outside).faults ≡ (g.view files.outside).faults)) ⊎ Rose (g.view files.outside).faults (g.view locked.outside).faults) (Rose (g.view files.outside).faults (g.view locked.outside).faults) ((g.view locked.outside).faults ≡ (g.view files.outside).faults) why
+        → Cause (of_lock why)
+    cause lock.LockBusy busy h = (
+      (form.schema, f.spelled),
+      the_found g outside schema form catalog files f,
+      record {
+        told = λ t. sym (f.frame.frame.locks t writer_lock_name) ∙ busy t;
+        untold = ⊎_map (λ both. both.0) rose h;
+      },
+      refl,
+    )
+    cause (lock.IoError fault) busy h = ((form.schema, f.spelled), the_found g outside schema form catalog files f, (h.0, rose h.1), refl)
+    cause lock.Memory busy h = h ∙ f.quiet
+
+  -- it is no refusal of an argument or of bytes
+  pub no_first : (why : LockError) → of_lock why ≡ error → IsRefusedFirst error → ⊥
+  no_first lock.LockBusy is first = subst IsRefusedFirst (sym is) first
+  no_first (lock.IoError fault) is first = subst IsRefusedFirst (sym is) first
+  no_first lock.Memory is first = subst IsRefusedFirst (sym is) first

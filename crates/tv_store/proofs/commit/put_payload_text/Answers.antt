@@ -1,5 +1,0 @@
-use Rattle.std.proofs.Common.{append_assoc}
-use Rattle.tv_store.proofs.commit.put_payload_text.Goals as goal
-
-pub returns : goal.returns
-returns c = rw (c.in_ok-put-2.ensures, c.in_ok-put_all_escaped.ensures, c.as_str.ensures, c.in_ok-put.ensures) (simp append_assoc)

@@ -1,0 +1,9 @@
+use Rattle.std.proofs.Common.{◌<◌, length, arith}
+use Rattle.tv_index.specs.Segments.{entry_of}
+use Rattle.tv_store.proofs.OpenedCatalogs.{next_segment}
+use Rattle.tv_store.proofs.opening.by_id.Goals as goal
+
+pub loop-segment-preserved : goal.loop-segment-preserved
+loop-segment-preserved c =
+    let within : c.loop-segment.segment-index < length c.args.segments.now = omega arith in
+    next_segment entry_of c.args.segments.now c.loop-segment.segment-index c.segment-item.result c.loop-segment.by_id.entries c.insert.new.self.entries within c.segment-item.is c.in_ok-insert.ensures.entries c.loop-segment.invariant
