@@ -1,3 +1,4 @@
 pub mod VInts
 pub mod VisitLaws
 mod VIntRows
+pub mod CountLaws

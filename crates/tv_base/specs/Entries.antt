@@ -1,5 +1,5 @@
 -- The entries of an inventory.
-use Rattle.std.specs.Prelude.{ℕ, ◌≡◌, ◌+◌, ◌-◌, Bool, false, eqb, nat_lt, List, [], ◌∷◌, ◌++◌, Option, Some, None, if◌then◌else◌, find}
+use Rattle.std.specs.Prelude.{ℕ, ◌≡◌, ◌+◌, ◌-◌, ◌==◌, Bool, false, eqb, nat_lt, List, [], ◌∷◌, ◌++◌, Option, Some, None, if◌then◌else◌, find}
 use Rattle.tv_base.specs.declared.inventory.Entry.{Entry}
 use Rattle.tv_base.specs.Places.{change_at, take_out}
 
@@ -15,12 +15,19 @@ tracked number value es = es ++ record { number = number; count = 1; value = val
 abbrev pub IsFull : {T : Type 0} → Entry T → Type 0
 IsFull e = e.count ≡ 18446744073709551615
 
+abbrev pub is_full : {T : Type 0} → Entry T → Bool
+is_full e = e.count == 18446744073709551615
+
 -- one more, and one fewer, share of an entry
 abbrev pub one_more : {T : Type 0} → Entry T → Entry T
 one_more e = record e { count = e.count + 1 }
 
 abbrev pub one_fewer : {T : Type 0} → Entry T → Entry T
 one_fewer e = record e { count = e.count - 1 }
+
+-- an entry before and after one more share of it was counted, where that can be
+abbrev pub MayCount : {T : Type 0} → Entry T → Entry T → Type 0
+MayCount e f = is_full e ≡ false → f ≡ one_more e
 
 -- at most one share of it is out
 abbrev pub is_last : {T : Type 0} → Option (Entry T) → Bool

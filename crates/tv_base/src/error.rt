@@ -76,7 +76,7 @@ pub enum TantivyError {
     /// The device refused a call, or bytes can't be read, where no file is named.
     #[error("An IO error occurred: '{0}'")]
     IoError(IoFault),
-    /// A file of an index is not of its form. No call makes it yet.
+    /// A file of an index is not of its form.
     #[error("Data corrupted: '{0:?}'")]
     DataCorruption(DataCorruption),
     /// A thread panicked. No call makes it: none panics.
@@ -91,10 +91,10 @@ pub enum TantivyError {
     /// A thread failed. No call makes it.
     #[error("An error occurred in a thread: '{0}'")]
     ErrorInThread(String),
-    /// The argument of this name is missing. No call makes it yet.
+    /// The argument of this name is missing.
     #[error("Missing required index builder argument when open/create index: '{0}'")]
     IndexBuilderMissingArgument(String),
-    /// The schema of an index is another one. No call makes it yet.
+    /// The schema of an index is another one.
     #[error("Schema error: '{0}'")]
     SchemaError(String),
     /// The sender of a `FutureResult` is gone: the message with which that was made.

@@ -1,10 +1,10 @@
 //! Values that are kept as long as a ticket of theirs is out.
-ghost use Rattle.std.specs.Prelude.{◌≡◌, ◌<◌, ℕ, [], ◌↔◌, None, All, IfOk, IfSome, IsSome, IsErr, OnOk, OnErr, MatchOption, find, map, position, vec_len};
-ghost use Rattle.std.specs.List.{AllZip};
+ghost use Rattle.std.specs.Prelude.{◌≡◌, ◌<◌, ℕ, [], ◌↔◌, None, true, All, IfOk, IfSome, IsSome, IsErr, OnOk, OnErr, MatchOption, find, map, position, vec_len};
+ghost use Rattle.std.specs.List.{AllZip, list_any};
 ghost use Rattle.std.specs.Option.{IsSomeAnd};
-ghost use Rattle.tv_base.specs.Entries.{IsFull, is_at, one_more, released, tracked};
+ghost use Rattle.tv_base.specs.Entries.{IsFull, MayCount, is_at, is_full, one_more, released, tracked};
 ghost use Rattle.tv_base.specs.Places.{IsAbsent, IsPlace, change_at};
-ghost use Rattle.tv_base.specs.Visits.{IsVisited, IsVisitedAt};
+ghost use Rattle.tv_base.specs.Visits.{IsCountedAt, IsVisited, IsVisitedAt};
 
 use crate::exhausted::Exhausted;
 use std::alloc::Global;
@@ -158,6 +158,28 @@ impl<T: Drop> Inventory<T> {
         }
         Ok(values)
     }
+
+    /// The values with their numbers, and how many tickets of each are out, in the order in which
+    /// they were tracked. Takes no memory.
+    pub fn entries(&self) -> &[Entry<T>]
+        ensures entries { result.now ≡ self.now }
+    {
+        self.entries.as_slice()
+    }
+
+    /// One more ticket of each value is out. Where one has as many as can be counted, none has a
+    /// further one. Takes no memory.
+    pub fn share_all(&mut self) -> Result<(), Exhausted>
+        ensures ok { OnOk result (self.new ≡ map one_more self.old) }
+        ensures err { OnErr result (self.new ≡ self.old) }
+        ensures full { IsErr result ↔ (list_any is_full self.old ≡ true) }
+    {
+        if has_full(&self.entries) {
+            return Err(Exhausted);
+        }
+        count_each(&mut self.entries);
+        Ok(())
+    }
 }
 
 impl<T: Visit> Inventory<T> {
@@ -219,6 +241,31 @@ fn count_less<T: Drop>(entries: &mut Vec<Entry<T>>, number: u64)
     }
     let entry = &mut entries[i];
     entry.count -= 1;
+}
+
+// Whether one of the entries has as many shares as can be counted.
+fn has_full<T>(entries: &Vec<Entry<T>>) -> bool
+    ensures { result ≡ list_any is_full entries.now.items }
+{
+    entries.iter().any(|e| e.count == u64::MAX)
+}
+
+// One share more of the entry at an index, where it can be counted.
+fn count_at<T>(entries: &mut Vec<Entry<T>>, i: usize)
+    requires { i < vec_len entries.old }
+    ensures { IsCountedAt i entries.old.items entries.new.items }
+{
+    let entry = &mut entries[i];
+    entry.count = entry.count.saturating_add(1);
+}
+
+// One share more of each entry, where it can be counted.
+fn count_each<T>(entries: &mut Vec<Entry<T>>)
+    ensures { AllZip MayCount entries.old.items entries.new.items }
+{
+    for i in 0..entries.len() {
+        count_at(entries, i);
+    }
 }
 
 // Visits one value.

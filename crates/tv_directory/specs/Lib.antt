@@ -10,3 +10,4 @@ pub mod Ram
 pub mod Persisting
 pub mod DirWriters
 pub mod Bench
+pub mod Desk

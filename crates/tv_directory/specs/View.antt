@@ -14,6 +14,10 @@ pub record Told : Type 1 where
 abbrev pub tells_all : Told
 tells_all = record { content = Unit {0}; locks = Unit {0}; heard = Unit {0} }
 
+-- nothing of it
+abbrev pub tells_nothing : Told
+tells_nothing = record { content = ⊥; locks = ⊥; heard = ⊥ }
+
 -- what is said of a directory with writers of a type W
 pub record View (W : Type 0) : Type 0 where
   -- the bytes that each name reads, where the content is told

@@ -17,7 +17,7 @@ use tv_model::Memory;
 /// Files that are written once, under plain or dotted names.
 ///
 /// There are two in memory: `RamDirectory`, whose calls no device refuses, and `Bench`, whose device refuses
-/// the calls that it is told to. There is none of real files yet.
+/// the calls that it is told to. That of plain files is `MmapDirectory` of `tv_files`.
 ///
 /// The device may refuse any call. It then answers a fault of kind `Device`, and a count rises:
 /// `refusals` for a delete, and `faults` for any other call.
@@ -142,7 +142,7 @@ pub trait Directory {
         ensures frame { OnlyReads told (view self.old) (view self.new) };
 
     /// Takes a lock. In memory `LockBusy` comes exactly where it is held. Over plain files a blocking
-    /// lock waits until it is free.
+    /// lock waits until it is free, unless this very directory holds it.
     fn acquire_lock(&mut self, lock: &Lock) -> Result<DirectoryLock, LockError>
         requires { is_file_name lock.now.filepath.now ≡ true }
         ensures token { IfOk result (λ token. token ≡ lock.now.filepath.now) }

@@ -1,10 +1,11 @@
 //! A directory in memory.
-ghost use Rattle.std.specs.Prelude.{◌≡◌, [], None, true, false, IfOk, IfNone, OnErr, MatchOption, min};
+ghost use Rattle.std.specs.Prelude.{◌≡◌, ℕ, [], None, true, false, IfOk, IfNone, OnErr, MatchOption, min};
 ghost use Rattle.tv_model.specs.Names.{is_file_name};
 ghost use Rattle.tv_directory.specs.Locks.{SameLocks, TakesLock};
 ghost use Rattle.tv_directory.specs.Device.{last};
 ghost use Rattle.tv_directory.specs.Ram.{IsNewRam, ram_locks, ram_reads};
 ghost use Rattle.tv_directory.specs.StoredFiles.{total_len};
+ghost use Rattle.tv_directory.specs.WatchList.{state_of};
 
 use crate::files::Files;
 use crate::lock::DirectoryLock;
@@ -64,7 +65,8 @@ impl<C> RamDirectory<C> {
     pub(crate) fn with_files(alloc: Global, files: Files) -> RamDirectory<C>
         ensures files { result.files ≡ files }
         ensures free { result.held.entries ≡ [] }
-        ensures watchers { (result.watchers.list ≡ []) × (result.watchers.notice ≡ false) }
+        ensures watchers { (calls : C → ℕ)
+            → state_of calls result.watchers ≡ record { registered = []; notice = false } }
     {
         RamDirectory {
             alloc,

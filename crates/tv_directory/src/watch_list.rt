@@ -25,9 +25,10 @@ impl<C: WatchCall> Visit for Watcher<C> {
     }
 }
 
-/// What a directory keeps of its watchers: who is registered, and whether a notice stands.
+/// What a directory keeps of its watchers: who is registered, and whether a notice stands. For
+/// those that implement `Directory`.
 #[derive(Drop)]
-pub(crate) struct Watchers<C> {
+pub struct Watchers<C> {
     list: Inventory<Watcher<C>>,
     notice: bool,
 }
@@ -35,7 +36,8 @@ pub(crate) struct Watchers<C> {
 impl<C> Watchers<C> {
     /// Nobody, and no notice. Takes no memory.
     pub fn new(alloc: Global) -> Watchers<C>
-        ensures { result ≡ record { list = []; notice = false } }
+        ensures nobody { (calls : C → ℕ)
+            → state_of calls result ≡ record { registered = []; notice = false } }
     {
         Watchers {
             list: Inventory::new(alloc),
@@ -45,7 +47,9 @@ impl<C> Watchers<C> {
 
     /// A notice stands from now on.
     pub fn note(&mut self)
-        ensures { self.new ≡ record self.old { notice = true } }
+        ensures noted { (calls : C → ℕ)
+            → state_of calls self.new ≡ record (state_of calls self.old) { notice = true } }
+        ensures others { self.new ≡ record self.old { notice = true } }
     {
         self.notice = true;
     }
@@ -75,8 +79,8 @@ impl<C: WatchCall> Watchers<C> {
         }
     }
 
-    /// Where a notice stands, calls everybody once, and ends it. Answers whether one stood. Takes no
-    /// memory.
+    /// Where a notice stands, calls everybody once, and ends it. Answers whether one stood. Takes
+    /// no memory.
     pub fn deliver(&mut self) -> bool
         ensures answer { result ≡ (state_of C.calls self.old).notice }
         ensures delivered { state_of C.calls self.new ≡ delivered (state_of C.calls self.old) }
@@ -125,8 +129,8 @@ impl<C> CallbackList<C> {
 }
 
 impl<C: Drop> CallbackList<C> {
-    /// Registers a callback under a number that no registered one has. Where memory is wanted, it is
-    /// dropped.
+    /// Registers a callback under a number that no registered one has. Where memory is wanted, it
+    /// is dropped.
     pub fn subscribe(&mut self, callback: C) -> Result<WatchHandle, Memory>
         ensures ok { IfOk result
             (λ handle. (n : ℕ) × (handle ≡ Some n) × (find (is_at n) self.old ≡ None)
@@ -154,8 +158,8 @@ impl<C: Drop> CallbackList<C> {
         Ok(WatchHandle::new(number))
     }
 
-    /// Gives a handle back. With the last one the callback goes, and nobody has its number any more. A
-    /// handle that names nobody is given back without effect. Takes no memory.
+    /// Gives a handle back. With the last one the callback goes, and nobody has its number any
+    /// more. A handle that names nobody is given back without effect. Takes no memory.
     #[tactic(auto, using(crate::proofs::WatchLists::apart_released, crate::proofs::WatchLists::last_gone))]
     pub fn release(&mut self, handle: WatchHandle)
         ensures released { self.new ≡ released_by handle self.old }
@@ -169,8 +173,8 @@ impl<C: Drop> CallbackList<C> {
 }
 
 impl<C: WatchCall> CallbackList<C> {
-    /// Calls each registered callback once, in order of subscription, and nobody else. The result is
-    /// there at once. Takes no memory.
+    /// Calls each registered callback once, in order of subscription, and nobody else. The result
+    /// is there at once. Takes no memory.
     pub fn broadcast(&mut self) -> FutureResult<()>
         ensures called { map (seen C.calls) self.new ≡ map called_once
             (map (seen C.calls) self.old) }
