@@ -7,7 +7,8 @@ use Rattle.tv_index.specs.Stripping.{stripped_from}
 -- a quotation mark is no blank
 outside_step : (b : ℕ) (bytes : List ℕ) (blank quote : Bool) → is_blank b ≡ blank → (b == 34) ≡ quote
     → stripped bytes ≡ stripped_from Outside bytes → stripped_inside bytes ≡ stripped_from Inside bytes
-    → cond blank (stripped bytes) (b ∷ cond quote (stripped_inside bytes) (stripped bytes)) ≡ cond blank [] (b ∷ []) ++ stripped_from (cond quote Inside Outside) bytes
+    → cond blank (stripped bytes) (b ∷ cond quote (stripped_inside bytes) (stripped bytes)) ≡ cond blank [] (b ∷ []) ++ stripped_from
+    (cond quote Inside Outside) bytes
 outside_step b bytes true true is mark out inside = let no : is_blank b ≡ false = ap is_blank (eqb-true b 34 mark) in absurd (true≢false (sym is ∙ no))
 outside_step b bytes true false is mark out inside = out
 outside_step b bytes false true is mark out inside = ap (λ (l : List ℕ). b ∷ l) inside
@@ -15,7 +16,8 @@ outside_step b bytes false false is mark out inside = ap (λ (l : List ℕ). b �
 
 inside_step : (b : ℕ) (bytes : List ℕ) (quote slash : Bool)
     → stripped bytes ≡ stripped_from Outside bytes → stripped_inside bytes ≡ stripped_from Inside bytes → stripped_escaped bytes ≡ stripped_from Escaped bytes
-    → b ∷ cond quote (stripped bytes) (cond slash (stripped_escaped bytes) (stripped_inside bytes)) ≡ b ∷ stripped_from (cond quote Outside (cond slash Escaped Inside)) bytes
+    → b ∷ cond quote (stripped bytes) (cond slash (stripped_escaped bytes) (stripped_inside bytes)) ≡ b ∷ stripped_from
+    (cond quote Outside (cond slash Escaped Inside)) bytes
 inside_step b bytes true slash out inside escaped = ap (λ (l : List ℕ). b ∷ l) out
 inside_step b bytes false true out inside escaped = ap (λ (l : List ℕ). b ∷ l) escaped
 inside_step b bytes false false out inside escaped = ap (λ (l : List ℕ). b ∷ l) inside

@@ -20,7 +20,8 @@ same_trees r t u x y ns ms a b d = (
 )
 
 -- a tree with this text is that of a text that is kept, or isn't
-pub its_tree : (r : Bool) (t x y : List ℕ) (ns : List (List ℕ)) (d : Data) → IsKept t ns x → y ≡ compact_text d → read y ≡ Some d → Decides r (x ≡ y) → MatchBool r (IsSchemaText t d) (read t ≢ Some d)
+pub its_tree : (r : Bool) (t x y : List ℕ) (ns : List (List ℕ)) (d : Data) → IsKept t ns x → y ≡ compact_text d → read y ≡ Some d → Decides r (x ≡ y)
+    → MatchBool r (IsSchemaText t d) (read t ≢ Some d)
 its_tree true t x y ns d k is reads decides =
     subst (λ (tree : Data). IsSchemaText t tree) (same_Some k.tree d (sym k.reads ∙ ap read (decides.0 refl) ∙ reads)) k.text_is
 its_tree false t x y ns d k is reads decides =

@@ -29,8 +29,10 @@ if_corrupt Corrupt P Q f h = f h
 if_corrupt Memory P Q f h = tt
 
 pub in_brackets : (text : List ℕ) → IsUtf8 text → IsUtf8 (91 ∷ text ++ 93 ∷ [])
-in_brackets text u = IsUtf8-append (91 ∷ []) (text ++ 93 ∷ []) (IsUtf8-are_ascii (91 ∷ []) refl) (IsUtf8-append text (93 ∷ []) u (IsUtf8-are_ascii (93 ∷ []) refl))
+in_brackets text u = IsUtf8-append (91 ∷ []) (text ++ 93 ∷ []) (IsUtf8-are_ascii (91 ∷ []) refl)
+    (IsUtf8-append text (93 ∷ []) u (IsUtf8-are_ascii (93 ∷ []) refl))
 
-pub unread_inside : (e : ReadError) (list text : List ℕ) → list ≡ 91 ∷ text ++ 93 ∷ [] → IsUtf8 text → IfCorrupt e (IsUtf8 list → read list ≡ None) → IfCorrupt e (read (91 ∷ text ++ 93 ∷ []) ≡ None)
+pub unread_inside : (e : ReadError) (list text : List ℕ) → list ≡ 91 ∷ text ++ 93 ∷ [] → IsUtf8 text → IfCorrupt e (IsUtf8 list → read list ≡ None)
+    → IfCorrupt e (read (91 ∷ text ++ 93 ∷ []) ≡ None)
 unread_inside e list text is u h =
     if_corrupt e _ _ (λ f. ap read (sym is) ∙ f (subst IsUtf8 (sym is) (in_brackets text u))) h

@@ -30,7 +30,8 @@ InIdOrder es = IsStrictlySortedBy byte_cmp (ids es)
 ids_put : (es : List Entry) (id : List ℕ) (segment : LiveSegment) → ids (insert_entry byte_cmp es id segment) ≡ insert_key byte_cmp (ids es) id
 ids_put [] id segment = refl
 ids_put (e ∷ es) id segment =
-    elim (byte_cmp id e.0) as (λ r. ids (match_ordering r ((id, segment) ∷ e ∷ es) ((e.0, segment) ∷ es) (e ∷ insert_entry byte_cmp es id segment)) ≡ match_ordering r (id ∷ e.0 ∷ ids es) (e.0 ∷ ids es) (e.0 ∷ insert_key byte_cmp (ids es) id)) [
+    elim (byte_cmp id e.0) as (λ r. ids (match_ordering r ((id, segment) ∷ e ∷ es) ((e.0, segment) ∷ es)
+    (e ∷ insert_entry byte_cmp es id segment)) ≡ match_ordering r (id ∷ e.0 ∷ ids es) (e.0 ∷ ids es) (e.0 ∷ insert_key byte_cmp (ids es) id)) [
       | Less ↦ refl
       | Equal ↦ refl
       | Greater ↦ ap (λ (l : List (List ℕ)). e.0 ∷ l) (ids_put es id segment)
@@ -39,10 +40,12 @@ ids_put (e ∷ es) id segment =
 pub in_order_put : (es : List Entry) (id : List ℕ) (segment : LiveSegment) → InIdOrder es → InIdOrder (insert_entry byte_cmp es id segment)
 in_order_put es id segment o = subst (IsStrictlySortedBy byte_cmp) (sym (ids_put es id segment)) (sorted_put (ids es) id o)
 
-pub put_among : (es : List Entry) (id : List ℕ) (segment : LiveSegment) → at es id ≡ None → IsPermutation ((id, segment) ∷ es) (insert_entry byte_cmp es id segment)
+pub put_among : (es : List Entry) (id : List ℕ) (segment : LiveSegment) → at es id ≡ None
+    → IsPermutation ((id, segment) ∷ es) (insert_entry byte_cmp es id segment)
 put_among [] id segment none = IsPermutation-refl ((id, segment) ∷ [])
 put_among (e ∷ es) id segment none =
-    elim (byte_cmp id e.0) as (λ r. byte_cmp id e.0 ≡ r → IsPermutation ((id, segment) ∷ e ∷ es) (match_ordering r ((id, segment) ∷ e ∷ es) ((e.0, segment) ∷ es) (e ∷ insert_entry byte_cmp es id segment))) [
+    elim (byte_cmp id e.0) as (λ r. byte_cmp id e.0 ≡ r → IsPermutation ((id, segment) ∷ e ∷ es)
+    (match_ordering r ((id, segment) ∷ e ∷ es) ((e.0, segment) ∷ es) (e ∷ insert_entry byte_cmp es id segment))) [
       | Less ↦ λ r. IsPermutation-refl ((id, segment) ∷ e ∷ es)
       | Equal ↦ λ r. (let two : Some e.1 ≡ None = ap (λ (b : Bool). cond b (Some e.1) (at es id)) (sym (ap is_eq r)) ∙ none in absurd cc)
       | Greater ↦ λ r.
@@ -61,7 +64,8 @@ at_middle P (x ∷ es) e fs h = at_middle P es e fs h.1
 absent : (es : List Entry) (e : Entry) (fs : List Entry) → IsDistinct (eq_by_cmp byte_cmp) (ids (es ++ e ∷ fs)) → at es e.0 ≡ None
 absent [] e fs d = refl
 absent (x ∷ es) e fs d =
-    let apart : eq_by_cmp byte_cmp x.0 e.0 ≡ false = at_middle (λ y. eq_by_cmp byte_cmp x.0 y ≡ false) es e fs (IsDistinct-head (eq_by_cmp byte_cmp) x.0 (ids (es ++ e ∷ fs)) d) in
+    let apart : eq_by_cmp byte_cmp x.0 e.0 ≡ false = at_middle (λ y. eq_by_cmp byte_cmp x.0 y ≡ false) es e fs
+    (IsDistinct-head (eq_by_cmp byte_cmp) x.0 (ids (es ++ e ∷ fs)) d) in
     let other : is_at (byte_cmp e.0) x.0 ≡ false = same_at e.0 x.0 ∙ apart in
     ap (λ (b : Bool). cond b (Some x.1) (at es e.0)) other ∙ absent es e fs (IsDistinct-tail (eq_by_cmp byte_cmp) x.0 (ids (es ++ e ∷ fs)) d)
 

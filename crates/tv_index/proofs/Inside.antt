@@ -57,13 +57,15 @@ abbrev bracketed : json.Json → json.Json
 bracketed j = json.array (json.item j json.no_items)
 
 -- the canonical text is read inside an array too
-pub inside : (text : List ℕ) (d : Data) → text ≡ compact_text d → read text ≡ Some d → tokens text ≡ json_tokens (outline d) → depth (outline d) ≤ 32 → IsSome (read (91 ∷ text ++ 93 ∷ []))
+pub inside : (text : List ℕ) (d : Data) → text ≡ compact_text d → read text ≡ Some d → tokens text ≡ json_tokens (outline d) → depth (outline d) ≤ 32
+    → IsSome (read (91 ∷ text ++ 93 ∷ []))
 inside text d is reads same shallow =
     let s = spelled text d reads in
     let one : s.tree ≡ outline d = one_tree s.tree (outline d) (sym s.same ∙ same) in
     let j = bracketed (outline d) in
     let printed : 91 ∷ text ++ 93 ∷ [] ≡ print (json_tokens j) = ap (λ (t : List ℕ). 91 ∷ t ++ 93 ∷ []) is ∙ sym (print-outline (array (item d no_items))) in
-    let all : tokens (91 ∷ text ++ 93 ∷ []) ≡ json_tokens j = ap tokens printed ∙ tokens-print (json_tokens j) (ArePrintable-json_tokens j (subst HasNumbers one s.numbers, tt)) in
+    let all : tokens (91 ∷ text ++ 93 ∷ []) ≡ json_tokens j = ap tokens printed
+    ∙ tokens-print (json_tokens j) (ArePrintable-json_tokens j (subst HasNumbers one s.numbers, tt)) in
     let value : of_json j ≡ Some (array (item d no_items)) =
     ap (λ (o : Option Data). option_map array (option_and_then (λ x. option_map (item x) (Some no_items)) o)) (ap of_json (sym one) ∙ s.means) in
     some_is (read (91 ∷ text ++ 93 ∷ [])) (array (item d no_items)) (read_of_tokens (91 ∷ text ++ 93 ∷ []) j all (omega (arith, shallow)) ∙ value)

@@ -12,7 +12,8 @@ use Rattle.tv_model.specs.Schemas.{IsSchemaTree}
 use Rattle.tv_index.specs.declared.index_settings.Compressor.{Compressor}
 use Rattle.tv_index.specs.declared.index_settings.Compressor.TheVariants as compressors
 use Rattle.tv_index.specs.declared.index_settings.IndexSettings.{IndexSettings}
-use Rattle.tv_index.specs.MetaReading.{compressor_of, compressor_or, index_settings_or, default_index_settings, segments_at, schema_at, Held, held_of}
+use Rattle.tv_index.specs.MetaReading.{compressor_of, compressor_or, index_settings_or, segments_at, schema_at, Held, held_of}
+use Rattle.tv_index.specs.Settings.{default_index_settings}
 use Rattle.tv_index.specs.SchemaReading.{names_of}
 use Rattle.tv_index.specs.Segments.{gathered, optional}
 use Rattle.tv_index.specs.Settings.{settings_view}
@@ -36,7 +37,11 @@ compressor_back (Some d) h =
 
 -- the settings of an index with these
 abbrev index_settings : Settings → IndexSettings
-index_settings settings = record { docstore_compression = compressors.None; docstore_compress_dedicated_thread = settings.dedicated_thread; docstore_blocksize = settings.blocksize }
+index_settings settings = record {
+  docstore_compression = compressors.None;
+  docstore_compress_dedicated_thread = settings.dedicated_thread;
+  docstore_blocksize = settings.blocksize;
+}
 
 settings_to : (found : Option Data) (s : IndexSettings) → index_settings_or found ≡ Some s → AreSettingsAt found (settings_view s)
 settings_to None s h = let e : default_index_settings ≡ s = cc in ap settings_view (sym e)
@@ -59,14 +64,19 @@ settings_back (Some d) settings h =
     and_then_is _ (as_object d) h.members (Some (index_settings settings)) (ap as_object h.is_object)
     (and_then_is _ (compressor_or d) compressors.None (Some (index_settings settings)) (compressor_back (get (codes "docstore_compression") d) h.compression)
     (and_then_is _ (bool_or true (codes "docstore_compress_dedicated_thread") d) settings.dedicated_thread (Some (index_settings settings)) h.thread
-    (ap (λ (o : Option ℕ). option_map (λ n. record { docstore_compression = compressors.None; docstore_compress_dedicated_thread = settings.dedicated_thread; docstore_blocksize = n }) o) h.blocksize)))
+    (ap (λ (o : Option ℕ). option_map (λ n. record {
+      docstore_compression = compressors.None;
+      docstore_compress_dedicated_thread = settings.dedicated_thread;
+      docstore_blocksize = n;
+    }) o) h.blocksize)))
 
 -- ---- the payload
 
 abbrev IsText : Data → List ℕ → Type 0
 IsText d text = (d ≡ string text) × IsUtf8 text
 
-with_utf8 : (o : Option Data) (payload : Option (List ℕ)) → IsOptional (λ d text. d ≡ string text) o payload → IfSome payload IsUtf8 → IsOptional IsText o payload
+with_utf8 : (o : Option Data) (payload : Option (List ℕ)) → IsOptional (λ d text. d ≡ string text) o payload → IfSome payload IsUtf8
+    → IsOptional IsText o payload
 with_utf8 o None h u = h
 with_utf8 o (Some text) (d, is, h) u = (d, is, (h, u))
 
@@ -91,7 +101,8 @@ held_to d held h utf8 =
     let names = map_some _ (names_of tree.0) c.0 tree.2 in
     let same : tree.0 ≡ held.schema = names.2 ∙ ap (λ (x : Held). x.schema) p.2 in
     record {
-      settings_at = subst (AreSettingsAt (get (codes "index_settings") d)) (ap (λ (x : Held). x.settings) p.2) (settings_to (get (codes "index_settings") d) a.0 a.1);
+      settings_at = subst (AreSettingsAt (get (codes "index_settings") d)) (ap (λ (x : Held). x.settings) p.2)
+          (settings_to (get (codes "index_settings") d) a.0 a.1);
       items = list.0;
       list = value.1 ∙ ap Some (array_is value.0 list.0 value.2);
       segments = segments_to list.0 held.commit.segments (list.2 ∙ ap (λ (x : Held). Some x.commit.segments) p.2);
@@ -106,9 +117,11 @@ pub held_back : (d : Data) (settings : Settings) (commit : Commit) (schema : Dat
     → held_of d ≡ Some (record { settings = settings; commit = commit; schema = schema })
 held_back d settings commit schema h =
     let held : Held = record { settings = settings; commit = commit; schema = schema } in
-    and_then_is _ (index_settings_or (get (codes "index_settings") d)) (index_settings settings) (Some held) (settings_back (get (codes "index_settings") d) settings h.settings_at)
+    and_then_is _ (index_settings_or (get (codes "index_settings") d)) (index_settings settings) (Some held)
+    (settings_back (get (codes "index_settings") d) settings h.settings_at)
     (and_then_is _ (segments_at d) commit.segments (Some held)
-    (and_then_is (gathered []) (field as_array (codes "segments") d) h.items (Some commit.segments) (ap (option_and_then as_array) h.list) (segments_back h.items commit.segments h.segments))
+    (and_then_is (gathered []) (field as_array (codes "segments") d) h.items (Some commit.segments) (ap (option_and_then as_array) h.list)
+    (segments_back h.items commit.segments h.segments))
     (and_then_is _ (schema_at d) schema (Some held)
     (and_then_is _ (get (codes "schema") d) schema (Some schema) h.schema_at (ap (option_map (λ _. schema)) (schema_back schema h.names h.schema_form)))
     (and_then_is _ (field u64_of (codes "opstamp") d) commit.opstamp (Some held) h.opstamp

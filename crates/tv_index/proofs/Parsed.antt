@@ -43,7 +43,8 @@ pub spelled : (bytes : List ℕ) (d : Data) (held : Held) → IsUtf8 bytes → r
     → SpellsMeta bytes held.settings held.commit held.schema
 spelled bytes d held utf8 is h payload = record { utf8 = utf8; tree = d; parsed = is; form = held_to d held h payload }
 
-pub other_than : (expected : Option (List ℕ)) (bytes : List ℕ) (settings : Settings) (commit : Commit) (tree : Data) → SpellsMeta bytes settings commit tree → IsOtherThan expected tree → MeansOtherThan expected bytes
+pub other_than : (expected : Option (List ℕ)) (bytes : List ℕ) (settings : Settings) (commit : Commit) (tree : Data) → SpellsMeta bytes settings commit tree
+    → IsOtherThan expected tree → MeansOtherThan expected bytes
 other_than None bytes settings commit tree s h = h
 other_than (Some schema) bytes settings commit tree s h = record { settings = settings; commit = commit; tree = tree; spelled = s; other = h }
 
@@ -51,5 +52,6 @@ other_than (Some schema) bytes settings commit tree s h = record { settings = se
 pub none_chosen : (expected : Option (List ℕ)) (tree : Data) (o : Option (List ℕ)) → o ≡ None → Chooses expected tree o → IsOtherThan expected tree
 none_chosen expected tree o e h = subst (Chooses expected tree) e h
 
-pub one_chosen : (expected : Option (List ℕ)) (tree : Data) (o : Option (List ℕ)) (schema : List ℕ) → o ≡ Some schema → Chooses expected tree o → IsSchemaText schema tree × IsForExpected expected schema
+pub one_chosen : (expected : Option (List ℕ)) (tree : Data) (o : Option (List ℕ)) (schema : List ℕ) → o ≡ Some schema → Chooses expected tree o
+    → IsSchemaText schema tree × IsForExpected expected schema
 one_chosen expected tree o schema e h = subst (Chooses expected tree) e h

@@ -25,7 +25,8 @@ seen_texts keys = map (λ key. key.now) keys
 put_seen : (keys : List Text) (key : Text) → seen_texts (insert_key text_cmp keys key) ≡ insert_key byte_cmp (seen_texts keys) key.now
 put_seen [] key = refl
 put_seen (k ∷ keys) key =
-    elim (text_cmp key k) as (λ r. seen_texts (match_ordering r (key ∷ k ∷ keys) (k ∷ keys) (k ∷ insert_key text_cmp keys key)) ≡ match_ordering r (key.now ∷ k.now ∷ seen_texts keys) (k.now ∷ seen_texts keys) (k.now ∷ insert_key byte_cmp (seen_texts keys) key.now)) [
+    elim (text_cmp key k) as (λ r. seen_texts (match_ordering r (key ∷ k ∷ keys) (k ∷ keys) (k ∷ insert_key text_cmp keys key)) ≡ match_ordering r
+    (key.now ∷ k.now ∷ seen_texts keys) (k.now ∷ seen_texts keys) (k.now ∷ insert_key byte_cmp (seen_texts keys) key.now)) [
       | Less ↦ refl
       | Equal ↦ refl
       | Greater ↦ ap (λ (l : List (List ℕ)). k.now ∷ l) (put_seen keys key)
@@ -46,14 +47,17 @@ pub one_seen : (all : Bool) (old new : List Text) (key : Text) (left names : Lis
     → new ≡ insert_key text_cmp old key → has (seen_texts old) key.now ≡ false → all ≡ are_news (has (seen_texts new)) (map string_bytes names)
 one_seen all old new key left names name e l k n absent =
     let adds : (q : List ℕ) → has (seen_texts new) q ≡ (is key.now q || has (seen_texts old) q) =
-    λ q. ap (λ (keys : List Text). has (seen_texts keys) q) n ∙ ap (λ (texts : List (List ℕ)). has texts q) (put_seen old key) ∙ has_put (seen_texts old) key.now q in
+    λ q. ap (λ (keys : List Text). has (seen_texts keys) q) n ∙ ap (λ (texts : List (List ℕ)). has texts q) (put_seen old key)
+    ∙ has_put (seen_texts old) key.now q in
     e ∙ ap (λ (l : List (String Global)). are_news (has (seen_texts old)) (map string_bytes l)) l
     ∙ ap (λ (text : List ℕ). are_news (has (seen_texts old)) (text ∷ map string_bytes names)) (sym k)
-    ∙ more (has (seen_texts old)) (has (seen_texts new)) key.now (λ q. adds q ∙ ap (λ (b : Bool). b || has (seen_texts old) q) (is_by_order q key.now ∙ same_at q key.now) ∙ grind arith) absent (map string_bytes names)
+    ∙ more (has (seen_texts old)) (has (seen_texts new)) key.now
+    (λ q. adds q ∙ ap (λ (b : Bool). b || has (seen_texts old) q) (is_by_order q key.now ∙ same_at q key.now) ∙ grind arith) absent (map string_bytes names)
 
 -- one is seen twice
 pub seen_twice : (all : Bool) (old : List Text) (key : Text) (left names : List (String Global)) (name : String Global)
-    → all ≡ are_news (has (seen_texts old)) (map string_bytes left) → left ≡ name ∷ names → key.now ≡ string_bytes name → has (seen_texts old) key.now ≡ true → false ≡ all
+    → all ≡ are_news (has (seen_texts old)) (map string_bytes left) → left ≡ name ∷ names → key.now ≡ string_bytes name → has (seen_texts old) key.now ≡ true
+    → false ≡ all
 seen_twice all old key left names name e l k there =
     let here : has (seen_texts old) (string_bytes name) ≡ true = subst (λ (text : List ℕ). has (seen_texts old) text ≡ true) k there in
     sym (e ∙ ap (λ (l : List (String Global)). are_news (has (seen_texts old)) (map string_bytes l)) l

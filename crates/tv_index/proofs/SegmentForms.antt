@@ -119,7 +119,7 @@ not_there None h = refl
 not_there (Some x) h = cc
 
 -- one more, put before the rest
-moved : (found new : List Entry) (e : Entry) → at found e.0 ≡ None → IsPermutation (found ++ e ∷ new) (insert_entry byte_cmp found e.0 e.1 ++ new)
+pub moved : (found new : List Entry) (e : Entry) → at found e.0 ≡ None → IsPermutation (found ++ e ∷ new) (insert_entry byte_cmp found e.0 e.1 ++ new)
 moved found new e none =
     IsPermutation-trans (found ++ e ∷ new) (e ∷ (found ++ new)) (insert_entry byte_cmp found e.0 e.1 ++ new) (IsPermutation-middle found e new)
     (IsPermutation-append_left new (e ∷ found) (insert_entry byte_cmp found e.0 e.1) (put_among found e.0 e.1 none))
@@ -140,11 +140,13 @@ gathered_to (item d ds) found all o h =
     record {
       new = a.0 ∷ rest.new;
       each = (segment_to d a.0 a.1, rest.each);
-      same = IsPermutation-trans (found ++ a.0 ∷ rest.new) (insert_entry byte_cmp found a.0.0 a.0.1 ++ rest.new) all (moved found rest.new a.0 (not_there (at found a.0.0) u.0)) rest.same;
+      same = IsPermutation-trans (found ++ a.0 ∷ rest.new) (insert_entry byte_cmp found a.0.0 a.0.1 ++ rest.new) all
+          (moved found rest.new a.0 (not_there (at found a.0.0) u.0)) rest.same;
       ordered = rest.ordered;
     }
 
-gathered_back : (ds : Items) (found new all : List Entry) → InIdOrder found → SpellEach ds new → IsPermutation (found ++ new) all → InIdOrder all → gathered found ds ≡ Some all
+gathered_back : (ds : Items) (found new all : List Entry) → InIdOrder found → SpellEach ds new → IsPermutation (found ++ new) all → InIdOrder all
+    → gathered found ds ≡ Some all
 gathered_back no_items found [] all o each h u = ap Some (one_permutation found all o u (subst (λ (l : List Entry). IsPermutation l all) (append-nil found) h))
 gathered_back no_items found (e ∷ new) all o each h u = absurd each
 gathered_back (item d ds) found [] all o each h u = absurd each
@@ -156,7 +158,7 @@ gathered_back (item d ds) found (e ∷ new) all o each h u =
     (IsPermutation-trans (insert_entry byte_cmp found e.0 e.1 ++ new) (found ++ e ∷ new) all
     (IsPermutation-sym (found ++ e ∷ new) (insert_entry byte_cmp found e.0 e.1 ++ new) (moved found new e none)) h) u)
 
-no_order : InIdOrder []
+pub no_order : InIdOrder []
 unfolding IsStrictlySortedBy
 no_order = tt
 

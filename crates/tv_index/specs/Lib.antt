@@ -10,3 +10,12 @@ pub mod Parsing
 pub mod Choosing
 pub mod Opening
 pub mod Saving
+pub mod Tracked
+pub mod TrackedMetas
+pub mod NewForms
+pub mod Standing
+pub mod Indexes
+pub mod Building
+pub mod Checksums
+pub mod Lending
+pub mod Folders

@@ -12,7 +12,7 @@ use Rattle.tv_index.specs.declared.index_settings.IndexSettings.{IndexSettings}
 use Rattle.tv_index.specs.declared.reading.Body.{Body}
 use Rattle.tv_index.specs.SchemaReading.{names_of}
 use Rattle.tv_index.specs.Segments.{entry_of, gathered, optional}
-use Rattle.tv_index.specs.Settings.{settings_view}
+use Rattle.tv_index.specs.Settings.{default_index_settings, settings_view}
 
 -- the one compressor
 abbrev pub compressor_of : Data → Option Compressor
@@ -28,10 +28,6 @@ index_settings_of d =
       docstore_compress_dedicated_thread = thread;
       docstore_blocksize = blocksize;
     }) (u64_or 16384 (codes "docstore_blocksize") d)) (bool_or true (codes "docstore_compress_dedicated_thread") d)) (compressor_or d)) (as_object d)
-
--- the settings of an index that says none
-abbrev pub default_index_settings : IndexSettings
-default_index_settings = record { docstore_compression = compressors.None; docstore_compress_dedicated_thread = true; docstore_blocksize = 16384 }
 
 abbrev pub index_settings_or : Option Data → Option IndexSettings
 index_settings_or found = or_default default_index_settings index_settings_of found
@@ -55,7 +51,8 @@ held_of d =
       settings = settings_view settings;
       commit = record { opstamp = opstamp; payload = payload; segments = segments };
       schema = schema;
-    }) (optional as_str (get (codes "payload") d))) (field u64_of (codes "opstamp") d)) (schema_at d)) (segments_at d)) (index_settings_or (get (codes "index_settings") d))
+    }) (optional as_str (get (codes "payload") d))) (field u64_of (codes "opstamp") d)) (schema_at d)) (segments_at d))
+    (index_settings_or (get (codes "index_settings") d))
 
 -- the same of what was read, with a tree of the schema
 abbrev pub held_by : Body → Data → Held

@@ -112,20 +112,3 @@ pub record NotOpened {D W C : Type 0} (g : Ghosts D W C) (before : D) (schema : 
   pub unchanged : g.told.content → IsRefusedBytes error → Same (g.view before).reads (g.view now).reads
   pub cause : OpenCause g.told.content schema (g.view before).reads (Rose (g.view before).faults (g.view now).faults) ((g.view now).faults ≡ (g.view before).faults) error
   pub frame : FrameNotes g.told (g.view before) (g.view now)
-
--- The same behind the list of managed names, which was read: the index that stood there, or a new one, and its managed names.
-pub record LoadsOrCreates {D W C : Type 0} (g : Ghosts D W C) (old new : D × List (List ℕ)) (schema : List ℕ) (meta : UntrackedIndexMeta) : Type 0 where
-  pub has : HasCommit schema meta
-  pub found : g.told.content → FindsCommit schema ((g.view old.0).reads meta_name) (settings_of meta) (commit_of meta)
-  pub managed : g.told.content → new.1 ≡ managed_with ((g.view old.0).reads meta_name) old.1
-  pub left : g.told.content → LeavesFound (g.view old.0).reads (g.view new.0).reads schema
-  pub lists : g.told.content → Lists ((g.view old.0).reads list_name) old.1 → Lists ((g.view new.0).reads list_name) new.1
-  pub quiet : (g.view new.0).faults ≡ (g.view old.0).faults
-  pub frame : FrameNotes g.told (g.view old.0) (g.view new.0)
-
--- it wasn't opened
-pub record NotLoaded {D W C : Type 0} (g : Ghosts D W C) (old : D × List (List ℕ)) (now : D) (schema : List ℕ) (error : TantivyError) : Type 0 where
-  pub left : g.told.content → LeavesUnopened (g.view old.0).reads (g.view now).reads schema
-  pub unchanged : g.told.content → IsRefusedBytes error → Same (g.view old.0).reads (g.view now).reads
-  pub cause : LoadCause g.told.content schema ((g.view old.0).reads meta_name) (Rose (g.view old.0).faults (g.view now).faults) ((g.view now).faults ≡ (g.view old.0).faults) error
-  pub frame : FrameNotes g.told (g.view old.0) (g.view now)

@@ -20,6 +20,7 @@ MeansOtherThan (Some schema) bytes = MeansOther schema bytes
 -- Why bytes aren't taken: they mean no commit, which is told of the file `meta.json`, or one of another schema; and for nothing else, but for want of memory.
 abbrev pub ParseCause : (expected : Option (List ℕ)) → List ℕ → TantivyError → Type 0
 ParseCause expected bytes (errors.DataCorruption why) = (option_map string_bytes why.filepath ≡ Some meta_name) × MeansNothing bytes
-ParseCause expected bytes (errors.SchemaError text) = (string_bytes text ≡ codes "An index exists but the schema does not match.") × MeansOtherThan expected bytes
+ParseCause expected bytes (errors.SchemaError text) =
+    (string_bytes text ≡ codes "An index exists but the schema does not match.") × MeansOtherThan expected bytes
 ParseCause expected bytes errors.Memory = Unit {0}
 ParseCause expected bytes other = ⊥

@@ -1,12 +1,17 @@
 -- What a call does that saves the text of `meta.json`.
-use Rattle.std.specs.Prelude.{◌≡◌, ◌⊎◌, ℕ, List, Some, Result, IfErr, OnErr}
+use Rattle.std.specs.Prelude.{◌≡◌, ◌⊎◌, ◌++◌, ◌∷◌, [], ℕ, List, Some, Result, IfErr, OnOk, OnErr}
 use Rattle.std.specs.BTreeSet.{insert_key}
-use Rattle.tv_base.specs.Causes.{IoCause}
+use Rattle.tv_base.specs.Causes.{IoCause, IsDevice}
+use Rattle.tv_base.specs.declared.error.TantivyError.{TantivyError}
+use Rattle.tv_base.specs.declared.error.TantivyError.TheVariants as errors
 use Rattle.tv_base.specs.declared.io.IoError.{IoError}
 use Rattle.tv_directory.specs.View.{View, Told, Frame}
 use Rattle.tv_directory.specs.Watch.{MayNote}
 use Rattle.tv_directory.specs.declared.directory.Directory.{Ghosts}
+use Rattle.tv_model.specs.Commits.{Commit, IsCommit, Settings, printed}
+use Rattle.tv_model.specs.Files.{Rose}
 use Rattle.tv_model.specs.Listing.{Lists}
+use Rattle.tv_model.specs.Meaning.{Means}
 use Rattle.tv_model.specs.Names.{byte_cmp, list_name, meta_name}
 
 -- Nothing was told, no lock was taken or freed, and nobody was registered or called; a notice of a commit may stand.
@@ -24,3 +29,29 @@ pub record SavesMeta {D W C : Type 0} (g : Ghosts D W C) (old new : D × List (L
 pub record LeavesText {A D W C : Type 0} (g : Ghosts D W C) (old new : D) (text : List ℕ) (result : Result A IoError) : Type 0 where
   pub either : g.told.content → OnErr result (((g.view new).reads meta_name ≡ Some text) ⊎ ((g.view new).reads meta_name ≡ (g.view old).reads meta_name))
   pub memory : g.told.content → IfErr result (IoCause (Unit {0}) ((g.view new).reads meta_name ≡ (g.view old).reads meta_name))
+
+-- the text of `meta.json` of a commit
+abbrev pub saved_text : Settings → (schema : List ℕ) → Commit → List ℕ
+saved_text settings schema commit = printed settings schema commit ++ 10 ∷ []
+
+-- What is true of each answer of a call that saves: `refused` where the device refused it, `quiet` where memory was wanted.
+abbrev pub SaveCause : (refused quiet : Type 0) → TantivyError → Type 0
+SaveCause refused quiet (errors.IoError fault) = IsDevice fault × refused
+SaveCause refused quiet errors.Memory = quiet
+SaveCause refused quiet other = ⊥
+
+-- it fails for one of these causes
+pub record SaveFaults {A W : Type 0} (old new : View W) (result : Result A TantivyError) : Type 0 where
+  pub quiet : OnOk result (new.faults ≡ old.faults)
+  pub cause : IfErr result (SaveCause (Rose old.faults new.faults) (new.faults ≡ old.faults))
+
+-- After an error `meta.json` has this text, or what it had; after want of memory what it had.
+pub record LeavesOne {A D W C : Type 0} (g : Ghosts D W C) (old new : D) (text : List ℕ) (result : Result A TantivyError) : Type 0 where
+  pub either : g.told.content → OnErr result (((g.view new).reads meta_name ≡ Some text) ⊎ ((g.view new).reads meta_name ≡ (g.view old).reads meta_name))
+  pub memory : g.told.content → IfErr result (SaveCause (Unit {0}) ((g.view new).reads meta_name ≡ (g.view old).reads meta_name))
+
+-- `meta.json`, which is managed, has the text of this commit, and means it. After an error it has that text, or what it had.
+pub record SavesCommit {A D W C : Type 0} (g : Ghosts D W C) (old new : D × List (List ℕ)) (settings : Settings) (schema : List ℕ) (commit : Commit) (result : Result A TantivyError) : Type 0 where
+  pub saves : OnOk result (SavesMeta g old new (saved_text settings schema commit))
+  pub means : IsCommit commit → Means settings schema (saved_text settings schema commit) commit
+  pub leaves : LeavesOne g old.0 new.0 (saved_text settings schema commit) result

@@ -15,7 +15,8 @@ texts names = map string_bytes names.items
 abbrev pub names_in : Items → Option (List (List ℕ))
 names_in no_items = Some []
 names_in (item d ds) =
-    option_and_then (λ name. option_and_then (λ _. option_map (λ names. name ∷ names) (names_in ds)) (field as_str (codes "type") d)) (field as_str (codes "name") d)
+    option_and_then (λ name. option_and_then (λ _. option_map (λ names. name ∷ names) (names_in ds)) (field as_str (codes "type") d))
+    (field as_str (codes "name") d)
 
 abbrev pub if_distinct : List (List ℕ) → Option (List (List ℕ))
 if_distinct names = if are_distinct names then Some names else None

@@ -25,7 +25,8 @@ optional f (Some d) = unless_null f d
 
 abbrev pub delete_meta_of : Data → Option DeleteMeta
 delete_meta_of d =
-    option_and_then (λ n. option_map (λ opstamp. record { num_deleted_docs = n; opstamp = opstamp }) (field u64_of (codes "opstamp") d)) (field u32_of (codes "num_deleted_docs") d)
+    option_and_then (λ n. option_map (λ opstamp. record { num_deleted_docs = n; opstamp = opstamp }) (field u64_of (codes "opstamp") d))
+    (field u32_of (codes "num_deleted_docs") d)
 
 -- no more documents are deleted than there are
 abbrev pub if_within : List ℕ → ℕ → Option DeleteMeta → Option (List ℕ × LiveSegment)

@@ -12,7 +12,7 @@ ghost use Rattle.tv_index.specs.SchemaReading.{texts};
 
 use crate::index_settings::IndexSettings;
 use crate::json_text::tree_of;
-use crate::printing::{put, put_opstamp, put_payload, put_schema, put_segments, put_settings};
+use crate::printing::meta_text;
 use crate::read_error::ReadError;
 use crate::reading::body_of;
 use crate::schema::Schema;
@@ -40,8 +40,8 @@ pub struct UntrackedIndexMeta {
 impl UntrackedIndexMeta {
     /// The commit that the bytes of `meta.json` mean. Its segments stand in the order of their ids.
     ///
-    /// The schema is the expected one; where none is expected it is the one that the bytes spell, with
-    /// its keys in the order of their bytes and without blanks.
+    /// The schema is the expected one; where none is expected it is the one that the bytes spell,
+    /// with its keys in the order of their bytes and without blanks.
     pub fn parse(
         alloc: Global,
         bytes: &[u8],
@@ -66,18 +66,19 @@ impl UntrackedIndexMeta {
         ensures text { IfOk result (λ text. text.items
             ≡ printed (settings_of self.now) self.now.schema (commit_of self.now)) }
     {
-        let mut text = Vec::new(alloc);
-        put_settings(&mut text, &self.index_settings)?;
-        put_segments(alloc, &mut text, self.segments.as_slice())?;
-        put_schema(&mut text, &self.schema)?;
-        put_opstamp(&mut text, self.opstamp)?;
-        put_payload(&mut text, &self.payload)?;
-        put(&mut text, "}")?;
-        Ok(text)
+        meta_text(
+            alloc,
+            &self.index_settings,
+            self.segments.as_slice(),
+            &self.schema,
+            self.opstamp,
+            &self.payload,
+        )
     }
 }
 
-// The commit that the bytes mean; nothing where they mean one of another schema than the expected one.
+// The commit that the bytes mean; nothing where they mean one of another schema than the expected
+// one.
 fn read(
     alloc: Global,
     bytes: &[u8],
@@ -101,8 +102,8 @@ fn read(
     }))
 }
 
-// The schema with this tree: the expected one, where one is expected; nothing where that has another
-// tree.
+// The schema with this tree: the expected one, where one is expected; nothing where that has
+// another tree.
 fn schema_for(
     alloc: Global,
     expected: Option<&Schema>,

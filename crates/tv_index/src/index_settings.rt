@@ -1,7 +1,7 @@
 //! The settings of an index.
 ghost use Rattle.std.specs.Prelude.{◌≡◌, ◌↔◌, IsTrue};
 ghost use Rattle.tv_model.specs.Commits.{default_settings};
-ghost use Rattle.tv_index.specs.Settings.{settings_view};
+ghost use Rattle.tv_index.specs.Settings.{default_index_settings, settings_view};
 
 /// How the document store is compressed.
 #[derive(Clone, Copy, Debug, PartialEq, Eq)]
@@ -22,10 +22,11 @@ pub struct IndexSettings {
 }
 
 impl IndexSettings {
-    /// The settings of an index that says none: nothing is compressed, on a thread of its own, and a
-    /// block has 16384 bytes.
+    /// The settings of an index that says none: nothing is compressed, on a thread of its own, and
+    /// a block has 16384 bytes.
     pub fn new() -> IndexSettings
         ensures settings { settings_view result ≡ default_settings }
+        ensures parts { result ≡ default_index_settings }
     {
         IndexSettings {
             docstore_compression: Compressor::None,

@@ -1,15 +1,17 @@
 //! How an index is opened, or made where there is none.
-ghost use Rattle.std.specs.Prelude.{◌≡◌, IfOk, IfErr, IfSome, OnOk};
-ghost use Rattle.tv_model.specs.Commits.{default_settings, first_commit};
+ghost use Rattle.std.specs.Prelude.{◌≡◌, ◌<◌, ◌^◌, IfOk, IfErr, IfSome, OnOk, option_map};
+ghost use Rattle.tv_model.specs.Commits.{first_commit};
 ghost use Rattle.tv_model.specs.Names.{meta_name};
 ghost use Rattle.tv_directory.specs.Calls.{IoFaults};
 ghost use Rattle.tv_directory.specs.View.{OnlyReads};
 ghost use Rattle.tv_managed.specs.Frames.{KeepsNames};
 ghost use Rattle.tv_managed.specs.Managed.{KeepsOtherFiles};
-ghost use Rattle.tv_index.specs.Metas.{commit_of, settings_of};
-ghost use Rattle.tv_index.specs.Opening.{HasCommit, LoadFaults, Loads, NotOpened, OpensIndex, first_text};
-ghost use Rattle.tv_index.specs.Opening.{LoadsOrCreates, NotLoaded};
+ghost use Rattle.tv_managed.specs.Wrapping.{NotWrapped, Wraps};
+ghost use Rattle.tv_index.specs.Metas.{commit_of};
+ghost use Rattle.tv_index.specs.NewForms.{IsFirst, LoadsOrCreates, NotLoaded, NotOpenedForm, OpensForm, form_with, new_text};
+ghost use Rattle.tv_index.specs.Opening.{HasCommit, LoadFaults, Loads, NotOpened, OpensIndex};
 ghost use Rattle.tv_index.specs.Saving.{FrameNotes, LeavesText, SavesMeta};
+ghost use Rattle.tv_index.specs.Standing.{LoadsMeta, MetaFaults, UnreadAs};
 
 use crate::index_meta::UntrackedIndexMeta;
 use crate::index_settings::IndexSettings;
@@ -43,14 +45,49 @@ pub(crate) fn load<D: Directory>(
     Ok(Some(meta))
 }
 
-// The first commit of an index with this schema.
-fn first_meta(alloc: Global, schema: Schema) -> UntrackedIndexMeta
-    ensures settings { settings_of result ≡ default_settings }
+// What a read of `meta.json` that failed tells of it.
+fn unread(error: OpenReadError) -> TantivyError
+    ensures { UnreadAs error result }
+{
+    match error {
+        OpenReadError::FileDoesNotExist(path) => {
+            TantivyError::OpenReadError(OpenReadError::FileDoesNotExist(path))
+        }
+        OpenReadError::IoError { io_error, .. } => TantivyError::IoError(io_error),
+        OpenReadError::Memory => TantivyError::Memory,
+        OpenReadError::IncompatibleIndex(why) => TantivyError::IncompatibleIndex(why),
+    }
+}
+
+// The commit that `meta.json` means, under the expected schema where one is expected.
+// `FileDoesNotExist` comes where it doesn't read.
+pub(crate) fn load_some<D: Directory>(
+    alloc: Global,
+    directory: &mut ManagedDirectory<D>,
+    expected: Option<&Schema>,
+) -> Result<UntrackedIndexMeta, TantivyError>
+    ensures meta { IfOk result (LoadsMeta D.Directory directory.old.0
+        (option_map (λ s. s.now) expected.entry)) }
+    ensures faults { MetaFaults D.Directory directory.old.0 directory.new.0
+        (option_map (λ s. s.now) expected.entry) result }
+    ensures frame { KeepsNames (OnlyReads D.told) D.view directory.old directory.new }
+{
+    match directory.atomic_read(META_FILEPATH) {
+        Ok(bytes) => UntrackedIndexMeta::parse(alloc, bytes.as_slice(), expected),
+        Err(error) => Err(unread(error)),
+    }
+}
+
+// The first commit of an index with these settings and this schema.
+fn first_meta(alloc: Global, schema: Schema, settings: IndexSettings) -> UntrackedIndexMeta
+    ensures settings { result.index_settings ≡ settings }
     ensures commit { commit_of result ≡ first_commit }
     ensures schema { result.schema ≡ schema }
+    ensures blocksize { settings.docstore_blocksize < 2 ^ 64 }
 {
+    let _blocksize = settings.docstore_blocksize;
     UntrackedIndexMeta {
-        index_settings: IndexSettings::new(),
+        index_settings: settings,
         segments: Vec::new(alloc),
         schema,
         opstamp: 0,
@@ -58,25 +95,24 @@ fn first_meta(alloc: Global, schema: Schema) -> UntrackedIndexMeta
     }
 }
 
-// Makes an index with this schema: `meta.json` has its first commit.
-fn create<D: Directory>(
+// Makes an index with these settings and this schema: `meta.json` has its first commit.
+pub(crate) fn create<D: Directory>(
     alloc: Global,
     directory: &mut ManagedDirectory<D>,
     schema: &Schema,
+    settings: IndexSettings,
 ) -> Result<UntrackedIndexMeta, IoError>
-    ensures settings { IfOk result (λ meta. settings_of meta ≡ default_settings) }
-    ensures commit { IfOk result (λ meta. (commit_of meta ≡ first_commit)
-        × HasCommit schema.now meta) }
+    ensures meta { IfOk result (IsFirst (form_with settings schema.now)) }
     ensures saves { OnOk result (SavesMeta D.Directory directory.old directory.new
-        (first_text schema.now)) }
+        (new_text (form_with settings schema.now))) }
     ensures others { D.told.content → KeepsOtherFiles (D.view directory.old.0).reads
         (D.view directory.new.0).reads meta_name }
     ensures leaves { LeavesText D.Directory directory.old.0 directory.new.0
-        (first_text schema.now) result }
+        (new_text (form_with settings schema.now)) result }
     ensures faults { IoFaults (D.view directory.old.0) (D.view directory.new.0) result }
     ensures frame { FrameNotes D.told (D.view directory.old.0) (D.view directory.new.0) }
 {
-    let meta = first_meta(alloc, schema.share(alloc)?);
+    let meta = first_meta(alloc, schema.share(alloc)?, settings);
     let mut text = meta.print(alloc)?;
     text.push(b'\n')?;
     save_meta_text(directory, text.as_slice())?;
@@ -88,15 +124,60 @@ fn load_or_create<D: Directory>(
     alloc: Global,
     directory: &mut ManagedDirectory<D>,
     schema: &Schema,
+    settings: IndexSettings,
 ) -> Result<UntrackedIndexMeta, TantivyError>
-    ensures ok { IfOk result (LoadsOrCreates D.Directory directory.old directory.new schema.now) }
-    ensures err { IfErr result (NotLoaded D.Directory directory.old directory.new.0 schema.now) }
+    ensures ok { IfOk result (LoadsOrCreates D.Directory directory.old directory.new
+        (form_with settings schema.now)) }
+    ensures err { IfErr result (NotLoaded D.Directory directory.old directory.new.0
+        (form_with settings schema.now)) }
 {
     if let Some(meta) = load(alloc, directory, schema)? {
         return Ok(meta);
     }
-    let meta = create(alloc, directory, schema)?;
+    let meta = create(alloc, directory, schema, settings)?;
     Ok(meta)
+}
+
+// The directory with its managed names, once the device has kept what was written.
+pub(crate) fn settled<D: Directory>(
+    alloc: Global,
+    directory: D,
+) -> Result<ManagedDirectory<D>, Refused<D>>
+    ensures wraps { IfOk result (Wraps D.Directory directory) }
+    ensures refused { IfErr result (λ refused.
+        NotWrapped D.Directory directory refused.directory refused.error) }
+{
+    let mut directory = directory;
+    match directory.sync_directory() {
+        Ok(()) => ManagedDirectory::wrap(alloc, directory),
+        Err(fault) => Err(Refused {
+            error: TantivyError::from(fault),
+            directory,
+        }),
+    }
+}
+
+// Opens the index that stands in a directory, or makes one with this schema and these settings.
+pub(crate) fn open_or_create_with<D: Directory>(
+    alloc: Global,
+    directory: D,
+    schema: &Schema,
+    settings: IndexSettings,
+) -> Result<(ManagedDirectory<D>, UntrackedIndexMeta), Refused<D>>
+    ensures opened { IfOk result (λ opened.
+        OpensForm D.Directory directory (form_with settings schema.now) opened.0 opened.1) }
+    ensures refused { IfErr result (λ refused.
+        NotOpenedForm D.Directory directory (form_with settings schema.now)
+        refused.directory refused.error) }
+{
+    let mut directory = settled(alloc, directory)?;
+    match load_or_create(alloc, &mut directory, schema, settings) {
+        Ok(meta) => Ok((directory, meta)),
+        Err(error) => Err(Refused {
+            error,
+            directory: directory.into_directory(),
+        }),
+    }
 }
 
 /// Opens the index that stands in a directory, or makes one with this schema where there is no
@@ -115,19 +196,5 @@ pub fn open_or_create<D: Directory>(
     ensures refused { IfErr result (λ refused.
         NotOpened D.Directory directory schema.now refused.directory refused.error) }
 {
-    let mut directory = directory;
-    if let Err(fault) = directory.sync_directory() {
-        return Err(Refused {
-            error: TantivyError::from(fault),
-            directory,
-        });
-    }
-    let mut directory = ManagedDirectory::wrap(alloc, directory)?;
-    match load_or_create(alloc, &mut directory, schema) {
-        Ok(meta) => Ok((directory, meta)),
-        Err(error) => Err(Refused {
-            error,
-            directory: directory.into_directory(),
-        }),
-    }
+    open_or_create_with(alloc, directory, schema, IndexSettings::new())
 }

@@ -1,8 +1,8 @@
 //! The text of `meta.json`, piece by piece.
-ghost use Rattle.std.specs.Prelude.{◌≡◌, ◌<◌, ◌++◌, [], ◌∷◌, Some, OnOk, codes, if◌then◌else◌, map};
+ghost use Rattle.std.specs.Prelude.{◌≡◌, ◌<◌, ◌++◌, [], ◌∷◌, Some, IfOk, OnOk, codes, if◌then◌else◌, map};
 ghost use Rattle.std.specs.Fmt.{decimal};
 ghost use Rattle.std.specs.List.{join_with_byte};
-ghost use Rattle.tv_model.specs.Commits.{deletes_text, escaped, escaped_byte, hex_digit, payload_text, segment_text, settings_text, thread_text};
+ghost use Rattle.tv_model.specs.Commits.{deletes_text, escaped, escaped_byte, hex_digit, payload_text, printed, segment_text, settings_text, thread_text};
 ghost use Rattle.tv_index.specs.Metas.{text_of};
 ghost use Rattle.tv_index.specs.Segments.{entry_of};
 ghost use Rattle.tv_index.specs.Settings.{settings_view};
@@ -13,7 +13,33 @@ use crate::segment_meta::InnerSegmentMeta;
 use std::alloc::Global;
 use tv_model::{DeleteMeta, Memory, Opstamp};
 
-/// Adds a text.
+/// The text of `meta.json`, without its line feed, with the segments in this order.
+pub(crate) fn meta_text(
+    alloc: Global,
+    settings: &IndexSettings,
+    segments: &[InnerSegmentMeta],
+    schema: &Schema,
+    opstamp: Opstamp,
+    payload: &Option<String>,
+) -> Result<Vec<u8>, Memory>
+    ensures { IfOk result (λ text. text.items ≡ printed (settings_view settings.now) schema.now
+        (record {
+          opstamp = opstamp;
+          payload = text_of payload.now;
+          segments = map entry_of segments.now;
+        })) }
+{
+    let mut text = Vec::new(alloc);
+    put_settings(&mut text, settings)?;
+    put_segments(alloc, &mut text, segments)?;
+    put_schema(&mut text, schema)?;
+    put_opstamp(&mut text, opstamp)?;
+    put_payload(&mut text, payload)?;
+    put(&mut text, "}")?;
+    Ok(text)
+}
+
+// Adds a text.
 pub(crate) fn put(out: &mut Vec<u8>, text: &str) -> Result<(), Memory>
     ensures { OnOk result (out.new.items ≡ out.old.items ++ text.now) }
 {
@@ -40,7 +66,7 @@ fn put_thread(out: &mut Vec<u8>, dedicated: bool) -> Result<(), Memory>
     }
 }
 
-/// Begins with the settings.
+// Begins with the settings.
 pub(crate) fn put_settings(out: &mut Vec<u8>, settings: &IndexSettings) -> Result<(), Memory>
     ensures { OnOk result (out.new.items ≡ out.old.items
         ++ (codes "{\"index_settings\":" ++ settings_text (settings_view settings.now))) }
@@ -56,7 +82,7 @@ pub(crate) fn put_settings(out: &mut Vec<u8>, settings: &IndexSettings) -> Resul
     Ok(())
 }
 
-/// Adds the segments, with commas between.
+// Adds the segments, with commas between.
 pub(crate) fn put_segments(
     alloc: Global,
     out: &mut Vec<u8>,
@@ -142,7 +168,7 @@ fn put_delete_meta(out: &mut Vec<u8>, meta: DeleteMeta) -> Result<(), Memory>
     Ok(())
 }
 
-/// Ends the segments, and adds the text of the schema.
+// Ends the segments, and adds the text of the schema.
 pub(crate) fn put_schema(out: &mut Vec<u8>, schema: &Schema) -> Result<(), Memory>
     ensures { OnOk result (out.new.items ≡ out.old.items ++ (codes "],\"schema\":" ++ schema.now)) }
 {
@@ -151,7 +177,7 @@ pub(crate) fn put_schema(out: &mut Vec<u8>, schema: &Schema) -> Result<(), Memor
     Ok(())
 }
 
-/// Adds the number of the commit.
+// Adds the number of the commit.
 pub(crate) fn put_opstamp(out: &mut Vec<u8>, opstamp: Opstamp) -> Result<(), Memory>
     ensures { OnOk result (out.new.items ≡ out.old.items
         ++ (codes ",\"opstamp\":" ++ decimal opstamp)) }
@@ -161,8 +187,8 @@ pub(crate) fn put_opstamp(out: &mut Vec<u8>, opstamp: Opstamp) -> Result<(), Mem
     Ok(())
 }
 
-/// Adds the payload, where there is one.
-pub(crate) fn put_payload(out: &mut Vec<u8>, payload: &Option<String>) -> Result<(), Memory>
+// Adds the payload, where there is one.
+fn put_payload(out: &mut Vec<u8>, payload: &Option<String>) -> Result<(), Memory>
     ensures { OnOk result (out.new.items ≡ out.old.items ++ payload_text (text_of payload.now)) }
 {
     match payload {

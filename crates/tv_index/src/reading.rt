@@ -48,8 +48,10 @@ fn payload_of(alloc: Global, tree: &Value) -> Result<Option<String>, ReadError>
 
 /// What a tree holds, and the tree of its schema.
 pub(crate) fn body_of(alloc: Global, tree: &Value) -> Result<(Body, &Value), ReadError>
-    ensures body { Gives (λ found. held_by found.0 (view found.1.now)) result (held_of (view tree.now)) }
-    ensures names { IfOk result (λ found. names_of (view found.1.now) ≡ Some (texts found.0.names)) }
+    ensures body { Gives (λ found. held_by found.0 (view found.1.now)) result
+        (held_of (view tree.now)) }
+    ensures names { IfOk result (λ found.
+        names_of (view found.1.now) ≡ Some (texts found.0.names)) }
 {
     let index_settings = settings_or_default(tree).ok_or(ReadError::Corrupt)?;
     let segments = segments_at(alloc, tree)?;

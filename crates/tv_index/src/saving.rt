@@ -1,16 +1,22 @@
 //! How the text of `meta.json` is saved.
-ghost use Rattle.std.specs.Prelude.{◌≡◌, OnOk};
+ghost use Rattle.std.specs.Prelude.{◌≡◌, ◌<◌, ◌^◌, IfOk, OnOk};
+ghost use Rattle.tv_model.specs.Commits.{Commit};
 ghost use Rattle.tv_model.specs.Names.{meta_name};
 ghost use Rattle.tv_directory.specs.Calls.{IoFaults};
 ghost use Rattle.tv_managed.specs.Managed.{KeepsOtherFiles};
-ghost use Rattle.tv_index.specs.Saving.{FrameNotes, LeavesText, SavesMeta};
+ghost use Rattle.tv_index.specs.Saving.{FrameNotes, LeavesText, SaveFaults, SavesCommit, SavesMeta, saved_text};
+ghost use Rattle.tv_index.specs.Schemas.{HasSchemaTree};
+ghost use Rattle.tv_index.specs.TrackedMetas.{IsInOrder, tracked_commit, tracked_settings};
 
-use tv_base::{IoError, META_FILEPATH};
+use crate::tracked_meta::IndexMeta;
+use std::alloc::Global;
+use tv_base::{IoError, META_FILEPATH, TantivyError};
 use tv_directory::Directory;
 use tv_managed::ManagedDirectory;
+use tv_model::Memory;
 
-/// Makes these bytes the text of `meta.json` in one step: what was written before is kept by then,
-/// and the text is kept afterwards.
+/// Makes these bytes the text of `meta.json`, by one atomic write. The directory is synced before and
+/// afterwards.
 pub fn save_meta_text<D: Directory>(
     directory: &mut ManagedDirectory<D>,
     text: &[u8],
@@ -25,5 +31,44 @@ pub fn save_meta_text<D: Directory>(
     directory.sync_directory()?;
     directory.atomic_write(META_FILEPATH, text)?;
     directory.sync_directory()?;
+    Ok(())
+}
+
+// The text of `meta.json` of a commit.
+fn saved_text(alloc: Global, meta: &IndexMeta) -> Result<Vec<u8>, Memory>
+    ensures text { IfOk result (λ text. (commit : Commit)
+        → IsInOrder (tracked_commit meta.now) commit
+        → text.items ≡ saved_text (tracked_settings meta.now) meta.now.schema commit) }
+    ensures schema { HasSchemaTree meta.now.schema }
+    ensures blocksize { (tracked_settings meta.now).blocksize < 2 ^ 64 }
+{
+    // A contract learns from these that the text is a schema's, and that the number has 64 bits.
+    let _schema = meta.schema.text();
+    let _blocksize = meta.index_settings.docstore_blocksize;
+    let mut text = meta.print(alloc)?;
+    text.push(b'\n')?;
+    Ok(text)
+}
+
+/// Saves a commit in one step: `meta.json` then has its printed form and a line feed. The segments
+/// stand there in the order of their ids, none of which stands twice.
+///
+/// The directory is synced before and afterwards. An `IoError` comes where the device refused a call,
+/// and `Memory` where memory was wanted; then `meta.json` has what it had.
+pub fn save_metas<D: Directory>(
+    alloc: Global,
+    meta: &IndexMeta,
+    directory: &mut ManagedDirectory<D>,
+) -> Result<(), TantivyError>
+    ensures saves { (commit : Commit) → IsInOrder (tracked_commit meta.now) commit
+        → SavesCommit D.Directory directory.old directory.new (tracked_settings meta.now)
+        meta.now.schema commit result }
+    ensures others { D.told.content → KeepsOtherFiles (D.view directory.old.0).reads
+        (D.view directory.new.0).reads meta_name }
+    ensures faults { SaveFaults (D.view directory.old.0) (D.view directory.new.0) result }
+    ensures frame { FrameNotes D.told (D.view directory.old.0) (D.view directory.new.0) }
+{
+    let text = saved_text(alloc, meta)?;
+    save_meta_text(directory, text.as_slice())?;
     Ok(())
 }

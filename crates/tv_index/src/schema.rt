@@ -38,11 +38,13 @@ impl Model for Schema {
 
     ghost view = { λ s. s.text.items };
 
-    ghost invariant = { λ s. IsKept s.text.items (map string_bytes s.names.items) (string_bytes s.canonical) };
+    ghost invariant = { λ s. IsKept s.text.items (map string_bytes s.names.items)
+        (string_bytes s.canonical) };
 }
 
 impl Schema {
-    /// The schema that the bytes spell. Its text is theirs without the blanks outside string literals.
+    /// The schema that the bytes spell. Its text is theirs, without the blanks outside string
+    /// literals.
     pub fn from_bytes(alloc: Global, bytes: &[u8]) -> Result<Schema, TantivyError>
         ensures ok { IfOk result (IsSchema bytes.now) }
         ensures err { IfErr result (SchemaCause bytes.now) }
@@ -56,7 +58,8 @@ impl Schema {
 
     // The schema that the bytes spell.
     fn spelled(alloc: Global, bytes: &[u8]) -> Result<Schema, ReadError>
-        ensures { MatchResult result (IsSchema bytes.now) (λ e. IfCorrupt e (IsNoSchema bytes.now)) }
+        ensures { MatchResult result (IsSchema bytes.now)
+            (λ e. IfCorrupt e (IsNoSchema bytes.now)) }
     {
         if bytes.len() > MAX_SIZE {
             return Err(ReadError::Corrupt);
@@ -85,8 +88,8 @@ impl Schema {
         })
     }
 
-    /// The schema of a tree, whose fields have these names. In its text the keys are in the order of
-    /// their bytes, and it has no blanks.
+    /// The schema of a tree, whose fields have these names. In its text the keys are in the order
+    /// of their bytes, and it has no blanks.
     pub(crate) fn of_tree(alloc: Global, names: Vec<String>, tree: &Value) -> Result<Schema, Memory>
         requires form { IsSchemaTree (view tree.now) (texts names) }
         ensures text { IfOk result (λ schema. schema ≡ compact_text (view tree.now)) }
@@ -116,7 +119,8 @@ impl Schema {
         self.names.as_slice()
     }
 
-    /// Whether the two have the same tree, so that the order of keys doesn't count. Takes no memory.
+    /// Whether the two have the same tree, so that the order of keys doesn't count. Takes no
+    /// memory.
     pub fn same(&self, other: &Schema) -> bool
         ensures same { IsTrue result ↔ (read self.now ≡ read other.now) }
     {

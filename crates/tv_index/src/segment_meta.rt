@@ -1,5 +1,11 @@
 //! What is known of a segment of a commit.
-use tv_model::{DeleteMeta, SegmentId};
+ghost use Rattle.std.specs.Prelude.{◌≡◌, ◌≤◌, IfOk, OnErr};
+ghost use Rattle.tv_model.specs.Segments.{num_deleted};
+ghost use Rattle.tv_index.specs.Segments.{entry_of};
+ghost use Rattle.tv_index.specs.Tracked.{Tracks};
+
+use crate::tracked::{SegmentMeta, SegmentMetaInventory};
+use tv_model::{DeleteMeta, Memory, SegmentId};
 
 /// What is known of a segment of a commit, as `meta.json` has it.
 #[derive(Clone, Copy, Debug, PartialEq, Eq)]
@@ -10,4 +16,15 @@ pub struct InnerSegmentMeta {
     pub max_doc: u32,
     /// Its deletes, if there are any.
     pub deletes: Option<DeleteMeta>,
+}
+
+impl InnerSegmentMeta {
+    /// Takes the segment into an inventory. No more documents are deleted than there are.
+    pub fn track(self, inventory: &mut SegmentMetaInventory) -> Result<SegmentMeta, Memory>
+        requires within { num_deleted self.deletes ≤ self.max_doc }
+        ensures ok { IfOk result (Tracks (entry_of self) inventory.old inventory.new) }
+        ensures err { OnErr result (inventory.new ≡ inventory.old) }
+    {
+        inventory.track(&self)
+    }
 }

@@ -86,8 +86,8 @@ fn segments_in(alloc: Global, list: &[Value]) -> Result<BTreeMap<SegmentId, Live
     Ok(found)
 }
 
-// The segments in the order of their ids.
-fn in_order(
+/// The segments in the order of their ids.
+pub(crate) fn in_order(
     alloc: Global,
     found: &BTreeMap<SegmentId, LiveSegment>,
 ) -> Result<Vec<InnerSegmentMeta>, Memory>
@@ -102,6 +102,17 @@ fn in_order(
         })?;
     }
     Ok(segments)
+}
+
+/// The ids of segments, in their order.
+pub(crate) fn ids_of(alloc: Global, segments: &[InnerSegmentMeta]) -> Result<Vec<SegmentId>, Memory>
+    ensures { IfOk result (λ ids. ids.items ≡ map (λ s. s.segment_id) segments.now) }
+{
+    let mut ids = Vec::with_capacity(alloc, segments.len())?;
+    for segment in segments {
+        ids.push(segment.segment_id)?;
+    }
+    Ok(ids)
 }
 
 /// The segments that `meta.json` holds, in the order of their ids.

@@ -30,7 +30,8 @@ returns c =
       record {
         tree = schema;
         schema_is = chosen.0;
-        spelled = spelled c.args.bytes.now d (held_by c.in_ok-body.body schema) c.in_ok-tree.ensures.ok.0 c.in_ok-tree.ensures.ok.1 c.in_ok-body.ensures.body (payload_utf8 c.in_ok-body.body.payload);
+        spelled = spelled c.args.bytes.now d (held_by c.in_ok-body.body schema) c.in_ok-tree.ensures.ok.0 c.in_ok-tree.ensures.ok.1 c.in_ok-body.ensures.body
+            (payload_utf8 c.in_ok-body.body.payload);
       },
       chosen.1,
     )

@@ -1,9 +1,10 @@
-use Rattle.std.proofs.Common.{◌∙◌}
-use Rattle.tv_index.proofs.Openings.{has_first}
+use Rattle.std.proofs.Common.{◌∙◌, ap}
+use Rattle.tv_index.specs.NewForms.{form_with}
+use Rattle.tv_index.specs.Settings.{settings_view}
+use Rattle.tv_index.proofs.Openings.{is_first}
 use Rattle.tv_index.proofs.opening.create.Goals as goal
 
-pub returns-clause-commit : goal.returns-clause-commit
-returns-clause-commit g c = (
-  c.first_meta-meta.ensures.commit,
-  has_first c.args.schema.now c.first_meta-meta.result c.first_meta-meta.ensures.settings c.first_meta-meta.ensures.commit (c.first_meta-meta.ensures.schema ∙ c.in_ok-share.ensures.text),
-)
+pub returns-clause-meta : goal.returns-clause-meta
+returns-clause-meta g c =
+    let first = c.first_meta-meta.ensures in
+    is_first (form_with c.args.settings c.args.schema.now) c.first_meta-meta.result (ap settings_view first.settings) first.commit (first.schema ∙ c.in_ok-share.ensures.text) first.blocksize

@@ -27,5 +27,6 @@ loop-segment-preserved c =
 pub returns : goal.returns
 returns c =
     c.loop-segment.invariant.text
-    ∙ ap (λ (l : List InnerSegmentMeta). c.args.out.now.items ++ join_with_byte 44 (map text_of l)) (take_all c.loop-segment.segment-index c.args.segments.now c.loop-segment-test.false)
+    ∙ ap (λ (l : List InnerSegmentMeta). c.args.out.now.items ++ join_with_byte 44 (map text_of l))
+    (take_all c.loop-segment.segment-index c.args.segments.now c.loop-segment-test.false)
     ∙ ap (λ (l : List (List ℕ)). c.args.out.now.items ++ join_with_byte 44 l) (sym (map_map segment_text entry_of c.args.segments.now))

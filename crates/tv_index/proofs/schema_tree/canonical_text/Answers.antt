@@ -14,5 +14,6 @@ returns-clause-reads c = let s = shallow 32 (view c.args.tree.now) c.requires in
 pub returns-clause-inside : goal.returns-clause-inside
 returns-clause-inside c =
     let s = shallow 32 (view c.args.tree.now) c.requires in
-    inside (string_bytes c.in_ok-text.text) (view c.args.tree.now) (c.in_ok-text.ensures.text s.no_float) (c.in_ok-text.ensures.reads_back (omega (arith, s.depth)))
+    inside (string_bytes c.in_ok-text.text) (view c.args.tree.now) (c.in_ok-text.ensures.text s.no_float)
+    (c.in_ok-text.ensures.reads_back (omega (arith, s.depth)))
     (tokens_from_order (string_bytes c.in_ok-text.text) (view c.args.tree.now) c.in_ok-text.ensures.order s.no_float) s.outline_depth

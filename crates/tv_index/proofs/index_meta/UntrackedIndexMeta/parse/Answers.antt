@@ -6,4 +6,5 @@ use Rattle.tv_index.proofs.index_meta.UntrackedIndexMeta.parse.Goals as goal
 
 pub returns-in-Err-Corrupt-clause-err : goal.returns-in-Err-Corrupt-clause-err
 returns-in-Err-Corrupt-clause-err c =
-    c.corrupt.ensures _ c.args.bytes.now (subst (λ (e : ReadError). IfCorrupt e (MeansNothing c.args.bytes.now)) c.in-Err-Corrupt.field-0-is c.in-Err-Corrupt.ensures)
+    c.corrupt.ensures _ c.args.bytes.now (subst (λ (e : ReadError). IfCorrupt e
+    (MeansNothing c.args.bytes.now)) c.in-Err-Corrupt.field-0-is c.in-Err-Corrupt.ensures)

@@ -11,14 +11,17 @@ use Rattle.tv_index.proofs.schema.Schema.of_text.Goals as goal
 pub returns-in_err-names-clause-form : goal.returns-in_err-names-clause-form
 returns-in_err-names-clause-form c =
     told_on c.from_residual-in_err-names.result c.in_err-names.field-0.0 _ c.from_residual-in_err-names.ensures.1 (λ x q. q) _ _
-    (no_form c.in_err-names.field-0.0 c.args.text.items c.as_slice.result.now (view c.in_ok-tree.tree) c.as_slice.ensures.value c.in_ok-tree.ensures.ok c.in_err-names.ensures.names)
+    (no_form c.in_err-names.field-0.0 c.args.text.items c.as_slice.result.now
+    (view c.in_ok-tree.tree) c.as_slice.ensures.value c.in_ok-tree.ensures.ok c.in_err-names.ensures.names)
 
 pub invariant_of-result : goal.invariant_of-result
 invariant_of-result c =
     let begins : starts_with nat_eq c.args.text.items (91 ∷ []) ≡ true = search rules in
     let d = view c.in_ok-tree.tree in
-    let form = text_form c.args.text.items c.as_slice.result.now d (texts c.in_ok-names.names) c.as_slice.ensures.value c.in_ok-tree.ensures.ok begins c.in_ok-names.ensures.names (search rules) in
-    kept_form _ _ d (texts c.in_ok-names.names) form (schema_to d (texts c.in_ok-names.names) c.in_ok-names.ensures.names) c.in_ok-canonical.ensures.text c.in_ok-canonical.ensures.reads
+    let form = text_form c.args.text.items c.as_slice.result.now d
+    (texts c.in_ok-names.names) c.as_slice.ensures.value c.in_ok-tree.ensures.ok begins c.in_ok-names.ensures.names (search rules) in
+    kept_form _ _ d (texts c.in_ok-names.names) form (schema_to d
+    (texts c.in_ok-names.names) c.in_ok-names.ensures.names) c.in_ok-canonical.ensures.text c.in_ok-canonical.ensures.reads
 
 pub returns-clause-form : goal.returns-clause-form
 returns-clause-form c =
@@ -26,5 +29,6 @@ returns-clause-form c =
     let d = view c.in_ok-tree.tree in
     record {
       tree = d;
-      text_is = text_form c.args.text.items c.as_slice.result.now d (texts c.in_ok-names.names) c.as_slice.ensures.value c.in_ok-tree.ensures.ok begins c.in_ok-names.ensures.names (search rules);
+      text_is = text_form c.args.text.items c.as_slice.result.now d
+          (texts c.in_ok-names.names) c.as_slice.ensures.value c.in_ok-tree.ensures.ok begins c.in_ok-names.ensures.names (search rules);
     }

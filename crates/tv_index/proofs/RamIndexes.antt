@@ -1,0 +1,31 @@
+-- An index that is made in memory, where no call is refused and there are no files before.
+use Rattle.std.proofs.Common.{◌≡◌, inl, inr, ℕ, List, [], ◌∷◌, Option, None, refl, sym, ap, subst, ◌∙◌, arith}
+use Rattle.std.specs.BTreeSet.{insert_key}
+use Rattle.tv_base.specs.declared.error.TantivyError.{TantivyError}
+use Rattle.tv_base.specs.declared.error.TantivyError.TheVariants as errors
+use Rattle.tv_directory.specs.declared.directory.Directory.{Ghosts}
+use Rattle.tv_managed.specs.Wrapping.{ListRefusal}
+use Rattle.tv_model.specs.Commits.{IndexForm}
+use Rattle.tv_model.specs.Files.{Rose}
+use Rattle.tv_model.specs.Listing.{Lists}
+use Rattle.tv_model.specs.Names.{byte_cmp, list_name, meta_name}
+use Rattle.tv_index.specs.Indexes.{CreatesIndex, IndexState, NotCreated}
+use Rattle.tv_index.specs.declared.index_settings.IndexSettings.{IndexSettings}
+
+never : (m n : ℕ) → m ≡ 0 → n ≡ 0 → Rose m n → ⊥
+never m n a b (inl lt) = omega (arith, a, b, lt)
+never m n a b (inr e) = omega (arith, a, b, e)
+
+module _ {D W C : Type 0} (g : Ghosts D W C) (before : D) (tells : g.told.content) (empty : (n : List ℕ) → (g.view before).reads n ≡ None) where
+  pub managed_one : (settings : IndexSettings) (schema : List ℕ) (index : IndexState D) → CreatesIndex g before settings schema index → index.directory.1 ≡ meta_name ∷ []
+  managed_one settings schema index h =
+      let l = h.listed tells in
+      l.2 ∙ ap (λ (names : List (List ℕ)). insert_key byte_cmp names meta_name) (subst (λ (read : Option (List ℕ)). Lists read l.0) (empty list_name) l.1)
+
+  pub only_memory : ((d : D) → (g.view d).faults ≡ 0) → (form : IndexForm) (now : D) (error : TantivyError) → NotCreated g before form now error → error ≡ errors.Memory
+  only_memory still form now error h = cause error h.cause where
+    cause : (e : TantivyError) → ListRefusal g.told (g.view before) (g.view now) e → e ≡ errors.Memory
+    cause (errors.DataCorruption why) k = absurd (k.1.0 tells [] (subst (λ (read : Option (List ℕ)). Lists read []) (sym (empty list_name)) refl))
+    cause (errors.IoError fault) k = absurd (never (g.view before).faults (g.view now).faults (still before) (still now) k.1)
+    cause errors.Memory k = refl
+    cause other k = absurd k

@@ -1,0 +1,20 @@
+use Rattle.std.proofs.Common.{◌∙◌, ℕ, List, None, refl, sym, subst}
+use Rattle.tv_model.specs.Listing.{Lists}
+use Rattle.tv_model.specs.Names.{list_name}
+use Rattle.tv_index.proofs.Indexes.{loads_before}
+use Rattle.tv_index.proofs.Openings.{reads_later}
+use Rattle.tv_index.proofs.index.Index.open.Goals as goal
+
+pub returns-in-Ok-clause-opened : goal.returns-in-Ok-clause-opened
+returns-in-Ok-clause-opened g c =
+    let D = g.D.Directory in
+    let wraps = c.in_ok-directory.ensures.wraps in
+    let loaded = c.in-Ok.ensures in
+    record {
+      meta = c.in-Ok.meta;
+      loads = loads_before D c.args.directory c.in_ok-directory.directory wraps None c.in-Ok.meta loaded.meta;
+      shows = record { settings = refl; schema = refl; kept = c.new.ensures.empty };
+      lists = λ t. subst (λ (names : List (List ℕ)). Lists ((D.view c.args.directory).reads list_name) names) (sym loaded.frame.names) (wraps.names t);
+      quiet = loaded.faults.quiet ∙ wraps.quiet;
+      frame = reads_later wraps.frame loaded.frame.below;
+    }

@@ -1,0 +1,11 @@
+use Rattle.std.proofs.Common.{◌≡◌, ◌∙◌, ap, map, subst}
+use Rattle.tv_model.specs.Names.{meta_name}
+use Rattle.tv_index.specs.Indexes.{IndexState, MeansSuch}
+use Rattle.tv_index.proofs.Indexes.{ids_mean}
+use Rattle.tv_index.proofs.index.Index.searchable_segment_ids.Goals as goal
+
+pub returns-clause-ids : goal.returns-clause-ids
+returns-clause-ids g c tells =
+    subst (λ (index : IndexState g.row.D.Denot). MeansSuch index.schema ((g.D.Directory.view index.directory.0).reads meta_name) (λ commit. c.in_ok-ids.ids.items ≡ map (λ e. e.0) commit.segments)) c.self.view_is
+    (ids_mean g.D.Directory c.self.inside.directory.0 c.self.inside.schema c.in_ok-meta.meta c.in_ok-ids.ids.items c.in_ok-meta.ensures.meta
+    (c.in_ok-ids.ensures ∙ ap (map (λ s. s.segment_id)) c.as_slice.ensures.value) tells)

@@ -1,0 +1,20 @@
+use Rattle.std.proofs.Common.{◌≡◌, List, [], ap, map, ◌∙◌}
+use Rattle.std.proofs.lemmas.Result.{IfOk-weaker}
+use Rattle.tv_model.specs.Commits.{printed}
+use Rattle.tv_index.specs.Segments.{entry_of}
+use Rattle.tv_index.specs.Tracked.{Share}
+use Rattle.tv_index.specs.TrackedMetas.{put_all, tracked_commit, tracked_settings}
+use Rattle.tv_index.proofs.PutAll.{ordered_commit}
+use Rattle.tv_index.proofs.tracked_meta.IndexMeta.print.Goals as goal
+
+pub returns : goal.returns
+returns c =
+    let meta = c.args.self.now in
+    let segments : map entry_of c.as_slice-2.result.now ≡ put_all [] (map (λ s. s.1) meta.segments.items) =
+    ap (map entry_of) c.as_slice-2.ensures.value ∙ c.in_ok-segments.ensures ∙ c.in_ok-found.ensures
+    ∙ ap (λ (l : List Share). put_all [] (map (λ s. s.1) l)) c.as_slice.ensures.value in
+    record {
+      text =
+          IfOk-weaker c.meta_text.result _ _ (λ text h commit order. h ∙ ap (printed (tracked_settings meta) meta.schema)
+          (ordered_commit (tracked_commit meta) commit (map entry_of c.as_slice-2.result.now) order segments)) c.meta_text.ensures;
+    }

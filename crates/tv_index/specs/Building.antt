@@ -1,0 +1,57 @@
+-- A builder of an index, and why it builds none.
+use Rattle.std.specs.Prelude.{◌≡◌, ℕ, List, codes, Option, None, string_bytes}
+use Rattle.tv_base.specs.declared.error.TantivyError.{TantivyError}
+use Rattle.tv_base.specs.declared.error.TantivyError.TheVariants as errors
+use Rattle.tv_directory.specs.View.{OnlyReads}
+use Rattle.tv_directory.specs.declared.directory.Directory.{Ghosts}
+use Rattle.tv_managed.specs.Reading.{ReadsSuch}
+use Rattle.tv_model.specs.Commits.{Commit, Settings}
+use Rattle.tv_model.specs.Files.{Reads, Rose}
+use Rattle.tv_model.specs.Meaning.{Means}
+use Rattle.tv_model.specs.Names.{list_name, meta_name}
+use Rattle.tv_index.specs.Indexes.{StandingCause}
+use Rattle.tv_index.specs.Opening.{ListsSome}
+use Rattle.tv_index.specs.declared.index_settings.IndexSettings.{IndexSettings}
+
+-- the settings of a new index, and the text of the schema that was passed, if one was
+pub record Builder : Type 0 where
+  pub settings : IndexSettings
+  pub schema : Option (List ℕ)
+
+-- no schema was passed
+abbrev pub IsUnpassed : TantivyError → Type 0
+IsUnpassed (errors.InvalidArgument text) = string_bytes text ≡ codes "no schema passed"
+IsUnpassed errors.Memory = Unit {0}
+IsUnpassed other = ⊥
+
+-- an index stands, but no schema was passed
+abbrev pub IsMissing : TantivyError → Type 0
+IsMissing (errors.IndexBuilderMissingArgument text) = string_bytes text ≡ codes "schema"
+IsMissing errors.Memory = Unit {0}
+IsMissing other = ⊥
+
+-- It isn't made, since no schema was passed, and the directory comes back as it was handed in.
+pub record LacksSchema {D : Type 0} (before now : D) (error : TantivyError) : Type 0 where
+  pub same : now ≡ before
+  pub cause : IsUnpassed error
+
+-- an index stands there: the list is one of some names, and `meta.json` means a commit, of whatever schema
+pub record IsIndex (reads : Reads) : Type 0 where
+  pub lists : ListsSome (reads list_name)
+  pub settings : Settings
+  pub schema : List ℕ
+  pub commit : Commit
+  pub means : ReadsSuch (reads meta_name) (λ bytes. Means settings schema bytes commit)
+
+-- Why nothing is opened without a schema: none was passed, and no index stands there; or an index stands there; or, as of any index that stands, it can't be opened.
+abbrev pub SchemalessCause : (tells : Type 0) → Reads → (refused quiet : Type 0) → TantivyError → Type 0
+SchemalessCause tells reads refused quiet (errors.InvalidArgument text) =
+    quiet × (string_bytes text ≡ codes "no schema passed") × (tells → ListsSome (reads list_name) × (reads meta_name ≡ None))
+SchemalessCause tells reads refused quiet (errors.IndexBuilderMissingArgument text) = quiet × (string_bytes text ≡ codes "schema") × (tells → IsIndex reads)
+SchemalessCause tells reads refused quiet (errors.OpenReadError why) = ⊥
+SchemalessCause tells reads refused quiet other = StandingCause tells reads refused quiet other
+
+-- Nothing is opened, since no schema was passed, and the directory comes back. Nothing was changed.
+pub record OpensNone {D W C : Type 0} (g : Ghosts D W C) (before now : D) (error : TantivyError) : Type 0 where
+  pub cause : SchemalessCause g.told.content (g.view before).reads (Rose (g.view before).faults (g.view now).faults) ((g.view now).faults ≡ (g.view before).faults) error
+  pub frame : OnlyReads g.told (g.view before) (g.view now)

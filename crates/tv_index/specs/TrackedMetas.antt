@@ -1,0 +1,29 @@
+-- The commit and the settings of a value whose segments are shares.
+use Rattle.std.specs.Prelude.{ℕ, ◌≡◌, List, [], ◌∷◌, map, IsPermutation}
+use Rattle.std.specs.BTreeMap.{insert_entry}
+use Rattle.std.specs.List.Sorted.{IsStrictlySortedBy}
+use Rattle.tv_model.specs.declared.segment.LiveSegment.{LiveSegment}
+use Rattle.tv_model.specs.Commits.{Commit, Settings}
+use Rattle.tv_model.specs.Names.{byte_cmp}
+use Rattle.tv_index.specs.declared.tracked_meta.IndexMeta.{IndexMeta}
+use Rattle.tv_index.specs.Metas.{text_of}
+use Rattle.tv_index.specs.Settings.{settings_view}
+
+abbrev pub tracked_settings : IndexMeta → Settings
+tracked_settings meta = settings_view meta.index_settings
+
+-- with the segments in the order in which they stand there
+abbrev pub tracked_commit : IndexMeta → Commit
+tracked_commit meta = record { opstamp = meta.opstamp; payload = text_of meta.payload; segments = map (λ s. s.1) meta.segments.items }
+
+-- the same commit with its segments in the order of their ids, none of which stands twice
+pub record IsInOrder (commit ordered : Commit) : Type 0 where
+  pub opstamp : ordered.opstamp ≡ commit.opstamp
+  pub payload : ordered.payload ≡ commit.payload
+  pub same : IsPermutation commit.segments ordered.segments
+  pub sorted : IsStrictlySortedBy byte_cmp (map (λ e. e.0) ordered.segments)
+
+-- entries, put one after the other to those that were found before
+abbrev pub put_all : (found es : List (List ℕ × LiveSegment)) → List (List ℕ × LiveSegment)
+put_all found [] = found
+put_all found (e ∷ es) = put_all (insert_entry byte_cmp found e.0 e.1) es

@@ -1,0 +1,123 @@
+//! Indexes in folders of plain files.
+ghost use Rattle.std.specs.Prelude.{◌≡◌, [], IfOk, IfErr};
+ghost use Rattle.std.specs.Prelude.{◌⊎◌, OnOk, Some};
+ghost use Rattle.tv_index.specs.Folders.{IsMadeOf, IsRefused, NotMade, RefusedIn};
+ghost use Rattle.tv_index.specs.Indexes.{NotStanding};
+ghost use Rattle.tv_index.specs.Settings.{default_index_settings};
+
+use crate::index::Index;
+use crate::index_builder::IndexBuilder;
+use crate::schema::Schema;
+use std::alloc::Global;
+use std::fs::File;
+use std::rt::Files;
+use tv_base::{OpenReadError, TantivyError};
+use tv_directory::{Directory, WatchCall};
+use tv_files::MmapDirectory;
+use tv_managed::Refused;
+
+impl<R: Files<File = File> + Drop, C: WatchCall> Index<MmapDirectory<R, C>> {
+    /// Opens the index that stands in a folder.
+    ///
+    /// `OpenDirectoryError` comes where the folder can't be opened. The other errors are those of
+    /// `Index::open`, of the directory that was opened there.
+    pub fn open_in_dir(
+        rt: R,
+        alloc: Global,
+        path: &str,
+    ) -> Result<Index<MmapDirectory<R, C>>, TantivyError>
+        ensures kept { IfOk result (λ index. index.kept ≡ []) }
+        ensures err { IfErr result
+            (RefusedIn path.now (NotStanding ⟦<MmapDirectory<R, C> as Directory>⟧)) }
+    {
+        let directory = match MmapDirectory::open(rt, alloc, path) {
+            Ok(directory) => directory,
+            Err(error) => return Err(TantivyError::from(error)),
+        };
+        match Index::open(alloc, directory) {
+            Ok(index) => Ok(index),
+            Err(refused) => {
+                let Refused {
+                    error,
+                    directory: _,
+                } = refused;
+                Err(error)
+            }
+        }
+    }
+
+    /// Makes an index with this schema in a folder, as `IndexBuilder::create_in_dir` does.
+    pub fn create_in_dir(
+        rt: R,
+        alloc: Global,
+        path: &str,
+        schema: Schema,
+    ) -> Result<Index<MmapDirectory<R, C>>, TantivyError>
+        ensures made { IfOk result (IsMadeOf (record {
+          settings = default_index_settings;
+          schema = Some schema;
+        })) }
+        ensures err { IfErr result (RefusedIn path.now
+            (NotMade ⟦<MmapDirectory<R, C> as Directory>⟧ (record {
+              settings = default_index_settings;
+              schema = Some schema;
+            }))) }
+    {
+        IndexBuilder::new()
+            .schema(schema)
+            .create_in_dir(rt, alloc, path)
+    }
+}
+
+impl IndexBuilder {
+    /// Makes an index in a folder. `IndexAlreadyExists` comes where one stands there: where
+    /// `meta.json` reads. `OpenDirectoryError` comes where the folder can't be opened. The other errors
+    /// are those of `create`, of the directory that was opened there.
+    pub fn create_in_dir<R: Files<File = File> + Drop, C: WatchCall>(
+        self,
+        rt: R,
+        alloc: Global,
+        path: &str,
+    ) -> Result<Index<MmapDirectory<R, C>>, TantivyError>
+        ensures made { IfOk result (IsMadeOf self) }
+        ensures err { IfErr result (RefusedIn path.now
+            (NotMade ⟦<MmapDirectory<R, C> as Directory>⟧ self)) }
+    {
+        let directory = match MmapDirectory::open(rt, alloc, path) {
+            Ok(directory) => directory,
+            Err(error) => return Err(TantivyError::from(error)),
+        };
+        self.create_where_none(alloc, directory)
+    }
+
+    // Makes an index in a directory in which none stands, and gives no directory back.
+    fn create_where_none<D: Directory + Drop>(
+        self,
+        alloc: Global,
+        directory: D,
+    ) -> Result<Index<D>, TantivyError>
+        ensures made { IfOk result (IsMadeOf self) }
+        ensures err { IfErr result (IsRefused (NotMade D.Directory self)) }
+    {
+        let mut directory = directory;
+        match Index::exists(&mut directory) {
+            Ok(false) => {}
+            Ok(true) => return Err(TantivyError::IndexAlreadyExists),
+            Err(OpenReadError::IoError { io_error, .. }) => {
+                return Err(TantivyError::IoError(io_error));
+            }
+            Err(OpenReadError::Memory) => return Err(TantivyError::Memory),
+            Err(_) => unreachable!(),
+        }
+        match self.create(alloc, directory) {
+            Ok(index) => Ok(index),
+            Err(refused) => {
+                let Refused {
+                    error,
+                    directory: _,
+                } = refused;
+                Err(error)
+            }
+        }
+    }
+}
