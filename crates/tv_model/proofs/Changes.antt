@@ -20,6 +20,7 @@ use Rattle.tv_model.specs.CommitEvents.{last_stamp, chosen, first_unknown, first
 use Rattle.tv_model.specs.CollectionEvents.{gc_step, released}
 use Rattle.tv_model.specs.ReaderEvents.{snapshot_in, with_new_reader, with_reloaded, without_reader}
 use Rattle.tv_model.specs.SearcherEvents.{with_searcher, without_searcher, body_at}
+use Rattle.tv_model.specs.ReportEvents.{committed_names, first_unreadable, damaged_files}
 use Rattle.tv_model.specs.Machine.{Turn, catalog_step, step, after}
 use Rattle.tv_model.proofs.Bodies.{sealed_is_good}
 use Rattle.std.specs.List.{AllByRecursion}
@@ -173,6 +174,9 @@ file_changes P s (events.Reader policy) outcomes e of = of.reads _ (Comes policy
 file_changes P s (events.Reload number) outcomes e of =
     given_all (λ (t : StepResult Catalog). P (on_catalog s t).1) s.catalog (reader_at s.catalog number) _ _ of.same (λ reader is. of.reads _ (Reloads number reader is refl))
 file_changes P s (events.ReleaseSegment id) outcomes e of = given_all (After P) s (live_at s.catalog id) _ _ of.same (λ segment is. of.releases id segment)
+file_changes P s events.Validate outcomes e of =
+    let names = committed_names s.catalog s.managed in
+    unless_all (After P) s ((is_some (first_unreadable s names), codes "unreadable" ∷ words_of (first_unreadable s names)) ∷ []) (line (codes "damaged") (damaged_files s names), s) (λ words. of.same) (λ none. of.same)
 file_changes P s other outcomes e of = absurd cc
 
 -- a step makes one of these changes

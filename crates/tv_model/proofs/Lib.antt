@@ -6,9 +6,11 @@ pub mod ComputedValues
 pub mod CollectionStates
 pub mod Collects
 pub mod ComputedRuns
+pub mod ComputedValidations
 pub mod Entries
 pub mod FirstLaws
 pub mod FooterTexts
+pub mod Framing
 pub mod JsonStrings
 pub mod JsonWords
 pub mod JsonSplice
@@ -27,8 +29,10 @@ pub mod OpenedStates
 pub mod ManagedStates
 pub mod Required
 pub mod Samples
+pub mod SegmentNames
 pub mod Serving
 pub mod SoundOpenings
 pub mod SoundStates
 pub mod WholeStates
 pub mod Telling
+pub mod Validating

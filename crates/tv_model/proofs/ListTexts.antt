@@ -11,7 +11,6 @@ use Rattle.std.proofs.lemmas.Map.Lookups.{btree_set_from_contains, exact_bytes}
 use Rattle.std.proofs.lemmas.Str.{IsUtf8-append}
 use Rattle.json.specs.Token.{Token}
 use Rattle.json.specs.Token as tokens
-use Rattle.json.specs.Text.{content, plain}
 use Rattle.json.specs.Lex.{Lexeme, token, comma, string_token, between, lex, Place, fresh, after_value, after_comma, after_key, may_begin, punctuate}
 use Rattle.json.specs.Lex as lexer
 use Rattle.json.specs.Print.{escape, escape_byte}

@@ -4,6 +4,7 @@ pub mod Checksum
 pub mod VInt
 pub mod FooterForm
 pub mod Footer
+pub mod Framing
 pub mod Listing
 pub mod Segments
 pub mod Commits
@@ -31,3 +32,4 @@ pub mod JsonFields
 pub mod Schemas
 pub mod MetaJson
 pub mod Meaning
+pub mod Validating

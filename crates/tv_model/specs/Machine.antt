@@ -10,7 +10,7 @@ use Rattle.tv_model.specs.CommitEvents.{commit_step}
 use Rattle.tv_model.specs.CollectionEvents.{gc_step, release_segment_step}
 use Rattle.tv_model.specs.ReaderEvents.{bodies_in, reader_step, reload_step, release_reader_step}
 use Rattle.tv_model.specs.SearcherEvents.{searcher_step, show_step, bytes_step, release_searcher_step}
-use Rattle.tv_model.specs.ReportEvents.{managed_step}
+use Rattle.tv_model.specs.ReportEvents.{managed_step, validate_step}
 
 -- the step of an event that touches no file, beside these managed names; none where the event touches files
 abbrev pub catalog_step : Catalog → (managed : List (List ℕ)) → Event → Option (StepResult Catalog)
@@ -42,6 +42,7 @@ step s (events.ReleaseSegment id) outcomes = release_segment_step s id
 step s (events.ReleaseReader number) outcomes = on_catalog s (release_reader_step s.catalog number)
 step s (events.ReleaseSearcher number) outcomes = on_catalog s (release_searcher_step s.catalog number)
 step s events.Managed outcomes = on_catalog s (managed_step s.catalog s.managed)
+step s events.Validate outcomes = validate_step s
 
 -- an event of a run, with the outcomes of its deletes
 abbrev pub Turn : Type 0

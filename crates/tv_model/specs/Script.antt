@@ -1,5 +1,5 @@
 -- The lines of a script, and the events that they are.
-use Rattle.std.specs.Prelude.{ℕ, ◌≡◌, ◌<◌, ◌≤◌, ◌^◌, ◌==◌, true, false, List, [], ◌∷◌, length, map, codes, None, Ok, if◌then◌else◌}
+use Rattle.std.specs.Prelude.{ℕ, ◌≡◌, ◌<◌, ◌≤◌, ◌^◌, ◌==◌, true, false, List, [], ◌∷◌, length, map, codes, Option, Some, None, Ok, IfSome, IsUtf8, if◌then◌else◌}
 use Rattle.std.specs.Fmt.{decimal}
 use Rattle.std.specs.List.{join_with_byte, onto_first, AllByRecursion}
 use Rattle.hex.specs.Hex.{encode_lower, decode_of}
@@ -23,14 +23,14 @@ lines_of (b ∷ bytes) = if b == 10 then [] ∷ lines_of bytes else onto_first b
 abbrev pub IsNamed : SegmentComponent → Type 0
 IsNamed component = is_delete component ≡ false
 
--- the fields of an event are within their ranges (so far a commit has no payload, and a reader reloads where it is asked to)
+-- the fields of an event are within their ranges (so far a reader reloads where it is asked to)
 abbrev pub Fits : Event → Type 0
 Fits (events.Segment id) = IsId id
 Fits (events.Open id component) = IsId id × IsNamed component
 Fits (events.Write id component bytes) = IsId id × IsNamed component × (0 < length bytes)
 Fits (events.Seal id component) = IsId id × IsNamed component
 Fits (events.Docs id n) = IsId id × (n < 2 ^ 32)
-Fits (events.Commit payload ids) = (payload ≡ None) × AllByRecursion IsId ids × (are_distinct ids ≡ true)
+Fits (events.Commit payload ids) = IfSome payload IsUtf8 × AllByRecursion IsId ids × (are_distinct ids ≡ true)
 Fits events.Gc = Unit {0}
 Fits (events.Reader policy) = policy ≡ Manual
 Fits (events.Reload number) = number < 2 ^ 64
@@ -41,6 +41,7 @@ Fits (events.ReleaseSegment id) = IsId id
 Fits (events.ReleaseReader number) = number < 2 ^ 64
 Fits (events.ReleaseSearcher number) = number < 2 ^ 64
 Fits events.Managed = Unit {0}
+Fits events.Validate = Unit {0}
 
 -- the first word of the event's line
 abbrev pub keyword : Event → List ℕ
@@ -60,6 +61,12 @@ keyword (events.ReleaseSegment id) = codes "release"
 keyword (events.ReleaseReader number) = codes "release"
 keyword (events.ReleaseSearcher number) = codes "release"
 keyword events.Managed = codes "managed"
+keyword events.Validate = codes "validate"
+
+-- the word spells a payload: `-` where there is none, else `+` and the digits of its bytes, of either case
+abbrev pub SpellsPayload : Option (List ℕ) → List ℕ → Type 0
+SpellsPayload None word = word ≡ codes "-"
+SpellsPayload (Some text) word = (digits : List ℕ) × (decode_of digits ≡ Ok text) × (word ≡ 43 ∷ digits)
 
 -- these are the words after it; bytes may be spelled with digits of either case
 abbrev pub AreArguments : Event → List (List ℕ) → Type 0
@@ -69,7 +76,7 @@ AreArguments (events.Write id component bytes) words =
     (digits : List ℕ) × (decode_of digits ≡ Ok bytes) × (words ≡ encode_lower id ∷ extension component ∷ digits ∷ [])
 AreArguments (events.Seal id component) words = words ≡ encode_lower id ∷ extension component ∷ []
 AreArguments (events.Docs id n) words = words ≡ encode_lower id ∷ decimal n ∷ []
-AreArguments (events.Commit payload ids) words = words ≡ codes "-" ∷ map encode_lower ids
+AreArguments (events.Commit payload ids) words = (word : List ℕ) × SpellsPayload payload word × (words ≡ word ∷ map encode_lower ids)
 AreArguments events.Gc words = words ≡ []
 AreArguments (events.Reader policy) words = words ≡ codes "manual" ∷ []
 AreArguments (events.Reload number) words = words ≡ decimal number ∷ []
@@ -80,6 +87,7 @@ AreArguments (events.ReleaseSegment id) words = words ≡ codes "segment" ∷ en
 AreArguments (events.ReleaseReader number) words = words ≡ codes "reader" ∷ decimal number ∷ []
 AreArguments (events.ReleaseSearcher number) words = words ≡ codes "searcher" ∷ decimal number ∷ []
 AreArguments events.Managed words = words ≡ []
+AreArguments events.Validate words = words ≡ []
 
 -- the text is a line of the event: its words, one space apart
 pub record IsLine (text : List ℕ) (event : Event) : Type 0 where

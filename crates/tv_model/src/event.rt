@@ -39,4 +39,6 @@ pub enum Event {
     ReleaseSearcher(u64),
     /// Asks for the managed names.
     Managed,
+    /// Asks which files of the current commit have another checksum than that of their body.
+    Validate,
 }

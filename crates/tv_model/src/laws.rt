@@ -1,16 +1,21 @@
 //! Laws of the machine. Each function does nothing: its contract is the law.
-ghost use Rattle.std.specs.Prelude.{◌≡◌, ◌<◌, ◌^◌, ◌∷◌, ◌++◌, Bool, IsSome, IsUtf8};
-ghost use Rattle.std.specs.Prelude.{List, [], Some, true, ℕ};
+ghost use Rattle.std.specs.Prelude.{◌≡◌, ◌<◌, ◌^◌, ◌∷◌, ◌++◌, ◌↔◌, Bool, IsSome, IsUtf8};
+ghost use Rattle.std.specs.Prelude.{List, [], None, Option, Some, true, ℕ};
 ghost use Rattle.std.specs.List.{AllByRecursion};
 ghost use Rattle.std.specs.List.Sorted.{IsStrictlySortedBy};
 ghost use Rattle.serde_json.specs.Data.{Data};
 ghost use Rattle.serde_json.specs.Read.{read};
 ghost use Rattle.tv_model.specs.declared.event.Event.{Event};
+ghost use Rattle.tv_model.specs.declared.segment.DeleteMeta.{DeleteMeta};
+ghost use Rattle.tv_model.specs.declared.segment.SegmentComponent.{SegmentComponent};
+ghost use Rattle.tv_model.specs.declared.segment.SegmentComponent.TheVariants.{Delete};
 ghost use Rattle.tv_model.specs.Collecting.{Collects, CollectsIn};
 ghost use Rattle.tv_model.specs.Commits.{Commit, IsCommit, Settings, printed};
 ghost use Rattle.tv_model.specs.Files.{Reads};
 ghost use Rattle.tv_model.specs.Footer.{HasBody, IsFramed, body_of, sealed};
 ghost use Rattle.tv_model.specs.FooterForm.{FooterNumbers};
+ghost use Rattle.tv_model.specs.Framing.{footer_of};
+ghost use Rattle.tv_model.specs.Ids.{IsId};
 ghost use Rattle.tv_model.specs.Index.{IsSoundImage, OpensTo};
 ghost use Rattle.tv_model.specs.Listing.{IsListed, IsListOf, list_text};
 ghost use Rattle.tv_model.specs.Machine.{Turn, events_of, step};
@@ -20,10 +25,14 @@ ghost use Rattle.tv_model.specs.Names.{byte_cmp};
 ghost use Rattle.tv_model.specs.Readable.{CanRead};
 ghost use Rattle.tv_model.specs.Schemas.{IsSchemaText, IsSchemaTree, stripped};
 ghost use Rattle.tv_model.specs.Script.{Fits};
+ghost use Rattle.tv_model.specs.Segments.{name_of};
 ghost use Rattle.tv_model.specs.Serving.{IsJustOpened, Serves, ServesAsSealed};
 ghost use Rattle.tv_model.specs.SoundStates.{IsSoundState};
 ghost use Rattle.tv_model.specs.State.{State};
 ghost use Rattle.tv_model.specs.Telling.{Determined, Tells, are_plain};
+ghost use Rattle.tv_model.specs.Validating.{Validates};
+
+use crate::id::SegmentId;
 
 /// In each run of an index that was just opened, a searcher shows one commit of the run for life,
 /// and a reader never shows an older commit than it showed before. From a sound state on, what is
@@ -66,8 +75,30 @@ pub fn reports_determine_runs()
     ensures determined { (s : State) → are_plain s.managed ≡ true → Determined s }
 {}
 
+/// A validation names exactly the managed files of the current commit whose checksum isn't that of
+/// their body, unless one of these files can't be read: then it names the first of those.
+pub fn validations_name_damaged_files()
+    ensures validates { (s : State) → Validates s }
+{}
+
+/// The files of different segments have different names. Where no documents are deleted, a delete file
+/// has the name of the one with the number 0.
+pub fn names_tell_their_segment()
+    ensures segment { (id other : List ℕ) (deletes others : Option DeleteMeta)
+        (component second : SegmentComponent) → IsId id → IsId other
+        → name_of id deletes component ≡ name_of other others second → id ≡ other }
+    ensures no_deletes { (id : List ℕ) (n : ℕ) → name_of id None Delete
+        ≡ name_of id (Some (record { num_deleted_docs = n; opstamp = 0 })) Delete }
+{}
+
+/// Ids are ordered by their bytes, and two are the same exactly where their bytes are.
+pub fn ids_are_ordered_by_their_bytes()
+    ensures order { (a b : List ℕ) → ⟦<SegmentId as Ord>⟧.cmp a b ≡ byte_cmp a b }
+    ensures same { (a b : List ℕ) → (⟦<SegmentId as PartialEq>⟧.eq a b ≡ true) ↔ (a ≡ b) }
+{}
+
 /// A sealed file has the body with which it was sealed, and a file that has a footer has one footer
-/// and one body.
+/// and one body. The footer that is found from the bytes is this one, where they have one.
 pub fn files_keep_their_body()
     ensures has_body { (body : List ℕ) → HasBody (sealed body) body }
     ensures sealed { (body : List ℕ) → body_of (sealed body) ≡ body }
@@ -75,6 +106,10 @@ pub fn files_keep_their_body()
     ensures one { (bytes : List ℕ) (first second : FooterNumbers) (body other : List ℕ)
         → IsFramed bytes first body → IsFramed bytes second other
         → (first ≡ second) × (body ≡ other) }
+    ensures found { (bytes : List ℕ) (footer : FooterNumbers) (body : List ℕ)
+        → IsFramed bytes footer body → footer_of bytes ≡ Some footer }
+    ensures framed { (bytes : List ℕ) (footer : FooterNumbers) → footer_of bytes ≡ Some footer
+        → IsFramed bytes footer (body_of bytes) }
 {}
 
 /// What `meta.json` says. The printed form of a commit, with a line feed, means this commit. Bytes

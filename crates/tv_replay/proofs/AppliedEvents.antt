@@ -1,12 +1,10 @@
 -- A script replayed: how far a run has come, and what a whole run is.
-use Rattle.std.proofs.Common.{◌≡◌, ◌≢◌, ◌⊎◌, ℕ, ◌+◌, ◌*◌, ◌^◌, ◌≤◌, ◌<◌, Bool, cond, true, false, true≢false, List, [], ◌∷◌, ◌++◌, map, length, Option, Some, None, Result, Ok, Err, IfErr, refl, sym, ap, subst, ◌∙◌, arith, append_assoc, length-append, inl, inr}
-use Rattle.std.specs.Prelude.{IsSome, option_map, option_and_then}
+use Rattle.std.proofs.Common.{◌≡◌, ◌≢◌, ◌⊎◌, ℕ, ◌+◌, ◌*◌, ◌^◌, ◌≤◌, ◌<◌, Bool, cond, true, false, List, [], ◌∷◌, ◌++◌, map, length, Option, Some, None, Result, Ok, Err, IfErr, refl, sym, ap, subst, ◌∙◌, arith, append_assoc, length-append, inl, inr}
+use Rattle.std.specs.Prelude.{option_map, option_and_then}
 use Rattle.std.specs.Map.{lookup}
 use Rattle.std.specs.BTreeMap.{is_at}
 use Rattle.std.specs.Ordering.{nat_cmp}
 use Rattle.std.specs.List.{AllByRecursion}
-use Rattle.std.specs.List.Sorted.{IsStrictlySortedBy}
-use Rattle.std.specs.BTreeSet.{insert_key}
 use Rattle.std.proofs.lemmas.List.{append-nil, map-append, length-map}
 use Rattle.tv_base.specs.Streams.{SourceView}
 use Rattle.tv_base.specs.declared.error.TantivyError.{TantivyError}
@@ -19,13 +17,12 @@ use Rattle.tv_base.specs.declared.open_errors.OpenReadError.TheVariants as read
 use Rattle.tv_model.specs.declared.event.Event.{Event}
 use Rattle.tv_model.specs.declared.event.Event.TheVariants as events
 use Rattle.tv_model.specs.declared.segment.LiveSegment.{LiveSegment}
-use Rattle.tv_model.specs.Names.{byte_cmp, has, list_name, meta_name}
+use Rattle.tv_model.specs.Names.{byte_cmp}
 use Rattle.tv_model.specs.Files.{Reads, Heard, Rose, RoseBy}
-use Rattle.tv_model.specs.Listing.{Lists}
-use Rattle.tv_model.specs.Commits.{Commit, IndexForm}
+use Rattle.tv_model.specs.Commits.{IndexForm}
 use Rattle.tv_model.specs.Meaning.{Means}
-use Rattle.tv_model.specs.Segments.{all_required, name_of}
-use Rattle.tv_model.specs.State.{Catalog, State, Reader, FileState, Sealed, Left, at, file_at, live_at, reader_at}
+use Rattle.tv_model.specs.Segments.{name_of}
+use Rattle.tv_model.specs.State.{Catalog, State, Reader, FileState, Left, at, file_at, live_at, reader_at}
 use Rattle.tv_model.specs.Lines.{opening_of}
 use Rattle.tv_model.specs.Machine.{Turn, step, answers, report, after, events_of, refused_in, all_refused}
 use Rattle.tv_model.specs.Index.{FileReads, DirectoryHolds, FoundIndex, OpenedIndex, IsSoundImage}
@@ -36,7 +33,7 @@ use Rattle.tv_store.specs.OpeningCauses.{IsSomeSchema}
 use Rattle.tv_model.proofs.OpenedStates.{opens_sound}
 use Rattle.tv_model.specs.Script.{line_limit, lines_of, Fits}
 use Rattle.tv_model.specs.SoundStates.{IsWhole, IsSoundState}
-use Rattle.tv_model.proofs.SoundStates.{step_sound, first_sound, holds_sound}
+use Rattle.tv_model.proofs.SoundStates.{step_sound, holds_sound}
 use Rattle.tv_model.proofs.WholeStates.{after_whole}
 use Rattle.tv_model.proofs.Serving.{serves, serves_as_sealed}
 use Rattle.tv_model.proofs.Collects.{collects_in}

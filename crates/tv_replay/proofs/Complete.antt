@@ -1,6 +1,6 @@
 -- A replay that is ready stops only for want of memory, or where a device refused a call.
 use Rattle.std.proofs.Common.{◌≡◌, ◌≢◌, ◌⊎◌, inl, inr, ℕ, ◌+◌, ◌≤◌, Bool, cond, true, false, true≢false, List, [], ◌∷◌, ◌++◌, length, length-append, Option, Some, None, refl, sym, ap, subst, ◌∙◌, arith}
-use Rattle.std.specs.Prelude.{IsSome, string_bytes}
+use Rattle.std.specs.Prelude.{string_bytes}
 use Rattle.std.specs.List.{onto_first, AllByRecursion}
 use Rattle.tv_base.specs.declared.open_errors.OpenReadError.{OpenReadError}
 use Rattle.tv_base.specs.declared.open_errors.OpenReadError.TheVariants as read
@@ -13,8 +13,8 @@ use Rattle.tv_model.specs.declared.event.Event.{Event}
 use Rattle.tv_model.specs.declared.event.Event.TheVariants as events
 use Rattle.tv_model.specs.Footer.{IsGood, HasBody}
 use Rattle.tv_directory.specs.Locks.{Locks}
-use Rattle.tv_model.specs.State.{State, FileState, Reader, Sealed, file_at, reader_at}
-use Rattle.tv_model.specs.Machine.{Turn, after, events_of, report}
+use Rattle.tv_model.specs.State.{State, FileState, Reader, Sealed, reader_at}
+use Rattle.tv_model.specs.Machine.{Turn, after, events_of}
 use Rattle.tv_model.specs.Readable.{read_by}
 use Rattle.tv_model.specs.Names.{has, meta_name}
 use Rattle.tv_model.specs.Segments.{all_required}
@@ -31,7 +31,7 @@ use Rattle.tv_base.specs.declared.error.DataCorruption.{DataCorruption}
 use Rattle.tv_model.specs.Commits.{Commit, Settings}
 use Rattle.tv_model.specs.Meaning.{Means, MeansOther, MeansNothing}
 use Rattle.tv_model.specs.Schemas.{IsSchema}
-use Rattle.tv_model.specs.Index.{FindsCommit, FoundIndex, HasFiles, IsSoundImage, IsSoundMeta, OpenedIndex}
+use Rattle.tv_model.specs.Index.{FindsCommit, FoundIndex, HasFiles, IsSoundImage, IsSoundMeta}
 use Rattle.tv_model.specs.Script.{line_limit, lines_of, Fits, IsLine, AreLines}
 use Rattle.tv_replay.specs.ScriptLines.{IsNoEvent, IsTooLong}
 use Rattle.tv_index.specs.Opening.{OfBytes, OpenCause}
@@ -42,7 +42,7 @@ use Rattle.tv_managed.specs.Collecting.{meta_lock_name}
 use Rattle.tv_directory.specs.declared.directory.Directory.{Ghosts}
 use Rattle.tv_base.specs.Streams.{SourceView}
 use Rattle.tv_store.specs.Applying.{MeetsBadAt}
-use Rattle.tv_replay.specs.Replays.{ReplayCause, RefusesOpening, StopsAt, StopsFor, StopsReplay, StopsRunning, StopsAtLine, LineRefusal}
+use Rattle.tv_replay.specs.Replays.{ReplayCause, RefusesOpening, StopsFor, StopsReplay, StopsRunning, StopsAtLine, LineRefusal}
 use Rattle.tv_replay.specs.Completeness.{IsScript, IsReady}
 use Rattle.tv_replay.proofs.Progress.{AreLines-length}
 use Rattle.tv_replay.proofs.AppliedEvents.{mapped, turns_sound}

@@ -4,9 +4,11 @@ use Rattle.std.specs.List.{list_all, slice_split, join_with_byte, AllByRecursion
 use Rattle.std.specs.Fmt.{decimal}
 use Rattle.std.specs.Str.{all_ascii_digits}
 use Rattle.std.specs.Char.{is_ascii_digit}
-use Rattle.std.specs.Prelude.{slice_index, find, IfSome}
+use Rattle.std.specs.Prelude.{slice_index, find, IfSome, IsUtf8, option_map}
+use Rattle.std.specs.Str.{is_utf8}
 use Rattle.std.specs.Cmp.Lexicographic.{bytes_decides}
 use Rattle.std.proofs.lemmas.Bool.{eqb-true}
+use Rattle.std.proofs.lemmas.Str.{IsUtf8-from_is_utf8, is_utf8-from_IsUtf8}
 use Rattle.std.proofs.lemmas.Bool.Decides.{nat_tests}
 use Rattle.std.proofs.lemmas.Fmt.{digits_decimal}
 use Rattle.std.proofs.lemmas.Str.Parse.{numerals_by_value, tells_all_ascii_digits}
@@ -15,13 +17,13 @@ use Rattle.hex.specs.declared.error.FromHexError.{FromHexError}
 use Rattle.hex.proofs.HexLemmas.{decode_sized-encode_lower, decode_sized-ok, decode_sized-twice, decode_of-ok}
 use Rattle.tv_model.specs.Ids.{IsId, are_distinct}
 use Rattle.tv_model.specs.Names.{is}
-use Rattle.tv_replay.specs.Fields.{id_at, printed_id, component_at, named_components, bytes_at, some_bytes, number_at}
+use Rattle.tv_replay.specs.Fields.{id_at, printed_id, component_at, named_components, bytes_at, some_bytes, number_at, payload_at, signed_text_at, some_text, text_at}
 use Rattle.tv_replay.proofs.Numbers.{isnt, chosen, both, number_found, number_again}
 use Rattle.std.proofs.lemmas.List.Elements.{recursion_from_All}
 use Rattle.tv_model.specs.declared.segment.SegmentComponent.{SegmentComponent}
 use Rattle.tv_model.specs.declared.segment.SegmentComponent.TheVariants.{Postings, Delete}
 use Rattle.tv_model.specs.Segments.{extension}
-use Rattle.tv_model.specs.Script.{IsNamed, line_limit, Fits, IsLine, keyword, AreArguments}
+use Rattle.tv_model.specs.Script.{IsNamed, line_limit, Fits, IsLine, SpellsPayload, keyword, AreArguments}
 use Rattle.tv_replay.specs.EventWords.{◌>>=◌, ids_in, segment_in, open_in, write_in, seal_in, docs_in, commit_of, commit_in, alone_in, reader_in, reload_in, searcher_in, show_in, bytes_in, release_in, event_in}
 use Rattle.std.proofs.lemmas.List.Splits.{join_with_byte-slice_split}
 use Rattle.tv_model.specs.declared.event.Event.{Event}
@@ -164,6 +166,42 @@ bytes_again word (b ∷ bytes) e lt = rw e refl
 pub bytes_have_no_space : (digits bytes : List ℕ) → decode_of digits ≡ Ok bytes → NoSpace digits
 bytes_have_no_space digits bytes e = passing_have_no_space is_hex_digit refl digits (recursion_from_All _ _ (decode_of-ok digits bytes e).1)
 
+-- ---- payloads
+
+text_found : (r : Result (List ℕ) FromHexError) (text : List ℕ) → some_text r ≡ Some text → (r ≡ Ok text) × IsUtf8 text
+text_found (Ok bytes) text e =
+    let h = chosen (is_utf8 bytes) bytes text e in
+    (ap (λ (x : List ℕ). Ok x) h.1, subst IsUtf8 h.1 (IsUtf8-from_is_utf8 bytes h.0))
+text_found (Err d) text e = absurd cc
+
+pub text_again : (digits text : List ℕ) → decode_of digits ≡ Ok text → IsUtf8 text → text_at digits ≡ Some text
+text_again digits text e h = rw (e, is_utf8-from_IsUtf8 text h) refl
+
+signed_found : (word text : List ℕ) → signed_text_at word ≡ Some text → SpellsPayload (Some text) word × IsUtf8 text
+signed_found [] text e = absurd cc
+signed_found (sign ∷ digits) text e = plus (sign == 43) refl e where
+  plus : (b : Bool) → (sign == 43) ≡ b → cond b (text_at digits) None ≡ Some text → SpellsPayload (Some text) (sign ∷ digits) × IsUtf8 text
+  plus true is e = let h = text_found (decode_of digits) text e in ((digits, h.0, ap (λ (n : ℕ). n ∷ digits) (eqb-true sign 43 is)), h.1)
+  plus false is e = absurd cc
+
+pub payload_found : (word : List ℕ) (payload : Option (List ℕ)) → payload_at word ≡ Some payload → SpellsPayload payload word × IfSome payload IsUtf8
+payload_found word payload e = dash (is word (codes "-")) refl e where
+  text : (found : Option (List ℕ)) → signed_text_at word ≡ found → option_map (λ t. Some t) found ≡ Some payload → SpellsPayload payload word × IfSome payload IsUtf8
+  text None is e = absurd cc
+  text (Some t) is e = rw (← some_is (Some t) payload e) (signed_found word t is)
+
+  dash : (b : Bool) → is word (codes "-") ≡ b → cond b (Some None) (option_map (λ t. Some t) (signed_text_at word)) ≡ Some payload → SpellsPayload payload word × IfSome payload IsUtf8
+  dash true is e = rw (← some_is None payload e) ((bytes_decides word (codes "-")).0 is, tt)
+  dash false is e = text (signed_text_at word) refl e
+
+pub payload_again : (payload : Option (List ℕ)) (word : List ℕ) → SpellsPayload payload word → IfSome payload IsUtf8 → payload_at word ≡ Some payload
+payload_again None word h utf8 = rw h refl
+payload_again (Some text) word h utf8 = rw (h.2, text_again h.0 text h.1 utf8) refl
+
+pub payload_has_no_space : (payload : Option (List ℕ)) (word : List ℕ) → SpellsPayload payload word → NoSpace word
+payload_has_no_space None word h = rw h refl
+payload_has_no_space (Some text) word h = rw h.2 (bytes_have_no_space h.0 text h.1)
+
 -- ---- lists of ids
 
 pub ids_found : (words ids : List (List ℕ)) → ids_in words ≡ Some ids → (words ≡ map encode_lower ids) × AllByRecursion IsId ids
@@ -257,15 +295,13 @@ docs_found other e h = absurd cc
 
 commit_found : (args : List (List ℕ)) (e : Event) → commit_in args ≡ Some e → IsReadAs (codes "commit") args e
 commit_found [] e h = absurd cc
-commit_found (payload ∷ words) e h =
-    either (is payload (codes "-")) (ids_in words >>= commit_of) None h
-    (λ t h.
-    let ids = bind_some (ids_in words) commit_of e h in
+commit_found (word ∷ words) e h =
+    let payload = bind_some (payload_at word) (λ payload. ids_in words >>= commit_of payload) e h in
+    let p = payload_found word payload.0 payload.1 in
+    let ids = bind_some (ids_in words) (commit_of payload.0) e payload.2 in
     let f = ids_found words ids.0 ids.1 in
-    let c = chosen (are_distinct ids.0) (events.Commit None ids.0) e ids.2 in
-    let dash : payload ≡ codes "-" = (bytes_decides payload (codes "-")).0 t in
-    read_as (ap Some c.1) (refl, f.1, c.0) refl (ap (λ (w : List ℕ). w ∷ words) dash ∙ ap (λ (ws : List (List ℕ)). codes "-" ∷ ws) f.0))
-    (λ h. absurd cc)
+    let c = chosen (are_distinct ids.0) (events.Commit payload.0 ids.0) e ids.2 in
+    read_as (ap Some c.1) (p.1, f.1, c.0) refl (word, p.0, ap (λ (ws : List (List ℕ)). word ∷ ws) f.0)
 
 alone_found : (event : Event) (args : List (List ℕ)) (e : Event) → Fits event → AreArguments event [] → alone_in event args ≡ Some e → IsReadAs (keyword event) args e
 alone_found event [] e fits are h = read_as h fits refl are
@@ -319,13 +355,14 @@ event_found word args e h =
     either _ _ _ h (λ t h. named (codes "commit") t (commit_found args e h)) (λ h.
     either _ _ _ h (λ t h. named (codes "gc") t (alone_found events.Gc args e tt refl h)) (λ h.
     either _ _ _ h (λ t h. named (codes "managed") t (alone_found events.Managed args e tt refl h)) (λ h.
+    either _ _ _ h (λ t h. named (codes "validate") t (alone_found events.Validate args e tt refl h)) (λ h.
     either _ _ _ h (λ t h. named (codes "reader") t (reader_found args e h)) (λ h.
     either _ _ _ h (λ t h. named (codes "reload") t (reload_found args e h)) (λ h.
     either _ _ _ h (λ t h. named (codes "searcher") t (searcher_found args e h)) (λ h.
     either _ _ _ h (λ t h. named (codes "show") t (show_found args e h)) (λ h.
     either _ _ _ h (λ t h. named (codes "bytes") t (bytes_event_found args e h)) (λ h.
     either _ _ _ h (λ t h. named (codes "release") t (release_found args e h)) (λ h.
-    absurd cc))))))))))))))
+    absurd cc)))))))))))))))
 
 event_again : (e : Event) (args : List (List ℕ)) → Fits e → AreArguments e args → event_in (keyword e ∷ args) ≡ Some e
 event_again (events.Segment id) args fits are = rw (are, id_again id fits) refl
@@ -333,7 +370,7 @@ event_again (events.Open id c) args fits are = rw (are, id_again id fits.0, comp
 event_again (events.Write id c bytes) args fits are = rw (are.2, id_again id fits.0, component_again c fits.1, bytes_again are.0 bytes are.1 fits.2) refl
 event_again (events.Seal id c) args fits are = rw (are, id_again id fits.0, component_again c fits.1) refl
 event_again (events.Docs id n) args fits are = rw (are, id_again id fits.0, number_again (2 ^ 32) n fits.1 (omega arith)) refl
-event_again (events.Commit payload ids) args fits are = rw (are, ids_again ids fits.1, fits.2, fits.0) refl
+event_again (events.Commit payload ids) args fits are = rw (are.2, payload_again payload are.0 are.1 fits.0, ids_again ids fits.1, fits.2) refl
 event_again (events.Reader policy) args fits are = rw (are, fits) refl
 event_again (events.Reload n) args fits are = rw (are, number_again (2 ^ 64) n fits fits) refl
 event_again (events.Searcher n) args fits are = rw (are, number_again (2 ^ 64) n fits fits) refl
@@ -350,7 +387,7 @@ words_have_no_space (events.Open id c) args fits are = rw are (refl, (id_has_no_
 words_have_no_space (events.Write id c bytes) args fits are = rw are.2 (refl, (id_has_no_space id, (extension_has_no_space c, (bytes_have_no_space are.0 bytes are.1, tt))))
 words_have_no_space (events.Seal id c) args fits are = rw are (refl, (id_has_no_space id, (extension_has_no_space c, tt)))
 words_have_no_space (events.Docs id n) args fits are = rw are (refl, (id_has_no_space id, (number_has_no_space n (omega arith), tt)))
-words_have_no_space (events.Commit payload ids) args fits are = rw are (refl, (refl, ids_have_no_space ids))
+words_have_no_space (events.Commit payload ids) args fits are = rw are.2 (refl, (payload_has_no_space payload are.0 are.1, ids_have_no_space ids))
 words_have_no_space (events.Reader policy) args fits are = rw are (refl, (refl, tt))
 words_have_no_space (events.Reload n) args fits are = rw are (refl, (number_has_no_space n fits, tt))
 words_have_no_space (events.Searcher n) args fits are = rw are (refl, (number_has_no_space n fits, tt))

@@ -1,5 +1,5 @@
 -- Where a run stopped, and why; and the locks that it meets.
-use Rattle.std.proofs.Common.{◌≡◌, ◌≢◌, ◌⊎◌, ℕ, ◌+◌, ◌≤◌, List, [], ◌∷◌, ◌++◌, length, string_bytes, Option, Some, refl, sym, ap, subst, ◌∙◌, arith, inl, inr, true, false, true≢false}
+use Rattle.std.proofs.Common.{◌≡◌, ◌≢◌, ◌⊎◌, ℕ, ◌+◌, ◌≤◌, List, [], ◌∷◌, ◌++◌, length, Option, Some, refl, sym, ap, subst, ◌∙◌, arith, inl, inr, true, false, true≢false}
 use Rattle.std.proofs.lemmas.List.{append-nil}
 use Rattle.std.proofs.Math.Logic.{⊎_map}
 use Rattle.tv_base.specs.declared.error.TantivyError.{TantivyError}

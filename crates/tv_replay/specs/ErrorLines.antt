@@ -61,7 +61,7 @@ lock_line lock.LockBusy = codes "error lock"
 lock_line (lock.IoError fault) = io_line fault.kind
 lock_line lock.Memory = codes "error memory"
 
--- The line of each error, by its variant. So far a replay answers no `DataCorruption`, no `SchemaError`, and none of those that have no line of their own.
+-- The line of each error, by its variant. So far a replay answers none of those that have no line of their own.
 abbrev pub error_line : TantivyError → List ℕ
 error_line (errors.IoError fault) = io_line fault.kind
 error_line (errors.OpenWriteError error) = write_line error

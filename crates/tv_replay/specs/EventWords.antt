@@ -5,7 +5,7 @@ use Rattle.tv_model.specs.declared.event.Event.TheVariants as events
 use Rattle.tv_model.specs.declared.reload_policy.ReloadPolicy.TheVariants.{Manual}
 use Rattle.tv_model.specs.Ids.{are_distinct}
 use Rattle.tv_model.specs.Names.{is}
-use Rattle.tv_replay.specs.Fields.{id_at, number_at, component_at, bytes_at}
+use Rattle.tv_replay.specs.Fields.{id_at, number_at, component_at, bytes_at, payload_at}
 
 infixl 10 ◌>>=◌
 abbrev pub ◌>>=◌ : {A B : Type 0} → Option A → (A → Option B) → Option B
@@ -55,17 +55,16 @@ ids_in (word ∷ words) = do
   ids ← ids_in words
   Some (id ∷ ids)
 
--- a commit without payload of some ids, where none of them stands twice
-abbrev pub commit_of : List (List ℕ) → Option Event
-commit_of ids = if are_distinct ids then Some (events.Commit None ids) else None
+-- a commit of some ids with this payload, where none of them stands twice
+abbrev pub commit_of : Option (List ℕ) → List (List ℕ) → Option Event
+commit_of payload ids = if are_distinct ids then Some (events.Commit payload ids) else None
 
 abbrev pub commit_in : List (List ℕ) → Option Event
 commit_in [] = None
-commit_in (payload ∷ words) =
-    if is payload (codes "-") then (do
-      ids ← ids_in words
-      commit_of ids)
-    else None
+commit_in (word ∷ words) = do
+  payload ← payload_at word
+  ids ← ids_in words
+  commit_of payload ids
 
 -- an event without arguments
 abbrev pub alone_in : Event → List (List ℕ) → Option Event
@@ -144,4 +143,5 @@ event_in (word ∷ args) =
     else if is word (codes "commit") then commit_in args
     else if is word (codes "gc") then alone_in events.Gc args
     else if is word (codes "managed") then alone_in events.Managed args
+    else if is word (codes "validate") then alone_in events.Validate args
     else reader_event_in word args

@@ -1,6 +1,7 @@
 -- What single words stand for.
-use Rattle.std.specs.Prelude.{ℕ, ◌&&◌, nat_lt, List, [], ◌∷◌, Option, Some, None, Result, Ok, Err, find, if◌then◌else◌}
+use Rattle.std.specs.Prelude.{ℕ, ◌&&◌, ◌==◌, nat_lt, List, [], ◌∷◌, Option, Some, None, Result, Ok, Err, codes, find, option_map, if◌then◌else◌}
 use Rattle.std.specs.Fmt.{decimal}
+use Rattle.std.specs.Str.{is_utf8}
 use Rattle.std.specs.Str.Parse.{digits_value}
 use Rattle.hex.specs.Hex.{encode_lower, decode_of, decode_sized}
 use Rattle.hex.specs.declared.error.FromHexError.{FromHexError}
@@ -40,3 +41,20 @@ some_bytes (Err e) = None
 
 abbrev pub bytes_at : List ℕ → Option (List ℕ)
 bytes_at word = some_bytes (decode_of word)
+
+-- the text that some digits spell, of either case
+abbrev pub some_text : Result (List ℕ) FromHexError → Option (List ℕ)
+some_text (Ok bytes) = if is_utf8 bytes then Some bytes else None
+some_text (Err e) = None
+
+abbrev pub text_at : List ℕ → Option (List ℕ)
+text_at digits = some_text (decode_of digits)
+
+-- the text whose digits stand behind a `+`
+abbrev pub signed_text_at : List ℕ → Option (List ℕ)
+signed_text_at [] = None
+signed_text_at (sign ∷ digits) = if sign == 43 then text_at digits else None
+
+-- the payload that a word spells: none by a `-`, or a text
+abbrev pub payload_at : List ℕ → Option (Option (List ℕ))
+payload_at word = if is word (codes "-") then Some None else option_map (λ text. Some text) (signed_text_at word)

@@ -9,3 +9,4 @@ pub mod PlaceView
 pub mod ErrorLines
 pub mod Runs
 pub mod BenchPlace
+pub mod FolderPlace

@@ -190,7 +190,7 @@ abbrev pub StopsReplay : {O W C : Type 0} → Ghosts O W C → (before now : O) 
 StopsReplay g before now schema script script_now error =
     g.told.content → RefusesOpening g.told schema (g.view before) (g.view now) script script_now error ⊎ StopsRunning g before now schema script script_now error
 
--- Why a replay answers an error, whatever the directory tells: `busy` where a lock isn't given, `refused` where a device refused a call, `quiet` where none did.
+-- Why a replay answers an error, of what is read where the content is told, of lines where the script is: `busy` where a lock isn't given, `refused` where a device refused a call, `quiet` where none did.
 abbrev pub ReplayCause : (tells : Type 0) → (schema : List ℕ) → Reads → (script : Option (List ℕ)) → (busy refused quiet : Type 0) → TantivyError → Type 0
 ReplayCause tells schema reads script busy refused quiet (errors.InvalidArgument text) =
     quiet × ((IsNoSchema schema × (string_bytes text ≡ schema_refusal)) ⊎ (IsSomeSchema schema × (tells → FoundIndex schema reads) × LineRefusal script (string_bytes text)))

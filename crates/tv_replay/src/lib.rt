@@ -4,6 +4,7 @@
 
 mod bench_place;
 mod error_line;
+mod folder_place;
 mod lines;
 mod next_event;
 mod place;
@@ -15,6 +16,7 @@ mod script_buffer;
 mod words;
 
 pub use bench_place::BenchPlace;
+pub use folder_place::FolderPlace;
 pub use place::Place;
 pub use program::run;
 pub use replaying::{Replayed, Tally, replay};

@@ -6,7 +6,7 @@ ghost use Rattle.tv_model.specs.Script.{IsLine};
 ghost use Rattle.tv_replay.specs.EventWords.{event_in, segment_in, open_in, write_in, seal_in, docs_in, ids_in, commit_in, alone_in};
 
 use crate::reader_lines::reader_event_of;
-use crate::words::{bytes_of, component_of, id_of, number_of};
+use crate::words::{bytes_of, component_of, id_of, number_of, payload_of};
 use std::alloc::{AllocError, Global};
 use tv_model::{Event, IdList, Memory, SegmentId};
 
@@ -97,18 +97,19 @@ fn ids_of(alloc: Global, words: &[&[u8]]) -> Result<Option<Vec<SegmentId>>, Memo
 fn commit_of(alloc: Global, args: &[&[u8]]) -> Result<Option<Event>, Memory>
     ensures { IfOk result (λ found. found ≡ commit_in (map (λ w. w.now) args.now)) }
 {
-    match args {
-        [payload, words @ ..] if *payload == b"-".as_slice() => {
-            let Some(ids) = ids_of(alloc, words)? else {
-                return Ok(None);
-            };
-            let Some(ids) = IdList::new(ids) else {
-                return Ok(None);
-            };
-            Ok(Some(Event::Commit(None, ids)))
-        }
-        _ => Ok(None),
-    }
+    let [payload, words @ ..] = args else {
+        return Ok(None);
+    };
+    let Some(payload) = payload_of(alloc, payload)? else {
+        return Ok(None);
+    };
+    let Some(ids) = ids_of(alloc, words)? else {
+        return Ok(None);
+    };
+    let Some(ids) = IdList::new(ids) else {
+        return Ok(None);
+    };
+    Ok(Some(Event::Commit(payload, ids)))
 }
 
 // An event without arguments.
@@ -146,6 +147,8 @@ fn event_of(alloc: Global, words: &[&[u8]]) -> Result<Option<Event>, Memory>
         Ok(alone(Event::Gc, args))
     } else if *word == b"managed".as_slice() {
         Ok(alone(Event::Managed, args))
+    } else if *word == b"validate".as_slice() {
+        Ok(alone(Event::Validate, args))
     } else {
         Ok(reader_event_of(word, args))
     }

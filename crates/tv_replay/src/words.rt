@@ -1,10 +1,10 @@
 //! What single words of a line stand for.
 ghost use Rattle.std.specs.Prelude.{◌≡◌, ◌^◌, IfOk};
-ghost use Rattle.tv_replay.specs.Fields.{id_at, number_at, component_at, bytes_at};
+ghost use Rattle.tv_replay.specs.Fields.{id_at, number_at, component_at, bytes_at, text_at, payload_at};
 
 use hex::FromHexError;
 use std::alloc::Global;
-use tv_model::{Blob, Memory, SegmentComponent, SegmentId};
+use tv_model::{Blob, Memory, SegmentComponent, SegmentId, Text};
 
 // The components that scripts may name (so far not the delete files).
 const NAMED_COMPONENTS: [SegmentComponent; 6] = [
@@ -76,5 +76,33 @@ pub(crate) fn bytes_of(alloc: Global, word: &[u8]) -> Result<Option<Blob>, Memor
         }
         Err(FromHexError::OutOfMemory) => Err(Memory),
         Err(_) => Ok(None),
+    }
+}
+
+// The text that some digits spell.
+fn text_of(alloc: Global, digits: &[u8]) -> Result<Option<Text>, Memory>
+    ensures { IfOk result (λ found. found ≡ text_at digits.now) }
+{
+    match hex::decode(alloc, digits) {
+        Ok(bytes) => match String::from_utf8(bytes) {
+            Ok(text) => Ok(Some(Text::new(text))),
+            Err(_) => Ok(None),
+        },
+        Err(FromHexError::OutOfMemory) => Err(Memory),
+        Err(_) => Ok(None),
+    }
+}
+
+// The payload that a word spells, which may be none.
+pub(crate) fn payload_of(alloc: Global, word: &[u8]) -> Result<Option<Option<Text>>, Memory>
+    ensures { IfOk result (λ found. found ≡ payload_at word.now) }
+{
+    match word {
+        [b'-'] => Ok(Some(None)),
+        [b'+', digits @ ..] => match text_of(alloc, digits)? {
+            Some(text) => Ok(Some(Some(text))),
+            None => Ok(None),
+        },
+        _ => Ok(None),
     }
 }

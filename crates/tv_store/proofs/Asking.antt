@@ -1,5 +1,5 @@
 -- What two calls leave alone, one after the other.
-use Rattle.std.proofs.Common.{◌≡◌, ℕ, List, subst, ◌∙◌, arith}
+use Rattle.std.proofs.Common.{◌≡◌, subst, ◌∙◌, arith}
 use Rattle.tv_model.specs.Names.{meta_name}
 use Rattle.tv_model.specs.State.{Catalog}
 use Rattle.tv_directory.specs.View.{View, Told, GoesOn, DeletesNone, Frame, OnlyReads}

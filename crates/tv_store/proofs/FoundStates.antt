@@ -1,23 +1,22 @@
 -- The index that an opening found is each one to which the directory opens, and its files hold that one's state.
-use Rattle.std.proofs.Common.{◌≡◌, ◌≢◌, ℕ, ◌<◌, ◌^◌, false, true, List, [], ◌∷◌, ◌++◌, Option, Some, None, refl, sym, ap, ap₂, subst, ◌∙◌, arith}
+use Rattle.std.proofs.Common.{◌≡◌, ℕ, ◌<◌, ◌^◌, false, true, List, Option, Some, None, refl, sym, ap, ap₂, subst, ◌∙◌, arith}
 use Rattle.std.specs.Prelude.{IsSome, is_some, option_map}
 use Rattle.std.specs.List.Sorted.{IsStrictlySortedBy}
 use Rattle.std.specs.List.{AllByRecursion}
 use Rattle.serde_json.specs.Data.{Data}
 use Rattle.tv_directory.specs.declared.directory.Directory.{Ghosts}
-use Rattle.tv_index.specs.Opening.{LeavesFound, first_text}
+use Rattle.tv_index.specs.Opening.{first_text}
 use Rattle.tv_model.specs.Commits.{Commit, Settings, IndexForm, IsCommit, IsSegment, default_settings, first_commit}
 use Rattle.tv_model.specs.Files.{Reads}
 use Rattle.tv_model.specs.Footer.{IsGood}
 use Rattle.tv_model.specs.Index.{FindsCommit, FoundIndex, HasFiles, IsFileOf, OpenedIndex, managed_with, opened_catalog}
 use Rattle.tv_model.specs.Listing.{Lists}
 use Rattle.tv_model.specs.Meaning.{Means}
-use Rattle.tv_model.specs.Names.{has, is_undotted, list_name, meta_name}
+use Rattle.tv_model.specs.Names.{has, list_name, meta_name}
 use Rattle.tv_model.specs.Readable.{CanRead}
 use Rattle.tv_model.specs.Schemas.{IsSchemaText}
 use Rattle.tv_model.specs.Segments.{all_required}
 use Rattle.tv_model.specs.State.{Catalog, FileState, Sealed, file_at}
-use Rattle.tv_model.specs.declared.segment.LiveSegment.{LiveSegment}
 use Rattle.tv_model.proofs.Entries.{has_inserted}
 use Rattle.tv_model.proofs.ListTexts.{lists_one}
 use Rattle.tv_model.proofs.OneMeaning.{means_one}

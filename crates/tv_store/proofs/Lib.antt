@@ -12,6 +12,7 @@ pub mod Steps
 pub mod FewNumbers
 pub mod ReaderNumbers
 pub mod ReaderEvents
+pub mod ReportEvents
 pub mod StoreLocks
 pub mod Committing
 pub mod Asking

@@ -157,10 +157,14 @@ pub map_twice : {X Y Z : Type 0} (f : Y → Z) (g : X → Y) (xs : List X) → m
 map_twice f g [] = refl
 map_twice {Z = Z} f g (x ∷ xs) = ap (λ (l : List Z). f (g x) ∷ l) (map_twice f g xs)
 
--- the first of some plain names
+-- the first of some plain names is one, and so are the others
+pub plain_head : (keys rest : List (String Global)) (name : String Global) → keys ≡ name ∷ rest → list_all is_plain (map string_bytes keys) ≡ true → (is_plain (string_bytes name) ≡ true) × (list_all is_plain (map string_bytes rest) ≡ true)
+plain_head keys rest name e h = both (is_plain (string_bytes name)) (list_all is_plain (map string_bytes rest)) (subst (λ (ks : List (String Global)). list_all is_plain (map string_bytes ks) ≡ true) e h)
+
+-- the first of some plain names has no line feed
 pub plain_first : (keys rest : List (String Global)) (name : String Global) → keys ≡ name ∷ rest → list_all is_plain (map string_bytes keys) ≡ true → (has_no_feed (string_bytes name) ≡ true) × (list_all is_plain (map string_bytes rest) ≡ true)
 plain_first keys rest name e h =
-    let t = both (is_plain (string_bytes name)) (list_all is_plain (map string_bytes rest)) (subst (λ (ks : List (String Global)). list_all is_plain (map string_bytes ks) ≡ true) e h) in
+    let t = plain_head keys rest name e h in
     (no_feed_plain (string_bytes name) t.0, t.1)
 
 -- ---- live segments

@@ -1,10 +1,9 @@
 -- What an opening does, put together: an index was found, its lock was taken, and its line was told, or not.
-use Rattle.std.proofs.Common.{◌≡◌, inl, inr, ℕ, ◌≤◌, true, false, List, [], ◌∷◌, ◌++◌, length, None, Result, Ok, Err, refl, sym, ap, subst, ◌∙◌, arith}
+use Rattle.std.proofs.Common.{◌≡◌, inl, inr, ℕ, ◌≤◌, true, false, List, [], ◌∷◌, ◌++◌, length, Result, Ok, Err, refl, sym, ap, subst, ◌∙◌, arith}
 use Rattle.std.specs.Prelude.{IfOk, IfErr}
 use Rattle.std.specs.List.{AllByRecursion}
 use Rattle.tv_base.specs.declared.error.TantivyError.{TantivyError}
 use Rattle.tv_base.specs.declared.error.TantivyError.TheVariants as errors
-use Rattle.tv_base.specs.declared.open_errors.LockError.{LockError}
 use Rattle.tv_base.specs.declared.open_errors.LockError.TheVariants as lock
 use Rattle.tv_base.specs.declared.open_errors.OpenReadError.{OpenReadError}
 use Rattle.tv_base.specs.declared.open_errors.OpenReadError.TheVariants as read
@@ -15,21 +14,21 @@ use Rattle.tv_directory.specs.declared.directory.Directory.{Ghosts}
 use Rattle.tv_managed.specs.declared.managed_directory.Refused.{Refused}
 use Rattle.tv_model.specs.Commits.{Commit, IndexForm}
 use Rattle.tv_model.specs.Files.{Reads, Heard, Rose, Same}
-use Rattle.tv_model.specs.Index.{FoundIndex, HasFiles, OpenedIndex}
+use Rattle.tv_model.specs.Index.{FoundIndex, opened_catalog}
 use Rattle.tv_model.specs.Lines.{opening_of}
 use Rattle.tv_model.specs.Names.{has, meta_name}
 use Rattle.tv_model.specs.Schemas.{IsSchema}
 use Rattle.tv_model.specs.Segments.{all_required}
 use Rattle.tv_model.specs.State.{Catalog}
-use Rattle.tv_index.specs.Opening.{LeavesFound, LeavesUnopened}
-use Rattle.tv_store.specs.Bodies.{ReadsGoodFile, RefusesAt}
+use Rattle.tv_index.specs.Opening.{Finds, LeavesFound, LeavesUnopened}
+use Rattle.tv_store.specs.Bodies.{ReadsGoodFile}
 use Rattle.tv_store.specs.Kept.{Kept, FilesState, StoreState, kept_of}
 use Rattle.tv_store.specs.Making.{Begins, FindsFiles, IsRefusedFirst, LeavesRefused, NotBegun}
 use Rattle.tv_store.specs.Opening.{LeavesIndex, Opens, OpeningFaults, OpeningFrame, TakesWriterLock, TellsOpening}
 use Rattle.tv_store.specs.OpeningCauses.{IndexMissing, IndexRefused, IsFirstBad, MeetsMissing, MeetsRefused, OpeningCause}
 use Rattle.tv_store.specs.ReadCauses.{ApplyCause, ReadFault}
 use Rattle.tv_store.specs.Stays.{KeepsFiles, MayNotify}
-use Rattle.tv_store.specs.StoreCauses.{IsBusy, MakesNoFile, writer_lock_name}
+use Rattle.tv_store.specs.StoreCauses.{MakesNoFile, writer_lock_name}
 use Rattle.tv_store.specs.Telling.{TellsLine, TellsFirstPart, TellsNoLine}
 use Rattle.tv_store.proofs.Asking.{deletes_later, kept_by_files}
 use Rattle.tv_model.proofs.CollectionStates.{has_append}
@@ -99,6 +98,13 @@ refused_before old now names error same (path, first, refused) = (
 missing_before : (old now : Reads) (names : List (List ℕ)) (path : List ℕ) → ((n : List ℕ) → has names n ≡ true → now n ≡ old n) → MeetsMissing now names path → MeetsMissing old names path
 missing_before old now names path same (first, none) = (first_before old now names path same first, sym (same path (has_middle names first.front first.rest path first.split)) ∙ none)
 
+same_found : (old mid new : Reads) (schema : List ℕ) → LeavesFound old mid schema → Same mid new → LeavesFound old new schema
+same_found old mid new schema h same = record {
+  stood = λ some n. same n ∙ h.stood some n;
+  others = λ n other list. same n ∙ h.others n other list;
+  made = λ none. same meta_name ∙ h.made none;
+}
+
 module _ {O W C : Type 0} (g : Ghosts O W C) (outside : O) (schema : List ℕ) (form : IndexForm) (catalog : Catalog) (files locked : FilesState O)
     (f : FindsFiles g outside schema form catalog files) (frame : KeepsFiles (OnlyLocks g.told) g.view files locked) where
   lock_frame : OnlyLocks g.told (g.view files.outside) (g.view locked.outside)
@@ -136,6 +142,11 @@ module _ {O W C : Type 0} (g : Ghosts O W C) (outside : O) (schema : List ℕ) (
     opens_begun = record {
       is_open = b.is_open;
       spelled = subst (IsSchema schema) (sym (ap (λ (k : Kept). k.form.schema) kept_is)) f.spelled;
+      finds = λ t. subst (λ (k : Kept). Finds (g.view outside).reads k.form k.catalog.commit k.managed) (sym kept_is) (f.finds t);
+      opened = subst (λ (k : Kept). k.catalog ≡ opened_catalog k.catalog.commit) (sym kept_is) f.opened;
+      left = λ t.
+          subst (λ (k : Kept). LeavesFound (g.view outside).reads (g.view begun.outside).reads k.form.schema) (sym kept_is)
+          (same_found (g.view outside).reads (g.view files.outside).reads (g.view begun.outside).reads form.schema (f.leaves t) (λ n. b.frame.content t n ∙ lock_frame.content t n));
       found = λ t. (the_found g outside schema form catalog files f t, had_files g outside schema form catalog files f t (good_files t));
       holds = λ t index.
           let held = held_at g outside schema form catalog files f t index in (
@@ -178,9 +189,12 @@ module _ {O W C : Type 0} (g : Ghosts O W C) (outside : O) (schema : List ℕ) (
   -- the line wasn't told
   module _ (now : O) (error : TantivyError) (r : NotBegun g store now error) where
     leaves_unbegun : g.told.content → LeavesRefused (g.view outside).reads (g.view now).reads schema
-    leaves_unbegun t text is =
-        subst (LeavesUnopened (g.view outside).reads (g.view now).reads) (f.spelled.text_is ∙ sym is.text_is)
-        (same_unopened (g.view outside).reads (g.view files.outside).reads (g.view now).reads form.schema (f.leaves t) (λ n. r.content t n ∙ lock_frame.content t n))
+    leaves_unbegun t = record {
+      spelled = λ text is.
+          subst (LeavesUnopened (g.view outside).reads (g.view now).reads) (f.spelled.text_is ∙ sym is.text_is)
+          (same_unopened (g.view outside).reads (g.view files.outside).reads (g.view now).reads form.schema (f.leaves t) (λ n. r.content t n ∙ lock_frame.content t n));
+      unspelled = λ none. absurd (none form.schema f.spelled);
+    }
 
     untold_unbegun : g.told.heard → TellsNoLine (g.view outside).heard (g.view now).heard
     untold_unbegun t = subst (λ (h : Heard). TellsNoLine h (g.view now).heard) heard_yet (r.told t)

@@ -1,8 +1,7 @@
 -- What a call does that begins, put together.
-use Rattle.std.proofs.Common.{◌≡◌, ℕ, List, true, Result, Ok, Err, inl, refl, sym, subst, ◌∙◌, arith}
+use Rattle.std.proofs.Common.{◌≡◌, Result, Ok, Err, inl, refl, sym, subst, ◌∙◌}
 use Rattle.std.specs.Result.{IsErrAnd}
 use Rattle.tv_base.specs.declared.error.TantivyError.{TantivyError}
-use Rattle.tv_base.specs.declared.error.TantivyError.TheVariants as errors
 use Rattle.tv_directory.specs.View.{OnlyReads, OnlyTells, View, Told as ToldParts}
 use Rattle.tv_directory.specs.declared.directory.Directory.{Ghosts}
 use Rattle.tv_model.specs.Files.{Heard, Rose}

@@ -6,7 +6,7 @@ use Rattle.tv_base.specs.declared.error.TantivyError.{TantivyError}
 use Rattle.tv_base.specs.declared.error.TantivyError.TheVariants as errors
 use Rattle.tv_directory.specs.declared.directory.Directory.{Ghosts}
 use Rattle.tv_index.specs.Opening.{IsRefusedBytes, LeavesUnopened, NotOpened, OpenCause}
-use Rattle.tv_model.specs.Files.{Reads, Rose}
+use Rattle.tv_model.specs.Files.{Reads}
 use Rattle.tv_model.specs.Schemas.{IsSchema}
 use Rattle.tv_store.specs.Making.{FindsNone, IsRefusedFirst}
 use Rattle.tv_store.specs.OpeningCauses.{OpeningCause}
@@ -28,7 +28,10 @@ found_cause tells schema text reads refused quiet other is h = (text, is, h)
 
 pub finds_none : {O W C : Type 0} (g : Ghosts O W C) (outside : O) (schema text : List ℕ) (now : O) (error : TantivyError) → IsSchema schema text → NotOpened g outside text now error → FindsNone g outside schema now error
 finds_none g outside schema text now error is n = record {
-  leaves = λ t other same. subst (LeavesUnopened (g.view outside).reads (g.view now).reads) (is.text_is ∙ sym same.text_is) (n.left t);
+  leaves = λ t. record {
+    spelled = λ other same. subst (LeavesUnopened (g.view outside).reads (g.view now).reads) (is.text_is ∙ sym same.text_is) (n.left t);
+    unspelled = λ none. absurd (none text is);
+  };
   unchanged = λ t first. n.unchanged t (first_bytes g.told.content text (g.view outside).reads _ _ error first n.cause);
   others = λ t. (n.left t).others;
   cause = found_cause g.told.content schema text (g.view outside).reads _ _ error is n.cause;

@@ -1,5 +1,5 @@
 -- What a refused opening leaves, where no index was found or where the lock wasn't given.
-use Rattle.std.proofs.Common.{◌≡◌, ◌⊎◌, inl, inr, ℕ, true, false, List, None, Result, Ok, Err, refl, sym, subst, ◌∙◌}
+use Rattle.std.proofs.Common.{◌≡◌, ◌⊎◌, inl, ℕ, true, false, List, Err, refl, sym, subst, ◌∙◌}
 use Rattle.std.proofs.Math.Logic.{⊎_map}
 use Rattle.tv_base.specs.Errors.{of_lock}
 use Rattle.tv_base.specs.declared.error.TantivyError.{TantivyError}
@@ -9,24 +9,21 @@ use Rattle.tv_base.specs.declared.open_errors.LockError.TheVariants as lock
 use Rattle.tv_directory.specs.Calls.{LockFaults}
 use Rattle.tv_directory.specs.Locks.{LockCause, SameLocks}
 use Rattle.tv_directory.specs.View.{OnlyLocks}
-use Rattle.tv_directory.specs.Watch.{WatchState, MayNote}
 use Rattle.tv_directory.specs.declared.directory.Directory.{Ghosts}
 use Rattle.tv_managed.specs.declared.managed_directory.Refused.{Refused}
 use Rattle.tv_model.specs.Commits.{IndexForm}
 use Rattle.tv_model.specs.Files.{Reads, Heard, Rose}
-use Rattle.tv_model.specs.Index.{FoundIndex}
 use Rattle.tv_model.specs.Lines.{opening_of}
 use Rattle.tv_model.specs.Names.{meta_name}
 use Rattle.tv_model.specs.State.{Catalog}
 use Rattle.tv_index.specs.Opening.{LeavesUnopened}
-use Rattle.tv_store.specs.Kept.{FilesState, StoreState}
-use Rattle.tv_store.specs.Making.{FindsFiles, FindsNone, IsRefusedFirst, LeavesRefused}
+use Rattle.tv_store.specs.Kept.{FilesState}
+use Rattle.tv_store.specs.Making.{FindsFiles, FindsNone, IsRefusedFirst}
 use Rattle.tv_store.specs.Opening.{LeavesIndex, OpeningFaults, OpeningFrame, TakesWriterLock, TellsOpening}
 use Rattle.tv_store.specs.OpeningCauses.{OpeningCause}
-use Rattle.tv_store.specs.Stays.{KeepsFiles, MayNotify}
+use Rattle.tv_store.specs.Stays.{KeepsFiles}
 use Rattle.tv_store.specs.StoreCauses.{IsBusy, writer_lock_name}
 use Rattle.tv_store.specs.Telling.{TellsFirstPart, TellsNoLine}
-use Rattle.tv_store.proofs.Asking.{deletes_later}
 use Rattle.tv_store.proofs.FoundStates.{the_found}
 use Rattle.tv_store.proofs.Holding.{dotted_others}
 use Rattle.tv_store.proofs.Opened.{heard_yet, notified, same_unopened}
@@ -83,9 +80,12 @@ module _ {O W C : Type 0} (g : Ghosts O W C) (outside : O) (schema : List ℕ) (
 
   pub unlocked_leaves : (IsRefusedFirst error → ⊥) → LeavesIndex g outside schema back
   unlocked_leaves other = record {
-    leaves = λ t text is.
-        subst (LeavesUnopened (g.view outside).reads (g.view locked.outside).reads) (f.spelled.text_is ∙ sym is.text_is)
-        (same_unopened (g.view outside).reads (g.view files.outside).reads (g.view locked.outside).reads form.schema (f.leaves t) (frame.managed.below.content t));
+    leaves = λ t. record {
+      spelled = λ text is.
+          subst (LeavesUnopened (g.view outside).reads (g.view locked.outside).reads) (f.spelled.text_is ∙ sym is.text_is)
+          (same_unopened (g.view outside).reads (g.view files.outside).reads (g.view locked.outside).reads form.schema (f.leaves t) (frame.managed.below.content t));
+      unspelled = λ none. absurd (none form.schema f.spelled);
+    };
     unchanged = λ t first. absurd (other first);
   }
 

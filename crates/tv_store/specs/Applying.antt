@@ -1,5 +1,5 @@
 -- An event, applied to a store that is open.
-use Rattle.std.specs.Prelude.{ℕ, ◌≡◌, ◌≤◌, ◌+◌, ◌⊎◌, Bool, true, false, List, length, Option, Some, None, Result, IfErr, OnOk, OnErr, is_ok}
+use Rattle.std.specs.Prelude.{ℕ, ◌≡◌, ◌≤◌, ◌+◌, ◌⊎◌, Bool, true, false, List, length, Option, Some, Result, IfErr, OnOk, OnErr, is_ok}
 use Rattle.tv_base.specs.declared.error.TantivyError.{TantivyError}
 use Rattle.tv_base.specs.declared.error.TantivyError.TheVariants as errors
 use Rattle.tv_base.specs.declared.open_errors.OpenReadError.{OpenReadError}

@@ -1,5 +1,5 @@
 -- What the calls on the files of a store do.
-use Rattle.std.specs.Prelude.{ℕ, ◌≡◌, ◌≢◌, ◌⊎◌, ◌&&◌, ◌||◌, Bool, not, is_some, true, false, List, [], length, cond, Option, Some, None, IsSome, Result, IfErr, OnOk, OnErr}
+use Rattle.std.specs.Prelude.{ℕ, ◌≡◌, ◌≢◌, ◌⊎◌, ◌&&◌, ◌||◌, Bool, not, is_some, true, false, List, [], length, cond, Option, Some, None, IsSome, Result, IfErr, OnOk, OnErr, option_and_then}
 use Rattle.std.specs.BTreeMap.{insert_entry}
 use Rattle.std.specs.BTreeSet.{insert_key}
 use Rattle.tv_base.specs.declared.error.TantivyError.{TantivyError}
@@ -10,6 +10,7 @@ use Rattle.tv_managed.specs.Collecting.{FailsAtMost, meta_lock_name}
 use Rattle.tv_managed.specs.Managed.{MakesFile}
 use Rattle.tv_model.specs.Collections.{collectable, done_of, failed_of, without}
 use Rattle.tv_model.specs.Files.{Reads, Rose, Same}
+use Rattle.tv_model.specs.Framing.{is_intact}
 use Rattle.tv_model.specs.Listing.{Lists}
 use Rattle.tv_model.specs.Names.{byte_cmp, has, list_name, meta_name}
 use Rattle.tv_model.specs.State.{at}
@@ -23,6 +24,13 @@ use Rattle.tv_store.specs.StoreCauses.{IsBusy, LockingCause, MakesNoFile}
 pub record Asked (read written : Option (List ℕ)) (left found : Bool) : Type 0 where
   pub yes : found ≡ true → IsSome read × (written ≡ None) × (left ≡ false)
   pub no : found ≡ false → (read ≡ None) ⊎ IsSome written ⊎ (left ≡ true)
+
+-- Whether the checksum of a file is that of its body, by what its name reads, what was written to it where it is open, and whether it was left; nothing where it
+-- isn't sealed or has no footer.
+abbrev pub intact_in : (read written : Option (List ℕ)) → (left : Bool) → Option Bool
+intact_in read (Some body) left = None
+intact_in read None true = None
+intact_in read None false = option_and_then is_intact read
 
 -- An empty file was made that wasn't there; it is on the list, and open.
 pub record OpensFile {O W C : Type 0} (g : Ghosts O W C) (old new : FilesState O) (name : List ℕ) : Type 0 where

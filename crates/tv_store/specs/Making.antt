@@ -16,7 +16,7 @@ use Rattle.tv_model.specs.Listing.{Lists}
 use Rattle.tv_managed.specs.Managed.{KeepsOtherFiles}
 use Rattle.tv_model.specs.Names.{byte_cmp, has, list_name, meta_name}
 use Rattle.tv_model.specs.declared.segment.LiveSegment.{LiveSegment}
-use Rattle.tv_model.specs.Schemas.{IsSchema}
+use Rattle.tv_model.specs.Schemas.{IsNoSchema, IsSchema}
 use Rattle.tv_model.specs.Segments.{all_required}
 use Rattle.tv_model.specs.State.{Catalog}
 use Rattle.tv_store.specs.Bodies.{ReadsGoodFile}
@@ -31,9 +31,10 @@ use Rattle.tv_store.specs.Telling.{TellsLine, TellsFirstPart, TellsNoLine}
 abbrev pub IsSorted : List (List ℕ × LiveSegment) → Type 0
 IsSorted segments = IsStrictlySortedBy byte_cmp (map (λ e. e.0) segments)
 
--- what a refused opening leaves, under the schema that these bytes spell
-abbrev pub LeavesRefused : Reads → Reads → (schema : List ℕ) → Type 0
-LeavesRefused old new schema = (text : List ℕ) → IsSchema schema text → LeavesUnopened old new text
+-- What a refused opening leaves, under the schema that these bytes spell; where they spell none, everything reads as before.
+pub record LeavesRefused (old new : Reads) (schema : List ℕ) : Type 0 where
+  pub spelled : (text : List ℕ) → IsSchema schema text → LeavesUnopened old new text
+  pub unspelled : IsNoSchema schema → Same old new
 
 -- an argument was refused, or bytes were
 abbrev pub IsRefusedFirst : TantivyError → Type 0

@@ -7,7 +7,8 @@ use Rattle.tv_model.specs.Files.{Rose, Same}
 use Rattle.tv_model.specs.Lines.{opening_of}
 use Rattle.tv_model.specs.Schemas.{IsSchema}
 use Rattle.tv_model.specs.State.{no_readers}
-use Rattle.tv_model.specs.Index.{FoundIndex, HasFiles, OpenedIndex}
+use Rattle.tv_index.specs.Opening.{Finds, LeavesFound}
+use Rattle.tv_model.specs.Index.{FoundIndex, HasFiles, OpenedIndex, opened_catalog}
 use Rattle.tv_model.specs.Readable.{CanRead}
 use Rattle.tv_store.specs.Kept.{StoreState, Holds, AtMost}
 use Rattle.tv_store.specs.Making.{IsRefusedFirst, LeavesRefused}
@@ -16,11 +17,15 @@ use Rattle.tv_store.specs.StoreCauses.{IsBusy, writer_lock_name}
 use Rattle.tv_store.specs.Stays.{MayNotify}
 use Rattle.tv_store.specs.Telling.{TellsLine, TellsFirstPart, TellsNoLine}
 
--- An index with this schema is open in this directory: the one that stood there, or a new one. It is each one to which the directory opens, and holds its state; the
--- files that its commit requires can be read. No open file has a byte, and nobody reads.
+-- An index with this schema is open in this directory: the one that stood there, of which no name was touched, or a new one. What it keeps is its settings, its commit,
+-- and its list. It is each one to which the directory opens, and holds its state; the files that its commit requires can be read. No open file has a byte, and nobody
+-- reads.
 pub record Opens {O W C : Type 0} (g : Ghosts O W C) (outside : O) (schema : List ℕ) (store : StoreState O) : Type 0 where
   pub is_open : store.is_open ≡ true
   pub spelled : IsSchema schema store.kept.form.schema
+  pub finds : g.told.content → Finds (g.view outside).reads store.kept.form store.kept.catalog.commit store.kept.managed
+  pub opened : store.kept.catalog ≡ opened_catalog store.kept.catalog.commit
+  pub left : g.told.content → LeavesFound (g.view outside).reads (g.view store.outside).reads store.kept.form.schema
   pub found : g.told.content → (index : FoundIndex schema (g.view outside).reads) × HasFiles (g.view outside).reads index.commit
   pub holds : g.told.content → (index : OpenedIndex schema (g.view outside).reads) → (store.kept.form ≡ index.form) × Holds (g.view store.outside).reads store.kept index.state × CanRead index.state
   pub lens : AtMost 0 store.kept

@@ -1,21 +1,23 @@
 //! What is known of an index without asking its directory.
-ghost use Rattle.std.specs.Prelude.{◌≡◌, ◌<◌, ◌+◌, List, ℕ, IfOk, IsSome, OnOk, option_map, map, string_bytes, Some};
+ghost use Rattle.std.specs.Prelude.{◌≡◌, ◌<◌, ◌+◌, List, ℕ, IfOk, IsSome, OnOk, option_map, map, string_bytes, Some, true};
+ghost use Rattle.std.specs.List.{list_all};
 ghost use Rattle.tv_model.specs.CollectionEvents.{without_live};
 ghost use Rattle.tv_model.specs.CommitEvents.{chosen, first_unknown, last_stamp};
 ghost use Rattle.tv_model.specs.Living.{living};
-ghost use Rattle.tv_model.specs.Names.{has};
+ghost use Rattle.tv_model.specs.Names.{has, is_plain};
 ghost use Rattle.tv_model.specs.ReaderEvents.{with_new_reader, with_reloaded};
+ghost use Rattle.tv_model.specs.ReportEvents.{committed_names};
 ghost use Rattle.tv_model.specs.State.{Reader as ReaderState, live_at, no_readers, reader_at};
 
 use crate::chosen::choose;
 use crate::commit::{Commit, listed};
-use crate::names::needed_names;
+use crate::names::{names_among, needed_names, shared_names};
 use crate::readers::Readers;
 use crate::snapshot::Snapshot;
 use std::alloc::Global;
 use std::collections::{BTreeMap, BTreeSet};
 use std::marker::Model;
-use tv_model::{LiveSegment, Memory, Opstamp, ReloadPolicy, SegmentId};
+use tv_model::{FileName, LiveSegment, Memory, Opstamp, ReloadPolicy, SegmentId};
 
 /// The live segments, the number that the next commit gets, the current commit, and who reads.
 #[derive(Drop)]
@@ -126,6 +128,20 @@ impl Catalog {
         let committed = self.commit.segments(self.alloc)?;
         let live = listed(self.alloc, &self.live)?;
         needed_names(self.alloc, committed.as_slice(), live.as_slice())
+    }
+
+    /// Those of the managed names that the segments of the current commit have.
+    pub(crate) fn committed_names(
+        &self,
+        managed: &BTreeSet<String>,
+    ) -> Result<Vec<FileName>, Memory>
+        requires { list_all is_plain (map string_bytes managed.now.keys) ≡ true }
+        ensures { IfOk result (λ names. names.items
+            ≡ committed_names self.now (map string_bytes managed.now.keys)) }
+    {
+        let segments = self.commit.segments(self.alloc)?;
+        let committed = names_among(self.alloc, segments.as_slice())?;
+        shared_names(self.alloc, managed, &committed)
     }
 
     /// The number that the next reader gets. Takes no memory.

@@ -1,9 +1,10 @@
 //! The files of an index: a managed directory, the writers of the files that are open, and the names
 //! of those that were left.
-ghost use Rattle.std.specs.Prelude.{◌≡◌, ◌≢◌, ◌&&◌, not, ◌≤◌, ◌<◌, ◌+◌, ◌^◌, ◌++◌, [], List, ℕ, true, false, length, Option, Some, None, IsSome, is_some, cond, option_map, Contains, IfOk, OnOk, OnErr, map, string_bytes};
+ghost use Rattle.std.specs.Prelude.{◌≡◌, ◌≢◌, ◌&&◌, not, ◌≤◌, ◌<◌, ◌+◌, ◌^◌, ◌++◌, [], List, ℕ, true, false, length, Option, Some, None, IsSome, is_some, cond, option_map, Contains, IfErr, IfOk, OnOk, OnErr, map, string_bytes};
 ghost use Rattle.std.specs.List.{list_all, AllByRecursion};
 ghost use Rattle.std.specs.Map.{remove_entry};
 ghost use Rattle.std.specs.BTreeMap.{is_at, insert_entry};
+ghost use Rattle.tv_base.specs.declared.io.IoKind.TheVariants.{Device};
 ghost use Rattle.tv_model.specs.Names.{byte_cmp, has, is_plain, is_file_name, list_name, meta_name};
 ghost use Rattle.tv_model.specs.Footer.{sealed};
 ghost use Rattle.tv_model.specs.Listing.{Lists};
@@ -14,7 +15,7 @@ ghost use Rattle.tv_directory.specs.Calls.{DeviceFaults, Frees, LockFaults, Acqu
 ghost use Rattle.tv_directory.specs.View.{Kept, OnlyReads, OnlyLocks, OnlyTells, MayDelete};
 ghost use Rattle.tv_managed.specs.Managed.{KeepsOtherFiles};
 ghost use Rattle.tv_managed.specs.Reading.{ReadsBody};
-ghost use Rattle.tv_store.specs.FileCalls.{Asked, LeavesFiles, OpensFile, FindsFile, ReadBodyFaults, Collects, GcFaults, SavesMeta, LeavesText, KeepsOpenFiles};
+ghost use Rattle.tv_store.specs.FileCalls.{Asked, intact_in, LeavesFiles, OpensFile, FindsFile, ReadBodyFaults, Collects, GcFaults, SavesMeta, LeavesText, KeepsOpenFiles};
 ghost use Rattle.tv_store.specs.Stays.{KeepsDotted, KeepsFiles, OnlyWrites, EventFaults, Faults};
 
 use std::alloc::Global;
@@ -22,7 +23,8 @@ use std::collections::{BTreeMap, BTreeSet};
 use std::marker::Model;
 use std::mem;
 use tv_base::{
-    FileSlice, IoFault, LockError, META_FILEPATH, OpenReadError, OpenWriteError, TantivyError,
+    FileSlice, IoFault, IoKind, LockError, META_FILEPATH, OpenReadError, OpenWriteError,
+    TantivyError,
 };
 use tv_directory::{Directory, DirectoryLock, Lock, Outside};
 use tv_managed::{ManagedDirectory, ManagedWriter};
@@ -80,6 +82,19 @@ fn file_names(alloc: Global, texts: Vec<String>) -> Result<Vec<FileName>, Memory
         names.push(FileName::new(text))?;
     }
     Ok(names)
+}
+
+// Nothing is known of a checksum where the bytes of its file are refused.
+fn unless_device(fault: IoFault) -> Result<Option<bool>, TantivyError>
+    ensures none { IfOk result (λ found. found ≡ None) }
+    ensures bytes { OnOk result (fault.kind ≢ Device) }
+    ensures device { IfErr result (λ error. (error ≡ TantivyError.IoError fault)
+        × (fault.kind ≡ Device)) }
+{
+    match fault.kind {
+        IoKind::Device => Err(TantivyError::IoError(fault)),
+        IoKind::UnexpectedEof | IoKind::InvalidData => Ok(None),
+    }
 }
 
 // Takes the entries of these names out of a map.
@@ -306,6 +321,27 @@ impl<O: Outside> Files<O> {
         Ok(())
     }
 
+    /// Whether the checksum of a file is that of its body; none where the file isn't sealed or has no
+    /// footer.
+    pub(crate) fn is_intact(&mut self, name: &FileName) -> Result<Option<bool>, TantivyError>
+        ensures answer { O.told.content → IfOk result (λ found. found
+            ≡ intact_in ((O.view self.old.outside).reads name.now)
+            (at self.old.open_files name.now) (has self.old.left name.now)) }
+        ensures faults { EventFaults ⊥ (O.view self.old.outside) (O.view self.new.outside) result }
+        ensures frame { KeepsFiles (OnlyReads O.told) O.view self.old self.new }
+    {
+        if self.files.contains_key(name) || self.left.contains(name) {
+            return Ok(None);
+        }
+        match self.directory.validate_checksum(name.as_str()) {
+            Ok(is_right) => Ok(Some(is_right)),
+            Err(OpenReadError::FileDoesNotExist(_)) => Ok(None),
+            Err(OpenReadError::IoError { io_error, .. }) => unless_device(io_error),
+            Err(OpenReadError::Memory) => Err(TantivyError::Memory),
+            Err(OpenReadError::IncompatibleIndex(_)) => unreachable!(),
+        }
+    }
+
     /// The body of a sealed file.
     pub(crate) fn open_read(&mut self, name: &FileName) -> Result<FileSlice, TantivyError>
         ensures body { O.told.content → IfOk result
@@ -354,8 +390,7 @@ impl<O: Outside> Files<O> {
         Ok(Collected { deleted, failed })
     }
 
-    /// Makes these bytes the text of `meta.json`: what was written before is kept by then, and the
-    /// text is kept afterwards.
+    /// Makes these bytes the text of `meta.json`. The directory is synced before and afterwards.
     pub(crate) fn save_meta(&mut self, text: &[u8]) -> Result<(), TantivyError>
         ensures saves { OnOk result (SavesMeta O.Directory self.old self.new text.now) }
         ensures others { O.told.content → KeepsOtherFiles (O.view self.old.outside).reads

@@ -186,6 +186,7 @@ impl<O: Outside> IndexStore<O> {
             Event::Reader(policy) => self.reader(*policy),
             Event::Reload(number) => self.reload(*number),
             Event::ReleaseSegment(id) => self.release_segment(*id),
+            Event::Validate => self.validate(),
             _ => unreachable!(),
         }
     }

@@ -21,6 +21,7 @@ mod names;
 mod opening;
 mod reader_events;
 mod readers;
+mod report_events;
 mod snapshot;
 
 pub use index_store::IndexStore;

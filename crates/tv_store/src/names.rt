@@ -1,6 +1,6 @@
 //! The names of the files of segments.
-ghost use Rattle.std.specs.Prelude.{◌≡◌, ◌++◌, [], ◌∷◌, List, ℕ, IfOk, OnOk, map, not, string_bytes, true};
-ghost use Rattle.std.specs.List.{flat_map};
+ghost use Rattle.std.specs.Prelude.{◌≡◌, ◌++◌, [], ◌∷◌, List, ℕ, IfOk, OnOk, filter, map, not, string_bytes, true};
+ghost use Rattle.std.specs.List.{flat_map, list_all};
 ghost use Rattle.tv_model.specs.FileEvents.{lacks_deletes};
 ghost use Rattle.tv_model.specs.Index.{IsFileOf};
 ghost use Rattle.tv_model.specs.Living.{segment_names};
@@ -115,6 +115,49 @@ pub(crate) fn needed_names(
     push_all(alloc, &mut names, committed)?;
     push_all(alloc, &mut names, live)?;
     set_of(alloc, names)
+}
+
+/// The names that these segments have, whether there are such files or not, as a set.
+pub(crate) fn names_among(
+    alloc: Global,
+    segments: &[(SegmentId, LiveSegment)],
+) -> Result<BTreeSet<String>, Memory>
+    ensures { IfOk result (λ set. (n : List ℕ) → has (map string_bytes set.keys) n
+        ≡ has (flat_map segment_names segments.now) n) }
+{
+    let mut names = Vec::new(alloc);
+    push_all(alloc, &mut names, segments)?;
+    set_of(alloc, names)
+}
+
+// Adds a name that is a text in a set.
+fn push_text(alloc: Global, names: &mut Vec<FileName>, text: &String) -> Result<(), Memory>
+    requires { is_plain (string_bytes text.now) ≡ true }
+    ensures { OnOk result (names.new.items ≡ names.old.items ++ string_bytes text.now ∷ []) }
+{
+    let text = String::from_str(alloc, text.as_str())?;
+    names.push(FileName::new(text))?;
+    Ok(())
+}
+
+/// Those of some names that are among others, in their order.
+pub(crate) fn shared_names(
+    alloc: Global,
+    names: &BTreeSet<String>,
+    others: &BTreeSet<String>,
+) -> Result<Vec<FileName>, Memory>
+    requires { list_all is_plain (map string_bytes names.now.keys) ≡ true }
+    ensures { IfOk result (λ shared. shared.items
+        ≡ filter (λ name. has (map string_bytes others.now.keys) name)
+        (map string_bytes names.now.keys)) }
+{
+    let mut shared = Vec::new(alloc);
+    for name in names {
+        if others.contains(name.as_str()) {
+            push_text(alloc, &mut shared, name)?;
+        }
+    }
+    Ok(shared)
 }
 
 // Whether a segment has to have such a file sealed: each but the delete file where none is deleted.

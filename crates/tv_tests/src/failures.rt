@@ -1,5 +1,5 @@
 //! What the library's one large error says, as far as tests look at it.
-use tv_base::{DataCorruption, IoKind, OpenWriteError, TantivyError};
+use tv_base::{DataCorruption, IoKind, OpenReadError, OpenWriteError, TantivyError};
 
 #[derive(Clone, Copy)]
 pub(crate) enum Failure<'a> {
@@ -10,6 +10,14 @@ pub(crate) enum Failure<'a> {
     Corrupt(&'a str),
     System(&'a str),
     Poisoned,
+    // An argument is refused, with this text.
+    Argument(&'a str),
+    // The schema is refused, with this text.
+    Schema(&'a str),
+    // There is no file of this name.
+    Missing(&'a str),
+    // This argument of a builder is missing.
+    Unbuilt(&'a str),
     Other,
 }
 
@@ -28,6 +36,12 @@ pub(crate) fn failure_of(error: &TantivyError) -> Failure<'_> {
         ) => Failure::Corrupt(path.as_str()),
         TantivyError::SystemError(text) => Failure::System(text.as_str()),
         TantivyError::Poisoned => Failure::Poisoned,
+        TantivyError::InvalidArgument(text) => Failure::Argument(text.as_str()),
+        TantivyError::SchemaError(text) => Failure::Schema(text.as_str()),
+        TantivyError::OpenReadError(OpenReadError::FileDoesNotExist(path)) => {
+            Failure::Missing(path.as_str())
+        }
+        TantivyError::IndexBuilderMissingArgument(text) => Failure::Unbuilt(text.as_str()),
         _ => Failure::Other,
     }
 }

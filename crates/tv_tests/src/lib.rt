@@ -19,15 +19,21 @@ mod compare;
 #[cfg(test)]
 mod composites;
 #[cfg(test)]
+mod desks;
+#[cfg(test)]
 mod empty;
 #[cfg(test)]
 mod error_texts;
 #[cfg(test)]
 mod failures;
 #[cfg(test)]
+mod folders;
+#[cfg(test)]
 mod footers;
 #[cfg(test)]
 mod future_results;
+#[cfg(test)]
+mod index;
 #[cfg(test)]
 mod inventory;
 #[cfg(test)]

@@ -77,6 +77,7 @@ fn laws_are_called() {
     laws::collections_take_what_nothing_needs();
     laws::lines_tell_outcomes();
     laws::reports_determine_runs();
+    laws::validations_name_damaged_files();
     laws::files_keep_their_body();
     laws::meta_json_keeps_commits();
     laws::stripped_schemas_are_texts();

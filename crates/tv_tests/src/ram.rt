@@ -7,7 +7,7 @@ use std::alloc::Global;
 use std::process::Abort;
 use tv_directory::{Directory, RamDirectory};
 
-const FILES: &[Step] = &[
+pub(crate) const FILES: &[Step] = &[
     (Call::Exists, "test", "", Want::Is(false)),
     (Call::OpenRead, "test", "", Want::Absent),
     (Call::GetFileHandle, "test", "", Want::Absent),

@@ -33,7 +33,7 @@ impl WatchCall for Counts {
 }
 
 // A callback of the number, in a box.
-fn boxed<R: Abort>(
+pub(crate) fn boxed<R: Abort>(
     rt: &R,
     alloc: Global,
     number: &Arc<AtomicU64>,
@@ -202,7 +202,7 @@ fn is_noticed<R: Abort, D: Directory>(rt: &R, directory: &mut D, name: &str) -> 
 }
 
 // Both callbacks are noticed of a new commit, and then the second one alone.
-fn watch_both<R: Abort, D: Directory>(
+pub(crate) fn watch_both<R: Abort, D: Directory>(
     rt: &R,
     directory: &mut D,
     one: D::Callback,

@@ -17,6 +17,12 @@ returns-in-ReleaseSegment g c =
     acts_on_files g.O.Directory c.args.self.now c.release_segment.new.self c.args.event.now _ c.in-ReleaseSegment.is c.release_segment.result (λ o n same. same) _ (λ o n h. h.kept) ⊥ (λ never. absurd never) (λ s. tt) (λ takes. takes)
     did.step (λ bound h. at_most bound 0 c.release_segment.new.self.kept (did.lens bound h)) did.does
 
+pub returns-in-Validate : goal.returns-in-Validate
+returns-in-Validate g c =
+    let did = c.validate.ensures in
+    acts_on_files g.O.Directory c.args.self.now c.validate.new.self c.args.event.now _ c.in-Validate.is c.validate.result (λ o n same. same) _ (λ o n h. h.kept) ⊥ (λ never. absurd never) (λ s. tt) (λ takes. takes)
+    did.step (λ bound h. at_most bound 0 c.validate.new.self.kept (did.lens bound h)) did.does
+
 pub returns-in-Open : goal.returns-in-Open
 returns-in-Open g c =
     let did = c.open_file.ensures in

@@ -1,4 +1,4 @@
-use Rattle.std.proofs.Common.{◌++◌, ◌∷◌, [], List, ℕ, ◌<◌, ◌^◌, ap, subst, ◌∙◌, arith}
+use Rattle.std.proofs.Common.{◌++◌, ◌∷◌, [], ap, ◌∙◌}
 use Rattle.std.specs.List.{AllByRecursion}
 use Rattle.tv_model.specs.Commits.{Commit, IndexForm, IsSegment, printed}
 use Rattle.tv_store.proofs.FoundStates.{means_commit}

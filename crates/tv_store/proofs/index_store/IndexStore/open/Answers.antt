@@ -1,8 +1,8 @@
 use Rattle.std.proofs.Common.{◌≡◌, ℕ, List, true, Err, sym, subst}
 use Rattle.tv_directory.specs.Locks.{LockCause, TakesLock}
-use Rattle.tv_store.specs.Opening.{OpeningFaults}
-use Rattle.tv_store.proofs.Opened.{opens, tells, takes, fails, stays}
-use Rattle.tv_store.proofs.Unopened.{unlocked_fails}
+use Rattle.tv_store.specs.Opening.{LeavesIndex, OpeningFaults}
+use Rattle.tv_store.proofs.Opened.{opens, leaves, tells, takes, fails, stays}
+use Rattle.tv_store.proofs.Unopened.{no_first, unlocked_fails, unlocked_leaves}
 use Rattle.tv_store.proofs.index_store.IndexStore.open.Goals as goal
 
 pub returns-in-Ok-clause-opens : goal.returns-in-Ok-clause-opens
@@ -11,6 +11,14 @@ returns-in-Ok-clause-opens g c =
     let found = c.in_ok-form.field-0 in
     let locked = c.acquire_lock.new.self in
     opens D c.args.outside c.args.schema.now found.form found.catalog found.files locked c.in_ok-form.ensures.found c.in-Ok.ensures.frame c.begin.result c.begin.ensures.begun c.begin.ensures.refused c.in-Ok.ensures.faults.quiet
+    (subst (λ n. D.told.locks → TakesLock (D.view found.files.outside).locks (D.view locked.outside).locks n) c.index_writer_lock.ensures.name c.in-Ok.ensures.acquires.ok)
+
+pub returns-in-Ok-clause-leaves : goal.returns-in-Ok-clause-leaves
+returns-in-Ok-clause-leaves g c =
+    let D = g.O.Directory in
+    let found = c.in_ok-form.field-0 in
+    let locked = c.acquire_lock.new.self in
+    leaves D c.args.outside c.args.schema.now found.form found.catalog found.files locked c.in_ok-form.ensures.found c.in-Ok.ensures.frame c.begin.result c.begin.ensures.begun c.begin.ensures.refused c.in-Ok.ensures.faults.quiet
     (subst (λ n. D.told.locks → TakesLock (D.view found.files.outside).locks (D.view locked.outside).locks n) c.index_writer_lock.ensures.name c.in-Ok.ensures.acquires.ok)
 
 pub returns-in-Ok-clause-tells : goal.returns-in-Ok-clause-tells
@@ -58,3 +66,13 @@ returns-in-Err-clause-faults g c =
       busy = λ t. subst (λ (n : List ℕ). LockCause ((D.view found.files.outside).locks n ≡ true) (Unit {0}) (Unit {0}) c.in-Err.error) c.index_writer_lock.ensures.name (failed.faults.busy t);
       cause = failed.faults.cause;
     }))
+
+pub returns-in-Err-clause-leaves : goal.returns-in-Err-clause-leaves
+returns-in-Err-clause-leaves g c =
+    let D = g.O.Directory in
+    let found = c.in_ok-form.field-0 in
+    let locked = c.acquire_lock.new.self in
+    let frame = c.in-Err.ensures.frame in
+    subst (λ d. LeavesIndex D c.args.outside c.args.schema.now (record { error = c.from.result; directory = d })) (sym c.into_outside.ensures)
+    (unlocked_leaves D c.args.outside c.args.schema.now found.form found.catalog found.files locked c.in_ok-form.ensures.found frame c.from.result
+    (no_first D c.args.outside c.args.schema.now found.form found.catalog found.files locked c.in_ok-form.ensures.found frame c.from.result c.in-Err.error (sym c.from.ensures)))

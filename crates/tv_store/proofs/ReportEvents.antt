@@ -1,0 +1,184 @@
+-- The event that reports on files: whether a file is intact, by what the directory answers and by what is held, and which files are looked at.
+use Rattle.std.proofs.Common.{◌≡◌, ◌≢◌, inl, inr, ℕ, ◌+◌, ◌<◌, Bool, true, false, true≢false, cond, not, List, [], ◌∷◌, ◌++◌, length, take, get_or, filter, codes, Option, Some, None, is_some, refl, sym, ap, subst, ◌∙◌, Ok, Err, ◌⊎◌}
+use Rattle.std.specs.Prelude.{find, is_none, option_and_then, Result, IfOk, OnOk, OnErr}
+use Rattle.std.specs.List.{flat_map, AllByRecursion}
+use Rattle.std.proofs.lemmas.List.{take_more}
+use Rattle.tv_base.specs.Causes.{IsDevice}
+use Rattle.tv_base.specs.declared.error.TantivyError.{TantivyError}
+use Rattle.tv_base.specs.declared.io.IoFault.{IoFault}
+use Rattle.tv_base.specs.declared.io.IoKind.TheVariants.{Device}
+use Rattle.tv_directory.specs.View.{OnlyReads}
+use Rattle.tv_directory.specs.declared.directory.Directory.{Ghosts}
+use Rattle.tv_managed.specs.Reading.{HasNoFooter, ReadsSuch, TellsChecksum}
+use Rattle.tv_model.specs.declared.segment.LiveSegment.{LiveSegment}
+use Rattle.tv_model.specs.Commits.{IsSegment}
+use Rattle.tv_model.specs.Files.{Reads}
+use Rattle.tv_model.specs.Framing.{is_intact}
+use Rattle.tv_model.specs.Index.{IsFileOf}
+use Rattle.tv_model.specs.Lines.{line}
+use Rattle.tv_model.specs.Living.{segment_names}
+use Rattle.tv_model.specs.Names.{has, is, meta_name}
+use Rattle.tv_model.specs.ReportEvents.{committed_names, damaged_files, intact_at, is_damaged, validated}
+use Rattle.tv_model.specs.Segments.{components}
+use Rattle.tv_model.specs.State.{State, FileState, Sealed, Open, Left, at, file_at}
+use Rattle.tv_model.proofs.Entries.{is_text}
+use Rattle.tv_model.proofs.Framing.{intact_again, intact_none}
+use Rattle.tv_model.proofs.Required.{by_one}
+use Rattle.tv_store.specs.Acting.{OnFiles}
+use Rattle.tv_store.specs.FileCalls.{intact_in}
+use Rattle.tv_store.specs.Kept.{Kept, StoreState, FileHolds, Holds, is_left}
+use Rattle.tv_store.specs.Stays.{AsksOrFails}
+use Rattle.tv_store.proofs.CommitEvents.{all_joined, files_named}
+use Rattle.tv_store.proofs.FoundStates.{means_commit}
+
+-- ---- by what the directory answers
+
+-- the checksum in the footer is compared
+pub tells_intact : (was : Option (List ℕ)) (is_right : Bool) → ReadsSuch was (λ bytes. TellsChecksum bytes is_right) → Some is_right ≡ option_and_then is_intact was
+tells_intact was is_right h =
+    let says = h.2 in
+    ap (λ (b : Bool). Some b) says.says ∙ sym (intact_again h.0 says.footer says.body says.framed) ∙ ap (option_and_then is_intact) (sym h.1)
+
+-- there is no such file
+pub absent_intact : (was : Option (List ℕ)) → was ≡ None → None ≡ option_and_then is_intact was
+absent_intact was e = rw e refl
+
+-- it has no footer
+pub bad_intact : (was : Option (List ℕ)) → ReadsSuch was HasNoFooter → None ≡ option_and_then is_intact was
+bad_intact was h = sym (ap (option_and_then is_intact) h.1 ∙ intact_none h.0 h.2)
+
+absent : (written : Option (List ℕ)) → is_some written ≡ false → written ≡ None
+absent None e = refl
+absent (Some body) e = absurd (true≢false e)
+
+-- seen from the directory's value, of a file that isn't open and wasn't left
+pub intact_answer : {S : Type 0} (reads : S → Reads) (inside old : S) (asked name : List ℕ) (written : Option (List ℕ)) (left : Bool) (found : Option Bool)
+    → inside ≡ old → asked ≡ name → found ≡ option_and_then is_intact (reads inside asked) → is_some written ≡ false → left ≡ false → found ≡ intact_in (reads old name) written left
+intact_answer {S} reads inside old asked name written left found same text answer none stays =
+    answer ∙ ap (λ (s : S). option_and_then is_intact (reads s asked)) same ∙ ap (λ (n : List ℕ). option_and_then is_intact (reads old n)) text ∙ sym (rw (absent written none, stays) refl)
+
+-- where nothing was found but a device that refused the call
+pub fault_intact : {S : Type 0} (reads : S → Reads) (inside old : S) (asked name : List ℕ) (written : Option (List ℕ)) (left : Bool) (fault : IoFault) (result : Result (Option Bool) TantivyError)
+    → IfOk result (λ found. found ≡ None) → OnOk result (fault.kind ≢ Device) → inside ≡ old → asked ≡ name → (IsDevice fault × Unit {0}) ⊎ ReadsSuch (reads inside asked) HasNoFooter → is_some written ≡ false → left ≡ false
+    → IfOk result (λ found. found ≡ intact_in (reads old name) written left)
+fault_intact reads inside old asked name written left fault (Err e) nothing other same text why none stays = tt
+fault_intact reads inside old asked name written left fault (Ok found) nothing other same text (inl device) none stays = absurd (other device.0)
+fault_intact reads inside old asked name written left fault (Ok found) nothing other same text (inr bad) none stays =
+    nothing ∙ intact_answer reads inside old asked name written left None same text (bad_intact (reads inside asked) bad) none stays
+
+-- nothing is said of an open file, and of one that was left
+pub open_intact : (read written : Option (List ℕ)) (left : Bool) → is_some written ≡ true → None ≡ intact_in read written left
+open_intact read None left h = absurd (true≢false (sym h))
+open_intact read (Some body) left h = refl
+
+pub left_intact : (read written : Option (List ℕ)) (left : Bool) → left ≡ true → None ≡ intact_in read written left
+left_intact read None left h = rw h refl
+left_intact read (Some body) left h = refl
+
+-- ---- by what is held
+
+intact_held : (file : Option FileState) (read written : Option (List ℕ)) → FileHolds file read written → intact_in read written (is_left file) ≡ intact_at file
+intact_held None read written h = rw (h.0, h.1) refl
+intact_held (Some (Sealed bytes)) read written h = rw (h.0, h.1) refl
+intact_held (Some (Open body)) read written h = rw h.1 refl
+intact_held (Some Left) read written h = rw h.1 refl
+
+pub held_intact : (reads : Reads) (kept : Kept) (s : State) (name : List ℕ) → Holds reads kept s → IsFileOf name → intact_in (reads name) (at kept.open_files name) (has kept.left name) ≡ intact_at (file_at s name)
+held_intact reads kept s name h file = ap (intact_in (reads name) (at kept.open_files name)) (h.left name) ∙ intact_held (file_at s name) (reads name) (at kept.open_files name) (h.files name file)
+
+-- ---- the files that are looked at
+
+-- tests that agree pass the same names
+pub filter_same : (p q : List ℕ → Bool) (names : List (List ℕ)) → ((n : List ℕ) → p n ≡ q n) → filter p names ≡ filter q names
+filter_same p q [] h = refl
+filter_same p q (x ∷ names) h =
+    rw (h x) (ap (λ (rest : List (List ℕ)). cond (q x) (x ∷ rest) rest) (filter_same p q names h))
+
+-- one name more
+pub filter_more : (p : List ℕ → Bool) (names : List (List ℕ)) (name : List ℕ) → filter p (names ++ name ∷ []) ≡ filter p names ++ cond (p name) (name ∷ []) []
+filter_more p [] name = refl
+filter_more p (x ∷ names) name =
+    elim (p x) as (λ b. cond b (x ∷ filter p (names ++ name ∷ [])) (filter p (names ++ name ∷ [])) ≡ cond b (x ∷ filter p names) (filter p names) ++ cond (p name) (name ∷ []) []) [
+      | true ↦ ap (λ (rest : List (List ℕ)). x ∷ rest) (filter_more p names name)
+      | false ↦ filter_more p names name
+    ]
+
+all_had : (P : List ℕ → Type 0) (names : List (List ℕ)) (n : List ℕ) → AllByRecursion P names → has names n ≡ true → P n
+all_had P [] n h e = absurd cc
+all_had P (x ∷ names) n h e = by_one (is x n) (has names n) e (λ t. subst P (is_text x n t) h.0) (λ t. all_had P names n h.1 t)
+
+passed : (P : List ℕ → Type 0) (b : Bool) (x : List ℕ) (xs : List (List ℕ)) → (b ≡ true → P x) → AllByRecursion P xs → AllByRecursion P (cond b (x ∷ xs) xs)
+passed P true x xs here h = (here refl, h)
+passed P false x xs here h = h
+
+all_passed : (P : List ℕ → Type 0) (test : List ℕ → Bool) (names : List (List ℕ)) → ((n : List ℕ) → test n ≡ true → P n) → AllByRecursion P (filter test names)
+all_passed P test [] h = tt
+all_passed P test (x ∷ names) h = passed P (test x) x (filter test names) (h x) (all_passed P test names h)
+
+names_are_files : (segments : List (List ℕ × LiveSegment)) → AllByRecursion IsSegment segments → AllByRecursion IsFileOf (flat_map segment_names segments)
+names_are_files [] h = tt
+names_are_files (e ∷ segments) h = all_joined IsFileOf (segment_names e) (flat_map segment_names segments) (files_named e.0 e.1.deletes components h.0.id) (names_are_files segments h.1)
+
+-- the managed names of the commit's segments are those of files
+pub committed_are_files : (reads : Reads) (kept : Kept) (s : State) → Holds reads kept s → AllByRecursion IsFileOf (committed_names s.catalog s.managed)
+committed_are_files reads kept s h =
+    let segments = s.catalog.commit.segments in
+    let means = h.meta.2 in
+    let is_commit = (means_commit kept.form.settings kept.form.schema h.meta.0 s.catalog.commit means).0 in
+    all_passed IsFileOf (λ name. has (flat_map segment_names segments) name) s.managed (λ n e. all_had IsFileOf (flat_map segment_names segments) n (names_are_files segments is_commit.segments) e)
+
+-- ---- a validation, one file further
+
+abbrev pub unread : State → List ℕ → Bool
+unread s name = is_none (intact_at (file_at s name))
+
+-- the line with one name more, where that file is damaged
+pub damaged_more : (s : State) (names : List (List ℕ)) (i : ℕ) (name : List ℕ) (intact : Bool) → i < length names → name ≡ get_or names i name → Some intact ≡ intact_at (file_at s name)
+    → line (line (codes "damaged") (damaged_files s (take i names))) (cond intact [] (name ∷ [])) ≡ line (codes "damaged") (damaged_files s (take (i + 1) names))
+damaged_more s names i name intact within is said =
+    let test = λ (n : List ℕ). is_damaged (intact_at (file_at s n)) in
+    let here : cond (test name) (name ∷ []) [] ≡ cond intact [] (name ∷ []) = ap (λ (o : Option Bool). cond (is_damaged o) (name ∷ []) []) (sym said) ∙ swapped intact in
+    line_joined (codes "damaged") (damaged_files s (take i names)) (cond intact [] (name ∷ []))
+    ∙ ap (line (codes "damaged")) (ap (λ (more : List (List ℕ)). damaged_files s (take i names) ++ more) (sym here) ∙ sym (filter_more test (take i names) name)
+    ∙ ap (filter test) (sym (take_more names i name within ∙ ap (λ (n : List ℕ). take i names ++ n ∷ []) (sym is)))) where
+      swapped : (b : Bool) → cond (not b) (name ∷ []) [] ≡ cond b [] (name ∷ [])
+      swapped true = refl
+      swapped false = refl
+
+      line_joined : (text : List ℕ) (words more : List (List ℕ)) → line (line text words) more ≡ line text (words ++ more)
+      line_joined text [] more = refl
+      line_joined text (word ∷ words) more = line_joined (text ++ 32 ∷ word) words more
+
+-- what is told where each file can be read, and where one can't
+pub validated_all : (s : State) (names : List (List ℕ)) → find (unread s) names ≡ None → (validated s names).0 ≡ line (codes "damaged") (damaged_files s names)
+validated_all s names e = rw e refl
+
+pub validated_none : (s : State) (names : List (List ℕ)) (name : List ℕ) → find (unread s) names ≡ Some name → (validated s names).0 ≡ line (codes "refused") (codes "unreadable" ∷ name ∷ [])
+validated_none s names name e = rw e refl
+
+pub validated_same : (s : State) (names : List (List ℕ)) → (validated s names).1 ≡ s
+validated_same s names = by_found (find (unread s) names) refl where
+  by_found : (found : Option (List ℕ)) → find (unread s) names ≡ found → (validated s names).1 ≡ s
+  by_found None e = rw e refl
+  by_found (Some name) e = rw e refl
+
+-- ---- an event that only asks
+
+on_err : {A E : Type 0} (result : Result A E) (P : Type 0) → P → OnErr result P
+on_err (Ok a) P h = tt
+on_err (Err e) P h = h
+
+-- what it does beside its step
+pub asks_on_files : {O W C : Type 0} (g : Ghosts O W C) (old new : StoreState O) (result : Result (List ℕ) TantivyError) → AsksOrFails g old new result → IfOk result (λ answer. length answer < (g.view new.outside).room) → OnFiles g (OnlyReads g.told) ⊥ old new result
+asks_on_files g old new result asks room =
+    let below = asks.frame.below in
+    record {
+      room = room;
+      faults = asks.faults;
+      meta = λ tells. on_err result ((g.view new.outside).reads meta_name ≡ (g.view old.outside).reads meta_name) (below.content tells meta_name);
+      dotted = λ tells n dot other. below.content tells n;
+      frame = record {
+        stays = record { form = ap (λ (k : Kept). k.form) asks.frame.kept; is_open = asks.frame.is_open; below = below };
+        reading = ap (λ (k : Kept). k.catalog.reading) asks.frame.kept;
+      };
+    }

@@ -1,0 +1,46 @@
+use Rattle.std.proofs.Common.{◌≡◌, ◌<◌, ℕ, List, [], ◌∷◌, true, cond, length, Some, sym, ap, ◌∙◌, arith}
+use Rattle.std.specs.Prelude.{is_none}
+use Rattle.std.proofs.lemmas.Result.{IfOk-weaker}
+use Rattle.tv_model.specs.Index.{IsFileOf}
+use Rattle.tv_model.specs.Lines.{line}
+use Rattle.tv_model.specs.ReportEvents.{intact_at}
+use Rattle.tv_model.specs.State.{file_at}
+use Rattle.tv_store.proofs.Asking.{asks_later}
+use Rattle.tv_store.proofs.CommitEvents.{all_at, find_further, find_here}
+use Rattle.tv_store.proofs.Holding.{same_holds}
+use Rattle.tv_store.proofs.ReportEvents.{damaged_more, unread, validated_none}
+use Rattle.tv_store.proofs.index_store.IndexStore.validate_files.Goals as goal
+
+pub returns-in_default-clause-answer : goal.returns-in_default-clause-answer
+returns-in_default-clause-answer g c tells s held files =
+    let D = g.O.Directory in
+    let names = c.args.names.now in
+    let so_far = c.loop-name.invariant in
+    let now = same_holds (D.view c.args.self.now.outside).reads (D.view c.loop-name.self.outside).reads c.args.self.now.kept c.loop-name.self.kept s (so_far.asks.below.content tells) so_far.asks.kept held in
+    let within : c.loop-name.name-index < length c.args.names.now = omega arith in
+    let file : IsFileOf c.name-item.result = all_at IsFileOf c.args.names.now c.loop-name.name-index c.name-item.result files within c.name-item.is in
+    let here : unread s c.name-item.result ≡ true = ap is_none (sym (c.in_ok-is_intact.ensures.found tells s now file) ∙ c.in_default.is) in
+    IfOk-weaker c.refuse_unreadable.result _ _ (λ answer is.
+    is ∙ sym (validated_none s names c.name-item.result (find_here (unread s) names c.loop-name.name-index c.name-item.result within c.name-item.is (so_far.told tells s held files).0 here))) c.refuse_unreadable.ensures.answer
+
+pub loop-name-preserved : goal.loop-name-preserved
+loop-name-preserved g c =
+    let D = g.O.Directory in
+    let names = c.args.names.now in
+    let so_far = c.loop-name.invariant in
+    let asked = c.in_ok-is_intact.ensures in
+    let intact = c.in-Some.is_intact in
+    record {
+      told = λ tells s held files.
+          let now = same_holds (D.view c.args.self.now.outside).reads (D.view c.loop-name.self.outside).reads c.args.self.now.kept c.loop-name.self.kept s (so_far.asks.below.content tells) so_far.asks.kept held in
+          let within : c.loop-name.name-index < length c.args.names.now = omega arith in
+          let file : IsFileOf c.name-item.result = all_at IsFileOf c.args.names.now c.loop-name.name-index c.name-item.result files within c.name-item.is in
+          let said : Some c.in-Some.is_intact ≡ intact_at (file_at s c.name-item.result) = sym c.in-Some.is ∙ asked.found tells s now file in
+          let before = so_far.told tells s held files in (
+            find_further (unread s) names c.loop-name.name-index c.name-item.result within c.name-item.is before.0 (ap is_none (sym said)),
+            c.in_ok-answer-2.ensures ∙ ap (λ (t : List ℕ). line t (cond intact [] (c.name-item.result ∷ []))) before.1
+                ∙ damaged_more s names c.loop-name.name-index c.name-item.result intact within c.name-item.is said,
+          );
+      asks = asks_later so_far.asks asked.asks.frame;
+      quiet = asked.asks.faults.quiet ∙ so_far.quiet;
+    }
