@@ -13,32 +13,11 @@ import tempfile
 import time
 import zlib
 
-HERE = pathlib.Path(__file__).resolve().parent
-CRATE = HERE.parent / "crates" / "tv_checksum_timings"
-PROGRAM = CRATE / "out" / "tv_checksum_timings"
+import common
+
 BYTES = 64 << 20
 RUNS = 5
 LIMIT = 0.5
-
-
-def build():
-    """Proves and builds the program, where that isn't done yet."""
-    done = subprocess.run(
-        ["rt", "run"], cwd=CRATE, stdin=subprocess.DEVNULL, stdout=subprocess.DEVNULL
-    )
-    if done.returncode != 0 or not PROGRAM.exists():
-        sys.exit("the program could not be built")
-
-
-def compiled(folder):
-    """The program that calls zlib, or None where it can't be built, as without zlib's header."""
-    program = pathlib.Path(folder) / "zlib_crc32"
-    command = ["cc", "-O2", "-o", program, HERE / "zlib_crc32.c", "-lz"]
-    try:
-        done = subprocess.run(command, stderr=subprocess.DEVNULL)
-    except FileNotFoundError:
-        return None
-    return program if done.returncode == 0 else None
 
 
 def told_by(command, file):
@@ -64,16 +43,15 @@ def main():
     parser.add_argument("--built", action="store_true", help="take the program as it lies there")
     parser.add_argument("--rounds", type=int, default=5, help="how often both are run, in turn")
     arguments = parser.parse_args()
-    if not arguments.built:
-        build()
+    timings = common.program_of("tv_checksum_timings", arguments.built)
     ours, theirs = [], []
     with tempfile.TemporaryDirectory() as folder:
         bytes = random.Random(0).randbytes(BYTES)
         file = pathlib.Path(folder) / "bytes"
         file.write_bytes(bytes)
-        program = compiled(folder)
+        program = common.compiled("zlib_crc32.c", folder, "-lz")
         for _ in range(arguments.rounds):
-            sum, nanos = told_by([PROGRAM, "time"], file)
+            sum, nanos = told_by([timings, "time"], file)
             ours.append(nanos)
             want, nanos = told_by([program], file) if program else told_by_python(bytes)
             theirs.append(nanos)

@@ -6,14 +6,13 @@ longest script may be at most 12 times those for the one before it, which has a 
 """
 
 import argparse
-import pathlib
 import subprocess
 import sys
 import tempfile
 import time
 
-CRATE = pathlib.Path(__file__).resolve().parent.parent / "crates" / "tv"
-PROGRAM = CRATE / "out" / "tv"
+import common
+
 ID = "a5c4dfcbdfe645089129e308e26d5523"
 BYTES = 64
 LINES = [1_000, 10_000, 100_000]
@@ -34,26 +33,13 @@ def report_of(lines):
     return "".join(f"{line}\n" for line in told)
 
 
-def build():
-    """Proves and builds the program, where that isn't done yet."""
-    done = subprocess.run(
-        ["rt", "run", "--", "replay", "F", "S"],
-        cwd=CRATE,
-        stdin=subprocess.DEVNULL,
-        stdout=subprocess.DEVNULL,
-    )
-    if done.returncode != 0 or not PROGRAM.exists():
-        sys.exit("the program could not be built")
-
-
-def seconds_of(script, report):
+def seconds_of(program, script, report):
     """How long the program takes for a script, whose report is looked at."""
-    with tempfile.TemporaryFile() as told:
+    with tempfile.TemporaryDirectory() as place, tempfile.TemporaryFile() as told:
+        words = common.replay_in(place)
         script.seek(0)
         start = time.perf_counter()
-        done = subprocess.run(
-            [PROGRAM, "replay", "F", "S"], stdin=script, stdout=told
-        )
+        done = subprocess.run([program, *words], stdin=script, stdout=told)
         seconds = time.perf_counter() - start
         told.seek(0)
         if done.returncode != 0 or told.read().decode() != report:
@@ -66,14 +52,13 @@ def main():
     parser.add_argument("--built", action="store_true", help="take the program as it lies there")
     parser.add_argument("--runs", type=int, default=5, help="runs of each script, the fastest counts")
     arguments = parser.parse_args()
-    if not arguments.built:
-        build()
+    program = common.tv(arguments.built)
     fastest = {}
     for lines in LINES:
         report = report_of(lines)
         with tempfile.TemporaryFile() as script:
             script.write(script_of(lines).encode())
-            fastest[lines] = min(seconds_of(script, report) for _ in range(arguments.runs))
+            fastest[lines] = min(seconds_of(program, script, report) for _ in range(arguments.runs))
         print(f"{lines} lines: {fastest[lines]:.4f} s, {lines / fastest[lines]:.0f} lines a second")
     _, middle, longest = LINES
     factor = fastest[longest] / fastest[middle]
