@@ -1,149 +1,23 @@
-//! Times collections: how long one takes for each name that it deletes. Without the word `gc` it prints
-//! nothing, so that what it prints is the same each time the tests run it.
+//! Times what an index does: the word `gc` has collections timed, and the word `open` openings and
+//! commits. Without a word it prints nothing, so that what it prints is the same each time the tests
+//! run it.
 #![tactic(auto)]
 
-use std::alloc::Global;
+mod collections;
+mod openings;
+mod segments;
+
 use std::env;
 use std::process::ExitCode;
-use std::time::{Clock, Instant};
-use tv_base::TantivyError;
-use tv_directory::{Bench, NoWatch};
-use tv_managed::Refused;
-use tv_model::{Answer, Event, SegmentComponent, SegmentId};
-use tv_replay::IndexStore;
-
-// The schema without fields.
-const SCHEMA: &str = "[]";
-
-// The files of a segment.
-const COMPONENTS: [SegmentComponent; 5] = [
-    SegmentComponent::Postings,
-    SegmentComponent::Positions,
-    SegmentComponent::FastFields,
-    SegmentComponent::FieldNorms,
-    SegmentComponent::Terms,
-];
-
-const FILES: u32 = 5;
-
-// How many names are deleted, of twice as many files.
-const SIZES: [u32; 3] = [100, 500, 2_000];
-
-// How often each is timed. The fastest counts.
-const RUNS: u32 = 5;
-
-// How much longer a name of the last size may take than one of the first, in percent.
-const LIMIT: u64 = 150;
-
-// The index in a directory in memory.
-type Store = IndexStore<Bench<NoWatch>>;
-
-// The segment of this number.
-fn segment(number: u32) -> SegmentId {
-    let [a, b, c, d] = number.to_be_bytes();
-    SegmentId::from_bytes([0, 0, 0, 0, 0, 0, 0, 0, 0, 0, 0, 0, a, b, c, d])
-}
-
-fn apply(store: &mut Store, event: &Event) -> Result<Answer, TantivyError> {
-    if !store.is_open() {
-        return Err(TantivyError::Poisoned);
-    }
-    store.apply(event)
-}
-
-// Gives an index a segment with these files.
-fn add(store: &mut Store, id: SegmentId) -> Result<(), TantivyError> {
-    apply(store, &Event::Segment(id))?;
-    for component in COMPONENTS {
-        apply(store, &Event::Open(id, component))?;
-        apply(store, &Event::Seal(id, component))?;
-    }
-    Ok(())
-}
-
-// Gives an index twice as many files. Every other segment is released, so that its files aren't needed.
-fn fill(store: &mut Store, names: u32) -> Result<(), TantivyError> {
-    for number in 0..names.saturating_mul(2) / FILES {
-        let id = segment(number);
-        add(store, id)?;
-        if number % 2 == 1 {
-            apply(store, &Event::ReleaseSegment(id))?;
-        }
-    }
-    Ok(())
-}
-
-// How many names a collection deleted: its answer is `gc deleted`, these names, and `failed`.
-fn deleted(answer: &Answer) -> usize {
-    let words = answer.as_slice().split(|byte| *byte == b' ').count();
-    words.saturating_sub(3)
-}
-
-// How many nanoseconds a collection takes for a name.
-fn time(rt: &impl Clock, store: &mut Store, names: u32) -> anyhow::Result<u64> {
-    fill(store, names)?;
-    let start = Instant::now(rt)?;
-    let answer = apply(store, &Event::Gc)?;
-    let took = start.elapsed(rt)?;
-    if deleted(&answer) != names as usize {
-        anyhow::bail!("the collection deleted something else");
-    }
-    let nanos = u64::try_from(took.as_nanos()).unwrap_or(u64::MAX);
-    Ok(nanos / u64::from(names.max(1)))
-}
-
-// The same over a new index.
-fn nanos(rt: &impl Clock, alloc: Global, names: u32) -> anyhow::Result<u64> {
-    let bench = Bench::new(alloc, Vec::new(alloc))?;
-    match IndexStore::open(alloc, bench, SCHEMA.as_bytes()) {
-        Ok(mut store) => {
-            let nanos = time(rt, &mut store, names);
-            let _bench = store.into_outside();
-            nanos
-        }
-        Err(
-            Refused {
-                error,
-                directory: _,
-            },
-        ) => Err(anyhow::Error::from(error)),
-    }
-}
-
-// The fastest of some runs.
-fn fastest(rt: &impl Clock, alloc: Global, names: u32) -> anyhow::Result<u64> {
-    let mut least = u64::MAX;
-    for _ in 0..RUNS {
-        least = least.min(nanos(rt, alloc, names)?);
-    }
-    Ok(least)
-}
 
 fn main(rt: HostRuntime) -> anyhow::Result<ExitCode> {
     let alloc = rt.alloc();
-    if env::args(&rt)?.skip(1).next().is_none() {
+    let Some(word) = env::args(&rt)?.skip(1).next() else {
         return Ok(ExitCode::SUCCESS);
-    }
-    let mut first = None;
-    let mut last = 0;
-    for names in SIZES {
-        last = fastest(&rt, alloc, names)?;
-        first = first.or(Some(last));
-        println!(rt;
-            "{names} of {} files: {last} ns a deleted name",
-            names.saturating_mul(2)
-        )?;
-    }
-    let limit = first.unwrap_or(0).saturating_mul(LIMIT) / 100;
-    let word = if last <= limit {
-        "at most"
-    } else {
-        "MORE THAN"
     };
-    println!(rt; "the last takes {word} 1.5 times as long as the first")?;
-    Ok(if last <= limit {
-        ExitCode::SUCCESS
-    } else {
-        ExitCode::FAILURE
-    })
+    match word.as_str() {
+        "gc" => collections::time_all(&rt, alloc),
+        "open" => openings::time_all(&rt, alloc),
+        _ => anyhow::bail!("the words are `gc` and `open`"),
+    }
 }
