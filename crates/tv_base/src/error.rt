@@ -67,7 +67,7 @@ pub enum TantivyError {
     /// A file was not made.
     #[error("Failed to open file for write: '{0:?}'")]
     OpenWriteError(OpenWriteError),
-    /// An index stands where one was to be made. No call makes it yet.
+    /// An index stands where one was to be made.
     #[error("Index already exists")]
     IndexAlreadyExists,
     /// A lock was not taken. The text is `None`; tantivy has one here.

@@ -1,5 +1,5 @@
 -- A directory, and the sink to which its lines are told.
-use Rattle.std.specs.Prelude.{ℕ, ◌≡◌, ◌+◌, [], min}
+use Rattle.std.specs.Prelude.{ℕ, ◌+◌, [], min}
 use Rattle.tv_directory.specs.Device.{last}
 use Rattle.tv_directory.specs.View.{View, Told}
 
@@ -24,7 +24,3 @@ at_desk room sink view = record view { heard = []; room = room; faults = both vi
 -- the same, by what is said of a directory and how many calls a sink has refused
 abbrev pub desk_view : {D S W : Type 0} → (D → View W) → (S → ℕ) → DeskState D S → View W
 desk_view view faults desk = at_desk desk.room (faults desk.sink) (view desk.directory)
-
--- only the directory changed, at the same desk
-abbrev pub OnlyDirectory : {D S : Type 0} → DeskState D S → DeskState D S → Type 0
-OnlyDirectory old new = new ≡ record old { directory = new.directory }

@@ -68,7 +68,7 @@ json_at bytes footer body h =
     ∙ ap (take (stated bytes)) front
     ∙ taken (stated bytes) h.json tail (stated_is bytes footer body h)
 
-some_is : {A : Type 0} {x y : A} → ◌≡◌ {A = Option A} (Some x) (Some y) → x ≡ y
+pub some_is : {A : Type 0} {x y : A} → ◌≡◌ {A = Option A} (Some x) (Some y) → x ≡ y
 some_is e = cc
 
 same_numbers : (f g : FooterNumbers) → f.major ≡ g.major → f.minor ≡ g.minor → f.patch ≡ g.patch → f.format ≡ g.format → f.crc ≡ g.crc → f ≡ g

@@ -1,5 +1,5 @@
 -- A footer as it is written is read back.
-use Rattle.std.proofs.Common.{◌≡◌, ◌≤◌, ◌<◌, ◌+◌, ◌^◌, ℕ, List, [], ◌++◌, length, Some, option_and_then, codes, refl, sym, ap, ◌∙◌, arith, append_assoc, append-nil, length-append}
+use Rattle.std.proofs.Common.{◌≡◌, ◌≤◌, ◌<◌, ◌+◌, ◌^◌, ℕ, List, [], ◌++◌, length, Some, codes, refl, sym, ap, ◌∙◌, arith, append_assoc, length-append}
 use Rattle.std.specs.Prelude.{IsUtf8}
 use Rattle.std.specs.Fmt.{decimal}
 use Rattle.std.proofs.lemmas.Bool.{lt-ltb}
@@ -12,7 +12,7 @@ use Rattle.json.specs.Tree.{json_tokens, depth, HasNumbers}
 use Rattle.json.proofs.OnLiterals.{json_on_literals}
 use Rattle.json.proofs.Printed.Decimals.{IsNumber-decimal}
 use Rattle.json.proofs.Printed.Tokens.{tokens-print}
-use Rattle.json.proofs.Printed.Trees.{value-json_tokens, ArePrintable-json_tokens}
+use Rattle.json.proofs.Printed.Trees.{ArePrintable-json_tokens}
 use Rattle.json.proofs.Printed.Utf8.{IsUtf8-are_ascii}
 use Rattle.serde_json.specs.Data.{Data, unsigned, object, member, no_members}
 use Rattle.serde_json.specs.Data as trees
@@ -20,6 +20,7 @@ use Rattle.serde_json.specs.Read.{read, of_json}
 use Rattle.serde_json.proofs.Numbers.{number_of-decimal}
 use Rattle.tv_model.specs.FooterForm.{FooterFits, FooterNumbers, Spells, if_u32, written_json}
 use Rattle.tv_model.specs.Footer.{IsFramed, footer, footer_json, four_bytes, footer_magic}
+use Rattle.tv_model.proofs.JsonReadBack.{read_of_tokens}
 
 -- ---- the JSON reads as its tree
 
@@ -37,12 +38,6 @@ text_of a b c d e =
 printed : (a b c d e : ℕ) → print (json_tokens (tree_of a b c d e)) ≡ text_of a b c d e
 unfolding json_on_literals
 printed a b c d e = refl
-
--- a text with these tokens reads as their tree
-pub read_of_tokens : (text : List ℕ) (j : json.Json) → tokens text ≡ json_tokens j → depth j ≤ 127 → read text ≡ of_json j
-read_of_tokens text j is shallow =
-    ap (λ o. option_and_then of_json (option_and_then (λ p. json.if_last p.0 p.1) o))
-    (ap (json.value 127) (is ∙ sym (append-nil (json_tokens j))) ∙ value-json_tokens j 127 [] shallow)
 
 -- its members in the order of their keys
 abbrev version_data : ℕ → ℕ → ℕ → ℕ → Data

@@ -13,13 +13,10 @@ use Rattle.tv_model.specs.Names.{is}
 use Rattle.tv_model.specs.FooterForm.{FooterNumbers, IsFooter, Spells, u32_at}
 use Rattle.tv_model.specs.Footer.{IsFramed, body_of, footer, sealed}
 use Rattle.tv_model.specs.Framing.{◌>>=◌, footer_in, spelled_footer, stated_json, footer_end, has_parts, footer_of, is_intact}
-use Rattle.tv_model.proofs.Bodies.{body_of_framed, json_at}
+use Rattle.tv_model.proofs.Bodies.{body_of_framed, json_at, some_is}
 use Rattle.tv_model.proofs.ChecksumFits.{crc32_fits}
 use Rattle.tv_model.proofs.FooterTexts.{own, own_framed}
 use Rattle.tv_model.proofs.PlainNames.{both}
-
-some_is : {A : Type 0} {x y : A} → ◌≡◌ {A = Option A} (Some x) (Some y) → x ≡ y
-some_is e = cc
 
 bound : {A B : Type 0} (o : Option A) (f : A → Option B) (y : B) → (o >>= f) ≡ Some y → (x : A) × (o ≡ Some x) × (f x ≡ Some y)
 bound None f y e = absurd cc

@@ -16,6 +16,7 @@ use Rattle.serde_json.specs.Data.{Data}
 use Rattle.serde_json.specs.Read.{read, of_json}
 use Rattle.tv_model.proofs.JsonWithin.{tokens-within}
 
+-- a text with these tokens reads as their tree
 pub read_of_tokens : (text : List ℕ) (j : json.Json) → tokens text ≡ json_tokens j → depth j ≤ 127 → read text ≡ of_json j
 read_of_tokens text j is shallow =
     ap (λ o. option_and_then of_json (option_and_then (λ p. json.if_last p.0 p.1) o))

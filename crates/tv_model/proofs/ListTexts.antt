@@ -23,7 +23,7 @@ use Rattle.serde_json.specs.Read.{read, of_items}
 use Rattle.tv_model.specs.Names.{byte_cmp, has, is_name_byte, is_plain}
 use Rattle.tv_model.specs.Listing.{quoted, list_text, IsListed, AreStrings, IsListOf, Lists}
 use Rattle.tv_model.proofs.Entries.{is_by_order}
-use Rattle.tv_model.proofs.FooterTexts.{read_of_tokens}
+use Rattle.tv_model.proofs.JsonReadBack.{read_of_tokens}
 use Rattle.tv_model.proofs.PlainNames.{both, plain_parts}
 
 -- ---- a name in quotation marks is one string
