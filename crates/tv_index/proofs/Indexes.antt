@@ -144,7 +144,7 @@ module _ {D W C : Type 0} (g : Ghosts D W C) (before : D) (form : IndexForm) whe
     wanted now (io.Fault fault) t k is = absurd cc
     wanted now io.Memory t k is = k ∙ w.frame.content t meta_name
 
-    pub not_created : (now back : D) (error : IoError) → back ≡ now → LeavesText {A = UntrackedIndexMeta} g wrapped.0 now (new_text form) (Err error)
+    pub not_created : {B : Type 0} (now back : D) (error : IoError) → back ≡ now → LeavesText {A = B} g wrapped.0 now (new_text form) (Err error)
         → (g.told.content → KeepsOtherFiles (g.view wrapped.0).reads (g.view now).reads meta_name)
         → IoCause (Rose (g.view wrapped.0).faults (g.view now).faults) ((g.view now).faults ≡ (g.view wrapped.0).faults) error → FrameNotes g.told (g.view wrapped.0) (g.view now)
         → NotCreated g before form back (of_io error)

@@ -18,10 +18,12 @@ pub mod Openings
 pub mod Untracked
 pub mod NameSets
 pub mod Saves
+pub mod Managing
 pub mod Standings
 pub mod Indexes
 pub mod KeptWithin
 pub mod Buildings
 pub mod RamIndexes
+pub mod InFolders
 pub mod Damages
 pub mod PlainFiles

@@ -127,8 +127,8 @@ io_cause tells schema read refused quiet (io.Fault fault) f q h = (h.0, f h.1)
 io_cause tells schema read refused quiet io.Memory f q h = q h
 
 module _ {A D W C : Type 0} (g : Ghosts D W C) (old mid new : D × List (List ℕ)) (form : IndexForm) (result : Result A TantivyError) (error : IoError) where
-  pub creates_none : IsErrAnd result (λ e. e ≡ of_io error) → (g.told.content → (g.view old.0).reads meta_name ≡ None) → OnlyReads g.told (g.view old.0) (g.view mid.0) → (g.view mid.0).faults ≡ (g.view old.0).faults
-      → (g.told.content → KeepsOtherFiles (g.view mid.0).reads (g.view new.0).reads meta_name) → LeavesText {A = UntrackedIndexMeta} g mid.0 new.0 (new_text form) (Err error)
+  pub creates_none : {B : Type 0} → IsErrAnd result (λ e. e ≡ of_io error) → (g.told.content → (g.view old.0).reads meta_name ≡ None) → OnlyReads g.told (g.view old.0) (g.view mid.0) → (g.view mid.0).faults ≡ (g.view old.0).faults
+      → (g.told.content → KeepsOtherFiles (g.view mid.0).reads (g.view new.0).reads meta_name) → LeavesText {A = B} g mid.0 new.0 (new_text form) (Err error)
       → IoCause (Rose (g.view mid.0).faults (g.view new.0).faults) ((g.view new.0).faults ≡ (g.view mid.0).faults) error → FrameNotes g.told (g.view mid.0) (g.view new.0) → IfErr result (NotLoaded g old new.0 form)
   creates_none h none reads quiet others leaves cause frame = failed_as result (of_io error) (NotLoaded g old new.0 form) h (record {
     left = λ t. record {
@@ -171,13 +171,14 @@ module _ {D W C : Type 0} (g : Ghosts D W C) (before mid : D) (synced : OnlyRead
     frame = reads_later synced w.frame;
   }
 
+  pub refusal_later : (now : D) (error : TantivyError) → ListRefusal g.told (g.view mid) (g.view now) error → ListRefusal g.told (g.view before) (g.view now) error
+  refusal_later now (errors.DataCorruption why) k = (k.0, (λ t. subst ListsNothing (synced.content t list_name) (k.1.0 t), k.1.1 ∙ still))
+  refusal_later now (errors.IoError fault) k = (k.0, subst (λ (n : ℕ). Rose n (g.view now).faults) still k.1)
+  refusal_later now errors.Memory k = k ∙ still
+  refusal_later now other k = absurd k
+
   pub not_wrapped_later : (now : D) (error : TantivyError) → NotWrapped g mid now error → NotWrapped g before now error
-  not_wrapped_later now error h = record { cause = cause error h.cause; frame = reads_later synced h.frame } where
-    cause : (e : TantivyError) → ListRefusal g.told (g.view mid) (g.view now) e → ListRefusal g.told (g.view before) (g.view now) e
-    cause (errors.DataCorruption why) k = (k.0, (λ t. subst ListsNothing (synced.content t list_name) (k.1.0 t), k.1.1 ∙ still))
-    cause (errors.IoError fault) k = (k.0, subst (λ (n : ℕ). Rose n (g.view now).faults) still k.1)
-    cause errors.Memory k = k ∙ still
-    cause other k = absurd k
+  not_wrapped_later now error h = record { cause = refusal_later now error h.cause; frame = reads_later synced h.frame }
 
 module _ {D W C : Type 0} (g : Ghosts D W C) (before : D) (form : IndexForm) where
   not_wrapped : (now : D) (error : TantivyError) → NotWrapped g before now error → NotOpenedForm g before form now error

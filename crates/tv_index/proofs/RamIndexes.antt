@@ -1,5 +1,5 @@
 -- An index that is made in memory, where no call is refused and there are no files before.
-use Rattle.std.proofs.Common.{◌≡◌, inl, inr, ℕ, List, [], ◌∷◌, Option, None, refl, sym, ap, subst, ◌∙◌, arith}
+use Rattle.std.proofs.Common.{◌≡◌, ◌≢◌, inl, inr, ℕ, List, [], ◌∷◌, Option, None, refl, sym, ap, subst, ◌∙◌, arith}
 use Rattle.std.specs.BTreeSet.{insert_key}
 use Rattle.tv_base.specs.declared.error.TantivyError.{TantivyError}
 use Rattle.tv_base.specs.declared.error.TantivyError.TheVariants as errors
@@ -21,6 +21,11 @@ module _ {D W C : Type 0} (g : Ghosts D W C) (before : D) (tells : g.told.conten
   managed_one settings schema index h =
       let l = h.listed tells in
       l.2 ∙ ap (λ (names : List (List ℕ)). insert_key byte_cmp names meta_name) (subst (λ (read : Option (List ℕ)). Lists read l.0) (empty list_name) l.1)
+
+  -- there is no other file
+  pub no_others : (settings : IndexSettings) (schema : List ℕ) (index : IndexState D) → CreatesIndex g before settings schema index
+      → (n : List ℕ) → n ≢ meta_name → n ≢ list_name → (g.view index.directory.0).reads n ≡ None
+  no_others settings schema index h n meta list = h.others tells n meta list ∙ empty n
 
   pub only_memory : ((d : D) → (g.view d).faults ≡ 0) → (form : IndexForm) (now : D) (error : TantivyError) → NotCreated g before form now error → error ≡ errors.Memory
   only_memory still form now error h = cause error h.cause where

@@ -1,35 +1,50 @@
 -- A commit that is saved, by what the saving of its text says.
-use Rattle.std.proofs.Common.{◌≡◌, ◌⊎◌, inr, ℕ, ◌<◌, ◌^◌, List, Some, Result, Ok, Err, sym, ap, subst}
-use Rattle.std.specs.Prelude.{OnErr, IsErrAnd}
+use Rattle.std.proofs.Common.{◌≡◌, ◌⊎◌, inr, ℕ, ◌<◌, ◌^◌, List, map, Option, Some, Result, Ok, Err, sym, ap, subst}
+use Rattle.std.proofs.lemmas.List.Elements.{All-from_recursion, recursion_from_All}
+use Rattle.std.proofs.lemmas.List.Sorted.{All-permutation}
+use Rattle.std.specs.List.{AllByRecursion}
+use Rattle.std.specs.Prelude.{IfSome, IsErrAnd, IsUtf8, OnErr}
 use Rattle.tv_base.specs.Causes.{IoCause}
 use Rattle.tv_base.specs.Errors.{of_io}
 use Rattle.tv_base.specs.declared.error.TantivyError.{TantivyError}
 use Rattle.tv_base.specs.declared.io.IoError.{IoError}
 use Rattle.tv_base.specs.declared.io.IoError.TheVariants as io
 use Rattle.tv_directory.specs.declared.directory.Directory.{Ghosts}
-use Rattle.tv_model.specs.Commits.{Commit, IsCommit, Settings}
+use Rattle.tv_model.specs.Commits.{Commit, IsCommit, IsSegment, Settings}
 use Rattle.tv_model.specs.Meaning.{Means}
 use Rattle.tv_model.specs.Names.{meta_name}
 use Rattle.tv_model.proofs.ReadPrinted.{printed_means}
 use Rattle.tv_index.specs.Saving.{LeavesText, SaveCause, SavesCommit, SavesMeta, saved_text}
 use Rattle.tv_index.specs.Schemas.{HasSchemaTree}
+use Rattle.tv_index.specs.TrackedMetas.{IsInOrder, tracked_commit}
+use Rattle.tv_index.specs.declared.tracked_meta.IndexMeta.{IndexMeta}
+use Rattle.tv_index.proofs.Parsed.{payload_utf8}
 
 -- what is saved means the commit
 pub saved_means : (settings : Settings) (schema : List ℕ) (commit : Commit) → HasSchemaTree schema → settings.blocksize < 2 ^ 64 → IsCommit commit
     → Means settings schema (saved_text settings schema commit) commit
 saved_means settings schema commit has small is = printed_means settings schema has.tree commit is small has.text_is
 
+-- shares of segments of a commit, in their order, are a commit
+pub ordered_is_commit : (meta : IndexMeta) (commit : Commit) → AllByRecursion IsSegment (map (λ s. s.1) meta.segments.items) → meta.opstamp < 2 ^ 64 → IsInOrder (tracked_commit meta) commit → IsCommit commit
+ordered_is_commit meta commit all small order = record {
+  ordered = order.sorted;
+  segments = recursion_from_All IsSegment commit.segments (All-permutation IsSegment (map (λ s. s.1) meta.segments.items) commit.segments order.same (All-from_recursion IsSegment (map (λ s. s.1) meta.segments.items) all));
+  opstamp = subst (λ (n : ℕ). n < 2 ^ 64) (sym order.opstamp) small;
+  payload = subst (λ (text : Option (List ℕ)). IfSome text IsUtf8) (sym order.payload) (payload_utf8 meta.payload);
+}
+
 -- the cause of an error that is handed on
 pub cause_of_io : {more same refused quiet : Type 0} (error : IoError) → (more → refused) → (same → quiet) → IoCause more same error → SaveCause refused quiet (of_io error)
 cause_of_io (io.Fault fault) f q h = (h.0, f h.1)
 cause_of_io io.Memory f q h = q h
 
-module _ {A D W C : Type 0} (g : Ghosts D W C) (old new : D × List (List ℕ)) (settings : Settings) (schema : List ℕ) (commit : Commit) (has : HasSchemaTree schema) (small : settings.blocksize < 2 ^ 64) where
+module _ {A D W C : Type 0} (g : Ghosts D W C) (old new : D × List (List ℕ)) (settings : Settings) (schema : List ℕ) (commit : Commit) (has : HasSchemaTree schema) (small : settings.blocksize < 2 ^ 64) (is_commit : IsCommit commit) where
   -- it is saved
   pub saved : (result : Result A TantivyError) (text : List ℕ) → text ≡ saved_text settings schema commit → OnErr result ⊥ → SavesMeta g old new text → SavesCommit g old new settings schema commit result
   saved (Ok a) text is ok h = record {
     saves = subst (SavesMeta g old new) is h;
-    means = saved_means settings schema commit has small;
+    means = saved_means settings schema commit has small is_commit;
     leaves = record { either = λ t. tt; memory = λ t. tt };
   }
   saved (Err e) text is ok h = absurd ok
@@ -40,7 +55,7 @@ module _ {A D W C : Type 0} (g : Ghosts D W C) (old new : D × List (List ℕ)) 
   unsaved (Ok a) text error h is leaves = absurd h
   unsaved (Err e) text error h is leaves = record {
     saves = tt;
-    means = saved_means settings schema commit has small;
+    means = saved_means settings schema commit has small is_commit;
     leaves = record {
       either = λ t. subst (λ (l : List ℕ). ((g.view new.0).reads meta_name ≡ Some l) ⊎ ((g.view new.0).reads meta_name ≡ (g.view old.0).reads meta_name)) is (leaves.either t);
       memory = λ t. subst (SaveCause (Unit {0}) ((g.view new.0).reads meta_name ≡ (g.view old.0).reads meta_name)) (sym h) (cause_of_io error (λ u. u) (λ s. s) (leaves.memory t));
@@ -54,7 +69,7 @@ module _ {A D W C : Type 0} (g : Ghosts D W C) (old new : D × List (List ℕ)) 
       let stays : (g.view new.0).reads meta_name ≡ (g.view old.0).reads meta_name = ap (λ (d : D × List (List ℕ)). (g.view d.0).reads meta_name) same in
       record {
         saves = tt;
-        means = saved_means settings schema commit has small;
+        means = saved_means settings schema commit has small is_commit;
         leaves = record {
           either = λ t. inr stays;
           memory = λ t. subst (SaveCause (Unit {0}) ((g.view new.0).reads meta_name ≡ (g.view old.0).reads meta_name)) (sym h) stays;

@@ -1,11 +1,12 @@
 -- An index: what it keeps, how it is opened or made, and what its calls leave alone.
-use Rattle.std.specs.Prelude.{◌≡◌, ◌⊎◌, ℕ, List, [], ◌∷◌, map, Option, Some, None}
+use Rattle.std.specs.Prelude.{◌≡◌, ◌≢◌, ◌⊎◌, ℕ, List, [], ◌∷◌, map, Option, Some, None}
 use Rattle.std.specs.BTreeSet.{insert_key}
 use Rattle.tv_base.specs.Causes.{IsDevice}
 use Rattle.tv_base.specs.declared.error.TantivyError.{TantivyError}
 use Rattle.tv_base.specs.declared.error.TantivyError.TheVariants as errors
 use Rattle.tv_directory.specs.Ram.{ram_reads}
 use Rattle.tv_directory.specs.View.{View, OnlyReads}
+use Rattle.tv_directory.specs.Watch.{noted}
 use Rattle.tv_directory.specs.declared.directory.Directory.{Ghosts}
 use Rattle.tv_directory.specs.declared.ram_directory.RamDirectory.{RamDirectory}
 use Rattle.tv_managed.specs.Frames.{KeepsNames}
@@ -72,7 +73,7 @@ pub record OpensIndexOf {D W C : Type 0} (g : Ghosts D W C) (before : D) (form :
   pub opens : OpensForm g before form index.directory meta
   pub shows : Shows meta index
 
--- A new index of this form stands in the directory: `meta.json` was replaced by its first commit, and no other file but the list was changed.
+-- A new index of this form stands in the directory: `meta.json` was replaced by its first commit, of which a notice stands, and no other file but the list was changed.
 pub record CreatesIndex {D W C : Type 0} (g : Ghosts D W C) (before : D) (settings : IndexSettings) (schema : List ℕ) (index : IndexState D) : Type 0 where
   pub settings_is : index.settings ≡ settings
   pub schema_is : index.schema ≡ schema
@@ -82,15 +83,18 @@ pub record CreatesIndex {D W C : Type 0} (g : Ghosts D W C) (before : D) (settin
   pub listed : g.told.content → (names : List (List ℕ)) × Lists ((g.view before).reads list_name) names × (index.directory.1 ≡ insert_key byte_cmp names meta_name)
   pub lists : g.told.content → Lists ((g.view index.directory.0).reads list_name) index.directory.1
   pub quiet : (g.view index.directory.0).faults ≡ (g.view before).faults
+  pub notes : (g.view index.directory.0).watched ≡ noted meta_name (g.view before).watched
   pub frame : FrameNotes g.told (g.view before) (g.view index.directory.0)
 
--- A new index of this form in memory: no name is managed but `meta.json`, which has its first commit.
+-- A new index of this form in memory: no name is managed but `meta.json`, which has its first commit, and the list lists it; there is no other file.
 pub record IsNewInRam {C : Type 0} (settings : IndexSettings) (schema : List ℕ) (index : IndexState (RamDirectory C)) : Type 0 where
   pub settings_is : index.settings ≡ settings
   pub schema_is : index.schema ≡ schema
   pub kept : index.kept ≡ []
   pub managed : index.directory.1 ≡ meta_name ∷ []
   pub saved : ram_reads index.directory.0 meta_name ≡ Some (new_text (form_with settings schema))
+  pub lists : Lists (ram_reads index.directory.0 list_name) index.directory.1
+  pub others : (n : List ℕ) → n ≢ meta_name → n ≢ list_name → ram_reads index.directory.0 n ≡ None
 
 -- It doesn't stand, and the directory comes back. `meta.json` has the text of the first commit, or what it had; after want of memory what it had. Where the list was
 -- refused, nothing was changed.

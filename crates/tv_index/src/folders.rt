@@ -1,12 +1,11 @@
 //! Indexes in folders of plain files.
-ghost use Rattle.std.specs.Prelude.{◌≡◌, [], IfOk, IfErr};
-ghost use Rattle.std.specs.Prelude.{◌⊎◌, OnOk, Some};
-ghost use Rattle.tv_index.specs.Folders.{IsMadeOf, IsRefused, NotMade, RefusedIn};
-ghost use Rattle.tv_index.specs.Indexes.{NotStanding};
+ghost use Rattle.std.specs.Prelude.{IfOk, IfErr, OnOk, Some};
+ghost use Rattle.tv_index.specs.Folders.{HasIndex, HasNoIndex, IsMadeOf, IsOpenIn, Makes, NotMade, NotMadeIn, NotOpenIn};
 ghost use Rattle.tv_index.specs.Settings.{default_index_settings};
 
 use crate::index::Index;
 use crate::index_builder::IndexBuilder;
+use crate::refusals::error_of;
 use crate::schema::Schema;
 use std::alloc::Global;
 use std::fs::File;
@@ -14,7 +13,6 @@ use std::rt::Files;
 use tv_base::{OpenReadError, TantivyError};
 use tv_directory::{Directory, WatchCall};
 use tv_files::MmapDirectory;
-use tv_managed::Refused;
 
 impl<R: Files<File = File> + Drop, C: WatchCall> Index<MmapDirectory<R, C>> {
     /// Opens the index that stands in a folder.
@@ -26,9 +24,8 @@ impl<R: Files<File = File> + Drop, C: WatchCall> Index<MmapDirectory<R, C>> {
         alloc: Global,
         path: &str,
     ) -> Result<Index<MmapDirectory<R, C>>, TantivyError>
-        ensures kept { IfOk result (λ index. index.kept ≡ []) }
-        ensures err { IfErr result
-            (RefusedIn path.now (NotStanding ⟦<MmapDirectory<R, C> as Directory>⟧)) }
+        ensures opened { IfOk result (IsOpenIn ⟦<MmapDirectory<R, C> as Directory>⟧) }
+        ensures err { IfErr result (NotOpenIn ⟦<MmapDirectory<R, C> as Directory>⟧ path.now) }
     {
         let directory = match MmapDirectory::open(rt, alloc, path) {
             Ok(directory) => directory,
@@ -36,13 +33,7 @@ impl<R: Files<File = File> + Drop, C: WatchCall> Index<MmapDirectory<R, C>> {
         };
         match Index::open(alloc, directory) {
             Ok(index) => Ok(index),
-            Err(refused) => {
-                let Refused {
-                    error,
-                    directory: _,
-                } = refused;
-                Err(error)
-            }
+            Err(refused) => Err(error_of(refused)),
         }
     }
 
@@ -53,15 +44,10 @@ impl<R: Files<File = File> + Drop, C: WatchCall> Index<MmapDirectory<R, C>> {
         path: &str,
         schema: Schema,
     ) -> Result<Index<MmapDirectory<R, C>>, TantivyError>
-        ensures made { IfOk result (IsMadeOf (record {
-          settings = default_index_settings;
-          schema = Some schema;
-        })) }
-        ensures err { IfErr result (RefusedIn path.now
-            (NotMade ⟦<MmapDirectory<R, C> as Directory>⟧ (record {
-              settings = default_index_settings;
-              schema = Some schema;
-            }))) }
+        ensures made { IfOk result (IsMadeOf ⟦<MmapDirectory<R, C> as Directory>⟧
+            (record { settings = default_index_settings; schema = Some schema })) }
+        ensures err { IfErr result (NotMadeIn ⟦<MmapDirectory<R, C> as Directory>⟧ path.now
+            (record { settings = default_index_settings; schema = Some schema })) }
     {
         IndexBuilder::new()
             .schema(schema)
@@ -79,9 +65,9 @@ impl IndexBuilder {
         alloc: Global,
         path: &str,
     ) -> Result<Index<MmapDirectory<R, C>>, TantivyError>
-        ensures made { IfOk result (IsMadeOf self) }
-        ensures err { IfErr result (RefusedIn path.now
-            (NotMade ⟦<MmapDirectory<R, C> as Directory>⟧ self)) }
+        ensures made { IfOk result (IsMadeOf ⟦<MmapDirectory<R, C> as Directory>⟧ self) }
+        ensures err { IfErr result
+            (NotMadeIn ⟦<MmapDirectory<R, C> as Directory>⟧ path.now self) }
     {
         let directory = match MmapDirectory::open(rt, alloc, path) {
             Ok(directory) => directory,
@@ -96,28 +82,29 @@ impl IndexBuilder {
         alloc: Global,
         directory: D,
     ) -> Result<Index<D>, TantivyError>
-        ensures made { IfOk result (IsMadeOf self) }
-        ensures err { IfErr result (IsRefused (NotMade D.Directory self)) }
+        ensures made { IfOk result (Makes D.Directory self directory) }
+        ensures err { IfErr result (λ error.
+            (now : D) × NotMade D.Directory self directory now error) }
     {
         let mut directory = directory;
-        match Index::exists(&mut directory) {
-            Ok(false) => {}
-            Ok(true) => return Err(TantivyError::IndexAlreadyExists),
-            Err(OpenReadError::IoError { io_error, .. }) => {
-                return Err(TantivyError::IoError(io_error));
-            }
-            Err(OpenReadError::Memory) => return Err(TantivyError::Memory),
-            Err(_) => unreachable!(),
-        }
+        refuse_index(&mut directory)?;
         match self.create(alloc, directory) {
             Ok(index) => Ok(index),
-            Err(refused) => {
-                let Refused {
-                    error,
-                    directory: _,
-                } = refused;
-                Err(error)
-            }
+            Err(refused) => Err(error_of(refused)),
         }
+    }
+}
+
+// An error where an index stands in a directory: where `meta.json` reads.
+fn refuse_index<D: Directory>(directory: &mut D) -> Result<(), TantivyError>
+    ensures none { OnOk result (HasNoIndex D.Directory directory.old directory.new) }
+    ensures some { IfErr result (HasIndex D.Directory directory.old directory.new) }
+{
+    match Index::exists(directory) {
+        Ok(false) => Ok(()),
+        Ok(true) => Err(TantivyError::IndexAlreadyExists),
+        Err(OpenReadError::IoError { io_error, .. }) => Err(TantivyError::IoError(io_error)),
+        Err(OpenReadError::Memory) => Err(TantivyError::Memory),
+        Err(_) => unreachable!(),
     }
 }

@@ -17,7 +17,8 @@ ghost use Rattle.tv_index.specs.Tracked.{ShareAllCause, Tracks, share_of};
 
 use crate::index_builder::IndexBuilder;
 use crate::index_settings::IndexSettings;
-use crate::opening::{create, load_some, open_or_create_with, settled};
+use crate::opening::{create, load_meta, open_or_create_with, settled};
+use crate::refusals::error_of;
 use crate::schema::Schema;
 use crate::segment::Segment;
 use crate::segments::ids_of;
@@ -86,7 +87,7 @@ impl<D: Directory> Index<D> {
             NotStanding D.Directory directory refused.directory refused.error) }
     {
         let mut directory = settled(alloc, directory)?;
-        match load_some(alloc, &mut directory, None) {
+        match load_meta(alloc, &mut directory, None) {
             Ok(meta) => Ok(Index {
                 directory,
                 settings: meta.index_settings,
@@ -116,8 +117,8 @@ impl<D: Directory> Index<D> {
             (form_with settings schema) refused.directory refused.error) }
     {
         let mut directory = settled(alloc, directory)?;
-        match create(alloc, &mut directory, &schema, settings) {
-            Ok(_) => Ok(Index {
+        match create(alloc, &mut directory, &schema, &settings) {
+            Ok(()) => Ok(Index {
                 directory,
                 settings,
                 schema,
@@ -244,7 +245,7 @@ impl<D: Directory> Index<D> {
             (Some self.old.schema) result }
         ensures frame { KeepsForm (OnlyReads D.told) D.view self.old self.new }
     {
-        let meta = load_some(alloc, &mut self.directory, Some(&self.schema))?;
+        let meta = load_meta(alloc, &mut self.directory, Some(&self.schema))?;
         let meta = meta.track(&mut self.inventory)?;
         Ok(meta)
     }
@@ -275,7 +276,7 @@ impl<D: Directory> Index<D> {
             (Some self.old.schema) result }
         ensures frame { KeepsForm (OnlyReads D.told) D.view self.old self.new }
     {
-        let meta = load_some(alloc, &mut self.directory, Some(&self.schema))?;
+        let meta = load_meta(alloc, &mut self.directory, Some(&self.schema))?;
         let segments = track_segments(alloc, meta.segments.as_slice(), &mut self.inventory)?;
         Ok(segments)
     }
@@ -290,7 +291,7 @@ impl<D: Directory> Index<D> {
             (Some self.old.schema) result }
         ensures frame { KeepsIndex (OnlyReads D.told) D.view self.old self.new }
     {
-        let meta = load_some(alloc, &mut self.directory, Some(&self.schema))?;
+        let meta = load_meta(alloc, &mut self.directory, Some(&self.schema))?;
         let ids = ids_of(alloc, meta.segments.as_slice())?;
         Ok(ids)
     }
@@ -358,13 +359,7 @@ impl<C: WatchCall> Index<RamDirectory<C>> {
     {
         match Index::create(alloc, RamDirectory::create(alloc), schema, settings) {
             Ok(index) => Ok(index),
-            Err(refused) => {
-                let Refused {
-                    error,
-                    directory: _,
-                } = refused;
-                Err(error)
-            }
+            Err(refused) => Err(error_of(refused)),
         }
     }
 }

@@ -12,7 +12,7 @@ ghost use Rattle.tv_index.specs.SchemaReading.{texts};
 
 use crate::index_settings::IndexSettings;
 use crate::json_text::tree_of;
-use crate::printing::meta_text;
+use crate::meta_text::print_meta;
 use crate::read_error::ReadError;
 use crate::reading::body_of;
 use crate::schema::Schema;
@@ -66,13 +66,13 @@ impl UntrackedIndexMeta {
         ensures text { IfOk result (λ text. text.items
             ≡ printed (settings_of self.now) self.now.schema (commit_of self.now)) }
     {
-        meta_text(
+        print_meta(
             alloc,
             &self.index_settings,
-            self.segments.as_slice(),
             &self.schema,
+            self.segments.as_slice(),
             self.opstamp,
-            &self.payload,
+            self.payload.as_deref(),
         )
     }
 }

@@ -13,6 +13,7 @@ mod opening;
 mod printing;
 mod read_error;
 mod reading;
+mod refusals;
 mod saving;
 mod schema;
 mod schema_tree;

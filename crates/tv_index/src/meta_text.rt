@@ -12,7 +12,7 @@ use std::alloc::Global;
 use tv_model::{Memory, Opstamp};
 
 // Adds a payload, where there is one.
-fn put_some_payload(out: &mut Vec<u8>, payload: Option<&str>) -> Result<(), Memory>
+fn put_payload(out: &mut Vec<u8>, payload: Option<&str>) -> Result<(), Memory>
     ensures { OnOk result (out.new.items ≡ out.old.items
         ++ payload_text (option_map (λ s. s.now) payload.entry)) }
 {
@@ -44,7 +44,7 @@ pub fn print_meta(
     put_segments(alloc, &mut text, segments)?;
     put_schema(&mut text, schema)?;
     put_opstamp(&mut text, opstamp)?;
-    put_some_payload(&mut text, payload)?;
+    put_payload(&mut text, payload)?;
     put(&mut text, "}")?;
     Ok(text)
 }

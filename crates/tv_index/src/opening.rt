@@ -15,12 +15,14 @@ ghost use Rattle.tv_index.specs.Standing.{LoadsMeta, MetaFaults, UnreadAs};
 
 use crate::index_meta::UntrackedIndexMeta;
 use crate::index_settings::IndexSettings;
+use crate::meta_text::print_meta;
 use crate::saving::save_meta_text;
 use crate::schema::Schema;
 use std::alloc::Global;
 use tv_base::{IoError, META_FILEPATH, OpenReadError, TantivyError};
 use tv_directory::Directory;
 use tv_managed::{ManagedDirectory, Refused};
+use tv_model::Memory;
 
 // The commit that `meta.json` means under this schema, where it reads.
 pub(crate) fn load<D: Directory>(
@@ -59,9 +61,11 @@ fn unread(error: OpenReadError) -> TantivyError
     }
 }
 
-// The commit that `meta.json` means, under the expected schema where one is expected.
-// `FileDoesNotExist` comes where it doesn't read.
-pub(crate) fn load_some<D: Directory>(
+/// The commit that `meta.json` means, under the expected schema where one is expected.
+///
+/// `OpenReadError` with `FileDoesNotExist` comes where there is no `meta.json`, `DataCorruption`
+/// where it means no commit, `SchemaError` where it has another schema than the expected one.
+pub(crate) fn load_meta<D: Directory>(
     alloc: Global,
     directory: &mut ManagedDirectory<D>,
     expected: Option<&Schema>,
@@ -95,28 +99,37 @@ fn first_meta(alloc: Global, schema: Schema, settings: IndexSettings) -> Untrack
     }
 }
 
+// The same with a share of the schema.
+fn new_meta(
+    alloc: Global,
+    schema: &Schema,
+    settings: IndexSettings,
+) -> Result<UntrackedIndexMeta, Memory>
+    ensures { IfOk result (IsFirst (form_with settings schema.now)) }
+{
+    let schema = schema.share(alloc)?;
+    Ok(first_meta(alloc, schema, settings))
+}
+
 // Makes an index with these settings and this schema: `meta.json` has its first commit.
 pub(crate) fn create<D: Directory>(
     alloc: Global,
     directory: &mut ManagedDirectory<D>,
     schema: &Schema,
-    settings: IndexSettings,
-) -> Result<UntrackedIndexMeta, IoError>
-    ensures meta { IfOk result (IsFirst (form_with settings schema.now)) }
+    settings: &IndexSettings,
+) -> Result<(), IoError>
     ensures saves { OnOk result (SavesMeta D.Directory directory.old directory.new
-        (new_text (form_with settings schema.now))) }
+        (new_text (form_with settings.now schema.now))) }
     ensures others { D.told.content → KeepsOtherFiles (D.view directory.old.0).reads
         (D.view directory.new.0).reads meta_name }
     ensures leaves { LeavesText D.Directory directory.old.0 directory.new.0
-        (new_text (form_with settings schema.now)) result }
+        (new_text (form_with settings.now schema.now)) result }
     ensures faults { IoFaults (D.view directory.old.0) (D.view directory.new.0) result }
     ensures frame { FrameNotes D.told (D.view directory.old.0) (D.view directory.new.0) }
 {
-    let meta = first_meta(alloc, schema.share(alloc)?, settings);
-    let mut text = meta.print(alloc)?;
+    let mut text = print_meta(alloc, settings, schema, &[], 0, None)?;
     text.push(b'\n')?;
-    save_meta_text(directory, text.as_slice())?;
-    Ok(meta)
+    save_meta_text(directory, text.as_slice())
 }
 
 // The commit that `meta.json` means; where there is none, that of an index which is made.
@@ -134,7 +147,8 @@ fn load_or_create<D: Directory>(
     if let Some(meta) = load(alloc, directory, schema)? {
         return Ok(meta);
     }
-    let meta = create(alloc, directory, schema, settings)?;
+    let meta = new_meta(alloc, schema, settings)?;
+    create(alloc, directory, schema, &settings)?;
     Ok(meta)
 }
 

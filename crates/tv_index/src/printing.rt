@@ -1,9 +1,8 @@
 //! The text of `meta.json`, piece by piece.
-ghost use Rattle.std.specs.Prelude.{◌≡◌, ◌<◌, ◌++◌, [], ◌∷◌, Some, IfOk, OnOk, codes, if◌then◌else◌, map};
+ghost use Rattle.std.specs.Prelude.{◌≡◌, ◌<◌, ◌++◌, [], ◌∷◌, Some, OnOk, codes, if◌then◌else◌, map};
 ghost use Rattle.std.specs.Fmt.{decimal};
 ghost use Rattle.std.specs.List.{join_with_byte};
-ghost use Rattle.tv_model.specs.Commits.{deletes_text, escaped, escaped_byte, hex_digit, payload_text, printed, segment_text, settings_text, thread_text};
-ghost use Rattle.tv_index.specs.Metas.{text_of};
+ghost use Rattle.tv_model.specs.Commits.{deletes_text, escaped, escaped_byte, hex_digit, payload_text, segment_text, settings_text, thread_text};
 ghost use Rattle.tv_index.specs.Segments.{entry_of};
 ghost use Rattle.tv_index.specs.Settings.{settings_view};
 
@@ -12,32 +11,6 @@ use crate::schema::Schema;
 use crate::segment_meta::InnerSegmentMeta;
 use std::alloc::Global;
 use tv_model::{DeleteMeta, Memory, Opstamp};
-
-/// The text of `meta.json`, without its line feed, with the segments in this order.
-pub(crate) fn meta_text(
-    alloc: Global,
-    settings: &IndexSettings,
-    segments: &[InnerSegmentMeta],
-    schema: &Schema,
-    opstamp: Opstamp,
-    payload: &Option<String>,
-) -> Result<Vec<u8>, Memory>
-    ensures { IfOk result (λ text. text.items ≡ printed (settings_view settings.now) schema.now
-        (record {
-          opstamp = opstamp;
-          payload = text_of payload.now;
-          segments = map entry_of segments.now;
-        })) }
-{
-    let mut text = Vec::new(alloc);
-    put_settings(&mut text, settings)?;
-    put_segments(alloc, &mut text, segments)?;
-    put_schema(&mut text, schema)?;
-    put_opstamp(&mut text, opstamp)?;
-    put_payload(&mut text, payload)?;
-    put(&mut text, "}")?;
-    Ok(text)
-}
 
 // Adds a text.
 pub(crate) fn put(out: &mut Vec<u8>, text: &str) -> Result<(), Memory>
@@ -185,16 +158,6 @@ pub(crate) fn put_opstamp(out: &mut Vec<u8>, opstamp: Opstamp) -> Result<(), Mem
     put(out, ",\"opstamp\":")?;
     put_number(out, opstamp)?;
     Ok(())
-}
-
-// Adds the payload, where there is one.
-fn put_payload(out: &mut Vec<u8>, payload: &Option<String>) -> Result<(), Memory>
-    ensures { OnOk result (out.new.items ≡ out.old.items ++ payload_text (text_of payload.now)) }
-{
-    match payload {
-        None => Ok(()),
-        Some(text) => put_payload_text(out, text.as_str()),
-    }
 }
 
 /// Adds a payload.

@@ -1,13 +1,15 @@
 //! How the text of `meta.json` is saved.
-ghost use Rattle.std.specs.Prelude.{◌≡◌, ◌<◌, ◌^◌, IfOk, OnOk};
-ghost use Rattle.tv_model.specs.Commits.{Commit};
+ghost use Rattle.std.specs.Prelude.{◌≡◌, ◌<◌, ◌^◌, IfOk, OnOk, map};
+ghost use Rattle.std.specs.List.{AllByRecursion};
+ghost use Rattle.tv_model.specs.Commits.{Commit, IsCommit, IsSegment};
 ghost use Rattle.tv_model.specs.Names.{meta_name};
 ghost use Rattle.tv_directory.specs.Calls.{IoFaults};
 ghost use Rattle.tv_managed.specs.Managed.{KeepsOtherFiles};
-ghost use Rattle.tv_index.specs.Saving.{FrameNotes, LeavesText, SaveFaults, SavesCommit, SavesMeta, saved_text};
+ghost use Rattle.tv_index.specs.Saving.{FrameNotes, LeavesText, ManagesMeta, SaveFaults, SavesCommit, SavesMeta, saved_text};
 ghost use Rattle.tv_index.specs.Schemas.{HasSchemaTree};
 ghost use Rattle.tv_index.specs.TrackedMetas.{IsInOrder, tracked_commit, tracked_settings};
 
+use crate::tracked::SegmentMeta;
 use crate::tracked_meta::IndexMeta;
 use std::alloc::Global;
 use tv_base::{IoError, META_FILEPATH, TantivyError};
@@ -16,7 +18,7 @@ use tv_managed::ManagedDirectory;
 use tv_model::Memory;
 
 /// Makes these bytes the text of `meta.json`, by one atomic write. The directory is synced before and
-/// afterwards.
+/// afterwards. After an error `meta.json` may be managed, where it wasn't before.
 pub fn save_meta_text<D: Directory>(
     directory: &mut ManagedDirectory<D>,
     text: &[u8],
@@ -25,6 +27,7 @@ pub fn save_meta_text<D: Directory>(
     ensures others { D.told.content → KeepsOtherFiles (D.view directory.old.0).reads
         (D.view directory.new.0).reads meta_name }
     ensures leaves { LeavesText D.Directory directory.old.0 directory.new.0 text.now result }
+    ensures managed { ManagesMeta D.Directory directory.old directory.new result }
     ensures faults { IoFaults (D.view directory.old.0) (D.view directory.new.0) result }
     ensures frame { FrameNotes D.told (D.view directory.old.0) (D.view directory.new.0) }
 {
@@ -34,27 +37,46 @@ pub fn save_meta_text<D: Directory>(
     Ok(())
 }
 
-// The text of `meta.json` of a commit.
-fn saved_text(alloc: Global, meta: &IndexMeta) -> Result<Vec<u8>, Memory>
-    ensures text { IfOk result (λ text. (commit : Commit)
-        → IsInOrder (tracked_commit meta.now) commit
-        → text.items ≡ saved_text (tracked_settings meta.now) meta.now.schema commit) }
+// The segments of shares are ones of a commit, which a contract learns from each.
+fn are_segments(segments: &[SegmentMeta])
+    ensures { AllByRecursion IsSegment (map (λ s. s.1) segments.now) }
+{
+    for segment in segments {
+        segment.is_segment();
+    }
+}
+
+// A contract learns from it that the schema's text is one, that numbers are within their ranges, and
+// so that the segments in the order of their ids make a commit.
+fn learn_commit(meta: &IndexMeta)
     ensures schema { HasSchemaTree meta.now.schema }
     ensures blocksize { (tracked_settings meta.now).blocksize < 2 ^ 64 }
+    ensures commit { (commit : Commit) → IsInOrder (tracked_commit meta.now) commit
+        → IsCommit commit }
 {
-    // A contract learns from these that the text is a schema's, and that the number has 64 bits.
     let _schema = meta.schema.text();
     let _blocksize = meta.index_settings.docstore_blocksize;
+    let _opstamp = meta.opstamp;
+    are_segments(meta.segments.as_slice());
+}
+
+// The text of `meta.json` of a commit.
+fn saved_text(alloc: Global, meta: &IndexMeta) -> Result<Vec<u8>, Memory>
+    ensures { IfOk result (λ text. (commit : Commit)
+        → IsInOrder (tracked_commit meta.now) commit
+        → text.items ≡ saved_text (tracked_settings meta.now) meta.now.schema commit) }
+{
     let mut text = meta.print(alloc)?;
     text.push(b'\n')?;
     Ok(text)
 }
 
-/// Saves a commit in one step: `meta.json` then has its printed form and a line feed. The segments
-/// stand there in the order of their ids, none of which stands twice.
+/// Saves a commit in one step: `meta.json` then has its printed form and a line feed, which mean that
+/// commit. The segments stand there in the order of their ids, none of which stands twice.
 ///
 /// The directory is synced before and afterwards. An `IoError` comes where the device refused a call,
-/// and `Memory` where memory was wanted; then `meta.json` has what it had.
+/// and `Memory` where memory was wanted; then `meta.json` has what it had. After an error `meta.json`
+/// may be managed, where it wasn't before.
 pub fn save_metas<D: Directory>(
     alloc: Global,
     meta: &IndexMeta,
@@ -65,9 +87,11 @@ pub fn save_metas<D: Directory>(
         meta.now.schema commit result }
     ensures others { D.told.content → KeepsOtherFiles (D.view directory.old.0).reads
         (D.view directory.new.0).reads meta_name }
+    ensures managed { ManagesMeta D.Directory directory.old directory.new result }
     ensures faults { SaveFaults (D.view directory.old.0) (D.view directory.new.0) result }
     ensures frame { FrameNotes D.told (D.view directory.old.0) (D.view directory.new.0) }
 {
+    learn_commit(meta);
     let text = saved_text(alloc, meta)?;
     save_meta_text(directory, text.as_slice())?;
     Ok(())

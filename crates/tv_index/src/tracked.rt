@@ -3,9 +3,10 @@ ghost use Rattle.std.specs.Prelude.{◌≡◌, ◌≢◌, ◌≤◌, ◌++◌, �
 ghost use Rattle.std.specs.List.{list_any};
 ghost use Rattle.std.specs.Option.{IsSomeAnd};
 ghost use Rattle.tv_base.specs.Entries.{IsFull, is_at, is_full, one_more, released};
+ghost use Rattle.tv_model.specs.Commits.{IsSegment};
 ghost use Rattle.tv_model.specs.Living.{segment_names};
 ghost use Rattle.tv_model.specs.Names.{has, list_name};
-ghost use Rattle.tv_model.specs.Segments.{name_of, num_deleted, num_docs};
+ghost use Rattle.tv_model.specs.Segments.{delete_opstamp, name_of, num_deleted, num_docs};
 ghost use Rattle.tv_index.specs.Segments.{entry_of};
 ghost use Rattle.tv_index.specs.Tracked.{IsWithin, Retracks, ShareAllCause, Shares, Tracks, file_of, share_of};
 
@@ -48,6 +49,15 @@ impl SegmentMeta {
             max_doc: self.inner.max_doc,
             deletes: self.inner.deletes,
         }
+    }
+
+    // It is a segment of a commit: its numbers are within their ranges.
+    pub(crate) fn is_segment(&self)
+        ensures { IsSegment self.now.1 }
+    {
+        let _id = self.inner.segment_id.as_bytes();
+        let _max_doc = self.inner.max_doc;
+        let _opstamp = opstamp_of(self.inner.deletes);
     }
 
     /// The id of the segment.
@@ -182,6 +192,16 @@ impl SegmentMeta {
             ..self.inner
         };
         inventory.replace(self.ticket, changed)
+    }
+}
+
+// The number of a delete, 0 where there is none.
+fn opstamp_of(deletes: Option<DeleteMeta>) -> Opstamp
+    ensures { result ≡ delete_opstamp deletes }
+{
+    match deletes {
+        Some(meta) => meta.opstamp,
+        None => 0,
     }
 }
 

@@ -8,7 +8,7 @@ ghost use Rattle.tv_index.specs.TrackedMetas.{IsInOrder, put_all, tracked_commit
 
 use crate::index_meta::UntrackedIndexMeta;
 use crate::index_settings::IndexSettings;
-use crate::printing::meta_text;
+use crate::meta_text::print_meta;
 use crate::schema::Schema;
 use crate::segments::in_order;
 use crate::tracked::{SegmentMeta, SegmentMetaInventory};
@@ -57,13 +57,13 @@ impl IndexMeta {
     {
         let found = by_id(alloc, self.segments.as_slice())?;
         let segments = in_order(alloc, &found)?;
-        meta_text(
+        print_meta(
             alloc,
             &self.index_settings,
-            segments.as_slice(),
             &self.schema,
+            segments.as_slice(),
             self.opstamp,
-            &self.payload,
+            self.payload.as_deref(),
         )
     }
 }

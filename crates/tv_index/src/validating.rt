@@ -10,7 +10,7 @@ ghost use Rattle.tv_index.specs.Indexes.{KeepsIndex, MeansSuch};
 ghost use Rattle.tv_index.specs.Segments.{entry_of};
 
 use crate::index::Index;
-use crate::opening::load_some;
+use crate::opening::load_meta;
 use crate::segment_meta::InnerSegmentMeta;
 use crate::tracked::{push_names, set_of};
 use std::alloc::Global;
@@ -35,7 +35,7 @@ impl<D: Directory> Index<D> {
             self.old.schema result }
         ensures frame { KeepsIndex (OnlyReads D.told) D.view self.old self.new }
     {
-        let meta = load_some(alloc, &mut self.directory, Some(&self.schema))?;
+        let meta = load_meta(alloc, &mut self.directory, Some(&self.schema))?;
         let managed = self.directory.list_managed_files();
         let names = looked_at(alloc, meta.segments.as_slice(), managed)?;
         damaged_among(alloc, &mut self.directory, names.as_slice())

@@ -2,10 +2,10 @@ use Rattle.tv_index.specs.NewForms.{form_with}
 use Rattle.tv_index.proofs.Openings.{creates_none, loads_none}
 use Rattle.tv_index.proofs.opening.load_or_create.Goals as goal
 
-pub returns-in_err-meta-2-clause-err : goal.returns-in_err-meta-2-clause-err
-returns-in_err-meta-2-clause-err g c =
+pub returns-in_err-create-clause-err : goal.returns-in_err-create-clause-err
+returns-in_err-create-clause-err g c =
     let loaded = c.in_ok-meta.ensures in
-    let failed = c.in_err-meta-2.ensures in
-    creates_none g.D.Directory c.args.directory.now c.load.new.directory c.create.new.directory (form_with c.args.settings c.args.schema.now) c.from_residual-in_err-meta-2.result c.in_err-meta-2.field-0.0
-    c.from_residual-in_err-meta-2.ensures.1 (λ t. loads_none c.args.schema.now _ c.in_ok-meta.field-0 c.in_default.is (loaded.found t)) loaded.frame.below loaded.faults.quiet
+    let failed = c.in_err-create.ensures in
+    creates_none g.D.Directory c.args.directory.now c.load.new.directory c.create.new.directory (form_with c.args.settings c.args.schema.now) c.from_residual-in_err-create.result c.in_err-create.field-0.0
+    c.from_residual-in_err-create.ensures.1 (λ t. loads_none c.args.schema.now _ c.in_ok-meta.field-0 c.in_default.is (loaded.found t)) loaded.frame.below loaded.faults.quiet
     failed.others failed.leaves failed.faults.cause failed.frame

@@ -22,7 +22,7 @@ returns-clause-damaged g c tells =
     (c.as_slice-2.ensures.value ∙ c.in_ok-names.ensures
     ∙ ap (λ (segments : List InnerSegmentMeta). filter (λ name. has (flat_map segment_names (map entry_of segments)) name) (map string_bytes managed.result.now.keys)) c.as_slice.ensures.value
     ∙ ap (λ (names : List (List ℕ)). filter (λ name. has (flat_map segment_names (map entry_of c.in_ok-meta.meta.segments.items)) name) names) (managed.ensures.names ∙ loaded.frame.names))
-    c.load_some.new.directory.0 c.damaged_among.new.directory.0 loaded.frame.below loaded.faults.quiet (map string_bytes damaged.keys) tells h)) (c.damaged_among.ensures.damaged tells)
+    c.load_meta.new.directory.0 c.damaged_among.new.directory.0 loaded.frame.below loaded.faults.quiet (map string_bytes damaged.keys) tells h)) (c.damaged_among.ensures.damaged tells)
 
 pub returns-clause-faults : goal.returns-clause-faults
 returns-clause-faults g c =
@@ -34,4 +34,4 @@ returns-clause-faults g c =
     (c.as_slice-2.ensures.value ∙ c.in_ok-names.ensures
     ∙ ap (λ (segments : List InnerSegmentMeta). filter (λ name. has (flat_map segment_names (map entry_of segments)) name) (map string_bytes managed.result.now.keys)) c.as_slice.ensures.value
     ∙ ap (λ (names : List (List ℕ)). filter (λ name. has (flat_map segment_names (map entry_of c.in_ok-meta.meta.segments.items)) name) names) (managed.ensures.names ∙ loaded.frame.names))
-    c.load_some.new.directory.0 c.damaged_among.new.directory.0 loaded.frame.below loaded.faults.quiet c.damaged_among.result c.damaged_among.ensures.faults)
+    c.load_meta.new.directory.0 c.damaged_among.new.directory.0 loaded.frame.below loaded.faults.quiet c.damaged_among.result c.damaged_among.ensures.faults)

@@ -1,4 +1,4 @@
-use Rattle.std.proofs.Common.{◌≡◌, List, [], ap, map, ◌∙◌}
+use Rattle.std.proofs.Common.{◌≡◌, ℕ, Option, List, [], ap, map, ◌∙◌}
 use Rattle.std.proofs.lemmas.Result.{IfOk-weaker}
 use Rattle.tv_model.specs.Commits.{printed}
 use Rattle.tv_index.specs.Segments.{entry_of}
@@ -15,6 +15,6 @@ returns c =
     ∙ ap (λ (l : List Share). put_all [] (map (λ s. s.1) l)) c.as_slice.ensures.value in
     record {
       text =
-          IfOk-weaker c.meta_text.result _ _ (λ text h commit order. h ∙ ap (printed (tracked_settings meta) meta.schema)
-          (ordered_commit (tracked_commit meta) commit (map entry_of c.as_slice-2.result.now) order segments)) c.meta_text.ensures;
+          IfOk-weaker c.print_meta.result _ _ (λ text h commit order. h ∙ ap (λ (p : Option (List ℕ)). printed (tracked_settings meta) meta.schema (record { opstamp = meta.opstamp; payload = p; segments = map entry_of c.as_slice-2.result.now })) c.as_deref.ensures.value
+          ∙ ap (printed (tracked_settings meta) meta.schema) (ordered_commit (tracked_commit meta) commit (map entry_of c.as_slice-2.result.now) order segments)) c.print_meta.ensures.text;
     }

@@ -1,7 +1,7 @@
 use Rattle.std.proofs.Common.{◌∙◌, ap, sym, Some}
 use Rattle.std.specs.Prelude.{option_map}
 use Rattle.tv_index.proofs.Standings.{parsed_faults, parsed_meta, unread_cause}
-use Rattle.tv_index.proofs.opening.load_some.Goals as goal
+use Rattle.tv_index.proofs.opening.load_meta.Goals as goal
 
 pub returns-in-Ok : goal.returns-in-Ok
 returns-in-Ok g c =
