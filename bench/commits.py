@@ -12,14 +12,15 @@ collection, which deletes those of the segment before.
 - `Commits.java` commits one document of one byte with Lucene 8, which deletes the files of the commit before. It
   has an order of its own, with fewer files and syncs. Without the jar it is left out.
 
-All run in turn, each time in a new folder, and the fastest run of each counts: the whole process for `tv` and C,
-the commits alone for Lucene, since Java takes long to start. Then the system calls on the folder are counted in
-runs of their own under `strace`.
+All run once in each round, each time in a new folder, and each round starts with the next one. Before a run all
+that was written goes to the device, so that no run pays for another one's writes. The seconds of all rounds are
+summed: of the whole process for `tv` and C, of the commits alone for Lucene, since Java takes long to start. Then
+the system calls on the folder are counted in runs of their own under `strace`.
 """
 
 import argparse
 import collections
-import math
+import os
 import pathlib
 import re
 import shutil
@@ -97,19 +98,26 @@ def files_in(folder):
     return {file.name: file.read_bytes() for file in folder.iterdir()}
 
 
-def fastest_of(commands, script, arguments):
-    """The seconds of the fastest run of each."""
-    fastest = dict.fromkeys(commands, math.inf)
-    for _ in range(arguments.rounds):
+def in_turn(names, number):
+    """The names in the order of the round with this number, where round 0 has them as they stand."""
+    first = number % len(names)
+    return names[first:] + names[:first]
+
+
+def timed(commands, script, arguments):
+    """The seconds of each, one number for each round."""
+    seconds = {name: [] for name in commands}
+    for number in range(arguments.rounds):
         left = {}
-        for name, command in commands.items():
+        for name in in_turn(list(commands), number):
             with tempfile.TemporaryDirectory(dir=arguments.under) as place:
                 words = common.replay_in(place)
-                fastest[name] = min(fastest[name], run(command(words), script))
+                os.sync()
+                seconds[name].append(run(commands[name](words), script))
                 left[name] = files_in(words[1])
         if left["tv"] != left["C"]:
             sys.exit("tv and C have left different files")
-    return fastest
+    return seconds
 
 
 def calls_of(command, script, under):
@@ -149,16 +157,24 @@ def print_calls(commands, script, arguments):
     print(f"of tv elsewhere: {listed(elsewhere)}")
 
 
-def print_speeds(fastest, jar, arguments):
+def beside(seconds, other):
+    """How many times as fast as another one `tv` is in all rounds, and words that tell it with single rounds."""
+    ours, theirs = seconds["tv"], seconds[other]
+    ratio = sum(theirs) / sum(ours)
+    single = [their / our for our, their in zip(ours, theirs)]
+    words = f"tv is {ratio:.2f} times as fast as {other} ({min(single):.2f} to {max(single):.2f} in single rounds)"
+    return ratio, words
+
+
+def print_speeds(seconds, jar, arguments):
     """Says how fast each is, and how fast `tv` is beside the others."""
-    speeds = {name: arguments.commits / seconds for name, seconds in fastest.items()}
-    for name, speed in speeds.items():
+    for name, took in seconds.items():
+        speed = arguments.commits * len(took) / sum(took)
         print(f"{name if name != 'Lucene' else jar.stem}: {speed:.1f} commits a second")
-    ratio = speeds["tv"] / speeds["C"]
-    word = "at least" if ratio >= LIMIT else "LESS THAN"
-    print(f"tv is {ratio:.2f} times as fast as C: {word} {LIMIT} times")
-    if "Lucene" in speeds:
-        print(f"tv is {speeds['tv'] / speeds['Lucene']:.2f} times as fast as Lucene")
+    ratio, words = beside(seconds, "C")
+    print(f"{words}: {'at least' if ratio >= LIMIT else 'LESS THAN'} {LIMIT} times")
+    if "Lucene" in seconds:
+        print(beside(seconds, "Lucene")[1])
     else:
         print("Lucene: left out, since java or its jar isn't here (Debian's liblucene8-java has that)")
 
@@ -168,7 +184,7 @@ def main():
     parser.add_argument("--built", action="store_true", help="take the program as it lies there")
     parser.add_argument("--commits", type=int, default=200, help="how many commits a run makes")
     parser.add_argument("--collect", action="store_true", help="collect the segment before after each commit")
-    parser.add_argument("--rounds", type=int, default=3, help="how often each is run, in turn")
+    parser.add_argument("--rounds", type=int, default=4, help="how often each is run, in turn")
     parser.add_argument("--under", help="where the folders are made, a folder for temporary files if left out")
     arguments = parser.parse_args()
     program, jar = common.tv(arguments.built), lucene()
@@ -179,7 +195,7 @@ def main():
         script = pathlib.Path(work) / "script"
         script.write_text(script_of(arguments.commits, arguments.collect))
         commands = commands_of(program, compiled, jar, arguments)
-        print_speeds(fastest_of(commands, script, arguments), jar, arguments)
+        print_speeds(timed(commands, script, arguments), jar, arguments)
         print_calls(commands, script, arguments)
     return 0
 
