@@ -1,4 +1,5 @@
-//! The program `tv`: replays a script of events over the directory of an index.
+//! The program `tv`: replays a script of events over the directory of an index, or one that it
+//! generates.
 #![tactic(auto)]
 
 use std::io::ErrorKind;
@@ -12,10 +13,16 @@ const FAILED: u8 = 1;
 
 const WANT_OF_MEMORY: u8 = 3;
 
-// The words of the command line, without the name of the program.
+// The words of the command line, without the name of the program. None are given where one of them
+// isn't UTF-8, since no command has such a word.
 fn words(rt: &HostRuntime) -> io::Result<Vec<String>> {
     let mut words = Vec::new(rt.alloc());
-    for word in env::args(rt)?.skip(1) {
+    let args = match env::args(rt) {
+        Ok(args) => args,
+        Err(error) if error.kind() == ErrorKind::InvalidData => return Ok(words),
+        Err(error) => return Err(error),
+    };
+    for word in args.skip(1) {
         words.push(word)?;
     }
     Ok(words)

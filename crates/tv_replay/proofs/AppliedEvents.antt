@@ -37,6 +37,7 @@ use Rattle.tv_model.proofs.SoundStates.{step_sound, holds_sound}
 use Rattle.tv_model.proofs.WholeStates.{after_whole}
 use Rattle.tv_model.proofs.Serving.{serves, serves_as_sealed}
 use Rattle.tv_model.proofs.Collects.{collects_in}
+use Rattle.tv_model.proofs.Validating.{validates}
 use Rattle.tv_replay.specs.declared.next_event.ScriptError.{ScriptError}
 use Rattle.tv_replay.specs.declared.next_event.ScriptError.TheVariants as failed
 use Rattle.tv_replay.specs.declared.lines.LineError.TheVariants as line
@@ -408,6 +409,7 @@ replays g before schema mid new now text left tally opened said refusals holds h
       unlocked = λ t locks held index. r.applied.unlocked t locks (locked locks held) index.state (opened.holds t index).1 (whole t index);
       serves = λ t index. serves index.state r.turns index.opens.reading index.opens.next;
       collects = λ t index. collects_in index.state r.turns (opens_managed_sorted index.form.settings index.form.schema old_reads index.state index.opens);
+      validates = λ t index front rest outcomes is. validates (after index.state front);
       refused =
           subst (λ (n : ℕ). RoseBy (all_refused r.turns) n (g.view now).refusals) refusals
           (subst (λ (n : ℕ). RoseBy (all_refused r.turns) (g.view mid.outside).refusals n) (sym refusals_now) r.applied.refused);

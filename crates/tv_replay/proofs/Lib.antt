@@ -10,3 +10,9 @@ pub mod Complete
 pub mod Runs
 pub mod ReplayFrames
 pub mod ReadAhead
+pub mod GeneratedLines
+pub mod CollectedNames
+pub mod StandingIndexes
+pub mod FirstRuns
+pub mod CommandWords
+pub mod CommandRuns

@@ -38,7 +38,8 @@ use Rattle.tv_replay.specs.Replays.{ReplayCause, LineRefusal, IsLockBusy, IsRefu
 use Rattle.tv_replay.specs.Completeness.{IsReady}
 use Rattle.tv_replay.proofs.Complete.{only_memory}
 use Rattle.tv_replay.proofs.Stopping.{none_met}
-use Rattle.tv_replay.specs.Runs.{schema_line, folder_line, replay_words, SaysLine, OnlySays, SaysError, PlaceRefuses, AskedReplay, Scene, Reports, ReportsError, Stops, EndsReplay, IsUndisturbedRun}
+use Rattle.tv_replay.specs.Commands.{replay_words}
+use Rattle.tv_replay.specs.Runs.{schema_line, folder_line, SaysLine, OnlySays, SaysError, PlaceRefuses, AskedReplay, Scene, Reports, ReportsError, Stops, EndsReplay, IsUndisturbedRun}
 
 -- a digit is no line feed
 glyph_no_feed : (d : ℕ) → not (digit_glyph false d == 10) ≡ true
@@ -158,7 +159,7 @@ texts_then before after = record {
   scripts = λ tells path. after.scripts tells path ∙ before.scripts tells path;
 }
 
-folders_then : {O : Type 0} {told : PlaceTold} {first next last : PlaceView O} → KeepsFolders told first next → KeepsFolders told next last → KeepsFolders told first last
+pub folders_then : {O : Type 0} {told : PlaceTold} {first next last : PlaceView O} → KeepsFolders told first next → KeepsFolders told next last → KeepsFolders told first last
 folders_then before after = record {
   texts = texts_then before.texts after.texts;
   folders = λ tells folder. after.folders tells folder ∙ before.folders tells folder;
@@ -260,17 +261,6 @@ stopped_with asked {error = error} gave stops = record {
   memory = λ three. inr (inr (error, stops _ (gave.memory three)));
   statuses = inr gave.statuses;
 }
-
--- three words of which the first is `replay`
-pub are_replay : {A : Type 0} (text : A → List ℕ) (words : List A) (a b c : A) (first folder path : List ℕ) → 3 ≤ length words → length words < 4 → a ≡ get_or words 0 a → b ≡ get_or words 1 b → c ≡ get_or words 2 c
-    → first ≡ text a → folder ≡ text b → path ≡ text c → true ≡ pointwise nat_eq first (codes "replay") → map text words ≡ replay_words folder path
-are_replay text (x ∷ y ∷ z ∷ []) a b c first folder path more less ia ib ic ta tb tc is =
-    let replay : first ≡ codes "replay" = same_text first (codes "replay") is in
-    let x_is : text x ≡ codes "replay" = ap text (sym ia) ∙ sym ta ∙ replay in
-    let y_is : text y ≡ folder = ap text (sym ib) ∙ sym tb in
-    let z_is : text z ≡ path = ap text (sym ic) ∙ sym tc in
-    rw (x_is, y_is, z_is) refl
-are_replay text other a b c first folder path more less ia ib ic ta tb tc is = absurd (omega arith)
 
 pub not_two : (n : ℕ) → (n ≡ 0) ⊎ (n ≡ 1) ⊎ (n ≡ 3) → n ≡ 2 → ⊥
 not_two n (inl none) two = omega arith

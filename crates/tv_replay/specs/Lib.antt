@@ -7,6 +7,9 @@ pub mod AppliedEvents
 pub mod Completeness
 pub mod PlaceView
 pub mod ErrorLines
+pub mod Generated
+pub mod Summaries
+pub mod Commands
 pub mod Runs
 pub mod BenchPlace
 pub mod FolderPlace

@@ -1,7 +1,8 @@
 -- A script replayed over a directory.
-use Rattle.std.specs.Prelude.{ℕ, ◌≡◌, ◌≢◌, ◌⊎◌, ◌+◌, ◌≤◌, true, false, List, [], ◌∷◌, ◌++◌, length, codes, Option, Some, None, IfErr, OnOk, string_bytes}
+use Rattle.std.specs.Prelude.{ℕ, ◌≡◌, ◌≢◌, ◌⊎◌, ◌+◌, ◌≤◌, Bool, true, false, List, [], ◌∷◌, ◌++◌, length, codes, Option, Some, None, IfErr, OnOk, string_bytes}
 use Rattle.std.specs.Fmt.{decimal}
 use Rattle.tv_model.specs.declared.event.Event.{Event}
+use Rattle.tv_model.specs.declared.event.Event.TheVariants as events
 use Rattle.tv_model.specs.Names.{meta_name}
 use Rattle.tv_model.specs.Files.{Reads, Same, Heard, Rose, RoseBy}
 use Rattle.tv_model.specs.Commits.{IndexForm}
@@ -12,6 +13,7 @@ use Rattle.tv_model.specs.Machine.{Turn, step, after, report, events_of, all_ref
 use Rattle.tv_model.specs.Readable.{AllReadGood}
 use Rattle.tv_model.specs.Serving.{Serves, ServesAsSealed}
 use Rattle.tv_model.specs.Collecting.{CollectsIn}
+use Rattle.tv_model.specs.Validating.{Validates}
 use Rattle.tv_model.specs.Script.{lines_of, AreLines}
 use Rattle.tv_model.specs.Index.{DirectoryHolds, FoundIndex, HasFiles, IsSoundImage, OpenedIndex}
 use Rattle.tv_base.specs.Causes.{IsDevice}
@@ -41,10 +43,14 @@ abbrev pub TakesNoLock : State → List Turn → Type 0
 TakesNoLock s [] = Unit {0}
 TakesNoLock s (turn ∷ turns) = (TakesMetaLock s.catalog turn.0 → ⊥) × TakesNoLock (step s turn.0 turn.1).1 turns
 
+-- each validation of a run names the damaged files
+abbrev pub ValidatesIn : State → List Turn → Type 0
+ValidatesIn s turns = (front rest : List Turn) (outcomes : List Bool) → turns ≡ front ++ (events.Validate, outcomes) ∷ rest → Validates (after s front)
+
 -- A replay that answered Ok: an index stood there, or was made, whose files can be read; the script is the lines of some events; from the state of each index to which the directory opened, the report of the machine's run
 -- on these events was told, line by line, and the directory holds the run's last state; each event that reads a commit's files found that it could, and where the
 -- meta lock was held none takes it; no more deletes were refused than their count rose; and from a sound start what it reads is sound. The run's readers and
--- searchers serve as `Serves` says, and from a sound start they show each file as it was sealed; its collections take what nothing needs, as `CollectsIn` says.
+-- searchers serve as `Serves` says, and from a sound start they show each file as it was sealed; its collections take what nothing needs, as `CollectsIn` says; its validations name the damaged files.
 pub record Replays {O W C : Type 0} (g : Ghosts O W C) (before now : O) (schema : List ℕ) (script : Option (List ℕ)) (tally : Tally) : Type 0 where
   pub turns : List Turn
   pub counted : tally.events ≡ length turns
@@ -57,6 +63,7 @@ pub record Replays {O W C : Type 0} (g : Ghosts O W C) (before now : O) (schema 
   pub unlocked : g.told.content → g.told.locks → (g.view before).locks meta_lock_name ≡ true → (index : OpenedIndex schema (g.view before).reads) → TakesNoLock index.state turns
   pub serves : g.told.content → (index : OpenedIndex schema (g.view before).reads) → Serves index.state turns
   pub collects : g.told.content → (index : OpenedIndex schema (g.view before).reads) → CollectsIn index.state turns
+  pub validates : g.told.content → (index : OpenedIndex schema (g.view before).reads) → ValidatesIn index.state turns
   pub refused : RoseBy (all_refused turns) (g.view before).refusals (g.view now).refusals
   pub opens : g.told.content → (text : List ℕ) → IsSchema schema text → IsSoundImage text (g.view before).reads → OpenedIndex schema (g.view before).reads
   pub as_sealed : g.told.content → (text : List ℕ) → IsSchema schema text → IsSoundImage text (g.view before).reads → (index : OpenedIndex schema (g.view before).reads) → ServesAsSealed index.state turns

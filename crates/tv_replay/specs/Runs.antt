@@ -1,5 +1,5 @@
 -- What a run of the program does.
-use Rattle.std.specs.Prelude.{ℕ, ◌≡◌, ◌≢◌, ◌<◌, ◌⊎◌, Bool, true, false, List, [], ◌∷◌, ◌++◌, None, Some, IsSome, codes}
+use Rattle.std.specs.Prelude.{ℕ, ◌≡◌, ◌≢◌, ◌<◌, ◌≤◌, ◌⊎◌, Bool, true, false, List, [], ◌∷◌, ◌++◌, None, Some, IsSome, codes}
 use Rattle.tv_base.specs.Streams.{SourceView}
 use Rattle.tv_base.specs.declared.error.TantivyError.{TantivyError}
 use Rattle.tv_base.specs.declared.error.TantivyError.TheVariants as errors
@@ -12,11 +12,9 @@ use Rattle.tv_replay.specs.declared.replaying.Tally.{Tally}
 use Rattle.tv_replay.specs.ErrorLines.{error_line}
 use Rattle.tv_replay.specs.Completeness.{IsReady}
 use Rattle.tv_replay.specs.PlaceView.{PlaceTold, PlaceView, KeepsFolders, KeepsTexts, SaysPart}
+use Rattle.tv_replay.specs.Commands.{generate_words, most_commits, replay_words}
+use Rattle.tv_replay.specs.Summaries.{IsSummaryOf}
 use Rattle.tv_replay.specs.Replays.{Replays, ReplayFrame, IsReadOut, IsQuietAt, FailsReplay, StopsReplay}
-
--- the words that replay a script over a folder, with the schema of a path
-abbrev pub replay_words : List ℕ → List ℕ → List (List ℕ)
-replay_words folder path = codes "replay" ∷ folder ∷ path ∷ []
 
 -- what is said where the words are others
 abbrev pub usage_line : List ℕ
@@ -28,6 +26,10 @@ schema_line = codes "error io"
 
 abbrev pub folder_line : List ℕ
 folder_line = codes "error folder"
+
+-- what is said where the place refused the summary of a generated script
+abbrev pub summary_refusal : List ℕ
+summary_refusal = codes "error io"
 
 -- what is told or said where memory was wanted
 abbrev pub memory_line : List ℕ
@@ -69,6 +71,33 @@ pub record SaysError {O : Type 0} (told : PlaceTold) (old new : PlaceView O) (er
   pub other : status ≡ 1 → (error ≢ errors.Memory) × OnlySays told old new (error_line error)
   pub memory : status ≡ 3 → OnlySays told old new memory_line
   pub statuses : (status ≡ 1) ⊎ (status ≡ 3)
+
+-- The summary of a generated script was said, and the place refused no call.
+pub record SaysSummary {O : Type 0} (told : PlaceTold) (n : ℕ) (old new : PlaceView O) : Type 0 where
+  pub summary : List ℕ
+  pub summary_is : IsSummaryOf n summary
+  pub said : told.said → new.said ≡ old.said ++ summary ++ 10 ∷ []
+  pub quiet : new.faults ≡ old.faults
+
+-- It was to be said, and the place refused that: a part of it was said at most. Then this line was said, or a part of it where the place refused that too.
+pub record RefusesSummary {O : Type 0} (told : PlaceTold) (n : ℕ) (old new : PlaceView O) (line : List ℕ) : Type 0 where
+  pub summary : List ℕ
+  pub summary_is : IsSummaryOf n summary
+  pub between : PlaceView O
+  pub refused : Rose old.faults between.faults
+  pub part : told.said → SaysPart old.said between.said summary
+  pub says : OnlySays told between new line
+
+-- What stands after a script of so many commits was to be generated and replayed, and that ended with this status.
+pub record EndsGenerate {O : Type 0} (told : PlaceTold) (n : ℕ) (old new : PlaceView O) (status : ℕ) : Type 0 where
+  -- 0: its summary was said
+  pub done : status ≡ 0 → SaysSummary told n old new
+  -- 1: the place refused that
+  pub failed : status ≡ 1 → RefusesSummary told n old new summary_refusal
+  -- 3: memory was wanted for the replay, or, where the place refused the summary, for the line of that error
+  pub memory : status ≡ 3 → OnlySays told old new memory_line ⊎ RefusesSummary told n old new memory_line
+  pub statuses : (status ≡ 0) ⊎ (status ≡ 1) ⊎ (status ≡ 3)
+  pub frame : KeepsFolders told old new
 
 -- The line was told, at a moment of the call; or no more than a first part of it was, without its line feed.
 pub record TellsOrPart {W : Type 0} (told : Told) (old new : View W) (line : List ℕ) (is_told : Bool) : Type 0 where
@@ -158,9 +187,10 @@ module _ {O W C : Type 0} (g : Ghosts O W C) (told : PlaceTold) where
     pub memory : status ≡ 3 → Reports stopped old new memory_line
     pub statuses : (status ≡ 1) ⊎ (status ≡ 3)
 
-  -- what stands after a run of these words, where they are those of a replay
-  abbrev pub EndsRun : (words : List (List ℕ)) → (old new : Scene O) → (status : ℕ) → Type 0
-  EndsRun words old new status = (folder path : List ℕ) → words ≡ replay_words folder path → EndsReplay (record { folder = folder; path = path; old = old; new = new }) status
+  -- What stands after a run of these words: a script was replayed, or one was generated, and that of the caller is as it was.
+  pub record EndsRun (words : List (List ℕ)) (old new : Scene O) (status : ℕ) : Type 0 where
+    pub replayed : (folder path : List ℕ) → words ≡ replay_words folder path → EndsReplay (record { folder = folder; path = path; old = old; new = new }) status
+    pub generated : (n : ℕ) → n ≤ most_commits → words ≡ generate_words n → EndsGenerate told n old.place new.place status × (new.script ≡ old.script)
 
   -- A run that replays a script over a folder, with the schema of a path, where all of this is told: both are there, they and the script are ready for a replay, and
   -- nothing is refused, neither by the place nor by the directory nor in the script.

@@ -113,6 +113,7 @@ impl<R: Files<File = File> + Print + Clone + Drop> Place for FolderPlace<R> {
     fn script(&mut self, path: &str) -> Result<ReadSource<File>, IoError> {
         match File::open(&self.rt, path) {
             Ok(file) => Ok(ReadSource::new(self.alloc, file)),
+            Err(error) if error.kind() == ErrorKind::OutOfMemory => Err(IoError::Memory),
             Err(_) => Err(IoError::Fault(self.refuse())),
         }
     }

@@ -3,8 +3,10 @@
 #![tactic(auto)]
 
 mod bench_place;
+mod command;
 mod error_line;
 mod folder_place;
+mod generating;
 mod lines;
 mod next_event;
 mod place;
@@ -13,10 +15,12 @@ mod reader_lines;
 mod replaying;
 mod script;
 mod script_buffer;
+mod summary;
 mod words;
 
 pub use bench_place::BenchPlace;
 pub use folder_place::FolderPlace;
+pub use generating::generate;
 pub use place::Place;
 pub use program::run;
 pub use replaying::{Replayed, Tally, replay};

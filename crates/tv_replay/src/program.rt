@@ -2,12 +2,15 @@
 ghost use Rattle.std.specs.Prelude.{◌≡◌, ◌≢◌, ◌⊎◌, ◌↔◌, List, ℕ, None, IsSome, true, map, string_bytes};
 ghost use Rattle.tv_model.specs.Lines.{has_no_feed};
 ghost use Rattle.tv_replay.specs.ErrorLines.{error_line};
-ghost use Rattle.tv_replay.specs.Runs.{replay_words, usage_line, OnlySays, SaysError, TellsOrPart};
-ghost use Rattle.tv_replay.specs.Runs.{IsStatusOf, IsUndisturbedRun, EndsRun, EndsReplay, Reports, ReportsError};
+ghost use Rattle.tv_replay.specs.Commands.{replay_words, IsNoCommand};
+ghost use Rattle.tv_replay.specs.Runs.{usage_line, OnlySays, SaysError, TellsOrPart};
+ghost use Rattle.tv_replay.specs.Runs.{IsStatusOf, IsUndisturbedRun, EndsGenerate, EndsRun, EndsReplay, Reports, ReportsError};
 
+use crate::command::{Command, command_of};
 use crate::error_line::error_line;
 use crate::place::Place;
 use crate::replaying::{Replayed, replay};
+use crate::summary::summary_of;
 use std::alloc::Global;
 use tv_base::{Source, TantivyError};
 use tv_directory::Outside;
@@ -22,9 +25,11 @@ const MEMORY_LINE: &[u8] = b"error memory";
 /// where that was done, 1 after an error, 2 where the words are of no command, and 3 where memory was
 /// wanted.
 ///
-/// So far the words are `replay FOLDER SCHEMA`: the script is replayed over the folder, with the
-/// schema of the path. After an error its line is told to the folder's owner, or said: one line, or a
-/// part of it where the place refuses that too.
+/// `replay FOLDER SCHEMA` replays the script over the folder, with the schema of the path. After an
+/// error its line is told to the folder's owner, or said: one line, or a part of it where the place
+/// refuses that too. `generate N`, with N from 0 to 1000, generates a script of N commits, replays it
+/// over a new index in memory, and says its summary. (So far the other words of the usage are of no
+/// command.)
 pub fn run<P: Place, R: Source>(
     alloc: Global,
     words: &[String],
@@ -35,11 +40,10 @@ pub fn run<P: Place, R: Source>(
     requires paths { (folder path : List ℕ) → map string_bytes words.now ≡ replay_words folder path
         → P.is_folder_path folder × P.is_schema_path path }
     ensures free { (P.view place.new).lent ≡ None }
-    ensures usage { (result ≡ 2)
-        ↔ ((folder path : List ℕ) → map string_bytes words.now ≢ replay_words folder path) }
+    ensures usage { (result ≡ 2) ↔ IsNoCommand (map string_bytes words.now) }
     ensures usage_line { result ≡ 2
         → OnlySays P.told (P.view place.old) (P.view place.new) usage_line }
-    // What was replayed, told and said.
+    // What was replayed or generated, told and said.
     ensures ends { EndsRun P.Out.Directory P.told (map string_bytes words.now)
         (record { place = P.view place.old; script = R.view script.old })
         (record { place = P.view place.new; script = R.view script.new }) result }
@@ -50,14 +54,27 @@ pub fn run<P: Place, R: Source>(
         → (result ≡ 0) ⊎ (result ≡ 3) }
     ensures statuses { (result ≡ 0) ⊎ (result ≡ 1) ⊎ (result ≡ 2) ⊎ (result ≡ 3) }
 {
-    match words {
-        [command, folder, path] if command.as_str() == "replay" => {
-            run_replay(alloc, folder.as_str(), path.as_str(), place, script)
-        }
-        _ => {
+    match command_of(words) {
+        Some(Command::Replay(folder, path)) => run_replay(alloc, folder, path, place, script),
+        Some(Command::Generate(n)) => run_generate(alloc, n, place),
+        None => {
             say_line(place, USAGE.as_bytes());
             2
         }
+    }
+}
+
+// Generates a script of `n` commits, replays it over a new index in memory, and says its summary.
+fn run_generate<P: Place>(alloc: Global, n: u32, place: &mut P) -> u8
+    ensures { EndsGenerate P.told n (P.view place.old) (P.view place.new) result }
+{
+    let Ok(summary) = summary_of(alloc, n) else {
+        say_line(place, MEMORY_LINE);
+        return 3;
+    };
+    match place.say(summary.as_bytes()) {
+        Ok(()) => 0,
+        Err(fault) => say_error(alloc, place, TantivyError::IoError(fault)),
     }
 }
 

@@ -14,7 +14,7 @@ use tv_model::{Event, IdList, Memory, SegmentId};
 pub(crate) const LINE_LIMIT: usize = 1_048_576;
 
 // The words of a line, which stand one space apart.
-fn words_of(alloc: Global, line: &[u8]) -> Result<Vec<&[u8]>, AllocError>
+pub(crate) fn words_of(alloc: Global, line: &[u8]) -> Result<Vec<&[u8]>, AllocError>
     ensures { IfOk result
         (λ words. map (λ w. w.now) words.items ≡ slice_split (λ b. b == 32) line.now) }
 {

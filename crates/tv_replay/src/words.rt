@@ -7,7 +7,7 @@ use std::alloc::Global;
 use tv_model::{Blob, Memory, SegmentComponent, SegmentId, Text};
 
 // The components that scripts may name (so far not the delete files).
-const NAMED_COMPONENTS: [SegmentComponent; 6] = [
+pub(crate) const NAMED_COMPONENTS: [SegmentComponent; 6] = [
     SegmentComponent::Postings,
     SegmentComponent::Positions,
     SegmentComponent::FastFields,

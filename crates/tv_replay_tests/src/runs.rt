@@ -52,11 +52,42 @@ fn found<R: Abort, O: Outside + Drop>(
 #[test]
 fn a_run_says_what_there_is_room_for(rt: HostRuntime) {
     let absent = ["replay", "F", "absent.json"];
-    let rows: [(&[&str], usize, u8, &str); 4] = [
+    let rows: [(&[&str], usize, u8, &str); 15] = [
         (&[], 104, 2, USAGE),
         (&[], 103, 2, ""),
         (&absent, 9, 1, "error io\n"),
         (&absent, 8, 1, ""),
+        (
+            &["generate", "0"],
+            104,
+            0,
+            "events 0 stamp 0 files 1 collected 0\n",
+        ),
+        (
+            &["generate", "1"],
+            104,
+            0,
+            "events 22 stamp 1 files 7 collected 0\n",
+        ),
+        (
+            &["generate", "2"],
+            104,
+            0,
+            "events 45 stamp 2 files 13 collected 0\n",
+        ),
+        (
+            &["generate", "1000"],
+            51,
+            0,
+            "events 22999 stamp 1000 files 13 collected 5988\n",
+        ),
+        (&["generate", "0"], 36, 1, "error io\n"),
+        (&["generate", "0"], 8, 1, ""),
+        (&["generate", "1001"], 104, 2, USAGE),
+        (&["generate", "03"], 104, 2, USAGE),
+        (&["generate", "+3"], 104, 2, USAGE),
+        (&["generate"], 104, 2, USAGE),
+        (&["generate", "3", "3"], 104, 2, USAGE),
     ];
     for (words, room, want, line) in rows {
         let bench = empty_bench(&rt, rt.alloc());

@@ -1,0 +1,95 @@
+-- What stands in a directory, next to the state that it holds.
+use Rattle.std.proofs.Common.{◌≡◌, ◌≢◌, ℕ, zero, suc, ◌+◌, ◌<◌, Bool, true, false, true≢false, cond, not, ◌&&◌, ◌||◌, nat_le, List, [], ◌∷◌, ◌++◌, filter, get_or, length, length-append, map, take, Option, Some, None, codes, refl, sym, ap, subst, ◌∙◌, arith}
+use Rattle.std.specs.Prelude.{IsSome, is_some}
+use Rattle.std.specs.List.{list_all}
+use Rattle.std.proofs.lemmas.Bool.{and_parts}
+use Rattle.std.proofs.lemmas.List.{map-append, take_more}
+use Rattle.std.proofs.lemmas.List.Elements.{filter-append}
+use Rattle.tv_model.specs.Commits.{Commit, Settings}
+use Rattle.tv_model.specs.Files.{Reads, Same}
+use Rattle.tv_model.specs.Index.{DirectoryHolds, FileReads, IsFileOf}
+use Rattle.tv_model.specs.Listing.{Lists}
+use Rattle.tv_model.specs.Meaning.{Means}
+use Rattle.tv_model.specs.Names.{is, is_file_name, is_name_byte, is_plain, is_undotted, list_name, meta_name}
+use Rattle.tv_model.specs.State.{State, FileState, Sealed, Open, Left, file_at}
+use Rattle.tv_model.proofs.Entries.{is_text, is_itself}
+use Rattle.tv_model.proofs.ListTexts.{lists_one}
+use Rattle.tv_model.proofs.OneMeaning.{one_meaning}
+use Rattle.tv_model.proofs.PlainNames.{plain_is_file_name}
+use Rattle.tv_replay.specs.Summaries.{files_of, has_file, IsStanding}
+
+fourth : (a b c d e : Bool) → (a && b && c && d && e) ≡ true → d ≡ true
+fourth a b c d e h = (and_parts (a && b && c) d (and_parts (a && b && c && d) e h).0).1
+
+undotted : (name : List ℕ) → is_plain name ≡ true → is_undotted name ≡ true
+undotted name plain = fourth (nat_le 1 (length name)) (nat_le (length name) 255) (list_all is_name_byte name) (is_undotted name) (not (is name (codes "failed"))) plain
+
+there : (file : Option FileState) (read : Option (List ℕ)) → FileReads file read → is_some read ≡ is_some file
+there None read h = ap is_some h
+there (Some (Sealed bytes)) read h = ap is_some h
+there (Some (Open body)) read h = h
+there (Some Left) read h = h
+
+-- a plain name reads where it is that of a file of the index
+reads_file : (settings : Settings) (schema : List ℕ) (reads : Reads) (s : State) (name : List ℕ) → DirectoryHolds settings schema reads s → is_plain name ≡ true → is_some (reads name) ≡ has_file s name
+reads_file settings schema reads s name holds plain =
+    elim (is name meta_name) as (λ b. is name meta_name ≡ b → is_some (reads name) ≡ (b || is_some (file_at s name))) [
+      | true ↦ λ same. ap (λ (n : List ℕ). is_some (reads n)) (is_text name meta_name same) ∙ ap is_some holds.meta.1
+      | false ↦ λ other.
+          let apart : name ≢ meta_name = λ same. true≢false (sym (ap (λ (n : List ℕ). is n meta_name) same ∙ is_itself meta_name) ∙ other) in
+          there (file_at s name) (reads name) (holds.files name (undotted name plain, apart))
+    ] refl
+
+same_filter : (p q : List ℕ → Bool) (names : List (List ℕ)) → ((name : List ℕ) → is_plain name ≡ true → p name ≡ q name) → list_all is_plain names ≡ true → filter p names ≡ filter q names
+same_filter p q [] same plain = refl
+same_filter p q (name ∷ names) same plain =
+    let parts = and_parts (is_plain name) (list_all is_plain names) plain in
+    ap (λ (b : Bool). cond b (name ∷ filter p names) (filter p names)) (same name parts.0) ∙ ap (λ (l : List (List ℕ)). cond (q name) (name ∷ l) l) (same_filter p q names same parts.1)
+
+-- the number of the commit that is read, and how many managed names read
+pub stands : (settings others : Settings) (schema other bytes : List ℕ) (commit : Commit) (reads now : Reads) (names : List (List ℕ)) (opstamp files : ℕ) (s : State)
+    → DirectoryHolds settings schema reads s → s.managed ≡ names → reads meta_name ≡ Some bytes → Means others other bytes commit → opstamp ≡ commit.opstamp
+    → Same reads now → list_all is_plain names ≡ true → files ≡ length (filter (λ name. is_some (now name)) names) → IsStanding s opstamp files
+stands settings others schema other bytes commit reads now names opstamp files s holds managed read means is_opstamp same plain counted =
+    let text : ◌≡◌ {A = Option (List ℕ)} (Some bytes) (Some holds.meta.0) = sym read ∙ holds.meta.1 in
+    let bytes_are : bytes ≡ holds.meta.0 = cc in
+    let one = one_meaning holds.meta.0 settings others s.catalog.commit commit holds.meta.2.tree means.tree holds.meta.2.spelled (rw bytes_are at means.spelled) in
+    record {
+      opstamp_is = is_opstamp ∙ ap (λ (c : Commit). c.opstamp) (sym one.1);
+      files_are =
+          counted
+          ∙ ap (λ (l : List (List ℕ)). length l) (same_filter (λ name. is_some (now name)) (has_file s) names (λ name p. ap is_some (same name) ∙ reads_file settings schema reads s name holds p) plain)
+          ∙ ap (λ (l : List (List ℕ)). length (filter (has_file s) l)) (sym managed);
+    }
+
+-- the managed names of a directory that was wrapped are those of the state that it holds
+pub managed_are : (read : Option (List ℕ)) (names managed : List (List ℕ)) → Lists read names → Lists read managed → managed ≡ names
+managed_are read names managed wrapped held = lists_one read managed names held wrapped
+
+-- a directory that reads the same holds the same state
+pub same_holds : (settings : Settings) (schema : List ℕ) (reads now : Reads) (s : State) → Same reads now → DirectoryHolds settings schema reads s → DirectoryHolds settings schema now s
+same_holds settings schema reads now s same holds = record {
+  names = holds.names;
+  files = λ n is. subst (FileReads (file_at s n)) (sym (same n)) (holds.files n is);
+  meta = (holds.meta.0, same meta_name ∙ holds.meta.1, holds.meta.2);
+  listing = subst (λ (r : Option (List ℕ)). Lists r s.managed) (sym (same list_name)) holds.listing;
+}
+
+-- ---- how many names read, one after the other
+
+last_counted : (p : List ℕ → Bool) (name : List ℕ) (b : Bool) → p name ≡ b → length (filter p (name ∷ [])) ≡ cond b 1 0
+last_counted p name true is = ap (λ (c : Bool). length (cond c (name ∷ []) [])) is
+last_counted p name false is = ap (λ (c : Bool). length (cond c (name ∷ []) [])) is
+
+pub counted_more : {X : Type 0} (p : List ℕ → Bool) (f : X → List ℕ) (xs : List X) (i : ℕ) (x : X) (b : Bool) → i < length xs → x ≡ get_or xs i x → p (f x) ≡ b
+    → length (filter p (map f (take (i + 1) xs))) ≡ length (filter p (map f (take i xs))) + cond b 1 0
+counted_more {X} p f xs i x b within is reads =
+    let more : take (i + 1) xs ≡ take i xs ++ x ∷ [] = take_more xs i x within ∙ ap (λ (y : X). take i xs ++ y ∷ []) (sym is) in
+    ap (λ (l : List X). length (filter p (map f l))) more ∙ ap (λ (l : List (List ℕ)). length (filter p l)) (map-append f (take i xs) (x ∷ [])) ∙ ap (λ (l : List (List ℕ)). length l) (filter-append p (map f (take i xs)) (f x ∷ []))
+    ∙ length-append (filter p (map f (take i xs))) (filter p (f x ∷ [])) ∙ ap (λ (n : ℕ). length (filter p (map f (take i xs))) + n) (last_counted p (f x) b reads)
+
+-- those that are plain are names of files
+pub plain_at : {X : Type 0} (f : X → List ℕ) (xs : List X) (i : ℕ) (x : X) → i < length xs → x ≡ get_or xs i x → list_all is_plain (map f xs) ≡ true → is_file_name (f x) ≡ true
+plain_at f [] i x within is plain = absurd (omega (arith, within))
+plain_at f (y ∷ xs) zero x within is plain = plain_is_file_name (f x) (ap (λ z. is_plain (f z)) is ∙ (and_parts (is_plain (f y)) (list_all is_plain (map f xs)) plain).0)
+plain_at f (y ∷ xs) (suc i) x within is plain = plain_at f xs i x (omega (arith, within)) is (and_parts (is_plain (f y)) (list_all is_plain (map f xs)) plain).1
