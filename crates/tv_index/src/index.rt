@@ -1,5 +1,5 @@
 //! An index in a directory.
-ghost use Rattle.std.specs.Prelude.{◌≡◌, IfOk, IfErr, MatchResult, OnErr, OnOk, None, Some, false, is_some, map};
+ghost use Rattle.std.specs.Prelude.{◌≡◌, [], IfOk, IfErr, MatchResult, OnErr, OnOk, None, Some, false, is_some, map};
 ghost use Rattle.std.specs.Borrow.{sem};
 ghost use Rattle.std.specs.List.{list_any};
 ghost use Rattle.tv_base.specs.Entries.{is_full, one_more};
@@ -12,10 +12,11 @@ ghost use Rattle.tv_index.specs.Indexes.{NotCreated, NotStanding, OpensIndexOf, 
 ghost use Rattle.tv_index.specs.Lending.{lends_directory, lends_inventory, lends_settings};
 ghost use Rattle.tv_index.specs.NewForms.{NotOpenedForm, form_with};
 ghost use Rattle.tv_index.specs.Settings.{default_index_settings};
-ghost use Rattle.tv_index.specs.Standing.{MetaFaults};
+ghost use Rattle.tv_index.specs.Standing.{LoadsMeta, MetaFaults};
 ghost use Rattle.tv_index.specs.Tracked.{ShareAllCause, Tracks, share_of};
 
 use crate::index_builder::IndexBuilder;
+use crate::index_meta::UntrackedIndexMeta;
 use crate::index_settings::IndexSettings;
 use crate::opening::{create, load_meta, open_or_create_with, settled};
 use crate::refusals::error_of;
@@ -74,6 +75,29 @@ impl<D: Directory> Index<D> {
         directory.exists(META_FILEPATH)
     }
 
+    /// The index in a directory with managed names, made with these settings and this schema, of
+    /// whose segments no share is out. Takes no memory.
+    pub fn from_parts(
+        alloc: Global,
+        directory: ManagedDirectory<D>,
+        settings: IndexSettings,
+        schema: Schema,
+    ) -> Index<D>
+        ensures { result ≡ record {
+          directory = directory;
+          settings = settings;
+          schema = schema;
+          kept = [];
+        } }
+    {
+        Index {
+            directory,
+            settings,
+            schema,
+            inventory: SegmentMetaInventory::new(alloc),
+        }
+    }
+
     /// Opens the index that stands in a directory. Its schema is the one that `meta.json` spells,
     /// with the keys in the order of their bytes and without blanks. A refusal gives the directory
     /// back.
@@ -88,12 +112,7 @@ impl<D: Directory> Index<D> {
     {
         let mut directory = settled(alloc, directory)?;
         match load_meta(alloc, &mut directory, None) {
-            Ok(meta) => Ok(Index {
-                directory,
-                settings: meta.index_settings,
-                schema: meta.schema,
-                inventory: SegmentMetaInventory::new(alloc),
-            }),
+            Ok(meta) => Ok(Index::from_parts(alloc, directory, meta.index_settings, meta.schema)),
             Err(error) => Err(Refused {
                 error,
                 directory: directory.into_directory(),
@@ -118,12 +137,7 @@ impl<D: Directory> Index<D> {
     {
         let mut directory = settled(alloc, directory)?;
         match create(alloc, &mut directory, &schema, &settings) {
-            Ok(()) => Ok(Index {
-                directory,
-                settings,
-                schema,
-                inventory: SegmentMetaInventory::new(alloc),
-            }),
+            Ok(()) => Ok(Index::from_parts(alloc, directory, settings, schema)),
             Err(error) => Err(Refused {
                 error: TantivyError::from(error),
                 directory: directory.into_directory(),
@@ -161,12 +175,7 @@ impl<D: Directory> Index<D> {
             (form_with settings schema) refused.directory refused.error) }
     {
         let (directory, meta) = open_or_create_with(alloc, directory, &schema, settings)?;
-        Ok(Index {
-            directory,
-            settings: meta.index_settings,
-            schema: meta.schema,
-            inventory: SegmentMetaInventory::new(alloc),
-        })
+        Ok(Index::from_parts(alloc, directory, meta.index_settings, meta.schema))
     }
 
     /// The directory that was handed in. Takes no memory.
@@ -233,11 +242,26 @@ impl<D: Directory> Index<D> {
 }
 
 impl<D: Directory> Index<D> {
-    /// The last commit, with a share of each of its segments.
+    /// The last commit, without a share of its segments.
     ///
     /// `OpenReadError` with `FileDoesNotExist` comes where there is no `meta.json`,
     /// `DataCorruption` where it means no commit, `SchemaError` where it has another schema than
-    /// the index. After an error no share was taken.
+    /// the index.
+    pub fn load_untracked_metas(
+        &mut self,
+        alloc: Global,
+    ) -> Result<UntrackedIndexMeta, TantivyError>
+        ensures meta { IfOk result
+            (LoadsMeta D.Directory self.old.directory.0 (Some self.old.schema)) }
+        ensures faults { MetaFaults D.Directory self.old.directory.0 self.new.directory.0
+            (Some self.old.schema) result }
+        ensures frame { KeepsIndex (OnlyReads D.told) D.view self.old self.new }
+    {
+        load_meta(alloc, &mut self.directory, Some(&self.schema))
+    }
+
+    /// The last commit, with a share of each of its segments. Errors are those of
+    /// `load_untracked_metas`. After an error no share was taken.
     pub fn load_metas(&mut self, alloc: Global) -> Result<IndexMeta, TantivyError>
         ensures commit { IfOk result (LoadsCommit D.Directory self.old self.new) }
         ensures err { OnErr result (self.new.kept ≡ self.old.kept) }
@@ -245,7 +269,7 @@ impl<D: Directory> Index<D> {
             (Some self.old.schema) result }
         ensures frame { KeepsForm (OnlyReads D.told) D.view self.old self.new }
     {
-        let meta = load_meta(alloc, &mut self.directory, Some(&self.schema))?;
+        let meta = self.load_untracked_metas(alloc)?;
         let meta = meta.track(&mut self.inventory)?;
         Ok(meta)
     }

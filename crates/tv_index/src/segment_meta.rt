@@ -5,7 +5,7 @@ ghost use Rattle.tv_index.specs.Segments.{entry_of};
 ghost use Rattle.tv_index.specs.Tracked.{Tracks};
 
 use crate::tracked::{SegmentMeta, SegmentMetaInventory};
-use tv_model::{DeleteMeta, Memory, SegmentId};
+use tv_model::{DeleteMeta, LiveSegment, Memory, SegmentId};
 
 /// What is known of a segment of a commit, as `meta.json` has it.
 #[derive(Clone, Copy, Debug, PartialEq, Eq)]
@@ -19,6 +19,16 @@ pub struct InnerSegmentMeta {
 }
 
 impl InnerSegmentMeta {
+    /// What a commit has of it beside its id. Takes no memory.
+    pub fn live(&self) -> LiveSegment
+        ensures { result ≡ (entry_of self.now).1 }
+    {
+        LiveSegment {
+            max_doc: self.max_doc,
+            deletes: self.deletes,
+        }
+    }
+
     /// Takes the segment into an inventory. No more documents are deleted than there are.
     pub fn track(self, inventory: &mut SegmentMetaInventory) -> Result<SegmentMeta, Memory>
         requires within { num_deleted self.deletes ≤ self.max_doc }

@@ -41,14 +41,11 @@ impl Model for SegmentMeta {
 }
 
 impl SegmentMeta {
-    // What is known of the segment beside its id.
+    // What a commit has of the segment beside its id.
     pub(crate) fn live(&self) -> LiveSegment
         ensures { result ≡ self.now.1.1 }
     {
-        LiveSegment {
-            max_doc: self.inner.max_doc,
-            deletes: self.inner.deletes,
-        }
+        self.inner.live()
     }
 
     // It is a segment of a commit: its numbers are within their ranges.

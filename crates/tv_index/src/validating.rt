@@ -18,7 +18,7 @@ use std::collections::BTreeSet;
 use tv_base::TantivyError;
 use tv_directory::Directory;
 use tv_managed::ManagedDirectory;
-use tv_model::{FileName, LiveSegment, Memory};
+use tv_model::{FileName, Memory};
 
 impl<D: Directory> Index<D> {
     /// The names of the damaged files of the last commit: of the managed ones, among all names that
@@ -52,11 +52,7 @@ fn push_all(
         ++ flat_map segment_names (map entry_of segments.now)) }
 {
     for segment in segments {
-        let live = LiveSegment {
-            max_doc: segment.max_doc,
-            deletes: segment.deletes,
-        };
-        push_names(alloc, names, segment.segment_id, live)?;
+        push_names(alloc, names, segment.segment_id, segment.live())?;
     }
     Ok(())
 }

@@ -17,10 +17,9 @@ use Rattle.tv_base.specs.declared.open_errors.OpenReadError.TheVariants as read
 use Rattle.tv_model.specs.declared.event.Event.{Event}
 use Rattle.tv_model.specs.declared.event.Event.TheVariants as events
 use Rattle.tv_model.specs.declared.segment.LiveSegment.{LiveSegment}
-use Rattle.tv_model.specs.Names.{byte_cmp}
+use Rattle.tv_model.specs.Names.{byte_cmp, meta_name}
 use Rattle.tv_model.specs.Files.{Reads, Heard, Rose, RoseBy}
 use Rattle.tv_model.specs.Commits.{IndexForm}
-use Rattle.tv_model.specs.Meaning.{Means}
 use Rattle.tv_model.specs.Segments.{name_of}
 use Rattle.tv_model.specs.State.{Catalog, State, Reader, FileState, Left, at, file_at, live_at, reader_at}
 use Rattle.tv_model.specs.Lines.{opening_of}
@@ -48,7 +47,11 @@ use Rattle.tv_store.specs.Opening.{Opens}
 use Rattle.tv_store.specs.Telling.{AreBetween, TellsLine, TellsLines}
 use Rattle.tv_replay.specs.ScriptLines.{pending, TakesNextEvent, IsNoEvent, IsTooLong}
 use Rattle.tv_store.specs.ReaderNumbers.{FewNumbers}
-use Rattle.tv_store.specs.ReadCauses.{ReadFault, ApplyCause, TakesMetaLock}
+use Rattle.serde_json.specs.Data.{Data}
+use Rattle.tv_index.specs.Standing.{MetaCause, OfRead}
+use Rattle.tv_model.specs.Meaning.{Means, MeansNothing, MeansOther}
+use Rattle.tv_model.proofs.OneMeaning.{one_meaning}
+use Rattle.tv_store.specs.ReadCauses.{ReadFault, LoadingCause, TakesMetaLock}
 use Rattle.tv_managed.specs.Collecting.{meta_lock_name}
 use Rattle.tv_replay.specs.ScriptCauses.{IsRefused, ScriptCause}
 use Rattle.tv_store.specs.StoreCauses.{WriteFault, IsRefusal}
@@ -281,6 +284,25 @@ pub some_left : (rest line : List ℕ) (lines : List (List ℕ)) → lines_of re
 some_left [] line lines e none = absurd cc
 some_left (b ∷ rest) line lines e none = absurd cc
 
+-- ---- what `meta.json` means
+
+-- the text that means the commit of a state
+module _ (tells : Type 0) (reads : Reads) (kept : Kept) where
+  stands : (says : List ℕ → Type 0) → ((text : List ℕ) (s : State) → Means kept.form.settings kept.form.schema text s.catalog.commit → says text → ⊥) → OfRead tells (reads meta_name) says → tells → (s : State) → Holds reads kept s → ⊥
+  stands says never (bytes, is, said) t s held =
+      let text = held.meta in
+      let both : Some text.0 ≡ Some bytes = sym text.1 ∙ is t in
+      let same : bytes ≡ text.0 = cc in
+      never text.0 s text.2 (subst says same said)
+
+  -- isn't refused
+  pub meta_stands : OfRead tells (reads meta_name) MeansNothing ⊎ OfRead tells (reads meta_name) (MeansOther kept.form.schema) → tells → (s : State) → Holds reads kept s → ⊥
+  meta_stands (inl h) = stands MeansNothing (λ text s means none. none kept.form.settings s.catalog.commit means.tree means.spelled) h
+  meta_stands (inr h) =
+      stands (MeansOther kept.form.schema) (λ text s means other.
+      let one = one_meaning text kept.form.settings other.settings s.catalog.commit other.commit means.tree other.tree means.spelled other.spelled in
+      other.other (means.schema_is.parsed ∙ ap (λ (d : Data). Some d) one.2)) h
+
 -- ---- causes
 
 write_fault : {refused more : Type 0} (error : OpenWriteError) → (refused → more) → WriteFault refused error → WriteFault more error
@@ -301,16 +323,20 @@ fails cause = record { quiet = tt; cause = cause }
 
 module _ (c : Causes) where
   -- an event's
-  pub event_cause : {busy refused quiet spent : Type 0} (bad : OpenReadError → Type 0) (absent : List ℕ → Type 0) (error : TantivyError) → ApplyCause busy refused quiet spent bad absent error → (busy → c.busy) → (refused → c.refused) → (quiet → c.quiet) → (spent → ⊥) → RunCause c error
-  event_cause bad absent (errors.IoError fault) h y f q never = (h.0, f h.1)
-  event_cause bad absent (errors.OpenWriteError error) h y f q never = write_fault error f h
-  event_cause bad absent (errors.OpenReadError error) h y f q never = read_fault {bad = bad} {worse = λ e. Unit {0}} {absent = absent} {gone = λ path. Unit {0}} error f q (λ e b. tt) (λ path a. tt) h
-  event_cause bad absent (errors.LockFailure lock.LockBusy text) h y f q never = (y h.0, h.1)
-  event_cause bad absent (errors.LockFailure (lock.IoError fault) text) h y f q never = ((h.0.0, f h.0.1), h.1)
-  event_cause bad absent (errors.LockFailure lock.Memory text) h y f q never = absurd h.0
-  event_cause bad absent errors.Exhausted h y f q never = absurd (never h.1)
-  event_cause bad absent errors.Memory h y f q never = q h
-  event_cause bad absent other h y f q never = absurd h
+  pub event_cause : {busy refused quiet spent : Type 0} (given tells : Type 0) (schema : List ℕ) (stands : Option (List ℕ)) (bad : OpenReadError → Type 0) (absent : List ℕ → Type 0) (error : TantivyError)
+      → LoadingCause busy refused quiet spent (λ e. given × MetaCause tells (Some schema) stands refused quiet e) bad absent error → (busy → c.busy) → (refused → c.refused) → (quiet → c.quiet) → (spent → ⊥)
+      → (OfRead tells stands MeansNothing ⊎ OfRead tells stands (MeansOther schema) → c.unread) → RunCause c error
+  event_cause given tells schema stands bad absent (errors.IoError fault) h y f q never u = (h.0, f h.1)
+  event_cause given tells schema stands bad absent (errors.OpenWriteError error) h y f q never u = write_fault error f h
+  event_cause given tells schema stands bad absent (errors.OpenReadError error) h y f q never u = read_fault {bad = bad} {worse = λ e. Unit {0}} {absent = absent} {gone = λ path. Unit {0}} error f q (λ e b. tt) (λ path a. tt) h
+  event_cause given tells schema stands bad absent (errors.LockFailure lock.LockBusy text) h y f q never u = (y h.0, h.1)
+  event_cause given tells schema stands bad absent (errors.LockFailure (lock.IoError fault) text) h y f q never u = ((h.0.0, f h.0.1), h.1)
+  event_cause given tells schema stands bad absent (errors.LockFailure lock.Memory text) h y f q never u = absurd h.0
+  event_cause given tells schema stands bad absent (errors.DataCorruption why) h y f q never u = (q h.1.0, h.1.1, u (inl h.1.2))
+  event_cause given tells schema stands bad absent (errors.SchemaError text) h y f q never u = (q h.1.0, h.1.1, u (inr h.1.2))
+  event_cause given tells schema stands bad absent errors.Exhausted h y f q never u = absurd (never h.1)
+  event_cause given tells schema stands bad absent errors.Memory h y f q never u = q h
+  event_cause given tells schema stands bad absent other h y f q never u = absurd h
 
   -- a refusal's
   refusal_cause : (text : List ℕ) (error : TantivyError) → IsRefusal text error → c.quiet → c.refusal text → RunCause c error
@@ -336,17 +362,20 @@ module _ (c : Causes) where
 -- a run's, as a replay's
 pub run_cause : {O W C : Type 0} (g : Ghosts O W C) (old new : StoreState O) (script script_now : SourceView) (tells : Type 0) (schema : List ℕ) (reads : Reads) (busy more all : Type 0) (error : TantivyError) → FailsRun g old new script script_now error
     → IsSomeSchema schema → (tells → FoundIndex schema reads) → ((run_causes g old new script script_now).busy → busy) → ((run_causes g old new script script_now).refused → more) → ((run_causes g old new script script_now).quiet → all)
+    → (tells → OpenedIndex schema reads → (run_causes g old new script script_now).unread → ⊥)
     → ReplayCause tells schema reads script.left busy more all error
-run_cause g old new script script_now tells schema reads busy more all (errors.InvalidArgument t) h is none y f q = (q h.0, inr (is, none, h.1))
-run_cause g old new script script_now tells schema reads busy more all (errors.IoError fault) h is none y f q = (is, h.0, f h.1)
-run_cause g old new script script_now tells schema reads busy more all (errors.OpenWriteError error) h is none y f q = (is, none, write_fault error f h)
-run_cause g old new script script_now tells schema reads busy more all (errors.OpenReadError error) h is none y f q = (is, none, read_fault {bad = λ e. Unit {0}} {absent = λ path. Unit {0}} error f q (λ e b. b) (λ path a. a) h)
-run_cause g old new script script_now tells schema reads busy more all (errors.LockFailure lock.LockBusy t) h is none y f q = (is, none, y h.0, h.1)
-run_cause g old new script script_now tells schema reads busy more all (errors.LockFailure (lock.IoError fault) t) h is none y f q = (is, none, (h.0.0, f h.0.1), h.1)
-run_cause g old new script script_now tells schema reads busy more all (errors.LockFailure lock.Memory t) h is none y f q = absurd h.0
-run_cause g old new script script_now tells schema reads busy more all errors.Exhausted h is none y f q = (q h.0, is, none, h.1)
-run_cause g old new script script_now tells schema reads busy more all errors.Memory h is none y f q = q h
-run_cause g old new script script_now tells schema reads busy more all other h is none y f q = absurd h
+run_cause g old new script script_now tells schema reads busy more all (errors.InvalidArgument t) h is none y f q u = (q h.0, inr (is, none, h.1))
+run_cause g old new script script_now tells schema reads busy more all (errors.DataCorruption why) h is none y f q u = (is.0, is.1, inr (h.1, (q h.0, none, λ t index. u t index h.2)))
+run_cause g old new script script_now tells schema reads busy more all (errors.SchemaError text) h is none y f q u = (is.0, is.1, inr (h.1, (q h.0, none, λ t index. u t index h.2)))
+run_cause g old new script script_now tells schema reads busy more all (errors.IoError fault) h is none y f q u = (is, h.0, f h.1)
+run_cause g old new script script_now tells schema reads busy more all (errors.OpenWriteError error) h is none y f q u = (is, none, write_fault error f h)
+run_cause g old new script script_now tells schema reads busy more all (errors.OpenReadError error) h is none y f q u = (is, none, read_fault {bad = λ e. Unit {0}} {absent = λ path. Unit {0}} error f q (λ e b. b) (λ path a. a) h)
+run_cause g old new script script_now tells schema reads busy more all (errors.LockFailure lock.LockBusy t) h is none y f q u = (is, none, y h.0, h.1)
+run_cause g old new script script_now tells schema reads busy more all (errors.LockFailure (lock.IoError fault) t) h is none y f q u = (is, none, (h.0.0, f h.0.1), h.1)
+run_cause g old new script script_now tells schema reads busy more all (errors.LockFailure lock.Memory t) h is none y f q u = absurd h.0
+run_cause g old new script script_now tells schema reads busy more all errors.Exhausted h is none y f q u = (q h.0, is, none, h.1)
+run_cause g old new script script_now tells schema reads busy more all errors.Memory h is none y f q u = q h
+run_cause g old new script script_now tells schema reads busy more all other h is none y f q u = absurd h
 
 -- a count that rose from a later place rose from an earlier one, where it was the same
 pub rose_from : (old now new : ℕ) → now ≡ old → Rose now new → Rose old new

@@ -206,10 +206,14 @@ pub only_memory : {O W C : Type 0} (g : Ghosts O W C) (before now : O) (schema :
 only_memory g before now schema script script_now busy refused quiet (errors.InvalidArgument text) t ready y f (_, inl h) stops = absurd (h.0 ready.form ready.spelled)
 only_memory g before now schema script script_now busy refused quiet (errors.InvalidArgument text) t ready y f (_, inr h) stops =
     absurd (no_line_refusal schema script.left (g.view before).reads (g.view before).locks (string_bytes text) ready h.2)
-only_memory g before now schema script script_now busy refused quiet (errors.DataCorruption why) t ready y f h stops =
-    absurd (no_damage schema ready.form (g.view before).reads ready.spelled ready.sound.image g.told.content refused quiet why h.0 t h.2)
-only_memory g before now schema script script_now busy refused quiet (errors.SchemaError text) t ready y f h stops =
-    absurd (no_other_schema schema ready.form (g.view before).reads ready.spelled ready.sound.image g.told.content refused quiet text h.0 t (h.1.text_is ∙ sym ready.spelled.text_is) h.2)
+only_memory g before now schema script script_now busy refused quiet (errors.DataCorruption why) t ready y f (_, _, inr (_, none)) stops =
+    absurd (none.2 t (sound_index schema ready.form (g.view before).reads ready.spelled ready.sound.image))
+only_memory g before now schema script script_now busy refused quiet (errors.DataCorruption why) t ready y f (text, is, inl h) stops =
+    absurd (no_damage schema ready.form (g.view before).reads ready.spelled ready.sound.image g.told.content refused quiet why text t h)
+only_memory g before now schema script script_now busy refused quiet (errors.SchemaError text) t ready y f (_, _, inr (_, none)) stops =
+    absurd (none.2 t (sound_index schema ready.form (g.view before).reads ready.spelled ready.sound.image))
+only_memory g before now schema script script_now busy refused quiet (errors.SchemaError text) t ready y f (own, is, inl h) stops =
+    absurd (no_other_schema schema ready.form (g.view before).reads ready.spelled ready.sound.image g.told.content refused quiet text own t (is.text_is ∙ sym ready.spelled.text_is) h)
 only_memory g before now schema script script_now busy refused quiet (errors.IoError fault) t ready y f h stops = absurd (f h.2)
 only_memory g before now schema script script_now busy refused quiet (errors.OpenWriteError error) t ready y f h stops = absurd (no_write_fault refused error f h.2)
 only_memory g before now schema script script_now busy refused quiet (errors.OpenReadError error) t ready y f h stops = absurd (met (stops t)) where

@@ -1,15 +1,14 @@
 -- The run of a replay over a directory without files.
 use Rattle.std.proofs.Common.{◌≡◌, ◌⊎◌, true≢false, inl, inr, ℕ, ◌+◌, ◌≤◌, List, [], ◌∷◌, ◌++◌, length, map, Option, Some, None, refl, sym, ap, subst, ◌∙◌, arith}
-use Rattle.std.specs.Prelude.{IsSome, is_some, option_map}
+use Rattle.std.specs.Prelude.{option_map}
 use Rattle.std.specs.List.{flat_map}
 use Rattle.std.proofs.lemmas.List.Folds.{flat_map-map}
 use Rattle.tv_model.specs.Commits.{default_settings, first_commit}
 use Rattle.tv_model.specs.Files.{Heard, Reads, RoseBy}
-use Rattle.tv_model.specs.Index.{FindsCommit, first_state, IsFileOf, managed_with, OpensTo, OpenedIndex}
+use Rattle.tv_model.specs.Index.{FindsCommit, first_state, managed_with, OpensTo, OpenedIndex}
 use Rattle.tv_model.specs.Listing.{Lists}
 use Rattle.tv_model.specs.Names.{list_name, meta_name}
-use Rattle.tv_model.specs.Schemas.{IsSchema}
-use Rattle.tv_model.specs.State.{FileState, Sealed, file_at}
+use Rattle.tv_model.specs.State.{Sealed}
 use Rattle.tv_model.specs.Machine.{after, all_refused, report}
 use Rattle.tv_directory.specs.Telling.{bytes_heard}
 use Rattle.tv_directory.specs.declared.directory.Directory.{Ghosts}

@@ -1,8 +1,7 @@
 -- What a run tells or says: no line feed stands in the lines of errors, and what each refusal leads to.
-use Rattle.std.proofs.Common.{◌≡◌, ◌≢◌, ◌⊎◌, inl, inr, ℕ, zero, suc, ◌+◌, ◌<◌, ◌/◌, ◌%◌, ◌==◌, Bool, true, false, not, nat_lt, if◌then◌else◌, ◌≤◌, List, [], ◌∷◌, ◌++◌, length, get_or, codes, refl, sym, ap, subst, ◌∙◌, arith, string_bytes, Result, Ok, Err}
+use Rattle.std.proofs.Common.{◌≡◌, ◌≢◌, ◌⊎◌, inl, inr, ℕ, zero, suc, ◌+◌, ◌<◌, ◌/◌, ◌%◌, ◌==◌, Bool, true, false, not, nat_lt, if◌then◌else◌, ◌≤◌, List, [], ◌∷◌, ◌++◌, codes, refl, sym, ap, subst, ◌∙◌, arith, string_bytes, Result, Ok, Err}
 use Rattle.std.specs.Global.{Global}
-use Rattle.std.specs.Prelude.{nat_eq, map, option_map, String, Option, Some, None, IsSome}
-use Rattle.std.specs.Cmp.Lexicographic.{pointwise, same_text}
+use Rattle.std.specs.Prelude.{nat_eq, option_map, String, Option, Some, None, IsSome}
 use Rattle.std.specs.List.{starts_with}
 use Rattle.std.specs.Fmt.{decimal, digits, digits_onto, digit_glyph}
 use Rattle.std.proofs.lemmas.Bool.{ne_eqb}
@@ -115,8 +114,9 @@ error_no_feed tells schema reads script busy refused quiet (errors.OpenReadError
 error_no_feed tells schema reads script busy refused quiet (errors.LockFailure why text) h = lock_no_feed why
 error_no_feed tells schema reads script busy refused quiet (errors.IoError fault) h = io_no_feed fault.kind
 error_no_feed tells schema reads script busy refused quiet (errors.OpenWriteError error) (_, _, fault) = write_no_feed refused error fault
-error_no_feed tells schema reads script busy refused quiet (errors.DataCorruption why) (_, _, inl (_, is, _)) = corrupt_no_feed why.filepath list_name is refl
-error_no_feed tells schema reads script busy refused quiet (errors.DataCorruption why) (_, _, inr (_, (_, is, _))) = corrupt_no_feed why.filepath meta_name is refl
+error_no_feed tells schema reads script busy refused quiet (errors.DataCorruption why) (_, _, inl (inl (_, is, _))) = corrupt_no_feed why.filepath list_name is refl
+error_no_feed tells schema reads script busy refused quiet (errors.DataCorruption why) (_, _, inl (inr (_, (_, is, _)))) = corrupt_no_feed why.filepath meta_name is refl
+error_no_feed tells schema reads script busy refused quiet (errors.DataCorruption why) (_, _, inr (is, _)) = corrupt_no_feed why.filepath meta_name is refl
 error_no_feed tells schema reads script busy refused quiet other h = refl
 
 -- why a schema wasn't had: a device refused it, or memory was wanted
@@ -261,11 +261,6 @@ stopped_with asked {error = error} gave stops = record {
   memory = λ three. inr (inr (error, stops _ (gave.memory three)));
   statuses = inr gave.statuses;
 }
-
-pub not_two : (n : ℕ) → (n ≡ 0) ⊎ (n ≡ 1) ⊎ (n ≡ 3) → n ≡ 2 → ⊥
-not_two n (inl none) two = omega arith
-not_two n (inr (inl one)) two = omega arith
-not_two n (inr (inr three)) two = omega arith
 
 -- ---- a run that nothing disturbs
 

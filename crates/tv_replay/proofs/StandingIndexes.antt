@@ -1,13 +1,13 @@
 -- What stands in a directory, next to the state that it holds.
 use Rattle.std.proofs.Common.{◌≡◌, ◌≢◌, ℕ, zero, suc, ◌+◌, ◌<◌, Bool, true, false, true≢false, cond, not, ◌&&◌, ◌||◌, nat_le, List, [], ◌∷◌, ◌++◌, filter, get_or, length, length-append, map, take, Option, Some, None, codes, refl, sym, ap, subst, ◌∙◌, arith}
-use Rattle.std.specs.Prelude.{IsSome, is_some}
+use Rattle.std.specs.Prelude.{is_some}
 use Rattle.std.specs.List.{list_all}
 use Rattle.std.proofs.lemmas.Bool.{and_parts}
 use Rattle.std.proofs.lemmas.List.{map-append, take_more}
 use Rattle.std.proofs.lemmas.List.Elements.{filter-append}
 use Rattle.tv_model.specs.Commits.{Commit, Settings}
 use Rattle.tv_model.specs.Files.{Reads, Same}
-use Rattle.tv_model.specs.Index.{DirectoryHolds, FileReads, IsFileOf}
+use Rattle.tv_model.specs.Index.{DirectoryHolds, FileReads}
 use Rattle.tv_model.specs.Listing.{Lists}
 use Rattle.tv_model.specs.Meaning.{Means}
 use Rattle.tv_model.specs.Names.{is, is_file_name, is_name_byte, is_plain, is_undotted, list_name, meta_name}
@@ -16,7 +16,7 @@ use Rattle.tv_model.proofs.Entries.{is_text, is_itself}
 use Rattle.tv_model.proofs.ListTexts.{lists_one}
 use Rattle.tv_model.proofs.OneMeaning.{one_meaning}
 use Rattle.tv_model.proofs.PlainNames.{plain_is_file_name}
-use Rattle.tv_replay.specs.Summaries.{files_of, has_file, IsStanding}
+use Rattle.tv_replay.specs.Summaries.{has_file, IsStanding}
 
 fourth : (a b c d e : Bool) → (a && b && c && d && e) ≡ true → d ≡ true
 fourth a b c d e h = (and_parts (a && b && c) d (and_parts (a && b && c && d) e h).0).1

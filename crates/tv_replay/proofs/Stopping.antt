@@ -9,7 +9,7 @@ use Rattle.tv_base.specs.declared.open_errors.OpenReadError.{OpenReadError}
 use Rattle.tv_model.specs.Names.{meta_name}
 use Rattle.tv_model.specs.Files.{Reads, Heard, Rose}
 use Rattle.tv_model.specs.Commits.{IndexForm}
-use Rattle.tv_model.specs.Meaning.{Means}
+use Rattle.tv_model.specs.Meaning.{Means, MeansNothing, MeansOther}
 use Rattle.tv_model.specs.State.{State}
 use Rattle.tv_model.specs.Lines.{opening_of}
 use Rattle.tv_model.specs.declared.event.Event.{Event}
@@ -24,7 +24,8 @@ use Rattle.tv_managed.specs.Collecting.{meta_lock_name}
 use Rattle.tv_store.specs.Kept.{StoreState, Holds}
 use Rattle.tv_store.specs.Telling.{TellsLine, TellsNoLine}
 use Rattle.tv_store.specs.Applying.{LeavesCommit, LeavesOldOrNew, MeetsBadAt}
-use Rattle.tv_store.specs.ReadCauses.{ApplyCause, IsReadError, TakesMetaLock}
+use Rattle.tv_index.specs.Standing.{MetaCause, OfRead}
+use Rattle.tv_store.specs.ReadCauses.{LoadingCause, IsReadError, TakesMetaLock}
 use Rattle.tv_index.specs.Opening.{OpenCause}
 use Rattle.tv_store.specs.OpeningCauses.{IndexMissing, IndexRefused, OpeningCause}
 use Rattle.tv_store.specs.StoreCauses.{IsBusy, IsRefusal, writer_lock_name}
@@ -172,16 +173,18 @@ nothing_ahead left script told =
 
 module _ (script : Option (List ℕ)) (s : State) (turns : List Turn) (held free : Type 0) where
   -- in an event
-  pub event_stops : (refused quiet : Type 0) {busy spent : Type 0} {bad : OpenReadError → Type 0} {absent : List ℕ → Type 0} (event : Event) (error : TantivyError) → IsNext script turns event
-      → ApplyCause busy refused quiet spent bad absent error → (busy → TakesMetaLock (after s turns).catalog event × held) → (spent → ⊥)
+  pub event_stops : (refused quiet given tells : Type 0) (schema : List ℕ) (stood : Option (List ℕ)) {busy spent : Type 0} {bad : OpenReadError → Type 0} {absent : List ℕ → Type 0} (event : Event) (error : TantivyError) → IsNext script turns event
+      → LoadingCause busy refused quiet spent (λ e. given × MetaCause tells (Some schema) stood refused quiet e) bad absent error → (busy → TakesMetaLock (after s turns).catalog event × held) → (spent → ⊥) → (OfRead tells stood MeansNothing ⊎ OfRead tells stood (MeansOther schema) → ⊥)
       → ((error : OpenReadError) → bad error → MeetsBadAt (after s turns) event error) → ((path : List ℕ) → absent path → ⊥) → (IsReadError error → free) → StopsFor script s turns held free error
-  event_stops refused quiet event (errors.OpenReadError error) next h y never b a f = read_fault {worse = λ e. (x : Event) × IsNext script turns x × free × MeetsBadAt (after s turns) x e} {gone = λ path. ⊥} error (λ r. tt) (λ q. tt) (λ e bad. (event, next, f tt, b e bad)) a h
-  event_stops refused quiet event (errors.LockFailure lock.LockBusy text) next h y never b a f = (event, next, (y h.0).0, (y h.0).1)
-  event_stops refused quiet event (errors.LockFailure (lock.IoError fault) text) next h y never b a f = tt
-  event_stops refused quiet event (errors.LockFailure lock.Memory text) next h y never b a f = absurd h.0
-  event_stops refused quiet event (errors.InvalidArgument text) next h y never b a f = absurd h
-  event_stops refused quiet event errors.Exhausted next h y never b a f = absurd (never h.1)
-  event_stops refused quiet event other next h y never b a f = tt
+  event_stops refused quiet given tells schema stood event (errors.OpenReadError error) next h y never u b a f = read_fault {worse = λ e. (x : Event) × IsNext script turns x × free × MeetsBadAt (after s turns) x e} {gone = λ path. ⊥} error (λ r. tt) (λ q. tt) (λ e bad. (event, next, f tt, b e bad)) a h
+  event_stops refused quiet given tells schema stood event (errors.LockFailure lock.LockBusy text) next h y never u b a f = (event, next, (y h.0).0, (y h.0).1)
+  event_stops refused quiet given tells schema stood event (errors.LockFailure (lock.IoError fault) text) next h y never u b a f = tt
+  event_stops refused quiet given tells schema stood event (errors.LockFailure lock.Memory text) next h y never u b a f = absurd h.0
+  event_stops refused quiet given tells schema stood event (errors.InvalidArgument text) next h y never u b a f = absurd h
+  event_stops refused quiet given tells schema stood event (errors.DataCorruption why) next h y never u b a f = u (inl h.1.2)
+  event_stops refused quiet given tells schema stood event (errors.SchemaError text) next h y never u b a f = u (inr h.1.2)
+  event_stops refused quiet given tells schema stood event errors.Exhausted next h y never u b a f = absurd (never h.1)
+  event_stops refused quiet given tells schema stood event other next h y never u b a f = tt
 
   refusal_stops : (text : List ℕ) (error : TantivyError) → IsRefusal text error
       → ((text ≡ line_refusal (length turns + 1)) × IsRefusedNext script turns IsNoEvent) ⊎ ((text ≡ long_refusal (length turns + 1)) × IsRefusedNext script turns IsTooLong)
@@ -220,6 +223,8 @@ held_before script s turns held free held_then free_then (errors.InvalidArgument
 held_before script s turns held free held_then free_then (errors.OpenReadError error) f k h =
     read_fault {bad = λ e. (x : Event) × IsNext script turns x × free × MeetsBadAt (after s turns) x e} {worse = λ e. (x : Event) × IsNext script turns x × free_then × MeetsBadAt (after s turns) x e} {absent = λ path. ⊥} {gone = λ path. ⊥}
     error (λ r. r) (λ q. q) (λ e met. (met.0, met.1, k met.2, met.3)) (λ path never. never) h
+held_before script s turns held free held_then free_then (errors.DataCorruption why) f k h = h
+held_before script s turns held free held_then free_then (errors.SchemaError text) f k h = h
 held_before script s turns held free held_then free_then errors.Exhausted f k h = h
 held_before script s turns held free held_then free_then other f k h = tt
 
@@ -300,11 +305,11 @@ opening_cause tells schema reads script busy free refused quiet (errors.OpenRead
       error f q (λ e bad. tt) (λ path absent. tt) h.3,
 )
 opening_cause tells schema reads script busy free refused quiet (errors.IoError fault) y f q h = ((h.0, h.1), h.2.0, f h.2.1)
-opening_cause tells schema reads script busy free refused quiet {held} {more} {all} (errors.DataCorruption why) y f q h = (h.0, h.1, damaged h.2) where
+opening_cause tells schema reads script busy free refused quiet {held} {more} {all} (errors.DataCorruption why) y f q h = (h.0, h.1, inl (damaged h.2)) where
   damaged : OpenCause tells h.0 reads refused quiet (errors.DataCorruption why) → OpenCause tells h.0 reads more all (errors.DataCorruption why)
   damaged (inl d) = inl (q d.0, d.1, d.2)
   damaged (inr d) = inr (d.0, (q d.1.0, d.1.1, d.1.2))
-opening_cause tells schema reads script busy free refused quiet (errors.SchemaError text) y f q h = (h.0, h.1, (h.2.0, (q h.2.1.0, h.2.1.1, h.2.1.2)))
+opening_cause tells schema reads script busy free refused quiet (errors.SchemaError text) y f q h = (h.0, h.1, inl (h.2.0, (q h.2.1.0, h.2.1.1, h.2.1.2)))
 opening_cause tells schema reads script busy free refused quiet errors.Memory y f q h = q h
 opening_cause tells schema reads script busy free refused quiet other y f q h = absurd h.2
 

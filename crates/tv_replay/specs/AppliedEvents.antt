@@ -1,11 +1,12 @@
 -- The events of a script, applied to a store that is open, one after the other.
-use Rattle.std.specs.Prelude.{ℕ, ◌≡◌, ◌≢◌, true, List, [], length, Option, Some, None, Result, IfErr, OnOk, string_bytes}
+use Rattle.std.specs.Prelude.{ℕ, ◌≡◌, ◌≢◌, true, List, [], length, codes, Option, Some, None, option_map, Result, IfErr, OnOk, string_bytes}
 use Rattle.std.specs.List.{AllByRecursion}
 use Rattle.tv_base.specs.Causes.{IsDevice}
 use Rattle.tv_base.specs.Streams.{SourceView}
 use Rattle.tv_base.specs.declared.error.TantivyError.{TantivyError}
 use Rattle.tv_base.specs.declared.error.TantivyError.TheVariants as errors
 use Rattle.tv_model.specs.Files.{Rose, RoseBy}
+use Rattle.tv_model.specs.Names.{meta_name}
 use Rattle.tv_model.specs.State.{State}
 use Rattle.tv_model.specs.SoundStates.{IsWhole}
 use Rattle.tv_model.specs.Machine.{Turn, answers, after, events_of, all_refused}
@@ -14,6 +15,7 @@ use Rattle.tv_model.specs.Script.{lines_of, Fits, AreLines}
 use Rattle.tv_directory.specs.Locks.{LockCause}
 use Rattle.tv_directory.specs.declared.directory.Directory.{Ghosts}
 use Rattle.tv_managed.specs.Collecting.{meta_lock_name}
+use Rattle.tv_store.specs.Applying.{HoldsNone}
 use Rattle.tv_store.specs.Kept.{StoreState, Holds}
 use Rattle.tv_store.specs.StoreCauses.{WriteFault, IsBusy, IsRefusal}
 use Rattle.tv_store.specs.ReadCauses.{ReadFault}
@@ -42,10 +44,11 @@ pub record Runs {O W C : Type 0} (g : Ghosts O W C) (old new : StoreState O) (te
   pub lines : (whole : List ℕ) → text ≡ Some whole → AreLines (lines_of whole) (events_of turns) × (left ≡ Some [])
   pub applied : Applies g old new turns
 
--- what is true where a run stops: `busy` where a lock isn't given, `refusal` of the text that says which line is no event's, `too_many` where there is a line too
+-- what is true where a run stops: `busy` where a lock isn't given, `unread` where a reader isn't given the commit of `meta.json`, `refusal` of the text that says which line is no event's, `too_many` where there is a line too
 -- many, `refused` where a device refused a call and `quiet` where none did
 pub record Causes : Type 1 where
   pub busy : Type 0
+  pub unread : Type 0
   pub refusal : List ℕ → Type 0
   pub too_many : Type 0
   pub refused : Type 0
@@ -54,6 +57,8 @@ pub record Causes : Type 1 where
 -- why a run stops with an error
 abbrev pub RunCause : Causes → TantivyError → Type 0
 RunCause c (errors.LockFailure why text) = LockCause c.busy c.refused ⊥ why × (text ≡ None)
+RunCause c (errors.DataCorruption why) = c.quiet × (option_map string_bytes why.filepath ≡ Some meta_name) × c.unread
+RunCause c (errors.SchemaError text) = c.quiet × (string_bytes text ≡ codes "An index exists but the schema does not match.") × c.unread
 RunCause c (errors.InvalidArgument text) = c.quiet × c.refusal (string_bytes text)
 RunCause c (errors.IoError fault) = IsDevice fault × c.refused
 RunCause c (errors.OpenWriteError error) = WriteFault c.refused error
@@ -66,6 +71,7 @@ RunCause c other = ⊥
 abbrev pub run_causes : {O W C : Type 0} → Ghosts O W C → (old new : StoreState O) → (script script_now : SourceView) → Causes
 run_causes g old new script script_now = record {
   busy = IsBusy g.told.locks ((g.view old.outside).locks meta_lock_name ≡ true) (Rose (g.view old.outside).faults (g.view new.outside).faults);
+  unread = HoldsNone g.told.content (g.view old.outside).reads old.kept;
   refusal = LineRefusal script.left;
   too_many = IsTooMany script.left;
   refused = IsRefusedAt (g.view old.outside) (g.view new.outside) script script_now;

@@ -1,5 +1,5 @@
 -- A script replayed over a directory.
-use Rattle.std.specs.Prelude.{ℕ, ◌≡◌, ◌≢◌, ◌⊎◌, ◌+◌, ◌≤◌, Bool, true, false, List, [], ◌∷◌, ◌++◌, length, codes, Option, Some, None, IfErr, OnOk, string_bytes}
+use Rattle.std.specs.Prelude.{ℕ, ◌≡◌, ◌≢◌, ◌⊎◌, ◌+◌, ◌≤◌, Bool, true, false, List, [], ◌∷◌, ◌++◌, length, codes, Option, Some, None, option_map, IfErr, OnOk, string_bytes}
 use Rattle.std.specs.Fmt.{decimal}
 use Rattle.tv_model.specs.declared.event.Event.{Event}
 use Rattle.tv_model.specs.declared.event.Event.TheVariants as events
@@ -131,8 +131,8 @@ pub record RunFrom : Type 0 where
   pub lines_of_turns : List Turn → List (List ℕ)
 
 -- Why a run stops after the events of these turns: the next line is refused, for its number; the next event takes the meta lock, which is held, or, where that is free, meets
--- a file that can't be read, the first of those that it reads; or as many lines were taken as may be, and there is one more. A device may refuse a call, and memory may be
--- wanted, at any place.
+-- a file that can't be read, the first of those that it reads; or as many lines were taken as may be, and there is one more. `meta.json` is never refused there. A device may
+-- refuse a call, and memory may be wanted, at any place.
 abbrev pub StopsFor : (script : Option (List ℕ)) (start : State) (turns : List Turn) (held free : Type 0) → TantivyError → Type 0
 StopsFor script start turns held free (errors.InvalidArgument text) =
     ((string_bytes text ≡ line_refusal (length turns + 1)) × IsRefusedNext script turns IsNoEvent)
@@ -140,6 +140,8 @@ StopsFor script start turns held free (errors.InvalidArgument text) =
 StopsFor script start turns held free (errors.LockFailure lock.LockBusy text) = (event : Event) × IsNext script turns event × TakesMetaLock (after start turns).catalog event × held
 StopsFor script start turns held free (errors.OpenReadError error) =
     ReadFault (Unit {0}) (Unit {0}) (λ e. (event : Event) × IsNext script turns event × free × MeetsBadAt (after start turns) event e) (λ path. ⊥) error
+StopsFor script start turns held free (errors.DataCorruption why) = ⊥
+StopsFor script start turns held free (errors.SchemaError text) = ⊥
 StopsFor script start turns held free errors.Exhausted = (length turns ≡ 4294967295) × IsRefusedNext script turns (λ rest. rest ≢ [])
 StopsFor script start turns held free other = Unit {0}
 
@@ -197,12 +199,18 @@ abbrev pub StopsReplay : {O W C : Type 0} → Ghosts O W C → (before now : O) 
 StopsReplay g before now schema script script_now error =
     g.told.content → RefusesOpening g.told schema (g.view before) (g.view now) script script_now error ⊎ StopsRunning g before now schema script script_now error
 
+-- A reader finds `meta.json` refused: where the content is told, the directory opened to no state, since from one it means the run's commit.
+abbrev pub IsUnread : (tells : Type 0) → (schema : List ℕ) → Reads → (quiet : Type 0) → Type 0
+IsUnread tells schema reads quiet = quiet × (tells → FoundIndex schema reads) × (tells → OpenedIndex schema reads → ⊥)
+
 -- Why a replay answers an error, of what is read where the content is told, of lines where the script is: `busy` where a lock isn't given, `refused` where a device refused a call, `quiet` where none did.
 abbrev pub ReplayCause : (tells : Type 0) → (schema : List ℕ) → Reads → (script : Option (List ℕ)) → (busy refused quiet : Type 0) → TantivyError → Type 0
 ReplayCause tells schema reads script busy refused quiet (errors.InvalidArgument text) =
     quiet × ((IsNoSchema schema × (string_bytes text ≡ schema_refusal)) ⊎ (IsSomeSchema schema × (tells → FoundIndex schema reads) × LineRefusal script (string_bytes text)))
-ReplayCause tells schema reads script busy refused quiet (errors.DataCorruption why) = (text : List ℕ) × IsSchema schema text × OpenCause tells text reads refused quiet (errors.DataCorruption why)
-ReplayCause tells schema reads script busy refused quiet (errors.SchemaError text) = (own : List ℕ) × IsSchema schema own × OpenCause tells own reads refused quiet (errors.SchemaError text)
+ReplayCause tells schema reads script busy refused quiet (errors.DataCorruption why) =
+    (text : List ℕ) × IsSchema schema text × (OpenCause tells text reads refused quiet (errors.DataCorruption why) ⊎ ((option_map string_bytes why.filepath ≡ Some meta_name) × IsUnread tells schema reads quiet))
+ReplayCause tells schema reads script busy refused quiet (errors.SchemaError text) =
+    (own : List ℕ) × IsSchema schema own × (OpenCause tells own reads refused quiet (errors.SchemaError text) ⊎ ((string_bytes text ≡ codes "An index exists but the schema does not match.") × IsUnread tells schema reads quiet))
 ReplayCause tells schema reads script busy refused quiet (errors.LockFailure why text) = IsSomeSchema schema × (tells → FoundIndex schema reads) × LockCause busy refused ⊥ why × (text ≡ None)
 ReplayCause tells schema reads script busy refused quiet (errors.IoError fault) = IsSomeSchema schema × IsDevice fault × refused
 ReplayCause tells schema reads script busy refused quiet (errors.OpenWriteError error) = IsSomeSchema schema × (tells → FoundIndex schema reads) × WriteFault refused error

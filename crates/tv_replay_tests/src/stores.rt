@@ -1,9 +1,15 @@
 //! Events that are applied to an open index, one by one.
 use crate::fixtures::{are_bytes, empty_bench, has_heard};
 use std::alloc::Global;
+use std::fs::{self, File};
 use std::process::Abort;
-use tv_directory::Outside;
-use tv_replay::{Event, IndexStore, SegmentComponent, SegmentId, parse_event};
+use std::rt::Files;
+use tv_base::{TantivyError, VecSink};
+use tv_directory::{Desk, NoWatch, Outside};
+use tv_files::MmapDirectory;
+use tv_replay::{
+    Answer, Event, IndexStore, ReloadPolicy, SegmentComponent, SegmentId, parse_event,
+};
 
 // What is told of the steps below.
 const TOLD: &str = "open 0 0
@@ -14,7 +20,23 @@ opened 11111111111111111111111111111111.idx
 managed 11111111111111111111111111111111.idx meta.json
 ";
 
-// An index in a directory without files.
+// The folder in which another program writes.
+const FOLDER: &str = "overwritten";
+
+// A commit without segments, as another program may write it.
+const SEVENTH: &str = "{\"segments\":[],\"schema\":[],\"opstamp\":7,\"payload\":\"p\"}";
+
+// Another one.
+const EIGHTH: &str = "{\"segments\":[],\"schema\":[],\"opstamp\":8}";
+
+// One of another schema.
+const OTHER: &str =
+    "{\"segments\":[],\"schema\":[{\"name\":\"n\",\"type\":\"text\"}],\"opstamp\":9}";
+
+// A directory in a folder.
+type Folder<R> = Desk<MmapDirectory<R, NoWatch>, VecSink>;
+
+// An index in a directory.
 fn open<R: Abort, O: Outside + Drop>(rt: &R, alloc: Global, outside: O) -> IndexStore<O> {
     match IndexStore::open(alloc, outside, b"[]") {
         Ok(store) => store,
@@ -68,4 +90,71 @@ fn applied<R: Abort, O: Outside + Drop>(rt: &R, alloc: Global, outside: O) -> O 
 fn a_store_takes_events_one_by_one(rt: HostRuntime) {
     let bench = applied(&rt, rt.alloc(), empty_bench(&rt, rt.alloc()));
     has_heard(&rt, &bench, TOLD);
+}
+
+// Writes `meta.json` in the folder, as another program may.
+fn overwrite<R: Files<File = File> + Abort>(rt: &R, text: &str) {
+    fs::write(rt, "overwritten/meta.json", text.as_bytes()).expect(rt, "written");
+}
+
+// An index in the folder.
+fn open_folder<R: Files<File = File> + Clone + Drop + Abort>(
+    rt: &R,
+    alloc: Global,
+) -> IndexStore<Folder<R>> {
+    let handle = rt.clone().expect(rt, "memory");
+    let directory = MmapDirectory::open(handle, alloc, FOLDER).expect(rt, "a folder");
+    let sink = VecSink::new(alloc, 4096).expect(rt, "memory");
+    open(rt, alloc, Desk::new(alloc, directory, sink))
+}
+
+// A new reader and a reload show what was written since the index was opened.
+fn shows_what_was_written<R: Files<File = File> + Clone + Drop + Abort>(rt: &R, alloc: Global) {
+    let mut store = open_folder(rt, alloc);
+    overwrite(rt, SEVENTH);
+    let reader = Event::Reader(ReloadPolicy::Manual);
+    apply(rt, &mut store, &reader, "reader 0 0 0");
+    apply(rt, &mut store, &Event::Searcher(0), "searcher 0 0 7");
+    apply(rt, &mut store, &Event::Show(0), "show 0 7 +70");
+    overwrite(rt, EIGHTH);
+    apply(rt, &mut store, &Event::Reload(0), "published 0 1 0");
+    apply(rt, &mut store, &Event::Searcher(0), "searcher 1 1 8");
+    let (_directory, _sink) = store.into_outside().split();
+}
+
+// What a new reader answers once this was written.
+fn reads<R: Files<File = File> + Clone + Drop + Abort>(
+    rt: &R,
+    alloc: Global,
+    text: &str,
+) -> Result<Answer, TantivyError> {
+    let mut store = open_folder(rt, alloc);
+    overwrite(rt, text);
+    assert!(rt; store.is_open());
+    let answer = store.apply(&Event::Reader(ReloadPolicy::Manual));
+    let (_directory, _sink) = store.into_outside().split();
+    answer
+}
+
+// Another schema is told apart from bytes that mean no commit.
+fn tells_apart<R: Files<File = File> + Clone + Drop + Abort>(rt: &R, alloc: Global) {
+    match reads(rt, alloc, "{") {
+        Err(TantivyError::DataCorruption(_)) => overwrite(rt, EIGHTH),
+        _ => panic!(rt; "the bytes mean no commit"),
+    }
+    match reads(rt, alloc, OTHER) {
+        Err(TantivyError::SchemaError(_)) => {}
+        _ => panic!(rt; "the schema is another one"),
+    }
+}
+
+#[test]
+fn a_reader_loads_what_was_written(rt: HostRuntime) {
+    if fs::exists(&rt, FOLDER).expect(&rt, "asked") {
+        fs::remove_dir_all(&rt, FOLDER).expect(&rt, "removed");
+    }
+    fs::create_dir(&rt, FOLDER).expect(&rt, "a new folder");
+    shows_what_was_written(&rt, rt.alloc());
+    tells_apart(&rt, rt.alloc());
+    fs::remove_dir_all(&rt, FOLDER).expect(&rt, "removed");
 }

@@ -21,7 +21,7 @@ use Rattle.tv_store.specs.Exhausted.{IsExhausted, PassesEnd, number_after}
 use Rattle.tv_store.specs.ReaderNumbers.{FewNumbers}
 use Rattle.tv_store.specs.StoreCauses.{IsBusy}
 use Rattle.tv_store.specs.ReadCauses.{IsReadError, TakesMetaLock}
-use Rattle.tv_store.specs.Applying.{Stepped, ActCause, ApplyFaults, MayNoteAt, BadIn, HoldsNone, written_by}
+use Rattle.tv_store.specs.Applying.{Stepped, ActCause, ApplyFaults, GoneAt, MayNoteAt, RefusedAt, UnloadedAt, written_by}
 use Rattle.tv_store.specs.Stays.{Asks, Stays, KeepsDotted, KeepsReaders, EventFaults}
 use Rattle.tv_index.specs.Saving.{FrameNotes}
 use Rattle.tv_store.specs.Committing.{Commits}
@@ -101,7 +101,7 @@ module _ {O W C : Type 0} (g : Ghosts O W C) (old new : StoreState O) (event sho
     reads = λ told. reads_none (List ℕ) RefusedOne RefusedNone spent ((g.view old.outside).locks meta_lock_name ≡ false) result faults.cause;
     cause =
         cause_in (List ℕ) (TakesMetaLock old.kept.catalog shown × IsBusy g.told.locks ((g.view old.outside).locks meta_lock_name ≡ true) RefusedOne) RefusedOne RefusedNone spent (IsExhausted old.kept shown)
-        (BadIn g.told.content (g.view old.outside).reads old.kept shown) (λ path. HoldsNone g.told.content (g.view old.outside).reads old.kept) result faults.cause all;
+        (UnloadedAt g old new shown) (RefusedAt g old shown) (λ path. GoneAt g old shown) result faults.cause all;
   }
 
   step_alone : ((s : State) → ReadsGood s shown) → (g.view new.outside).refusals ≡ (g.view old.outside).refusals → StepsTo g old new (λ s. step s shown []) result → Steps
@@ -238,6 +238,8 @@ acts_unknown g store event error why = record {
 
   unread : (e : TantivyError) → CatalogCause (PassesEnd (number_after store.kept.catalog event)) e → IsReadError e → (g.view store.outside).locks meta_lock_name ≡ false
   unread (errors.OpenReadError e) h r = absurd h
+  unread (errors.DataCorruption why) h r = absurd h
+  unread (errors.SchemaError text) h r = absurd h
   unread other h r = absurd r
 
   quiet_notes : (e : Event) → MayNoteAt e (g.view store.outside).watched (g.view store.outside).watched

@@ -28,6 +28,7 @@ use Rattle.tv_model.specs.Commits.{Commit, IndexForm}
 use Rattle.tv_model.specs.Names.{has}
 use Rattle.tv_store.specs.Telling.{TellsAnswer, TellsFirstPart, TellsNoLine, TriesLine}
 use Rattle.tv_store.proofs.Holding.{same_holds}
+use Rattle.tv_store.proofs.LoadedCommits.{damaged_holds_none, other_holds_none}
 use Rattle.tv_store.proofs.FewNumbers.{few_below}
 use Rattle.tv_store.proofs.Steps.{longer}
 
@@ -86,9 +87,9 @@ no_bad_file s event error good (commit, reads, met) =
 module _ {O W C : Type 0} (g : Ghosts O W C) (old new : StoreState O) (event : Event) (u : IsUndisturbedEvent g old new event) where
   no_read_fault : (error : OpenReadError) → ActCause g old new event (errors.OpenReadError error) → ⊥
   no_read_fault (read.IoError fault path) (inl h) = u.quiet h.1
-  no_read_fault (read.IoError fault path) (inr h) = no_bad_file u.state event (read.IoError fault path) u.readable (h.3 u.content u.state u.held u.whole)
-  no_read_fault (read.FileDoesNotExist path) h = h.2 u.content u.state u.held u.whole
-  no_read_fault (read.IncompatibleIndex why) h = no_bad_file u.state event (read.IncompatibleIndex why) u.readable (h.1 u.content u.state u.held u.whole)
+  no_read_fault (read.IoError fault path) (inr h) = no_bad_file u.state event (read.IoError fault path) u.readable (h.3.1 u.content u.state u.held u.whole)
+  no_read_fault (read.FileDoesNotExist path) h = h.2.1 u.content u.state u.held u.whole
+  no_read_fault (read.IncompatibleIndex why) h = no_bad_file u.state event (read.IncompatibleIndex why) u.readable (h.1.1 u.content u.state u.held u.whole)
   no_read_fault other h = absurd h
 
   no_write_fault : (error : OpenWriteError) → ActCause g old new event (errors.OpenWriteError error) → ⊥
@@ -102,6 +103,8 @@ module _ {O W C : Type 0} (g : Ghosts O W C) (old new : StoreState O) (event : E
   undisturbed (errors.LockFailure lock.LockBusy text) h = absurd (true≢false (sym (h.0.1.told u.locks) ∙ u.free h.0.0))
   undisturbed (errors.LockFailure (lock.IoError fault) text) h = absurd (u.quiet h.0.1)
   undisturbed (errors.LockFailure lock.Memory text) h = absurd h.0
+  undisturbed (errors.DataCorruption why) h = absurd (damaged_holds_none g.told.content (g.view old.outside).reads old.kept h.1.2 u.content u.state u.held u.whole)
+  undisturbed (errors.SchemaError text) h = absurd (other_holds_none g.told.content (g.view old.outside).reads old.kept h.1.2 u.content u.state u.held u.whole)
   undisturbed errors.Exhausted h = absurd (u.fits h.1)
   undisturbed errors.Memory h = refl
   undisturbed other h = absurd h

@@ -4,7 +4,6 @@ use Rattle.tv_model.specs.Names.{meta_name}
 use Rattle.tv_model.specs.State.{Catalog}
 use Rattle.tv_directory.specs.View.{View, Told, GoesOn, DeletesNone, Frame, OnlyReads}
 use Rattle.tv_directory.specs.Watch.{WatchState, MayNote}
-use Rattle.tv_model.specs.Commits.{IndexForm}
 use Rattle.tv_store.specs.Kept.{FilesState, StoreState, kept_of}
 use Rattle.tv_store.specs.Stays.{Asks, KeepsFiles}
 use Rattle.tv_index.specs.Saving.{FrameNotes}
@@ -48,8 +47,9 @@ module _ {W : Type 0} {told : Told} {first now next : View W} where
   }
 
 -- what is kept stays where the files do
-pub kept_by_files : {O W : Type 0} {keeps : View W → View W → Type 0} {view : O → View W} {old new : FilesState O} (form : IndexForm) (catalog : Catalog) → KeepsFiles keeps view old new → kept_of form catalog new ≡ kept_of form catalog old
-kept_by_files {O} {W} {keeps} {view} {old} {new} form catalog frame =
+pub kept_by_files : {O W : Type 0} {keeps : View W → View W → Type 0} {view : O → View W} {old new : FilesState O} (catalog : Catalog) → KeepsFiles keeps view old new → kept_of catalog new ≡ kept_of catalog old
+kept_by_files {O} {W} {keeps} {view} {old} {new} catalog frame =
+    let form : new.form ≡ old.form = frame.managed.form in
     let names : new.managed ≡ old.managed = frame.managed.names in
     let open_files : new.open_files ≡ old.open_files = frame.open_files in
     let left : new.left ≡ old.left = frame.managed.left in

@@ -14,6 +14,7 @@ use Rattle.tv_model.specs.State.{Catalog, State, FileState, Sealed, Open, Left, 
 use Rattle.tv_model.specs.CollectionEvents.{garbage, without_files, without_live, collected_line, gc_step, left, released}
 use Rattle.tv_model.specs.Machine.{refused_in}
 use Rattle.tv_model.specs.CommitEvents.{is_sealed}
+use Rattle.tv_model.specs.Meaning.{Means}
 use Rattle.tv_model.specs.Commits.{IsSegment, IndexForm}
 use Rattle.tv_model.specs.Index.{IsFileOf}
 use Rattle.tv_model.proofs.Entries.{is_text}
@@ -89,11 +90,15 @@ left_is true (Some Left) read is_open h = refl
 
 -- ---- the states that are held
 
-module _ {O W C : Type 0} (g : Ghosts O W C) (form : IndexForm) (catalog : Catalog) (old new : FilesState O) (s : State) where
+module _ {O W C : Type 0} (g : Ghosts O W C) (catalog : Catalog) (old new : FilesState O) (made : new.form ≡ old.form) (s : State) where
+  -- what `meta.json` means stays
+  still : (text : List ℕ) → Means old.form.settings old.form.schema text s.catalog.commit → Means new.form.settings new.form.schema text s.catalog.commit
+  still text means = subst (λ (f : IndexForm). Means f.settings f.schema text s.catalog.commit) (sym made) means
+
   -- after the files of some names are gone
-  gone_holds : (names deleted failed : List (List ℕ)) → g.told.content → Holds (g.view old.outside).reads (kept_of form catalog old) s → has deleted meta_name ≡ false → Collects g names old new deleted failed
+  gone_holds : (names deleted failed : List (List ℕ)) → g.told.content → Holds (g.view old.outside).reads (kept_of catalog old) s → has deleted meta_name ≡ false → Collects g names old new deleted failed
       → (Lists ((g.view old.outside).reads list_name) old.managed → Lists ((g.view new.outside).reads list_name) new.managed)
-      → Holds (g.view new.outside).reads (kept_of form catalog new) (without_files s deleted)
+      → Holds (g.view new.outside).reads (kept_of catalog new) (without_files s deleted)
   gone_holds names deleted failed tells h spared told list =
       let others = told.tried.others tells in
       let managed : new.managed ≡ without deleted s.managed = told.tried.managed ∙ ap (without deleted) h.managed in
@@ -106,15 +111,15 @@ module _ {O W C : Type 0} (g : Ghosts O W C) (form : IndexForm) (catalog : Catal
             subst (λ (o : Option FileState). FileHolds o ((g.view new.outside).reads n) (at new.open_files n)) (sym (at_without deleted s.files n))
             (held_file (has deleted n) (file_at s n) _ _ _ _ (told.tried.gone tells n) (λ e. others n e (undotted_isnt_list n file.0)) (told.open_files n) (h.files n file));
         left = λ n. left_stays (has deleted n) (has old.left n) (has new.left n) (file_at s n) (told.left n) (h.left n) ∙ ap is_left (sym (at_without deleted s.files n));
-        meta = (h.meta.0, others meta_name spared (undotted_isnt_list meta_name refl) ∙ h.meta.1, h.meta.2);
+        meta = (h.meta.0, others meta_name spared (undotted_isnt_list meta_name refl) ∙ h.meta.1, still h.meta.0 h.meta.2);
         listing = subst (λ (ns : List (List ℕ)). Lists ((g.view new.outside).reads list_name) ns) managed (list (subst (λ (ns : List (List ℕ)). Lists ((g.view old.outside).reads list_name) ns) (sym h.managed) h.listing));
         listed = has_without deleted s.managed meta_name ∙ rw spared h.listed;
       }
 
   -- the step of a collection
-  pub collected : (needed deleted failed : List (List ℕ)) → g.told.content → Holds (g.view old.outside).reads (kept_of form catalog old) s → ((n : List ℕ) → has needed n ≡ has (living catalog) n)
+  pub collected : (needed deleted failed : List (List ℕ)) → g.told.content → Holds (g.view old.outside).reads (kept_of catalog old) s → ((n : List ℕ) → has needed n ≡ has (living catalog) n)
       → (told : Collects g needed old new deleted failed) → (Lists ((g.view old.outside).reads list_name) old.managed → Lists ((g.view new.outside).reads list_name) new.managed)
-      → (collected_line deleted failed ≡ (gc_step s told.tried.outcomes).0) × Holds (g.view new.outside).reads (kept_of form catalog new) (gc_step s told.tried.outcomes).1
+      → (collected_line deleted failed ≡ (gc_step s told.tried.outcomes).0) × Holds (g.view new.outside).reads (kept_of catalog new) (gc_step s told.tried.outcomes).1
   collected needed deleted failed tells h needs told list =
       let outcomes = told.tried.outcomes in
       let all : collectable needed old.managed ≡ garbage s =
@@ -123,17 +128,17 @@ module _ {O W C : Type 0} (g : Ghosts O W C) (form : IndexForm) (catalog : Catal
       let not_done : failed ≡ failed_of (garbage s) outcomes = told.tried.failed_is ∙ ap (λ (ns : List (List ℕ)). failed_of ns outcomes) all in
       let spared : has deleted meta_name ≡ false = ap (λ (ns : List (List ℕ)). has ns meta_name) done ∙ living_spared s outcomes meta_name (meta_living s) in (
         ap (λ (ns : List (List ℕ)). collected_line ns failed) done ∙ ap (λ (ns : List (List ℕ)). collected_line (done_of (garbage s) outcomes) ns) not_done,
-        subst (λ (ns : List (List ℕ)). Holds (g.view new.outside).reads (kept_of form catalog new) (without_files s ns)) done (gone_holds needed deleted failed tells h spared told list),
+        subst (λ (ns : List (List ℕ)). Holds (g.view new.outside).reads (kept_of catalog new) (without_files s ns)) done (gone_holds needed deleted failed tells h spared told list),
       )
 
   -- and the state after the end of a segment
-  pub released_holds : (id : List ℕ) (segment : LiveSegment) → Holds (g.view old.outside).reads (kept_of form catalog old) s → live_at catalog id ≡ Some segment
+  pub released_holds : (id : List ℕ) (segment : LiveSegment) → Holds (g.view old.outside).reads (kept_of catalog old) s → live_at catalog id ≡ Some segment
       → new.outside ≡ old.outside → new.managed ≡ old.managed → LeavesFiles (segment_names (id, segment)) old new
-      → Holds (g.view new.outside).reads (kept_of form (without_live catalog id) new) (released s id segment).1
+      → Holds (g.view new.outside).reads (kept_of (without_live catalog id) new) (released s id segment).1
   released_holds id segment h there outside managed told =
       let names = segment_names (id, segment) in
       let known : IsSegment (id, segment) = found_segment s.catalog.live id segment (ap (λ (c : Catalog). live_at c id) (sym h.catalog) ∙ there) h.segments in
-      subst (λ o. Holds (g.view o).reads (kept_of form (without_live catalog id) new) (released s id segment).1) (sym outside) (record {
+      subst (λ o. Holds (g.view o).reads (kept_of (without_live catalog id) new) (released s id segment).1) (sym outside) (record {
         catalog = ap (λ (c : Catalog). without_live c id) h.catalog;
         managed = managed ∙ h.managed;
         segments = all_left IsSegment s.catalog.live (is_at (byte_cmp id)) h.segments;
@@ -146,7 +151,7 @@ module _ {O W C : Type 0} (g : Ghosts O W C) (form : IndexForm) (catalog : Catal
             ∙ ap (λ (b : Bool). b || (has names n && is_some (at old.open_files n))) (h.left n)
             ∙ left_is (has names n) (file_at s n) _ _ (λ named. h.files n (named_of IsFileOf names n (files_named id segment.deletes components known.id) named))
             ∙ ap is_left (sym (at_left names s.files n));
-        meta = h.meta;
+        meta = (h.meta.0, h.meta.1, still h.meta.0 h.meta.2);
         listing = h.listing;
         listed = h.listed;
       })

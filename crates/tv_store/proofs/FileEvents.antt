@@ -26,6 +26,7 @@ use Rattle.tv_model.proofs.Entries.{same_at, at_itself, text_at, lookup_put, has
 use Rattle.tv_model.proofs.PlainNames.{undotted}
 use Rattle.tv_directory.specs.View.{Kept as KeptView, OnlyReads}
 use Rattle.tv_directory.specs.declared.directory.Directory.{Ghosts}
+use Rattle.tv_model.specs.Meaning.{Means}
 use Rattle.tv_model.specs.Commits.{IndexForm}
 use Rattle.tv_store.specs.Kept.{Kept, StoreState, FilesState, kept_of, FileHolds, is_left, Holds}
 use Rattle.tv_store.specs.Exhausted.{PassesEnd, length_after}
@@ -143,12 +144,12 @@ left_put true left file old here now was = here refl ∙ sym now
 left_put false left file old here now was = was
 
 -- what is held where one file changed
-changed : {O : Type 0} (form : IndexForm) (c : Catalog) (reads reads2 : Reads) (old new : FilesState O) (s : State) (name : List ℕ) (file : FileState) (managed : List (List ℕ))
+changed : {O : Type 0} (c : Catalog) (reads reads2 : Reads) (old new : FilesState O) (s : State) (name : List ℕ) (file : FileState) (managed : List (List ℕ))
     → IsFileOf name → ((n : List ℕ) → n ≢ name → n ≢ list_name → reads2 n ≡ reads n) → new.managed ≡ managed → Lists (reads2 list_name) managed → has managed meta_name ≡ true
     → FileHolds (Some file) (reads2 name) (at new.open_files name) → ((n : List ℕ) → is_at (byte_cmp name) n ≡ false → at new.open_files n ≡ at old.open_files n)
-    → new.left ≡ old.left → is_left (file_at s name) ≡ false → is_left (Some file) ≡ false
-    → Holds reads (kept_of form c old) s → Holds reads2 (kept_of form c new) (record (with_file s name file) { managed = managed })
-changed form c reads reads2 old new s name file managed fits others names listing listed here rest left was now h = record {
+    → new.left ≡ old.left → new.form ≡ old.form → is_left (file_at s name) ≡ false → is_left (Some file) ≡ false
+    → Holds reads (kept_of c old) s → Holds reads2 (kept_of c new) (record (with_file s name file) { managed = managed })
+changed c reads reads2 old new s name file managed fits others names listing listed here rest left made was now h = record {
   catalog = h.catalog;
   managed = names;
   segments = h.segments;
@@ -167,7 +168,7 @@ changed form c reads reads2 old new s name file managed fits others names listin
       let still : has new.left n ≡ is_left (file_at s n) = ap (λ (names : List (List ℕ)). has names n) left ∙ h.left n in
       subst (λ (o : Option FileState). has new.left n ≡ is_left o) (sym (lookup_put s.files name n file))
       (left_put (is_at (byte_cmp name) n) (has new.left n) file (file_at s n) (λ e. still ∙ ap (λ (m : List ℕ). is_left (file_at s m)) (sym (text_at name n e)) ∙ was) now still);
-  meta = (h.meta.0, others meta_name (λ e. fits.1 (sym e)) (λ e. absurd cc) ∙ h.meta.1, h.meta.2);
+  meta = (h.meta.0, others meta_name (λ e. fits.1 (sym e)) (λ e. absurd cc) ∙ h.meta.1, subst (λ (f : IndexForm). Means f.settings f.schema h.meta.0 s.catalog.commit) (sym made) h.meta.2);
   listing = listing;
   listed = listed;
 }
@@ -206,36 +207,36 @@ kept_list reads reads2 name names fits others h =
     subst (λ (r : Option (List ℕ)). Lists r names) (sym (others list_name isnt)) h
 
 -- a file of a live segment, by its step under this name
-module _ {O W C : Type 0} (g : Ghosts O W C) (form : IndexForm) (c : Catalog) (old new : FilesState O) (s : State) (id name : List ℕ) (component : SegmentComponent) (segment : LiveSegment) (answer : List ℕ) where
+module _ {O W C : Type 0} (g : Ghosts O W C) (c : Catalog) (old new : FilesState O) (s : State) (id name : List ℕ) (component : SegmentComponent) (segment : LiveSegment) (answer : List ℕ) where
   -- that is there
   pub open_exists : g.told.content → live_at s.catalog id ≡ Some segment → lacks_deletes segment component ≡ false → name ≡ name_of id segment.deletes component → IsFileOf name
-      → FindsFile g old new name → answer ≡ line (codes "refused") (codes "exists" ∷ [])
-      → Holds (g.view old.outside).reads (kept_of form c old) s → Told answer (g.view new.outside).reads (kept_of form c new) (open_step s id component)
-  open_exists tells found lacks is fits finds said h =
+      → new.form ≡ old.form → FindsFile g old new name → answer ≡ line (codes "refused") (codes "exists" ∷ [])
+      → Holds (g.view old.outside).reads (kept_of c old) s → Told answer (g.view new.outside).reads (kept_of c new) (open_step s id component)
+  open_exists tells found lacks is fits made finds said h =
       let there : is_some (file_at s name) ≡ true = is_there (file_at s name) ((g.view old.outside).reads name) (at old.open_files name) (h.files name fits) (finds.there tells) in
-      let kept : kept_of form c new ≡ kept_of form c old = rw (finds.names tells, finds.open_files, finds.left) refl in
-      told_is answer (g.view new.outside).reads (kept_of form c new) (open_step s id component) (refuse s (codes "exists" ∷ []))
+      let kept : kept_of c new ≡ kept_of c old = rw (made, finds.names tells, finds.open_files, finds.left) refl in
+      told_is answer (g.view new.outside).reads (kept_of c new) (open_step s id component) (refuse s (codes "exists" ∷ []))
       (file_known s id name component segment (λ x n. open_name s x component n) found is ∙ open_by s segment component name false true lacks there)
-      (said, same_holds (g.view old.outside).reads (g.view new.outside).reads (kept_of form c old) (kept_of form c new) s (finds.same tells) kept h)
+      (said, same_holds (g.view old.outside).reads (g.view new.outside).reads (kept_of c old) (kept_of c new) s (finds.same tells) kept h)
 
   -- that was made
   pub open_made : g.told.content → live_at s.catalog id ≡ Some segment → lacks_deletes segment component ≡ false → name ≡ name_of id segment.deletes component → IsFileOf name
-      → OpensFile g old new name → answer ≡ line (codes "opened") (name ∷ [])
-      → Holds (g.view old.outside).reads (kept_of form c old) s → Told answer (g.view new.outside).reads (kept_of form c new) (open_step s id component)
-  open_made tells found lacks is fits opens said h =
+      → new.form ≡ old.form → OpensFile g old new name → answer ≡ line (codes "opened") (name ∷ [])
+      → Holds (g.view old.outside).reads (kept_of c old) s → Told answer (g.view new.outside).reads (kept_of c new) (open_step s id component)
+  open_made tells found lacks is fits made opens said h =
       let makes = opens.makes tells in
       let gone : is_some (file_at s name) ≡ false = isnt_there (file_at s name) ((g.view old.outside).reads name) (at old.open_files name) (h.files name fits) makes.absent in
       let names : new.managed ≡ insert_key byte_cmp s.managed name = opens.names ∙ ap (λ (m : List (List ℕ)). insert_key byte_cmp m name) h.managed in
       let looks : (n : List ℕ) → at new.open_files n ≡ cond (is_at (byte_cmp name) n) (Some []) (at old.open_files n) =
       λ n. ap (λ (es : List (List ℕ × List ℕ)). at es n) opens.open_files ∙ lookup_put old.open_files name n [] in
-      told_is answer (g.view new.outside).reads (kept_of form c new) (open_step s id component) (opened s name)
+      told_is answer (g.view new.outside).reads (kept_of c new) (open_step s id component) (opened s name)
       (file_known s id name component segment (λ x n. open_name s x component n) found is ∙ open_by s segment component name false false lacks gone) (
         said,
-        changed form c (g.view old.outside).reads (g.view new.outside).reads old new s name (Open []) (insert_key byte_cmp s.managed name) fits makes.others names
+        changed c (g.view old.outside).reads (g.view new.outside).reads old new s name (Open []) (insert_key byte_cmp s.managed name) fits makes.others names
             (subst (Lists ((g.view new.outside).reads list_name)) names (opens.list tells (subst (Lists ((g.view old.outside).reads list_name)) (sym h.managed) h.listing)))
             (has_kept s.managed name meta_name h.listed)
             (ap is_some makes.empty, looks name ∙ ap (λ (b : Bool). cond b (Some []) (at old.open_files name)) (at_itself name))
-            (λ n e. looks n ∙ ap (λ (b : Bool). cond b (Some []) (at old.open_files n)) e) opens.left (absent_isnt_left (file_at s name) gone) refl h,
+            (λ n e. looks n ∙ ap (λ (b : Bool). cond b (Some []) (at old.open_files n)) e) opens.left made (absent_isnt_left (file_at s name) gone) refl h,
       )
 
   -- to which bytes were written
@@ -243,7 +244,7 @@ module _ {O W C : Type 0} (g : Ghosts O W C) (form : IndexForm) (c : Catalog) (o
       → KeepsOthers (g.view old.outside).reads (g.view new.outside).reads name → IsSome ((g.view new.outside).reads name) → KeepsManaged (KeptView g.told) g.view old new
       → ((body : List ℕ) → at old.open_files name ≡ Some body → new.open_files ≡ insert_entry byte_cmp (remove_entry (is_at (byte_cmp name)) old.open_files) name (body ++ bytes))
       → answer ≡ line (codes "wrote") (name ∷ decimal (len + length bytes) ∷ [])
-      → Holds (g.view old.outside).reads (kept_of form c old) s → Told answer (g.view new.outside).reads (kept_of form c new) (write_step s id component bytes)
+      → Holds (g.view old.outside).reads (kept_of c old) s → Told answer (g.view new.outside).reads (kept_of c new) (write_step s id component bytes)
   written bytes len found is fits has_len others there frame puts said h =
       let it = has_body (at old.open_files name) len has_len in
       let body : List ℕ = it.0 in
@@ -251,13 +252,13 @@ module _ {O W C : Type 0} (g : Ghosts O W C) (form : IndexForm) (c : Catalog) (o
       let sum : len + length bytes ≡ length (body ++ bytes) = ap (λ n. n + length bytes) it.2 ∙ sym (length-append body bytes) in
       let looks : (n : List ℕ) → at new.open_files n ≡ cond (is_at (byte_cmp name) n) (Some (body ++ bytes)) (at rest n) =
       λ n. ap (λ (es : List (List ℕ × List ℕ)). at es n) (puts body it.1) ∙ lookup_put rest name n (body ++ bytes) in
-      told_is answer (g.view new.outside).reads (kept_of form c new) (write_step s id component bytes) (wrote s name bytes body)
-      (file_known s id name component segment (λ x n. write_name s n bytes) found is ∙ body_step s name (wrote s name bytes) (g.view old.outside).reads (kept_of form c old) (Some body) h fits it.1) (
+      told_is answer (g.view new.outside).reads (kept_of c new) (write_step s id component bytes) (wrote s name bytes body)
+      (file_known s id name component segment (λ x n. write_name s n bytes) found is ∙ body_step s name (wrote s name bytes) (g.view old.outside).reads (kept_of c old) (Some body) h fits it.1) (
         said ∙ ap (λ (n : ℕ). line (codes "wrote") (name ∷ decimal n ∷ [])) sum,
-        changed form c (g.view old.outside).reads (g.view new.outside).reads old new s name (Open (body ++ bytes)) s.managed fits (λ n isnt _. others n isnt) (frame.names ∙ h.managed)
+        changed c (g.view old.outside).reads (g.view new.outside).reads old new s name (Open (body ++ bytes)) s.managed fits (λ n isnt _. others n isnt) (frame.names ∙ h.managed)
             (kept_list (g.view old.outside).reads (g.view new.outside).reads name s.managed fits others h.listing) h.listed
             (there, looks name ∙ ap (λ (b : Bool). cond b (Some (body ++ bytes)) (at rest name)) (at_itself name))
-            (λ n e. looks n ∙ ap (λ (b : Bool). cond b (Some (body ++ bytes)) (at rest n)) e ∙ left_at old.open_files name n e) frame.left
+            (λ n e. looks n ∙ ap (λ (b : Bool). cond b (Some (body ++ bytes)) (at rest n)) e ∙ left_at old.open_files name n e) frame.left frame.form
             (open_isnt_left (file_at s name) ((g.view old.outside).reads name) (at old.open_files name) body (h.files name fits) it.1) refl h,
       )
 
@@ -266,17 +267,17 @@ module _ {O W C : Type 0} (g : Ghosts O W C) (form : IndexForm) (c : Catalog) (o
       → ((body : List ℕ) → at old.open_files name ≡ Some body → Sets (g.view old.outside).reads (g.view new.outside).reads name (Some (sealed body))) → KeepsManaged (KeptView g.told) g.view old new
       → new.open_files ≡ remove_entry (is_at (byte_cmp name)) old.open_files → at new.open_files name ≡ None
       → answer ≡ line (codes "sealed") (name ∷ decimal len ∷ [])
-      → Holds (g.view old.outside).reads (kept_of form c old) s → Told answer (g.view new.outside).reads (kept_of form c new) (seal_step s id component)
+      → Holds (g.view old.outside).reads (kept_of c old) s → Told answer (g.view new.outside).reads (kept_of c new) (seal_step s id component)
   sealed_file len found is fits has_len sets frame cut closed said h =
       let it = has_body (at old.open_files name) len has_len in
       let body : List ℕ = it.0 in
       let now = sets body it.1 in
-      told_is answer (g.view new.outside).reads (kept_of form c new) (seal_step s id component) (sealed_as s name body)
-      (file_known s id name component segment (λ x n. seal_name s n) found is ∙ body_step s name (sealed_as s name) (g.view old.outside).reads (kept_of form c old) (Some body) h fits it.1) (
+      told_is answer (g.view new.outside).reads (kept_of c new) (seal_step s id component) (sealed_as s name body)
+      (file_known s id name component segment (λ x n. seal_name s n) found is ∙ body_step s name (sealed_as s name) (g.view old.outside).reads (kept_of c old) (Some body) h fits it.1) (
         said ∙ ap (λ (n : ℕ). line (codes "sealed") (name ∷ decimal n ∷ [])) it.2,
-        changed form c (g.view old.outside).reads (g.view new.outside).reads old new s name (Sealed (sealed body)) s.managed fits (λ n isnt _. now.others n isnt) (frame.names ∙ h.managed)
+        changed c (g.view old.outside).reads (g.view new.outside).reads old new s name (Sealed (sealed body)) s.managed fits (λ n isnt _. now.others n isnt) (frame.names ∙ h.managed)
             (kept_list (g.view old.outside).reads (g.view new.outside).reads name s.managed fits now.others h.listing) h.listed
-            (now.changed, closed) (λ n e. ap (λ (es : List (List ℕ × List ℕ)). at es n) cut ∙ left_at old.open_files name n e) frame.left
+            (now.changed, closed) (λ n e. ap (λ (es : List (List ℕ × List ℕ)). at es n) cut ∙ left_at old.open_files name n e) frame.left frame.form
             (open_isnt_left (file_at s name) ((g.view old.outside).reads name) (at old.open_files name) body (h.files name fits) it.1) refl h,
       )
 

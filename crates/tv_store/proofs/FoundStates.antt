@@ -63,7 +63,10 @@ covers_meta (Some bytes) listed managed is covered = rw is (covered refl)
 sealed_good : (file : Option FileState) (old now : Option (List ℕ)) → file ≡ option_map Sealed old → now ≡ old → ReadsGoodFile now → (bytes : List ℕ) × (file ≡ Some (Sealed bytes)) × IsGood bytes
 sealed_good file old now is same (bytes, reads, good) = (bytes, is ∙ ap (option_map Sealed) (sym same ∙ reads), good)
 
-module _ {O W C : Type 0} (g : Ghosts O W C) (outside : O) (schema : List ℕ) (form : IndexForm) (catalog : Catalog) (files : FilesState O) (f : FindsFiles g outside schema form catalog files) (tells : g.told.content) where
+module _ {O W C : Type 0} (g : Ghosts O W C) (outside : O) (schema : List ℕ) (catalog : Catalog) (files : FilesState O) (f : FindsFiles g outside schema catalog files) (tells : g.told.content) where
+  abbrev form : IndexForm
+  form = files.form
+
   abbrev before : Reads
   before = (g.view outside).reads
 
@@ -121,7 +124,7 @@ module _ {O W C : Type 0} (g : Ghosts O W C) (outside : O) (schema : List ℕ) (
         subst (AllByRecursion IsSegment) (sym index.opens.live)
         (subst (λ (c : Commit). AllByRecursion IsSegment c.segments) same.1 f.is_commit.segments)
 
-    pub held_at : (form ≡ index.form) × Holds now (kept_of form catalog files) index.state
+    pub held_at : (form ≡ index.form) × Holds now (kept_of catalog files) index.state
     held_at = (
       form_is,
       record {

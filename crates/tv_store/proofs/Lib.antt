@@ -8,6 +8,7 @@ pub mod FileEvents
 pub mod ChosenSegments
 pub mod CommitEvents
 pub mod Lifting
+pub mod LoadedCommits
 pub mod Steps
 pub mod FewNumbers
 pub mod ReaderNumbers

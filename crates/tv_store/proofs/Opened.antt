@@ -12,7 +12,7 @@ use Rattle.tv_directory.specs.View.{OnlyLocks}
 use Rattle.tv_directory.specs.Watch.{WatchState, MayNote}
 use Rattle.tv_directory.specs.declared.directory.Directory.{Ghosts}
 use Rattle.tv_managed.specs.declared.managed_directory.Refused.{Refused}
-use Rattle.tv_model.specs.Commits.{Commit, IndexForm}
+use Rattle.tv_model.specs.Commits.{Commit}
 use Rattle.tv_model.specs.Files.{Reads, Heard, Rose, Same}
 use Rattle.tv_model.specs.Index.{FoundIndex, opened_catalog}
 use Rattle.tv_model.specs.Lines.{opening_of}
@@ -105,8 +105,8 @@ same_found old mid new schema h same = record {
   made = λ none. same meta_name ∙ h.made none;
 }
 
-module _ {O W C : Type 0} (g : Ghosts O W C) (outside : O) (schema : List ℕ) (form : IndexForm) (catalog : Catalog) (files locked : FilesState O)
-    (f : FindsFiles g outside schema form catalog files) (frame : KeepsFiles (OnlyLocks g.told) g.view files locked) where
+module _ {O W C : Type 0} (g : Ghosts O W C) (outside : O) (schema : List ℕ) (catalog : Catalog) (files locked : FilesState O)
+    (f : FindsFiles g outside schema catalog files) (frame : KeepsFiles (OnlyLocks g.told) g.view files locked) where
   lock_frame : OnlyLocks g.told (g.view files.outside) (g.view locked.outside)
   lock_frame = frame.managed.below
 
@@ -121,18 +121,18 @@ module _ {O W C : Type 0} (g : Ghosts O W C) (outside : O) (schema : List ℕ) (
   heard_yet = lock_frame.tells_none.heard ∙ f.frame.frame.tells_none.heard
 
   abbrev pub store : StoreState O
-  store = record { kept = kept_of form catalog locked; outside = locked.outside; is_open = false }
+  store = record { kept = kept_of catalog locked; outside = locked.outside; is_open = false }
 
-  same_kept : kept_of form catalog locked ≡ kept_of form catalog files
-  same_kept = kept_by_files form catalog frame
+  same_kept : kept_of catalog locked ≡ kept_of catalog files
+  same_kept = kept_by_files catalog frame
 
   -- what is read of the commit's files is what was read before the opening
   as_before : g.told.content → (n : List ℕ) → has (all_required catalog.commit.segments) n ≡ true → (g.view locked.outside).reads n ≡ (g.view outside).reads n
-  as_before t n required = lock_frame.content t n ∙ read_before g outside schema form catalog files f t n (required_is_file catalog.commit.segments n f.is_commit.segments required)
+  as_before t n required = lock_frame.content t n ∙ read_before g outside schema catalog files f t n (required_is_file catalog.commit.segments n f.is_commit.segments required)
 
   -- the store is open
   module _ (begun : StoreState O) (b : Begins g store begun) where
-    kept_is : begun.kept ≡ kept_of form catalog files
+    kept_is : begun.kept ≡ kept_of catalog files
     kept_is = b.kept ∙ same_kept
 
     good_files : g.told.content → (n : List ℕ) → has (all_required catalog.commit.segments) n ≡ true → ReadsGoodFile ((g.view files.outside).reads n)
@@ -146,13 +146,13 @@ module _ {O W C : Type 0} (g : Ghosts O W C) (outside : O) (schema : List ℕ) (
       opened = subst (λ (k : Kept). k.catalog ≡ opened_catalog k.catalog.commit) (sym kept_is) f.opened;
       left = λ t.
           subst (λ (k : Kept). LeavesFound (g.view outside).reads (g.view begun.outside).reads k.form.schema) (sym kept_is)
-          (same_found (g.view outside).reads (g.view files.outside).reads (g.view begun.outside).reads form.schema (f.leaves t) (λ n. b.frame.content t n ∙ lock_frame.content t n));
-      found = λ t. (the_found g outside schema form catalog files f t, had_files g outside schema form catalog files f t (good_files t));
+          (same_found (g.view outside).reads (g.view files.outside).reads (g.view begun.outside).reads files.form.schema (f.leaves t) (λ n. b.frame.content t n ∙ lock_frame.content t n));
+      found = λ t. (the_found g outside schema catalog files f t, had_files g outside schema catalog files f t (good_files t));
       holds = λ t index.
-          let held = held_at g outside schema form catalog files f t index in (
+          let held = held_at g outside schema catalog files f t index in (
             ap (λ (k : Kept). k.form) kept_is ∙ held.0,
-            same_holds (g.view files.outside).reads (g.view begun.outside).reads (kept_of form catalog files) begun.kept index.state (λ n. b.frame.content t n ∙ lock_frame.content t n) kept_is held.1,
-            can_read g outside schema form catalog files f t index (good_files t),
+            same_holds (g.view files.outside).reads (g.view begun.outside).reads (kept_of catalog files) begun.kept index.state (λ n. b.frame.content t n ∙ lock_frame.content t n) kept_is held.1,
+            can_read g outside schema catalog files f t index (good_files t),
           );
       lens = subst (λ (es : List (List ℕ × List ℕ)). AllByRecursion (λ e. length e.1 ≤ 0) es) (sym (ap (λ (k : Kept). k.open_files) kept_is ∙ f.open_files)) tt;
       numbers = ap (λ (k : Kept). k.catalog.reading) kept_is ∙ ap (λ (c : Catalog). c.reading) f.opened;
@@ -192,8 +192,8 @@ module _ {O W C : Type 0} (g : Ghosts O W C) (outside : O) (schema : List ℕ) (
     leaves_unbegun t = record {
       spelled = λ text is.
           subst (LeavesUnopened (g.view outside).reads (g.view now).reads) (f.spelled.text_is ∙ sym is.text_is)
-          (same_unopened (g.view outside).reads (g.view files.outside).reads (g.view now).reads form.schema (f.leaves t) (λ n. r.content t n ∙ lock_frame.content t n));
-      unspelled = λ none. absurd (none form.schema f.spelled);
+          (same_unopened (g.view outside).reads (g.view files.outside).reads (g.view now).reads files.form.schema (f.leaves t) (λ n. r.content t n ∙ lock_frame.content t n));
+      unspelled = λ none. absurd (none files.form.schema f.spelled);
     }
 
     untold_unbegun : g.told.heard → TellsNoLine (g.view outside).heard (g.view now).heard
@@ -202,7 +202,7 @@ module _ {O W C : Type 0} (g : Ghosts O W C) (outside : O) (schema : List ℕ) (
     part_unbegun : g.told.content → g.told.heard → (index : FoundIndex schema (g.view outside).reads) → TellsFirstPart (g.view outside).heard (g.view now).heard (opening_of index.commit)
     part_unbegun t h index =
         subst (λ (x : Heard). TellsFirstPart x (g.view now).heard (opening_of index.commit)) heard_yet
-        (subst (λ (c : Commit). TellsFirstPart (g.view locked.outside).heard (g.view now).heard (opening_of c)) (sym (commit_is g outside schema form catalog files f t index)) (r.part h))
+        (subst (λ (c : Commit). TellsFirstPart (g.view locked.outside).heard (g.view now).heard (opening_of c)) (sym (commit_is g outside schema catalog files f t index)) (r.part h))
 
     locks_unbegun : (g.told.locks → TakesLock (g.view files.outside).locks (g.view locked.outside).locks writer_lock_name) → g.told.locks → SameLocks (g.view outside).locks (g.view now).locks
     locks_unbegun taken t = freed_again (g.view outside).locks (g.view files.outside).locks (g.view locked.outside).locks (g.view now).locks writer_lock_name (f.frame.frame.locks t) (taken t) (r.freed t)
@@ -212,9 +212,9 @@ module _ {O W C : Type 0} (g : Ghosts O W C) (outside : O) (schema : List ℕ) (
     cause_unbegun busy quiet taken =
         begun_cause g.told.content schema (g.view outside).reads busy (g.told.locks → (g.view outside).locks writer_lock_name ≡ false) (Rose (g.view outside).faults (g.view now).faults) ((g.view now).faults ≡ (g.view outside).faults)
         (λ e. g.told.content → MeetsRefused (g.view locked.outside).reads (all_required catalog.commit.segments) e) (λ path. g.told.content → MeetsMissing (g.view locked.outside).reads (all_required catalog.commit.segments) path)
-        error form.schema f.spelled (the_found g outside schema form catalog files f) (λ t. sym (f.frame.frame.locks t writer_lock_name) ∙ (taken t).was_free)
-        (λ e met t. (the_found g outside schema form catalog files f t, refused_before (g.view outside).reads (g.view locked.outside).reads (all_required catalog.commit.segments) e (as_before t) (met t)))
-        (λ path met t. (the_found g outside schema form catalog files f t, missing_before (g.view outside).reads (g.view locked.outside).reads (all_required catalog.commit.segments) path (as_before t) (met t)))
+        error files.form.schema f.spelled (the_found g outside schema catalog files f) (λ t. sym (f.frame.frame.locks t writer_lock_name) ∙ (taken t).was_free)
+        (λ e met t. (the_found g outside schema catalog files f t, refused_before (g.view outside).reads (g.view locked.outside).reads (all_required catalog.commit.segments) e (as_before t) (met t)))
+        (λ path met t. (the_found g outside schema catalog files f t, missing_before (g.view outside).reads (g.view locked.outside).reads (all_required catalog.commit.segments) path (as_before t) (met t)))
         r.file
         (subst (λ (n : ℕ). ApplyCause ⊥ (Rose n (g.view now).faults) ((g.view now).faults ≡ n) ⊥ (λ e. g.told.content → MeetsRefused (g.view locked.outside).reads (all_required catalog.commit.segments) e) (λ path. g.told.content → MeetsMissing (g.view locked.outside).reads (all_required catalog.commit.segments) path) error) quiet r.cause)
 

@@ -4,7 +4,6 @@ use Rattle.std.proofs.Math.Logic.{⊎_map}
 use Rattle.std.specs.Prelude.{IsSome, option_map, String, Result, Ok, Err, IfErr}
 use Rattle.std.specs.Global.{Global}
 use Rattle.std.specs.Result.{IsErrAnd}
-use Rattle.std.specs.List.{AllByRecursion}
 use Rattle.std.proofs.lemmas.List.{take_more, map_push, take-append-drop, drop_more}
 use Rattle.std.proofs.lemmas.Grind.{flat_map-append}
 use Rattle.std.proofs.lemmas.List.Folds.{list_any-append}
@@ -12,20 +11,18 @@ use Rattle.tv_model.specs.declared.reload_policy.ReloadPolicy.{ReloadPolicy}
 use Rattle.tv_model.specs.declared.event.Event.{Event}
 use Rattle.tv_model.specs.declared.event.Event.TheVariants as events
 use Rattle.tv_model.specs.declared.segment.LiveSegment.{LiveSegment}
-use Rattle.tv_model.specs.Names.{is, has, is_file_name}
+use Rattle.tv_model.specs.Names.{is, has, is_file_name, meta_name}
 use Rattle.tv_model.specs.Files.{Reads, Same, Rose}
 use Rattle.tv_model.specs.Footer.{HasBody}
 use Rattle.tv_model.specs.Segments.{required_names, all_required}
-use Rattle.tv_model.specs.Commits.{IsSegment}
 use Rattle.tv_model.specs.State.{Catalog, State, FileState, Sealed, Open, Left, Reader, Snapshot, at, file_at, reader_at}
 use Rattle.tv_model.specs.Lines.{given}
 use Rattle.tv_model.specs.CommitEvents.{is_sealed}
 use Rattle.tv_model.specs.SoundStates.{IsWhole}
-use Rattle.tv_model.specs.Readable.{IsGoodFile, AreGoodFiles, read_by}
+use Rattle.tv_model.specs.Readable.{IsGoodFile, read_by}
 use Rattle.tv_model.specs.ReaderEvents.{body_in, with_new_reader, with_reloaded}
 use Rattle.tv_model.proofs.Entries.{is_itself, is_text}
 use Rattle.tv_model.proofs.Bodies.{body_of_good}
-use Rattle.tv_model.proofs.SpelledCommits.{means_commit}
 use Rattle.tv_base.specs.Errors.{of_open_read}
 use Rattle.tv_base.specs.declared.io.IoFault.{IoFault}
 use Rattle.tv_base.specs.declared.io.IoKind.{IoKind}
@@ -40,14 +37,14 @@ use Rattle.tv_base.specs.declared.error.TantivyError.TheVariants as errors
 use Rattle.tv_framing.specs.Footers.{Refuses}
 use Rattle.tv_managed.specs.Reading.{HasNoBody, NamesFile, ReadsBody, OpenBodyCause, ReadsOther, ReadsRefused, ReadsSuch, SomeOther, SomeRefused}
 use Rattle.tv_store.specs.StoreCauses.{IsBusy, MakesNoFile, WriteFault}
-use Rattle.tv_store.specs.ReadCauses.{ReadFault, ApplyCause}
-use Rattle.tv_store.specs.Bodies.{RefusesAt, RefusesFile, RefusesFirst, ReadsGoodFile, AreBodies, AreSealed, ReadsSegment, FailsAt}
+use Rattle.tv_store.specs.ReadCauses.{ReadFault, ApplyCause, LoadingCause}
+use Rattle.tv_store.specs.Bodies.{RefusesAt, RefusesFile, RefusesFirst, ReadsGoodFile, AreBodies, AreSealed, ReadsSegment, ReadsSegments, FailsAt, AreGood}
+use Rattle.tv_index.specs.Standing.{MetaCause}
 use Rattle.tv_store.specs.Kept.{Kept, FileHolds, Holds}
 use Rattle.tv_store.specs.Applying.{LacksIn, BadIn, HoldsNone}
 use Rattle.tv_store.specs.Exhausted.{PassesEnd, number_after}
 use Rattle.tv_store.specs.ReaderNumbers.{FewNumbers}
 use Rattle.tv_store.proofs.Holding.{same_holds}
-use Rattle.tv_store.proofs.CommitEvents.{all_at, required_are_files}
 use Rattle.tv_store.proofs.ReaderNumbers.{few_added, few_published}
 
 -- ---- why the body of a file isn't read
@@ -145,6 +142,22 @@ cause_weaker busy refused quiet spent busy2 refused2 quiet2 spent2 bad bad2 abse
 cause_weaker busy refused quiet spent busy2 refused2 quiet2 spent2 bad bad2 absent absent2 errors.Memory y f g k b a h = g h
 cause_weaker busy refused quiet spent busy2 refused2 quiet2 spent2 bad bad2 absent absent2 other y f g k b a h = absurd h
 
+-- the same of one that loads the commit
+pub loading_weaker : (busy refused quiet spent busy2 refused2 quiet2 spent2 : Type 0) (load load2 : TantivyError → Type 0) (bad bad2 : OpenReadError → Type 0) (absent absent2 : List ℕ → Type 0) (error : TantivyError)
+    → (busy → busy2) → (refused → refused2) → (quiet → quiet2) → (spent → spent2) → ((error : TantivyError) → load error → load2 error) → ((error : OpenReadError) → bad error → bad2 error) → ((path : List ℕ) → absent path → absent2 path)
+    → LoadingCause busy refused quiet spent load bad absent error → LoadingCause busy2 refused2 quiet2 spent2 load2 bad2 absent2 error
+loading_weaker busy refused quiet spent busy2 refused2 quiet2 spent2 load load2 bad bad2 absent absent2 (errors.DataCorruption why) y f g k u b a h = u (errors.DataCorruption why) h
+loading_weaker busy refused quiet spent busy2 refused2 quiet2 spent2 load load2 bad bad2 absent absent2 (errors.SchemaError text) y f g k u b a h = u (errors.SchemaError text) h
+loading_weaker busy refused quiet spent busy2 refused2 quiet2 spent2 load load2 bad bad2 absent absent2 other y f g k u b a h =
+    cause_weaker busy refused quiet spent busy2 refused2 quiet2 spent2 bad bad2 absent absent2 other y f g k b a h
+
+-- one that read files alone
+pub loading_of : (busy refused quiet spent : Type 0) (load : TantivyError → Type 0) (bad : OpenReadError → Type 0) (absent : List ℕ → Type 0) (error : TantivyError)
+    → ApplyCause busy refused quiet spent bad absent error → LoadingCause busy refused quiet spent load bad absent error
+loading_of busy refused quiet spent load bad absent (errors.DataCorruption why) h = absurd h
+loading_of busy refused quiet spent load bad absent (errors.SchemaError text) h = absurd h
+loading_of busy refused quiet spent load bad absent other h = h
+
 -- ---- names of a list
 
 has_joined : (xs ys : List (List ℕ)) (n : List ℕ) → has (xs ++ ys) n ≡ (has xs n || has ys n)
@@ -219,7 +232,7 @@ pub bodies_more : (reads : Reads) (kept : Kept) (s : State) (names : List (List 
     → i < length names → name ≡ get_or names i name → AreSealed s names → Holds reads kept s → ReadsBody (reads name) body → more ≡ bodies ++ body ∷ []
     → AreBodies s (take i names) bodies → AreBodies s (take (i + 1) names) more
 bodies_more reads kept s names i name body bodies more within at_i sealed held reads_body put so_far =
-    let file : file_at s name ≡ Some (Sealed reads_body.0) = read_is_sealed reads kept s name reads_body.0 held (sealed.sealed name (has_at names i name within at_i)) reads_body.1 in
+    let file : file_at s name ≡ Some (Sealed reads_body.0) = read_is_sealed reads kept s name reads_body.0 held (sealed.each name (has_at names i name within at_i)) reads_body.1 in
     let shown : body_in (file_at s name) ≡ body = ap body_in file ∙ body_of_good reads_body.0 body reads_body.2 in
     let front : take (i + 1) names ≡ take i names ++ name ∷ [] = take_more names i name within ∙ ap (λ (n : List ℕ). take i names ++ n ∷ []) (sym at_i) in
     subst (λ (ns : List (List ℕ)). AreBodies s ns more) (sym front) (record {
@@ -276,22 +289,10 @@ has_required (e ∷ es) zero entry n within at_i h =
 has_required (e ∷ es) (suc i) entry n within at_i h =
     has_joined (required_names e.0 e.1) (all_required es) n ∙ in_second _ _ (has_required es i entry n (omega arith) at_i h)
 
--- the files of a segment of the commit are sealed
-pub segment_is_sealed : (reads : Reads) (kept : Kept) (s : State) (segments : List (List ℕ × LiveSegment)) (i : ℕ) (entry : List ℕ × LiveSegment)
-    → segments ≡ s.catalog.commit.segments → i < length segments → entry ≡ get_or segments i entry → IsWhole s → Holds reads kept s → AreSealed s (required_names entry.0 entry.1)
-segment_is_sealed reads kept s segments i entry are within at_i whole held =
-    let commit = means_commit kept.form.settings kept.form.schema held.meta.0 s.catalog.commit held.meta.2 in
-    let segment : IsSegment entry = all_at IsSegment segments i entry (subst (AllByRecursion IsSegment) (sym are) commit.segments) within at_i in
-    record {
-      files = required_are_files entry.0 entry.1 segment.id;
-      sealed = λ n h. whole.each n (subst (λ (es : List (List ℕ × LiveSegment)). has (all_required es) n ≡ true) are (has_required segments i entry n within at_i h));
-    }
-
--- some segments were read, with the bodies of their files
-pub record AreRead (s : State) (segments shown : List (List ℕ × LiveSegment)) (bodies : List (List (List ℕ))) : Type 0 where
-  pub are : shown ≡ segments
-  pub each : bodies ≡ map (λ e. map (λ name. body_in (file_at s name)) (required_names e.0 e.1)) segments
-  pub good : (n : List ℕ) → has (all_required segments) n ≡ true → IsGoodFile s n
+-- the files of one of some segments are sealed where those of all are
+pub segment_is_sealed : (s : State) (segments : List (List ℕ × LiveSegment)) (i : ℕ) (entry : List ℕ × LiveSegment)
+    → i < length segments → entry ≡ get_or segments i entry → AreSealed s (all_required segments) → AreSealed s (required_names entry.0 entry.1)
+segment_is_sealed s segments i entry within at_i all = record { each = λ n h. all.each n (has_required segments i entry n within at_i h) }
 
 required_pushed : (P : List ℕ → Type 0) (segments : List (List ℕ × LiveSegment)) (entry : List ℕ × LiveSegment)
     → ((n : List ℕ) → has (all_required segments) n ≡ true → P n) → ((n : List ℕ) → has (required_names entry.0 entry.1) n ≡ true → P n)
@@ -309,12 +310,12 @@ pub read_more : (s : State) (segments : List (List ℕ × LiveSegment)) (i : ℕ
     (shown shown_more : List (List ℕ × LiveSegment)) (all all_more : List (List (List ℕ)))
     → i < length segments → entry ≡ get_or segments i entry → ReadsSegment s entry.0 entry.1 read_id read_segment bodies
     → shown_more ≡ shown ++ (read_id, read_segment) ∷ [] → all_more ≡ all ++ bodies ∷ []
-    → AreRead s (take i segments) shown all → AreRead s (take (i + 1) segments) shown_more all_more
+    → ReadsSegments s (take i segments) shown all → ReadsSegments s (take (i + 1) segments) shown_more all_more
 read_more s segments i entry read_id read_segment bodies shown shown_more all all_more within at_i reads_segment put put_bodies so_far =
     let front : take (i + 1) segments ≡ take i segments ++ entry ∷ [] = take_more segments i entry within ∙ ap (λ (e : List ℕ × LiveSegment). take i segments ++ e ∷ []) (sym at_i) in
     let is_entry : (read_id, read_segment) ≡ entry =
     ap (λ (id : List ℕ). (id, read_segment)) reads_segment.id_is ∙ ap (λ (segment : LiveSegment). (entry.0, segment)) reads_segment.segment_is in
-    subst (λ (es : List (List ℕ × LiveSegment)). AreRead s es shown_more all_more) (sym front) (record {
+    subst (λ (es : List (List ℕ × LiveSegment)). ReadsSegments s es shown_more all_more) (sym front) (record {
       are =
           put
           ∙ ap (λ (es : List (List ℕ × LiveSegment)). es ++ (read_id, read_segment) ∷ []) so_far.are
@@ -324,7 +325,7 @@ read_more s segments i entry read_id read_segment bodies shown shown_more all al
           ∙ ap (λ (bs : List (List (List ℕ))). bs ++ bodies ∷ []) so_far.each
           ∙ ap (λ (b : List (List ℕ)). map (λ e. map (λ name. body_in (file_at s name)) (required_names e.0 e.1)) (take i segments) ++ b ∷ []) reads_segment.bodies_are.each
           ∙ sym (map_push (λ e. map (λ name. body_in (file_at s name)) (required_names e.0 e.1)) (take i segments) entry);
-      good = required_pushed (IsGoodFile s) (take i segments) entry so_far.good reads_segment.bodies_are.good;
+      good = record { each = required_pushed (IsGoodFile s) (take i segments) entry so_far.good.each reads_segment.bodies_are.good };
     })
 
 required_split : (segments : List (List ℕ × LiveSegment)) (i : ℕ) (entry : List ℕ × LiveSegment) → i < length segments → entry ≡ get_or segments i entry
@@ -348,57 +349,95 @@ has_middle names front rest path e =
     ap (λ (ns : List (List ℕ)). has ns path) e ∙ has_joined front (path ∷ rest) path
     ∙ in_second (has front path) (has (path ∷ rest) path) (in_first (is path path) (has rest path) (is_itself path))
 
--- a file of the commit isn't read
-pub snapshot_fails : (tells : Type 0) (first now : Reads) (kept : Kept) (segments : List (List ℕ × LiveSegment)) (i : ℕ) (entry : List ℕ × LiveSegment) (start before after : ℕ) (error : TantivyError)
-    → (tells → Same first now) → before ≡ start → segments ≡ kept.catalog.commit.segments → i < length segments → entry ≡ get_or segments i entry
-    → (tells → (s : State) → Holds first kept s → IsWhole s → AreGoodFiles s (all_required (take i segments)))
+-- a file of one of some segments isn't read
+pub segments_fail : (tells : Type 0) (first now : Reads) (segments : List (List ℕ × LiveSegment)) (i : ℕ) (entry : List ℕ × LiveSegment) (start before after : ℕ) (error : TantivyError)
+    → (tells → Same first now) → before ≡ start → i < length segments → entry ≡ get_or segments i entry → (tells → AreGood first (all_required (take i segments)))
     → FailsAt tells now (required_names entry.0 entry.1) (Rose before after) (after ≡ before) error
-    → ApplyCause ⊥ (Rose start after) (after ≡ start) ⊥ (LacksIn tells first kept) (λ path. HoldsNone tells first kept) error
-snapshot_fails tells first now kept segments i entry start before after error same quiet are within at_i so_far h =
-    let current : (s : State) → Holds first kept s → segments ≡ s.catalog.commit.segments = λ s held. are ∙ ap (λ (c : Catalog). c.commit.segments) held.catalog in
-    let required : (s : State) (path : List ℕ) → Holds first kept s → has (required_names entry.0 entry.1) path ≡ true → has (all_required s.catalog.commit.segments) path ≡ true =
-    λ s path held among.
-    subst (λ (es : List (List ℕ × LiveSegment)). has (all_required es) path ≡ true) (current s held) (has_required segments i entry path within at_i among) in
-    let sealed : (s : State) (path : List ℕ) → Holds first kept s → IsWhole s → has (required_names entry.0 entry.1) path ≡ true → is_sealed (file_at s path) ≡ true =
-    λ s path held whole among. whole.each path (required s path held among) in
+    → FailsAt tells first (all_required segments) (Rose start after) (after ≡ start) error
+segments_fail tells first now segments i entry start before after error same quiet within at_i so_far h =
     cause_weaker ⊥ (Rose before after) (after ≡ before) ⊥ ⊥ (Rose start after) (after ≡ start) ⊥
-    (RefusesFirst tells now (required_names entry.0 entry.1)) (LacksIn tells first kept)
-    (λ path. (has (required_names entry.0 entry.1) path ≡ true) × (tells → now path ≡ None)) (λ path. HoldsNone tells first kept) error
+    (RefusesFirst tells now (required_names entry.0 entry.1)) (RefusesFirst tells first (all_required segments))
+    (λ path. (has (required_names entry.0 entry.1) path ≡ true) × (tells → now path ≡ None)) (λ path. (has (all_required segments) path ≡ true) × (tells → first path ≡ None)) error
     (λ never. never) (λ rose. subst (λ (x : ℕ). Rose x after) quiet rose) (λ still. still ∙ quiet) (λ never. never)
-    (λ error b t s held whole.
-    let no : RefusesAt first b.path error = refused_before first now b.path error (same t) (b.refuses t) in
-    let before_it : AreGoodFiles s (all_required (take i segments)) = so_far t s held whole in
-    record {
+    (λ error b. record {
       front = all_required (take i segments) ++ b.front;
       path = b.path;
       rest = b.rest ++ all_required (drop (i + 1) segments);
       split =
-          ap all_required (sym (current s held)) ∙ required_split segments i entry within at_i
+          required_split segments i entry within at_i
           ∙ between (all_required (take i segments)) b.front b.rest (all_required (drop (i + 1) segments)) (required_names entry.0 entry.1) b.path b.split;
+      good = λ t n among.
+          in_one {P = ReadsGoodFile (first n)} (has (all_required (take i segments)) n) (has b.front n) (so_far t n) (λ k. good_before first now n (same t) (b.good t n k))
+          (sym (has_joined (all_required (take i segments)) b.front n) ∙ among);
+      refuses = λ t. refused_before first now b.path error (same t) (b.refuses t);
+    })
+    (λ path a. (has_required segments i entry path within at_i a.0, λ t. sym (same t path) ∙ a.1 t)) h
+
+-- the files of one more can be read
+pub segments_good : (first now : Reads) (segments : List (List ℕ × LiveSegment)) (i : ℕ) (entry : List ℕ × LiveSegment) → Same first now → i < length segments → entry ≡ get_or segments i entry
+    → AreGood first (all_required (take i segments)) → AreGood now (required_names entry.0 entry.1) → AreGood first (all_required (take (i + 1) segments))
+segments_good first now segments i entry same within at_i so_far more =
+    let front : take (i + 1) segments ≡ take i segments ++ entry ∷ [] = take_more segments i entry within ∙ ap (λ (e : List ℕ × LiveSegment). take i segments ++ e ∷ []) (sym at_i) in
+    subst (λ (es : List (List ℕ × LiveSegment)). AreGood first (all_required es)) (sym front)
+    (required_pushed (λ n. ReadsGoodFile (first n)) (take i segments) entry so_far (λ n h. good_before first now n same (more n h)))
+
+-- a file of the current commit isn't read, which these segments are in each state that is held
+pub commit_fails : (tells : Type 0) (first now : Reads) (kept : Kept) (load : TantivyError → Type 0) (segments : List (List ℕ × LiveSegment)) (start before after : ℕ) (error : TantivyError)
+    → (tells → Same first now) → before ≡ start → (tells → (s : State) → Holds first kept s → segments ≡ s.catalog.commit.segments)
+    → FailsAt tells now (all_required segments) (Rose before after) (after ≡ before) error
+    → LoadingCause ⊥ (Rose start after) (after ≡ start) ⊥ load (LacksIn tells first kept) (λ path. HoldsNone tells first kept) error
+commit_fails tells first now kept load segments start before after error same quiet are h =
+    let sealed : (t : tells) (s : State) → Holds first kept s → IsWhole s → (n : List ℕ) → has (all_required segments) n ≡ true → is_sealed (file_at s n) ≡ true =
+    λ t s held whole n among. whole.each n (subst (λ (es : List (List ℕ × LiveSegment)). has (all_required es) n ≡ true) (are t s held) among) in
+    loading_of ⊥ (Rose start after) (after ≡ start) ⊥ load (LacksIn tells first kept) (λ path. HoldsNone tells first kept) error
+    (cause_weaker ⊥ (Rose before after) (after ≡ before) ⊥ ⊥ (Rose start after) (after ≡ start) ⊥
+    (RefusesFirst tells now (all_required segments)) (LacksIn tells first kept)
+    (λ path. (has (all_required segments) path ≡ true) × (tells → now path ≡ None)) (λ path. HoldsNone tells first kept) error
+    (λ never. never) (λ rose. subst (λ (x : ℕ). Rose x after) quiet rose) (λ still. still ∙ quiet) (λ never. never)
+    (λ error b t s held whole.
+    let no : RefusesAt first b.path error = refused_before first now b.path error (same t) (b.refuses t) in
+    record {
+      front = b.front;
+      path = b.path;
+      rest = b.rest;
+      split = ap all_required (sym (are t s held)) ∙ b.split;
       good = record {
         each = λ n among.
-            in_one {P = IsGoodFile s n} (has (all_required (take i segments)) n) (has b.front n) (before_it.each n)
-            (λ k.
-            let good = good_before first now n (same t) (b.good t n k) in
-            (good.0, read_is_sealed first kept s n good.0 held (sealed s n held whole (has_front (required_names entry.0 entry.1) b.front b.rest b.path n b.split k)) good.1, good.2))
-            (sym (has_joined (all_required (take i segments)) b.front n) ∙ among);
+            let good = good_before first now n (same t) (b.good t n among) in
+            (good.0, read_is_sealed first kept s n good.0 held (sealed t s held whole n (has_front (all_required segments) b.front b.rest b.path n b.split among)) good.1, good.2);
       };
       bytes = no.bytes;
-      sealed = read_is_sealed first kept s b.path no.bytes held (sealed s b.path held whole (has_middle (required_names entry.0 entry.1) b.front b.rest b.path b.split)) no.there;
+      sealed = read_is_sealed first kept s b.path no.bytes held (sealed t s held whole b.path (has_middle (all_required segments) b.front b.rest b.path b.split)) no.there;
       why = no.why;
       no_body = no.no_body;
     })
-    (λ path a t s held whole. sealed_is_there first kept s path held (sealed s path held whole a.0) (sym (same t path) ∙ a.1 t)) h
+    (λ path a t s held whole. sealed_is_there first kept s path held (sealed t s held whole path a.0) (sym (same t path) ∙ a.1 t)) h)
+
+-- why `meta.json` isn't loaded, seen from before a call that changed nothing
+pub meta_before : (tells : Type 0) (kept later : Kept) (stands then : Option (List ℕ)) (refused quiet refused2 quiet2 : Type 0) (error : TantivyError) → later ≡ kept → (tells → then ≡ stands) → (refused → refused2) → (quiet → quiet2)
+    → MetaCause tells (Some later.form.schema) stands refused quiet error → MetaCause tells (Some kept.form.schema) then refused2 quiet2 error
+meta_before tells kept later stands then refused quiet refused2 quiet2 error kept_is same f q h =
+    seen error (subst (λ (k : Kept). MetaCause tells (Some k.form.schema) stands refused quiet error) kept_is h) where
+      seen : (e : TantivyError) → MetaCause tells (Some kept.form.schema) stands refused quiet e → MetaCause tells (Some kept.form.schema) then refused2 quiet2 e
+      seen (errors.OpenReadError (read.FileDoesNotExist path)) h = (h.0, (q h.1.0, λ t. same t ∙ h.1.1 t))
+      seen (errors.OpenReadError (read.IoError fault path)) h = absurd h.2
+      seen (errors.OpenReadError other) h = absurd h
+      seen (errors.DataCorruption why) h = (q h.0, h.1, (h.2.0, λ t. same t ∙ h.2.1 t, h.2.2))
+      seen (errors.SchemaError text) h = (q h.0, h.1, (h.2.0, λ t. same t ∙ h.2.1 t, h.2.2))
+      seen (errors.IoError fault) h = (h.0, f h.1)
+      seen errors.Memory h = q h
+      seen other h = absurd h
 
 -- a read of the commit's files that failed, seen from before a call that changed nothing and after another one
 pub read_later : (tells : Type 0) (first now : Reads) (kept later : Kept) (busy : Type 0) (start before after end : ℕ) (error : TantivyError)
     → (tells → Same first now) → later ≡ kept → before ≡ start → end ≡ after
-    → ApplyCause ⊥ (Rose before after) (after ≡ before) ⊥ (LacksIn tells now later) (λ path. HoldsNone tells now later) error
-    → ApplyCause busy (Rose start end) (end ≡ start) ⊥ (LacksIn tells first kept) (λ path. HoldsNone tells first kept) error
+    → LoadingCause ⊥ (Rose before after) (after ≡ before) ⊥ (MetaCause tells (Some later.form.schema) (now meta_name) (Rose before after) (after ≡ before)) (LacksIn tells now later) (λ path. HoldsNone tells now later) error
+    → LoadingCause busy (Rose start end) (end ≡ start) ⊥ (MetaCause tells (Some kept.form.schema) (first meta_name) (Rose start end) (end ≡ start)) (LacksIn tells first kept) (λ path. HoldsNone tells first kept) error
 read_later tells first now kept later busy start before after end error same kept_is quiet last h =
-    cause_weaker ⊥ (Rose before after) (after ≡ before) ⊥ busy (Rose start end) (end ≡ start) ⊥
+    loading_weaker ⊥ (Rose before after) (after ≡ before) ⊥ busy (Rose start end) (end ≡ start) ⊥ (MetaCause tells (Some later.form.schema) (now meta_name) (Rose before after) (after ≡ before)) (MetaCause tells (Some kept.form.schema) (first meta_name) (Rose start end) (end ≡ start))
     (LacksIn tells now later) (LacksIn tells first kept) (λ path. HoldsNone tells now later) (λ path. HoldsNone tells first kept) error
     (λ never. absurd never) (λ rose. subst (λ (x : ℕ). Rose start x) (sym last) (subst (λ (x : ℕ). Rose x after) quiet rose)) (λ still. last ∙ still ∙ quiet) (λ never. never)
+    (λ e load. meta_before tells kept later (now meta_name) (first meta_name) (Rose before after) (after ≡ before) (Rose start end) (end ≡ start) e kept_is (λ t. sym (same t meta_name)) (λ rose. subst (λ (x : ℕ). Rose start x) (sym last) (subst (λ (x : ℕ). Rose x after) quiet rose)) (λ still. last ∙ still ∙ quiet) load)
     (λ error b t s held whole. b t s (same_holds first now kept later s (same t) kept_is held) whole)
     (λ path a t s held whole. a t s (same_holds first now kept later s (same t) kept_is held) whole) h
 
@@ -411,16 +450,21 @@ busy_before tells_locks held held2 start before {after} same quiet h = record {
 }
 
 -- the same at an event that reads, seen from before a call that changed nothing
-pub later_fails : (tells : Type 0) (first now : Reads) (kept later : Kept) (event : Event) (reading : (s : State) → Holds first kept s → read_by s event ≡ Some s.catalog.commit) (more busy busy2 : Type 0) (start before after : ℕ) (error : TantivyError)
-    → (busy → busy2) → (tells → Same first now) → later ≡ kept → before ≡ start
-    → ApplyCause busy (Rose before after) (after ≡ before) ⊥ (LacksIn tells now later) (λ path. HoldsNone tells now later) error
-    → ApplyCause busy2 (Rose start after) (after ≡ start) more (BadIn tells first kept event) (λ path. HoldsNone tells first kept) error
-later_fails tells first now kept later event reading more busy busy2 start before after error locks same kept_is quiet h =
-    cause_weaker busy (Rose before after) (after ≡ before) ⊥ busy2 (Rose start after) (after ≡ start) more
-    (LacksIn tells now later) (BadIn tells first kept event) (λ path. HoldsNone tells now later) (λ path. HoldsNone tells first kept) error
+pub later_fails : (tells : Type 0) (first now : Reads) (kept later : Kept) (event : Event) (reading : (s : State) → Holds first kept s → read_by s event ≡ Some s.catalog.commit) (more busy busy2 takes : Type 0) (start before after : ℕ) (error : TantivyError)
+    → takes → (busy → busy2) → (tells → Same first now) → later ≡ kept → before ≡ start
+    → LoadingCause busy (Rose before after) (after ≡ before) ⊥ (MetaCause tells (Some later.form.schema) (now meta_name) (Rose before after) (after ≡ before)) (LacksIn tells now later) (λ path. HoldsNone tells now later) error
+    → LoadingCause busy2 (Rose start after) (after ≡ start) more (λ e. takes × MetaCause tells (Some kept.form.schema) (first meta_name) (Rose start after) (after ≡ start) e) (λ e. takes × BadIn tells first kept event e) (λ path. takes × HoldsNone tells first kept) error
+later_fails tells first now kept later event reading more busy busy2 takes start before after error taken locks same kept_is quiet h =
+    loading_weaker busy (Rose before after) (after ≡ before) ⊥ busy2 (Rose start after) (after ≡ start) more
+    (MetaCause tells (Some later.form.schema) (now meta_name) (Rose before after) (after ≡ before)) (λ e. takes × MetaCause tells (Some kept.form.schema) (first meta_name) (Rose start after) (after ≡ start) e)
+    (LacksIn tells now later) (λ e. takes × BadIn tells first kept event e) (λ path. HoldsNone tells now later) (λ path. takes × HoldsNone tells first kept) error
     locks (λ rose. subst (λ (x : ℕ). Rose x after) quiet rose) (λ still. still ∙ quiet) (λ never. absurd never)
-    (λ error b t s held whole. (s.catalog.commit, reading s held, b t s (same_holds first now kept later s (same t) kept_is held) whole))
-    (λ path a t s held whole. a t s (same_holds first now kept later s (same t) kept_is held) whole) h
+    (λ e load. (
+      taken,
+      meta_before tells kept later (now meta_name) (first meta_name) (Rose before after) (after ≡ before) (Rose start after) (after ≡ start) e kept_is (λ t. sym (same t meta_name)) (λ rose. subst (λ (x : ℕ). Rose x after) quiet rose) (λ still. still ∙ quiet) load,
+    ))
+    (λ e b. (taken, λ t s held whole. (s.catalog.commit, reading s held, b t s (same_holds first now kept later s (same t) kept_is held) whole)))
+    (λ path a. (taken, λ t s held whole. a t s (same_holds first now kept later s (same t) kept_is held) whole)) h
 
 -- ---- the steps
 

@@ -1,5 +1,5 @@
 -- Entries and names that are taken out: of maps, of sets, and of the open files.
-use Rattle.std.proofs.Common.{◌≡◌, ◌≢◌, true≢false, nat_le, codes, ℕ, zero, suc, ◌+◌, ◌≤◌, ◌<◌, inl, inr, Bool, true, false, cond, not, ◌&&◌, ◌||◌, List, [], ◌∷◌, map, length, get_or, drop, drop-cons, Option, Some, None, option_map, is_some, refl, sym, ap, subst, ◌∙◌, arith}
+use Rattle.std.proofs.Common.{◌≡◌, ◌≢◌, true≢false, nat_le, codes, ℕ, suc, ◌+◌, ◌≤◌, ◌<◌, inl, inr, Bool, true, false, cond, not, ◌&&◌, ◌||◌, List, [], ◌∷◌, map, length, get_or, drop, drop-cons, Option, Some, None, option_map, is_some, refl, sym, ap, subst, ◌∙◌, arith}
 use Rattle.std.specs.Prelude.{Contains}
 use Rattle.std.specs.List.{AllByRecursion, list_all, list_any}
 use Rattle.std.specs.Map.{remove_entry}
@@ -20,13 +20,9 @@ use Rattle.tv_store.specs.FileCalls.{Tried}
 use Rattle.tv_store.specs.declared.files.OpenFile.{OpenFile}
 use Rattle.tv_store.specs.OpenFiles.{IsOpenFile}
 use Rattle.tv_store.proofs.OpenFiles.{all_left, AreOpen, bodies, at_seen}
+use Rattle.tv_store.proofs.CommitEvents.{all_at}
 
 -- ---- entries
-
-all_at : {A : Type 0} (P : A → Type 0) (xs : List A) (i : ℕ) (x : A) → AllByRecursion P xs → i < length xs → x ≡ get_or xs i x → P x
-all_at P [] i x h lt is = absurd (omega arith)
-all_at P (y ∷ ys) zero x h lt is = subst P (sym is) h.0
-all_at P (y ∷ ys) (suc i) x h lt is = all_at P ys i x h.1 (omega arith) is
 
 -- what is true of each entry of a list is true of one that it contains
 all_contained : {X : Type 0} (P : X → Type 0) (xs : List X) (x : X) → AllByRecursion P xs → Contains xs x → P x

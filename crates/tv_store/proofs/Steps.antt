@@ -10,7 +10,7 @@ use Rattle.tv_base.specs.declared.error.TantivyError.TheVariants as errors
 use Rattle.tv_store.specs.Kept.{Kept, StoreState, Holds, AtMost}
 use Rattle.tv_store.specs.ReaderNumbers.{FewNumbers}
 use Rattle.tv_store.specs.Applying.{Stepped, LeavesOldOrNew}
-use Rattle.tv_store.specs.ReadCauses.{ApplyCause, IsReadError}
+use Rattle.tv_store.specs.ReadCauses.{LoadingCause, IsReadError}
 use Rattle.tv_store.proofs.FewNumbers.{few_more}
 use Rattle.tv_model.specs.Commits.{IndexForm}
 use Rattle.tv_model.specs.State.{State, StepResult, Readers}
@@ -24,16 +24,16 @@ use Rattle.tv_store.specs.StoreCauses.{EventCause, LockingCause}
 -- ---- what an event did, by what its method says
 
 -- a cause of an event that reads no commit's files
-plain_cause : (busy refused quiet spent more : Type 0) (bad : OpenReadError → Type 0) (absent : List ℕ → Type 0) (error : TantivyError) → EventCause refused quiet spent error → (spent → more) → ApplyCause busy refused quiet more bad absent error
-plain_cause busy refused quiet spent more bad absent (errors.IoError fault) h f = h
-plain_cause busy refused quiet spent more bad absent (errors.OpenWriteError error) h f = h
-plain_cause busy refused quiet spent more bad absent errors.Exhausted h f = (h.0, f h.1)
-plain_cause busy refused quiet spent more bad absent errors.Memory h f = h
-plain_cause busy refused quiet spent more bad absent other h f = absurd h
+plain_cause : (busy refused quiet spent more : Type 0) (load : TantivyError → Type 0) (bad : OpenReadError → Type 0) (absent : List ℕ → Type 0) (error : TantivyError) → EventCause refused quiet spent error → (spent → more) → LoadingCause busy refused quiet more load bad absent error
+plain_cause busy refused quiet spent more load bad absent (errors.IoError fault) h f = h
+plain_cause busy refused quiet spent more load bad absent (errors.OpenWriteError error) h f = h
+plain_cause busy refused quiet spent more load bad absent errors.Exhausted h f = (h.0, f h.1)
+plain_cause busy refused quiet spent more load bad absent errors.Memory h f = h
+plain_cause busy refused quiet spent more load bad absent other h f = absurd h
 
-pub cause_in : (A busy refused quiet spent more : Type 0) (bad : OpenReadError → Type 0) (absent : List ℕ → Type 0) (result : Result A TantivyError) → IfErr result (λ error. EventCause refused quiet spent error) → (spent → more) → IfErr result (λ error. ApplyCause busy refused quiet more bad absent error)
-cause_in A busy refused quiet spent more bad absent (Ok answer) h f = h
-cause_in A busy refused quiet spent more bad absent (Err error) h f = plain_cause busy refused quiet spent more bad absent error h f
+pub cause_in : (A busy refused quiet spent more : Type 0) (load : TantivyError → Type 0) (bad : OpenReadError → Type 0) (absent : List ℕ → Type 0) (result : Result A TantivyError) → IfErr result (λ error. EventCause refused quiet spent error) → (spent → more) → IfErr result (λ error. LoadingCause busy refused quiet more load bad absent error)
+cause_in A busy refused quiet spent more load bad absent (Ok answer) h f = h
+cause_in A busy refused quiet spent more load bad absent (Err error) h f = plain_cause busy refused quiet spent more load bad absent error h f
 
 -- such an event reads no file
 pub reads_none : (A refused quiet spent P : Type 0) (result : Result A TantivyError) → IfErr result (EventCause refused quiet spent) → IfErr result (λ error. IsReadError error → P)
@@ -41,6 +41,8 @@ reads_none A refused quiet spent P (Ok answer) h = tt
 reads_none A refused quiet spent P (Err error) h = never error h where
   never : (e : TantivyError) → EventCause refused quiet spent e → IsReadError e → P
   never (errors.OpenReadError e) h r = absurd h
+  never (errors.DataCorruption why) h r = absurd h
+  never (errors.SchemaError text) h r = absurd h
   never other h r = absurd r
 
 -- nor does one that takes a lock alone
@@ -49,50 +51,56 @@ locks_none A busy refused quiet spent P (Ok answer) h = tt
 locks_none A busy refused quiet spent P (Err error) h = never error h where
   never : (e : TantivyError) → LockingCause busy refused quiet spent e → IsReadError e → P
   never (errors.OpenReadError e) h r = absurd h
+  never (errors.DataCorruption why) h r = absurd h
+  never (errors.SchemaError text) h r = absurd h
   never other h r = absurd r
 
 -- and of one that does
-pub read_cause : (busy refused quiet spent more : Type 0) (bad : OpenReadError → Type 0) (absent : List ℕ → Type 0) (error : TantivyError) → ApplyCause busy refused quiet spent bad absent error → (spent → more) → ApplyCause busy refused quiet more bad absent error
-read_cause busy refused quiet spent more bad absent (errors.IoError fault) h f = h
-read_cause busy refused quiet spent more bad absent (errors.OpenWriteError error) h f = h
-read_cause busy refused quiet spent more bad absent (errors.OpenReadError error) h f = h
-read_cause busy refused quiet spent more bad absent (errors.LockFailure why text) h f = h
-read_cause busy refused quiet spent more bad absent errors.Exhausted h f = (h.0, f h.1)
-read_cause busy refused quiet spent more bad absent errors.Memory h f = h
-read_cause busy refused quiet spent more bad absent other h f = absurd h
+pub read_cause : (busy refused quiet spent more : Type 0) (load : TantivyError → Type 0) (bad : OpenReadError → Type 0) (absent : List ℕ → Type 0) (error : TantivyError) → LoadingCause busy refused quiet spent load bad absent error → (spent → more) → LoadingCause busy refused quiet more load bad absent error
+read_cause busy refused quiet spent more load bad absent (errors.DataCorruption why) h f = h
+read_cause busy refused quiet spent more load bad absent (errors.SchemaError text) h f = h
+read_cause busy refused quiet spent more load bad absent (errors.IoError fault) h f = h
+read_cause busy refused quiet spent more load bad absent (errors.OpenWriteError error) h f = h
+read_cause busy refused quiet spent more load bad absent (errors.OpenReadError error) h f = h
+read_cause busy refused quiet spent more load bad absent (errors.LockFailure why text) h f = h
+read_cause busy refused quiet spent more load bad absent errors.Exhausted h f = (h.0, f h.1)
+read_cause busy refused quiet spent more load bad absent errors.Memory h f = h
+read_cause busy refused quiet spent more load bad absent other h f = absurd h
 
-pub read_cause_in : (A busy refused quiet spent more : Type 0) (bad : OpenReadError → Type 0) (absent : List ℕ → Type 0) (result : Result A TantivyError) → IfErr result (λ error. ApplyCause busy refused quiet spent bad absent error) → (spent → more) → IfErr result (λ error. ApplyCause busy refused quiet more bad absent error)
-read_cause_in A busy refused quiet spent more bad absent (Ok answer) h f = h
-read_cause_in A busy refused quiet spent more bad absent (Err error) h f = read_cause busy refused quiet spent more bad absent error h f
+pub read_cause_in : (A busy refused quiet spent more : Type 0) (load : TantivyError → Type 0) (bad : OpenReadError → Type 0) (absent : List ℕ → Type 0) (result : Result A TantivyError) → IfErr result (λ error. LoadingCause busy refused quiet spent load bad absent error) → (spent → more) → IfErr result (λ error. LoadingCause busy refused quiet more load bad absent error)
+read_cause_in A busy refused quiet spent more load bad absent (Ok answer) h f = h
+read_cause_in A busy refused quiet spent more load bad absent (Err error) h f = read_cause busy refused quiet spent more load bad absent error h f
 
 -- the lock that isn't given is one that the event takes
-takes_lock : (busy takes refused quiet spent : Type 0) (bad : OpenReadError → Type 0) (absent : List ℕ → Type 0) (error : TantivyError) → takes → ApplyCause busy refused quiet spent bad absent error → ApplyCause (takes × busy) refused quiet spent bad absent error
-takes_lock busy takes refused quiet spent bad absent (errors.LockFailure lock.LockBusy text) t h = ((t, h.0), h.1)
-takes_lock busy takes refused quiet spent bad absent (errors.LockFailure (lock.IoError fault) text) t h = h
-takes_lock busy takes refused quiet spent bad absent (errors.LockFailure lock.Memory text) t h = absurd h.0
-takes_lock busy takes refused quiet spent bad absent (errors.OpenReadError error) t h = h
-takes_lock busy takes refused quiet spent bad absent (errors.OpenWriteError error) t h = h
-takes_lock busy takes refused quiet spent bad absent (errors.IoError fault) t h = h
-takes_lock busy takes refused quiet spent bad absent errors.Exhausted t h = h
-takes_lock busy takes refused quiet spent bad absent errors.Memory t h = h
-takes_lock busy takes refused quiet spent bad absent other t h = absurd h
+takes_lock : (busy takes refused quiet spent : Type 0) (load : TantivyError → Type 0) (bad : OpenReadError → Type 0) (absent : List ℕ → Type 0) (error : TantivyError) → takes → LoadingCause busy refused quiet spent load bad absent error → LoadingCause (takes × busy) refused quiet spent load bad absent error
+takes_lock busy takes refused quiet spent load bad absent (errors.LockFailure lock.LockBusy text) t h = ((t, h.0), h.1)
+takes_lock busy takes refused quiet spent load bad absent (errors.LockFailure (lock.IoError fault) text) t h = h
+takes_lock busy takes refused quiet spent load bad absent (errors.LockFailure lock.Memory text) t h = absurd h.0
+takes_lock busy takes refused quiet spent load bad absent (errors.OpenReadError error) t h = h
+takes_lock busy takes refused quiet spent load bad absent (errors.OpenWriteError error) t h = h
+takes_lock busy takes refused quiet spent load bad absent (errors.DataCorruption why) t h = h
+takes_lock busy takes refused quiet spent load bad absent (errors.SchemaError error) t h = h
+takes_lock busy takes refused quiet spent load bad absent (errors.IoError fault) t h = h
+takes_lock busy takes refused quiet spent load bad absent errors.Exhausted t h = h
+takes_lock busy takes refused quiet spent load bad absent errors.Memory t h = h
+takes_lock busy takes refused quiet spent load bad absent other t h = absurd h
 
-pub takes_lock_in : (A busy takes refused quiet spent : Type 0) (bad : OpenReadError → Type 0) (absent : List ℕ → Type 0) (result : Result A TantivyError) → takes → IfErr result (ApplyCause busy refused quiet spent bad absent) → IfErr result (ApplyCause (takes × busy) refused quiet spent bad absent)
-takes_lock_in A busy takes refused quiet spent bad absent (Ok answer) t h = h
-takes_lock_in A busy takes refused quiet spent bad absent (Err error) t h = takes_lock busy takes refused quiet spent bad absent error t h
+pub takes_lock_in : (A busy takes refused quiet spent : Type 0) (load : TantivyError → Type 0) (bad : OpenReadError → Type 0) (absent : List ℕ → Type 0) (result : Result A TantivyError) → takes → IfErr result (LoadingCause busy refused quiet spent load bad absent) → IfErr result (LoadingCause (takes × busy) refused quiet spent load bad absent)
+takes_lock_in A busy takes refused quiet spent load bad absent (Ok answer) t h = h
+takes_lock_in A busy takes refused quiet spent load bad absent (Err error) t h = takes_lock busy takes refused quiet spent load bad absent error t h
 
 -- and of one that takes a lock
-locking_cause : (busy refused quiet spent more : Type 0) (bad : OpenReadError → Type 0) (absent : List ℕ → Type 0) (error : TantivyError) → LockingCause busy refused quiet spent error → (spent → more) → ApplyCause busy refused quiet more bad absent error
-locking_cause busy refused quiet spent more bad absent (errors.IoError fault) h f = h
-locking_cause busy refused quiet spent more bad absent (errors.OpenWriteError error) h f = h
-locking_cause busy refused quiet spent more bad absent (errors.LockFailure why text) h f = h
-locking_cause busy refused quiet spent more bad absent errors.Exhausted h f = (h.0, f h.1)
-locking_cause busy refused quiet spent more bad absent errors.Memory h f = h
-locking_cause busy refused quiet spent more bad absent other h f = absurd h
+locking_cause : (busy refused quiet spent more : Type 0) (load : TantivyError → Type 0) (bad : OpenReadError → Type 0) (absent : List ℕ → Type 0) (error : TantivyError) → LockingCause busy refused quiet spent error → (spent → more) → LoadingCause busy refused quiet more load bad absent error
+locking_cause busy refused quiet spent more load bad absent (errors.IoError fault) h f = h
+locking_cause busy refused quiet spent more load bad absent (errors.OpenWriteError error) h f = h
+locking_cause busy refused quiet spent more load bad absent (errors.LockFailure why text) h f = h
+locking_cause busy refused quiet spent more load bad absent errors.Exhausted h f = (h.0, f h.1)
+locking_cause busy refused quiet spent more load bad absent errors.Memory h f = h
+locking_cause busy refused quiet spent more load bad absent other h f = absurd h
 
-pub locking_cause_in : (A busy refused quiet spent more : Type 0) (bad : OpenReadError → Type 0) (absent : List ℕ → Type 0) (result : Result A TantivyError) → IfErr result (λ error. LockingCause busy refused quiet spent error) → (spent → more) → IfErr result (λ error. ApplyCause busy refused quiet more bad absent error)
-locking_cause_in A busy refused quiet spent more bad absent (Ok answer) h f = h
-locking_cause_in A busy refused quiet spent more bad absent (Err error) h f = locking_cause busy refused quiet spent more bad absent error h f
+pub locking_cause_in : (A busy refused quiet spent more : Type 0) (load : TantivyError → Type 0) (bad : OpenReadError → Type 0) (absent : List ℕ → Type 0) (result : Result A TantivyError) → IfErr result (λ error. LockingCause busy refused quiet spent error) → (spent → more) → IfErr result (λ error. LoadingCause busy refused quiet more load bad absent error)
+locking_cause_in A busy refused quiet spent more load bad absent (Ok answer) h f = h
+locking_cause_in A busy refused quiet spent more load bad absent (Err error) h f = locking_cause busy refused quiet spent more load bad absent error h f
 
 module _ {O W C : Type 0} (g : Ghosts O W C) (old new : StoreState O) (event : Event) where
   -- an event that deletes nothing and reads no commit's files

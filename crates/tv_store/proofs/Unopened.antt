@@ -11,7 +11,6 @@ use Rattle.tv_directory.specs.Locks.{LockCause, SameLocks}
 use Rattle.tv_directory.specs.View.{OnlyLocks}
 use Rattle.tv_directory.specs.declared.directory.Directory.{Ghosts}
 use Rattle.tv_managed.specs.declared.managed_directory.Refused.{Refused}
-use Rattle.tv_model.specs.Commits.{IndexForm}
 use Rattle.tv_model.specs.Files.{Reads, Heard, Rose}
 use Rattle.tv_model.specs.Lines.{opening_of}
 use Rattle.tv_model.specs.Names.{meta_name}
@@ -73,8 +72,8 @@ module _ {O W C : Type 0} (g : Ghosts O W C) (outside : O) (schema : List ℕ) (
   }
 
 -- the lock wasn't given
-module _ {O W C : Type 0} (g : Ghosts O W C) (outside : O) (schema : List ℕ) (form : IndexForm) (catalog : Catalog) (files locked : FilesState O)
-    (f : FindsFiles g outside schema form catalog files) (frame : KeepsFiles (OnlyLocks g.told) g.view files locked) (error : TantivyError) where
+module _ {O W C : Type 0} (g : Ghosts O W C) (outside : O) (schema : List ℕ) (catalog : Catalog) (files locked : FilesState O)
+    (f : FindsFiles g outside schema catalog files) (frame : KeepsFiles (OnlyLocks g.told) g.view files locked) (error : TantivyError) where
   abbrev back : Refused O
   back = record { error = error; directory = locked.outside }
 
@@ -83,8 +82,8 @@ module _ {O W C : Type 0} (g : Ghosts O W C) (outside : O) (schema : List ℕ) (
     leaves = λ t. record {
       spelled = λ text is.
           subst (LeavesUnopened (g.view outside).reads (g.view locked.outside).reads) (f.spelled.text_is ∙ sym is.text_is)
-          (same_unopened (g.view outside).reads (g.view files.outside).reads (g.view locked.outside).reads form.schema (f.leaves t) (frame.managed.below.content t));
-      unspelled = λ none. absurd (none form.schema f.spelled);
+          (same_unopened (g.view outside).reads (g.view files.outside).reads (g.view locked.outside).reads files.form.schema (f.leaves t) (frame.managed.below.content t));
+      unspelled = λ none. absurd (none files.form.schema f.spelled);
     };
     unchanged = λ t first. absurd (other first);
   }
@@ -92,15 +91,15 @@ module _ {O W C : Type 0} (g : Ghosts O W C) (outside : O) (schema : List ℕ) (
   pub unlocked_tells : TellsOpening g outside schema (Err back)
   unlocked_tells = record {
     ok = λ t. tt;
-    err = λ t. untold (heard_yet g outside schema form catalog files locked f frame);
-    part = λ t h index. no_part (opening_of index.commit) (heard_yet g outside schema form catalog files locked f frame);
+    err = λ t. untold (heard_yet g outside schema catalog files locked f frame);
+    part = λ t h index. no_part (opening_of index.commit) (heard_yet g outside schema catalog files locked f frame);
   }
 
   pub unlocked_takes : (g.told.locks → SameLocks (g.view files.outside).locks (g.view locked.outside).locks) → TakesWriterLock g outside (Err back)
   unlocked_takes same = record { ok = λ t. tt; err = λ t n. same t n ∙ f.frame.frame.locks t n }
 
   pub unlocked_stays : OpeningFrame g outside (Err back)
-  unlocked_stays = record { ok = tt; err = notified g outside schema form catalog files locked f frame }
+  unlocked_stays = record { ok = tt; err = notified g outside schema catalog files locked f frame }
 
   -- why it wasn't
   pub unlocked_fails : (why : LockError) → of_lock why ≡ error → LockFaults {A = Unit {0}} g.told (g.view files.outside) (g.view locked.outside) writer_lock_name (Err why) → OpeningFaults g outside schema (Err back)
@@ -117,15 +116,15 @@ module _ {O W C : Type 0} (g : Ghosts O W C) (outside : O) (schema : List ℕ) (
         → LockCause ((g.told.locks × ((g.view locked.outside).faults ≡ (g.view files.outside).faults)) ⊎ Rose (g.view files.outside).faults (g.view locked.outside).faults) (Rose (g.view files.outside).faults (g.view locked.outside).faults) ((g.view locked.outside).faults ≡ (g.view files.outside).faults) why
         → Cause (of_lock why)
     cause lock.LockBusy busy h = (
-      (form.schema, f.spelled),
-      the_found g outside schema form catalog files f,
+      (files.form.schema, f.spelled),
+      the_found g outside schema catalog files f,
       record {
         told = λ t. sym (f.frame.frame.locks t writer_lock_name) ∙ busy t;
         untold = ⊎_map (λ both. both.0) rose h;
       },
       refl,
     )
-    cause (lock.IoError fault) busy h = ((form.schema, f.spelled), the_found g outside schema form catalog files f, (h.0, rose h.1), refl)
+    cause (lock.IoError fault) busy h = ((files.form.schema, f.spelled), the_found g outside schema catalog files f, (h.0, rose h.1), refl)
     cause lock.Memory busy h = h ∙ f.quiet
 
   -- it is no refusal of an argument or of bytes

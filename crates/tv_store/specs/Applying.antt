@@ -7,6 +7,7 @@ use Rattle.tv_directory.specs.Locks.{SameLocks}
 use Rattle.tv_directory.specs.View.{GoesOn}
 use Rattle.tv_directory.specs.Watch.{WatchState, MayNote}
 use Rattle.tv_directory.specs.declared.directory.Directory.{Ghosts}
+use Rattle.tv_index.specs.Standing.{MetaCause}
 use Rattle.tv_model.specs.Names.{meta_name}
 use Rattle.tv_model.specs.Files.{Reads, Heard, Rose, RoseBy}
 use Rattle.tv_model.specs.Commits.{Commit, IndexForm}
@@ -23,7 +24,7 @@ use Rattle.tv_store.specs.Kept.{Kept, StoreState, Holds, AtMost}
 use Rattle.tv_store.specs.Exhausted.{IsExhausted}
 use Rattle.tv_store.specs.ReaderNumbers.{FewNumbers}
 use Rattle.tv_store.specs.Bodies.{MeetsBadFile}
-use Rattle.tv_store.specs.ReadCauses.{ApplyCause, IsReadError, TakesMetaLock}
+use Rattle.tv_store.specs.ReadCauses.{LoadingCause, IsReadError, ReadsCommit, TakesMetaLock}
 use Rattle.tv_store.specs.StoreCauses.{IsBusy}
 use Rattle.tv_store.specs.Stays.{KeepsDotted}
 use Rattle.tv_store.specs.Telling.{TellsFirstPart}
@@ -68,15 +69,28 @@ BadIn tells reads kept event error = tells → (s : State) → Holds reads kept 
 abbrev pub HoldsNone : (tells : Type 0) → Reads → Kept → Type 0
 HoldsNone tells reads kept = tells → (s : State) → Holds reads kept s → IsWhole s → ⊥
 
--- An event fails where it takes a lock that isn't given, where it meets a file that can't be read, where the device refused a call, where memory was wanted, or
--- where a number or the length of a file would pass 64 bits.
+-- the event reads the current commit, and `meta.json` isn't loaded, for this cause
+abbrev pub UnloadedAt : {O W C : Type 0} → Ghosts O W C → (old new : StoreState O) → Event → TantivyError → Type 0
+UnloadedAt g old new event error =
+    ReadsCommit old.kept.catalog event × MetaCause g.told.content (Some old.kept.form.schema) ((g.view old.outside).reads meta_name) (Rose (g.view old.outside).faults (g.view new.outside).faults) ((g.view new.outside).faults ≡ (g.view old.outside).faults) error
+
+-- it does, and a file of the commit is refused with this error
+abbrev pub RefusedAt : {O W C : Type 0} → Ghosts O W C → (old : StoreState O) → Event → OpenReadError → Type 0
+RefusedAt g old event error = ReadsCommit old.kept.catalog event × BadIn g.told.content (g.view old.outside).reads old.kept event error
+
+-- it does, and a file isn't there
+abbrev pub GoneAt : {O W C : Type 0} → Ghosts O W C → (old : StoreState O) → Event → Type 0
+GoneAt g old event = ReadsCommit old.kept.catalog event × HoldsNone g.told.content (g.view old.outside).reads old.kept
+
+-- An event fails where it takes a lock that isn't given; where it reads the current commit, and `meta.json` isn't there, or means none of this index, or a file
+-- can't be read; where the device refused a call, where memory was wanted, or where a number or the length of a file would pass 64 bits.
 abbrev pub ActCause : {O W C : Type 0} → Ghosts O W C → (old new : StoreState O) → Event → TantivyError → Type 0
 ActCause g old new event =
-    ApplyCause (TakesMetaLock old.kept.catalog event × IsBusy g.told.locks ((g.view old.outside).locks meta_lock_name ≡ true) (Rose (g.view old.outside).faults (g.view new.outside).faults))
+    LoadingCause (TakesMetaLock old.kept.catalog event × IsBusy g.told.locks ((g.view old.outside).locks meta_lock_name ≡ true) (Rose (g.view old.outside).faults (g.view new.outside).faults))
     (Rose (g.view old.outside).faults (g.view new.outside).faults) ((g.view new.outside).faults ≡ (g.view old.outside).faults) (IsExhausted old.kept event)
-    (BadIn g.told.content (g.view old.outside).reads old.kept event) (λ path. HoldsNone g.told.content (g.view old.outside).reads old.kept)
+    (UnloadedAt g old new event) (RefusedAt g old event) (λ path. GoneAt g old event)
 
--- At Ok the device refused no call but deletes, and the lock that the event takes was free; it was free too where a file wasn't read; and why the event failed.
+-- At Ok the device refused no call but deletes, and the lock that the event takes was free; it was free too where a file wasn't read, or `meta.json` was refused; and why the event failed.
 pub record ApplyFaults {O W C : Type 0} (g : Ghosts O W C) (old new : StoreState O) (event : Event) (result : Result (List ℕ) TantivyError) : Type 0 where
   pub quiet : OnOk result ((g.view new.outside).faults ≡ (g.view old.outside).faults)
   pub free : g.told.locks → TakesMetaLock old.kept.catalog event → OnOk result ((g.view old.outside).locks meta_lock_name ≡ false)

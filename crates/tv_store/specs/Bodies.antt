@@ -1,6 +1,5 @@
 -- The bodies of sealed files, as they are read.
 use Rattle.std.specs.Prelude.{ℕ, ◌≡◌, true, List, ◌∷◌, ◌++◌, map, Option, Some, None, string_bytes}
-use Rattle.std.specs.List.{AllByRecursion}
 use Rattle.tv_model.specs.Names.{has}
 use Rattle.tv_model.specs.Files.{Reads}
 use Rattle.tv_model.specs.Footer.{IsGood}
@@ -8,9 +7,8 @@ use Rattle.tv_model.specs.Readable.{IsGoodFile, AreGoodFiles}
 use Rattle.tv_model.specs.ReaderEvents.{body_in}
 use Rattle.tv_model.specs.State.{State, Sealed, file_at}
 use Rattle.tv_model.specs.declared.segment.LiveSegment.{LiveSegment}
-use Rattle.tv_model.specs.Segments.{required_names}
+use Rattle.tv_model.specs.Segments.{all_required, required_names}
 use Rattle.tv_model.specs.CommitEvents.{is_sealed}
-use Rattle.tv_model.specs.Index.{IsFileOf}
 use Rattle.tv_base.specs.declared.open_errors.OpenReadError.{OpenReadError}
 use Rattle.tv_base.specs.declared.open_errors.OpenReadError.TheVariants as read
 use Rattle.tv_base.specs.declared.error.TantivyError.{TantivyError}
@@ -36,6 +34,10 @@ pub record RefusesAt (reads : Reads) (name : List ℕ) (error : OpenReadError) :
 abbrev pub ReadsGoodFile : Option (List ℕ) → Type 0
 ReadsGoodFile read = (bytes : List ℕ) × (read ≡ Some bytes) × IsGood bytes
 
+-- each of these names does
+abbrev pub AreGood : Reads → List (List ℕ) → Type 0
+AreGood reads names = (n : List ℕ) → has names n ≡ true → ReadsGoodFile (reads n)
+
 -- these are the bodies of the files under these names, each of which is sealed and has a footer
 pub record AreBodies (s : State) (names : List (List ℕ)) (bodies : List (List ℕ)) : Type 0 where
   pub each : bodies ≡ map (λ name. body_in (file_at s name)) names
@@ -43,14 +45,19 @@ pub record AreBodies (s : State) (names : List (List ℕ)) (bodies : List (List 
 
 -- each of these is a sealed file of the state
 pub record AreSealed (s : State) (names : List (List ℕ)) : Type 0 where
-  pub files : AllByRecursion IsFileOf names
-  pub sealed : (n : List ℕ) → has names n ≡ true → is_sealed (file_at s n) ≡ true
+  pub each : (n : List ℕ) → has names n ≡ true → is_sealed (file_at s n) ≡ true
 
 -- a segment was read, with the bodies of the files that it requires
 pub record ReadsSegment (s : State) (id : List ℕ) (segment : LiveSegment) (read_id : List ℕ) (read_segment : LiveSegment) (bodies : List (List ℕ)) : Type 0 where
   pub id_is : read_id ≡ id
   pub segment_is : read_segment ≡ segment
   pub bodies_are : AreBodies s (required_names id segment) bodies
+
+-- some segments were read, with the bodies of the files that they require
+pub record ReadsSegments (s : State) (segments shown : List (List ℕ × LiveSegment)) (bodies : List (List (List ℕ))) : Type 0 where
+  pub are : shown ≡ segments
+  pub each : bodies ≡ map (λ e. map (λ name. body_in (file_at s name)) (required_names e.0 e.1)) segments
+  pub good : AreGoodFiles s (all_required segments)
 
 -- Of these files, one after the other, the first that can't be read is refused with this error: each before it can be read.
 pub record MeetsBadFile (s : State) (names : List (List ℕ)) (error : OpenReadError) : Type 0 where
@@ -72,7 +79,7 @@ pub record RefusesFirst (tells : Type 0) (reads : Reads) (names : List (List ℕ
   pub path : List ℕ
   pub rest : List (List ℕ)
   pub split : names ≡ front ++ path ∷ rest
-  pub good : tells → (n : List ℕ) → has front n ≡ true → ReadsGoodFile (reads n)
+  pub good : tells → AreGood reads front
   pub refuses : tells → RefusesAt reads path error
 
 -- why one of these files isn't read: the device refused it, or it is the first whose bytes are refused, or it isn't there

@@ -91,8 +91,9 @@ pub record LeavesText {A O W C : Type 0} (g : Ghosts O W C) (old new : O) (text 
   pub either : g.told.content → OnErr result (((g.view new).reads meta_name ≡ Some text) ⊎ ((g.view new).reads meta_name ≡ (g.view old).reads meta_name))
   pub memory : g.told.content → IfErr result (λ error. error ≡ errors.Memory → (g.view new).reads meta_name ≡ (g.view old).reads meta_name)
 
--- No file was opened, written, closed or left, and no lock was taken or freed; a notice of a commit may stand.
+-- The settings and the schema stay; no file was opened, written, closed or left, and no lock was taken or freed; a notice of a commit may stand.
 pub record KeepsOpenFiles {O W : Type 0} (told : Told) (view : O → View W) (old new : FilesState O) : Type 0 where
+  pub form : new.form ≡ old.form
   pub open_files : new.open_files ≡ old.open_files
   pub left : new.left ≡ old.left
   pub below : FrameNotes told (view old.outside) (view new.outside)

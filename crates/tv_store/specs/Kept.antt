@@ -23,16 +23,17 @@ pub record StoreState (O : Type 0) : Type 0 where
   pub outside : O
   pub is_open : Bool
 
--- the files of a store: its directory, the managed names, what was written to each open file, and the files that were left
+-- the files of a store: its directory, its index's settings and schema, the managed names, what was written to each open file, and the files that were left
 pub record FilesState (O : Type 0) : Type 0 where
   pub outside : O
+  pub form : IndexForm
   pub managed : List (List ℕ)
   pub open_files : List (List ℕ × List ℕ)
   pub left : List (List ℕ)
 
 -- what a store keeps of an index, with this catalog and these files
-abbrev pub kept_of : {O : Type 0} → IndexForm → Catalog → FilesState O → Kept
-kept_of form catalog files = record { form = form; catalog = catalog; managed = files.managed; open_files = files.open_files; left = files.left }
+abbrev pub kept_of : {O : Type 0} → Catalog → FilesState O → Kept
+kept_of catalog files = record { form = files.form; catalog = catalog; managed = files.managed; open_files = files.open_files; left = files.left }
 
 -- a file of the machine, next to what its name reads and what was written to it
 abbrev pub FileHolds : Option FileState → Option (List ℕ) → Option (List ℕ) → Type 0

@@ -8,7 +8,7 @@ use Rattle.tv_directory.specs.Locks.{FreesLock}
 use Rattle.tv_directory.specs.View.{DeletesNone, OnlyReads, OnlyTells}
 use Rattle.tv_index.specs.Opening.{Finds, LeavesFound, LeavesUnopened}
 use Rattle.tv_index.specs.Saving.{FrameNotes}
-use Rattle.tv_model.specs.Commits.{IndexForm, IsCommit}
+use Rattle.tv_model.specs.Commits.{IsCommit}
 use Rattle.tv_model.specs.Files.{Reads, Rose, Same}
 use Rattle.tv_model.specs.Index.{opened_catalog}
 use Rattle.tv_model.specs.Lines.{opening_of}
@@ -44,12 +44,12 @@ IsRefusedFirst (errors.SchemaError text) = Unit {0}
 IsRefusedFirst other = ⊥
 
 -- The index that stands in this directory was found, or a new one was made: its settings and its schema, its catalog, and its files, none of them open.
-pub record FindsFiles {O W C : Type 0} (g : Ghosts O W C) (outside : O) (schema : List ℕ) (form : IndexForm) (catalog : Catalog) (files : FilesState O) : Type 0 where
-  pub spelled : IsSchema schema form.schema
+pub record FindsFiles {O W C : Type 0} (g : Ghosts O W C) (outside : O) (schema : List ℕ) (catalog : Catalog) (files : FilesState O) : Type 0 where
+  pub spelled : IsSchema schema files.form.schema
   pub is_commit : IsCommit catalog.commit
   pub opened : catalog ≡ opened_catalog catalog.commit
-  pub finds : g.told.content → Finds (g.view outside).reads form catalog.commit files.managed
-  pub leaves : g.told.content → LeavesFound (g.view outside).reads (g.view files.outside).reads form.schema
+  pub finds : g.told.content → Finds (g.view outside).reads files.form catalog.commit files.managed
+  pub leaves : g.told.content → LeavesFound (g.view outside).reads (g.view files.outside).reads files.form.schema
   pub lists : g.told.content → Lists ((g.view files.outside).reads list_name) files.managed
   pub open_files : files.open_files ≡ []
   pub left : files.left ≡ []

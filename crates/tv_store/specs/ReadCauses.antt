@@ -12,16 +12,22 @@ use Rattle.tv_base.specs.declared.error.TantivyError.{TantivyError}
 use Rattle.tv_base.specs.declared.error.TantivyError.TheVariants as errors
 use Rattle.tv_store.specs.StoreCauses.{LockingCause}
 
--- an event that takes the meta lock: a collection, a new reader, or a reload of a reader that is there
+-- an event that reads the current commit: a new reader, or a reload of a reader that is there
+abbrev pub ReadsCommit : Catalog → Event → Type 0
+ReadsCommit c (events.Reader policy) = Unit {0}
+ReadsCommit c (events.Reload number) = IsSome (reader_at c number)
+ReadsCommit c other = ⊥
+
+-- an event that takes the meta lock: a collection, or one that reads the current commit
 abbrev pub TakesMetaLock : Catalog → Event → Type 0
 TakesMetaLock c events.Gc = Unit {0}
-TakesMetaLock c (events.Reader policy) = Unit {0}
-TakesMetaLock c (events.Reload number) = IsSome (reader_at c number)
-TakesMetaLock c other = ⊥
+TakesMetaLock c other = ReadsCommit c other
 
--- a file that was to be read wasn't
+-- a file that was to be read wasn't, or `meta.json` means no commit of the index
 abbrev pub IsReadError : TantivyError → Type 0
 IsReadError (errors.OpenReadError error) = Unit {0}
+IsReadError (errors.DataCorruption why) = Unit {0}
+IsReadError (errors.SchemaError text) = Unit {0}
 IsReadError other = ⊥
 
 -- The device refused the read of a file; or what the file reads is refused with this error, which is `bad`; or it isn't there, which is `absent`.
@@ -36,3 +42,9 @@ ReadFault refused quiet bad absent other = ⊥
 abbrev pub ApplyCause : (busy refused quiet spent : Type 0) (bad : OpenReadError → Type 0) (absent : List ℕ → Type 0) → TantivyError → Type 0
 ApplyCause busy refused quiet spent bad absent (errors.OpenReadError error) = ReadFault refused quiet bad absent error
 ApplyCause busy refused quiet spent bad absent other = LockingCause busy refused quiet spent other
+
+-- or because the bytes of `meta.json` are refused, for this cause: `load`
+abbrev pub LoadingCause : (busy refused quiet spent : Type 0) (load : TantivyError → Type 0) (bad : OpenReadError → Type 0) (absent : List ℕ → Type 0) → TantivyError → Type 0
+LoadingCause busy refused quiet spent load bad absent (errors.DataCorruption why) = load (errors.DataCorruption why)
+LoadingCause busy refused quiet spent load bad absent (errors.SchemaError text) = load (errors.SchemaError text)
+LoadingCause busy refused quiet spent load bad absent other = ApplyCause busy refused quiet spent bad absent other

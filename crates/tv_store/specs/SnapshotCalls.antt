@@ -1,14 +1,18 @@
 -- Why the calls fail that read the files of a commit.
-use Rattle.std.specs.Prelude.{◌≡◌, true, false, List, ℕ, Result, IfErr, OnOk}
+use Rattle.std.specs.Prelude.{◌≡◌, true, false, List, ℕ, Some, Result, IfErr, OnOk}
 use Rattle.tv_base.specs.declared.error.TantivyError.{TantivyError}
 use Rattle.tv_directory.specs.declared.directory.Directory.{Ghosts}
 use Rattle.tv_managed.specs.Collecting.{meta_lock_name}
+use Rattle.tv_index.specs.Indexes.{MeansSuch}
+use Rattle.tv_index.specs.Standing.{MetaCause}
 use Rattle.tv_model.specs.Files.{Rose}
+use Rattle.tv_model.specs.Names.{meta_name}
+use Rattle.tv_model.specs.State.{Snapshot}
 use Rattle.tv_model.specs.declared.event.Event.{Event}
 use Rattle.tv_store.specs.Applying.{BadIn, HoldsNone, LacksIn}
 use Rattle.tv_store.specs.Bodies.{FailsAt}
 use Rattle.tv_store.specs.Kept.{StoreState}
-use Rattle.tv_store.specs.ReadCauses.{ApplyCause, IsReadError}
+use Rattle.tv_store.specs.ReadCauses.{LoadingCause, IsReadError}
 use Rattle.tv_store.specs.StoreCauses.{IsBusy}
 
 -- One of these files isn't read.
@@ -16,21 +20,25 @@ pub record BodiesFaults {A O W C : Type 0} (g : Ghosts O W C) (old new : O) (nam
   pub quiet : OnOk result ((g.view new).faults ≡ (g.view old).faults)
   pub cause : IfErr result (FailsAt g.told.content (g.view old).reads names (Rose (g.view old).faults (g.view new).faults) ((g.view new).faults ≡ (g.view old).faults))
 
--- One of the files that the current commit requires isn't read.
+-- what is shown is the commit that `meta.json` means, where the content is told
+abbrev pub ShowsMeta : {O W C : Type 0} → Ghosts O W C → StoreState O → Snapshot → Type 0
+ShowsMeta g store shown = g.told.content → MeansSuch store.kept.form.schema ((g.view store.outside).reads meta_name) (λ commit. commit ≡ shown.commit)
+
+-- The commit of `meta.json` isn't loaded, or one of the files that it requires isn't read.
 pub record CommitFaults {A O W C : Type 0} (g : Ghosts O W C) (old new : StoreState O) (result : Result A TantivyError) : Type 0 where
   pub quiet : OnOk result ((g.view new.outside).faults ≡ (g.view old.outside).faults)
-  pub cause : IfErr result (ApplyCause ⊥ (Rose (g.view old.outside).faults (g.view new.outside).faults) ((g.view new.outside).faults ≡ (g.view old.outside).faults) ⊥ (LacksIn g.told.content (g.view old.outside).reads old.kept) (λ path. HoldsNone g.told.content (g.view old.outside).reads old.kept))
+  pub cause : IfErr result (LoadingCause ⊥ (Rose (g.view old.outside).faults (g.view new.outside).faults) ((g.view new.outside).faults ≡ (g.view old.outside).faults) ⊥ (MetaCause g.told.content (Some old.kept.form.schema) ((g.view old.outside).reads meta_name) (Rose (g.view old.outside).faults (g.view new.outside).faults) ((g.view new.outside).faults ≡ (g.view old.outside).faults)) (LacksIn g.told.content (g.view old.outside).reads old.kept) (λ path. HoldsNone g.told.content (g.view old.outside).reads old.kept))
 
--- The same of a call that takes the meta lock, which was free if it is given; files are read only then.
+-- The same of a call that takes the meta lock, which was free if it is given; only then is `meta.json` read, or a file.
 pub record SnapshotFaults {A O W C : Type 0} (g : Ghosts O W C) (old new : StoreState O) (result : Result A TantivyError) : Type 0 where
   pub quiet : OnOk result ((g.view new.outside).faults ≡ (g.view old.outside).faults)
   pub free : g.told.locks → OnOk result ((g.view old.outside).locks meta_lock_name ≡ false)
   pub reads : g.told.locks → IfErr result (λ error. IsReadError error → (g.view old.outside).locks meta_lock_name ≡ false)
-  pub cause : IfErr result (ApplyCause (IsBusy g.told.locks ((g.view old.outside).locks meta_lock_name ≡ true) (Rose (g.view old.outside).faults (g.view new.outside).faults)) (Rose (g.view old.outside).faults (g.view new.outside).faults) ((g.view new.outside).faults ≡ (g.view old.outside).faults) ⊥ (LacksIn g.told.content (g.view old.outside).reads old.kept) (λ path. HoldsNone g.told.content (g.view old.outside).reads old.kept))
+  pub cause : IfErr result (LoadingCause (IsBusy g.told.locks ((g.view old.outside).locks meta_lock_name ≡ true) (Rose (g.view old.outside).faults (g.view new.outside).faults)) (Rose (g.view old.outside).faults (g.view new.outside).faults) ((g.view new.outside).faults ≡ (g.view old.outside).faults) ⊥ (MetaCause g.told.content (Some old.kept.form.schema) ((g.view old.outside).reads meta_name) (Rose (g.view old.outside).faults (g.view new.outside).faults) ((g.view new.outside).faults ≡ (g.view old.outside).faults)) (LacksIn g.told.content (g.view old.outside).reads old.kept) (λ path. HoldsNone g.told.content (g.view old.outside).reads old.kept))
 
 -- The same of an event that reads them, if it takes the lock; or its number is spent.
 pub record ReadingFaults {A O W C : Type 0} (g : Ghosts O W C) (takes spent : Type 0) (old new : StoreState O) (event : Event) (result : Result A TantivyError) : Type 0 where
   pub quiet : OnOk result ((g.view new.outside).faults ≡ (g.view old.outside).faults)
   pub free : g.told.locks → takes → OnOk result ((g.view old.outside).locks meta_lock_name ≡ false)
   pub reads : g.told.locks → IfErr result (λ error. IsReadError error → (g.view old.outside).locks meta_lock_name ≡ false)
-  pub cause : IfErr result (ApplyCause (takes × IsBusy g.told.locks ((g.view old.outside).locks meta_lock_name ≡ true) (Rose (g.view old.outside).faults (g.view new.outside).faults)) (Rose (g.view old.outside).faults (g.view new.outside).faults) ((g.view new.outside).faults ≡ (g.view old.outside).faults) spent (BadIn g.told.content (g.view old.outside).reads old.kept event) (λ path. HoldsNone g.told.content (g.view old.outside).reads old.kept))
+  pub cause : IfErr result (LoadingCause (takes × IsBusy g.told.locks ((g.view old.outside).locks meta_lock_name ≡ true) (Rose (g.view old.outside).faults (g.view new.outside).faults)) (Rose (g.view old.outside).faults (g.view new.outside).faults) ((g.view new.outside).faults ≡ (g.view old.outside).faults) spent (λ error. takes × MetaCause g.told.content (Some old.kept.form.schema) ((g.view old.outside).reads meta_name) (Rose (g.view old.outside).faults (g.view new.outside).faults) ((g.view new.outside).faults ≡ (g.view old.outside).faults) error) (λ error. takes × BadIn g.told.content (g.view old.outside).reads old.kept event error) (λ path. takes × HoldsNone g.told.content (g.view old.outside).reads old.kept))

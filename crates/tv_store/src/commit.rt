@@ -1,15 +1,26 @@
 //! The current commit, and how it is printed.
-ghost use Rattle.std.specs.Prelude.{◌≡◌, ◌++◌, [], ◌∷◌, IfOk, is_some, length, map};
+ghost use Rattle.std.specs.Prelude.{◌≡◌, ◌++◌, [], ◌∷◌, IfOk, is_some, length, map, option_map, string_bytes};
+ghost use Rattle.std.specs.Option.{option_copied};
 ghost use Rattle.tv_model.specs.Commits.{printed};
 ghost use Rattle.tv_model.specs.State.{at};
 ghost use Rattle.tv_index.specs.Segments.{entry_of};
+ghost use Rattle.tv_index.specs.Settings.{settings_view};
 
-use crate::form::Form;
 use std::alloc::Global;
 use std::collections::BTreeMap;
 use std::marker::Model;
-use tv_index::InnerSegmentMeta;
+use tv_index::{IndexSettings, InnerSegmentMeta, Schema, print_meta};
 use tv_model::{LiveSegment, Memory, Opstamp, SegmentId, Text};
+
+/// A payload, as a commit has it. Takes no memory.
+pub(crate) fn text_of(payload: Option<String>) -> Option<Text>
+    ensures { result ≡ option_map string_bytes payload }
+{
+    match payload {
+        Some(text) => Some(Text::new(text)),
+        None => None,
+    }
+}
 
 /// A commit: its number, what its writer added, and its segments by id.
 #[derive(Drop)]
@@ -79,17 +90,6 @@ impl Commit {
         &self.segments
     }
 
-    /// A copy of its payload.
-    pub(crate) fn payload(&self, alloc: Global) -> Result<Option<Text>, Memory>
-        ensures { IfOk result (λ payload. payload ≡ self.now.payload) }
-    {
-        let Some(text) = &self.payload else {
-            return Ok(None);
-        };
-        let copy = String::from_str(alloc, text.as_str())?;
-        Ok(Some(Text::new(copy)))
-    }
-
     /// Whether the segment is one of its own.
     pub(crate) fn has_segment(&self, id: SegmentId) -> bool
         ensures { result ≡ is_some (at self.now.segments id) }
@@ -112,13 +112,30 @@ impl Commit {
         Ok(metas)
     }
 
-    /// The text of `meta.json` of an index that is made so.
-    pub(crate) fn print(&self, alloc: Global, form: &Form) -> Result<Vec<u8>, Memory>
+    // The text of its payload.
+    fn payload_text(&self) -> Option<&str>
+        ensures { option_copied result ≡ self.now.payload }
+    {
+        match &self.payload {
+            Some(text) => Some(text.as_str()),
+            None => None,
+        }
+    }
+
+    /// The text of `meta.json` of an index with these settings and this schema.
+    pub(crate) fn print(
+        &self,
+        alloc: Global,
+        settings: &IndexSettings,
+        schema: &Schema,
+    ) -> Result<Vec<u8>, Memory>
         ensures { IfOk result (λ text. text.items
-            ≡ printed form.now.settings form.now.schema self.now ++ 10 ∷ []) }
+            ≡ printed (settings_view settings.now) schema.now self.now ++ 10 ∷ []) }
     {
         let metas = self.metas(alloc)?;
-        let mut text = form.print(alloc, metas.as_slice(), self.opstamp, &self.payload)?;
+        let payload = self.payload_text();
+        let segments = metas.as_slice();
+        let mut text = print_meta(alloc, settings, schema, segments, self.opstamp, payload)?;
         text.push(b'\n')?;
         Ok(text)
     }

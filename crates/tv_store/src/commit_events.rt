@@ -227,7 +227,7 @@ impl<O: Outside> IndexStore<O> {
             (λ s. commit_of s payload.now segments.entries) result }
     {
         let commit = new_commit(self.alloc, self.catalog.next_opstamp(), payload, segments)?;
-        let text = commit.print(self.alloc, &self.form)?;
+        let text = commit.print(self.alloc, self.files.settings(), self.files.schema())?;
         self.commit_printed(commit, text.as_slice())
     }
 

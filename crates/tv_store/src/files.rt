@@ -1,5 +1,5 @@
-//! The files of an index: a managed directory, the writers of the files that are open, and the names
-//! of those that were left.
+//! The files of an index: the index, the writers of the files that are open, and the names of those
+//! that were left.
 ghost use Rattle.std.specs.Prelude.{◌≡◌, ◌≢◌, ◌&&◌, not, ◌≤◌, ◌<◌, ◌+◌, ◌^◌, ◌++◌, [], List, ℕ, true, false, length, Option, Some, None, IsSome, is_some, cond, option_map, Contains, IfErr, IfOk, OnOk, OnErr, map, string_bytes};
 ghost use Rattle.std.specs.List.{list_all, AllByRecursion};
 ghost use Rattle.std.specs.Map.{remove_entry};
@@ -16,18 +16,19 @@ ghost use Rattle.tv_directory.specs.View.{Kept, OnlyReads, OnlyLocks, OnlyTells,
 ghost use Rattle.tv_managed.specs.Managed.{KeepsOtherFiles};
 ghost use Rattle.tv_managed.specs.Reading.{ReadsBody};
 ghost use Rattle.tv_store.specs.FileCalls.{Asked, intact_in, LeavesFiles, OpensFile, FindsFile, ReadBodyFaults, Collects, GcFaults, SavesMeta, LeavesText, KeepsOpenFiles};
-ghost use Rattle.tv_store.specs.Stays.{KeepsDotted, KeepsFiles, OnlyWrites, EventFaults, Faults};
+ghost use Rattle.tv_index.specs.NewForms.{form_with};
+ghost use Rattle.tv_index.specs.Settings.{settings_view};
+ghost use Rattle.tv_index.specs.Standing.{LoadsMeta, MetaFaults};
+ghost use Rattle.tv_store.specs.Stays.{KeepsDotted, KeepsFiles, KeepsMade, OnlyWrites, EventFaults, Faults};
 
 use std::alloc::Global;
 use std::collections::{BTreeMap, BTreeSet};
 use std::marker::Model;
 use std::mem;
-use tv_base::{
-    FileSlice, IoFault, IoKind, LockError, META_FILEPATH, OpenReadError, OpenWriteError,
-    TantivyError,
-};
+use tv_base::{FileSlice, IoFault, IoKind, LockError, OpenReadError, OpenWriteError, TantivyError};
 use tv_directory::{Directory, DirectoryLock, Lock, Outside};
-use tv_managed::{ManagedDirectory, ManagedWriter};
+use tv_index::{Index, IndexSettings, Schema, UntrackedIndexMeta, save_meta_text};
+use tv_managed::ManagedWriter;
 use tv_model::{FileName, Memory};
 
 /// A file that is being written, and how many bytes were.
@@ -43,10 +44,10 @@ pub(crate) struct Collected {
     pub(crate) failed: Vec<FileName>,
 }
 
-/// A managed directory and its open files. To a contract it is the directory, the managed names,
-/// what was written to each open file, and the files that were left.
+/// An index and its open files. To a contract it is the directory, the index's settings and schema, the
+/// managed names, what was written to each open file, and the files that were left.
 pub(crate) struct Files<O: Outside> {
-    directory: ManagedDirectory<O>,
+    index: Index<O>,
     files: BTreeMap<FileName, OpenFile<O>>,
     // Neither sealed nor written any more.
     left: BTreeSet<FileName>,
@@ -56,20 +57,23 @@ impl<O: Outside> Model for Files<O> {
     ghost use Rattle.std.specs.Prelude.{map};
     ghost use Rattle.std.specs.List.{AllByRecursion};
     ghost use Rattle.tv_store.specs.Kept.{FilesState};
+    ghost use Rattle.tv_index.specs.NewForms.{form_with};
     ghost use Rattle.tv_store.specs.OpenFiles.{IsOpenFile};
 
     ghost Value = { FilesState O };
 
     ghost view = { λ a. record {
-      outside = a.directory.0;
-      managed = a.directory.1;
+      outside = a.index.directory.0;
+      form = form_with a.index.settings a.index.schema;
+      managed = a.index.directory.1;
       open_files = map
           (λ e. (e.0, (O.state_of e.1.writer.writer).written)) a.files.entries;
       left = a.left.keys;
     } };
 
     ghost invariant = { λ a. AllByRecursion
-        (λ e. IsOpenFile O.Directory a.directory.0 e.0 e.1.writer e.1.len) a.files.entries };
+        (λ e. IsOpenFile O.Directory a.index.directory.0 e.0 e.1.writer e.1.len)
+        a.files.entries };
 }
 
 // Names of files, from their texts.
@@ -119,17 +123,18 @@ fn remove_names(set: &mut BTreeSet<FileName>, names: &[FileName])
 }
 
 impl<O: Outside> Files<O> {
-    /// The files of a directory, none of them open.
-    pub(crate) fn new(alloc: Global, directory: ManagedDirectory<O>) -> Files<O>
+    /// The files of an index, none of them open.
+    pub(crate) fn new(alloc: Global, index: Index<O>) -> Files<O>
         ensures { result ≡ record {
-          outside = directory.0;
-          managed = directory.1;
+          outside = index.directory.0;
+          form = form_with index.settings index.schema;
+          managed = index.directory.1;
           open_files = [];
           left = [];
         } }
     {
         Files {
-            directory,
+            index,
             files: BTreeMap::new(alloc),
             left: BTreeSet::new(alloc),
         }
@@ -140,11 +145,39 @@ impl<O: Outside> Files<O> {
         ensures { result ≡ self.outside }
     {
         let Files {
-            directory,
+            index,
             files: _,
             left: _,
         } = self;
-        directory.into_directory()
+        index.into_directory()
+    }
+
+    /// The settings of the index.
+    pub(crate) fn settings(&self) -> &IndexSettings
+        ensures { settings_view result.now ≡ self.now.form.settings }
+    {
+        self.index.settings()
+    }
+
+    /// The schema of the index.
+    pub(crate) fn schema(&self) -> &Schema
+        ensures { result.now ≡ self.now.form.schema }
+    {
+        self.index.schema()
+    }
+
+    /// The last commit, as `meta.json` has it.
+    pub(crate) fn load_untracked_metas(
+        &mut self,
+        alloc: Global,
+    ) -> Result<UntrackedIndexMeta, TantivyError>
+        ensures meta { IfOk result
+            (LoadsMeta O.Directory self.old.outside (Some self.old.form.schema)) }
+        ensures faults { MetaFaults O.Directory self.old.outside self.new.outside
+            (Some self.old.form.schema) result }
+        ensures frame { KeepsFiles (OnlyReads O.told) O.view self.old self.new }
+    {
+        self.index.load_untracked_metas(alloc)
     }
 
     /// The managed names.
@@ -152,7 +185,7 @@ impl<O: Outside> Files<O> {
         ensures names { map string_bytes result.now.keys ≡ self.now.managed }
         ensures plain { list_all is_plain self.now.managed ≡ true }
     {
-        self.directory.list_managed_files()
+        self.index.directory().list_managed_files()
     }
 
     /// How many bytes were written to a file, where it is open.
@@ -169,7 +202,7 @@ impl<O: Outside> Files<O> {
     pub(crate) fn ready(&mut self, len: usize) -> Result<(), Memory>
         ensures room { KeepsFiles (MakesRoom O.told len result) O.view self.old self.new }
     {
-        self.directory.ready(len)
+        self.index.directory_mut().ready(len)
     }
 
     /// Tells a line, in the room that was made.
@@ -181,7 +214,7 @@ impl<O: Outside> Files<O> {
         ensures faults { DeviceFaults (O.view self.old.outside) (O.view self.new.outside) result }
         ensures frame { KeepsFiles (OnlyTells O.told) O.view self.old self.new }
     {
-        self.directory.tell(line)
+        self.index.directory_mut().tell(line)
     }
 
     /// Takes a lock.
@@ -194,14 +227,14 @@ impl<O: Outside> Files<O> {
             (O.view self.new.outside) lock.now.filepath.now result }
         ensures frame { KeepsFiles (OnlyLocks O.told) O.view self.old self.new }
     {
-        self.directory.acquire_lock(lock)
+        self.index.directory_mut().acquire_lock(lock)
     }
 
     /// Frees a lock. Takes no memory.
     pub(crate) fn release(&mut self, lock: DirectoryLock)
         ensures frees { KeepsFiles (Frees O.told lock) O.view self.old self.new }
     {
-        self.directory.release(lock);
+        self.index.directory_mut().release(lock);
     }
 
     /// Whether a file is there, isn't open and wasn't left.
@@ -215,7 +248,7 @@ impl<O: Outside> Files<O> {
         if self.files.contains_key(name) || self.left.contains(name) {
             return Ok(false);
         }
-        match self.directory.exists(name.as_str()) {
+        match self.index.directory_mut().exists(name.as_str()) {
             Ok(found) => Ok(found),
             Err(OpenReadError::Memory) => Err(TantivyError::Memory),
             Err(OpenReadError::IoError { io_error, .. }) => Err(TantivyError::IoError(io_error)),
@@ -235,9 +268,9 @@ impl<O: Outside> Files<O> {
             (O.view self.new.outside).reads name }
         ensures kept { OnErr result (self.new.open_files ≡ self.old.open_files) }
         ensures faults { EventFaults ⊥ (O.view self.old.outside) (O.view self.new.outside) result }
-        ensures frame { Kept O.told (O.view self.old.outside) (O.view self.new.outside) }
+        ensures frame { KeepsMade (Kept O.told) O.view self.old self.new }
     {
-        let writer = match self.directory.open_write(name.as_str()) {
+        let writer = match self.index.directory_mut().open_write(name.as_str()) {
             Ok(writer) => writer,
             Err(OpenWriteError::FileAlreadyExists(_)) => return Ok(false),
             Err(error) => return Err(TantivyError::from(error)),
@@ -266,7 +299,7 @@ impl<O: Outside> Files<O> {
             unreachable!()
         };
         let OpenFile { mut writer, len } = file;
-        self.directory.write(&mut writer, bytes)?;
+        self.index.directory_mut().write(&mut writer, bytes)?;
         let len = len + bytes.len() as u64;
         self.files.insert(name, OpenFile { writer, len })?;
         Ok(())
@@ -290,7 +323,7 @@ impl<O: Outside> Files<O> {
             unreachable!()
         };
         let OpenFile { writer, len: _ } = file;
-        self.directory.terminate(writer)?;
+        self.index.directory_mut().terminate(writer)?;
         Ok(())
     }
 
@@ -309,6 +342,7 @@ impl<O: Outside> Files<O> {
     pub(crate) fn leave(&mut self, names: Vec<FileName>) -> Result<(), Memory>
         ensures left { OnOk result (LeavesFiles names.items self.old self.new) }
         ensures outside { self.new.outside ≡ self.old.outside }
+        ensures form { self.new.form ≡ self.old.form }
         ensures names { self.new.managed ≡ self.old.managed }
         ensures lens { (bound : ℕ) → AllByRecursion (λ e. length e.1 ≤ bound) self.old.open_files
             → AllByRecursion (λ e. length e.1 ≤ bound) self.new.open_files }
@@ -333,7 +367,7 @@ impl<O: Outside> Files<O> {
         if self.files.contains_key(name) || self.left.contains(name) {
             return Ok(None);
         }
-        match self.directory.validate_checksum(name.as_str()) {
+        match self.index.directory_mut().validate_checksum(name.as_str()) {
             Ok(is_right) => Ok(Some(is_right)),
             Err(OpenReadError::FileDoesNotExist(_)) => Ok(None),
             Err(OpenReadError::IoError { io_error, .. }) => unless_device(io_error),
@@ -350,7 +384,7 @@ impl<O: Outside> Files<O> {
             name.now result }
         ensures frame { KeepsFiles (OnlyReads O.told) O.view self.old self.new }
     {
-        let body = self.directory.open_read(name.as_str())?;
+        let body = self.index.directory_mut().open_read(name.as_str())?;
         Ok(body)
     }
 
@@ -375,13 +409,13 @@ impl<O: Outside> Files<O> {
         ensures lens { (bound : ℕ) → AllByRecursion (λ e. length e.1 ≤ bound) self.old.open_files
             → AllByRecursion (λ e. length e.1 ≤ bound) self.new.open_files }
         ensures faults { GcFaults O.Directory self.old.outside self.new.outside result }
-        ensures frame { MayDelete O.told (O.view self.old.outside) (O.view self.new.outside) }
+        ensures frame { KeepsMade (MayDelete O.told) O.view self.old self.new }
     {
         // A contract learns from the managed names that they are plain.
-        let _names = self.directory.list_managed_files();
+        let _names = self.index.directory().list_managed_files();
         // No writer is kept beside an error, since nobody could tell which files are gone.
         let mut files = mem::replace(&mut self.files, BTreeMap::new(alloc));
-        let result = self.directory.garbage_collect(move || living)?;
+        let result = self.index.directory_mut().garbage_collect(move || living)?;
         let deleted = file_names(alloc, result.deleted_files)?;
         let failed = file_names(alloc, result.failed_to_delete_files)?;
         remove_all(&mut files, deleted.as_slice());
@@ -399,9 +433,7 @@ impl<O: Outside> Files<O> {
         ensures faults { Faults (O.view self.old.outside) (O.view self.new.outside) result }
         ensures frame { KeepsOpenFiles O.told O.view self.old self.new }
     {
-        self.directory.sync_directory()?;
-        self.directory.atomic_write(META_FILEPATH, text)?;
-        self.directory.sync_directory()?;
+        save_meta_text(self.index.directory_mut(), text)?;
         Ok(())
     }
 }

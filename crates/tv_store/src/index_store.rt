@@ -14,7 +14,6 @@ ghost use Rattle.tv_store.specs.Telling.{TellsAnswer, TriesLine};
 
 use crate::catalog::Catalog;
 use crate::files::Files;
-use crate::form::Form;
 use crate::names::required_files;
 use crate::opening::{Found, find, opening_line};
 use std::alloc::Global;
@@ -29,7 +28,6 @@ use tv_model::{Answer, Event, FileName};
 /// whether it is open.
 pub struct IndexStore<O: Outside> {
     pub(crate) alloc: Global,
-    pub(crate) form: Form,
     pub(crate) catalog: Catalog,
     pub(crate) files: Files<O>,
     pub(crate) lock: DirectoryLock,
@@ -44,7 +42,7 @@ impl<O: Outside> Model for IndexStore<O> {
     ghost Value = { StoreState O };
 
     ghost view = { λ a. record {
-      kept = kept_of a.form a.catalog a.files;
+      kept = kept_of a.catalog a.files;
       outside = a.files.outside;
       is_open = a.is_open;
     } };
@@ -68,15 +66,10 @@ impl<O: Outside> IndexStore<O> {
         ensures faults { OpeningFaults O.Directory outside schema.now result }
         ensures frame { OpeningFrame O.Directory outside result }
     {
-        let Found {
-            form,
-            catalog,
-            mut files,
-        } = find(alloc, outside, schema)?;
+        let Found { catalog, mut files } = find(alloc, outside, schema)?;
         match files.acquire_lock(&index_writer_lock()) {
             Ok(lock) => IndexStore {
                 alloc,
-                form,
                 catalog,
                 files,
                 lock,
@@ -208,7 +201,6 @@ impl<O: Outside> IndexStore<O> {
     {
         let IndexStore {
             alloc: _,
-            form: _,
             catalog: _,
             files,
             lock,

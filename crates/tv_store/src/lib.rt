@@ -15,7 +15,6 @@ mod commit;
 mod commit_events;
 mod file_events;
 mod files;
-mod form;
 mod index_store;
 mod names;
 mod opening;

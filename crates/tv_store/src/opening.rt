@@ -1,28 +1,23 @@
 //! How the index is found that stands in a directory, or is made where there is none.
 ghost use Rattle.std.specs.Prelude.{◌≡◌, IfOk, IfErr, map, option_map, string_bytes};
-ghost use Rattle.tv_model.specs.Commits.{IsCommit};
 ghost use Rattle.tv_model.specs.Index.{next_after, opened_catalog};
 ghost use Rattle.tv_model.specs.Lines.{opening_of};
-ghost use Rattle.tv_index.specs.Metas.{commit_of};
-ghost use Rattle.tv_index.specs.Opening.{form_of};
 ghost use Rattle.tv_index.specs.Segments.{entry_of};
 ghost use Rattle.tv_store.specs.Making.{FindsFiles, FindsNone, IsSorted};
 
 use crate::catalog::Catalog;
-use crate::commit::Commit;
+use crate::commit::{Commit, text_of};
 use crate::files::Files;
-use crate::form::Form;
 use std::alloc::Global;
 use std::collections::BTreeMap;
 use tv_base::TantivyError;
 use tv_directory::Outside;
-use tv_index::{InnerSegmentMeta, Schema, UntrackedIndexMeta, open_or_create};
+use tv_index::{Index, InnerSegmentMeta, Schema, UntrackedIndexMeta, open_or_create};
 use tv_managed::Refused;
-use tv_model::{Answer, LiveSegment, Memory, Opstamp, SegmentId, Text};
+use tv_model::{Answer, LiveSegment, Memory, Opstamp, SegmentId};
 
-/// An index that was found: how it is made, what is known of it, and its files.
+/// An index that was found: what is known of it, and its files.
 pub(crate) struct Found<O: Outside> {
-    pub(crate) form: Form,
     pub(crate) catalog: Catalog,
     pub(crate) files: Files<O>,
 }
@@ -46,13 +41,7 @@ fn by_id(
 {
     let mut by_id = BTreeMap::new(alloc);
     for segment in segments {
-        by_id.insert(
-            segment.segment_id,
-            LiveSegment {
-                max_doc: segment.max_doc,
-                deletes: segment.deletes,
-            },
-        )?;
+        by_id.insert(segment.segment_id, segment.live())?;
     }
     Ok(by_id)
 }
@@ -78,34 +67,9 @@ fn opened_catalog(
           segments = map entry_of segments.now;
         })) }
 {
-    let payload = match payload {
-        Some(text) => Some(Text::new(text)),
-        None => None,
-    };
-    let commit = Commit::new(opstamp, payload, by_id(alloc, segments)?);
+    let commit = Commit::new(opstamp, text_of(payload), by_id(alloc, segments)?);
     let live = by_id(alloc, segments)?;
     Ok(Catalog::new(alloc, live, next_after(opstamp), commit))
-}
-
-// How an index is made, and what is known of it where it was just opened.
-fn parts_of(alloc: Global, meta: UntrackedIndexMeta) -> Result<(Form, Catalog), Memory>
-    ensures form { IfOk result (λ parts. parts.0 ≡ form_of meta) }
-    ensures catalog { IsCommit (commit_of meta)
-        → IfOk result (λ parts. parts.1 ≡ opened_catalog (commit_of meta)) }
-{
-    let UntrackedIndexMeta {
-        index_settings,
-        segments,
-        schema,
-        opstamp,
-        payload,
-    } = meta;
-    let catalog = opened_catalog(alloc, segments.as_slice(), opstamp, payload)?;
-    let form = Form {
-        settings: index_settings,
-        schema,
-    };
-    Ok((form, catalog))
 }
 
 /// Finds the index that stands in a directory, or makes one with this schema where there is none. A
@@ -116,7 +80,7 @@ pub(crate) fn find<O: Outside>(
     schema: &[u8],
 ) -> Result<Found<O>, Refused<O>>
     ensures found { IfOk result (λ found.
-        FindsFiles O.Directory outside schema.now found.form found.catalog found.files) }
+        FindsFiles O.Directory outside schema.now found.catalog found.files) }
     ensures none { IfErr result (λ refused.
         FindsNone O.Directory outside schema.now refused.directory refused.error) }
 {
@@ -130,12 +94,19 @@ pub(crate) fn find<O: Outside>(
         }
     };
     let (directory, meta) = open_or_create(alloc, outside, &schema)?;
-    match parts_of(alloc, meta) {
-        Ok((form, catalog)) => Ok(Found {
-            form,
-            catalog,
-            files: Files::new(alloc, directory),
-        }),
+    let UntrackedIndexMeta {
+        index_settings,
+        segments,
+        schema,
+        opstamp,
+        payload,
+    } = meta;
+    match opened_catalog(alloc, segments.as_slice(), opstamp, payload) {
+        Ok(catalog) => {
+            let index = Index::from_parts(alloc, directory, index_settings, schema);
+            let files = Files::new(alloc, index);
+            Ok(Found { catalog, files })
+        }
         Err(memory) => Err(Refused {
             error: TantivyError::from(memory),
             directory: directory.into_directory(),

@@ -1,8 +1,8 @@
 //! The events of readers.
-ghost use Rattle.std.specs.Prelude.{◌≡◌, ◌<◌, ◌+◌, [], ◌∷◌, ℕ, true, length, IsSome, IfOk, OnOk};
+ghost use Rattle.std.specs.Prelude.{◌≡◌, ◌<◌, ◌+◌, [], ◌∷◌, ℕ, true, length, map, IsSome, Some, IfOk, OnOk};
 ghost use Rattle.std.specs.Fmt.{decimal};
 ghost use Rattle.tv_model.specs.Lines.{line, has_no_feed};
-ghost use Rattle.tv_model.specs.Segments.{required_names};
+ghost use Rattle.tv_model.specs.Segments.{all_required, required_names};
 ghost use Rattle.tv_model.specs.State.{State, reader_at};
 ghost use Rattle.tv_model.specs.declared.event.Event.TheVariants as events;
 ghost use Rattle.tv_model.specs.SoundStates.{IsWhole};
@@ -11,20 +11,24 @@ ghost use Rattle.tv_model.specs.ReaderEvents.{snapshot_in};
 ghost use Rattle.tv_directory.specs.View.{OnlyReads};
 ghost use Rattle.tv_managed.specs.Reading.{ReadsBody};
 ghost use Rattle.tv_store.specs.Acting.{StepsReading, reader_event, reload_event};
-ghost use Rattle.tv_store.specs.Bodies.{AreBodies, AreSealed, ReadsSegment};
+ghost use Rattle.tv_store.specs.Bodies.{AreBodies, AreGood, AreSealed, ReadsSegment, ReadsSegments};
 ghost use Rattle.tv_store.specs.FileCalls.{ReadBodyFaults};
 ghost use Rattle.tv_store.specs.Kept.{Holds, AtMost};
 ghost use Rattle.tv_store.specs.Exhausted.{PassesEnd, number_after};
 ghost use Rattle.tv_store.specs.ReaderNumbers.{FewNumbers};
-ghost use Rattle.tv_store.specs.SnapshotCalls.{BodiesFaults, CommitFaults, SnapshotFaults, ReadingFaults};
+ghost use Rattle.tv_store.specs.SnapshotCalls.{BodiesFaults, CommitFaults, ReadingFaults, ShowsMeta, SnapshotFaults};
+ghost use Rattle.tv_index.specs.Standing.{LoadsMeta, MetaFaults};
+ghost use Rattle.tv_index.specs.Segments.{entry_of};
 ghost use Rattle.tv_store.specs.Stays.{Asks, Stays};
 
+use crate::commit::text_of;
 use crate::index_store::IndexStore;
 use crate::names::required_of;
 use crate::snapshot::{SegmentReader, Snapshot};
 use std::alloc::Global;
 use tv_base::{FileSlice, TantivyError};
 use tv_directory::{Outside, meta_lock};
+use tv_index::{InnerSegmentMeta, UntrackedIndexMeta};
 use tv_model::{Answer, FileName, LiveSegment, Memory, Opstamp, ReloadPolicy, SegmentId};
 
 // The line of a snapshot that is shown, after this word.
@@ -64,6 +68,8 @@ impl<O: Outside> IndexStore<O> {
             → Holds (O.view self.old.outside).reads self.old.kept s
             → AreSealed s names.entry.now
             → IfOk result (λ bodies. AreBodies s names.entry.now bodies.items) }
+        ensures good { O.told.content → OnOk result (AreGood
+            (O.view self.old.outside).reads names.entry.now) }
         ensures faults { BodiesFaults O.Directory self.old.outside
             self.new.outside names.entry.now result }
         ensures frame { Asks (OnlyReads O.told) O.view self.old self.new }
@@ -87,6 +93,9 @@ impl<O: Outside> IndexStore<O> {
             → AreSealed s (required_names id segment)
             → IfOk result (λ reader.
             ReadsSegment s id segment reader.id reader.segment reader.bodies.items) }
+        ensures segment { IfOk result (λ reader. (reader.id ≡ id) × (reader.segment ≡ segment)) }
+        ensures good { O.told.content → OnOk result (AreGood
+            (O.view self.old.outside).reads (required_names id segment)) }
         ensures faults { BodiesFaults O.Directory self.old.outside self.new.outside
             (required_names id segment) result }
         ensures frame { Asks (OnlyReads O.told) O.view self.old self.new }
@@ -96,32 +105,67 @@ impl<O: Outside> IndexStore<O> {
         Ok(SegmentReader::new(id, segment, bodies))
     }
 
-    // The current commit with the bodies of its files, under this number, as they read now.
+    // The commit that `meta.json` means: in each state that is held, the current one.
+    fn load_commit(&mut self) -> Result<UntrackedIndexMeta, TantivyError>
+        ensures meta { IfOk result
+            (LoadsMeta O.Directory self.old.outside (Some self.old.kept.form.schema)) }
+        ensures faults { MetaFaults O.Directory self.old.outside self.new.outside
+            (Some self.old.kept.form.schema) result }
+        ensures frame { Asks (OnlyReads O.told) O.view self.old self.new }
+    {
+        self.files.load_untracked_metas(self.alloc)
+    }
+
+    // Some segments, with the bodies of their files.
+    fn read_segments(
+        &mut self,
+        segments: &[InnerSegmentMeta],
+    ) -> Result<Vec<SegmentReader>, TantivyError>
+        ensures readers { O.told.content → (s : State)
+            → Holds (O.view self.old.outside).reads self.old.kept s
+            → AreSealed s (all_required (map entry_of segments.now))
+            → IfOk result (λ readers. ReadsSegments s (map entry_of segments.now)
+            (map (λ r. (r.id, r.segment)) readers.items)
+            (map (λ r. r.bodies.items) readers.items)) }
+        ensures segments { IfOk result (λ readers.
+            map (λ r. (r.id, r.segment)) readers.items ≡ map entry_of segments.now) }
+        ensures good { O.told.content → OnOk result (AreGood
+            (O.view self.old.outside).reads (all_required (map entry_of segments.now))) }
+        ensures faults { BodiesFaults O.Directory self.old.outside self.new.outside
+            (all_required (map entry_of segments.now)) result }
+        ensures frame { Asks (OnlyReads O.told) O.view self.old self.new }
+    {
+        let mut readers = Vec::new(self.alloc);
+        for segment in segments {
+            let reader = self.read_segment(segment.segment_id, segment.live())?;
+            readers.push(reader)?;
+        }
+        Ok(readers)
+    }
+
+    // The commit that `meta.json` means with the bodies of its files, under this number, as they
+    // read now.
     fn read_snapshot(&mut self, generation: u64) -> Result<Snapshot, TantivyError>
         ensures shown { O.told.content → (s : State)
             → Holds (O.view self.old.outside).reads self.old.kept s → IsWhole s
             → IfOk result (λ shown. (shown ≡ snapshot_in s generation) × CanRead s) }
+        ensures meta { IfOk result (ShowsMeta O.Directory self.old) }
         ensures faults { CommitFaults O.Directory self.old self.new result }
         ensures frame { Asks (OnlyReads O.told) O.view self.old self.new }
     {
-        let segments = self.catalog.commit().segments(self.alloc)?;
-        let mut readers = Vec::new(self.alloc);
-        for entry in &segments {
-            let (id, segment) = *entry;
-            let reader = self.read_segment(id, segment)?;
-            readers.push(reader)?;
-        }
-        let commit = self.catalog.commit();
-        let payload = commit.payload(self.alloc)?;
-        Ok(Snapshot::new(generation, commit.opstamp(), payload, readers))
+        let meta = self.load_commit()?;
+        let segments = self.read_segments(meta.segments.as_slice())?;
+        let payload = text_of(meta.payload);
+        Ok(Snapshot::new(generation, meta.opstamp, payload, segments))
     }
 
-    // The current commit with the bodies of its files, under this number. They are read
-    // while the meta lock is held.
+    // The commit that `meta.json` means with the bodies of its files, under this number. All is
+    // read while the meta lock is held.
     fn snapshot(&mut self, generation: u64) -> Result<Snapshot, TantivyError>
         ensures shown { O.told.content → (s : State)
             → Holds (O.view self.old.outside).reads self.old.kept s → IsWhole s
             → IfOk result (λ shown. (shown ≡ snapshot_in s generation) × CanRead s) }
+        ensures meta { IfOk result (ShowsMeta O.Directory self.old) }
         ensures faults { SnapshotFaults O.Directory self.old self.new result }
         ensures frame { Asks (OnlyReads O.told) O.view self.old self.new }
     {

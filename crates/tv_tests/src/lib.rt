@@ -35,6 +35,8 @@ mod future_results;
 #[cfg(test)]
 mod index;
 #[cfg(test)]
+mod indexes;
+#[cfg(test)]
 mod inventory;
 #[cfg(test)]
 mod lists;

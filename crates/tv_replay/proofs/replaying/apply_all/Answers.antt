@@ -1,9 +1,10 @@
 use Rattle.std.proofs.Common.{◌≡◌, ◌≢◌, ◌<◌, ◌+◌, ◌*◌, ◌^◌, ℕ, [], length, true, true≢false, refl, sym, ap, subst, ◌∙◌, inl, inr, arith}
 use Rattle.tv_model.specs.State.{Catalog}
 use Rattle.tv_model.specs.Machine.{after}
+use Rattle.tv_model.specs.Names.{meta_name}
 use Rattle.tv_model.specs.Files.{Rose}
-use Rattle.tv_store.specs.Applying.{BadIn, HoldsNone}
-use Rattle.tv_store.specs.ReadCauses.{TakesMetaLock}
+use Rattle.tv_store.specs.Applying.{GoneAt, RefusedAt}
+use Rattle.tv_store.specs.ReadCauses.{ReadsCommit, TakesMetaLock}
 use Rattle.tv_store.specs.StoreCauses.{IsBusy}
 use Rattle.tv_replay.specs.ScriptLines.{IsNoEvent, IsTooLong, pending}
 use Rattle.std.proofs.lemmas.Result.{err_from_is_err_and}
@@ -16,7 +17,7 @@ use Rattle.tv_replay.proofs.Progress.{begins_next}
 use Rattle.tv_replay.proofs.Stopping.{stops_between, stops_in, event_stops, script_stops, end_stops, refused_next, nothing_ahead, busy_since}
 use Rattle.tv_replay.proofs.ReadAhead.{event_known, end_known}
 use Rattle.tv_replay.proofs.ReplayFrames.{frame_then, may_note, no_time}
-use Rattle.tv_replay.proofs.AppliedEvents.{starts, goes_on, ends, stops_at_line, stops_at_long, stops_at_last, one_more_line, never_spent, event_cause, script_cause, end_cause, fails, rose_from}
+use Rattle.tv_replay.proofs.AppliedEvents.{starts, goes_on, ends, stops_at_line, stops_at_long, stops_at_last, one_more_line, never_spent, event_cause, script_cause, end_cause, fails, meta_stands, rose_from}
 use Rattle.tv_replay.proofs.replaying.apply_all.Goals as goal
 
 pub loop-events-init : goal.loop-events-init
@@ -69,10 +70,12 @@ returns-in_err-_answer-clause-faults g c =
     let e = err_from_is_err_and c.from_residual-in_err-_answer.result c.from_residual-in_err-_answer.ensures.1 in
     let script = g.R.Source.view c.args.script.now in
     rw (e.1, e.2) (fails (event_cause (run_causes g.O.Directory c.args.store.now c.apply.new.self script (g.R.Source.view c.next_event.new.source))
-    (BadIn g.O.Directory.told.content (g.O.Directory.view c.loop-events.store.outside).reads c.loop-events.store.kept event) (λ path. HoldsNone g.O.Directory.told.content (g.O.Directory.view c.loop-events.store.outside).reads c.loop-events.store.kept) c.in_err-_answer.field-0.0 c.in_err-_answer.ensures.faults.cause
+    (ReadsCommit c.loop-events.store.kept.catalog event) g.O.Directory.told.content c.loop-events.store.kept.form.schema ((g.O.Directory.view c.loop-events.store.outside).reads meta_name)
+    (RefusedAt g.O.Directory c.loop-events.store event) (λ path. GoneAt g.O.Directory c.loop-events.store event) c.in_err-_answer.field-0.0 c.in_err-_answer.ensures.faults.cause
     (λ b. busy_since _ _ _ _ _ (λ told held. sym (before.frame.locks told meta_lock_name) ∙ held) before.quiet.0 b.1)
     (λ rose. inl (rose_from _ _ _ before.quiet.0 rose)) (λ quiet. (quiet ∙ before.quiet.0, c.in-Ok-Some.ensures.faults.quiet ∙ before.quiet.1))
-    (never_spent c.loop-events.store.kept event c.loop-events.events few line.small before.short before.few)))
+    (never_spent c.loop-events.store.kept event c.loop-events.events few line.small before.short before.few)
+    (λ wrong t s held whole. meta_stands g.O.Directory.told.content (g.O.Directory.view c.loop-events.store.outside).reads c.loop-events.store.kept wrong t (after s before.run.turns) (before.run.applied.holds t s held whole))))
 
 pub returns-in_err-tally-clause-faults : goal.returns-in_err-tally-clause-faults
 returns-in_err-tally-clause-faults g c =
@@ -117,12 +120,14 @@ returns-in_err-_answer-clause-stops g c =
     let failed = c.in_err-_answer.ensures in
     rw (e.1, e.2) (stops_in g.O.Directory c.args.store.now c.loop-events.store c.apply.new.self (g.R.Source.view c.args.script.now) (g.R.Source.view c.next_event.new.source) _ _ c.in_err-_answer.field-0.0 run _ event taken (λ quiet. c.in-Ok-Some.ensures.ahead.ok) before.quiet.0 failed.frame.goes_on.clock failed.tells.err failed.leaves.meta failed.leaves.memory
     (λ tells s held whole. event_stops text s run.turns _ _ (Rose (g.O.Directory.view c.loop-events.store.outside).faults (g.O.Directory.view c.apply.new.self.outside).faults) ((g.O.Directory.view c.apply.new.self.outside).faults ≡ (g.O.Directory.view c.loop-events.store.outside).faults)
+    (ReadsCommit c.loop-events.store.kept.catalog event) g.O.Directory.told.content c.loop-events.store.kept.form.schema ((g.O.Directory.view c.loop-events.store.outside).reads meta_name)
     {busy = TakesMetaLock c.loop-events.store.kept.catalog event × IsBusy g.O.Directory.told.locks ((g.O.Directory.view c.loop-events.store.outside).locks meta_lock_name ≡ true) (Rose (g.O.Directory.view c.loop-events.store.outside).faults (g.O.Directory.view c.apply.new.self.outside).faults)}
-    {bad = BadIn g.O.Directory.told.content (g.O.Directory.view c.loop-events.store.outside).reads c.loop-events.store.kept event} {absent = λ path. HoldsNone g.O.Directory.told.content (g.O.Directory.view c.loop-events.store.outside).reads c.loop-events.store.kept}
+    {bad = RefusedAt g.O.Directory c.loop-events.store event} {absent = λ path. GoneAt g.O.Directory c.loop-events.store event}
     event c.in_err-_answer.field-0.0 (begins_next text _ _ run.turns event run.read taken) failed.faults.cause
     (λ b. (subst (λ (k : Catalog). TakesMetaLock k event) held.catalog b.0, λ told. sym (before.frame.locks told meta_lock_name) ∙ b.1.told told))
     (never_spent c.loop-events.store.kept event c.loop-events.events few line.small before.short before.few)
-    (λ error bad. bad tells (after s run.turns) held whole) (λ path none. none tells (after s run.turns) held whole)
+    (λ wrong. meta_stands g.O.Directory.told.content (g.O.Directory.view c.loop-events.store.outside).reads c.loop-events.store.kept wrong tells (after s run.turns) held)
+    (λ error bad. bad.1 tells (after s run.turns) held whole) (λ path none. none.1 tells (after s run.turns) held whole)
     (λ read told. sym (before.frame.locks told meta_lock_name) ∙ failed.faults.reads told read)))
 
 pub returns-in_err-tally-clause-stops : goal.returns-in_err-tally-clause-stops

@@ -82,7 +82,8 @@ returns-clause-faults g c =
           (c.in-Ok.store.kept.form.schema, opened.opens.spelled) (λ tells. (opened.opens.found tells).0)
           (busy_since_opening D.told.locks before.locks mid.locks before.faults mid.faults new.faults opened.locks.ok opened.faults.quiet)
           (either_rose before.faults mid.faults new.faults more opened.faults.quiet)
-          (λ quiet. (quiet.0 ∙ opened.faults.quiet, quiet.1))))
+          (λ quiet. (quiet.0 ∙ opened.faults.quiet, quiet.1))
+          (λ tells index none. let held = opened.opens.holds tells index in none tells index.state held.1 (reads_whole index.state held.2))))
           c.apply_all-outcome.ensures.faults.cause;
     }
 

@@ -1,4 +1,4 @@
-use Rattle.std.proofs.Common.{◌≡◌, ◌==◌, take, map}
+use Rattle.std.proofs.Common.{◌≡◌, ◌==◌, take}
 use Rattle.std.specs.List.{slice_split, sum_by}
 use Rattle.tv_replay.specs.Summaries.{deleted_in}
 use Rattle.tv_replay.proofs.summary.collected_in.Given as goal

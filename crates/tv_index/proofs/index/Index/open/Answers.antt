@@ -10,11 +10,11 @@ returns-in-Ok-clause-opened g c =
     let D = g.D.Directory in
     let wraps = c.in_ok-directory.ensures.wraps in
     let loaded = c.in-Ok.ensures in
-    record {
+    rw c.from_parts.ensures (record {
       meta = c.in-Ok.meta;
       loads = loads_before D c.args.directory c.in_ok-directory.directory wraps None c.in-Ok.meta loaded.meta;
-      shows = record { settings = refl; schema = refl; kept = c.new.ensures.empty };
+      shows = record { settings = refl; schema = refl; kept = refl };
       lists = λ t. subst (λ (names : List (List ℕ)). Lists ((D.view c.args.directory).reads list_name) names) (sym loaded.frame.names) (wraps.names t);
       quiet = loaded.faults.quiet ∙ wraps.quiet;
       frame = reads_later wraps.frame loaded.frame.below;
-    }
+    })

@@ -3,7 +3,7 @@ use Rattle.tv_base.specs.declared.open_errors.OpenReadError.{OpenReadError}
 use Rattle.tv_managed.specs.Reading.{HasNoFooter, OpenBodyCause, ReadsSuch}
 use Rattle.tv_model.specs.Names.{has}
 use Rattle.tv_model.specs.State.{at}
-use Rattle.tv_store.proofs.OpenFiles.{is_open, still_open}
+use Rattle.tv_store.proofs.OpenFiles.{is_open, still_open, AreOpen}
 use Rattle.tv_store.proofs.Removals.{had}
 use Rattle.tv_store.proofs.ReportEvents.{fault_intact, intact_answer, left_intact, open_intact, tells_intact}
 use Rattle.tv_store.proofs.files.Files.is_intact.Goals as goal
@@ -22,23 +22,23 @@ returns-then-contains_key-clause-answer g c tells =
     ]
 
 pub invariant_of-self : goal.invariant_of-self
-invariant_of-self g c = still_open g.O.Directory c.self.inside.directory.0 c.validate_checksum.new.self.0 c.self.inside.files.entries c.validate_checksum.ensures.frame.below.kept.frame.tells_none.deletes_none c.self.invariant
+invariant_of-self g c = still_open g.O.Directory c.directory_mut.result.now.0 c.validate_checksum.new.self.0 c.self.inside.files.entries c.validate_checksum.ensures.frame.below.kept.frame.tells_none.deletes_none (subst (λ d. AreOpen g.O.Directory d.0 c.self.inside.files.entries) (sym c.directory_mut.ensures.value) c.self.invariant)
 
 pub invariant_of-self-in-Err-FileDoesNotExist : goal.invariant_of-self-in-Err-FileDoesNotExist
-invariant_of-self-in-Err-FileDoesNotExist g c = still_open g.O.Directory c.self.inside.directory.0 c.validate_checksum.new.self.0 c.self.inside.files.entries c.validate_checksum.ensures.frame.below.kept.frame.tells_none.deletes_none c.self.invariant
+invariant_of-self-in-Err-FileDoesNotExist g c = still_open g.O.Directory c.directory_mut.result.now.0 c.validate_checksum.new.self.0 c.self.inside.files.entries c.validate_checksum.ensures.frame.below.kept.frame.tells_none.deletes_none (subst (λ d. AreOpen g.O.Directory d.0 c.self.inside.files.entries) (sym c.directory_mut.ensures.value) c.self.invariant)
 
 pub invariant_of-self-in-Err-IoError : goal.invariant_of-self-in-Err-IoError
-invariant_of-self-in-Err-IoError g c = still_open g.O.Directory c.self.inside.directory.0 c.validate_checksum.new.self.0 c.self.inside.files.entries c.validate_checksum.ensures.frame.below.kept.frame.tells_none.deletes_none c.self.invariant
+invariant_of-self-in-Err-IoError g c = still_open g.O.Directory c.directory_mut.result.now.0 c.validate_checksum.new.self.0 c.self.inside.files.entries c.validate_checksum.ensures.frame.below.kept.frame.tells_none.deletes_none (subst (λ d. AreOpen g.O.Directory d.0 c.self.inside.files.entries) (sym c.directory_mut.ensures.value) c.self.invariant)
 
 pub invariant_of-self-in-Err-Memory : goal.invariant_of-self-in-Err-Memory
-invariant_of-self-in-Err-Memory g c = still_open g.O.Directory c.self.inside.directory.0 c.validate_checksum.new.self.0 c.self.inside.files.entries c.validate_checksum.ensures.frame.below.kept.frame.tells_none.deletes_none c.self.invariant
+invariant_of-self-in-Err-Memory g c = still_open g.O.Directory c.directory_mut.result.now.0 c.validate_checksum.new.self.0 c.self.inside.files.entries c.validate_checksum.ensures.frame.below.kept.frame.tells_none.deletes_none (subst (λ d. AreOpen g.O.Directory d.0 c.self.inside.files.entries) (sym c.directory_mut.ensures.value) c.self.invariant)
 
 pub returns-in-Ok-clause-answer : goal.returns-in-Ok-clause-answer
 returns-in-Ok-clause-answer g c tells =
     let name = c.args.name.now in
     let old = c.args.self.now in
-    intact_answer (λ d. (g.O.Directory.view d).reads) c.self.inside.directory.0 old.outside c.as_str.result.now name (at old.open_files name) (has old.left name) (Some c.in-Ok.is_right)
-    (ap (λ v. v.outside) c.self.view_is) c.as_str.ensures.text (tells_intact _ c.in-Ok.is_right (c.in-Ok.ensures.answer tells))
+    intact_answer (λ d. (g.O.Directory.view d).reads) c.directory_mut.result.now.0 old.outside c.as_str.result.now name (at old.open_files name) (has old.left name) (Some c.in-Ok.is_right)
+    (ap (λ d. d.0) c.directory_mut.ensures.value ∙ ap (λ v. v.outside) c.self.view_is) c.as_str.ensures.text (tells_intact _ c.in-Ok.is_right (c.in-Ok.ensures.answer tells))
     (is_open (λ w. (g.O.Directory.state_of w).written) c.self.inside.files.entries old.open_files name _ (ap (λ v. v.open_files) c.self.view_is) c.if-contains_key.ensures)
     (sym (ap (λ v. has v.left name) c.self.view_is) ∙ sym (had c.self.inside.left.keys name) ∙ sym c.contains.ensures ∙ c.if-contains.false)
 
@@ -46,9 +46,9 @@ pub returns-in-Err-IoError-clause-answer : goal.returns-in-Err-IoError-clause-an
 returns-in-Err-IoError-clause-answer g c tells =
     let name = c.args.name.now in
     let old = c.args.self.now in
-    let bad = ReadsSuch ((g.O.Directory.view c.self.inside.directory.0).reads c.as_str.result.now) HasNoFooter in
+    let bad = ReadsSuch ((g.O.Directory.view c.directory_mut.result.now.0).reads c.as_str.result.now) HasNoFooter in
     let why = subst (λ (e : OpenReadError). OpenBodyCause (Unit {0}) (λ fault. bad) (λ why. ⊥) (Unit {0}) (Unit {0}) e) c.in-Err-IoError.field-0-is (c.in-Err-IoError.ensures.faults.outside tells) in
-    fault_intact (λ d. (g.O.Directory.view d).reads) c.self.inside.directory.0 old.outside c.as_str.result.now name (at old.open_files name) (has old.left name) c.in-Err-IoError.io_error c.unless_device.result
-    c.unless_device.ensures.none c.unless_device.ensures.bytes (ap (λ v. v.outside) c.self.view_is) c.as_str.ensures.text why
+    fault_intact (λ d. (g.O.Directory.view d).reads) c.directory_mut.result.now.0 old.outside c.as_str.result.now name (at old.open_files name) (has old.left name) c.in-Err-IoError.io_error c.unless_device.result
+    c.unless_device.ensures.none c.unless_device.ensures.bytes (ap (λ d. d.0) c.directory_mut.ensures.value ∙ ap (λ v. v.outside) c.self.view_is) c.as_str.ensures.text why
     (is_open (λ w. (g.O.Directory.state_of w).written) c.self.inside.files.entries old.open_files name _ (ap (λ v. v.open_files) c.self.view_is) c.if-contains_key.ensures)
     (sym (ap (λ v. has v.left name) c.self.view_is) ∙ sym (had c.self.inside.left.keys name) ∙ sym c.contains.ensures ∙ c.if-contains.false)

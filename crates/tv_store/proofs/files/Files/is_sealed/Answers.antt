@@ -1,6 +1,6 @@
-use Rattle.std.proofs.Common.{sym, ap, ◌∙◌}
+use Rattle.std.proofs.Common.{sym, ap, ◌∙◌, subst}
 use Rattle.tv_model.specs.Names.{has}
-use Rattle.tv_store.proofs.OpenFiles.{still_open, is_open, open_answer, left_answer, sealed_answer}
+use Rattle.tv_store.proofs.OpenFiles.{still_open, is_open, open_answer, left_answer, sealed_answer, AreOpen}
 use Rattle.tv_store.proofs.Removals.{had}
 use Rattle.tv_store.proofs.files.Files.is_sealed.Goals as goal
 use Rattle.tv_store.proofs.files.Files.is_sealed.Goals.{then-contains_key-via-then-contains_key, then-contains_key-via-else-contains_key+then-contains}
@@ -16,18 +16,18 @@ returns-then-contains_key-clause-answer g c tells =
     ]
 
 pub invariant_of-self : goal.invariant_of-self
-invariant_of-self g c = still_open g.O.Directory c.self.inside.directory.0 c.exists.new.self.0 c.self.inside.files.entries c.exists.ensures.frame.below.kept.frame.tells_none.deletes_none c.self.invariant
+invariant_of-self g c = still_open g.O.Directory c.directory_mut.result.now.0 c.exists.new.self.0 c.self.inside.files.entries c.exists.ensures.frame.below.kept.frame.tells_none.deletes_none (subst (λ d. AreOpen g.O.Directory d.0 c.self.inside.files.entries) (sym c.directory_mut.ensures.value) c.self.invariant)
 
 pub returns-in-Ok-clause-answer : goal.returns-in-Ok-clause-answer
 returns-in-Ok-clause-answer g c tells =
     let name = c.args.name.now in
-    sealed_answer (λ d. (g.O.Directory.view d).reads) c.self.inside.directory.0 c.args.self.now.outside c.as_str.result.now name c.in-Ok.found (has c.args.self.now.left name) _
-    (ap (λ v. v.outside) c.self.view_is) c.as_str.ensures.text (c.in-Ok.ensures.answer tells)
+    sealed_answer (λ d. (g.O.Directory.view d).reads) c.directory_mut.result.now.0 c.args.self.now.outside c.as_str.result.now name c.in-Ok.found (has c.args.self.now.left name) _
+    (ap (λ d. d.0) c.directory_mut.ensures.value ∙ ap (λ v. v.outside) c.self.view_is) c.as_str.ensures.text (c.in-Ok.ensures.answer tells)
     (is_open (λ w. (g.O.Directory.state_of w).written) c.self.inside.files.entries c.args.self.now.open_files name _ (ap (λ v. v.open_files) c.self.view_is) c.if-contains_key.ensures)
     (sym (ap (λ v. has v.left name) c.self.view_is) ∙ sym (had c.self.inside.left.keys name) ∙ sym c.contains.ensures ∙ c.if-contains.false)
 
 pub invariant_of-self-in-Err-Memory : goal.invariant_of-self-in-Err-Memory
-invariant_of-self-in-Err-Memory g c = still_open g.O.Directory c.self.inside.directory.0 c.exists.new.self.0 c.self.inside.files.entries c.exists.ensures.frame.below.kept.frame.tells_none.deletes_none c.self.invariant
+invariant_of-self-in-Err-Memory g c = still_open g.O.Directory c.directory_mut.result.now.0 c.exists.new.self.0 c.self.inside.files.entries c.exists.ensures.frame.below.kept.frame.tells_none.deletes_none (subst (λ d. AreOpen g.O.Directory d.0 c.self.inside.files.entries) (sym c.directory_mut.ensures.value) c.self.invariant)
 
 pub invariant_of-self-in-Err-IoError : goal.invariant_of-self-in-Err-IoError
-invariant_of-self-in-Err-IoError g c = still_open g.O.Directory c.self.inside.directory.0 c.exists.new.self.0 c.self.inside.files.entries c.exists.ensures.frame.below.kept.frame.tells_none.deletes_none c.self.invariant
+invariant_of-self-in-Err-IoError g c = still_open g.O.Directory c.directory_mut.result.now.0 c.exists.new.self.0 c.self.inside.files.entries c.exists.ensures.frame.below.kept.frame.tells_none.deletes_none (subst (λ d. AreOpen g.O.Directory d.0 c.self.inside.files.entries) (sym c.directory_mut.ensures.value) c.self.invariant)

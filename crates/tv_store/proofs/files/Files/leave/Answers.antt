@@ -23,6 +23,7 @@ loop-name-preserved-in_ok-insert g c =
           one_left now.left c.insert.new.self.keys now.open_files _ name (into_iter_items c.loop-name.name-iterator) (into_iter_items c.next.new.self) n c.abandon.result _ c.in-Some.ensures.steps.0
           done.found c.if-abandon.true (c.in_ok-insert.ensures.keys ∙ ap (λ v. insert_key byte_cmp v.left name) whole) (ap (λ v. v.open_files) whole) closed (inv.left n);
       outside = ap (λ v. v.outside) whole ∙ inv.outside;
+      form = ap (λ v. v.form) whole ∙ inv.form;
       managed = ap (λ v. v.managed) whole ∙ inv.managed;
       lens = λ bound h. lens_cut bound now.open_files _ (is_at (byte_cmp name)) (ap (λ v. v.open_files) whole) (inv.lens bound h);
     }
@@ -46,6 +47,7 @@ loop-name-preserved g c =
           ∙ none_left now.left now.open_files c.abandon.new.self.open_files name (into_iter_items c.loop-name.name-iterator) (into_iter_items c.next.new.self) n c.abandon.result _ c.in-Some.ensures.steps.0
           done.found c.if-abandon.false (ap (λ v. v.open_files) done.abandoned) done.closed (inv.left n);
       outside = ap (λ v. v.outside) done.abandoned ∙ inv.outside;
+      form = ap (λ v. v.form) done.abandoned ∙ inv.form;
       managed = ap (λ v. v.managed) done.abandoned ∙ inv.managed;
       lens = λ bound h. lens_cut bound now.open_files c.abandon.new.self.open_files (is_at (byte_cmp name)) (ap (λ v. v.open_files) done.abandoned) (inv.lens bound h);
     }

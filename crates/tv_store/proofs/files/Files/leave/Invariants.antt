@@ -15,6 +15,7 @@ invariant-loop-name g l =
       open_files : (n : List ℕ) → cond (has (into_iter_items l.name-iterator) n) None (at now.open_files n) ≡ cond (has l.fn.names.items n) None (at old.open_files n);
       left : (n : List ℕ) → (has now.left n || (has (into_iter_items l.name-iterator) n && is_some (at now.open_files n))) ≡ (has old.left n || (has l.fn.names.items n && is_some (at old.open_files n)));
       outside : now.outside ≡ old.outside;
+      form : now.form ≡ old.form;
       managed : now.managed ≡ old.managed;
       lens : (bound : ℕ) → AllByRecursion (λ e. length e.1 ≤ bound) old.open_files → AllByRecursion (λ e. length e.1 ≤ bound) now.open_files;
     }

@@ -1,9 +1,9 @@
-use Rattle.std.proofs.Common.{◌≡◌, None, ap, rules}
+use Rattle.std.proofs.Common.{◌≡◌, None, ap, rules, sym, subst, ◌∙◌}
 use Rattle.tv_base.specs.Errors.{of_open_read}
 use Rattle.tv_model.specs.Files.{Rose}
 use Rattle.tv_store.specs.Bodies.{RefusesAt}
 use Rattle.tv_store.specs.ReadCauses.{ApplyCause}
-use Rattle.tv_store.proofs.OpenFiles.{still_open}
+use Rattle.tv_store.proofs.OpenFiles.{still_open, AreOpen}
 use Rattle.tv_store.specs.StoreCauses.{MakesNoFile}
 use Rattle.tv_store.proofs.ReaderEvents.{body_fails, failed_as, reads_make_none}
 use Rattle.tv_store.proofs.files.Files.open_read.Goals as goal
@@ -20,10 +20,10 @@ returns-in_err-body-clause-faults g c =
           failed_as c.from_residual.result (of_open_read c.in_err-body.field-0.0)
           (ApplyCause ⊥ (Rose (D.view value).faults (D.view after).faults) ((D.view after).faults ≡ (D.view value).faults) ⊥ (λ error. D.told.content → RefusesAt (D.view value).reads c.args.name.now error) (λ path. (path ≡ c.args.name.now) × (D.told.content → (D.view value).reads path ≡ None)))
           c.from_residual.ensures.1
-          (body_fails D.told.content (λ d. (D.view d).reads) (λ d. (D.view d).faults) c.self.inside.directory.0 value after c.args.name.now c.as_str.result.now c.in_err-body.field-0.0
-          (ap (λ v. v.outside) c.self.view_is) c.as_str.ensures.text c.as_str.ensures.name why.cause why.path why.err why.outside);
+          (body_fails D.told.content (λ d. (D.view d).reads) (λ d. (D.view d).faults) c.directory_mut.result.now.0 value after c.args.name.now c.as_str.result.now c.in_err-body.field-0.0
+          (ap (λ d. d.0) c.directory_mut.ensures.value ∙ ap (λ v. v.outside) c.self.view_is) c.as_str.ensures.text c.as_str.ensures.name why.cause why.path why.err why.outside);
       file = failed_as c.from_residual.result (of_open_read c.in_err-body.field-0.0) MakesNoFile c.from_residual.ensures.1 (reads_make_none c.in_err-body.field-0.0);
     }
 
 pub invariant_of-self-2 : goal.invariant_of-self-2
-invariant_of-self-2 g c = still_open g.O.Directory c.self.inside.directory.0 c.open_read.new.self.0 c.self.inside.files.entries c.open_read.ensures.frame.below.kept.frame.tells_none.deletes_none c.self.invariant
+invariant_of-self-2 g c = still_open g.O.Directory c.directory_mut.result.now.0 c.open_read.new.self.0 c.self.inside.files.entries c.open_read.ensures.frame.below.kept.frame.tells_none.deletes_none (subst (λ d. AreOpen g.O.Directory d.0 c.self.inside.files.entries) (sym c.directory_mut.ensures.value) c.self.invariant)

@@ -16,7 +16,7 @@ returns-in_err-answer g c =
     let event = c.args.event.now in
     let inside = c.self.inside in
     let error = c.in_err-answer.field-0.0 in
-    let same = ap (λ (catalog : Catalog). record { kept = kept_of inside.form catalog inside.files; outside = inside.files.outside; is_open = inside.is_open }) c.in_err-answer.ensures.kept ∙ c.self.view_is in
+    let same = ap (λ (catalog : Catalog). record { kept = kept_of catalog inside.files; outside = inside.files.outside; is_open = inside.is_open }) c.in_err-answer.ensures.kept ∙ c.self.view_is in
     let e = err_from_is_err_and c.from_residual.result c.from_residual.ensures.1 in
     rw (e.1, e.2) (subst (λ v. Acts D c.args.self.now v event (Err error)) (sym same)
     (acts_unknown D c.args.self.now event error (subst (λ v. CatalogCause (PassesEnd (number_after v.kept.catalog event)) error) c.self.view_is c.in_err-answer.ensures.cause)))
@@ -30,7 +30,7 @@ returns-in-Some g c =
     let steps : catalog_step inside.catalog inside.files.managed event ≡ Some known =
     subst (λ (names : List (List ℕ)). catalog_step inside.catalog names event ≡ Some known) c.managed.ensures.names
     (sym c.in_ok-answer.ensures.step ∙ ap (option_map (λ (answer : List ℕ). (answer, c.act.new.self))) c.in-Some.is) in
-    acts_known g.O.Directory c.args.self.now (record { kept = kept_of inside.form c.act.new.self inside.files; outside = inside.files.outside; is_open = inside.is_open }) c.told.new.self event known c.told.result
+    acts_known g.O.Directory c.args.self.now (record { kept = kept_of c.act.new.self inside.files; outside = inside.files.outside; is_open = inside.is_open }) c.told.new.self event known c.told.result
     (subst (λ v. catalog_step v.kept.catalog v.kept.managed event ≡ Some known) same steps) c.in_ok-answer.ensures.fits
     (ap (λ v. record v.kept { catalog = c.act.new.self }) same) (ap (λ v. v.outside) same) (ap (λ v. v.is_open) same)
     c.told.ensures.answer c.told.ensures.room c.told.ensures.asks.faults c.told.ensures.asks.frame

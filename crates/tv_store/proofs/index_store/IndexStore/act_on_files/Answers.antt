@@ -6,7 +6,7 @@ use Rattle.tv_model.specs.declared.event.Event.TheVariants.{Gc, Reader, Reload}
 use Rattle.tv_store.specs.Exhausted.{IsExhausted, PassesEnd, number_after}
 use Rattle.tv_store.specs.StoreCauses.{IsBusy}
 use Rattle.tv_store.specs.ReadCauses.{TakesMetaLock}
-use Rattle.tv_store.specs.Applying.{BadIn, HoldsNone}
+use Rattle.tv_store.specs.Applying.{GoneAt, RefusedAt, UnloadedAt}
 use Rattle.tv_store.proofs.Steps.{at_most, locks_none, takes_lock_in, locking_cause_in, read_cause_in}
 use Rattle.tv_store.proofs.Acting.{acts_on_files, acts_reading, acts_deleting, acts_committing}
 use Rattle.tv_store.proofs.index_store.IndexStore.act_on_files.Goals as goal
@@ -60,8 +60,8 @@ returns-in-Gc g c =
       free = λ told takes. did.faults.free told;
       reads = λ told. locks_none _ busy refused quiet ⊥ ((d.view old.outside).locks meta_lock_name ≡ false) c.gc.result did.faults.cause;
       cause =
-          takes_lock_in _ busy (TakesMetaLock old.kept.catalog Gc) refused quiet (IsExhausted old.kept Gc) (BadIn d.told.content (d.view old.outside).reads old.kept Gc) (λ path. HoldsNone d.told.content (d.view old.outside).reads old.kept) c.gc.result tt
-          (locking_cause_in _ busy refused quiet ⊥ (IsExhausted old.kept Gc) (BadIn d.told.content (d.view old.outside).reads old.kept Gc) (λ path. HoldsNone d.told.content (d.view old.outside).reads old.kept) c.gc.result did.faults.cause (λ never. absurd never));
+          takes_lock_in _ busy (TakesMetaLock old.kept.catalog Gc) refused quiet (IsExhausted old.kept Gc) (UnloadedAt d old new Gc) (RefusedAt d old Gc) (λ path. GoneAt d old Gc) c.gc.result tt
+          (locking_cause_in _ busy refused quiet ⊥ (IsExhausted old.kept Gc) (UnloadedAt d old new Gc) (RefusedAt d old Gc) (λ path. GoneAt d old Gc) c.gc.result did.faults.cause (λ never. absurd never));
     })
     did.meta did.dotted did.frame
 
@@ -82,8 +82,8 @@ returns-in-Reader g c =
       free = did.faults.free;
       reads = did.faults.reads;
       cause =
-          read_cause_in _ (TakesMetaLock old.kept.catalog event × busy) refused quiet (PassesEnd (number_after old.kept.catalog event)) (IsExhausted old.kept event)
-          (BadIn d.told.content (d.view old.outside).reads old.kept event) (λ path. HoldsNone d.told.content (d.view old.outside).reads old.kept) c.reader.result did.faults.cause inl;
+          read_cause_in _ (TakesMetaLock old.kept.catalog event × busy) refused quiet (PassesEnd (number_after old.kept.catalog event)) (IsExhausted old.kept event) (UnloadedAt d old new event)
+          (RefusedAt d old event) (λ path. GoneAt d old event) c.reader.result did.faults.cause inl;
     })
     did.frame
 
@@ -104,7 +104,7 @@ returns-in-Reload g c =
       free = did.faults.free;
       reads = did.faults.reads;
       cause =
-          read_cause_in _ (TakesMetaLock old.kept.catalog event × busy) refused quiet (PassesEnd (number_after old.kept.catalog event)) (IsExhausted old.kept event)
-          (BadIn d.told.content (d.view old.outside).reads old.kept event) (λ path. HoldsNone d.told.content (d.view old.outside).reads old.kept) c.reload.result did.faults.cause inl;
+          read_cause_in _ (TakesMetaLock old.kept.catalog event × busy) refused quiet (PassesEnd (number_after old.kept.catalog event)) (IsExhausted old.kept event) (UnloadedAt d old new event)
+          (RefusedAt d old event) (λ path. GoneAt d old event) c.reload.result did.faults.cause inl;
     })
     did.frame

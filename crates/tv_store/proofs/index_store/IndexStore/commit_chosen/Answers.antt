@@ -1,6 +1,6 @@
-use Rattle.std.proofs.Common.{◌++◌, ◌∷◌, [], ap, ◌∙◌}
+use Rattle.std.proofs.Common.{ℕ, List, ◌++◌, ◌∷◌, [], ap, ◌∙◌}
 use Rattle.std.specs.List.{AllByRecursion}
-use Rattle.tv_model.specs.Commits.{Commit, IndexForm, IsSegment, printed}
+use Rattle.tv_model.specs.Commits.{Commit, IndexForm, IsSegment, Settings, printed}
 use Rattle.tv_store.proofs.FoundStates.{means_commit}
 use Rattle.tv_store.specs.Committing.{IsPrinted, commit_of}
 use Rattle.tv_store.proofs.Committing.{commits_as}
@@ -21,7 +21,9 @@ returns g c =
         sound = made.sound are_segments;
         blocksize = (means_commit kept.form.settings kept.form.schema held.meta.0 s.catalog.commit held.meta.2).1;
         text_is =
-            c.as_slice.ensures.value ∙ c.in_ok-text.ensures ∙ ap (λ (f : IndexForm). printed f.settings f.schema commit ++ 10 ∷ []) (ap (λ v. v.kept.form) c.self.view_is);
+            c.as_slice.ensures.value ∙ c.in_ok-text.ensures
+            ∙ ap (λ (x : Settings). printed x c.schema.result.now commit ++ 10 ∷ []) c.settings.ensures ∙ ap (λ (x : List ℕ). printed c.self.inside.files.form.settings x commit ++ 10 ∷ []) c.schema.ensures
+            ∙ ap (λ (f : IndexForm). printed f.settings f.schema commit ++ 10 ∷ []) (ap (λ v. v.kept.form) c.self.view_is);
       },
       ap (λ (k : Commit). commit_of s k.payload k.segments) made.commit,
     ))

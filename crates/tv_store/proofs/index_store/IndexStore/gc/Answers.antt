@@ -46,7 +46,7 @@ returns-clause-step g c =
       λ tells s held.
           let now = same_holds (D.view old.outside).reads (D.view mid.outside).reads old.kept mid.kept s (asked.below.content tells) asked.kept held in
           let step =
-          collected D inside.form inside.catalog inside.files new s needed deleted failed tells (subst (λ v. Holds (D.view v.outside).reads v.kept s) (sym c.self-2.view_is) now)
+          collected D inside.catalog inside.files new c.collect.ensures.frame.form s needed deleted failed tells (subst (λ v. Holds (D.view v.outside).reads v.kept s) (sym c.self-2.view_is) now)
           (λ n. c.in_ok-living.ensures n ∙ ap (λ (k : Catalog). has (living k) n) catalog) told (c.in_ok-deleted.ensures.list tells) in (
             c.in_ok-answer-2.ensures.answer ∙ c.in_ok-answer.ensures ∙ ap (λ (ns : List (List ℕ)). collected_line ns c.as_slice-2.result.now) c.as_slice.ensures.value
                 ∙ ap (λ (ns : List (List ℕ)). collected_line deleted ns) c.as_slice-2.ensures.value ∙ step.0,

@@ -10,4 +10,4 @@ returns-clause-found g c tells s held file =
     let inside = c.self.inside in
     let now = subst (λ v. Holds (D.view v.outside).reads v.kept s) (sym c.self.view_is) held in
     IfOk-weaker c.is_intact.result _ _ (λ found is.
-    is ∙ held_intact (D.view inside.files.outside).reads (kept_of inside.form inside.catalog inside.files) s c.args.name.now now file) (c.is_intact.ensures.answer tells)
+    is ∙ held_intact (D.view inside.files.outside).reads (kept_of inside.catalog inside.files) s c.args.name.now now file) (c.is_intact.ensures.answer tells)

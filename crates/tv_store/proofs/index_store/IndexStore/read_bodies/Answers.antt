@@ -1,6 +1,7 @@
-use Rattle.std.proofs.Common.{◌≡◌, ◌<◌, length, sym, ◌∙◌, arith, rules}
+use Rattle.std.proofs.Common.{◌≡◌, ◌<◌, length, sym, subst, ◌∙◌, arith, rules}
+use Rattle.std.proofs.lemmas.List.{take_all}
 use Rattle.tv_model.specs.Files.{Rose}
-use Rattle.tv_store.specs.Bodies.{FailsAt}
+use Rattle.tv_store.specs.Bodies.{AreGood, FailsAt}
 use Rattle.tv_store.proofs.Asking.{asks_later}
 use Rattle.tv_store.proofs.Holding.{same_holds}
 use Rattle.tv_store.proofs.ReaderEvents.{failed_as, fails_here, bodies_more, good_more}
@@ -41,3 +42,7 @@ loop-name-preserved g c =
       asks = asks_later so_far.asks asked.frame;
       quiet = asked.faults.quiet ∙ so_far.quiet;
     }
+
+pub returns-clause-good : goal.returns-clause-good
+returns-clause-good g c tells =
+    subst (AreGood (g.O.Directory.view c.args.self.now.outside).reads) (take_all c.loop-name.name-index c.args.names.now (omega arith)) (c.loop-name.invariant.good tells)

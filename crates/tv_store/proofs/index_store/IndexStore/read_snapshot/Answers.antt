@@ -1,54 +1,91 @@
-use Rattle.std.proofs.Common.{◌≡◌, ◌<◌, length, map, ap, ◌∙◌, arith, rules}
-use Rattle.std.proofs.lemmas.List.{map_push}
+use Rattle.std.proofs.Common.{◌≡◌, ◌∙◌, ℕ, List, Option, Some, ap, map, subst, sym, string_bytes, true, rules}
+use Rattle.std.specs.Prelude.{option_map}
+use Rattle.tv_index.specs.Metas.{commit_of, settings_of}
+use Rattle.tv_index.specs.Segments.{entry_of}
+use Rattle.tv_index.specs.Standing.{MetaCause}
 use Rattle.tv_model.specs.Commits.{Commit}
 use Rattle.tv_model.specs.Files.{Rose}
-use Rattle.tv_model.specs.State.{Catalog}
-use Rattle.tv_store.specs.declared.snapshot.SegmentReader.{SegmentReader}
-use Rattle.tv_store.specs.Applying.{LacksIn, HoldsNone}
-use Rattle.tv_store.specs.ReadCauses.{ApplyCause}
-use Rattle.tv_store.proofs.Asking.{asks_later}
+use Rattle.tv_model.specs.Meaning.{Means}
+use Rattle.tv_model.specs.Names.{has, meta_name}
+use Rattle.tv_model.specs.Readable.{AreGoodFiles}
+use Rattle.tv_model.specs.Segments.{all_required}
+use Rattle.tv_model.specs.State.{Snapshot}
+use Rattle.tv_model.specs.declared.segment.LiveSegment.{LiveSegment}
+use Rattle.tv_store.specs.Applying.{HoldsNone, LacksIn}
+use Rattle.tv_index.specs.declared.segment_meta.InnerSegmentMeta.{InnerSegmentMeta}
+use Rattle.tv_store.specs.Bodies.{AreSealed}
+use Rattle.tv_store.specs.ReadCauses.{LoadingCause}
 use Rattle.tv_store.proofs.Holding.{same_holds}
-use Rattle.tv_store.proofs.ReaderEvents.{failed_as, snapshot_fails, segment_is_sealed, read_more}
+use Rattle.tv_store.proofs.LoadedCommits.{loaded_commit, loads_none, shown_is}
+use Rattle.tv_store.proofs.ReaderEvents.{commit_fails, failed_as}
 use Rattle.tv_store.proofs.index_store.IndexStore.read_snapshot.Goals as goal
 
-pub returns-in_err-reader-clause-faults : goal.returns-in_err-reader-clause-faults
-returns-in_err-reader-clause-faults g c =
-    let tells = g.O.Directory.told.content in
+pub returns-in_err-meta-clause-faults : goal.returns-in_err-meta-clause-faults
+returns-in_err-meta-clause-faults g c =
     let D = g.O.Directory in
-    let so_far = c.loop-entry.invariant in
-    let segments = c.deref-entry-items.result.now in
-    let within : c.loop-entry.entry-index < length segments = omega arith in
+    let tells = D.told.content in
+    let old = c.args.self.now in
+    let end = (D.view c.load_commit.new.self.outside).faults in
+    let start = (D.view old.outside).faults in
     record {
       quiet = search rules;
       cause =
-          failed_as c.from_residual-in_err-reader.result c.in_err-reader.field-0.0
-          (ApplyCause ⊥ (Rose (D.view c.args.self.now.outside).faults (D.view c.read_segment.new.self.outside).faults) ((D.view c.read_segment.new.self.outside).faults ≡ (D.view c.args.self.now.outside).faults) ⊥ (LacksIn tells (D.view c.args.self.now.outside).reads c.args.self.now.kept) (λ path. HoldsNone tells (D.view c.args.self.now.outside).reads c.args.self.now.kept))
-          c.from_residual-in_err-reader.ensures.1
-          (snapshot_fails tells (D.view c.args.self.now.outside).reads (D.view c.loop-entry.self.outside).reads c.args.self.now.kept segments c.loop-entry.entry-index c.entry-item.result
-          (D.view c.args.self.now.outside).faults (D.view c.loop-entry.self.outside).faults (D.view c.read_segment.new.self.outside).faults c.in_err-reader.field-0.0
-          so_far.asks.below.content so_far.quiet (c.deref-entry-items.ensures.value ∙ c.in_ok-segments.ensures ∙ ap (λ (k : Commit). k.segments) c.commit.ensures ∙ ap (λ v. v.kept.catalog.commit.segments) c.self.view_is) within c.entry-item.is
-          (λ t s held whole. record { each = (so_far.read t s held whole (c.deref-entry-items.ensures.value ∙ c.in_ok-segments.ensures ∙ ap (λ (k : Commit). k.segments) c.commit.ensures ∙ ap (λ v. v.kept.catalog.commit.segments) c.self.view_is ∙ ap (λ (k : Catalog). k.commit.segments) held.catalog)).good })
-          c.in_err-reader.ensures.faults.cause);
+          failed_as c.from_residual.result c.in_err-meta.field-0.0
+          (LoadingCause ⊥ (Rose start end) (end ≡ start) ⊥ (MetaCause tells (Some old.kept.form.schema) ((D.view old.outside).reads meta_name) (Rose start end) (end ≡ start)) (LacksIn tells (D.view old.outside).reads old.kept) (λ path. HoldsNone tells (D.view old.outside).reads old.kept))
+          c.from_residual.ensures.1
+          (loads_none tells (D.view old.outside).reads old.kept (Rose start end) (end ≡ start) c.in_err-meta.field-0.0 c.in_err-meta.ensures.faults.cause);
     }
 
-pub loop-entry-preserved : goal.loop-entry-preserved
-loop-entry-preserved g c =
+pub returns-in_err-segments-clause-faults : goal.returns-in_err-segments-clause-faults
+returns-in_err-segments-clause-faults g c =
     let D = g.O.Directory in
-    let so_far = c.loop-entry.invariant in
-    let asked = c.in_ok-reader.ensures in
-    let segments = c.deref-entry-items.result.now in
-    let within : c.loop-entry.entry-index < length segments = omega arith in
+    let tells = D.told.content in
+    let old = c.args.self.now in
+    let mid = c.load_commit.new.self in
+    let end = (D.view c.read_segments.new.self.outside).faults in
+    let start = (D.view old.outside).faults in
+    let loaded = c.in_ok-meta.ensures in
+    let load = MetaCause tells (Some old.kept.form.schema) ((D.view old.outside).reads meta_name) (Rose start end) (end ≡ start) in
     record {
-      read = λ tells s held whole are.
-          let now = same_holds (D.view c.args.self.now.outside).reads (D.view c.loop-entry.self.outside).reads c.args.self.now.kept c.loop-entry.self.kept s (so_far.asks.below.content tells) so_far.asks.kept held in
-          let sealed = segment_is_sealed (D.view c.loop-entry.self.outside).reads c.loop-entry.self.kept s segments c.loop-entry.entry-index c.entry-item.result are within c.entry-item.is whole now in
-          read_more s segments c.loop-entry.entry-index c.entry-item.result c.in_ok-reader.reader.id c.in_ok-reader.reader.segment c.in_ok-reader.reader.bodies.items
-          (map (λ (r : SegmentReader). (r.id, r.segment)) c.loop-entry.readers.items) (map (λ (r : SegmentReader). (r.id, r.segment)) c.push.new.self.items)
-          (map (λ (r : SegmentReader). r.bodies.items) c.loop-entry.readers.items) (map (λ (r : SegmentReader). r.bodies.items) c.push.new.self.items)
-          within c.entry-item.is (asked.reader tells s now sealed)
-          (ap (map (λ (r : SegmentReader). (r.id, r.segment))) c.in_ok-push.ensures.items ∙ map_push (λ (r : SegmentReader). (r.id, r.segment)) c.loop-entry.readers.items c.in_ok-reader.reader)
-          (ap (map (λ (r : SegmentReader). r.bodies.items)) c.in_ok-push.ensures.items ∙ map_push (λ (r : SegmentReader). r.bodies.items) c.loop-entry.readers.items c.in_ok-reader.reader)
-          (so_far.read tells s held whole are);
-      asks = asks_later so_far.asks asked.frame;
-      quiet = asked.faults.quiet ∙ so_far.quiet;
+      quiet = search rules;
+      cause =
+          failed_as c.from_residual-in_err-segments.result c.in_err-segments.field-0.0
+          (LoadingCause ⊥ (Rose start end) (end ≡ start) ⊥ load (LacksIn tells (D.view old.outside).reads old.kept) (λ path. HoldsNone tells (D.view old.outside).reads old.kept))
+          c.from_residual-in_err-segments.ensures.1
+          (commit_fails tells (D.view old.outside).reads (D.view mid.outside).reads old.kept load (map entry_of c.as_slice.result.now) start (D.view mid.outside).faults end c.in_err-segments.field-0.0
+          loaded.frame.below.content loaded.faults.quiet (λ t s held. ap (map entry_of) c.as_slice.ensures.value ∙ ap (λ (k : Commit). k.segments) (loaded_commit D old.outside old.kept s c.in_ok-meta.meta t loaded.meta held)) c.in_err-segments.ensures.faults.cause);
     }
+
+pub returns-clause-shown : goal.returns-clause-shown
+returns-clause-shown g c tells s held whole =
+    let D = g.O.Directory in
+    let old = c.args.self.now in
+    let mid = c.load_commit.new.self in
+    let loaded = c.in_ok-meta.ensures in
+    let meta = c.in_ok-meta.meta in
+    let items = c.as_slice.result.now in
+    let is : record { opstamp = meta.opstamp; payload = c.text_of-payload.result; segments = map entry_of items } ≡ s.catalog.commit =
+    ap (λ (p : Option (List ℕ)). record { opstamp = meta.opstamp; payload = p; segments = map entry_of items }) c.text_of-payload.ensures
+    ∙ ap (λ (xs : List InnerSegmentMeta). record { opstamp = meta.opstamp; payload = option_map string_bytes meta.payload; segments = map entry_of xs }) c.as_slice.ensures.value
+    ∙ loaded_commit D old.outside old.kept s meta tells loaded.meta held in
+    let segments : map entry_of items ≡ s.catalog.commit.segments = ap (λ (k : Commit). k.segments) is in
+    let sealed : AreSealed s (all_required (map entry_of items)) = record { each = λ n among. whole.each n (subst (λ (es : List (List ℕ × LiveSegment)). has (all_required es) n ≡ true) segments among) } in
+    let reads = c.in_ok-segments.ensures.readers tells s (same_holds (D.view old.outside).reads (D.view mid.outside).reads old.kept mid.kept s (loaded.frame.below.content tells) loaded.frame.kept held) sealed in (
+      c.new.ensures ∙ shown_is s c.args.generation meta.opstamp c.text_of-payload.result (map entry_of items) _ _ is reads,
+      subst (λ (es : List (List ℕ × LiveSegment)). AreGoodFiles s (all_required es)) segments reads.good,
+    )
+
+pub returns-clause-meta : goal.returns-clause-meta
+returns-clause-meta g c tells =
+    let loaded = c.in_ok-meta.ensures.meta in
+    let meta = c.in_ok-meta.meta in
+    let read = loaded.means tells in
+    let shown : commit_of meta ≡ c.new.result.commit =
+    ap (λ (xs : List InnerSegmentMeta). record { opstamp = meta.opstamp; payload = option_map string_bytes meta.payload; segments = map entry_of xs }) (sym c.as_slice.ensures.value)
+    ∙ ap (λ (p : Option (List ℕ)). record { opstamp = meta.opstamp; payload = p; segments = map entry_of c.as_slice.result.now }) (sym c.text_of-payload.ensures)
+    ∙ ap (λ (es : List (List ℕ × LiveSegment)). record { opstamp = meta.opstamp; payload = c.text_of-payload.result; segments = es }) (sym c.in_ok-segments.ensures.segments)
+    ∙ sym (ap (λ (x : Snapshot). x.commit) c.new.ensures) in (
+      read.0,
+      read.1,
+      (settings_of meta, commit_of meta, subst (λ (x : List ℕ). Means (settings_of meta) x read.0 (commit_of meta)) loaded.schema read.2, shown),
+    )

@@ -1,14 +1,16 @@
-use Rattle.std.proofs.Common.{◌≡◌, true, false, refl, sym, ap, subst, ◌∙◌, rules}
+use Rattle.std.proofs.Common.{◌≡◌, true, false, Some, refl, sym, ap, subst, ◌∙◌, rules}
 use Rattle.tv_model.specs.Files.{Rose}
 use Rattle.tv_model.specs.declared.event.Event.TheVariants as events
 use Rattle.tv_model.specs.State.{Catalog}
+use Rattle.tv_index.specs.Standing.{MetaCause}
+use Rattle.tv_model.specs.Names.{meta_name}
 use Rattle.tv_managed.specs.Collecting.{meta_lock_name}
 use Rattle.tv_store.specs.Kept.{Kept}
 use Rattle.tv_store.specs.Exhausted.{PassesEnd, number_after}
 use Rattle.tv_store.specs.ReaderNumbers.{FewNumbers}
 use Rattle.tv_store.specs.Applying.{BadIn, HoldsNone}
 use Rattle.tv_store.specs.StoreCauses.{IsBusy}
-use Rattle.tv_store.specs.ReadCauses.{ApplyCause, IsReadError}
+use Rattle.tv_store.specs.ReadCauses.{IsReadError, LoadingCause}
 use Rattle.tv_store.proofs.ReaderEvents.{busy_before, failed_as, few_with_new, later_fails}
 use Rattle.tv_store.proofs.index_store.IndexStore.reader.Goals as goal
 
@@ -28,10 +30,10 @@ returns-in_err-shown-clause-faults g c =
           (λ r. sym (room.frame.below.kept.frame.locks told meta_lock_name) ∙ c.in_err-shown.ensures.faults.reads told r);
       cause =
           failed_as c.from_residual-in_err-shown.result c.in_err-shown.field-0.0
-          (ApplyCause busy (Rose start end) (end ≡ start) (PassesEnd (number_after old.kept.catalog (events.Reader c.args.policy))) (BadIn tells (D.view old.outside).reads old.kept (events.Reader c.args.policy)) (λ path. HoldsNone tells (D.view old.outside).reads old.kept))
+          (LoadingCause busy (Rose start end) (end ≡ start) (PassesEnd (number_after old.kept.catalog (events.Reader c.args.policy))) (λ error. (Unit {0}) × MetaCause tells (Some old.kept.form.schema) ((D.view old.outside).reads meta_name) (Rose start end) (end ≡ start) error) (λ error. (Unit {0}) × BadIn tells (D.view old.outside).reads old.kept (events.Reader c.args.policy) error) (λ path. (Unit {0}) × HoldsNone tells (D.view old.outside).reads old.kept))
           c.from_residual-in_err-shown.ensures.1
-          (later_fails tells (D.view old.outside).reads (D.view c.ready.new.self.outside).reads old.kept c.ready.new.self.kept (events.Reader c.args.policy) (λ s held. refl) (PassesEnd (number_after old.kept.catalog (events.Reader c.args.policy))) _ busy
-          start (D.view c.ready.new.self.outside).faults end c.in_err-shown.field-0.0
+          (later_fails tells (D.view old.outside).reads (D.view c.ready.new.self.outside).reads old.kept c.ready.new.self.kept (events.Reader c.args.policy) (λ s held. refl) (PassesEnd (number_after old.kept.catalog (events.Reader c.args.policy))) _ busy (Unit {0})
+          start (D.view c.ready.new.self.outside).faults end c.in_err-shown.field-0.0 tt
           (λ b. (tt, busy_before _ _ _ _ _ (λ told. room.frame.below.kept.frame.locks told meta_lock_name) room.faults b)) room.frame.below.content room.frame.kept room.faults c.in_err-shown.ensures.faults.cause);
     }
 

@@ -3,13 +3,15 @@ use Rattle.std.specs.Prelude.{IsSome}
 use Rattle.tv_model.specs.Files.{Rose}
 use Rattle.tv_model.specs.declared.event.Event.TheVariants as events
 use Rattle.tv_model.specs.State.{Catalog, Reader, reader_at}
+use Rattle.tv_index.specs.Standing.{MetaCause}
+use Rattle.tv_model.specs.Names.{meta_name}
 use Rattle.tv_managed.specs.Collecting.{meta_lock_name}
 use Rattle.tv_store.specs.Kept.{Kept}
 use Rattle.tv_store.specs.Exhausted.{PassesEnd, number_after}
 use Rattle.tv_store.specs.ReaderNumbers.{FewNumbers}
 use Rattle.tv_store.specs.Applying.{BadIn, HoldsNone}
 use Rattle.tv_store.specs.StoreCauses.{IsBusy}
-use Rattle.tv_store.specs.ReadCauses.{ApplyCause, IsReadError}
+use Rattle.tv_store.specs.ReadCauses.{IsReadError, LoadingCause}
 use Rattle.tv_store.proofs.ReaderEvents.{busy_before, failed_as, few_with_reloaded, later_fails, mapped, reload_reads, reload_passes}
 use Rattle.tv_store.proofs.index_store.IndexStore.reload.Goals as goal
 
@@ -48,11 +50,11 @@ returns-in_err-shown-clause-faults g c =
           (λ r. sym (room.frame.below.kept.frame.locks told meta_lock_name) ∙ c.in_err-shown.ensures.faults.reads told r);
       cause =
           failed_as c.from_residual-in_err-shown.result c.in_err-shown.field-0.0
-          (ApplyCause busy (Rose start end) (end ≡ start) (PassesEnd (number_after old.kept.catalog (events.Reload c.args.number))) (BadIn tells (D.view old.outside).reads old.kept (events.Reload c.args.number)) (λ path. HoldsNone tells (D.view old.outside).reads old.kept))
+          (LoadingCause busy (Rose start end) (end ≡ start) (PassesEnd (number_after old.kept.catalog (events.Reload c.args.number))) (λ error. (IsSome (reader_at old.kept.catalog c.args.number)) × MetaCause tells (Some old.kept.form.schema) ((D.view old.outside).reads meta_name) (Rose start end) (end ≡ start) error) (λ error. (IsSome (reader_at old.kept.catalog c.args.number)) × BadIn tells (D.view old.outside).reads old.kept (events.Reload c.args.number) error) (λ path. (IsSome (reader_at old.kept.catalog c.args.number)) × HoldsNone tells (D.view old.outside).reads old.kept))
           c.from_residual-in_err-shown.ensures.1
           (later_fails tells (D.view old.outside).reads (D.view c.ready.new.self.outside).reads old.kept c.ready.new.self.kept (events.Reload c.args.number)
-          (λ s held. reload_reads s c.args.number (subst (λ (k : Catalog). IsSome (reader_at k c.args.number)) held.catalog there)) (PassesEnd (number_after old.kept.catalog (events.Reload c.args.number))) _ busy
-          start (D.view c.ready.new.self.outside).faults end c.in_err-shown.field-0.0
+          (λ s held. reload_reads s c.args.number (subst (λ (k : Catalog). IsSome (reader_at k c.args.number)) held.catalog there)) (PassesEnd (number_after old.kept.catalog (events.Reload c.args.number))) _ busy (IsSome (reader_at old.kept.catalog c.args.number))
+          start (D.view c.ready.new.self.outside).faults end c.in_err-shown.field-0.0 there
           (λ b. (there, busy_before _ _ _ _ _ (λ told. room.frame.below.kept.frame.locks told meta_lock_name) room.faults b)) room.frame.below.content room.frame.kept room.faults c.in_err-shown.ensures.faults.cause);
     }
 

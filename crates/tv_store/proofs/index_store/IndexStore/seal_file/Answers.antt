@@ -17,7 +17,7 @@ returns-clause-step g c tells s h =
     let has_len = sym c.in-Some-body_len.is ∙ c.body_len.ensures ∙ ap (λ es. option_map length (at es name)) (ap (λ v. v.kept.open_files) c.self.view_is ∙ sym now) in
     let found = live_found c.self.inside.catalog s c.args.id (ap (λ v. v.kept.catalog) c.self.view_is ∙ h.catalog) c.live_segment.ensures c.in-Some.is in
     let once = asked_holds D c.args.self.now c.ready.new.self s tells c.ready.ensures.asks.frame h in
-    sealed_file D inside.form inside.catalog inside.files c.seal.new.self s c.args.id name c.args.component c.in-Some.segment c.in_ok-answer-2.answer c.in-Some-body_len.len
+    sealed_file D inside.catalog inside.files c.seal.new.self s c.args.id name c.args.component c.in-Some.segment c.in_ok-answer-2.answer c.in-Some-body_len.len
     found c.in_ok-name.ensures.name c.in_ok-name.ensures.file has_len (c.in_ok-seal.ensures.sealed tells) c.in_ok-seal.ensures.rest.frame c.in_ok-seal.ensures.open_files c.in_ok-seal.ensures.closed
     (c.in_ok-answer-2.ensures.answer ∙ c.in_ok-answer.ensures) (inside_holds (λ d. (D.view d).reads) _ c.ready.new.self s c.self-2.view_is once)
 

@@ -11,8 +11,8 @@ pub returns-clause-faults : goal.returns-clause-faults
 returns-clause-faults g c =
     let D = g.O.Directory in
     let took = c.in_ok-lock.ensures in
-    let later : Kept = kept_of c.self.inside.form c.self.inside.catalog c.acquire_lock.new.self in
-    let kept_is : later ≡ c.args.self.now.kept = kept_by_files c.self.inside.form c.self.inside.catalog took.frame ∙ ap (λ v. v.kept) c.self.view_is in
+    let later : Kept = kept_of c.self.inside.catalog c.acquire_lock.new.self in
+    let kept_is : later ≡ c.args.self.now.kept = kept_by_files c.self.inside.catalog took.frame ∙ ap (λ v. v.kept) c.self.view_is in
     let was_free : D.told.locks → (D.view c.args.self.now.outside).locks meta_lock_name ≡ false = search rules in
     record {
       quiet = search rules;

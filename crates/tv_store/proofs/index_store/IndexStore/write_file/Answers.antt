@@ -52,7 +52,7 @@ returns-clause-step g c tells s h =
     let once = asked_holds D c.args.self.now c.ready.new.self s tells c.ready.ensures.asks.frame h in
     let sum : c.in-Some-checked_add.len ≡ c.in-Some-body_len.len + length bytes =
     sum_is c.checked_add.result _ c.in-Some-checked_add.len _ c.checked_add.ensures c.in-Some-checked_add.is ∙ ap (λ (bs : List ℕ). c.in-Some-body_len.len + length bs) c.as_slice-bytes.ensures in
-    written D inside.form inside.catalog inside.files c.write.new.self s c.args.id name c.args.component c.in-Some.segment c.in_ok-answer-2.answer bytes c.in-Some-body_len.len
+    written D inside.catalog inside.files c.write.new.self s c.args.id name c.args.component c.in-Some.segment c.in_ok-answer-2.answer bytes c.in-Some-body_len.len
     found c.in_ok-name.ensures.name c.in_ok-name.ensures.file has_len (c.in_ok-write.ensures.others tells) (c.in_ok-write.ensures.there tells) c.in_ok-write.ensures.rest.frame
     (λ body there. subst (λ bs. c.write.new.self.open_files ≡ insert_entry byte_cmp (remove_entry (is_at (byte_cmp name)) inside.files.open_files) name (body ++ bs)) c.as_slice-bytes.ensures (c.in_ok-write.ensures.written body there))
     (c.in_ok-answer-2.ensures.answer ∙ c.in_ok-answer.ensures ∙ ap (λ n. line (codes "wrote") (name ∷ decimal n ∷ [])) sum)

@@ -1,0 +1,86 @@
+-- The commit that is loaded from `meta.json` is that of each state that is held.
+use Rattle.std.proofs.Common.{◌≡◌, ℕ, List, true, Option, Some, None, refl, sym, ap, subst, ◌∙◌}
+use Rattle.tv_base.specs.declared.open_errors.OpenReadError.TheVariants as read
+use Rattle.tv_base.specs.declared.error.TantivyError.{TantivyError}
+use Rattle.tv_base.specs.declared.error.TantivyError.TheVariants as errors
+use Rattle.tv_directory.specs.declared.directory.Directory.{Ghosts}
+use Rattle.tv_index.specs.Metas.{commit_of, settings_of}
+use Rattle.tv_index.specs.Parsing.{MeansOtherThan}
+use Rattle.tv_index.specs.Standing.{LoadsMeta, MetaCause, OfRead}
+use Rattle.tv_index.specs.declared.index_meta.UntrackedIndexMeta.{UntrackedIndexMeta}
+use Rattle.tv_model.specs.Commits.{Commit}
+use Rattle.tv_model.specs.Files.{Reads}
+use Rattle.tv_model.specs.Meaning.{Means, MeansNothing}
+use Rattle.tv_model.specs.Names.{is_file_name, meta_name}
+use Rattle.tv_model.specs.ReaderEvents.{bodies_in, snapshot_in}
+use Rattle.tv_model.specs.State.{State}
+use Rattle.tv_model.specs.declared.segment.LiveSegment.{LiveSegment}
+use Rattle.tv_model.proofs.OneMeaning.{means_one, one_meaning}
+use Rattle.tv_store.specs.Applying.{HoldsNone, LacksIn}
+use Rattle.tv_store.specs.Bodies.{ReadsSegments}
+use Rattle.tv_store.specs.Kept.{Kept, Holds}
+use Rattle.tv_store.specs.ReadCauses.{LoadingCause}
+
+pub loaded_commit : {O W C : Type 0} (g : Ghosts O W C) (outside : O) (kept : Kept) (s : State) (meta : UntrackedIndexMeta) → g.told.content
+    → LoadsMeta g outside (Some kept.form.schema) meta → Holds (g.view outside).reads kept s → commit_of meta ≡ s.catalog.commit
+loaded_commit g outside kept s meta tells loads held =
+    let bytes = loads.means tells in
+    let text = held.meta in
+    let both : Some text.0 ≡ Some bytes.0 = sym text.1 ∙ bytes.1 in
+    let same : bytes.0 ≡ text.0 = cc in
+    let own : Means (settings_of meta) kept.form.schema text.0 (commit_of meta) =
+    subst (λ (b : List ℕ). Means (settings_of meta) kept.form.schema b (commit_of meta)) same (subst (λ (x : List ℕ). Means (settings_of meta) x bytes.0 (commit_of meta)) loads.schema bytes.2) in
+    (means_one (settings_of meta) kept.form.settings kept.form.schema text.0 (commit_of meta) s.catalog.commit own text.2).1
+
+module _ (tells : Type 0) (reads : Reads) (kept : Kept) where
+  -- what is said of the bytes of `meta.json` is said of those that mean the commit
+  of_text : (says : List ℕ → Type 0) → ((text : List ℕ) (s : State) → Means kept.form.settings kept.form.schema text s.catalog.commit → says text → ⊥) → OfRead tells (reads meta_name) says → HoldsNone tells reads kept
+  of_text says never (bytes, is, said) t s held whole =
+      let text = held.meta in
+      let both : Some text.0 ≡ Some bytes = sym text.1 ∙ is t in
+      let same : bytes ≡ text.0 = cc in
+      never text.0 s text.2 (subst says same said)
+
+  nothing_never : (text : List ℕ) (s : State) → Means kept.form.settings kept.form.schema text s.catalog.commit → MeansNothing text → ⊥
+  nothing_never text s means none = none kept.form.settings s.catalog.commit means.tree means.spelled
+
+  other_never : (text : List ℕ) (s : State) → Means kept.form.settings kept.form.schema text s.catalog.commit → MeansOtherThan (Some kept.form.schema) text → ⊥
+  other_never text s means other =
+      let one = one_meaning text kept.form.settings other.settings s.catalog.commit other.commit means.tree other.tree means.spelled other.spelled in
+      other.other (means.schema_is.parsed ∙ some_as means.tree other.tree one.2) where
+        some_as : {A : Type 0} (x y : A) → x ≡ y → Some x ≡ Some y
+        some_as x y e = cc
+
+  -- no state is held where the bytes are refused
+  pub damaged_holds_none : OfRead tells (reads meta_name) MeansNothing → HoldsNone tells reads kept
+  damaged_holds_none = of_text MeansNothing nothing_never
+
+  pub other_holds_none : OfRead tells (reads meta_name) (MeansOtherThan (Some kept.form.schema)) → HoldsNone tells reads kept
+  other_holds_none = of_text (MeansOtherThan (Some kept.form.schema)) other_never
+
+  -- why it isn't loaded, as a cause of an event
+  pub loads_none : (refused quiet : Type 0) (error : TantivyError) → MetaCause tells (Some kept.form.schema) (reads meta_name) refused quiet error
+      → LoadingCause ⊥ refused quiet ⊥ (MetaCause tells (Some kept.form.schema) (reads meta_name) refused quiet) (LacksIn tells reads kept) (λ path. HoldsNone tells reads kept) error
+  loads_none refused quiet (errors.OpenReadError (read.FileDoesNotExist path)) h = (
+    h.1.0,
+    subst (λ (p : List ℕ). is_file_name p ≡ true) (sym h.0) refl,
+    λ t s held whole. let text = held.meta in let none : None ≡ Some text.0 = sym (h.1.1 t) ∙ text.1 in absurd cc,
+  )
+  loads_none refused quiet (errors.OpenReadError (read.IoError fault path)) h = absurd h.2
+  loads_none refused quiet (errors.OpenReadError other) h = absurd h
+  loads_none refused quiet (errors.DataCorruption why) h = h
+  loads_none refused quiet (errors.SchemaError text) h = h
+  loads_none refused quiet (errors.IoError fault) h = h
+  loads_none refused quiet errors.Memory h = h
+  loads_none refused quiet other h = absurd h
+
+-- what is shown of it
+pub shown_is : (s : State) (generation opstamp : ℕ) (payload : Option (List ℕ)) (segments shown : List (List ℕ × LiveSegment)) (bodies : List (List (List ℕ)))
+    → record { opstamp = opstamp; payload = payload; segments = segments } ≡ s.catalog.commit → ReadsSegments s segments shown bodies
+    → record { generation = generation; commit = record { opstamp = opstamp; payload = payload; segments = shown }; bodies = bodies } ≡ snapshot_in s generation
+shown_is s generation opstamp payload segments shown bodies is reads =
+    let commit : record { opstamp = opstamp; payload = payload; segments = shown } ≡ s.catalog.commit =
+    ap (λ (es : List (List ℕ × LiveSegment)). record { opstamp = opstamp; payload = payload; segments = es }) reads.are ∙ is in
+    let bodies_are : bodies ≡ bodies_in s s.catalog.commit = reads.each ∙ ap (λ (c : Commit). bodies_in s c) is in
+    ap (λ (c : Commit). record { generation = generation; commit = c; bodies = bodies }) commit
+    ∙ ap (λ (b : List (List (List ℕ))). record { generation = generation; commit = s.catalog.commit; bodies = b }) bodies_are

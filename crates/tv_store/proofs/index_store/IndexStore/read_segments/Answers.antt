@@ -1,0 +1,81 @@
+use Rattle.std.proofs.Common.{◌≡◌, ◌<◌, ℕ, List, [], ◌∷◌, ◌++◌, take, length, get_or, map, sym, ap, subst, ◌∙◌, arith, rules}
+use Rattle.std.proofs.lemmas.List.{get_or-map, length-map, map_push, take_all, take_more}
+use Rattle.tv_index.specs.Segments.{entry_of}
+use Rattle.tv_model.specs.Files.{Rose}
+use Rattle.tv_model.specs.Segments.{all_required, required_names}
+use Rattle.tv_model.specs.declared.segment.LiveSegment.{LiveSegment}
+use Rattle.tv_store.specs.Bodies.{AreGood, AreSealed, FailsAt, ReadsSegment}
+use Rattle.tv_store.specs.declared.snapshot.SegmentReader.{SegmentReader}
+use Rattle.tv_store.proofs.Asking.{asks_later}
+use Rattle.tv_store.proofs.Holding.{same_holds}
+use Rattle.tv_store.proofs.ReaderEvents.{failed_as, segments_fail, segments_good, segment_is_sealed, read_more}
+use Rattle.tv_store.proofs.index_store.IndexStore.read_segments.Goals as goal
+
+pub returns-in_err-reader-clause-faults : goal.returns-in_err-reader-clause-faults
+returns-in_err-reader-clause-faults g c =
+    let tells = g.O.Directory.told.content in
+    let D = g.O.Directory in
+    let so_far = c.loop-segment.invariant in
+    let items = c.args.segments.now in
+    let item = c.segment-item.result in
+    let i = c.loop-segment.segment-index in
+    let within : i < length items = omega arith in
+    let at_i : entry_of item ≡ get_or (map entry_of items) i (entry_of item) = ap entry_of c.segment-item.is ∙ sym (get_or-map entry_of items i item (entry_of item) within) in
+    record {
+      quiet = search rules;
+      cause =
+          failed_as c.from_residual.result c.in_err-reader.field-0.0
+          (FailsAt tells (D.view c.args.self.now.outside).reads (all_required (map entry_of items)) (Rose (D.view c.args.self.now.outside).faults (D.view c.read_segment.new.self.outside).faults) ((D.view c.read_segment.new.self.outside).faults ≡ (D.view c.args.self.now.outside).faults))
+          c.from_residual.ensures.1
+          (segments_fail tells (D.view c.args.self.now.outside).reads (D.view c.loop-segment.self.outside).reads (map entry_of items) i (entry_of item)
+          (D.view c.args.self.now.outside).faults (D.view c.loop-segment.self.outside).faults (D.view c.read_segment.new.self.outside).faults c.in_err-reader.field-0.0
+          so_far.asks.below.content so_far.quiet (omega (arith, within, length-map items entry_of)) at_i so_far.good
+          (subst (λ (live : LiveSegment). FailsAt tells (D.view c.loop-segment.self.outside).reads (required_names item.segment_id live) (Rose (D.view c.loop-segment.self.outside).faults (D.view c.read_segment.new.self.outside).faults) ((D.view c.read_segment.new.self.outside).faults ≡ (D.view c.loop-segment.self.outside).faults) c.in_err-reader.field-0.0)
+          c.live.ensures c.in_err-reader.ensures.faults.cause));
+    }
+
+pub loop-segment-preserved : goal.loop-segment-preserved
+loop-segment-preserved g c =
+    let D = g.O.Directory in
+    let so_far = c.loop-segment.invariant in
+    let asked = c.in_ok-reader.ensures in
+    let items = c.args.segments.now in
+    let item = c.segment-item.result in
+    let i = c.loop-segment.segment-index in
+    let within : i < length items = omega arith in
+    let at_i : entry_of item ≡ get_or (map entry_of items) i (entry_of item) = ap entry_of c.segment-item.is ∙ sym (get_or-map entry_of items i item (entry_of item) within) in
+    let below : i < length (map entry_of items) = omega (arith, within, length-map items entry_of) in
+    record {
+      read = λ tells s held all.
+          let now = same_holds (D.view c.args.self.now.outside).reads (D.view c.loop-segment.self.outside).reads c.args.self.now.kept c.loop-segment.self.kept s (so_far.asks.below.content tells) so_far.asks.kept held in
+          let sealed = subst (λ (live : LiveSegment). AreSealed s (required_names item.segment_id live)) (sym c.live.ensures) (segment_is_sealed s (map entry_of items) i (entry_of item) below at_i all) in
+          let read = subst (λ (live : LiveSegment). ReadsSegment s item.segment_id live c.in_ok-reader.reader.id c.in_ok-reader.reader.segment c.in_ok-reader.reader.bodies.items) c.live.ensures (asked.reader tells s now sealed) in
+          read_more s (map entry_of items) i (entry_of item) c.in_ok-reader.reader.id c.in_ok-reader.reader.segment c.in_ok-reader.reader.bodies.items
+          (map (λ (r : SegmentReader). (r.id, r.segment)) c.loop-segment.readers.items) (map (λ (r : SegmentReader). (r.id, r.segment)) c.push.new.self.items)
+          (map (λ (r : SegmentReader). r.bodies.items) c.loop-segment.readers.items) (map (λ (r : SegmentReader). r.bodies.items) c.push.new.self.items)
+          below at_i read
+          (ap (map (λ (r : SegmentReader). (r.id, r.segment))) c.in_ok-push.ensures.items ∙ map_push (λ (r : SegmentReader). (r.id, r.segment)) c.loop-segment.readers.items c.in_ok-reader.reader)
+          (ap (map (λ (r : SegmentReader). r.bodies.items)) c.in_ok-push.ensures.items ∙ map_push (λ (r : SegmentReader). r.bodies.items) c.loop-segment.readers.items c.in_ok-reader.reader)
+          (so_far.read tells s held all);
+      are =
+          ap (map (λ (r : SegmentReader). (r.id, r.segment))) c.in_ok-push.ensures.items ∙ map_push (λ (r : SegmentReader). (r.id, r.segment)) c.loop-segment.readers.items c.in_ok-reader.reader
+          ∙ ap (λ (es : List (List ℕ × LiveSegment)). es ++ (c.in_ok-reader.reader.id, c.in_ok-reader.reader.segment) ∷ []) so_far.are
+          ∙ ap (λ (e : List ℕ × LiveSegment). take i (map entry_of items) ++ e ∷ []) (ap (λ (id : List ℕ). (id, c.in_ok-reader.reader.segment)) asked.segment.0 ∙ ap (λ (live : LiveSegment). (item.segment_id, live)) (asked.segment.1 ∙ c.live.ensures) ∙ at_i)
+          ∙ sym (take_more (map entry_of items) i (entry_of item) below);
+      good = λ tells.
+          segments_good (D.view c.args.self.now.outside).reads (D.view c.loop-segment.self.outside).reads (map entry_of items) i (entry_of item) (so_far.asks.below.content tells) below at_i (so_far.good tells)
+          (subst (λ (live : LiveSegment). AreGood (D.view c.loop-segment.self.outside).reads (required_names item.segment_id live)) c.live.ensures (asked.good tells));
+      asks = asks_later so_far.asks asked.frame;
+      quiet = asked.faults.quiet ∙ so_far.quiet;
+    }
+
+pub returns-clause-good : goal.returns-clause-good
+returns-clause-good g c tells =
+    let items = c.args.segments.now in
+    subst (λ (es : List (List ℕ × LiveSegment)). AreGood (g.O.Directory.view c.args.self.now.outside).reads (all_required es)) (take_all c.loop-segment.segment-index (map entry_of items) (omega (arith, length-map items entry_of)))
+    (c.loop-segment.invariant.good tells)
+
+pub returns-clause-segments : goal.returns-clause-segments
+returns-clause-segments g c =
+    let items = c.args.segments.now in
+    c.loop-segment.invariant.are ∙ take_all c.loop-segment.segment-index (map entry_of items) (omega (arith, length-map items entry_of))

@@ -1,0 +1,18 @@
+use Rattle.std.proofs.Common.{◌≡◌, take, map}
+use Rattle.tv_model.specs.State.{State}
+use Rattle.tv_model.specs.Segments.{all_required}
+use Rattle.tv_store.specs.Bodies.{AreGood, AreSealed, ReadsSegments}
+use Rattle.tv_store.specs.Kept.{Holds}
+use Rattle.tv_directory.specs.View.{OnlyReads}
+use Rattle.tv_index.specs.Segments.{entry_of}
+use Rattle.tv_store.specs.Stays.{Asks}
+use Rattle.tv_store.proofs.index_store.IndexStore.read_segments.Given as goal
+
+abbrev pub invariant-loop-segment : goal.invariant-loop-segment
+invariant-loop-segment g l = record {
+  read : g.O.Directory.told.content → (s : State) → Holds (g.O.Directory.view l.initial.self.outside).reads l.initial.self.kept s → AreSealed s (all_required (map entry_of l.segments)) → ReadsSegments s (take l.segment-index (map entry_of l.segments)) (map (λ r. (r.id, r.segment)) l.readers.items) (map (λ r. r.bodies.items) l.readers.items);
+  are : map (λ r. (r.id, r.segment)) l.readers.items ≡ take l.segment-index (map entry_of l.segments);
+  good : g.O.Directory.told.content → AreGood (g.O.Directory.view l.initial.self.outside).reads (all_required (take l.segment-index (map entry_of l.segments)));
+  asks : Asks (OnlyReads g.O.Directory.told) g.O.Directory.view l.initial.self l.self;
+  quiet : (g.O.Directory.view l.self.outside).faults ≡ (g.O.Directory.view l.initial.self.outside).faults;
+}
