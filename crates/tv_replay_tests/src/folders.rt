@@ -5,10 +5,10 @@ use std::alloc::Global;
 use std::fs::{self, File};
 use std::process::Abort;
 use std::rt::Files;
-use tv_base::{TantivyError, VecSink};
+use tv_base::{Source, TantivyError, VecSink};
 use tv_directory::{Desk, Directory, NoWatch};
 use tv_files::MmapDirectory;
-use tv_replay::{FolderPlace, Replayed, replay, run};
+use tv_replay::{FolderPlace, Place, Replayed, replay, run};
 
 const SCHEMA: &str = "[{\"name\":\"text\",\"type\":\"text\"}]";
 
@@ -80,6 +80,17 @@ fn status<R: Files<File = File> + Print + Clone + Drop + Abort>(rt: &R, alloc: G
     run(alloc, words.as_slice(), &mut place, &mut script)
 }
 
+// Reads a script of the file system, and gives it back.
+fn reads_script<R: Files<File = File> + Print + Clone + Drop + Abort>(rt: &R, alloc: Global) {
+    let handle = rt.clone().expect(rt, "memory");
+    let mut place = FolderPlace::new(handle, alloc).expect(rt, "memory");
+    let mut script = place.script("replayed.json").expect(rt, "a script");
+    let mut bytes = [0; 64];
+    let len = script.read(&mut bytes).expect(rt, "read");
+    assert!(rt; bytes.get(..len) == Some(SCHEMA.as_bytes()));
+    place.end_script(script);
+}
+
 #[test]
 fn the_example_is_replayed_over_a_folder(rt: HostRuntime) {
     if fs::exists(&rt, "replayed").expect(&rt, "asked") {
@@ -92,6 +103,7 @@ fn the_example_is_replayed_over_a_folder(rt: HostRuntime) {
         are_bytes(&rt, sink.as_slice(), want);
     }
     assert!(&rt; status(&rt, rt.alloc()) == 0);
+    reads_script(&rt, rt.alloc());
     let file = fs::read(&rt, "replayed/a5c4dfcbdfe645089129e308e26d5523.idx").expect(&rt, "read");
     assert!(&rt; file.len() == 103);
     fs::remove_dir_all(&rt, "replayed").expect(&rt, "removed");
