@@ -11,3 +11,4 @@ pub mod Persisting
 pub mod DirWriters
 pub mod Bench
 pub mod Desk
+pub mod Images

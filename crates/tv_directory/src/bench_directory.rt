@@ -1,4 +1,5 @@
 //! The calls of a directory in memory.
+ghost use Rattle.tv_model.specs.Disk.{no_disk};
 ghost use Rattle.std.specs.Prelude.{◌≡◌, ◌<◌, true, length, is_some, Some, IfOk, IfErr, OnOk, OnErr};
 ghost use Rattle.tv_model.specs.Names.{is_file_name};
 ghost use Rattle.tv_model.specs.Lines.{has_no_feed};
@@ -37,6 +38,12 @@ impl<C: WatchCall> Directory for Bench<C> {
     ghost view = { view_in C.calls };
 
     ghost state_of = { ram_state };
+
+    ghost tells_images = { ⊥ };
+
+    ghost disk = { λ _. no_disk };
+
+    ghost stands = { λ d told. absurd told };
 
     fn exists(&mut self, name: &str) -> Result<bool, OpenReadError>
         requires { is_file_name name.now ≡ true }

@@ -1,4 +1,5 @@
 //! A directory whose lines are told to a sink.
+ghost use Rattle.tv_directory.specs.Images.{KeepsDisk};
 ghost use Rattle.std.specs.Prelude.{◌≡◌, ◌<◌, ◌++◌, ◌∷◌, [], true, length, vec_capacity, vec_len, OnOk, OnErr};
 ghost use Rattle.tv_model.specs.Lines.{has_no_feed};
 ghost use Rattle.tv_base.specs.Streams.{Takes, TakesPart};
@@ -75,6 +76,13 @@ impl<D: Directory + Drop, S: Sink + Drop> Directory for Desk<D, S> {
     ghost view = { desk_view D.view S.faults };
 
     ghost state_of = { D.state_of };
+
+    ghost tells_images = { D.tells_images };
+
+    ghost disk = { λ desk. D.disk desk.directory };
+
+    ghost stands = { λ desk told. let now = D.stands desk.directory told in
+        record { clock = now.clock; possible = now.possible; reads = now.reads } };
 
     fn exists(&mut self, name: &str) -> Result<bool, OpenReadError> {
         self.directory.exists(name)
@@ -157,6 +165,8 @@ impl<D: Directory + Drop, S: Sink + Drop> Outside for Desk<D, S> {
             (desk_view D.view S.faults self.new) result }
         ensures frame { OnlyTells (told_at D.told) (desk_view D.view S.faults self.old)
             (desk_view D.view S.faults self.new) }
+        ensures images { D.tells_images → KeepsDisk (D.disk self.old.directory)
+            (D.disk self.new.directory) }
         ensures takes { OnOk result (Takes (line.now ++ 10 ∷ [])
             (S.taken self.old.sink) (S.taken self.new.sink)) }
         ensures part { OnErr result (TakesPart (line.now ++ 10 ∷ [])

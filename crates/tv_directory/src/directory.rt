@@ -4,6 +4,8 @@ ghost use Rattle.tv_model.specs.Names.{is_file_name};
 ghost use Rattle.tv_directory.specs.View.{View, Told, WriterState, Frame, Kept, OnlyReads, OnlyLocks, OnlyWatches, MayDelete};
 ghost use Rattle.tv_directory.specs.Calls.{AskFaults, ReadFaults, OpenFaults, IoFaults, DeviceFaults, DeleteFaults, LockFaults, Frees};
 ghost use Rattle.tv_directory.specs.Calls.{IsNewWriter, Makes, Appends, HandsBack, Touches, Flushes, Seals, Gives, Notes, Deletes, EndsWriters, Acquires};
+ghost use Rattle.tv_model.specs.Disk.{Disk, Sealed, Unsealed};
+ghost use Rattle.tv_directory.specs.Images.{StandsNow, KeepsDisk, GivesState, OpensState, WritesState, DeletesState, Settles};
 ghost use Rattle.tv_directory.specs.Device.{IsSilent};
 ghost use Rattle.tv_directory.specs.Watch.{IsNewWatcher, delivered, unsubscribed};
 
@@ -48,13 +50,21 @@ pub trait Directory {
     /// The file that a writer writes.
     ghost state_of: { Self.Writer → WriterState };
 
+    /// Whether it is told what a crash may leave.
+    ghost tells_images: { Type 0 };
+
+    /// The clock, the state of each name now, and those in which a crash at a moment may leave it. The
+    /// clause `images` of a call says what becomes of them, at each moment inside the call.
+    ghost disk: { Self → Disk };
+
     /// Whether the name reads. It never answers that the file doesn't exist.
     fn exists(&mut self, name: &str) -> Result<bool, OpenReadError>
         requires { is_file_name name.now ≡ true }
         ensures answer { told.content → IfOk result
             (λ found. found ≡ is_some ((view self.old).reads name.now)) }
         ensures faults { AskFaults (view self.old) (view self.new) name.now result }
-        ensures frame { OnlyReads told (view self.old) (view self.new) };
+        ensures frame { OnlyReads told (view self.old) (view self.new) }
+        ensures images { tells_images → KeepsDisk (disk self.old) (disk self.new) };
 
     /// The file that the name reads, whose bytes no later call changes. `FileDoesNotExist` comes where
     /// the name doesn't read.
@@ -63,7 +73,8 @@ pub trait Directory {
         ensures bytes { told.content → IfOk result
             (λ file. (view self.old).reads name.now ≡ Some file) }
         ensures faults { ReadFaults told (view self.old) (view self.new) name.now result }
-        ensures frame { OnlyReads told (view self.old) (view self.new) };
+        ensures frame { OnlyReads told (view self.old) (view self.new) }
+        ensures images { tells_images → KeepsDisk (disk self.old) (disk self.new) };
 
     /// The bytes that the name reads, as `open_read` gives them.
     fn get_file_handle(&mut self, name: &str) -> Result<OwnedBytes, OpenReadError>
@@ -71,7 +82,8 @@ pub trait Directory {
         ensures bytes { told.content → IfOk result
             (λ bytes. (view self.old).reads name.now ≡ Some bytes) }
         ensures faults { ReadFaults told (view self.old) (view self.new) name.now result }
-        ensures frame { OnlyReads told (view self.old) (view self.new) };
+        ensures frame { OnlyReads told (view self.old) (view self.new) }
+        ensures images { tells_images → KeepsDisk (disk self.old) (disk self.new) };
 
     /// Makes an empty file that isn't sealed. `FileAlreadyExists` comes where the name reads.
     fn open_write(&mut self, name: &str) -> Result<Self::Writer, OpenWriteError>
@@ -79,7 +91,9 @@ pub trait Directory {
         ensures writer { IfOk result (IsNewWriter told (view self.new) state_of name.now) }
         ensures makes { Makes told (view self.old) (view self.new) name.now result }
         ensures faults { OpenFaults told (view self.old) (view self.new) name.now result }
-        ensures frame { Kept told (view self.old) (view self.new) };
+        ensures frame { Kept told (view self.old) (view self.new) }
+        ensures images { tells_images
+            → OpensState (disk self.old) (disk self.new) name.now result };
 
     /// Appends the bytes. Which bytes the file reads until it is flushed or sealed isn't said.
     fn write(&mut self, writer: &mut Self::Writer, bytes: &[u8]) -> Result<(), IoError>
@@ -89,7 +103,8 @@ pub trait Directory {
             writer.old writer.new result }
         ensures touches { Touches told (view self.old) (view self.new) state_of writer.old }
         ensures faults { IoFaults (view self.old) (view self.new) result }
-        ensures frame { Kept told (view self.old) (view self.new) };
+        ensures frame { Kept told (view self.old) (view self.new) }
+        ensures images { tells_images → KeepsDisk (disk self.old) (disk self.new) };
 
     /// Lets the file read all that was written. Where the name was deleted since, nothing changes. Which
     /// bytes the file reads after a refused call isn't said.
@@ -100,14 +115,19 @@ pub trait Directory {
         ensures hands_back { HandsBack told (view self.old) (view self.new)
             writer.old writer.new result }
         ensures faults { IoFaults (view self.old) (view self.new) result }
-        ensures frame { Kept told (view self.old) (view self.new) };
+        ensures frame { Kept told (view self.old) (view self.new) }
+        ensures images { tells_images → WritesState ((view self.old).lives writer.old)
+            (disk self.old) (disk self.new) (state_of writer.old).name Unsealed result };
 
     /// Seals the file with all bytes that were written. Where the name was deleted since, nothing changes.
     fn terminate(&mut self, writer: Self::Writer) -> Result<(), IoError>
         requires { (view self.old).opened writer ≡ true }
         ensures seals { Seals told (view self.old) (view self.new) state_of writer result }
         ensures faults { IoFaults (view self.old) (view self.new) result }
-        ensures frame { Kept told (view self.old) (view self.new) };
+        ensures frame { Kept told (view self.old) (view self.new) }
+        ensures images { tells_images → WritesState ((view self.old).lives writer)
+            (disk self.old) (disk self.new) (state_of writer).name
+            (Sealed (state_of writer).written) result };
 
     /// The bytes that the name reads. `FileDoesNotExist` comes where it doesn't read.
     fn atomic_read(&mut self, name: &str) -> Result<Vec<u8>, OpenReadError>
@@ -115,7 +135,8 @@ pub trait Directory {
         ensures bytes { told.content → IfOk result
             (λ bytes. (view self.old).reads name.now ≡ Some bytes.items) }
         ensures faults { ReadFaults told (view self.old) (view self.new) name.now result }
-        ensures frame { OnlyReads told (view self.old) (view self.new) };
+        ensures frame { OnlyReads told (view self.old) (view self.new) }
+        ensures images { tells_images → KeepsDisk (disk self.old) (disk self.new) };
 
     /// Gives the name these bytes in one step.
     fn atomic_write(&mut self, name: &str, bytes: &[u8]) -> Result<(), IoError>
@@ -123,7 +144,9 @@ pub trait Directory {
         ensures gives { Gives told (view self.old) (view self.new) name.now bytes.now result }
         ensures notes { Notes (view self.old) (view self.new) name.now result }
         ensures faults { IoFaults (view self.old) (view self.new) result }
-        ensures frame { Frame told (view self.old) (view self.new) };
+        ensures frame { Frame told (view self.old) (view self.new) }
+        ensures images { tells_images → GivesState (disk self.old) (disk self.new) name.now
+            (Sealed bytes.now) result };
 
     /// Deletes the file. `FileDoesNotExist` comes where the name doesn't read. Nothing changes where
     /// it is refused. Its count is one of 64 bits.
@@ -133,13 +156,16 @@ pub trait Directory {
         ensures writers { EndsWriters told (view self.old) (view self.new)
             state_of name.now result }
         ensures faults { DeleteFaults told (view self.old) (view self.new) name.now result }
-        ensures frame { MayDelete told (view self.old) (view self.new) };
+        ensures frame { MayDelete told (view self.old) (view self.new) }
+        ensures images { tells_images
+            → DeletesState (disk self.old) (disk self.new) name.now result };
 
     /// Waits until the device has kept what was written. Takes no memory; the text of a fault is empty.
     fn sync_directory(&mut self) -> Result<(), IoFault>
         ensures faults { DeviceFaults (view self.old) (view self.new) result }
         ensures silent { IfErr result IsSilent }
-        ensures frame { OnlyReads told (view self.old) (view self.new) };
+        ensures frame { OnlyReads told (view self.old) (view self.new) }
+        ensures images { tells_images → Settles (disk self.old) (disk self.new) result };
 
     /// Takes a lock. In memory `LockBusy` comes exactly where it is held. Over plain files a blocking
     /// lock waits until it is free, unless this very directory holds it.
@@ -150,28 +176,36 @@ pub trait Directory {
             lock.now.filepath.now result }
         ensures faults { LockFaults told (view self.old) (view self.new)
             lock.now.filepath.now result }
-        ensures frame { OnlyLocks told (view self.old) (view self.new) };
+        ensures frame { OnlyLocks told (view self.old) (view self.new) }
+        ensures images { tells_images → KeepsDisk (disk self.old) (disk self.new) };
 
     /// Frees the lock of this token's name. Takes no memory.
     fn release(&mut self, lock: DirectoryLock)
-        ensures frees { Frees told lock (view self.old) (view self.new) };
+        ensures frees { Frees told lock (view self.old) (view self.new) }
+        ensures images { tells_images → KeepsDisk (disk self.old) (disk self.new) };
 
     /// Registers a callback, which each delivered notice calls.
     fn watch(&mut self, callback: Self::Callback) -> Result<WatchHandle, Memory>
         ensures ok { IfOk result (IsNewWatcher (view self.old).watched (view self.new).watched
             (Self.Callback.calls callback)) }
         ensures err { OnErr result ((view self.new).watched ≡ (view self.old).watched) }
-        ensures frame { OnlyWatches told (view self.old) (view self.new) };
+        ensures frame { OnlyWatches told (view self.old) (view self.new) }
+        ensures images { tells_images → KeepsDisk (disk self.old) (disk self.new) };
 
     /// Gives a handle back. With its last one the callback isn't registered any more. Takes no memory.
     fn unwatch(&mut self, handle: WatchHandle)
         ensures left { (view self.new).watched ≡ unsubscribed handle (view self.old).watched }
-        ensures frame { OnlyWatches told (view self.old) (view self.new) };
+        ensures frame { OnlyWatches told (view self.old) (view self.new) }
+        ensures images { tells_images → KeepsDisk (disk self.old) (disk self.new) };
 
     /// Whether a notice stood. If so each registered callback is called once, in the order in which they
     /// were registered, and the notice ends. Takes no memory.
     fn deliver(&mut self) -> bool
         ensures answer { result ≡ (view self.old).watched.notice }
         ensures called { (view self.new).watched ≡ delivered (view self.old).watched }
-        ensures frame { OnlyWatches told (view self.old) (view self.new) };
+        ensures frame { OnlyWatches told (view self.old) (view self.new) }
+        ensures images { tells_images → KeepsDisk (disk self.old) (disk self.new) };
+
+    /// Where it is told, what reads is one of the images that a crash now may leave.
+    ghost stands: { (d : Self) → tells_images → StandsNow (view d) (disk d) };
 }

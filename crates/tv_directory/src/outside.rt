@@ -2,6 +2,7 @@
 ghost use Rattle.std.specs.Prelude.{◌≡◌, ◌<◌, true, length};
 ghost use Rattle.tv_model.specs.Lines.{has_no_feed};
 ghost use Rattle.tv_directory.specs.View.{OnlyTells};
+ghost use Rattle.tv_directory.specs.Images.{KeepsDisk};
 ghost use Rattle.tv_directory.specs.Calls.{DeviceFaults, MakesRoom, TellsLineTo};
 
 use crate::directory::Directory;
@@ -12,7 +13,8 @@ use tv_model::Memory;
 pub trait Outside: Directory {
     /// Makes room for a line of this length.
     fn ready(&mut self, len: usize) -> Result<(), Memory>
-        ensures room { MakesRoom Self.told len result (Self.view self.old) (Self.view self.new) };
+        ensures room { MakesRoom Self.told len result (Self.view self.old) (Self.view self.new) }
+        ensures images { Self.tells_images → KeepsDisk (Self.disk self.old) (Self.disk self.new) };
 
     /// Tells a line, to which a line feed is added, in the room that was made. Takes no memory.
     /// Where it is refused, a part of the line may have been told, without the line feed.
@@ -22,5 +24,6 @@ pub trait Outside: Directory {
         ensures tells { TellsLineTo Self.told (Self.view self.old) (Self.view self.new)
             line.now result }
         ensures faults { DeviceFaults (Self.view self.old) (Self.view self.new) result }
-        ensures frame { OnlyTells Self.told (Self.view self.old) (Self.view self.new) };
+        ensures frame { OnlyTells Self.told (Self.view self.old) (Self.view self.new) }
+        ensures images { Self.tells_images → KeepsDisk (Self.disk self.old) (Self.disk self.new) };
 }

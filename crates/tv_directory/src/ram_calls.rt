@@ -1,4 +1,5 @@
 //! The calls of a directory in memory.
+ghost use Rattle.tv_model.specs.Disk.{no_disk};
 ghost use Rattle.std.specs.Prelude.{◌≡◌, true, is_some, Some, IfOk, IfErr, OnErr};
 ghost use Rattle.tv_model.specs.Names.{is_file_name};
 ghost use Rattle.tv_base.specs.Causes.{OpenWriteCause};
@@ -62,6 +63,12 @@ impl<C: WatchCall> Directory for RamDirectory<C> {
     ghost view = { ram_view C.calls };
 
     ghost state_of = { ram_state };
+
+    ghost tells_images = { ⊥ };
+
+    ghost disk = { λ _. no_disk };
+
+    ghost stands = { λ d told. absurd told };
 
     fn exists(&mut self, name: &str) -> Result<bool, OpenReadError>
         requires { is_file_name name.now ≡ true }

@@ -1,4 +1,5 @@
 //! The calls of a directory of plain files.
+ghost use Rattle.tv_model.specs.Disk.{no_disk};
 ghost use Rattle.tv_directory.specs.View.{tells_nothing};
 ghost use Rattle.tv_files.specs.Folders.{folder_view};
 
@@ -24,6 +25,12 @@ impl<R: Files<File = File> + Drop, C: WatchCall> Directory for MmapDirectory<R, 
     ghost view = { folder_view C.calls };
 
     ghost state_of = { λ w. w };
+
+    ghost tells_images = { ⊥ };
+
+    ghost disk = { λ _. no_disk };
+
+    ghost stands = { λ d told. absurd told };
 
     fn exists(&mut self, name: &str) -> Result<bool, OpenReadError> {
         match self.folder.exists(name) {

@@ -36,3 +36,4 @@ pub mod SoundStates
 pub mod WholeStates
 pub mod Telling
 pub mod Validating
+pub mod DiskLaws

@@ -33,3 +33,4 @@ pub mod Schemas
 pub mod MetaJson
 pub mod Meaning
 pub mod Validating
+pub mod Disk
