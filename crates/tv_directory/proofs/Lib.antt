@@ -5,3 +5,5 @@ pub mod CutTexts
 pub mod WatchLists
 pub mod PersistedFiles
 pub mod Views
+pub mod Recorded
+pub mod Benches

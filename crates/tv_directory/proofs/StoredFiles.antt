@@ -7,10 +7,11 @@ use Rattle.std.specs.List.{AllByRecursion}
 use Rattle.std.specs.BTreeMap.{is_at}
 use Rattle.tv_model.specs.Names.{byte_cmp, is_file_name}
 use Rattle.tv_model.specs.State.{at}
+use Rattle.tv_model.specs.Disk.{Sealed}
 use Rattle.tv_model.specs.Files.{Reads, Same, Sets}
 use Rattle.tv_model.proofs.Entries.{at_itself, text_at}
 use Rattle.tv_directory.specs.declared.files.StoredFile.{StoredFile}
-use Rattle.tv_directory.specs.StoredFiles.{bytes_of, reads_of, number_at, named, last_of}
+use Rattle.tv_directory.specs.StoredFiles.{AreSealed, StandsAs, at_rest, bytes_of, reads_of, state_of, states_of, number_at, named, last_of}
 
 -- another name isn't at this one's place
 pub isnt_at : (name n : List ℕ) → n ≢ name → is_at (byte_cmp name) n ≡ false
@@ -29,6 +30,12 @@ pub sets_to : (old new : List (List ℕ × StoredFile)) (name : List ℕ) (file 
 sets_to old new name file given = record {
   changed = ap (option_map (λ file. bytes_of file.content)) given.changed;
   others = λ n other. ap (option_map (λ file. bytes_of file.content)) (given.others n other);
+}
+
+pub stands_as : (old new : List (List ℕ × StoredFile)) (name : List ℕ) (file : Option StoredFile) → Gives old new name file → StandsAs (states_of old) (states_of new) name (state_of (option_map (λ file. file.content) file))
+stands_as old new name file given = record {
+  changed = ap (λ file. state_of (option_map (λ file. file.content) file)) given.changed;
+  others = λ n other. ap (λ file. state_of (option_map (λ file. file.content) file)) (given.others n other);
 }
 
 -- whether a name is this one
@@ -70,3 +77,10 @@ puts_one {X} {Y} all rest others old new file so_far first set =
       split = so_far.split ∙ ap (λ (l : List (String X × Vec ℕ Y)). done ++ named l) first ∙ sym (append_assoc done (pair ∷ []) (named others));
       reads = λ n. rw (reverse-append done (pair ∷ [])) (one_more (reads_of old) (reads_of new) pair.0 pair.1 n (last_of done n) (is_at (byte_cmp n) pair.0) refl set (so_far.reads n));
     }
+
+-- a sealed file more
+pub seals_one : (old new : List (List ℕ × StoredFile)) (name bytes : List ℕ) → AreSealed old → StandsAs (states_of old) (states_of new) name (Sealed bytes) → Sets (reads_of old) (reads_of new) name (Some bytes) → AreSealed new
+seals_one old new name bytes are stands set n =
+    same_or name n
+    (λ same. ap (states_of new) same ∙ stands.changed ∙ sym (ap at_rest (ap (reads_of new) same ∙ set.changed)))
+    (λ other. stands.others n other ∙ are n ∙ sym (ap at_rest (set.others n other)))

@@ -1,12 +1,15 @@
 -- A directory in memory that fails, and is told lines.
-use Rattle.std.specs.Prelude.{ℕ, ◌≡◌, [], false, List, Result, OnOk, IfErr}
+use Rattle.std.specs.Prelude.{ℕ, ◌≡◌, [], false, List, Result, length, OnOk, IfErr, if◌then◌else◌}
+use Rattle.tv_model.specs.Disk.{Disk, IsSettled}
 use Rattle.tv_model.specs.Files.{Reads, Same}
 use Rattle.tv_base.specs.Causes.{IsDevice, IoCause, DeleteCause}
 use Rattle.tv_base.specs.declared.io.IoError.{IoError}
 use Rattle.tv_base.specs.declared.io.IoFault.{IoFault}
 use Rattle.tv_base.specs.declared.open_errors.DeleteError.{DeleteError}
 use Rattle.tv_directory.specs.Device.{DeviceState, Passed, Faulted, Refused, after_call}
-use Rattle.tv_directory.specs.Ram.{KeepsWriters, SameFile, ram_lives, ram_view}
+use Rattle.tv_directory.specs.Ram.{KeepsWriters, SameFile, ram_lives, ram_states, ram_view}
+use Rattle.tv_directory.specs.Record.{disk_by, has_line_room}
+use Rattle.tv_directory.specs.StoredFiles.{at_rest}
 use Rattle.tv_directory.specs.View.{View}
 use Rattle.tv_directory.specs.declared.bench.Bench.{Bench}
 use Rattle.tv_directory.specs.declared.ram_directory.RamDirectory.{RamDirectory}
@@ -15,12 +18,21 @@ use Rattle.tv_directory.specs.declared.ram_directory.RamWriter.{RamWriter}
 -- all that is said of it
 abbrev pub view_in : {C : Type 0} → (C → ℕ) → Bench C → View RamWriter
 view_in calls bench = record (ram_view calls bench.ram) {
-  moment = bench.clock.moment;
+  moment = length bench.recorded.calls;
   heard = bench.told.0;
-  room = bench.told.1;
+  room = if has_line_room bench.recorded then bench.told.1 else 0;
   faults = bench.device.faults;
   refusals = bench.device.refusals;
 }
+
+-- its disk: what a crash may leave, by what was recorded
+abbrev pub disk_in : {C : Type 0} → Bench C → Disk
+disk_in bench = disk_by bench.recorded.calls (ram_states bench.ram)
+
+-- These files are sealed and settled, and a crash leaves just them.
+pub record IsAtRest (files : Reads) (disk : Disk) : Type 0 where
+  pub states : (n : List ℕ) → disk.now n ≡ at_rest (files n)
+  pub settled : IsSettled disk
 
 -- its device
 abbrev pub device_in : {C : Type 0} → Bench C → DeviceState
@@ -36,25 +48,29 @@ pub record IsNewBench {W : Type 0} (files : Reads) (view : View W) : Type 0 wher
   pub faults : view.faults ≡ 0
   pub refusals : view.refusals ≡ 0
 
--- nothing changed but the device
+-- nothing changed but the device, and how much can be recorded without memory
 abbrev pub Untouched : {C : Type 0} → Bench C → Bench C → Type 0
-Untouched old new = new ≡ record old { device = new.device }
+Untouched old new = new ≡ record old { device = new.device; recorded = record old.recorded { free = new.recorded.free } }
 
--- nothing changed but the device and the clock
+-- nothing changed but the device and what was recorded
 abbrev pub Timed : {C : Type 0} → Bench C → Bench C → Type 0
-Timed old new = new ≡ record old { device = new.device; clock = new.clock }
+Timed old new = new ≡ record old { device = new.device; recorded = new.recorded }
 
--- nothing changed but the device, the clock, and the files, locks and watchers: nothing was told
+-- nothing changed but the device, what was recorded, and the files, locks and watchers: nothing was told
 abbrev pub Untold : {C : Type 0} → Bench C → Bench C → Type 0
-Untold old new = new ≡ record old { device = new.device; clock = new.clock; ram = new.ram }
+Untold old new = new ≡ record old { device = new.device; recorded = new.recorded; ram = new.ram }
 
--- nothing changed but the device, the clock, and what was told
+-- nothing changed but the device, what was recorded, and what was told
 abbrev pub OnlyTold : {C : Type 0} → Bench C → Bench C → Type 0
-OnlyTold old new = new ≡ record old { device = new.device; clock = new.clock; told = new.told }
+OnlyTold old new = new ≡ record old { device = new.device; recorded = new.recorded; told = new.told }
 
--- nothing changed but the room for a line
+-- nothing changed but the room for a line, and for recording it
 abbrev pub OnlyRoom : {C : Type 0} → Bench C → Bench C → Type 0
-OnlyRoom old new = new ≡ record old { told = new.told }
+OnlyRoom old new = new ≡ record old { told = new.told; recorded = record old.recorded { free = new.recorded.free } }
+
+-- nothing changed but what was recorded
+abbrev pub OnlyRecords : {C : Type 0} → Bench C → Bench C → Type 0
+OnlyRecords old new = new ≡ record old { recorded = new.recorded }
 
 -- nothing changed but the files, locks and watchers, and of these what the directory below says
 abbrev pub Below : {C : Type 0} → (RamDirectory C → RamDirectory C → Type 0) → Bench C → Bench C → Type 0
@@ -74,14 +90,14 @@ pub record WritesOut {C : Type 0} (writer : RamWriter) (old new : Bench C) : Typ
   pub writers : KeepsWriters writer old.ram new.ram
   pub gone : ram_lives old.ram writer ≡ false → Untouched old new
 
--- A call takes its number, and is refused exactly where that one is listed: then it is counted as a fault, and nothing changes but the clock. It changes no more
+-- A call takes its number, and is refused exactly where that one is listed: then it is counted as a fault, and nothing changes but what was recorded. It changes no more
 -- than `keeps` says.
 pub record Numbered {A C E : Type 0} (keeps : Bench C → Bench C → Type 0) (why : (passed refused quiet : Type 0) → E → Type 0) (old new : Bench C) (result : Result A E) : Type 0 where
   pub passed : OnOk result (Passed old.device new.device)
   pub cause : IfErr result (why (Untouched old new × Passed old.device new.device) (Timed old new × Faulted old.device new.device) (new.device ≡ after_call old.device))
   pub kept : keeps old new
 
--- the same of a call that deletes, which is counted as a refusal, and then leaves the clock too
+-- the same of a call that deletes, which is counted as a refusal, and then nothing is recorded
 pub record NumberedDelete {A C : Type 0} (old new : Bench C) (name : List ℕ) (result : Result A DeleteError) : Type 0 where
   pub passed : OnOk result (Passed old.device new.device)
   pub cause : IfErr result (DeleteCause name (Passed old.device new.device) (Untouched old new × Refused old.device new.device) (new.device ≡ after_call old.device))
@@ -95,6 +111,6 @@ of_io passed refused quiet error = IoCause refused quiet error
 abbrev pub of_write : RamWriter → RamWriter → (passed refused quiet : Type 0) → IoError → Type 0
 of_write before after passed refused quiet error = IoCause ((after ≡ before) × refused) quiet error
 
--- the same of a call that takes no memory: where it is refused, the clock is left too
+-- the same of a call that takes no memory: where it is refused, nothing is recorded
 abbrev pub of_device : {C : Type 0} → Bench C → Bench C → (passed refused quiet : Type 0) → IoFault → Type 0
 of_device old new passed refused quiet fault = IsDevice fault × Untouched old new × refused

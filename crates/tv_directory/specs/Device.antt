@@ -3,8 +3,6 @@ use Rattle.std.specs.Prelude.{ℕ, ◌≡◌, ◌≤◌, ◌+◌, ◌==◌, ◌&
 use Rattle.std.specs.List.{list_any}
 use Rattle.tv_base.specs.declared.io.IoFault.{IoFault}
 use Rattle.tv_base.specs.Causes.{IsDevice}
-use Rattle.tv_directory.specs.Watch.{called}
-use Rattle.tv_directory.specs.declared.bench_clock.Clock.{Clock}
 
 -- the numbers of the calls that are refused, the number of the next call, and how many calls and how many deletes were refused
 pub record DeviceState : Type 0 where
@@ -36,10 +34,6 @@ after_fault device = record device { faults = counted device.faults }
 -- after a refused delete was counted
 abbrev pub after_refusal : DeviceState → DeviceState
 after_refusal device = record device { refusals = counted device.refusals }
-
--- a clock after a call was recorded that isn't a sync
-abbrev pub ticked : Clock → Clock
-ticked clock = record { moment = called clock.moment; settled = false }
 
 -- the next call took its number, and is refused or isn't
 pub record TakesNumber (old new : DeviceState) (refused : Bool) : Type 0 where

@@ -64,7 +64,7 @@ pub record OpensState {A : Type 0} (old new : Disk) (name : List ℕ) (result : 
   pub no_more : MayAdd (possible_now old) (possible_now new) name Unsealed
   pub time : Elapses old new
 
--- A call on a writer gives the name of its file this state; where the name was deleted since the writer was opened, nothing changed.
+-- The name of a writer that lives has a file. A call on the writer gives it this state; where the name was deleted since the writer was opened, nothing changed.
 pub record WritesState {A : Type 0} (lives : Bool) (old new : Disk) (name : List ℕ) (state : DiskState) (result : Result A IoError) : Type 0 where
   pub there : lives ≡ true → IsThere (old.now name)
   pub gives : lives ≡ true → GivesState old new name state result
@@ -77,7 +77,8 @@ pub record DeletesState {A : Type 0} (old new : Disk) (name : List ℕ) (result 
   pub no_more : MayAdd (possible_now old) (possible_now new) name Absent
   pub time : Elapses old new
 
--- After a sync that succeeds a crash leaves each name as it is now. A refused one settles nothing.
+-- A sync changes no state. Where it succeeds a crash leaves each name as it is now; a refused one settles nothing. Whatever it answers, a crash may leave no other
+-- state besides.
 pub record Settles {A E : Type 0} (old new : Disk) (result : Result A E) : Type 0 where
   pub now : SameStates old new
   pub ok : OnOk result (IsSettled new)

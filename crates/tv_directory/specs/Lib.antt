@@ -12,3 +12,5 @@ pub mod DirWriters
 pub mod Bench
 pub mod Desk
 pub mod Images
+pub mod Record
+pub mod RecordLaws

@@ -2,7 +2,7 @@
 use Rattle.std.specs.Prelude.{ℕ, List, [], ◌≡◌, ◌-◌, Bool, false, nat_lt}
 use Rattle.tv_model.specs.Files.{Reads, Same}
 use Rattle.tv_directory.specs.Locks.{Locks, held_in}
-use Rattle.tv_directory.specs.StoredFiles.{reads_of, is_made}
+use Rattle.tv_directory.specs.StoredFiles.{States, reads_of, states_of, is_made}
 use Rattle.tv_directory.specs.View.{View, WriterState}
 use Rattle.tv_directory.specs.Watch.{WatchState}
 use Rattle.tv_directory.specs.WatchList.{state_of}
@@ -12,6 +12,10 @@ use Rattle.tv_directory.specs.declared.ram_directory.RamWriter.{RamWriter}
 -- what it reads
 abbrev pub ram_reads : {C : Type 0} → RamDirectory C → Reads
 ram_reads ram = reads_of ram.files.map.entries
+
+-- how each name stands
+abbrev pub ram_states : {C : Type 0} → RamDirectory C → States
+ram_states ram = states_of ram.files.map.entries
 
 -- a writer got its number here, which no later writer gets: the numbers begin with 1
 abbrev pub ram_opened : {C : Type 0} → RamDirectory C → RamWriter → Bool

@@ -3,13 +3,13 @@ ghost use Rattle.std.specs.Prelude.{◌≡◌, [], true, string_bytes, IfOk};
 ghost use Rattle.std.specs.List.{AllByRecursion};
 ghost use Rattle.tv_model.specs.Names.{is_file_name};
 ghost use Rattle.tv_base.specs.Causes.{OpenReadCause};
-ghost use Rattle.tv_directory.specs.Bench.{device_in, IsNewBench, Untouched};
+ghost use Rattle.tv_directory.specs.Bench.{device_in, disk_in, IsAtRest, IsNewBench, Untouched};
 ghost use Rattle.tv_directory.specs.Device.{after_fault};
 ghost use Rattle.tv_directory.specs.StoredFiles.{named, last_of};
 ghost use Rattle.tv_directory.specs.Telling.{bytes_heard};
 
-use crate::bench_clock::Clock;
 use crate::bench_device::Device;
+use crate::bench_record::Record;
 use crate::bench_told::Told;
 use crate::directory::Directory;
 use crate::files::Files;
@@ -26,7 +26,7 @@ pub struct Bench<C> {
     pub(crate) alloc: Global,
     pub(crate) ram: RamDirectory<C>,
     pub(crate) told: Told,
-    pub(crate) clock: Clock,
+    pub(crate) recorded: Record,
     pub(crate) device: Device,
 }
 
@@ -37,6 +37,8 @@ impl<C: WatchCall> Bench<C> {
         requires { AllByRecursion (λ file. is_file_name (string_bytes file.0) ≡ true) files.items }
         ensures new { IfOk result (λ bench.
             IsNewBench (last_of (named files.items)) (⟦<Bench<C> as Directory>⟧.view bench)) }
+        ensures rests { IfOk result (λ bench.
+            IsAtRest (last_of (named files.items)) (disk_in bench)) }
         ensures device { IfOk result (λ bench.
             device_in bench ≡ record { fail_at = []; call = 0; faults = 0; refusals = 0 }) }
     {
@@ -44,7 +46,7 @@ impl<C: WatchCall> Bench<C> {
             alloc,
             ram: RamDirectory::with_files(alloc, Files::sealed(alloc, files)?),
             told: Told::new(alloc),
-            clock: Clock::new(),
+            recorded: Record::new(alloc),
             device: Device::new(alloc),
         })
     }
@@ -65,7 +67,7 @@ impl<C: WatchCall> Bench<C> {
     pub fn moment(&self) -> u64
         ensures { result ≡ (⟦<Bench<C> as Directory>⟧.view self.now).moment }
     {
-        self.clock.moment
+        self.recorded.moment()
     }
 
     /// How many calls other than deletes the device has refused.
@@ -95,7 +97,7 @@ impl<C: WatchCall> Bench<C> {
         ensures cause { OpenReadCause name.now ⊥
             (device_in self.new ≡ after_fault (device_in self.old))
             (device_in self.new ≡ device_in self.old) result }
-        ensures others { Untouched self.old self.new }
+        ensures others { self.new ≡ record self.old { device = self.new.device } }
     {
         let Ok(filepath) = String::from_str(self.alloc, name) else {
             return OpenReadError::Memory;

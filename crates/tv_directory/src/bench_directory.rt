@@ -1,6 +1,6 @@
 //! The calls of a directory in memory.
-ghost use Rattle.tv_model.specs.Disk.{no_disk};
-ghost use Rattle.std.specs.Prelude.{◌≡◌, ◌<◌, true, length, is_some, Some, IfOk, IfErr, OnOk, OnErr};
+ghost use Rattle.tv_model.specs.Disk.{Sealed, Unsealed};
+ghost use Rattle.std.specs.Prelude.{refl, ◌≡◌, ◌<◌, true, length, is_some, Some, IfOk, IfErr, OnOk, OnErr};
 ghost use Rattle.tv_model.specs.Names.{is_file_name};
 ghost use Rattle.tv_model.specs.Lines.{has_no_feed};
 ghost use Rattle.tv_base.specs.Causes.{OpenReadCause, OpenWriteCause};
@@ -8,14 +8,19 @@ ghost use Rattle.tv_directory.specs.View.{tells_all, Frame, Kept, OnlyReads, Onl
 ghost use Rattle.tv_directory.specs.Calls.{AskFaults, ReadFaults, OpenFaults, IoFaults, DeviceFaults, DeleteFaults, LockFaults, Frees, MakesRoom};
 ghost use Rattle.tv_directory.specs.Calls.{IsNewWriter, Makes, Appends, HandsBack, Touches, Flushes, Seals, Gives, Notes, Deletes, EndsWriters, Acquires, TellsLineTo};
 ghost use Rattle.tv_directory.specs.Device.{IsSilent};
+ghost use Rattle.tv_directory.specs.Images.{KeepsDisk, GivesState, OpensState, WritesState, DeletesState, Settles};
+ghost use Rattle.tv_directory.specs.RecordLaws.{reads_now, stands_now};
 ghost use Rattle.tv_directory.specs.Locks.{LockCause};
-ghost use Rattle.tv_directory.specs.Ram.{OnlyHeld, OnlyWatchers, ram_state};
-ghost use Rattle.tv_directory.specs.Bench.{view_in, Untouched, Timed, Untold, OnlyTold, OnlyRoom, Below, NumberedBelow, ShowsNothing, WritesOut};
+ghost use Rattle.tv_directory.specs.Ram.{OnlyHeld, OnlyWatchers, ram_lives, ram_state, ram_states};
+ghost use Rattle.tv_directory.specs.Bench.{view_in, disk_in, Untouched, Timed, Untold, OnlyTold, OnlyRoom, Below, NumberedBelow, ShowsNothing, WritesOut};
 ghost use Rattle.tv_directory.specs.Bench.{Numbered, NumberedDelete, of_io, of_write, of_device};
 ghost use Rattle.tv_directory.specs.Watch.{IsNewWatcher, delivered, unsubscribed};
 
 use crate::bench::Bench;
+use crate::bench_changes::unsealed;
+use crate::bench_record::Call;
 use crate::directory::Directory;
+use crate::files::Content;
 use crate::lock::{DirectoryLock, Lock};
 use crate::outside::Outside;
 use crate::ram_calls::file_name;
@@ -26,8 +31,8 @@ use tv_base::{
 };
 use tv_model::Memory;
 
-// Each call takes its number first. A refused one then changes nothing that reads; its clock moves
-// where a crash could leave what the call would have made.
+// Each call takes its number first. A refused one then changes nothing that reads; it is recorded where a
+// crash could leave what the call would have made.
 impl<C: WatchCall> Directory for Bench<C> {
     type Writer = RamWriter;
 
@@ -39,11 +44,17 @@ impl<C: WatchCall> Directory for Bench<C> {
 
     ghost state_of = { ram_state };
 
-    ghost tells_images = { ⊥ };
+    ghost tells_images = { Unit {0} };
 
-    ghost disk = { λ _. no_disk };
+    ghost disk = { disk_in };
 
-    ghost stands = { λ d told. absurd told };
+    ghost tells_more = { λ told. told };
+
+    ghost stands = { λ bench told. record {
+        clock = refl;
+        possible = λ n. stands_now bench.recorded.calls n (ram_states bench.ram n);
+        reads = λ n. reads_now bench.ram.files.map.entries n;
+    } };
 
     fn exists(&mut self, name: &str) -> Result<bool, OpenReadError>
         requires { is_file_name name.now ≡ true }
@@ -53,6 +64,7 @@ impl<C: WatchCall> Directory for Bench<C> {
             name.now result }
         ensures frame { OnlyReads tells_all (view_in C.calls self.old) (view_in C.calls self.new) }
         ensures device { Numbered Untouched (OpenReadCause name.now) self.old self.new result }
+        ensures images { KeepsDisk (disk_in self.old) (disk_in self.new) }
     {
         if self.device.refuses() {
             return Err(self.refused_read(name));
@@ -68,6 +80,7 @@ impl<C: WatchCall> Directory for Bench<C> {
             name.now result }
         ensures frame { OnlyReads tells_all (view_in C.calls self.old) (view_in C.calls self.new) }
         ensures device { Numbered Untouched (OpenReadCause name.now) self.old self.new result }
+        ensures images { KeepsDisk (disk_in self.old) (disk_in self.new) }
     {
         Ok(FileSlice::new(self.get_file_handle(name)?))
     }
@@ -80,6 +93,7 @@ impl<C: WatchCall> Directory for Bench<C> {
             name.now result }
         ensures frame { OnlyReads tells_all (view_in C.calls self.old) (view_in C.calls self.new) }
         ensures device { Numbered Untouched (OpenReadCause name.now) self.old self.new result }
+        ensures images { KeepsDisk (disk_in self.old) (disk_in self.new) }
     {
         if self.device.refuses() {
             return Err(self.refused_read(name));
@@ -97,19 +111,19 @@ impl<C: WatchCall> Directory for Bench<C> {
             name.now result }
         ensures frame { Kept tells_all (view_in C.calls self.old) (view_in C.calls self.new) }
         ensures device { Numbered Untold (OpenWriteCause name.now) self.old self.new result }
+        ensures images { OpensState (disk_in self.old) (disk_in self.new) name.now result }
     {
         if self.device.refuses() {
-            let name = file_name(self.alloc, name)?;
-            if !self.ram.files.has(&name) {
-                self.clock.tick();
-            }
+            let filepath = String::from_str(self.alloc, name)?;
+            self.record_refused_opening(name)?;
             return Err(OpenWriteError::IoError {
                 io_error: self.device.fault(),
-                filepath: name.into_string(),
+                filepath,
             });
         }
+        let (key, before) = self.before(name)?;
         let writer = self.ram.open_write(name)?;
-        self.clock.tick();
+        self.recorded.add(Call::Replaced { name: key, before });
         Ok(writer)
     }
 
@@ -124,6 +138,7 @@ impl<C: WatchCall> Directory for Bench<C> {
         ensures frame { OnlyReads tells_all (view_in C.calls self.old) (view_in C.calls self.new) }
         ensures device { Numbered (ShowsNothing writer.old writer.new)
             (of_write writer.old writer.new) self.old self.new result }
+        ensures images { KeepsDisk (disk_in self.old) (disk_in self.new) }
     {
         if self.device.refuses() {
             return Err(IoError::Fault(self.device.fault()));
@@ -141,14 +156,20 @@ impl<C: WatchCall> Directory for Bench<C> {
         ensures faults { IoFaults (view_in C.calls self.old) (view_in C.calls self.new) result }
         ensures frame { Kept tells_all (view_in C.calls self.old) (view_in C.calls self.new) }
         ensures device { Numbered (WritesOut writer.old) of_io self.old self.new result }
+        ensures images { WritesState (ram_lives self.old.ram writer.old) (disk_in self.old)
+            (disk_in self.new) writer.old.name Unsealed result }
     {
         let lives = self.ram.files.is_made(&writer.name, writer.number);
         if self.device.refuses() {
-            self.clock.tick_where(lives);
+            self.record_refused_where(lives, writer.name.as_str(), unsealed())?;
             return Err(IoError::Fault(self.device.fault()));
         }
+        if !lives {
+            return Ok(());
+        }
+        let (name, before) = self.before(writer.name.as_str())?;
         self.ram.flush(writer)?;
-        self.clock.tick_where(lives);
+        self.recorded.add(Call::Replaced { name, before });
         Ok(())
     }
 
@@ -159,14 +180,26 @@ impl<C: WatchCall> Directory for Bench<C> {
         ensures faults { IoFaults (view_in C.calls self.old) (view_in C.calls self.new) result }
         ensures frame { Kept tells_all (view_in C.calls self.old) (view_in C.calls self.new) }
         ensures device { Numbered (WritesOut writer) of_io self.old self.new result }
+        ensures images { WritesState (ram_lives self.old.ram writer) (disk_in self.old)
+            (disk_in self.new) writer.name (Sealed writer.bytes.items) result }
     {
         let lives = self.ram.files.is_made(&writer.name, writer.number);
         if self.device.refuses() {
-            self.clock.tick_where(lives);
+            let RamWriter {
+                name,
+                number: _,
+                bytes,
+            } = writer;
+            let sealed = Content::Sealed(OwnedBytes::new(bytes)?);
+            self.record_refused_where(lives, name.as_str(), Some(sealed))?;
             return Err(IoError::Fault(self.device.fault()));
         }
+        if !lives {
+            return Ok(());
+        }
+        let (name, before) = self.before(writer.name.as_str())?;
         self.ram.terminate(writer)?;
-        self.clock.tick_where(lives);
+        self.recorded.add(Call::Replaced { name, before });
         Ok(())
     }
 
@@ -178,6 +211,7 @@ impl<C: WatchCall> Directory for Bench<C> {
             name.now result }
         ensures frame { OnlyReads tells_all (view_in C.calls self.old) (view_in C.calls self.new) }
         ensures device { Numbered Untouched (OpenReadCause name.now) self.old self.new result }
+        ensures images { KeepsDisk (disk_in self.old) (disk_in self.new) }
     {
         if self.device.refuses() {
             return Err(self.refused_read(name));
@@ -194,13 +228,17 @@ impl<C: WatchCall> Directory for Bench<C> {
         ensures faults { IoFaults (view_in C.calls self.old) (view_in C.calls self.new) result }
         ensures frame { Frame tells_all (view_in C.calls self.old) (view_in C.calls self.new) }
         ensures device { Numbered Untold of_io self.old self.new result }
+        ensures images { GivesState (disk_in self.old) (disk_in self.new) name.now
+            (Sealed bytes.now) result }
     {
         if self.device.refuses() {
-            self.clock.tick();
+            let sealed = Vec::from_slice(self.alloc, bytes)?;
+            self.record_refused(name, Some(Content::Sealed(OwnedBytes::new(sealed)?)))?;
             return Err(IoError::Fault(self.device.fault()));
         }
+        let (key, before) = self.before(name)?;
         self.ram.atomic_write(name, bytes)?;
-        self.clock.tick();
+        self.recorded.add(Call::Replaced { name: key, before });
         Ok(())
     }
 
@@ -214,6 +252,7 @@ impl<C: WatchCall> Directory for Bench<C> {
             (view_in C.calls self.new) name.now result }
         ensures frame { MayDelete tells_all (view_in C.calls self.old) (view_in C.calls self.new) }
         ensures device { NumberedDelete self.old self.new name.now result }
+        ensures images { DeletesState (disk_in self.old) (disk_in self.new) name.now result }
     {
         if self.device.refuses() {
             let Ok(name) = file_name(self.alloc, name) else {
@@ -224,8 +263,11 @@ impl<C: WatchCall> Directory for Bench<C> {
                 filepath: name.into_string(),
             });
         }
+        let Ok((key, before)) = self.before(name) else {
+            return Err(DeleteError::Memory);
+        };
         self.ram.delete(name)?;
-        self.clock.tick();
+        self.recorded.add(Call::Replaced { name: key, before });
         Ok(())
     }
 
@@ -234,11 +276,12 @@ impl<C: WatchCall> Directory for Bench<C> {
         ensures silent { IfErr result IsSilent }
         ensures frame { OnlyReads tells_all (view_in C.calls self.old) (view_in C.calls self.new) }
         ensures device { Numbered Timed (of_device self.old self.new) self.old self.new result }
+        ensures images { Settles (disk_in self.old) (disk_in self.new) result }
     {
         if self.device.refuses() {
             return Err(self.device.fault());
         }
-        self.clock.settle();
+        self.recorded.settle();
         Ok(())
     }
 
@@ -251,6 +294,7 @@ impl<C: WatchCall> Directory for Bench<C> {
             lock.now.filepath.now result }
         ensures frame { OnlyLocks tells_all (view_in C.calls self.old) (view_in C.calls self.new) }
         ensures device { Numbered (NumberedBelow OnlyHeld) LockCause self.old self.new result }
+        ensures images { KeepsDisk (disk_in self.old) (disk_in self.new) }
     {
         if self.device.refuses() {
             return Err(LockError::IoError(self.device.fault()));
@@ -261,6 +305,7 @@ impl<C: WatchCall> Directory for Bench<C> {
     fn release(&mut self, lock: DirectoryLock)
         ensures frees { Frees tells_all lock (view_in C.calls self.old) (view_in C.calls self.new) }
         ensures others { Below OnlyHeld self.old self.new }
+        ensures images { KeepsDisk (disk_in self.old) (disk_in self.new) }
     {
         self.ram.release(lock);
     }
@@ -273,6 +318,7 @@ impl<C: WatchCall> Directory for Bench<C> {
         ensures frame { OnlyWatches tells_all (view_in C.calls self.old)
             (view_in C.calls self.new) }
         ensures others { Below OnlyWatchers self.old self.new }
+        ensures images { KeepsDisk (disk_in self.old) (disk_in self.new) }
     {
         self.ram.watch(callback)
     }
@@ -283,6 +329,7 @@ impl<C: WatchCall> Directory for Bench<C> {
         ensures frame { OnlyWatches tells_all (view_in C.calls self.old)
             (view_in C.calls self.new) }
         ensures others { Below OnlyWatchers self.old self.new }
+        ensures images { KeepsDisk (disk_in self.old) (disk_in self.new) }
     {
         self.ram.unwatch(handle);
     }
@@ -294,6 +341,7 @@ impl<C: WatchCall> Directory for Bench<C> {
         ensures frame { OnlyWatches tells_all (view_in C.calls self.old)
             (view_in C.calls self.new) }
         ensures others { Below OnlyWatchers self.old self.new }
+        ensures images { KeepsDisk (disk_in self.old) (disk_in self.new) }
     {
         self.ram.deliver()
     }
@@ -304,8 +352,10 @@ impl<C: WatchCall> Outside for Bench<C> {
         ensures room { MakesRoom tells_all len result (view_in C.calls self.old)
             (view_in C.calls self.new) }
         ensures others { OnlyRoom self.old self.new }
+        ensures images { KeepsDisk (disk_in self.old) (disk_in self.new) }
     {
-        self.told.ready(len)
+        self.told.ready(len)?;
+        self.recorded.reserve()
     }
 
     fn tell(&mut self, line: &[u8]) -> Result<(), IoFault>
@@ -317,12 +367,13 @@ impl<C: WatchCall> Outside for Bench<C> {
         ensures frame { OnlyTells tells_all (view_in C.calls self.old) (view_in C.calls self.new) }
         ensures device { Numbered OnlyTold (of_device self.old self.new)
             self.old self.new result }
+        ensures images { KeepsDisk (disk_in self.old) (disk_in self.new) }
     {
         if self.device.refuses() {
             return Err(self.device.fault());
         }
-        self.told.tell(self.clock.moment, line);
-        self.clock.tick();
+        self.told.tell(self.recorded.moment(), line);
+        self.recorded.add(Call::Told);
         Ok(())
     }
 }

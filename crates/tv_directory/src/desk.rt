@@ -81,6 +81,8 @@ impl<D: Directory + Drop, S: Sink + Drop> Directory for Desk<D, S> {
 
     ghost disk = { λ desk. D.disk desk.directory };
 
+    ghost tells_more = { D.tells_more };
+
     ghost stands = { λ desk told. let now = D.stands desk.directory told in
         record { clock = now.clock; possible = now.possible; reads = now.reads } };
 

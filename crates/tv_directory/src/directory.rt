@@ -31,8 +31,8 @@ use tv_model::Memory;
 ///   Nothing is kept from a crash by it.
 /// - `terminate` ends a file and seals it. It needs no flush before it.
 /// - `sync_directory` is for crashes. It is called behind what must stand before the next step is taken: behind
-///   the sealed files of a commit, before `meta.json` names them, and behind `meta.json`. So far no clause says
-///   what a crash leaves.
+///   the sealed files of a commit, before `meta.json` names them, and behind `meta.json`. After it a crash
+///   leaves each name as it is then; the clause `images` says so, where images are told.
 /// - Dropping a writer does none of this. The file stays, unsealed, and what wasn't flushed may be lost.
 pub trait Directory {
     /// What writes a file.
@@ -53,8 +53,8 @@ pub trait Directory {
     /// Whether it is told what a crash may leave.
     ghost tells_images: { Type 0 };
 
-    /// The clock, the state of each name now, and those in which a crash at a moment may leave it. The
-    /// clause `images` of a call says what becomes of them, at each moment inside the call.
+    /// The clock, the state of each name now, and those in which a crash may leave it. The clause
+    /// `images` of a call says what becomes of them, at each moment inside the call.
     ghost disk: { Self → Disk };
 
     /// Whether the name reads. It never answers that the file doesn't exist.
@@ -205,6 +205,9 @@ pub trait Directory {
         ensures called { (view self.new).watched ≡ delivered (view self.old).watched }
         ensures frame { OnlyWatches told (view self.old) (view self.new) }
         ensures images { tells_images → KeepsDisk (disk self.old) (disk self.new) };
+
+    /// Who is told what a crash may leave is told the content too.
+    ghost tells_more: { tells_images → told.content };
 
     /// Where it is told, what reads is one of the images that a crash now may leave.
     ghost stands: { (d : Self) → tells_images → StandsNow (view d) (disk d) };

@@ -4,8 +4,9 @@ ghost use Rattle.std.specs.Bool.{OnFalse};
 ghost use Rattle.std.specs.List.{AllByRecursion};
 ghost use Rattle.tv_model.specs.Names.{is_file_name};
 ghost use Rattle.tv_model.specs.Files.{Same, Sets};
+ghost use Rattle.tv_model.specs.Disk.{Absent};
 ghost use Rattle.tv_directory.specs.Device.{last};
-ghost use Rattle.tv_directory.specs.StoredFiles.{PutsFile, ReplacesFile, bytes_of, reads_of, is_there, number_at, is_made, named, last_of, total_len};
+ghost use Rattle.tv_directory.specs.StoredFiles.{AreSealed, PutsFile, PutsState, ReplacesFile, StandsAs, bytes_of, reads_of, state_of, states_of, is_there, number_at, is_made, named, last_of, total_len};
 
 use std::alloc::Global;
 use std::collections::BTreeMap;
@@ -49,7 +50,7 @@ impl Content {
 
     /// The same content, whose bytes aren't copied.
     pub fn share(&self) -> Result<Content, Memory>
-        ensures { IfOk result (λ other. bytes_of other ≡ bytes_of self.now) }
+        ensures { IfOk result (λ other. other ≡ self.now) }
     {
         let bytes = self.share_bytes()?;
         match self {
@@ -81,8 +82,9 @@ impl Files {
     /// Sealed files of these names and bytes.
     pub fn sealed(alloc: Global, files: Vec<(String, Vec<u8>)>) -> Result<Files, Memory>
         requires { AllByRecursion (λ file. is_file_name (string_bytes file.0) ≡ true) files.items }
-        ensures { IfOk result
+        ensures files { IfOk result
             (λ made. Same (last_of (named files.items)) (reads_of made.map.entries)) }
+        ensures sealed { IfOk result (λ made. AreSealed made.map.entries) }
     {
         let map = sealed_files(alloc, files)?;
         Ok(Files { map, last: 0 })
@@ -147,11 +149,23 @@ impl Files {
         }
     }
 
+    /// The content of the name's file. Its bytes aren't copied.
+    pub fn content(&self, name: &FileName) -> Result<Option<Content>, Memory>
+        ensures { IfOk result (λ found. state_of found ≡ states_of self.now.map.entries name.now) }
+    {
+        match self.map.get(name) {
+            Some(file) => Ok(Some(file.content.share()?)),
+            None => Ok(None),
+        }
+    }
+
     /// Makes a file of a name that has none, and answers its number.
     pub fn make(&mut self, name: FileName, content: Content) -> Result<u64, Memory>
         ensures ok { OnOk result
             (Sets (reads_of self.old.map.entries) (reads_of self.new.map.entries)
             name (Some (bytes_of content))) }
+        ensures state { PutsState (states_of self.old.map.entries) (states_of self.new.map.entries)
+            name (state_of (Some content)) result }
         ensures number { IfOk result (λ number. number ≡ self.old.last + 1) }
         ensures made { OnOk result ((self.new.last ≡ self.old.last + 1)
             × (is_made self.new.map.entries name (self.old.last + 1) ≡ true)) }
@@ -212,6 +226,8 @@ impl Files {
         ensures ok { OnOk result
             (Sets (reads_of self.old.map.entries) (reads_of self.new.map.entries)
             name (Some (bytes_of content))) }
+        ensures state { PutsState (states_of self.old.map.entries) (states_of self.new.map.entries)
+            name (state_of (Some content)) result }
         ensures last { self.old.last ≤ self.new.last }
         ensures kept { (n : List ℕ) (k : ℕ)
             → is_made self.old.map.entries n k ≡ true → is_made self.new.map.entries n k ≡ true }
@@ -233,6 +249,8 @@ impl Files {
         ensures there { result ≡ is_there self.old.map.entries name.now }
         ensures ok { Sets (reads_of self.old.map.entries) (reads_of self.new.map.entries) name.now
             None }
+        ensures state { StandsAs (states_of self.old.map.entries) (states_of self.new.map.entries)
+            name.now Absent }
         ensures number { number_at self.new.map.entries name.now ≡ None }
         ensures numbers { (n : List ℕ) → n ≢ name.now
             → number_at self.new.map.entries n ≡ number_at self.old.map.entries n }
@@ -249,7 +267,8 @@ fn sealed_files(
     files: Vec<(String, Vec<u8>)>,
 ) -> Result<BTreeMap<FileName, StoredFile>, Memory>
     requires { AllByRecursion (λ file. is_file_name (string_bytes file.0) ≡ true) files.items }
-    ensures { IfOk result (λ map. Same (last_of (named files.items)) (reads_of map.entries)) }
+    ensures files { IfOk result (λ map. Same (last_of (named files.items)) (reads_of map.entries)) }
+    ensures sealed { IfOk result (λ map. AreSealed map.entries) }
 {
     let mut map = BTreeMap::new(alloc);
     for (name, bytes) in files {

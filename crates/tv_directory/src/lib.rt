@@ -2,9 +2,10 @@
 #![tactic(auto)]
 
 mod bench;
-mod bench_clock;
+mod bench_changes;
 mod bench_device;
 mod bench_directory;
+mod bench_record;
 mod bench_told;
 mod desk;
 mod dir_writer;

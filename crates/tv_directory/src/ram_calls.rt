@@ -1,5 +1,5 @@
 //! The calls of a directory in memory.
-ghost use Rattle.tv_model.specs.Disk.{no_disk};
+ghost use Rattle.tv_model.specs.Disk.{Absent, Sealed, Unsealed, no_disk};
 ghost use Rattle.std.specs.Prelude.{◌≡◌, true, is_some, Some, IfOk, IfErr, OnErr};
 ghost use Rattle.tv_model.specs.Names.{is_file_name};
 ghost use Rattle.tv_base.specs.Causes.{OpenWriteCause};
@@ -7,9 +7,9 @@ ghost use Rattle.tv_directory.specs.View.{tells_all, Frame, Kept, MayDelete};
 ghost use Rattle.tv_directory.specs.Calls.{AskFaults, ReadFaults, OpenFaults, IoFaults, DeleteFaults, LockFaults};
 ghost use Rattle.tv_directory.specs.Calls.{IsNewWriter, Makes, Appends, HandsBack, Touches, Flushes, Seals, Gives, Notes, Deletes, EndsWriters, Acquires};
 ghost use Rattle.tv_directory.specs.Locks.{FreesLock, LockCause};
-ghost use Rattle.tv_directory.specs.Ram.{ram_view, ram_state, ram_reads, ram_opened, ram_locks, ram_watched};
+ghost use Rattle.tv_directory.specs.Ram.{ram_view, ram_state, ram_states, ram_reads, ram_opened, ram_lives, ram_locks, ram_watched};
 ghost use Rattle.tv_directory.specs.Ram.{SameFile, OnlyFiles, OnlyNoted, OnlyHeld, OnlyWatchers, KeepsWriters};
-ghost use Rattle.tv_directory.specs.StoredFiles.{bytes_of};
+ghost use Rattle.tv_directory.specs.StoredFiles.{PutsState, bytes_of, state_of};
 ghost use Rattle.tv_directory.specs.Watch.{IsNewWatcher, delivered, unsubscribed};
 
 use crate::directory::Directory;
@@ -36,7 +36,7 @@ pub(crate) fn file_name(alloc: Global, name: &str) -> Result<FileName, Memory>
 // What a flush of this writer gives to its file.
 fn flushed_file(alloc: Global, writer: &RamWriter) -> Result<(FileName, Content), Memory>
     ensures { IfOk result (λ file. (file.0 ≡ writer.now.name)
-        × (bytes_of file.1 ≡ writer.now.bytes.items)) }
+        × (bytes_of file.1 ≡ writer.now.bytes.items) × (state_of (Some file.1) ≡ Unsealed)) }
 {
     let name = file_name(alloc, writer.name.as_str())?;
     let bytes = Vec::from_slice(alloc, writer.bytes.as_slice())?;
@@ -46,7 +46,8 @@ fn flushed_file(alloc: Global, writer: &RamWriter) -> Result<(FileName, Content)
 // A sealed file of this name and these bytes.
 fn sealed_file(alloc: Global, name: &str, bytes: &[u8]) -> Result<(FileName, Content), Memory>
     requires { is_file_name name.now ≡ true }
-    ensures { IfOk result (λ file. (file.0 ≡ name.now) × (bytes_of file.1 ≡ bytes.now)) }
+    ensures { IfOk result (λ file. (file.0 ≡ name.now) × (bytes_of file.1 ≡ bytes.now)
+        × (state_of (Some file.1) ≡ Sealed bytes.now)) }
 {
     let name = file_name(alloc, name)?;
     let bytes = Vec::from_slice(alloc, bytes)?;
@@ -67,6 +68,8 @@ impl<C: WatchCall> Directory for RamDirectory<C> {
     ghost tells_images = { ⊥ };
 
     ghost disk = { λ _. no_disk };
+
+    ghost tells_more = { λ told. absurd told };
 
     ghost stands = { λ d told. absurd told };
 
@@ -115,6 +118,8 @@ impl<C: WatchCall> Directory for RamDirectory<C> {
             (ram_view C.calls self.new) name.now result }
         ensures frame { Kept tells_all (ram_view C.calls self.old) (ram_view C.calls self.new) }
         ensures there { IfErr result (OpenWriteCause name.now (self.new ≡ self.old) ⊥ (Unit {0})) }
+        ensures states { PutsState (ram_states self.old) (ram_states self.new) name.now
+            Unsealed result }
         ensures others { OnlyFiles self.old self.new }
     {
         let key = file_name(self.alloc, name)?;
@@ -155,6 +160,8 @@ impl<C: WatchCall> Directory for RamDirectory<C> {
             (ram_view C.calls self.new) writer.old writer.new result }
         ensures faults { IoFaults (ram_view C.calls self.old) (ram_view C.calls self.new) result }
         ensures frame { Kept tells_all (ram_view C.calls self.old) (ram_view C.calls self.new) }
+        ensures states { ram_lives self.old writer.old ≡ true
+            → PutsState (ram_states self.old) (ram_states self.new) writer.old.name Unsealed result }
         ensures others { KeepsWriters writer.old self.old self.new }
     {
         if !self.files.is_made(&writer.name, writer.number) {
@@ -171,6 +178,9 @@ impl<C: WatchCall> Directory for RamDirectory<C> {
             ram_state writer result }
         ensures faults { IoFaults (ram_view C.calls self.old) (ram_view C.calls self.new) result }
         ensures frame { Kept tells_all (ram_view C.calls self.old) (ram_view C.calls self.new) }
+        ensures states { ram_lives self.old writer ≡ true
+            → PutsState (ram_states self.old) (ram_states self.new) writer.name
+            (Sealed writer.bytes.items) result }
         ensures others { KeepsWriters writer self.old self.new }
     {
         let RamWriter {
@@ -209,6 +219,8 @@ impl<C: WatchCall> Directory for RamDirectory<C> {
             name.now result }
         ensures faults { IoFaults (ram_view C.calls self.old) (ram_view C.calls self.new) result }
         ensures frame { Frame tells_all (ram_view C.calls self.old) (ram_view C.calls self.new) }
+        ensures states { PutsState (ram_states self.old) (ram_states self.new) name.now
+            (Sealed bytes.now) result }
         ensures others { OnlyNoted self.old self.new }
     {
         let (key, sealed) = sealed_file(self.alloc, name, bytes)?;
@@ -229,6 +241,8 @@ impl<C: WatchCall> Directory for RamDirectory<C> {
             (ram_view C.calls self.new) name.now result }
         ensures frame { MayDelete tells_all (ram_view C.calls self.old)
             (ram_view C.calls self.new) }
+        ensures states { PutsState (ram_states self.old) (ram_states self.new) name.now Absent
+            result }
         ensures others { OnlyFiles self.old self.new }
     {
         let Ok(name) = file_name(self.alloc, name) else {

@@ -30,6 +30,8 @@ impl<R: Files<File = File> + Drop, C: WatchCall> Directory for MmapDirectory<R, 
 
     ghost disk = { λ _. no_disk };
 
+    ghost tells_more = { λ told. absurd told };
+
     ghost stands = { λ d told. absurd told };
 
     fn exists(&mut self, name: &str) -> Result<bool, OpenReadError> {

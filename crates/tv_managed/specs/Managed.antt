@@ -4,7 +4,7 @@ use Rattle.std.specs.BTreeSet.{insert_key}
 use Rattle.std.specs.List.{list_all}
 use Rattle.std.specs.List.Sorted.{IsStrictlySortedBy}
 use Rattle.tv_model.specs.Names.{byte_cmp, has, is_plain, is_undotted, list_name}
-use Rattle.tv_model.specs.Listing.{Lists, list_text}
+use Rattle.tv_model.specs.Listing.{IsOnList, Lists, list_text}
 use Rattle.tv_model.specs.Files.{Reads, Same, Sets, MaySet, KeepsOthers}
 use Rattle.tv_model.specs.Footer.{sealed}
 use Rattle.tv_base.specs.Causes.{IoCause, OpenWriteCause}
@@ -30,10 +30,6 @@ registered names name = if is_undotted name then insert_key byte_cmp names name 
 -- what the list on the device stands for has all these names
 abbrev pub Covers : Option (List ℕ) → List (List ℕ) → Type 0
 Covers read names = (listed : List (List ℕ)) × Lists read listed × ((n : List ℕ) → has names n ≡ true → has listed n ≡ true)
-
--- the list on the device has this name
-abbrev pub IsOnList : Option (List ℕ) → List ℕ → Type 0
-IsOnList read name = (listed : List (List ℕ)) × Lists read listed × (has listed name ≡ true)
 
 -- names other than this one and the list's read what they read
 abbrev pub KeepsOtherFiles : Reads → Reads → List ℕ → Type 0

@@ -1,8 +1,6 @@
 -- What a crash may leave of the files on a disk.
 use Rattle.std.specs.Prelude.{ℕ, ◌≡◌, ◌≢◌, ◌⊎◌, ◌≤◌, ◌<◌, true, List, Option, None, Some, IsSome}
 use Rattle.tv_model.specs.Files.{Reads}
-use Rattle.tv_model.specs.Listing.{Lists}
-use Rattle.tv_model.specs.Names.{has, is_undotted, list_name}
 
 -- how a name may stand on a disk: it has no file, or one that isn't sealed, or one that is sealed with these bytes
 pub data DiskState : Type 0 where
@@ -30,7 +28,7 @@ Possible = List ℕ → DiskState → Type 0
 pub record IsImage (possible : Possible) (image : Reads) : Type 0 where
   pub each : (n : List ℕ) → (s : DiskState) × possible n s × MayRead s (image n)
 
--- what is said of a disk: the clock, the state of each name now, and the states in which a crash at a moment may leave it
+-- what is said of a disk: the clock, the state of each name now, and, for each moment up to now, the states in which a crash then may leave each name
 pub record Disk : Type 1 where
   pub moment : ℕ
   pub now : List ℕ → DiskState
@@ -66,16 +64,20 @@ pub record Adds (old new : Possible) (name : List ℕ) (state : DiskState) : Typ
   pub added : new name state
   pub kept : Within new old
 
--- Each name has one possible state, that in which it is.
-pub record IsSettled (disk : Disk) : Type 0 where
-  pub each : (n : List ℕ) (s : DiskState) → possible_now disk n s → s ≡ disk.now n
+-- this name has one possible state, that in which it is
+abbrev pub IsSettledAt : Disk → List ℕ → Type 0
+IsSettledAt disk n = (s : DiskState) → possible_now disk n s → s ≡ disk.now n
 
--- One call: what may be left by a crash at a moment up to then stays as it was. A crash inside the call leaves nothing but what one before it or one after it may
--- leave.
+-- so has each name
+pub record IsSettled (disk : Disk) : Type 0 where
+  pub each : (n : List ℕ) → IsSettledAt disk n
+
+-- One call: what a crash at a moment up to then may leave stays as it was. At each later moment of the call a crash may leave just what it may before the call, or
+-- just what it may after it.
 pub record Elapses (old new : Disk) : Type 0 where
   pub later : old.moment ≤ new.moment
   pub past : (x : ℕ) → x ≤ old.moment → SamePossible (old.possible x) (new.possible x)
-  pub inside : (x : ℕ) → old.moment < x → x ≤ new.moment → Within (possible_now new) (new.possible x)
+  pub inside : (x : ℕ) → old.moment < x → x ≤ new.moment → SamePossible (possible_now old) (new.possible x) ⊎ SamePossible (possible_now new) (new.possible x)
 
 -- A run of calls: at each of its moments this holds of what a crash may leave, and what may be left by a crash before them stays as it was.
 pub record Throughout (P : Possible → Type 0) (old new : Disk) : Type 0 where
@@ -83,18 +85,10 @@ pub record Throughout (P : Possible → Type 0) (old new : Disk) : Type 0 where
   pub past : (x : ℕ) → x ≤ old.moment → SamePossible (old.possible x) (new.possible x)
   pub each : (x : ℕ) → old.moment ≤ x → x ≤ new.moment → P (new.possible x)
 
--- names other than these two have no possible state that they hadn't
-pub record OnlyTouches (first second : List ℕ) (old new : Possible) : Type 0 where
-  pub each : (n : List ℕ) → n ≢ first → n ≢ second → (s : DiskState) → new n s → old n s
+-- names that aren't touched have no possible state that they hadn't
+pub record OnlyTouches (touched : List ℕ → Type 0) (old new : Possible) : Type 0 where
+  pub each : (n : List ℕ) → (touched n → ⊥) → (s : DiskState) → new n s → old n s
 
--- whatever is read of a list in this state, the name is on it
-abbrev pub IsOnEach : DiskState → List ℕ → Type 0
-IsOnEach state name = (read : Option (List ℕ)) → MayRead state read → (names : List (List ℕ)) × Lists read names × (has names name ≡ true)
-
--- The list forgets no file: each undotted name that may be there is on each list that may be left.
-pub record ListsEachFile (possible : Possible) : Type 0 where
-  pub each : (n : List ℕ) → is_undotted n ≡ true → (s : DiskState) → possible n s → IsThere s → (l : DiskState) → possible list_name l → IsOnEach l n
-
--- each undotted file of this image is on its list
-abbrev pub ListsItsFiles : Reads → Type 0
-ListsItsFiles image = (n : List ℕ) → is_undotted n ≡ true → IsSome (image n) → (names : List (List ℕ)) × Lists (image list_name) names × (has names n ≡ true)
+-- names that aren't touched stand as they stood
+pub record OnlyMoves (touched : List ℕ → Type 0) (old new : Disk) : Type 0 where
+  pub each : (n : List ℕ) → (touched n → ⊥) → new.now n ≡ old.now n

@@ -34,3 +34,4 @@ pub mod MetaJson
 pub mod Meaning
 pub mod Validating
 pub mod Disk
+pub mod Listed

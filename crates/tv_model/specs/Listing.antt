@@ -42,3 +42,7 @@ pub record IsListOf (bytes : List ℕ) (names : List (List ℕ)) : Type 0 where
 abbrev pub Lists : Option (List ℕ) → List (List ℕ) → Type 0
 Lists None names = names ≡ []
 Lists (Some bytes) names = IsListOf bytes names
+
+-- the list that the file stands for has this name
+abbrev pub IsOnList : Option (List ℕ) → List ℕ → Type 0
+IsOnList read name = (listed : List (List ℕ)) × Lists read listed × (has listed name ≡ true)

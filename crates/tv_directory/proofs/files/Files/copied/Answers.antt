@@ -1,4 +1,4 @@
-use Rattle.std.proofs.Common.{rules, ◌≡◌}
+use Rattle.std.proofs.Common.{rules, ◌≡◌, ap}
 use Rattle.tv_directory.specs.StoredFiles.{bytes_of}
 use Rattle.tv_directory.proofs.CopiedFiles.{copies_first, copies_one}
 use Rattle.tv_directory.proofs.files.Files.copied.Goals as goal
@@ -12,4 +12,4 @@ loop-name-preserved c =
     let name : c.new.result ≡ c.in-Some.name.now = search rules in
     let set = rw name at c.in_ok-put.ensures.ok in
     copies_one c.args.self.now.map.entries c.loop-name.name-iterator c.next.new.self c.loop-name.map.entries c.put.new.files.entries (c.in-Some.name.now, c.in-Some.file.now) (bytes_of c.in_ok-share.field-0) c.loop-name.invariant
-    (search rules) set c.in_ok-share.ensures
+    (search rules) set (ap bytes_of c.in_ok-share.ensures)
