@@ -7,3 +7,4 @@ pub mod PersistedFiles
 pub mod Views
 pub mod Recorded
 pub mod Benches
+pub mod Resting

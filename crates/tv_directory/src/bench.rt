@@ -1,6 +1,7 @@
 //! A directory in memory, for tests.
-ghost use Rattle.std.specs.Prelude.{◌≡◌, [], true, string_bytes, IfOk};
+ghost use Rattle.std.specs.Prelude.{◌≡◌, ℕ, List, [], true, string_bytes, IfOk};
 ghost use Rattle.std.specs.List.{AllByRecursion};
+ghost use Rattle.tv_model.specs.Index.{IsSoundDirectory, IsSoundImage};
 ghost use Rattle.tv_model.specs.Names.{is_file_name};
 ghost use Rattle.tv_base.specs.Causes.{OpenReadCause};
 ghost use Rattle.tv_directory.specs.Bench.{device_in, disk_in, IsAtRest, IsNewBench, Untouched};
@@ -39,6 +40,9 @@ impl<C: WatchCall> Bench<C> {
             IsNewBench (last_of (named files.items)) (⟦<Bench<C> as Directory>⟧.view bench)) }
         ensures rests { IfOk result (λ bench.
             IsAtRest (last_of (named files.items)) (disk_in bench)) }
+        ensures sound { IfOk result (λ bench. (schema : List ℕ)
+            → IsSoundImage schema (last_of (named files.items)) → IsSoundDirectory schema
+            (disk_in bench) (⟦<Bench<C> as Directory>⟧.view bench).locks) }
         ensures device { IfOk result (λ bench.
             device_in bench ≡ record { fail_at = []; call = 0; faults = 0; refusals = 0 }) }
     {

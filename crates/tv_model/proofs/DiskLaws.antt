@@ -1,8 +1,8 @@
 -- How a run of calls goes on, as far as it is seen by what a crash may leave.
-use Rattle.std.specs.Prelude.{ℕ, ◌≡◌, ◌≤◌, ◌<◌, List}
+use Rattle.std.specs.Prelude.{◌≤◌, ◌<◌}
 use Rattle.std.proofs.Common.{⊎_elim, subst, arith}
 use Rattle.std.proofs.lemmas.Bool.{cases_lt}
-use Rattle.tv_model.specs.Disk.{DiskState, Possible, Disk, possible_now, Within, SamePossible, Elapses, Throughout}
+use Rattle.tv_model.specs.Disk.{Possible, Disk, possible_now, Within, SamePossible, Elapses, Throughout}
 
 -- the same states are possible
 pub same : (possible : Possible) → SamePossible possible possible
@@ -35,9 +35,9 @@ module _ (P : Possible → Type 0) (fewer : HoldsOfFewer P) where
     past = λ x le. same_then (so_far.past x le) (time.past x (omega (arith, le, so_far.later)));
     each = λ x from to. ⊎_elim
         (λ (after : mid.moment < x). ⊎_elim
-            (λ (before : SamePossible (possible_now mid) (new.possible x)). fewer (possible_now mid) (new.possible x) before.no_more (so_far.each mid.moment so_far.later (omega arith)))
-            (λ (behind : SamePossible (possible_now new) (new.possible x)). fewer (possible_now new) (new.possible x) behind.no_more here)
-            (time.inside x after to))
+        (λ (before : SamePossible (possible_now mid) (new.possible x)). fewer (possible_now mid) (new.possible x) before.no_more (so_far.each mid.moment so_far.later (omega arith)))
+        (λ (behind : SamePossible (possible_now new) (new.possible x)). fewer (possible_now new) (new.possible x) behind.no_more here)
+        (time.inside x after to))
         (λ (upto : x ≤ mid.moment). fewer (mid.possible x) (new.possible x) (time.past x upto).no_more (so_far.each x from upto))
         (cases_lt mid.moment x);
   }

@@ -1,5 +1,5 @@
 -- What a crash may leave of the files on a disk.
-use Rattle.std.specs.Prelude.{ℕ, ◌≡◌, ◌≢◌, ◌⊎◌, ◌≤◌, ◌<◌, true, List, Option, None, Some, IsSome}
+use Rattle.std.specs.Prelude.{ℕ, ◌≡◌, ◌⊎◌, ◌≤◌, ◌<◌, List, Option, None, Some, IsSome}
 use Rattle.tv_model.specs.Files.{Reads}
 
 -- how a name may stand on a disk: it has no file, or one that isn't sealed, or one that is sealed with these bytes

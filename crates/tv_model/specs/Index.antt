@@ -2,6 +2,7 @@
 use Rattle.std.specs.Prelude.{ℕ, ◌≡◌, ◌≢◌, ◌+◌, ◌==◌, Bool, true, false, List, [], ◌∷◌, Option, Some, None, IsSome, is_some, option_map, if◌then◌else◌}
 use Rattle.std.specs.BTreeSet.{insert_key}
 use Rattle.tv_model.specs.Names.{byte_cmp, has, is_undotted, list_name, meta_name}
+use Rattle.tv_model.specs.Disk.{Disk, IsImage, possible_now}
 use Rattle.tv_model.specs.Files.{Reads}
 use Rattle.tv_model.specs.Footer.{IsGood}
 use Rattle.tv_model.specs.Listing.{Lists}
@@ -49,6 +50,11 @@ pub record IsSoundImage (schema : List ℕ) (reads : Reads) : Type 0 where
 -- A sound start: what is read is sound, and no lock is held.
 pub record IsSoundStart (schema : List ℕ) (reads : Reads) (held : List ℕ → Bool) : Type 0 where
   pub image : IsSoundImage schema reads
+  pub free : (lock : List ℕ) → held lock ≡ false
+
+-- The same of a directory that tells what a crash may leave: every image that a crash now may leave is sound, and no lock is held.
+pub record IsSoundDirectory (schema : List ℕ) (disk : Disk) (held : List ℕ → Bool) : Type 0 where
+  pub images : (image : Reads) → IsImage (possible_now disk) image → IsSoundImage schema image
   pub free : (lock : List ℕ) → held lock ≡ false
 
 -- the number after a commit's

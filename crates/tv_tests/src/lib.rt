@@ -19,6 +19,8 @@ mod compare;
 #[cfg(test)]
 mod composites;
 #[cfg(test)]
+mod crashes;
+#[cfg(test)]
 mod desks;
 #[cfg(test)]
 mod empty;

@@ -153,8 +153,8 @@ fn set_of<R: Abort>(rt: &R, alloc: Global, names: &[&str]) -> BTreeSet<String> {
     set
 }
 
-// A collection that spares these names.
-fn collect<R: Abort, D: Directory>(
+/// A collection that spares these names.
+pub(crate) fn collect<R: Abort, D: Directory>(
     rt: &R,
     managed: &mut ManagedDirectory<D>,
     alloc: Global,
@@ -190,7 +190,8 @@ fn take<R: Abort, D: Empty>(
     }
 }
 
-fn take_all<R: Abort, D: Empty>(
+/// Takes the steps, each of which is to end as it says.
+pub(crate) fn take_all<R: Abort, D: Empty>(
     rt: &R,
     managed: &mut ManagedDirectory<D>,
     alloc: Global,
@@ -211,7 +212,8 @@ fn refusing<R: Abort>(rt: &R, alloc: Global, refused: &[u64]) -> TestBench {
     bench
 }
 
-fn wrapped<R: Abort, D: Empty>(rt: &R, alloc: Global, directory: D) -> ManagedDirectory<D> {
+/// The managed directory over this one.
+pub(crate) fn wrapped<R: Abort, D: Empty>(rt: &R, alloc: Global, directory: D) -> ManagedDirectory<D> {
     match ManagedDirectory::wrap(alloc, directory) {
         Ok(managed) => managed,
         Err(_) => panic!(rt; "it is wrapped"),
