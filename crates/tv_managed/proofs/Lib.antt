@@ -6,3 +6,8 @@ pub mod Removals
 pub mod Tried
 pub mod Endings
 pub mod Shortening
+pub mod Tracking
+pub mod Touching
+pub mod Images
+pub mod Listing
+pub mod Cutting

@@ -3,7 +3,7 @@ use Rattle.std.proofs.Common.{◌≡◌, ◌≢◌, ◌⊎◌, ℕ, true, false,
 use Rattle.std.specs.Prelude.{IsSome, OnOk, IfErr}
 use Rattle.tv_model.specs.Names.{is, has, is_undotted, list_name}
 use Rattle.tv_model.specs.Files.{Reads, Same, Sets, MaySet, KeepsOthers}
-use Rattle.tv_model.specs.Listing.{Lists}
+use Rattle.tv_model.specs.Listing.{IsOnList, Lists}
 use Rattle.tv_model.proofs.Entries.{has_inserted, is_itself, is_text}
 use Rattle.tv_base.specs.Causes.{IoCause, OpenWriteCause}
 use Rattle.tv_base.specs.declared.io.IoError.{IoError}
@@ -11,7 +11,7 @@ use Rattle.tv_base.specs.declared.io.IoError.TheVariants as io
 use Rattle.tv_base.specs.declared.open_errors.OpenWriteError.{OpenWriteError}
 use Rattle.tv_base.specs.declared.open_errors.OpenWriteError.TheVariants as write
 use Rattle.tv_directory.specs.Calls.{MayMake}
-use Rattle.tv_managed.specs.Managed.{Covers, IsOnList, ListsNew, ManagesNew, registered}
+use Rattle.tv_managed.specs.Managed.{Covers, ListsNew, ManagesNew, registered}
 
 -- whatever became of a save of names that may be more, the list that reads has the names of before
 pub covers_put : (now before : Option (List ℕ)) (names put : List (List ℕ)) → ((n : List ℕ) → has names n ≡ true → has put n ≡ true) → Lists now put ⊎ (now ≡ before) → Covers before names → Covers now names

@@ -35,7 +35,7 @@ other_cause R S P Q (Err (io.Fault fault)) other h p = (h.0, p)
 other_cause R S P Q (Err io.Memory) other h p = absurd other
 
 -- a name that is left was there
-was_there : (gone names : List (List ℕ)) (n : List ℕ) → has (without gone names) n ≡ true → has names n ≡ true
+pub was_there : (gone names : List (List ℕ)) (n : List ℕ) → has (without gone names) n ≡ true → has names n ≡ true
 was_there gone names n h = (both (not (has gone n)) (has names n) (sym (has_without gone names n) ∙ h)).1
 
 -- the list that has all names has those that are left

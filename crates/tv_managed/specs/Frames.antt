@@ -3,6 +3,7 @@ use Rattle.std.specs.Prelude.{◌≡◌, ℕ, List, Result, IfErr, OnOk}
 use Rattle.tv_model.specs.Files.{Rose}
 use Rattle.tv_base.specs.Causes.{OpenWriteCause}
 use Rattle.tv_base.specs.declared.open_errors.OpenWriteError.{OpenWriteError}
+use Rattle.tv_directory.specs.Images.{KeepsDisk}
 use Rattle.tv_directory.specs.View.{View, OnlyReads}
 use Rattle.tv_directory.specs.declared.directory.Directory.{Ghosts}
 
@@ -14,6 +15,7 @@ pub record KeepsNames {D W : Type 0} (keeps : View W → View W → Type 0) (vie
 -- A step that only asks: the managed names stay, and of the directory below what a read keeps; where it fails, it is for these causes.
 pub record OnlyAsks {D W C : Type 0} (g : Ghosts D W C) (old new : D × List (List ℕ)) (causes : Type 0) : Type 0 where
   pub frame : KeepsNames (OnlyReads g.told) g.view old new
+  pub images : g.tells_images → KeepsDisk (g.disk old.0) (g.disk new.0)
   pub faults : causes
 
 -- A step towards a file that is made fails where the device refused a call, or where memory was wanted; the error names the file.

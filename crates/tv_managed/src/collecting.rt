@@ -3,8 +3,10 @@ ghost use Rattle.std.specs.Prelude.{◌≡◌, ◌≢◌, [], ◌∷◌, ◌++�
 ghost use Rattle.std.specs.List.{list_all};
 ghost use Rattle.tv_model.specs.Names.{is_file_name, is_plain, list_name};
 ghost use Rattle.tv_model.specs.Collections.{collectable, without};
+ghost use Rattle.tv_directory.specs.Images.{DeletesState};
 ghost use Rattle.tv_directory.specs.View.{MayDelete};
 ghost use Rattle.tv_directory.specs.Calls.{DeleteFaults, Deletes, EndsWriters};
+ghost use Rattle.tv_managed.specs.Crashes.{IsTracked, KeepsTrack, CollectsFiles, CutsList, TriesState, TriesStates};
 ghost use Rattle.tv_managed.specs.Managed.{AreManaged, SavesList};
 ghost use Rattle.tv_managed.specs.Frames.{KeepsNames, OnlyAsks};
 ghost use Rattle.tv_managed.specs.Collecting.{Among, names_of, Leaves, SavesNone, Tries, Tried, TriesName, TriesNone, TriesSome, CollectFaults, EndsUnlocked, OnlyDeletes, Shortens, is_io_error};
@@ -57,6 +59,10 @@ impl<D: Directory> ManagedDirectory<D> {
         ensures faults { DeleteFaults D.told (D.view self.old.0) (D.view self.new.0)
             name.now result }
         ensures frame { KeepsNames (MayDelete D.told) D.view self.old self.new }
+        ensures crash { D.tells_images → IsTracked D.Directory self.old
+            → KeepsTrack D.Directory self.old self.new }
+        ensures images { D.tells_images
+            → DeletesState (D.disk self.old.0) (D.disk self.new.0) name.now result }
     {
         self.directory.delete(name)
     }
@@ -69,6 +75,9 @@ impl<D: Directory> ManagedDirectory<D> {
     /// at the end alone: after an error they are as they were, unless the device refused a call while the
     /// shorter list was saved. Then they are without those that were deleted, since the list that reads may
     /// be without them. `LockFailure` comes where the lock isn't given, and then nothing changed.
+    ///
+    /// The device has kept what was deleted before the shorter list is saved: no crash leaves a file whose name
+    /// isn't managed any more.
     ///
     /// The lock is for readers. Without it, where several work on one directory,
     ///
@@ -95,6 +104,11 @@ impl<D: Directory> ManagedDirectory<D> {
         ensures list { SavesList D.Directory self.old self.new result }
         ensures faults { CollectFaults D.Directory self.old self.new result }
         ensures frame { MayDelete D.told (D.view self.old.0) (D.view self.new.0) }
+        ensures crash { D.tells_images → IsTracked D.Directory self.old
+            → KeepsTrack D.Directory self.old self.new }
+        ensures images { D.tells_images → (names : List (List ℕ))
+            × CollectsFiles D.Directory names self.old self.new
+            × Among (L.post living) (λ set. names_of set.keys) self.old.1 names }
     {
         let names = self.unneeded(living)?;
         self.collect(names)
@@ -140,6 +154,10 @@ impl<D: Directory> ManagedDirectory<D> {
         ensures leaves { TriesSome D.Directory (names_of names.items) self.old self.new }
         ensures saves_none { SavesNone D.Directory self.old self.new result }
         ensures ends { EndsUnlocked D.Directory self.old self.new result }
+        ensures crash { D.tells_images → IsTracked D.Directory self.old
+            → KeepsTrack D.Directory self.old self.new }
+        ensures images { D.tells_images
+            → CollectsFiles D.Directory (names_of names.items) self.old self.new }
     {
         let managed = self.managed.clone()?;
         self.sync_directory()?;
@@ -155,6 +173,8 @@ impl<D: Directory> ManagedDirectory<D> {
             (names_of r.deleted_files.items) (names_of r.failed_to_delete_files.items)) }
         ensures leaves { TriesSome D.Directory (names_of names.items) self.old self.new }
         ensures only { OnlyDeletes D.Directory self.old self.new }
+        ensures images { D.tells_images → TriesStates (names_of names.items)
+            (D.disk self.old.0) (D.disk self.new.0) result }
     {
         let mut tried = GarbageCollectionResult {
             deleted_files: Vec::new(self.alloc),
@@ -173,6 +193,8 @@ impl<D: Directory> ManagedDirectory<D> {
         ensures tried { IfOk result (TriesName D.Directory name.now self.old self.new) }
         ensures err { OnErr result (TriesNone D.Directory self.old self.new) }
         ensures only { OnlyDeletes D.Directory self.old self.new }
+        ensures images { D.tells_images
+            → TriesState (D.disk self.old.0) (D.disk self.new.0) name.now result }
     {
         match self.directory.delete(name) {
             Ok(()) => Ok(true),
@@ -194,6 +216,8 @@ impl<D: Directory> ManagedDirectory<D> {
         ensures shortens { Shortens D.Directory (without (names_of deleted.now) self.old.1)
             self.old self.new result }
         ensures saves_none { deleted.now ≡ [] → self.new ≡ self.old }
+        ensures images { D.tells_images → CutsList D.Directory
+            (without (names_of deleted.now) self.old.1) self.old self.new }
     {
         if deleted.is_empty() {
             return Ok(());
@@ -204,7 +228,9 @@ impl<D: Directory> ManagedDirectory<D> {
     // Waits until the device has kept what was deleted, and saves the list of the names that are left.
     fn save_shorter(&mut self, left: BTreeSet<String>) -> Result<(), IoError>
         requires { (gone : List (List ℕ)) × (names_of left.keys ≡ without gone self.old.1) }
-        ensures { Shortens D.Directory (names_of left.keys) self.old self.new result }
+        ensures shortens { Shortens D.Directory (names_of left.keys) self.old self.new result }
+        ensures images { D.tells_images
+            → CutsList D.Directory (names_of left.keys) self.old self.new }
     {
         self.sync_directory()?;
         let saved = save_managed_paths(self.alloc, &mut self.directory, &left);

@@ -2,8 +2,10 @@
 ghost use Rattle.std.specs.Prelude.{◌≡◌, [], ◌∷◌, ◌++◌, Some, IfOk, OnOk, map, option_map, string_bytes, if◌then◌else◌};
 ghost use Rattle.tv_model.specs.Names.{list_name};
 ghost use Rattle.tv_model.specs.Listing.{Lists, list_text, quoted};
+ghost use Rattle.tv_directory.specs.Images.{KeepsDisk};
 ghost use Rattle.tv_directory.specs.View.{OnlyReads};
 ghost use Rattle.tv_managed.specs.Collecting.{names_of};
+ghost use Rattle.tv_managed.specs.Crashes.{SavesText};
 ghost use Rattle.tv_managed.specs.Managed.{AreManaged, SavesNames};
 ghost use Rattle.tv_managed.specs.Wrapping.{ListFaults};
 
@@ -51,6 +53,8 @@ pub(crate) fn save_managed_paths<D: Directory>(
 ) -> Result<(), IoError>
     ensures saves { SavesNames D.Directory directory.old directory.new
         (map string_bytes names.now.keys) result }
+    ensures images { D.tells_images → SavesText (D.disk directory.old) (D.disk directory.new)
+        (list_text (map string_bytes names.now.keys)) result }
 {
     let text = list_text(alloc, names)?;
     directory.atomic_write(MANAGED_FILEPATH, text.as_slice())?;
@@ -78,6 +82,7 @@ pub(crate) fn load_managed_paths<D: Directory>(
     ensures managed { IfOk result (λ names. AreManaged (names_of names.keys)) }
     ensures faults { ListFaults D.told (D.view directory.old) (D.view directory.new) result }
     ensures frame { OnlyReads D.told (D.view directory.old) (D.view directory.new) }
+    ensures images { D.tells_images → KeepsDisk (D.disk directory.old) (D.disk directory.new) }
 {
     match directory.atomic_read(MANAGED_FILEPATH) {
         Ok(bytes) => match read_names(alloc, bytes.as_slice())? {

@@ -1,8 +1,10 @@
 //! A directory that writes down the name of each file before it makes the file.
-ghost use Rattle.std.specs.Prelude.{List, ℕ, ◌≡◌, ◌≢◌, ◌<◌, ◌+◌, ◌^◌, [], ◌∷◌, true, length, Some, None, is_some, IfOk, IfErr, OnOk, OnErr, map, string_bytes};
+ghost use Rattle.std.specs.Prelude.{List, Option, ℕ, ◌≡◌, ◌≢◌, ◌<◌, ◌+◌, ◌^◌, [], ◌∷◌, true, length, Some, None, is_some, IfOk, IfErr, OnOk, OnErr, map, string_bytes};
 ghost use Rattle.std.specs.List.{list_all};
 ghost use Rattle.std.specs.BTreeSet.{insert_key};
 ghost use Rattle.tv_model.specs.Names.{byte_cmp, is_file_name, is_plain, is_undotted, list_name};
+ghost use Rattle.tv_model.specs.Disk.{Left};
+ghost use Rattle.tv_model.specs.Listed.{ListsEachFile, ListsItsFiles};
 ghost use Rattle.tv_model.specs.Listing.{Lists};
 ghost use Rattle.tv_model.specs.Collections.{without};
 ghost use Rattle.tv_model.specs.Checksum.{crc32};
@@ -11,8 +13,10 @@ ghost use Rattle.tv_checksum.specs.Crc32.{HasTaken};
 ghost use Rattle.tv_directory.specs.View.{Frame, Kept, OnlyReads};
 ghost use Rattle.tv_directory.specs.Calls.{AskFaults, ReadFaults, OpenFaults, IoFaults, DeviceFaults, Appends, HandsBack, Touches, Flushes, Notes};
 ghost use Rattle.tv_directory.specs.Device.{IsSilent};
+ghost use Rattle.tv_directory.specs.Images.{KeepsDisk, Settles};
 ghost use Rattle.tv_managed.specs.Writers.{HandsOn, IsNewManaged, IsSummed};
 ghost use Rattle.tv_managed.specs.Managed.{HasListed, OnlySaves, Registers, KeepsList, Creates, GivesFile, SealsBody};
+ghost use Rattle.tv_managed.specs.Crashes.{IsTracked, KeepsTrack, OrList, TouchesOnly, Tracks, SavesManaged, WrapsDisk};
 ghost use Rattle.tv_managed.specs.Frames.{KeepsNames, MakeFaults, OnlyAsks};
 ghost use Rattle.tv_managed.specs.Wrapping.{NotWrapped, Wraps};
 
@@ -29,6 +33,11 @@ use tv_model::Memory;
 
 /// A directory with the list of the files that it manages. To a contract it is the directory, and
 /// the managed names in their order.
+///
+/// The list is for crashes: a file that is on no list is never collected. Where the directory tells images, the
+/// clause `crash` of a call says that at each moment of it, whatever it answers, each undotted file that a
+/// crash may leave is on each list that it may leave. It holds from a wrapped directory on, whose list a crash
+/// leaves as it is (`wrap`: `tracks`). The clause `images` says which other states are possible then.
 pub struct ManagedDirectory<D: Directory> {
     pub(crate) alloc: Global,
     pub(crate) directory: D,
@@ -75,10 +84,15 @@ fn footer_bytes(alloc: Global, checksum: Crc32) -> Result<Vec<u8>, Memory>
 impl<D: Directory> ManagedDirectory<D> {
     /// A directory that manages the names for which its list stands, none where it has no list.
     /// `DataCorruption` comes where the file of the list is none. A refusal gives the directory back.
+    /// Where a crash leaves the list as it is, as after a directory sync that succeeded, and each file is on it,
+    /// the calls keep that so.
     pub fn wrap(alloc: Global, directory: D) -> Result<ManagedDirectory<D>, Refused<D>>
         ensures wraps { IfOk result (Wraps D.Directory directory) }
         ensures refused { IfErr result (λ refused.
             NotWrapped D.Directory directory refused.directory refused.error) }
+        ensures tracks { D.tells_images → IfOk result (WrapsDisk D.Directory directory) }
+        ensures images { D.tells_images → IfErr result (λ refused.
+            KeepsDisk (D.disk directory) (D.disk refused.directory)) }
     {
         let mut directory = directory;
         match load_managed_paths(alloc, &mut directory) {
@@ -111,11 +125,19 @@ impl<D: Directory> ManagedDirectory<D> {
         &self.managed
     }
 
+    /// While each file is on every list that a crash may leave, each image of that moment lists its files.
+    pub fn images_list_their_files(&self)
+        ensures { (x : ℕ) (image : List ℕ → Option (List ℕ))
+            → ListsEachFile ((D.disk self.now.0).possible x)
+            → Left (D.disk self.now.0) x image → ListsItsFiles image }
+    {}
+
     // Adds a name without a dot in front to the list, where it isn't there yet.
     fn register_file_as_managed(&mut self, name: &str) -> Result<(), IoError>
         requires { is_file_name name.now ≡ true }
         ensures list { HasListed D.Directory self.old self.new name.now result }
         ensures faults { IoFaults (D.view self.old.0) (D.view self.new.0) result }
+        ensures images { D.tells_images → Tracks D.Directory self.old self.new }
     {
         if !is_managed(name) {
             return Ok(());
@@ -129,6 +151,7 @@ impl<D: Directory> ManagedDirectory<D> {
         requires undotted { is_undotted name.now ≡ true }
         ensures list { HasListed D.Directory self.old self.new name.now result }
         ensures faults { IoFaults (D.view self.old.0) (D.view self.new.0) result }
+        ensures images { D.tells_images → Tracks D.Directory self.old self.new }
     {
         if self.managed.contains(name) {
             return Ok(());
@@ -170,6 +193,7 @@ impl<D: Directory> ManagedDirectory<D> {
         ensures lists { D.told.content
             → OnOk result (Lists ((D.view self.new.0).reads list_name) self.new.1) }
         ensures only { OnlySaves D.Directory self.old self.new result }
+        ensures images { D.tells_images → SavesManaged D.Directory self.old self.new result }
     {
         save_managed_paths(self.alloc, &mut self.directory, &self.managed)
     }
@@ -183,6 +207,8 @@ impl<D: Directory> ManagedDirectory<D> {
             (λ found. found ≡ is_some ((D.view self.old.0).reads name.now)) }
         ensures faults { AskFaults (D.view self.old.0) (D.view self.new.0) name.now result }
         ensures frame { KeepsNames (OnlyReads D.told) D.view self.old self.new }
+        ensures images { D.tells_images
+            → KeepsDisk (D.disk self.old.0) (D.disk self.new.0) }
     {
         self.directory.exists(name)
     }
@@ -198,6 +224,10 @@ impl<D: Directory> ManagedDirectory<D> {
         ensures list { KeepsList D.Directory self.old self.new result }
         ensures faults { OpenFaults D.told (D.view self.old.0) (D.view self.new.0) name.now result }
         ensures frame { Kept D.told (D.view self.old.0) (D.view self.new.0) }
+        ensures crash { D.tells_images → IsTracked D.Directory self.old
+            → KeepsTrack D.Directory self.old self.new }
+        ensures images { D.tells_images
+            → TouchesOnly (OrList name.now) (D.disk self.old.0) (D.disk self.new.0) }
     {
         self.refuse_existing(name)?;
         self.list(name)?;
@@ -246,6 +276,7 @@ impl<D: Directory> ManagedDirectory<D> {
         requires { is_file_name name.now ≡ true }
         ensures list { HasListed D.Directory self.old self.new name.now result }
         ensures faults { MakeFaults (D.view self.old.0) (D.view self.new.0) name.now result }
+        ensures images { D.tells_images → Tracks D.Directory self.old self.new }
     {
         let filepath = String::from_str(self.alloc, name)?;
         match self.register_file_as_managed(name) {
@@ -266,6 +297,10 @@ impl<D: Directory> ManagedDirectory<D> {
             writer.old.writer }
         ensures faults { IoFaults (D.view self.old.0) (D.view self.new.0) result }
         ensures frame { KeepsNames (Kept D.told) D.view self.old self.new }
+        ensures crash { D.tells_images → IsTracked D.Directory self.old
+            → KeepsTrack D.Directory self.old self.new }
+        ensures images { D.tells_images → TouchesOnly (λ n. n ≡ (D.state_of writer.old.writer).name)
+            (D.disk self.old.0) (D.disk self.new.0) }
     {
         self.directory.write(&mut writer.writer, bytes)?;
         writer.checksum.update(bytes);
@@ -284,6 +319,10 @@ impl<D: Directory> ManagedDirectory<D> {
             writer.old.writer writer.new.writer result }
         ensures faults { IoFaults (D.view self.old.0) (D.view self.new.0) result }
         ensures frame { KeepsNames (Kept D.told) D.view self.old self.new }
+        ensures crash { D.tells_images → (D.state_of writer.old.writer).name ≢ list_name
+            → IsTracked D.Directory self.old → KeepsTrack D.Directory self.old self.new }
+        ensures images { D.tells_images → TouchesOnly (λ n. n ≡ (D.state_of writer.old.writer).name)
+            (D.disk self.old.0) (D.disk self.new.0) }
     {
         self.directory.flush(&mut writer.writer)
     }
@@ -295,6 +334,10 @@ impl<D: Directory> ManagedDirectory<D> {
         ensures seals { SealsBody D.Directory self.old.0 self.new.0 writer result }
         ensures faults { IoFaults (D.view self.old.0) (D.view self.new.0) result }
         ensures frame { KeepsNames (Kept D.told) D.view self.old self.new }
+        ensures crash { D.tells_images → (D.state_of writer.writer).name ≢ list_name
+            → IsTracked D.Directory self.old → KeepsTrack D.Directory self.old self.new }
+        ensures images { D.tells_images → TouchesOnly (λ n. n ≡ (D.state_of writer.writer).name)
+            (D.disk self.old.0) (D.disk self.new.0) }
     {
         let ManagedWriter {
             mut writer,
@@ -312,6 +355,8 @@ impl<D: Directory> ManagedDirectory<D> {
             (λ bytes. (D.view self.old.0).reads name.now ≡ Some bytes.items) }
         ensures faults { ReadFaults D.told (D.view self.old.0) (D.view self.new.0) name.now result }
         ensures frame { KeepsNames (OnlyReads D.told) D.view self.old self.new }
+        ensures images { D.tells_images
+            → KeepsDisk (D.disk self.old.0) (D.disk self.new.0) }
     {
         self.directory.atomic_read(name)
     }
@@ -326,6 +371,10 @@ impl<D: Directory> ManagedDirectory<D> {
         ensures notes { Notes (D.view self.old.0) (D.view self.new.0) name.now result }
         ensures faults { IoFaults (D.view self.old.0) (D.view self.new.0) result }
         ensures frame { Frame D.told (D.view self.old.0) (D.view self.new.0) }
+        ensures crash { D.tells_images → IsTracked D.Directory self.old
+            → KeepsTrack D.Directory self.old self.new }
+        ensures images { D.tells_images
+            → TouchesOnly (OrList name.now) (D.disk self.old.0) (D.disk self.new.0) }
     {
         self.register_file_as_managed(name)?;
         self.directory.atomic_write(name, bytes)
@@ -336,6 +385,10 @@ impl<D: Directory> ManagedDirectory<D> {
         ensures faults { DeviceFaults (D.view self.old.0) (D.view self.new.0) result }
         ensures silent { IfErr result IsSilent }
         ensures frame { KeepsNames (OnlyReads D.told) D.view self.old self.new }
+        ensures crash { D.tells_images → IsTracked D.Directory self.old
+            → KeepsTrack D.Directory self.old self.new }
+        ensures images { D.tells_images
+            → Settles (D.disk self.old.0) (D.disk self.new.0) result }
     {
         self.directory.sync_directory()
     }

@@ -3,6 +3,7 @@ ghost use Rattle.std.specs.Prelude.{◌≡◌, ◌==◌, List, ℕ, true, IfOk, 
 ghost use Rattle.tv_model.specs.Checksum.{crc32};
 ghost use Rattle.tv_model.specs.Names.{is_file_name};
 ghost use Rattle.tv_framing.specs.Footers.{IsFramed, Refuses};
+ghost use Rattle.tv_directory.specs.Images.{KeepsDisk};
 ghost use Rattle.tv_directory.specs.View.{OnlyReads};
 ghost use Rattle.tv_managed.specs.Frames.{KeepsNames, OnlyAsks};
 ghost use Rattle.tv_managed.specs.Reading.{BodyFaults, FooterFaults, HasNoFooter, NamesFile, OpenBodyCause, ReadsBody, ReadsSuch, TellsChecksum};
@@ -28,6 +29,8 @@ impl<D: Directory> ManagedDirectory<D> {
             → IfOk result (λ found. found ≡ body) }
         ensures faults { BodyFaults D.Directory self.old.0 self.new.0 name.now result }
         ensures frame { KeepsNames (OnlyReads D.told) D.view self.old self.new }
+        ensures images { D.tells_images
+            → KeepsDisk (D.disk self.old.0) (D.disk self.new.0) }
     {
         let (footer, body) = self.framed(name)?;
         footer.is_compatible()?;
@@ -44,6 +47,8 @@ impl<D: Directory> ManagedDirectory<D> {
             → IfOk result (λ found. found ≡ body) }
         ensures faults { BodyFaults D.Directory self.old.0 self.new.0 name.now result }
         ensures frame { KeepsNames (OnlyReads D.told) D.view self.old self.new }
+        ensures images { D.tells_images
+            → KeepsDisk (D.disk self.old.0) (D.disk self.new.0) }
     {
         let body = self.open_read(name)?;
         bytes_of(body)
@@ -58,6 +63,8 @@ impl<D: Directory> ManagedDirectory<D> {
             (λ bytes. TellsChecksum bytes is_right)) }
         ensures faults { FooterFaults D.Directory self.old.0 self.new.0 name.now result }
         ensures frame { KeepsNames (OnlyReads D.told) D.view self.old self.new }
+        ensures images { D.tells_images
+            → KeepsDisk (D.disk self.old.0) (D.disk self.new.0) }
     {
         let (footer, body) = self.framed(name)?;
         is_right(footer.crc(), body)

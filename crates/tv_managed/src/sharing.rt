@@ -1,6 +1,7 @@
 //! Locks of a managed directory, and those who watch it.
 ghost use Rattle.std.specs.Prelude.{◌≡◌, true, IfOk, OnErr};
 ghost use Rattle.tv_model.specs.Names.{is_file_name};
+ghost use Rattle.tv_directory.specs.Images.{KeepsDisk};
 ghost use Rattle.tv_directory.specs.View.{OnlyLocks, OnlyWatches};
 ghost use Rattle.tv_directory.specs.Calls.{Acquires, Frees, LockFaults};
 ghost use Rattle.tv_directory.specs.Watch.{IsNewWatcher, delivered, unsubscribed};
@@ -22,6 +23,8 @@ impl<D: Directory> ManagedDirectory<D> {
         ensures faults { LockFaults D.told (D.view self.old.0) (D.view self.new.0)
             lock.now.filepath.now result }
         ensures frame { KeepsNames (OnlyLocks D.told) D.view self.old self.new }
+        ensures images { D.tells_images
+            → KeepsDisk (D.disk self.old.0) (D.disk self.new.0) }
     {
         self.directory.acquire_lock(lock)
     }
@@ -29,6 +32,8 @@ impl<D: Directory> ManagedDirectory<D> {
     /// Frees the lock of this token's name. Takes no memory.
     pub fn release(&mut self, lock: DirectoryLock)
         ensures frees { KeepsNames (Frees D.told lock) D.view self.old self.new }
+        ensures images { D.tells_images
+            → KeepsDisk (D.disk self.old.0) (D.disk self.new.0) }
     {
         self.directory.release(lock);
     }
@@ -40,6 +45,8 @@ impl<D: Directory> ManagedDirectory<D> {
             (D.Callback.calls callback)) }
         ensures err { OnErr result ((D.view self.new.0).watched ≡ (D.view self.old.0).watched) }
         ensures frame { KeepsNames (OnlyWatches D.told) D.view self.old self.new }
+        ensures images { D.tells_images
+            → KeepsDisk (D.disk self.old.0) (D.disk self.new.0) }
     {
         self.directory.watch(callback)
     }
@@ -49,6 +56,8 @@ impl<D: Directory> ManagedDirectory<D> {
         ensures left { (D.view self.new.0).watched
             ≡ unsubscribed handle (D.view self.old.0).watched }
         ensures frame { KeepsNames (OnlyWatches D.told) D.view self.old self.new }
+        ensures images { D.tells_images
+            → KeepsDisk (D.disk self.old.0) (D.disk self.new.0) }
     {
         self.directory.unwatch(handle);
     }
@@ -59,6 +68,8 @@ impl<D: Directory> ManagedDirectory<D> {
         ensures answer { result ≡ (D.view self.old.0).watched.notice }
         ensures called { (D.view self.new.0).watched ≡ delivered (D.view self.old.0).watched }
         ensures frame { KeepsNames (OnlyWatches D.told) D.view self.old self.new }
+        ensures images { D.tells_images
+            → KeepsDisk (D.disk self.old.0) (D.disk self.new.0) }
     {
         self.directory.deliver()
     }

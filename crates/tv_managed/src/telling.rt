@@ -1,6 +1,7 @@
 //! Lines that are told on to the directory's owner.
 ghost use Rattle.std.specs.Prelude.{◌≡◌, ◌<◌, true, length};
 ghost use Rattle.tv_model.specs.Lines.{has_no_feed};
+ghost use Rattle.tv_directory.specs.Images.{KeepsDisk};
 ghost use Rattle.tv_directory.specs.View.{OnlyTells};
 ghost use Rattle.tv_directory.specs.Calls.{DeviceFaults, MakesRoom, TellsLineTo};
 ghost use Rattle.tv_managed.specs.Frames.{KeepsNames};
@@ -14,6 +15,8 @@ impl<O: Outside> ManagedDirectory<O> {
     /// Makes room for a line of this length.
     pub fn ready(&mut self, len: usize) -> Result<(), Memory>
         ensures room { KeepsNames (MakesRoom O.told len result) O.view self.old self.new }
+        ensures images { O.tells_images
+            → KeepsDisk (O.disk self.old.0) (O.disk self.new.0) }
     {
         self.directory.ready(len)
     }
@@ -25,6 +28,8 @@ impl<O: Outside> ManagedDirectory<O> {
         ensures tells { TellsLineTo O.told (O.view self.old.0) (O.view self.new.0) line.now result }
         ensures faults { DeviceFaults (O.view self.old.0) (O.view self.new.0) result }
         ensures frame { KeepsNames (OnlyTells O.told) O.view self.old self.new }
+        ensures images { O.tells_images
+            → KeepsDisk (O.disk self.old.0) (O.disk self.new.0) }
     {
         self.directory.tell(line)
     }

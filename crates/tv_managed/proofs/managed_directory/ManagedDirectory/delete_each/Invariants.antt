@@ -1,5 +1,6 @@
-use Rattle.std.proofs.Common.{◌≡◌, ◌++◌}
+use Rattle.std.proofs.Common.{◌≡◌, ◌++◌, Ok}
 use Rattle.std.specs.Vec.Iter.{into_iter_items}
+use Rattle.tv_managed.specs.Crashes.{TriesStates}
 use Rattle.tv_managed.specs.Collecting.{OnlyDeletes, Tried, names_of}
 use Rattle.tv_managed.proofs.managed_directory.ManagedDirectory.delete_each.Given as goal
 
@@ -10,4 +11,5 @@ invariant-loop-name g l = record {
   split : names_of l.fn.names.items ≡ names_of l.yielded ++ names_of (into_iter_items l.name-iterator);
   tried : Tried g.D.Directory (names_of l.yielded) l.fn.self l.self (names_of l.tried.deleted_files.items) (names_of l.tried.failed_to_delete_files.items);
   only : OnlyDeletes g.D.Directory l.fn.self l.self;
+  images : g.D.Directory.tells_images → TriesStates {E = Unit {0}} (names_of l.fn.names.items) (g.D.Directory.disk l.fn.self.0) (g.D.Directory.disk l.self.0) (Ok l.tried);
 }

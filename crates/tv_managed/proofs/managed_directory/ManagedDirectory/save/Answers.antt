@@ -1,6 +1,7 @@
-use Rattle.std.proofs.Common.{rules, ap, ◌∙◌, ⊎_elim, inl, inr, refl}
+use Rattle.std.proofs.Common.{rules, ap, subst, map, string_bytes, ◌∙◌, ⊎_elim, inl, inr, refl}
 use Rattle.std.proofs.lemmas.Result.{on_ok_weaker}
 use Rattle.tv_model.specs.Names.{list_name}
+use Rattle.tv_managed.specs.Crashes.{SavesManaged}
 use Rattle.tv_managed.proofs.SetsOfTexts.{list_of}
 use Rattle.tv_managed.proofs.managed_directory.ManagedDirectory.save.Goals as goal
 
@@ -18,3 +19,9 @@ returns-clause-only g c = record {
   faults = search rules;
   frame = search rules;
 }
+
+pub returns-clause-images : goal.returns-clause-images
+returns-clause-images g c = λ tells. subst (λ v. SavesManaged g.D.Directory v (c.save_managed_paths.new.directory, map string_bytes c.self.inside.managed.keys) c.save_managed_paths.result) c.self.view_is (record {
+  saves = c.save_managed_paths.ensures.images tells;
+  listed = list_of c.self.inside.managed.keys _ refl c.self.invariant;
+})

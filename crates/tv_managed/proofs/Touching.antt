@@ -1,0 +1,129 @@
+-- What each step leaves alone of the files on a disk.
+use Rattle.std.proofs.Common.{◌≡◌, ◌≢◌, ◌≤◌, ◌<◌, ⊎_elim, ℕ, Bool, true, false, List, refl, sym, subst, ◌∙◌, inl, inr, arith, Result, Ok, Err}
+use Rattle.std.proofs.lemmas.Bool.{cases_lt}
+use Rattle.tv_model.specs.Disk.{DiskState, Absent, Unsealed, Sealed, IsThere, Possible, Disk, possible_now, Within, MayAdd, Elapses, OnlyTouches, OnlyMoves}
+use Rattle.tv_model.specs.Names.{list_name}
+use Rattle.tv_model.proofs.DiskLaws.{HoldsOfFewer, same_then, started, goes_on, goes_on_run}
+use Rattle.tv_base.specs.declared.io.IoError.{IoError}
+use Rattle.tv_base.specs.declared.io.IoError.TheVariants as io
+use Rattle.tv_base.specs.declared.open_errors.OpenWriteError.TheVariants as write
+use Rattle.tv_base.specs.declared.open_errors.OpenWriteError.{OpenWriteError}
+use Rattle.tv_directory.specs.Images.{KeepsDisk, SameStates, KeepsOtherStates, GivesState, OpensState, MayOpen, WritesState}
+use Rattle.tv_directory.specs.declared.directory.Directory.{Ghosts}
+use Rattle.tv_managed.specs.Crashes.{IsCovered, IsTracked, KeepsTrack, SavesText, TouchesOnly}
+use Rattle.tv_managed.proofs.Tracking.{at_end, covered_file, covered_within, track_step, weaker}
+
+pub fewer_added : (possible : Possible) (name : List ℕ) (state : DiskState) → HoldsOfFewer (λ now. MayAdd possible now name state)
+fewer_added possible name state old new within was = record { each = λ n s is. was.each n s (within.each n s is) }
+
+pub fewer_touched : (possible : Possible) (touched : List ℕ → Type 0) → HoldsOfFewer (OnlyTouches touched possible)
+fewer_touched possible touched old new within was = record { each = λ n other s is. was.each n other s (within.each n s is) }
+
+-- nothing is touched yet
+pub touches_same : (disk : Disk) (touched : List ℕ → Type 0) → TouchesOnly touched disk disk
+touches_same disk touched = record { moments = started _ (fewer_touched _ touched) disk (record { each = λ n other s is. is }); now = record { each = λ n other. refl } }
+
+-- one call
+touches_step : {old new : Disk} {touched : List ℕ → Type 0} → Elapses old new → OnlyTouches touched (possible_now old) (possible_now new) → OnlyMoves touched old new → TouchesOnly touched old new
+touches_step {old} {touched = touched} time states now = record { moments = goes_on _ (fewer_touched (possible_now old) touched) (touches_same old touched).moments time states; now = now }
+
+-- one call gives a name one state more
+pub touches_file : {old new : Disk} {name : List ℕ} {state : DiskState} → Elapses old new → MayAdd (possible_now old) (possible_now new) name state → KeepsOtherStates old new name → TouchesOnly (λ n. n ≡ name) old new
+touches_file time adds others =
+    touches_step time (record { each = λ n other s is. ⊎_elim (λ before. before) (λ p. absurd (other p.0)) (adds.each n s is) }) (record { each = others })
+
+-- a call after which no state is possible besides, and each name stands as it stood
+pub touches_within : {old new : Disk} (touched : List ℕ → Type 0) → Elapses old new → Within (possible_now old) (possible_now new) → SameStates old new → TouchesOnly touched old new
+touches_within touched time within same = touches_step time (record { each = λ n other s is. within.each n s is }) (record { each = λ n other. same n })
+
+-- a call that only reads
+pub touches_none : {old new : Disk} (touched : List ℕ → Type 0) → KeepsDisk old new → TouchesOnly touched old new
+touches_none touched keeps = touches_within touched keeps.time keeps.states.possible.no_more keeps.states.now
+
+-- one run, and another
+pub touches_then : {old mid new : Disk} {touched : List ℕ → Type 0} → TouchesOnly touched old mid → TouchesOnly touched mid new → TouchesOnly touched old new
+touches_then {old} {mid} {new} {touched} first second = record {
+  moments = goes_on_run _ (fewer_touched (possible_now old) touched) first.moments
+      (weaker second.moments (λ p states. record { each = λ n other s is. (at_end first.moments).each n other s (states.each n other s is) }));
+  now = record { each = λ n other. second.now.each n other ∙ first.now.each n other };
+}
+
+-- more names may be touched
+pub touches_more : {old new : Disk} {touched more : List ℕ → Type 0} → ((n : List ℕ) → touched n → more n) → TouchesOnly touched old new → TouchesOnly more old new
+touches_more among touches = record {
+  moments = weaker touches.moments (λ p states. record { each = λ n other. states.each n (λ it. other (among n it)) });
+  now = record { each = λ n other. touches.now.each n (λ it. other (among n it)) };
+}
+
+-- the list was saved
+pub touches_list : {A : Type 0} {old new : Disk} {text : List ℕ} {result : Result A IoError} → SavesText old new text result → TouchesOnly (λ n. n ≡ list_name) old new
+touches_list saves = record {
+  moments = weaker saves.moments (λ p adds. record { each = λ n other s is. ⊎_elim (λ before. before) (λ q. absurd (other q.0)) (adds.each n s is) });
+  now = record { each = saves.others };
+}
+
+-- two calls that only read
+pub reads_then : {old mid new : Disk} → KeepsDisk old mid → KeepsDisk mid new → KeepsDisk old new
+reads_then {old} {mid} {new} first second = record {
+  states = record { now = λ n. second.states.now n ∙ first.states.now n; possible = same_then first.states.possible second.states.possible };
+  time = record {
+    later = omega (arith, first.time.later, second.time.later);
+    past = λ x le. same_then (first.time.past x le) (second.time.past x (omega (arith, le, first.time.later)));
+    inside = λ x from to. ⊎_elim
+        (λ (after : mid.moment < x). ⊎_elim (λ before. inl (same_then first.states.possible before)) (λ behind. inr behind) (second.time.inside x after to))
+        (λ (upto : x ≤ mid.moment). ⊎_elim
+        (λ before. inl (same_then before (second.time.past x upto)))
+        (λ behind. inl (same_then first.states.possible (same_then behind (second.time.past x upto))))
+        (first.time.inside x from upto))
+        (cases_lt mid.moment x);
+  };
+}
+
+-- ---- names that a call doesn't touch, whatever it answers
+
+pub others_given : {A : Type 0} {old new : Disk} {name : List ℕ} {state : DiskState} (result : Result A IoError) → GivesState old new name state result → KeepsOtherStates old new name
+others_given (Ok x) gives n ne = gives.ok.others n ne
+others_given (Err (io.Fault fault)) gives n ne = gives.err.1.others n ne
+others_given (Err io.Memory) gives n ne = gives.err.now n
+
+opened_or_not : {old new : Disk} {name : List ℕ} (was : DiskState) → old.now name ≡ was → MayOpen old new name → KeepsOtherStates old new name
+opened_or_not Absent is opens n ne = (opens.absent is).others n ne
+opened_or_not Unsealed is opens n ne = (opens.there (subst IsThere (sym is) tt)).now n
+opened_or_not (Sealed bytes) is opens n ne = (opens.there (subst IsThere (sym is) tt)).now n
+
+pub others_opened : {A : Type 0} {old new : Disk} {name : List ℕ} (result : Result A OpenWriteError) → OpensState old new name result → KeepsOtherStates old new name
+others_opened (Ok x) opens n ne = opens.ok.1.others n ne
+others_opened (Err (write.FileAlreadyExists path)) opens n ne = opens.err.1.1.now n
+others_opened (Err (write.Leaving path)) opens n ne = absurd opens.err
+others_opened {old = old} {name = name} (Err (write.IoError fault path)) opens n ne = opened_or_not (old.now name) refl opens.err.2 n ne
+others_opened (Err write.Memory) opens n ne = opens.err.now n
+
+pub others_written : {A : Type 0} (lives : Bool) {old new : Disk} {name : List ℕ} {state : DiskState} {result : Result A IoError} → WritesState lives old new name state result → KeepsOtherStates old new name
+others_written true {result = result} writes n ne = others_given result (writes.gives refl) n ne
+others_written false writes n ne = (writes.gone refl).states.now n
+
+pub time_written : {A : Type 0} (lives : Bool) {old new : Disk} {name : List ℕ} {state : DiskState} {result : Result A IoError} → WritesState lives old new name state result → Elapses old new
+time_written true writes = (writes.gives refl).time
+time_written false writes = (writes.gone refl).time
+
+added_written : {A : Type 0} (lives : Bool) {old new : Disk} {name : List ℕ} {state : DiskState} {result : Result A IoError} → WritesState lives old new name state result → MayAdd (possible_now old) (possible_now new) name state
+added_written true writes = (writes.gives refl).no_more
+added_written false writes = record { each = λ n s is. inl ((writes.gone refl).states.possible.no_more.each n s is) }
+
+pub touches_written : {A : Type 0} (lives : Bool) {old new : Disk} {name : List ℕ} {state : DiskState} {result : Result A IoError} → WritesState lives old new name state result → TouchesOnly (λ n. n ≡ name) old new
+touches_written lives writes = touches_file (time_written lives writes) (added_written lives writes) (others_written lives writes)
+
+-- a file that its writer's call finds is one of the names
+pub covered_written : {A : Type 0} (lives : Bool) {old new : Disk} {names : List (List ℕ)} {name : List ℕ} {state : DiskState} {result : Result A IoError} → WritesState lives old new name state result → ((n : List ℕ) → possible_now old n (old.now n))
+    → name ≢ list_name → IsCovered (possible_now old) names → IsCovered (possible_now new) names
+covered_written true {old = old} {name = name} writes stands other was = covered_file (writes.gives refl).no_more other (λ undotted. was.covers name undotted (old.now name) (stands name) (writes.there refl)) was
+covered_written false writes stands other was = covered_within (writes.gone refl).states.possible.no_more was
+
+-- the call keeps track
+pub track_written : {A D W C : Type 0} (g : Ghosts D W C) (lives : Bool) {old : D × List (List ℕ)} {new : D} {name : List ℕ} {state : DiskState} {result : Result A IoError} → WritesState lives (g.disk old.0) (g.disk new) name state result
+    → ((n : List ℕ) → possible_now (g.disk old.0) n ((g.disk old.0).now n)) → name ≢ list_name → IsTracked g old → KeepsTrack g old (new, old.1)
+track_written g lives writes stands other was = track_step g (time_written lives writes) was (covered_written lives writes stands other was)
+
+-- what a call touches that begins with the struct taken apart
+pub touches_from : {D W C : Type 0} (g : Ghosts D W C) {old inside : D × List (List ℕ)} {new : D} {touched : List ℕ → Type 0} → inside ≡ old → TouchesOnly touched (g.disk inside.0) (g.disk new) → TouchesOnly touched (g.disk old.0) (g.disk new)
+touches_from g {new = new} {touched = touched} same touches = subst (λ v. TouchesOnly touched (g.disk v.0) (g.disk new)) same touches
