@@ -2,8 +2,8 @@
 use Rattle.std.proofs.Common.{◌≡◌, ◌⊎◌, inl, inr, ℕ, List, Option, Some, None, Result, Ok, Err, sym, ap, subst, ◌∙◌, true, true≢false}
 use Rattle.std.specs.Prelude.{IsErrAnd, IsSome, OnErr, OnOk}
 use Rattle.tv_directory.specs.declared.directory.Directory.{Ghosts}
-use Rattle.tv_managed.specs.Managed.{Covers, IsOnList, KeepsList, Registers, registered}
-use Rattle.tv_model.specs.Listing.{Lists}
+use Rattle.tv_managed.specs.Managed.{Covers, KeepsList, Registers, registered}
+use Rattle.tv_model.specs.Listing.{IsOnList, Lists}
 use Rattle.tv_model.specs.Names.{has, list_name, meta_name}
 use Rattle.tv_index.specs.Saving.{ManagesMeta}
 
