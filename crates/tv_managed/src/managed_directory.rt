@@ -3,12 +3,12 @@ ghost use Rattle.std.specs.Prelude.{List, Option, ℕ, ◌≡◌, ◌≢◌, ◌
 ghost use Rattle.std.specs.List.{list_all};
 ghost use Rattle.std.specs.BTreeSet.{insert_key};
 ghost use Rattle.tv_model.specs.Names.{byte_cmp, is_file_name, is_plain, is_undotted, list_name};
-ghost use Rattle.tv_model.specs.Disk.{Left};
+ghost use Rattle.tv_model.specs.Disk.{Left, Sealed, Unsealed};
 ghost use Rattle.tv_model.specs.Listed.{ListsEachFile, ListsItsFiles};
 ghost use Rattle.tv_model.specs.Listing.{Lists};
 ghost use Rattle.tv_model.specs.Collections.{without};
 ghost use Rattle.tv_model.specs.Checksum.{crc32};
-ghost use Rattle.tv_model.specs.Footer.{footer};
+ghost use Rattle.tv_model.specs.Footer.{footer, sealed};
 ghost use Rattle.tv_checksum.specs.Crc32.{HasTaken};
 ghost use Rattle.tv_directory.specs.View.{Frame, Kept, OnlyReads};
 ghost use Rattle.tv_directory.specs.Calls.{AskFaults, ReadFaults, OpenFaults, IoFaults, DeviceFaults, Appends, HandsBack, Touches, Flushes, Notes};
@@ -228,6 +228,8 @@ impl<D: Directory> ManagedDirectory<D> {
             → KeepsTrack D.Directory self.old self.new }
         ensures images { D.tells_images
             → TouchesOnly (OrList name.now) (D.disk self.old.0) (D.disk self.new.0) }
+        ensures stands { D.tells_images
+            → OnOk result ((D.disk self.new.0).now name.now ≡ Unsealed) }
     {
         self.refuse_existing(name)?;
         self.list(name)?;
@@ -338,6 +340,10 @@ impl<D: Directory> ManagedDirectory<D> {
             → IsTracked D.Directory self.old → KeepsTrack D.Directory self.old self.new }
         ensures images { D.tells_images → TouchesOnly (λ n. n ≡ (D.state_of writer.writer).name)
             (D.disk self.old.0) (D.disk self.new.0) }
+        ensures stands { D.tells_images → (D.view self.old.0).lives writer.writer ≡ true
+            → IsSummed D.state_of writer → OnOk result
+            ((D.disk self.new.0).now (D.state_of writer.writer).name
+            ≡ Sealed (sealed (D.state_of writer.writer).written)) }
     {
         let ManagedWriter {
             mut writer,
@@ -375,6 +381,8 @@ impl<D: Directory> ManagedDirectory<D> {
             → KeepsTrack D.Directory self.old self.new }
         ensures images { D.tells_images
             → TouchesOnly (OrList name.now) (D.disk self.old.0) (D.disk self.new.0) }
+        ensures stands { D.tells_images
+            → OnOk result ((D.disk self.new.0).now name.now ≡ Sealed bytes.now) }
     {
         self.register_file_as_managed(name)?;
         self.directory.atomic_write(name, bytes)
