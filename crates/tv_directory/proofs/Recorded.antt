@@ -119,7 +119,7 @@ module _ (calls : List Call) (name : List ℕ) (before : Option Content) (old ne
     no_more = record {
       each = λ n s is. by_name name n
           (λ is_it eq. ⊎_elim inl (λ e. inr (sym eq, sym e ∙ ap new (sym eq) ∙ stands.changed))
-            (Contains-push_cases _ (new n) s (subst (λ (l : List DiskState). Contains l s) (this_name n is_it eq) is)))
+          (Contains-push_cases _ (new n) s (subst (λ (l : List DiskState). Contains l s) (this_name n is_it eq) is)))
           (λ isnt other. inl (subst (λ (l : List DiskState). Contains l s) (other_name n isnt other) is));
     };
     time = elapses calls call old new found;
@@ -167,9 +167,9 @@ module _ (calls : List Call) (name : List ℕ) (before after : Option Content) (
     no_more = record {
       each = λ n s is. by_name name n
           (λ is_it eq. ⊎_elim
-            (λ front. ⊎_elim inl (λ e. inr (sym eq, sym e)) (Contains-push_cases _ (state_of after) s front))
-            (λ e. inl (subst (λ (t : DiskState). Contains (states_at calls (length calls) n (old n)) t) e (stands_now calls n (old n))))
-            (Contains-push_cases _ (old n) s (subst (λ (l : List DiskState). Contains l s) (this_too n is_it eq) is)))
+          (λ front. ⊎_elim inl (λ e. inr (sym eq, sym e)) (Contains-push_cases _ (state_of after) s front))
+          (λ e. inl (subst (λ (t : DiskState). Contains (states_at calls (length calls) n (old n)) t) e (stands_now calls n (old n))))
+          (Contains-push_cases _ (old n) s (subst (λ (l : List DiskState). Contains l s) (this_too n is_it eq) is)))
           (λ isnt other. inl (subst (λ (l : List DiskState). Contains l s) (others_too n isnt) is));
     };
     time = elapses calls attempt old old (λ n. refl);
@@ -272,7 +272,6 @@ room_by true true prepared goes_on = omega arith
 -- the room for a line doesn't shrink
 pub room_kept : (old new : RecordState) (prepared : ℕ) → (has_line_room old ≡ true → has_line_room new ≡ true) → (if has_line_room old then prepared else 0) ≤ (if has_line_room new then prepared else 0)
 room_kept old new prepared goes_on = room_by (has_line_room old) (has_line_room new) prepared goes_on
-
 
 -- the same, of a directory that hadn't changed before
 pub kept_by : (calls now : List Call) (old mid new : States) → mid ≡ old → now ≡ calls → ((n : List ℕ) → new n ≡ mid n) → KeepsDisk (disk_by calls old) (disk_by now new)

@@ -14,3 +14,4 @@ pub mod Desk
 pub mod Images
 pub mod Record
 pub mod RecordLaws
+pub mod Crashes

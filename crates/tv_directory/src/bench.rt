@@ -1,12 +1,13 @@
 //! A directory in memory, for tests.
 ghost use Rattle.std.specs.Prelude.{◌≡◌, ℕ, List, [], true, string_bytes, IfOk};
 ghost use Rattle.std.specs.List.{AllByRecursion};
+ghost use Rattle.tv_model.specs.Files.{Reads, Same};
 ghost use Rattle.tv_model.specs.Index.{IsSoundDirectory, IsSoundImage};
 ghost use Rattle.tv_model.specs.Names.{is_file_name};
 ghost use Rattle.tv_base.specs.Causes.{OpenReadCause};
-ghost use Rattle.tv_directory.specs.Bench.{device_in, disk_in, IsAtRest, IsNewBench, Untouched};
+ghost use Rattle.tv_directory.specs.Bench.{device_in, disk_in, view_in, IsAtRest, IsNewBench, Untouched};
 ghost use Rattle.tv_directory.specs.Device.{after_fault};
-ghost use Rattle.tv_directory.specs.StoredFiles.{named, last_of};
+ghost use Rattle.tv_directory.specs.StoredFiles.{AreSealed, named, last_of, reads_of};
 ghost use Rattle.tv_directory.specs.Telling.{bytes_heard};
 
 use crate::bench_device::Device;
@@ -46,13 +47,25 @@ impl<C: WatchCall> Bench<C> {
         ensures device { IfOk result (λ bench.
             device_in bench ≡ record { fail_at = []; call = 0; faults = 0; refusals = 0 }) }
     {
-        Ok(Bench {
+        Ok(Bench::with_files(alloc, Files::sealed(alloc, files)?))
+    }
+
+    // The same of files that are sealed.
+    pub(crate) fn with_files(alloc: Global, files: Files) -> Bench<C>
+        ensures new { (image : Reads) → Same image (reads_of files.map.entries)
+            → IsNewBench image (view_in C.calls result) }
+        ensures rests { (image : Reads) → Same image (reads_of files.map.entries)
+            → AreSealed files.map.entries → IsAtRest image (disk_in result) }
+        ensures device { device_in result
+            ≡ record { fail_at = []; call = 0; faults = 0; refusals = 0 } }
+    {
+        Bench {
             alloc,
-            ram: RamDirectory::with_files(alloc, Files::sealed(alloc, files)?),
+            ram: RamDirectory::with_files(alloc, files),
             told: Told::new(alloc),
             recorded: Record::new(alloc),
             device: Device::new(alloc),
-        })
+        }
     }
 
     /// From now on the device refuses exactly the calls with these numbers. The calls that can answer

@@ -51,9 +51,9 @@ impl<C: WatchCall> Directory for Bench<C> {
     ghost tells_more = { λ told. told };
 
     ghost stands = { λ bench told. record {
-        clock = refl;
-        possible = λ n. stands_now bench.recorded.calls n (ram_states bench.ram n);
-        reads = λ n. reads_now bench.ram.files.map.entries n;
+      clock = refl;
+      possible = λ n. stands_now bench.recorded.calls n (ram_states bench.ram n);
+      reads = λ n. reads_now bench.ram.files.map.entries n;
     } };
 
     fn exists(&mut self, name: &str) -> Result<bool, OpenReadError>

@@ -1,9 +1,15 @@
 //! What a directory in memory records of its calls.
-ghost use Rattle.std.specs.Prelude.{◌≡◌, ◌≤◌, ◌<◌, ◌+◌, ◌-◌, ◌++◌, ◌∷◌, [], true, false, length, OnOk};
-ghost use Rattle.tv_directory.specs.Record.{has_line_room, is_settled, is_sync, settled_by};
+ghost use Rattle.std.specs.Prelude.{◌≡◌, ◌≤◌, ◌<◌, ◌+◌, ◌-◌, ◌++◌, ◌∷◌, ◌||◌, ℕ, List, [], true, false, length, map, option_copied, IfOk, OnOk};
+ghost use Rattle.std.specs.List.{flat_map, list_any};
+ghost use Rattle.tv_model.specs.Names.{has, is};
+ghost use Rattle.tv_directory.specs.Crashes.{and_found, changes, names_it};
+ghost use Rattle.tv_directory.specs.Record.{found_by, has_line_room, is_settled, is_sync, settled_by, since_sync, states_at, stood_before};
+ghost use Rattle.tv_directory.specs.StoredFiles.{state_of};
 
 use crate::files::Content;
+use crate::ram_calls::file_name;
 use std::alloc::Global;
+use std::collections::BTreeSet;
 use std::marker::Model;
 use tv_model::{FileName, Memory};
 
@@ -30,6 +36,59 @@ pub enum Call {
     Told,
     /// All that stood was settled.
     Synced,
+}
+
+impl Call {
+    // The name that was given another file, or that the device refused to give one.
+    fn name(&self) -> Option<&FileName>
+        ensures { (n : List ℕ) → changes n self.now ≡ names_it n (option_copied result) }
+    {
+        match self {
+            Call::Replaced { name, .. } | Call::Refused { name, .. } => Some(name),
+            Call::Told | Call::Synced => None,
+        }
+    }
+
+    // Adds how the call found this name, and how it may have left it; a sync leaves nothing of what
+    // stood before.
+    fn add_found(&self, states: &mut Vec<Option<Content>>, name: &FileName) -> Result<(), Memory>
+        ensures { OnOk result (map state_of states.new.items
+            ≡ and_found name.now (map state_of states.old.items) self.now) }
+    {
+        match self {
+            Call::Replaced {
+                name: other,
+                before,
+            } => {
+                if other == name {
+                    states.push(share(before)?)?;
+                }
+            }
+            Call::Refused {
+                name: other,
+                before,
+                after,
+            } => {
+                if other == name {
+                    states.push(share(before)?)?;
+                    states.push(share(after)?)?;
+                }
+            }
+            Call::Told => {}
+            Call::Synced => states.clear(),
+        }
+        Ok(())
+    }
+}
+
+// The same content, or none. The bytes aren't copied.
+fn share(content: &Option<Content>) -> Result<Option<Content>, Memory>
+    ensures { IfOk result (λ other. other ≡ content.now) }
+{
+    match content {
+        None => Ok(None),
+        Some(content) => Ok(Some(content.share()?)),
+    }
 }
 
 /// The calls that changed a file or what was told, those that may have, and the syncs, in their order.
@@ -105,4 +164,83 @@ impl Record {
             self.settled = true;
         }
     }
+
+    /// Adds the names that were given another file, and those that the device refused to give one.
+    pub fn add_names(&self, alloc: Global, names: &mut BTreeSet<FileName>) -> Result<(), Memory>
+        ensures { OnOk result ((n : List ℕ) → has names.new.keys n
+            ≡ (has names.old.keys n || list_any (changes n) self.now.calls)) }
+    {
+        for call in &self.calls {
+            if let Some(name) = call.name() {
+                add_name(alloc, names, name)?;
+            }
+        }
+        Ok(())
+    }
+
+    /// The states in which a crash at this moment may leave a name that stands so now, the oldest first.
+    pub fn states(
+        &self,
+        alloc: Global,
+        moment: u64,
+        name: &FileName,
+        now: Option<Content>,
+    ) -> Result<Vec<Option<Content>>, Memory>
+        requires { moment ≤ length self.now.calls }
+        ensures { IfOk result (λ states. map state_of states.items
+            ≡ states_at self.now.calls moment name.now (state_of now)) }
+    {
+        let (past, later) = self.calls.as_slice().split_at(moment as usize);
+        let mut states = found(alloc, past, name)?;
+        states.push(stood_before(later, name, now)?)?;
+        Ok(states)
+    }
+}
+
+// Adds a name.
+pub(crate) fn add_name(
+    alloc: Global,
+    names: &mut BTreeSet<FileName>,
+    name: &FileName,
+) -> Result<(), Memory>
+    ensures { OnOk result ((n : List ℕ) → has names.new.keys n
+        ≡ (is name.now n || has names.old.keys n)) }
+{
+    names.insert(file_name(alloc, name.as_str())?)?;
+    Ok(())
+}
+
+// How the calls since the last sync among these found a name, and how they may have left it.
+fn found(alloc: Global, calls: &[Call], name: &FileName) -> Result<Vec<Option<Content>>, Memory>
+    ensures { IfOk result (λ states. map state_of states.items
+        ≡ flat_map (found_by name.now) (since_sync calls.now)) }
+{
+    let mut states = Vec::new(alloc);
+    for call in calls {
+        call.add_found(&mut states, name)?;
+    }
+    Ok(states)
+}
+
+// How a name stood before these calls, after which it stands so.
+fn stood_before(
+    calls: &[Call],
+    name: &FileName,
+    now: Option<Content>,
+) -> Result<Option<Content>, Memory>
+    ensures { IfOk result (λ before. state_of before
+        ≡ stood_before calls.now name.now (state_of now)) }
+{
+    for call in calls {
+        if let Call::Replaced {
+            name: other,
+            before,
+        } = call
+        {
+            if other == name {
+                return share(before);
+            }
+        }
+    }
+    Ok(now)
 }

@@ -1,15 +1,16 @@
 //! The files of a directory in memory.
-ghost use Rattle.std.specs.Prelude.{◌≡◌, ◌≢◌, ◌+◌, ◌≤◌, [], List, ℕ, true, false, string_bytes, Some, None, IfOk, OnOk, OnErr, is_some, length, min, option_map};
+ghost use Rattle.std.specs.Prelude.{◌≡◌, ◌≢◌, ◌+◌, ◌≤◌, ◌||◌, [], List, ℕ, true, false, string_bytes, Some, None, IfOk, OnOk, OnErr, is_some, length, min, option_map};
 ghost use Rattle.std.specs.Bool.{OnFalse};
 ghost use Rattle.std.specs.List.{AllByRecursion};
-ghost use Rattle.tv_model.specs.Names.{is_file_name};
+ghost use Rattle.tv_model.specs.Names.{has, is_file_name};
 ghost use Rattle.tv_model.specs.Files.{Same, Sets};
 ghost use Rattle.tv_model.specs.Disk.{Absent};
 ghost use Rattle.tv_directory.specs.Device.{last};
 ghost use Rattle.tv_directory.specs.StoredFiles.{AreSealed, PutsFile, PutsState, ReplacesFile, StandsAs, bytes_of, reads_of, state_of, states_of, is_there, number_at, is_made, named, last_of, total_len};
 
+use crate::bench_record::add_name;
 use std::alloc::Global;
-use std::collections::BTreeMap;
+use std::collections::{BTreeMap, BTreeSet};
 use tv_base::OwnedBytes;
 use tv_model::{FileName, Memory};
 
@@ -207,6 +208,28 @@ impl Files {
             put(&mut map, FileName::new(text), copy)?;
         }
         Ok(Files { map, last: 0 })
+    }
+
+    /// Adds the names that have a file.
+    pub fn add_names(&self, alloc: Global, names: &mut BTreeSet<FileName>) -> Result<(), Memory>
+        ensures { OnOk result ((n : List ℕ) → has names.new.keys n
+            ≡ (has names.old.keys n || is_there self.now.map.entries n)) }
+    {
+        for (name, _file) in &self.map {
+            add_name(alloc, names, name)?;
+        }
+        Ok(())
+    }
+
+    /// Gives a name a sealed file of these bytes, under no number of a writer's.
+    pub fn seal(&mut self, name: FileName, bytes: OwnedBytes) -> Result<(), Memory>
+        ensures reads { OnOk result (Sets (reads_of self.old.map.entries)
+            (reads_of self.new.map.entries) name (Some bytes)) }
+        ensures sealed { OnOk result (AreSealed self.old.map.entries
+            → AreSealed self.new.map.entries) }
+    {
+        let content = Content::Sealed(bytes);
+        put(&mut self.map, name, StoredFile { number: 0, content })
     }
 
     /// The lengths of all files together, as far as 64 bits count.

@@ -3,6 +3,7 @@
 
 mod bench;
 mod bench_changes;
+mod bench_crash;
 mod bench_device;
 mod bench_directory;
 mod bench_record;
