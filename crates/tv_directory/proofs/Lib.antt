@@ -8,3 +8,4 @@ pub mod Views
 pub mod Recorded
 pub mod Benches
 pub mod Resting
+pub mod Crashed

@@ -1,13 +1,11 @@
 //! What a crash leaves of a directory in memory.
 ghost use Rattle.std.specs.Prelude.{◌≡◌, ◌≤◌, ◌<◌, ℕ, List, [], None, IfOk, OnOk, length, map};
-ghost use Rattle.std.specs.List.Sorted.{IsStrictlySortedBy};
 ghost use Rattle.tv_model.specs.Disk.{Left};
 ghost use Rattle.tv_model.specs.Files.{Reads, Sets};
-ghost use Rattle.tv_model.specs.Names.{byte_cmp, has};
+ghost use Rattle.tv_model.specs.Names.{has};
 ghost use Rattle.tv_directory.specs.Bench.{device_in, disk_in, IsAtRest, IsNewBench};
-ghost use Rattle.tv_directory.specs.Crashes.{is_known, left_of, numbered, LeavesBy};
-ghost use Rattle.tv_directory.specs.Ram.{ram_reads, ram_states};
-ghost use Rattle.tv_directory.specs.Record.{states_at};
+ghost use Rattle.tv_directory.specs.Crashes.{is_known, left_in, left_of, numbered, LeavesBy};
+ghost use Rattle.tv_directory.specs.Ram.{ram_reads};
 ghost use Rattle.tv_directory.specs.StoredFiles.{AreSealed, reads_of, state_of};
 
 use crate::bench::Bench;
@@ -61,7 +59,12 @@ impl<C: WatchCall> Bench<C> {
         moment: u64,
         choice: &[u32],
     ) -> Result<Files, Memory>
-        requires { moment ≤ length self.now.recorded.calls }
+        requires moment { moment ≤ length self.now.recorded.calls }
+        requires names { (n : List ℕ) → has names.keys n
+            ≡ is_known self.now.recorded.calls (ram_reads self.now.ram) n }
+        ensures left { IfOk result (λ files.
+            LeavesBy self.now moment choice.now (reads_of files.map.entries)) }
+        ensures sealed { IfOk result (λ files. AreSealed files.map.entries) }
     {
         let mut files = Files::new(self.alloc);
         let mut choices = choice.iter();
@@ -83,9 +86,7 @@ impl<C: WatchCall> Bench<C> {
         requires moment { moment ≤ length self.now.recorded.calls }
         requires none { reads_of files.old.map.entries name ≡ None }
         ensures reads { OnOk result (Sets (reads_of files.old.map.entries)
-            (reads_of files.new.map.entries) name (left_of (numbered
-            (states_at self.now.recorded.calls moment name (ram_states self.now.ram name))
-            number))) }
+            (reads_of files.new.map.entries) name (left_in self.now moment name number)) }
         ensures sealed { OnOk result (AreSealed files.old.map.entries
             → AreSealed files.new.map.entries) }
     {
@@ -98,9 +99,7 @@ impl<C: WatchCall> Bench<C> {
     // What a crash at this moment leaves of a name.
     fn left(&self, name: &FileName, moment: u64, number: u32) -> Result<Option<OwnedBytes>, Memory>
         requires { moment ≤ length self.now.recorded.calls }
-        ensures { IfOk result (λ left. left ≡ left_of (numbered
-            (states_at self.now.recorded.calls moment name.now (ram_states self.now.ram name.now))
-            number)) }
+        ensures { IfOk result (λ left. left ≡ left_in self.now moment name.now number) }
     {
         let now = self.ram.files.content(name)?;
         let states = self.recorded.states(self.alloc, moment, name, now)?;

@@ -1,10 +1,12 @@
 //! What a directory in memory records of its calls.
-ghost use Rattle.std.specs.Prelude.{◌≡◌, ◌≤◌, ◌<◌, ◌+◌, ◌-◌, ◌++◌, ◌∷◌, ◌||◌, ℕ, List, [], true, false, length, map, option_copied, IfOk, OnOk};
+ghost use Rattle.std.specs.Prelude.{◌≡◌, ◌≤◌, ◌<◌, ◌+◌, ◌-◌, ◌++◌, ◌∷◌, ◌||◌, ℕ, List, [], true, false, length, map, option_copied, IfNone, IfOk, IfSome, OnOk};
 ghost use Rattle.std.specs.List.{flat_map, list_any};
+ghost use Rattle.tv_model.specs.Disk.{DiskState};
 ghost use Rattle.tv_model.specs.Names.{has, is};
 ghost use Rattle.tv_directory.specs.Crashes.{and_found, changes, names_it};
 ghost use Rattle.tv_directory.specs.Record.{found_by, has_line_room, is_settled, is_sync, settled_by, since_sync, states_at, stood_before};
 ghost use Rattle.tv_directory.specs.StoredFiles.{state_of};
+ghost use Rattle.tv_directory.specs.declared.bench_record.Call.{Call};
 
 use crate::files::Content;
 use crate::ram_calls::file_name;
@@ -46,6 +48,22 @@ impl Call {
         match self {
             Call::Replaced { name, .. } | Call::Refused { name, .. } => Some(name),
             Call::Told | Call::Synced => None,
+        }
+    }
+
+    // What the file of this name had before, where the call gave it another one.
+    fn replaced(&self, name: &FileName) -> Option<&Option<Content>>
+        ensures some { IfSome result (λ before. (calls : List Call) (now : DiskState)
+            → stood_before (self.now ∷ calls) name.now now ≡ state_of before.now) }
+        ensures none { IfNone result ((calls : List Call) (now : DiskState)
+            → stood_before (self.now ∷ calls) name.now now ≡ stood_before calls name.now now) }
+    {
+        match self {
+            Call::Replaced {
+                name: other,
+                before,
+            } if other == name => Some(before),
+            _ => None,
         }
     }
 
@@ -192,7 +210,10 @@ impl Record {
     {
         let (past, later) = self.calls.as_slice().split_at(moment as usize);
         let mut states = found(alloc, past, name)?;
-        states.push(stood_before(later, name, now)?)?;
+        states.push(match replaced(later, name) {
+            Some(before) => share(before)?,
+            None => now,
+        })?;
         Ok(states)
     }
 }
@@ -222,25 +243,17 @@ fn found(alloc: Global, calls: &[Call], name: &FileName) -> Result<Vec<Option<Co
     Ok(states)
 }
 
-// How a name stood before these calls, after which it stands so.
-fn stood_before(
-    calls: &[Call],
-    name: &FileName,
-    now: Option<Content>,
-) -> Result<Option<Content>, Memory>
-    ensures { IfOk result (λ before. state_of before
-        ≡ stood_before calls.now name.now (state_of now)) }
+// What the file of a name had before these calls, where one of them gave it another one.
+fn replaced<'a>(calls: &'a [Call], name: &FileName) -> Option<&'a Option<Content>>
+    ensures some { IfSome result (λ before. (now : DiskState)
+        → stood_before calls.now name.now now ≡ state_of before.now) }
+    ensures none { IfNone result ((now : DiskState)
+        → stood_before calls.now name.now now ≡ now) }
 {
     for call in calls {
-        if let Call::Replaced {
-            name: other,
-            before,
-        } = call
-        {
-            if other == name {
-                return share(before);
-            }
+        if let Some(before) = call.replaced(name) {
+            return Some(before);
         }
     }
-    Ok(now)
+    None
 }

@@ -1,0 +1,11 @@
+use Rattle.std.proofs.Common.{◌∙◌, ap}
+use Rattle.tv_directory.specs.Record.{since_sync}
+use Rattle.tv_directory.specs.StoredFiles.{at_rest, states_of}
+use Rattle.tv_directory.proofs.Recorded.{settled}
+use Rattle.tv_directory.proofs.bench.Bench.with_files.Goals as goal
+
+pub returns-clause-rests : goal.returns-clause-rests
+returns-clause-rests g c image same sealed = record {
+  states = λ n. ap (λ files. states_of files.map.entries n) c.with_files.ensures.files ∙ sealed n ∙ ap at_rest (same n);
+  settled = settled c.new-2.result.calls _ (ap since_sync c.new-2.ensures);
+}
