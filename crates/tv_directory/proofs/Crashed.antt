@@ -2,11 +2,9 @@
 use Rattle.std.proofs.Common.{◌≡◌, ◌≢◌, ◌<◌, ◌+◌, ◌≤◌, ◌%◌, ◌||◌, ◌++◌, ◌∷◌, ℕ, suc, Bool, true, false, cond, List, [], Option, None, Some, refl, sym, ap, subst, ◌∙◌, drop, take, length, length-take-le, ⊎_elim, option_copied, MatchOption, Iter, Bor, get_or, get_or-drop, get_or-take, length-drop, drop-drop, take_all, is_some, option_map, true≢false, arith}
 use Rattle.std.proofs.Math.Nat.{eq-or-lt_of_le, mod-lt}
 use Rattle.std.proofs.lemmas.Bool.{false_from_ne_true, or_parts}
-use Rattle.std.proofs.lemmas.Grind.{flat_map-append}
-use Rattle.std.proofs.lemmas.List.{append-nil, length-append, nil_from_length, take-append-drop}
+use Rattle.std.proofs.lemmas.List.{length-append, nil_from_length, take-append-drop}
 use Rattle.std.proofs.lemmas.List.Elements.{Contains-get_or, Contains-push}
 use Rattle.std.proofs.lemmas.List.Folds.{list_any-append, list_any_more, list_any_none}
-use Rattle.std.proofs.lemmas.List.Sums.{fold-append}
 use Rattle.std.specs.List.{Contains, flat_map, list_any}
 use Rattle.std.specs.BTreeMap.{is_at}
 use Rattle.std.specs.Option.{unwrap_or}
@@ -25,9 +23,9 @@ use Rattle.tv_directory.specs.declared.bench_record.Call.{Call}
 use Rattle.tv_directory.specs.declared.bench_record.Call.TheVariants.{Replaced, Refused, Told, Synced}
 use Rattle.tv_directory.specs.declared.files.StoredFile.{StoredFile}
 use Rattle.tv_directory.specs.Bench.{disk_in}
-use Rattle.tv_directory.specs.Crashes.{LeavesBy, and_found, changes, is_known, left_in, left_of, numbered}
+use Rattle.tv_directory.specs.Crashes.{LeavesBy, changes, is_known, left_in, left_of, numbered}
 use Rattle.tv_directory.specs.Ram.{ram_reads, ram_states}
-use Rattle.tv_directory.specs.Record.{and_since, found_by, since_sync, states_at, stood_before}
+use Rattle.tv_directory.specs.Record.{found_by, since_sync, states_at, stood_before}
 use Rattle.tv_directory.specs.StoredFiles.{bytes_of, is_there, state_of}
 
 -- where no call names it, a name stood as it stands

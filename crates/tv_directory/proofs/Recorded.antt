@@ -1,13 +1,13 @@
 -- What one more recorded call makes of what a crash may leave.
-use Rattle.std.proofs.Common.{◌≡◌, ◌≢◌, ◌≤◌, ◌<◌, ◌+◌, ◌⊎◌, ℕ, Bool, true, false, List, [], ◌∷◌, ◌++◌, Option, None, Some, inl, inr, refl, sym, ap, subst, ◌∙◌, drop, take, length, true≢false, arith, nat_eq, if◌then◌else◌, ⊎_elim, append_assoc}
+use Rattle.std.proofs.Common.{◌≡◌, ◌≢◌, ◌≤◌, ◌<◌, ◌+◌, ℕ, Bool, true, false, List, [], ◌∷◌, ◌++◌, Option, None, Some, inl, inr, refl, sym, ap, subst, ◌∙◌, drop, take, length, true≢false, arith, nat_eq, if◌then◌else◌, ⊎_elim, append_assoc}
 use Rattle.std.proofs.Math.Path.{fun_ext}
 use Rattle.std.proofs.lemmas.Bool.{eqb-true}
 use Rattle.std.proofs.lemmas.Grind.{flat_map-append}
 use Rattle.std.proofs.lemmas.List.{take-append-le, drop-append-le, length-append, append-nil}
-use Rattle.std.proofs.lemmas.List.Elements.{Contains-append_cases, Contains-append_left, Contains-push, Contains-push_cases}
+use Rattle.std.proofs.lemmas.List.Elements.{Contains-append_left, Contains-push, Contains-push_cases}
 use Rattle.std.proofs.lemmas.List.Sums.{fold-append}
-use Rattle.std.specs.List.{Contains, flat_map, fold}
-use Rattle.tv_model.specs.Disk.{Disk, DiskState, IsThere, Possible, possible_now, Within, SamePossible, MayAdd, Adds, IsSettled, Elapses}
+use Rattle.std.specs.List.{Contains, flat_map}
+use Rattle.tv_model.specs.Disk.{Disk, DiskState, IsThere, Possible, possible_now, Within, SamePossible, MayAdd, IsSettled, Elapses}
 use Rattle.tv_model.specs.Names.{is}
 use Rattle.tv_model.proofs.DiskLaws.{same}
 use Rattle.tv_model.proofs.Entries.{is_itself, is_text}
@@ -18,7 +18,7 @@ use Rattle.tv_directory.specs.declared.files.Content.TheVariants as content
 use Rattle.tv_directory.specs.declared.files.StoredFile.{StoredFile}
 use Rattle.std.specs.Prelude.{option_map}
 use Rattle.tv_model.specs.State.{at}
-use Rattle.tv_directory.specs.Images.{KeepsDisk, KeepsStates, SetsState, MaySetState, Settles}
+use Rattle.tv_directory.specs.Images.{KeepsDisk}
 use Rattle.tv_directory.specs.Record.{RecordState, Recorded, RecordedRefused, has_line_room, and_since, disk_by, found_by, is_settled, since_sync, settled_by, states_at, stood_before}
 use Rattle.tv_directory.specs.RecordLaws.{stands_now, states_now}
 use Rattle.tv_directory.specs.StoredFiles.{StandsAs, States, is_made, is_number, state_of, states_of}

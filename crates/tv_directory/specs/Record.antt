@@ -1,5 +1,5 @@
 -- What a directory in memory records of its calls, and what a crash may leave by that.
-use Rattle.std.specs.Prelude.{ℕ, ◌≡◌, ◌≤◌, ◌<◌, ◌++◌, ◌∷◌, Bool, true, false, List, [], Option, None, Some, drop, length, nat_eq, nat_le, take, if◌then◌else◌}
+use Rattle.std.specs.Prelude.{ℕ, ◌++◌, ◌∷◌, Bool, true, false, List, [], drop, length, nat_eq, nat_le, take, if◌then◌else◌}
 use Rattle.std.specs.List.{Contains, flat_map, fold}
 use Rattle.tv_model.specs.Disk.{Disk, DiskState, Unsealed, MayAdd, Elapses, possible_now}
 use Rattle.tv_model.specs.Names.{is}

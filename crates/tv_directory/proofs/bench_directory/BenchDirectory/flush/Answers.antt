@@ -1,5 +1,5 @@
 use Rattle.std.proofs.Common.{rules, ◌≡◌, ◌∙◌, true, refl, sym, ap, true≢false}
-use Rattle.tv_model.specs.Disk.{Sealed, Unsealed}
+use Rattle.tv_model.specs.Disk.{Unsealed}
 use Rattle.tv_directory.specs.Bench.{disk_in}
 use Rattle.tv_directory.specs.Ram.{ram_lives, ram_states}
 use Rattle.tv_directory.specs.Record.{RecordedRefused}

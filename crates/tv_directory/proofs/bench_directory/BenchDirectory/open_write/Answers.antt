@@ -1,5 +1,5 @@
-use Rattle.std.proofs.Common.{rules, ◌≡◌, ◌∙◌, true, refl, sym, ap, true≢false, ◌≤◌, length}
-use Rattle.tv_directory.specs.Ram.{ram_lives, ram_states}
+use Rattle.std.proofs.Common.{rules, ap}
+use Rattle.tv_directory.specs.Ram.{ram_states}
 use Rattle.tv_directory.proofs.Recorded.{kept_by, may_add, replaced_by}
 use Rattle.tv_directory.proofs.Benches.{kept_in, longer_by}
 use Rattle.tv_directory.proofs.bench_directory.BenchDirectory.open_write.Goals as goal

@@ -1,4 +1,3 @@
-use Rattle.std.proofs.Common.{rules, ap}
 use Rattle.tv_directory.specs.Ram.{ram_states}
 use Rattle.tv_directory.proofs.Recorded.{synced}
 use Rattle.tv_directory.proofs.bench_directory.BenchDirectory.sync_directory.Goals as goal

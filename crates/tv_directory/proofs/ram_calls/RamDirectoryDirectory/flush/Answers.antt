@@ -1,4 +1,3 @@
-use Rattle.std.proofs.Common.{rules}
 use Rattle.tv_directory.proofs.ram_calls.RamDirectoryDirectory.flush.Goals as goal
 
 pub returns-clause-states : goal.returns-clause-states
