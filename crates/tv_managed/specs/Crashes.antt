@@ -50,7 +50,7 @@ pub record CollectsFiles {D W C : Type 0} (g : Ghosts D W C) (names : List (List
   pub touches : TouchesOnly (AnyOrList names) (g.disk old.0) (g.disk new.0)
   pub forgets : (n : List ℕ) → has old.1 n ≡ true → has new.1 n ≡ false → (s : DiskState) → possible_now (g.disk new.0) n s → s ≡ Absent
 
--- ---- private functions alone cite these
+-- What follows is cited by private functions alone.
 
 -- a step that lists a file keeps track, and touches the list alone
 pub record Tracks {D W C : Type 0} (g : Ghosts D W C) (old new : D × List (List ℕ)) : Type 0 where
