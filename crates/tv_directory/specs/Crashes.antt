@@ -1,11 +1,11 @@
 -- What a crash of a directory in memory leaves.
-use Rattle.std.specs.Prelude.{◌≡◌, ◌<◌, ◌%◌, ◌||◌, ◌++◌, ℕ, Bool, false, List, [], Option, None, Some, get_or, is_some, length}
+use Rattle.std.specs.Prelude.{◌≡◌, ◌<◌, ◌%◌, ◌||◌, ℕ, Bool, false, List, [], Option, None, Some, get_or, is_some, length}
 use Rattle.std.specs.List.{list_any}
 use Rattle.std.specs.List.Sorted.{IsStrictlySortedBy}
 use Rattle.tv_model.specs.Disk.{DiskState, Absent, Unsealed, Sealed}
 use Rattle.tv_model.specs.Files.{Reads}
 use Rattle.tv_model.specs.Names.{byte_cmp, has, is}
-use Rattle.tv_directory.specs.Record.{found_by, states_at}
+use Rattle.tv_directory.specs.Record.{states_at}
 use Rattle.tv_directory.specs.Ram.{ram_reads, ram_states}
 use Rattle.tv_directory.specs.declared.bench.Bench.{Bench}
 use Rattle.tv_directory.specs.declared.bench_record.Call.{Call}
@@ -27,18 +27,6 @@ changes name (Replaced other before) = is other name
 changes name (Refused other before after) = is other name
 changes name Told = false
 changes name Synced = false
-
--- the name is this one
-abbrev pub names_it : List ℕ → Option (List ℕ) → Bool
-names_it name None = false
-names_it name (Some other) = is other name
-
--- the states in which some calls found this name or may have left it, after one more call
-abbrev pub and_found : List ℕ → List DiskState → Call → List DiskState
-and_found name states Synced = []
-and_found name states (Replaced other before) = states ++ found_by name (Replaced other before)
-and_found name states (Refused other before after) = states ++ found_by name (Refused other before after)
-and_found name states Told = states
 
 -- a name has a file, or a recorded call names it
 abbrev pub is_known : List Call → Reads → List ℕ → Bool

@@ -1,10 +1,10 @@
 //! What a directory in memory records of its calls.
-ghost use Rattle.std.specs.Prelude.{◌≡◌, ◌≤◌, ◌<◌, ◌+◌, ◌-◌, ◌++◌, ◌∷◌, ◌||◌, ℕ, List, [], true, false, length, map, option_copied, IfNone, IfOk, IfSome, OnOk};
+ghost use Rattle.std.specs.Prelude.{◌≡◌, ◌≤◌, ◌<◌, ◌+◌, ◌-◌, ◌++◌, ◌∷◌, ◌||◌, ℕ, List, [], true, false, length, map, IfNone, IfOk, IfSome, OnOk};
 ghost use Rattle.std.specs.List.{flat_map, list_any};
 ghost use Rattle.tv_model.specs.Disk.{DiskState};
 ghost use Rattle.tv_model.specs.Names.{has, is};
-ghost use Rattle.tv_directory.specs.Crashes.{and_found, changes, names_it};
-ghost use Rattle.tv_directory.specs.Record.{found_by, has_line_room, is_settled, is_sync, settled_by, since_sync, states_at, stood_before};
+ghost use Rattle.tv_directory.specs.Crashes.{changes};
+ghost use Rattle.tv_directory.specs.Record.{and_since, found_by, has_line_room, is_settled, is_sync, settled_by, since_sync, states_at, stood_before};
 ghost use Rattle.tv_directory.specs.StoredFiles.{state_of};
 ghost use Rattle.tv_directory.specs.declared.bench_record.Call.{Call};
 
@@ -43,7 +43,8 @@ pub enum Call {
 impl Call {
     // The name that was given another file, or that the device refused to give one.
     fn name(&self) -> Option<&FileName>
-        ensures { (n : List ℕ) → changes n self.now ≡ names_it n (option_copied result) }
+        ensures some { IfSome result (λ name. (n : List ℕ) → changes n self.now ≡ is name.now n) }
+        ensures none { IfNone result ((n : List ℕ) → changes n self.now ≡ false) }
     {
         match self {
             Call::Replaced { name, .. } | Call::Refused { name, .. } => Some(name),
@@ -70,8 +71,10 @@ impl Call {
     // Adds how the call found this name, and how it may have left it; a sync leaves nothing of what
     // stood before.
     fn add_found(&self, states: &mut Vec<Option<Content>>, name: &FileName) -> Result<(), Memory>
-        ensures { OnOk result (map state_of states.new.items
-            ≡ and_found name.now (map state_of states.old.items) self.now) }
+        ensures { OnOk result ((since : List Call)
+            → map state_of states.old.items ≡ flat_map (found_by name.now) since
+            → map state_of states.new.items
+            ≡ flat_map (found_by name.now) (and_since since self.now)) }
     {
         match self {
             Call::Replaced {
