@@ -23,9 +23,7 @@ const TWO_WRITES: &[Row] = &[
 const SETTLED: &[Row] = &[(0, Want::Text("2")), (1, Want::Text("2"))];
 
 fn leaves<R: Abort>(rt: &R, bench: &TestBench, choice: u32, want: Want) -> bool {
-    let mut left = bench
-        .crash(bench.moment(), &[choice])
-        .expect(rt, "memory");
+    let mut left = bench.crash(bench.moment(), &[choice]).expect(rt, "memory");
     ends(left.atomic_read("a"), "a", want)
 }
 
@@ -37,7 +35,10 @@ fn leave_all<R: Abort>(rt: &R, bench: &TestBench, rows: &[Row]) {
 
 // Writes `a`, with ample memory.
 fn write<R: Abort>(rt: &R, bench: &mut TestBench, text: &str) {
-    assert!(rt; ends(bench.atomic_write("a", text.as_bytes()), "a", Want::Done), "{text}");
+    assert!(rt;
+        ends(bench.atomic_write("a", text.as_bytes()), "a", Want::Done),
+        "{text}"
+    );
 }
 
 #[test]
@@ -110,7 +111,10 @@ fn collect_all<R: Abort>(rt: &R, alloc: Global, left: TestBench) -> u64 {
     for name in NAMES {
         assert!(rt; is_listed(&mut managed, name), "{name} is listed");
     }
-    assert!(rt; collect(rt, &mut managed, alloc, &[]).is_ok(), "a collection");
+    assert!(rt;
+        collect(rt, &mut managed, alloc, &[]).is_ok(),
+        "a collection"
+    );
     for name in NAMES {
         assert!(rt; is_gone(&mut managed, name), "{name} is gone");
     }

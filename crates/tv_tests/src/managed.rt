@@ -213,7 +213,11 @@ fn refusing<R: Abort>(rt: &R, alloc: Global, refused: &[u64]) -> TestBench {
 }
 
 /// The managed directory over this one.
-pub(crate) fn wrapped<R: Abort, D: Empty>(rt: &R, alloc: Global, directory: D) -> ManagedDirectory<D> {
+pub(crate) fn wrapped<R: Abort, D: Empty>(
+    rt: &R,
+    alloc: Global,
+    directory: D,
+) -> ManagedDirectory<D> {
     match ManagedDirectory::wrap(alloc, directory) {
         Ok(managed) => managed,
         Err(_) => panic!(rt; "it is wrapped"),
