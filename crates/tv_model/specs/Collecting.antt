@@ -1,17 +1,22 @@
 -- What a collection takes, what it tells, and what stays.
-use Rattle.std.specs.Prelude.{ℕ, ◌≡◌, ◌≤◌, Bool, true, false, not, ◌&&◌, ◌||◌, List, ◌∷◌, ◌++◌, length}
+use Rattle.std.specs.Prelude.{ℕ, ◌≡◌, ◌≤◌, Bool, true, false, not, ◌&&◌, ◌||◌, List, [], ◌∷◌, ◌++◌, length, Some, is_some}
 use Rattle.tv_model.specs.declared.event.Event.TheVariants as events
 use Rattle.tv_model.specs.Names.{has}
-use Rattle.tv_model.specs.Collections.{done_of, failed_of}
+use Rattle.tv_model.specs.Collections.{Collection, AreOnce, begun, collection_at, done_of, failed_of, held, taken}
 use Rattle.tv_model.specs.Living.{living}
-use Rattle.tv_model.specs.State.{State}
-use Rattle.tv_model.specs.CollectionEvents.{garbage, gc_step}
-use Rattle.tv_model.specs.Machine.{Turn, after, refused_in}
+use Rattle.tv_model.specs.State.{State, file_at}
+use Rattle.tv_model.specs.CollectionEvents.{garbage, gc_begin_step, gc_end_step, gc_step, gc_step_step, having_deleted, is_done}
+use Rattle.tv_model.specs.ReopenEvents.{reopened}
+use Rattle.tv_model.specs.Machine.{Turn, NeverReopens, after, refused_in}
+
+-- these are exactly the managed names that are neither living nor held
+abbrev pub Takes : State → List (List ℕ) → Type 0
+Takes s names = (n : List ℕ) → has names n ≡ (has s.managed n && not (has (living s.catalog) n) && not (has (held s.collections) n))
 
 -- a collection with these outcomes
 pub record Collects (s : State) (outcomes : List Bool) : Type 0 where
-  -- it takes exactly the managed names that nothing needs
-  pub taken : (n : List ℕ) → has (garbage s) n ≡ (has s.managed n && not (has (living s.catalog) n))
+  -- it takes exactly the managed names that nothing needs and no other collection holds
+  pub taken : Takes s (garbage s)
   -- each of them is told, as done or as failed
   pub each : (n : List ℕ)
       → has (garbage s) n ≡ (has (done_of (garbage s) outcomes) n || has (failed_of (garbage s) outcomes) n)
@@ -31,3 +36,29 @@ pub record Collects (s : State) (outcomes : List Bool) : Type 0 where
 abbrev pub CollectsIn : State → List Turn → Type 0
 CollectsIn s turns = (front rest : List Turn) (outcomes : List Bool)
     → turns ≡ front ++ (events.Gc, outcomes) ∷ rest → Collects (after s front) outcomes
+
+-- An unfinished collection of a state: each of its names is in one of its three lists, and at its end only those that are done are managed no more.
+pub record Ends (s : State) (number : ℕ) (c : Collection) : Type 0 where
+  pub apart : AreOnce (taken c)
+  pub gone : (n : List ℕ) → has c.done n ≡ true → has (gc_end_step s number).1.managed n ≡ false
+  pub stay : (n : List ℕ) → has s.managed n ≡ true → has c.done n ≡ false → has (gc_end_step s number).1.managed n ≡ true
+  pub held : (n : List ℕ) → has (taken c) n ≡ true → has s.managed n ≡ true
+
+-- Collections in steps.
+pub record CollectsInSteps (s : State) : Type 0 where
+  -- one that begins takes exactly the managed names that nothing needs and no other one holds, and has tried none
+  pub begins : (collection_at (gc_begin_step s).1.collections s.collections.next ≡ Some (begun (garbage s))) × Takes s (garbage s)
+  -- it keeps them until it is finished, whatever happens in between
+  pub keeps : (turns : List Turn) (number : ℕ) (first later : Collection) → NeverReopens turns
+      → collection_at s.collections number ≡ Some first → collection_at (after s turns).collections number ≡ Some later
+      → (n : List ℕ) → has (taken later) n ≡ has (taken first) n
+  -- a step tells the first name that is left, as done or as failed
+  pub tells : (number : ℕ) (c : Collection) (name : List ℕ) (left : List (List ℕ)) (outcomes : List Bool)
+      → collection_at s.collections number ≡ Some c → c.untried ≡ name ∷ left
+      → gc_step_step s number outcomes ≡ having_deleted s number c name left (is_done outcomes)
+  -- and an end takes out what is done
+  pub ends : (number : ℕ) (c : Collection) → collection_at s.collections number ≡ Some c → Ends s number c
+
+-- After an index was opened again, a collection of which no delete is refused leaves exactly the files that are needed.
+abbrev pub CollectsAllElse : State → Type 0
+CollectsAllElse s = (n : List ℕ) → is_some (file_at (gc_step (reopened s) []).1 n) ≡ (is_some (file_at s n) && has (living (reopened s).catalog) n)

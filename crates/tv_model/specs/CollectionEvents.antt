@@ -1,17 +1,18 @@
--- The event that collects files, and the one that ends a segment.
-use Rattle.std.specs.Prelude.{ℕ, List, ◌∷◌, ◌++◌, map, filter, not, codes, Bool, if◌then◌else◌}
+-- The events that collect files, at once and in steps, and the one that ends a segment.
+use Rattle.std.specs.Prelude.{ℕ, List, [], ◌∷◌, ◌++◌, map, filter, not, codes, Bool, true, if◌then◌else◌}
+use Rattle.std.specs.Fmt.{decimal}
 use Rattle.std.specs.Map.{remove_entry}
 use Rattle.std.specs.BTreeMap.{is_at}
 use Rattle.tv_model.specs.declared.segment.LiveSegment.{LiveSegment}
 use Rattle.tv_model.specs.Names.{byte_cmp, has}
-use Rattle.tv_model.specs.Collections.{done_of, failed_of, collectable, without}
+use Rattle.tv_model.specs.Collections.{Collection, done_of, failed_of, collectable, without, held, collection_at, having_tried, with_begun, with_collection, without_collection}
 use Rattle.tv_model.specs.Living.{living, segment_names}
 use Rattle.tv_model.specs.State.{Catalog, State, StepResult, FileState, Sealed, Open, Left, live_at}
-use Rattle.tv_model.specs.Lines.{line, given}
+use Rattle.tv_model.specs.Lines.{line, refuse, given}
 
--- the names that nothing needs
+-- the managed names that nothing needs and no unfinished collection holds
 abbrev pub garbage : State → List (List ℕ)
-garbage s = collectable (living s.catalog) s.managed
+garbage s = collectable (living s.catalog ++ held s.collections) s.managed
 
 -- these files and their names are gone
 abbrev pub without_files : State → List (List ℕ) → State
@@ -21,10 +22,47 @@ without_files s gone = record s { files = filter (λ e. not (has gone e.0)) s.fi
 abbrev pub collected_line : List (List ℕ) → List (List ℕ) → List ℕ
 collected_line done failed = line (codes "gc deleted") done ++ 32 ∷ line (codes "failed") failed
 
--- the names that nothing needs are tried; those that are done are gone, and those that failed stay
+-- these names are tried at once; those that are done are gone, and those that failed stay
 abbrev pub gc_step : State → List Bool → StepResult State
 gc_step s outcomes =
     (collected_line (done_of (garbage s) outcomes) (failed_of (garbage s) outcomes), without_files s (done_of (garbage s) outcomes))
+
+-- a collection of these names begins
+abbrev pub gc_begin_step : State → StepResult State
+gc_begin_step s = (line (codes "gc") (decimal s.collections.next ∷ garbage s), record s { collections = with_begun s.collections (garbage s) })
+
+-- whether the one delete of a step is done, which it is unless it was refused
+abbrev pub is_done : List Bool → Bool
+is_done [] = true
+is_done (outcome ∷ outcomes) = outcome
+
+-- a name of a collection was tried: its file is gone, or it failed and stays
+abbrev pub having_deleted : State → ℕ → Collection → (name : List ℕ) → (left : List (List ℕ)) → (is_done : Bool) → StepResult State
+having_deleted s number c name left is_done = (
+  line (codes "gc") (decimal number ∷ (if is_done then codes "done" else codes "failed") ∷ name ∷ []),
+  record s {
+    files = if is_done then remove_entry (is_at (byte_cmp name)) s.files else s.files;
+    collections = with_collection s.collections number (having_tried c name left is_done);
+  },
+)
+
+-- the first of the names that are left is tried
+abbrev pub tried_first : State → ℕ → Collection → (untried : List (List ℕ)) → List Bool → StepResult State
+tried_first s number c [] outcomes = refuse s (codes "nothing-left" ∷ [])
+tried_first s number c (name ∷ left) outcomes = having_deleted s number c name left (is_done outcomes)
+
+-- a collection tries one name more
+abbrev pub gc_step_step : State → ℕ → List Bool → StepResult State
+gc_step_step s number outcomes =
+    given s (collection_at s.collections number) (codes "unknown-collection") (λ c. tried_first s number c c.untried outcomes)
+
+-- a collection is finished: what is done is managed no more
+abbrev pub ended : State → ℕ → Collection → StepResult State
+ended s number c =
+    (line (codes "gc") (decimal number ∷ codes "end" ∷ []), record s { managed = without c.done s.managed; collections = without_collection s.collections number })
+
+abbrev pub gc_end_step : State → ℕ → StepResult State
+gc_end_step s number = given s (collection_at s.collections number) (codes "unknown-collection") (ended s number)
 
 -- a file that is written no more
 abbrev pub left : FileState → FileState

@@ -10,6 +10,7 @@ use Rattle.tv_model.specs.Segments.{all_required}
 use Rattle.tv_model.specs.Commits.{Commit, Settings, IndexForm, default_settings, first_commit}
 use Rattle.tv_model.specs.Schemas.{IsSchema}
 use Rattle.tv_model.specs.Meaning.{Means}
+use Rattle.tv_model.specs.Collections.{no_collections}
 use Rattle.tv_model.specs.CommitEvents.{last_stamp}
 use Rattle.tv_model.specs.State.{Catalog, State, FileState, Sealed, Open, Left, file_at, no_readers}
 
@@ -82,6 +83,7 @@ pub record OpensTo (settings : Settings) (schema : List ℕ) (reads : Reads) (s 
   pub live : s.catalog.live ≡ s.catalog.commit.segments
   pub next : s.catalog.next ≡ next_after s.catalog.commit.opstamp
   pub reading : s.catalog.reading ≡ no_readers
+  pub collections : s.collections ≡ no_collections
   pub names : (n : List ℕ) → is_some (file_at s n) ≡ true → IsFileOf n
   pub files : (n : List ℕ) → IsFileOf n → file_at s n ≡ option_map Sealed (reads n)
 
@@ -111,4 +113,4 @@ first_catalog = record { live = []; next = 1; commit = first_commit; reading = n
 
 -- the state of an index that was just made in a directory without files
 abbrev pub first_state : State
-first_state = record { catalog = first_catalog; files = []; managed = meta_name ∷ [] }
+first_state = record { catalog = first_catalog; files = []; managed = meta_name ∷ []; collections = no_collections }

@@ -22,6 +22,8 @@ pub mod Script
 pub mod SoundStates
 pub mod Living
 pub mod CollectionEvents
+pub mod DeleteEvents
+pub mod ReopenEvents
 pub mod ReaderEvents
 pub mod SearcherEvents
 pub mod Readable

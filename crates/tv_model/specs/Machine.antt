@@ -1,5 +1,6 @@
 -- The machine: one step, and a run of steps.
-use Rattle.std.specs.Prelude.{ℕ, ◌+◌, Bool, not, List, [], ◌∷◌, map, filter, length, Option, Some, None}
+use Rattle.std.specs.Prelude.{ℕ, ◌≡◌, ◌+◌, Bool, true, false, not, List, [], ◌∷◌, map, filter, length, Option, Some, None}
+use Rattle.std.specs.List.{list_all}
 use Rattle.tv_model.specs.declared.event.Event.{Event}
 use Rattle.tv_model.specs.declared.event.Event.TheVariants as events
 use Rattle.tv_model.specs.State.{Catalog, State, StepResult, on_catalog}
@@ -7,7 +8,9 @@ use Rattle.tv_model.specs.Lines.{opening_line}
 use Rattle.tv_model.specs.SegmentEvents.{segment_step, docs_step}
 use Rattle.tv_model.specs.FileEvents.{open_step, write_step, seal_step}
 use Rattle.tv_model.specs.CommitEvents.{commit_step}
-use Rattle.tv_model.specs.CollectionEvents.{gc_step, release_segment_step}
+use Rattle.tv_model.specs.CollectionEvents.{gc_step, gc_begin_step, gc_step_step, gc_end_step, release_segment_step}
+use Rattle.tv_model.specs.DeleteEvents.{deletes_step}
+use Rattle.tv_model.specs.ReopenEvents.{reopen_step}
 use Rattle.tv_model.specs.ReaderEvents.{bodies_in, reader_step, reload_step, release_reader_step}
 use Rattle.tv_model.specs.SearcherEvents.{searcher_step, show_step, bytes_step, release_searcher_step}
 use Rattle.tv_model.specs.ReportEvents.{managed_step, validate_step}
@@ -24,15 +27,19 @@ catalog_step c managed (events.ReleaseSearcher number) = Some (release_searcher_
 catalog_step c managed events.Managed = Some (managed_step c managed)
 catalog_step c managed other = None
 
--- What an event tells, and the state after it. The outcomes say which deletes that it asks for are refused; only a collection asks for some.
+-- What an event tells, and the state after it. The outcomes say which deletes that it asks for are refused; only collections ask for some.
 abbrev pub step : State → Event → List Bool → StepResult State
 step s (events.Segment id) outcomes = on_catalog s (segment_step s.catalog s.managed id)
 step s (events.Open id component) outcomes = open_step s id component
 step s (events.Write id component bytes) outcomes = write_step s id component bytes
 step s (events.Seal id component) outcomes = seal_step s id component
 step s (events.Docs id n) outcomes = on_catalog s (docs_step s.catalog id n)
+step s (events.Deletes id n) outcomes = deletes_step s id n
 step s (events.Commit payload ids) outcomes = commit_step s payload ids
 step s events.Gc outcomes = gc_step s outcomes
+step s events.GcBegin outcomes = gc_begin_step s
+step s (events.GcStep number) outcomes = gc_step_step s number outcomes
+step s (events.GcEnd number) outcomes = gc_end_step s number
 step s (events.Reader policy) outcomes = on_catalog s (reader_step s.catalog policy (bodies_in s s.catalog.commit))
 step s (events.Reload number) outcomes = on_catalog s (reload_step s.catalog number (bodies_in s s.catalog.commit))
 step s (events.Searcher number) outcomes = on_catalog s (searcher_step s.catalog number)
@@ -43,6 +50,7 @@ step s (events.ReleaseReader number) outcomes = on_catalog s (release_reader_ste
 step s (events.ReleaseSearcher number) outcomes = on_catalog s (release_searcher_step s.catalog number)
 step s events.Managed outcomes = on_catalog s (managed_step s.catalog s.managed)
 step s events.Validate outcomes = validate_step s
+step s events.Reopen outcomes = reopen_step s
 
 -- an event of a run, with the outcomes of its deletes
 abbrev pub Turn : Type 0
@@ -61,6 +69,15 @@ after s (turn ∷ turns) = after (step s turn.0 turn.1).1 turns
 -- all that is told: the opening line, and then the answers
 abbrev pub report : State → List Turn → List (List ℕ)
 report s turns = opening_line s ∷ answers s turns
+
+-- the index isn't opened again
+abbrev pub isnt_reopening : Event → Bool
+isnt_reopening events.Reopen = false
+isnt_reopening other = true
+
+-- nor in any of these turns
+abbrev pub NeverReopens : List Turn → Type 0
+NeverReopens turns = list_all (λ turn. isnt_reopening turn.0) turns ≡ true
 
 -- the events of a run
 abbrev pub events_of : List Turn → List Event

@@ -6,7 +6,7 @@ use Rattle.tv_model.specs.Segments.{all_required}
 use Rattle.tv_model.specs.Footer.{HasBody}
 use Rattle.tv_model.specs.State.{State, Sealed, Snapshot, Reader, file_at, reader_at, searcher_at, no_readers}
 use Rattle.tv_model.specs.ReaderEvents.{body_in, snapshot_in}
-use Rattle.tv_model.specs.Machine.{Turn, after}
+use Rattle.tv_model.specs.Machine.{Turn, NeverReopens, after}
 use Rattle.tv_model.specs.Index.{next_after}
 
 -- a snapshot shows the commit of a state that the run came to, with the bodies of its files as they were then
@@ -28,13 +28,13 @@ pub record Serves (s : State) (turns : List Turn) : Type 0 where
   -- a searcher shows one commit of the run
   pub one_commit : (front rest : List Turn) (n : ℕ) (shown : Snapshot) → turns ≡ front ++ rest
       → searcher_at (after s front).catalog n ≡ Some shown → Shows s front shown
-  -- the same for life
+  -- the same for life, which ends where the index is opened again
   pub for_life : (front middle rest : List Turn) (n : ℕ) (first later : Snapshot)
-      → turns ≡ front ++ middle ++ rest → searcher_at (after s front).catalog n ≡ Some first
+      → turns ≡ front ++ middle ++ rest → NeverReopens middle → searcher_at (after s front).catalog n ≡ Some first
       → searcher_at (after s (front ++ middle)).catalog n ≡ Some later → later ≡ first
   -- a reader never goes back
   pub never_back : (front middle rest : List Turn) (n : ℕ) (first later : Reader)
-      → turns ≡ front ++ middle ++ rest → reader_at (after s front).catalog n ≡ Some first
+      → turns ≡ front ++ middle ++ rest → NeverReopens middle → reader_at (after s front).catalog n ≡ Some first
       → reader_at (after s (front ++ middle)).catalog n ≡ Some later
       → first.shown.commit.opstamp ≤ later.shown.commit.opstamp
   -- a new searcher shows what its reader shows

@@ -1,11 +1,13 @@
 -- What every step keeps of a state whose directory is sound.
-use Rattle.std.specs.Prelude.{ℕ, ◌≡◌, ◌⊎◌, ◌<◌, ◌≤◌, true, List, Some, is_some}
+use Rattle.std.specs.Prelude.{ℕ, ◌≡◌, ◌⊎◌, ◌<◌, ◌≤◌, true, false, List, None, Some, is_some}
 use Rattle.std.specs.List.{AllByRecursion}
 use Rattle.tv_model.specs.declared.segment.LiveSegment.{LiveSegment}
 use Rattle.tv_model.specs.Names.{has, meta_name}
 use Rattle.tv_model.specs.Footer.{IsGood}
 use Rattle.tv_model.specs.Segments.{num_deleted, all_required}
+use Rattle.tv_model.specs.Collections.{Collection, AreOnce, collection_at, held}
 use Rattle.tv_model.specs.CommitEvents.{last_stamp, is_sealed}
+use Rattle.tv_model.specs.Living.{living}
 use Rattle.tv_model.specs.State.{State, Sealed, file_at}
 use Rattle.tv_model.specs.Index.{IsFileOf}
 
@@ -21,6 +23,19 @@ AreGood s segments = (n bytes : List ℕ) → has (all_required segments) n ≡ 
 -- no more documents of a segment are deleted than it has
 abbrev pub AreWithin : List (List ℕ × LiveSegment) → Type 0
 AreWithin segments = AllByRecursion (λ e. num_deleted e.1.deletes ≤ e.1.max_doc) segments
+
+-- What the unfinished collections of such a state hold.
+pub record CollectsSoundly (s : State) : Type 0 where
+  -- it is managed
+  pub managed : (n : List ℕ) → has (held s.collections) n ≡ true → has s.managed n ≡ true
+  -- and nothing needs it
+  pub spared : (n : List ℕ) → has (held s.collections) n ≡ true → has (living s.catalog) n ≡ false
+  -- no two collections have a name in common, and none has one twice
+  pub once : AreOnce (held s.collections)
+  -- what is done has no file
+  pub gone : (number : ℕ) (c : Collection) (n : List ℕ) → collection_at s.collections number ≡ Some c → has c.done n ≡ true → file_at s n ≡ None
+  -- the next number and those after it are free
+  pub free : (number : ℕ) → s.collections.next ≤ number → collection_at s.collections number ≡ None
 
 -- The state of a sound directory. Files that neither the commit nor a live segment requires may be anything.
 pub record IsSoundState (s : State) : Type 0 where
@@ -41,3 +56,4 @@ pub record IsSoundState (s : State) : Type 0 where
   -- no segment has more deleted documents than documents
   pub within : AreWithin s.catalog.commit.segments
   pub live_within : AreWithin s.catalog.live
+  pub collecting : CollectsSoundly s

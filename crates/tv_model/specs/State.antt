@@ -6,6 +6,7 @@ use Rattle.std.specs.Ordering.{nat_cmp}
 use Rattle.tv_model.specs.declared.reload_policy.ReloadPolicy.{ReloadPolicy}
 use Rattle.tv_model.specs.declared.segment.LiveSegment.{LiveSegment}
 use Rattle.tv_model.specs.Names.{byte_cmp}
+use Rattle.tv_model.specs.Collections.{Collections}
 use Rattle.tv_model.specs.Commits.{Commit}
 
 -- a file: sealed with its bytes, open with what was written so far, or left, which is neither sealed nor written any more
@@ -44,11 +45,12 @@ pub record Catalog : Type 0 where
   pub commit : Commit
   pub reading : Readers
 
--- the catalog of an index; its files, whose names have no dot in front, `meta.json` apart; and the managed names
+-- the catalog of an index; its files, whose names have no dot in front, `meta.json` apart; the managed names; and the unfinished collections
 pub record State : Type 0 where
   pub catalog : Catalog
   pub files : List (List ℕ × FileState)
   pub managed : List (List ℕ)
+  pub collections : Collections
 
 -- an answer line, and what stands after it
 abbrev pub StepResult : Type 0 → Type 0

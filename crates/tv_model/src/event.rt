@@ -17,10 +17,18 @@ pub enum Event {
     Seal(SegmentId, SegmentComponent),
     /// Says how many documents a segment has.
     Docs(SegmentId, u32),
+    /// Says how many documents of a segment are deleted, and draws an opstamp for its delete file.
+    Deletes(SegmentId, u32),
     /// Publishes the named segments.
     Commit(Option<Text>, IdList),
     /// Deletes the files that nothing needs.
     Gc,
+    /// Begins a collection of the files that nothing needs.
+    GcBegin,
+    /// Deletes the next file of a collection.
+    GcStep(u64),
+    /// Ends a collection: what it deleted is managed no more.
+    GcEnd(u64),
     /// Makes a reader.
     Reader(ReloadPolicy),
     /// Makes a reader show the current commit.
@@ -41,4 +49,6 @@ pub enum Event {
     Managed,
     /// Asks which files of the current commit have another checksum than that of their body.
     Validate,
+    /// Opens the index again, where it stands.
+    Reopen,
 }

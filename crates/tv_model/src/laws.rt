@@ -9,7 +9,7 @@ ghost use Rattle.tv_model.specs.declared.event.Event.{Event};
 ghost use Rattle.tv_model.specs.declared.segment.DeleteMeta.{DeleteMeta};
 ghost use Rattle.tv_model.specs.declared.segment.SegmentComponent.{SegmentComponent};
 ghost use Rattle.tv_model.specs.declared.segment.SegmentComponent.TheVariants.{Delete};
-ghost use Rattle.tv_model.specs.Collecting.{Collects, CollectsIn};
+ghost use Rattle.tv_model.specs.Collecting.{Collects, CollectsAllElse, CollectsIn, CollectsInSteps};
 ghost use Rattle.tv_model.specs.Commits.{Commit, IsCommit, Settings, printed};
 ghost use Rattle.tv_model.specs.Files.{Reads};
 ghost use Rattle.tv_model.specs.Footer.{HasBody, IsFramed, body_of, sealed};
@@ -35,7 +35,8 @@ ghost use Rattle.tv_model.specs.Validating.{Validates};
 use crate::id::SegmentId;
 
 /// In each run of an index that was just opened, a searcher shows one commit of the run for life,
-/// and a reader never shows an older commit than it showed before. From a sound state on, what is
+/// and a reader never shows an older commit than it showed before; both end where the index is opened
+/// again. From a sound state on, what is
 /// shown of a file is the body with which it was sealed.
 pub fn searchers_keep_their_commit()
     ensures serves { (s : State) (turns : List Turn) → IsJustOpened s → Serves s turns }
@@ -55,13 +56,17 @@ pub fn sound_starts_open_to_sound_states()
     ensures reads { (s : State) → IsSoundState s → CanRead s }
 {}
 
-/// A collection takes exactly the managed names that nothing needs. Each of them is told as done or
-/// as failed, and those that failed stay managed. So does each collection of a run.
+/// A collection takes exactly the managed names that nothing needs and no other collection holds. Each
+/// of them is told as done or as failed, and those that failed stay managed. So does each collection of
+/// a run. One in steps does the same, and names that it didn't try stay managed too. After an index was
+/// opened again, a collection of which no delete is refused leaves exactly the files that are needed.
 pub fn collections_take_what_nothing_needs()
     ensures collects { (s : State) (outcomes : List Bool)
         → IsStrictlySortedBy byte_cmp s.managed → Collects s outcomes }
     ensures in_runs { (s : State) (turns : List Turn)
         → IsStrictlySortedBy byte_cmp s.managed → CollectsIn s turns }
+    ensures in_steps { (s : State) → IsSoundState s → CollectsInSteps s }
+    ensures all_else { (s : State) → IsSoundState s → CollectsAllElse s }
 {}
 
 /// The line of a collection tells which names were done and which failed, since no plain name has a

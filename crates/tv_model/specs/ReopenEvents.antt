@@ -1,0 +1,18 @@
+-- The event that opens an index again, where it stands.
+use Rattle.std.specs.Prelude.{ℕ, List, map}
+use Rattle.tv_model.specs.State.{State, StepResult, FileState}
+use Rattle.tv_model.specs.Collections.{no_collections}
+use Rattle.tv_model.specs.CollectionEvents.{left}
+use Rattle.tv_model.specs.Index.{opened_catalog}
+use Rattle.tv_model.specs.Lines.{opening_line}
+
+-- the open files are left
+abbrev pub all_left : List (List ℕ × FileState) → List (List ℕ × FileState)
+all_left files = map (λ e. (e.0, left e.1)) files
+
+-- The files, the managed names and the current commit stay; open files are left; and all else is as in an index that was just opened with this commit.
+abbrev pub reopened : State → State
+reopened s = record { catalog = opened_catalog s.catalog.commit; files = all_left s.files; managed = s.managed; collections = no_collections }
+
+abbrev pub reopen_step : State → StepResult State
+reopen_step s = (opening_line s, reopened s)
