@@ -121,6 +121,10 @@ taken_times c n = omega (arith, times_append (c.done ++ c.failed) c.untried n, t
 pub done_taken : (c : Collection) (n : List ℕ) → times c.done n ≤ times (taken c) n
 done_taken c n = omega (arith, taken_times c n)
 
+-- and so was what is yet to be tried
+pub untried_taken : (c : Collection) (n : List ℕ) → times c.untried n ≤ times (taken c) n
+untried_taken c n = omega (arith, taken_times c n)
+
 -- a collection that has tried a name has the names that it had
 pub tried_times : (c : Collection) (name : List ℕ) (left : List (List ℕ)) (is_done : Bool) (n : List ℕ) → c.untried ≡ name ∷ left → times (taken (having_tried c name left is_done)) n ≡ times (taken c) n
 tried_times c name left true n e =

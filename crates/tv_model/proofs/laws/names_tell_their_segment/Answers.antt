@@ -1,4 +1,3 @@
-use Rattle.tv_model.proofs.HeldStates.{collecting_changes}
 use Rattle.std.proofs.Common.{refl}
 use Rattle.tv_model.proofs.SegmentNames.{one_segment}
 use Rattle.tv_model.proofs.laws.names_tell_their_segment.Goals as goal
