@@ -1,24 +1,23 @@
 -- Collections in steps, and what a collection leaves of an index that was opened again.
-use Rattle.std.proofs.Common.{◌≡◌, ℕ, ◌+◌, ◌≤◌, ◌<◌, Bool, true, false, true≢false, not, ◌&&◌, ◌||◌, cond, List, [], ◌∷◌, ◌++◌, codes, Option, Some, None, refl, sym, ap, subst, ◌∙◌, arith}
+use Rattle.std.proofs.Common.{◌≡◌, ℕ, ◌+◌, ◌≤◌, ◌<◌, Bool, true, false, true≢false, not, ◌&&◌, ◌||◌, cond, List, [], ◌∷◌, ◌++◌, codes, Option, Some, None, refl, sym, ap, ◌∙◌, arith}
 use Rattle.std.specs.Prelude.{is_some, option_map}
 use Rattle.std.specs.Ordering.{nat_cmp}
 use Rattle.std.specs.List.{AllByRecursion}
 use Rattle.std.specs.BTreeMap.{is_at}
 use Rattle.std.proofs.lemmas.Bool.{false_from_ne_true}
 use Rattle.tv_model.specs.declared.event.Event.{Event}
-use Rattle.tv_model.specs.declared.event.Event.TheVariants as events
 use Rattle.tv_model.specs.Names.{has}
-use Rattle.tv_model.specs.Collections.{Collection, Collections, AreOnce, begun, collection_at, done_of, having_tried, held, no_collections, taken}
+use Rattle.tv_model.specs.Collections.{Collection, AreOnce, begun, collection_at, done_of, having_tried, held, taken}
 use Rattle.tv_model.specs.Living.{living}
 use Rattle.tv_model.specs.Lines.{given}
 use Rattle.tv_model.specs.State.{State, FileState, file_at}
-use Rattle.tv_model.specs.CollectionEvents.{garbage, gc_begin_step, gc_end_step, gc_step, gc_step_step, having_deleted, ended, is_done, left, tried_first}
-use Rattle.tv_model.specs.ReopenEvents.{all_left, reopened}
-use Rattle.tv_model.specs.Machine.{Turn, NeverReopens, isnt_reopening, step, after}
+use Rattle.tv_model.specs.CollectionEvents.{garbage, gc_end_step, ended, left, tried_first}
+use Rattle.tv_model.specs.ReopenEvents.{reopened}
+use Rattle.tv_model.specs.Machine.{Turn, NeverReopens, isnt_reopening, after}
 use Rattle.tv_model.specs.Collecting.{Ends, CollectsInSteps, CollectsAllElse}
 use Rattle.tv_model.specs.SoundStates.{CollectsSoundly, IsSoundState}
 use Rattle.tv_model.proofs.Changes.{OfEachChange, after_between, step_changes}
-use Rattle.tv_model.proofs.CollectionStates.{at_without, garbage_is, has_append, has_without}
+use Rattle.tv_model.proofs.CollectionStates.{at_without, garbage_is, has_without}
 use Rattle.tv_model.proofs.Collects.{takes}
 use Rattle.tv_model.proofs.HeldNames.{times, times_append, some_times, no_times, has_times, once_times, times_once, taken_held, taken_times, tried_times}
 use Rattle.tv_model.proofs.HeldStates.{given_at}
@@ -35,13 +34,13 @@ same_has xs ys n e = either (has ys n) refl where
   either false absent = false_from_ne_true (has xs n) (λ there. absurd (omega (arith, e, some_times xs n there, no_times ys n absent))) ∙ sym absent
 
 -- a collection of this number has these names
-abbrev Takes : ℕ → Collection → ℕ × Collection → Type 0
-Takes number first e = e.0 ≡ number → (n : List ℕ) → times (taken e.1) n ≡ times (taken first) n
+abbrev HasNames : ℕ → Collection → ℕ × Collection → Type 0
+HasNames number first e = e.0 ≡ number → (n : List ℕ) → times (taken e.1) n ≡ times (taken first) n
 
 -- its number was given, and it has its names as long as it is there
 record Keeps (s : State) (number : ℕ) (first : Collection) : Type 0 where
   given : number < s.collections.next
-  each : AllByRecursion (Takes number first) s.collections.unfinished
+  each : AllByRecursion (HasNames number first) s.collections.unfinished
 
 keeps_changes : (s : State) (event : Event) (number : ℕ) (first : Collection) → isnt_reopening event ≡ true → Keeps s number first → OfEachChange (λ t. Keeps t number first) s event
 keeps_changes s event number first never h = record {
@@ -56,18 +55,18 @@ keeps_changes s event number first never h = record {
   deletes = λ id n segment may. record { given = h.given; each = h.each };
   begins = record {
     given = omega (arith, h.given);
-    each = put_all (Takes number first) s.collections.unfinished s.collections.next (begun (garbage s)) h.each (λ same. absurd (omega (arith, same, h.given)));
+    each = put_all (HasNames number first) s.collections.unfinished s.collections.next (begun (garbage s)) h.each (λ same. absurd (omega (arith, same, h.given)));
   };
   tries = λ k c name left is_done there e. record {
     given = h.given;
-    each = put_all (Takes number first) s.collections.unfinished k (having_tried c name left is_done) h.each
-        (λ same n. tried_times c name left is_done n e ∙ found (Takes number first) s.collections.unfinished k c h.each there same n);
+    each = put_all (HasNames number first) s.collections.unfinished k (having_tried c name left is_done) h.each
+        (λ same n. tried_times c name left is_done n e ∙ found (HasNames number first) s.collections.unfinished k c h.each there same n);
   };
-  finishes = λ k c there. record { given = h.given; each = gone_all (Takes number first) (is_at (nat_cmp k)) s.collections.unfinished h.each };
+  finishes = λ k c there. record { given = h.given; each = gone_all (HasNames number first) (is_at (nat_cmp k)) s.collections.unfinished h.each };
   reopens = λ e. absurd (true≢false (sym never ∙ ap isnt_reopening e));
 }
 
-same_names : (first : Collection) (es : List (ℕ × Collection)) (number : ℕ) → AllByRecursion (λ e. e.0 ≡ number → e.1 ≡ first) es → AllByRecursion (Takes number first) es
+same_names : (first : Collection) (es : List (ℕ × Collection)) (number : ℕ) → AllByRecursion (λ e. e.0 ≡ number → e.1 ≡ first) es → AllByRecursion (HasNames number first) es
 same_names first [] number h = tt
 same_names first (e ∷ es) number h = (λ same n. ap (λ (c : Collection). times (taken c) n) (h.0 same), same_names first es number h.1)
 
@@ -76,7 +75,7 @@ keeps : (s : State) (turns : List Turn) (number : ℕ) (first later : Collection
 keeps s turns number first later h never there then n =
     let start : Keeps s number first = record { given = given_at s h number first there; each = same_names first s.collections.unfinished number (only s.collections.unfinished number first h.ordered there) } in
     let end = after_between (λ t. Keeps t number first) (λ t event outcomes once k. step_changes (λ u. Keeps u number first) t event outcomes (keeps_changes t event number first once k)) s turns never start in
-    same_has (taken later) (taken first) n (found (Takes number first) (after s turns).collections.unfinished number later end.each then refl n)
+    same_has (taken later) (taken first) n (found (HasNames number first) (after s turns).collections.unfinished number later end.each then refl n)
 
 -- ---- the end of a collection
 

@@ -37,8 +37,7 @@ use crate::id::SegmentId;
 
 /// In each run of an index that was just opened, a searcher shows one commit of the run for life,
 /// and a reader never shows an older commit than it showed before; both end where the index is opened
-/// again. From a sound state on, what is
-/// shown of a file is the body with which it was sealed.
+/// again. From a sound state on, what is shown of a file is the body with which it was sealed.
 pub fn searchers_keep_their_commit()
     ensures serves { (s : State) (turns : List Turn) → IsJustOpened s → Serves s turns }
     ensures as_sealed { (s : State) (turns : List Turn) → IsSoundState s
