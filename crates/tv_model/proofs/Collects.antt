@@ -63,7 +63,7 @@ few_failed (name ∷ names) (false ∷ outcomes) = omega (arith, few_failed name
 -- what a collection takes, tells and leaves
 pub collects : (s : State) (outcomes : List Bool) → IsStrictlySortedBy byte_cmp s.managed → Collects s outcomes
 collects s outcomes sorted = record {
-  taken = takes s;
+  takes = takes s;
   each = told (garbage s) outcomes;
   apart = λ n h. one_way (garbage s) outcomes n once h;
   gone = λ n h. rw (has_without (done_of (garbage s) outcomes) s.managed n, h) refl;

@@ -1,6 +1,6 @@
 -- Collections in steps, and what a collection leaves of an index that was opened again.
-use Rattle.std.proofs.Common.{◌≡◌, ℕ, ◌+◌, ◌≤◌, ◌<◌, Bool, true, false, true≢false, not, ◌&&◌, ◌||◌, cond, List, [], ◌∷◌, ◌++◌, codes, Option, Some, None, refl, sym, ap, ◌∙◌, arith}
-use Rattle.std.specs.Prelude.{is_some, option_map}
+use Rattle.std.proofs.Common.{◌≡◌, ℕ, ◌+◌, ◌≤◌, ◌<◌, Bool, true, false, true≢false, not, ◌&&◌, ◌||◌, cond, List, [], ◌∷◌, ◌++◌, codes, Option, Some, None, refl, sym, ap, subst, ◌∙◌, arith}
+use Rattle.std.specs.Prelude.{is_some}
 use Rattle.std.specs.Ordering.{nat_cmp}
 use Rattle.std.specs.List.{AllByRecursion}
 use Rattle.std.specs.BTreeMap.{is_at}
@@ -11,10 +11,10 @@ use Rattle.tv_model.specs.Collections.{Collection, AreOnce, begun, collection_at
 use Rattle.tv_model.specs.Living.{living}
 use Rattle.tv_model.specs.Lines.{given}
 use Rattle.tv_model.specs.State.{State, FileState, file_at}
-use Rattle.tv_model.specs.CollectionEvents.{garbage, gc_end_step, ended, left, tried_first}
-use Rattle.tv_model.specs.ReopenEvents.{reopened}
-use Rattle.tv_model.specs.Machine.{Turn, NeverReopens, isnt_reopening, after}
-use Rattle.tv_model.specs.Collecting.{Ends, CollectsInSteps, CollectsAllElse}
+use Rattle.tv_model.specs.CollectionEvents.{garbage, gc_end_step, ended, is_done, tried_first}
+use Rattle.tv_model.specs.Machine.{Turn, NeverReopens, isnt_reopening, after, events_of, refused_in}
+use Rattle.tv_model.specs.Script.{Fits}
+use Rattle.tv_model.specs.Collecting.{Ends, CollectsInSteps, CollectsInStepsIn, CollectsAllElse}
 use Rattle.tv_model.specs.SoundStates.{CollectsSoundly, IsSoundState}
 use Rattle.tv_model.proofs.Changes.{OfEachChange, after_between, step_changes}
 use Rattle.tv_model.proofs.CollectionStates.{at_without, garbage_is, has_without}
@@ -22,7 +22,7 @@ use Rattle.tv_model.proofs.Collects.{takes}
 use Rattle.tv_model.proofs.HeldNames.{times, times_append, some_times, no_times, has_times, once_times, times_once, taken_held, taken_times, tried_times}
 use Rattle.tv_model.proofs.HeldStates.{given_at}
 use Rattle.tv_model.proofs.Numbered.{found, gone_all, only, put_all, put_found}
-use Rattle.tv_model.proofs.WholeStates.{at_all_left}
+use Rattle.tv_model.proofs.Serving.{front_fits, sound_after}
 
 -- ---- what a collection keeps
 
@@ -107,6 +107,11 @@ ends s number c h there = record {
 
 -- ---- the laws
 
+few : (outcomes : List Bool) → is_done outcomes ≡ false → 1 ≤ refused_in outcomes
+few [] h = absurd (true≢false h)
+few (true ∷ outcomes) h = absurd (true≢false h)
+few (false ∷ outcomes) h = omega arith
+
 pub collects_in_steps : (s : State) → IsSoundState s → CollectsInSteps s
 collects_in_steps s sound = let h = sound.whole.collecting in record {
   begins = (put_found s.collections.unfinished s.collections.next (begun (garbage s)), takes s);
@@ -114,30 +119,37 @@ collects_in_steps s sound = let h = sound.whole.collecting in record {
   tells = λ number c name left outcomes there e.
       ap (λ (x : Option Collection). given s x (codes "unknown-collection") (λ k. tried_first s number k k.untried outcomes)) there
       ∙ ap (λ (l : List (List ℕ)). tried_first s number c l outcomes) e;
+  counted = few;
   ends = λ number c there. ends s number c h there;
 }
 
-all_done : (names : List (List ℕ)) → done_of names [] ≡ names
-all_done [] = refl
-all_done (name ∷ names) = refl
+-- so does each state of a run
+pub collects_in_steps_in : (s : State) (turns : List Turn) → IsSoundState s → AllByRecursion Fits (events_of turns) → CollectsInStepsIn s turns
+collects_in_steps_in s turns h fits front rest e =
+    collects_in_steps (after s front) (sound_after s front (front_fits front rest (subst (λ (l : List Turn). AllByRecursion Fits (events_of l)) e fits)) h)
 
--- a file that is there and managed is kept exactly where it is needed
-kept_needed : (living held managed : Bool) (file : Option FileState) → held ≡ false → (is_some file ≡ true → managed ≡ true)
-    → is_some (cond (not (not (living || held) && managed)) (option_map left file) None) ≡ (is_some file && living)
-kept_needed living true managed file e h = absurd (true≢false e)
-kept_needed true false managed None e h = refl
-kept_needed true false managed (Some file) e h = refl
-kept_needed false false true None e h = refl
-kept_needed false false true (Some file) e h = refl
-kept_needed false false false None e h = refl
-kept_needed false false false (Some file) e h = absurd (true≢false (sym (h refl)))
+all_done : (names : List (List ℕ)) (outcomes : List Bool) → refused_in outcomes ≡ 0 → done_of names outcomes ≡ names
+all_done [] outcomes h = refl
+all_done (name ∷ names) [] h = refl
+all_done (name ∷ names) (true ∷ outcomes) h = ap (λ (l : List (List ℕ)). name ∷ l) (all_done names outcomes h)
+all_done (name ∷ names) (false ∷ outcomes) h = absurd (omega (arith, h))
+
+-- a file that is there and managed is kept exactly where it is needed or held
+kept_needed : (living held managed : Bool) (file : Option FileState) → (is_some file ≡ true → managed ≡ true)
+    → is_some (cond (not (not (living || held) && managed)) file None) ≡ (is_some file && (living || held))
+kept_needed true held managed None h = refl
+kept_needed true held managed (Some file) h = refl
+kept_needed false true managed None h = refl
+kept_needed false true managed (Some file) h = refl
+kept_needed false false true None h = refl
+kept_needed false false true (Some file) h = refl
+kept_needed false false false None h = refl
+kept_needed false false false (Some file) h = absurd (true≢false (sym (h refl)))
 
 pub collects_all_else : (s : State) → IsSoundState s → CollectsAllElse s
-collects_all_else s sound n =
-    let t = reopened s in
-    let gone = done_of (garbage t) [] in
-    let taken_now : has gone n ≡ (not (has (living t.catalog) n || false) && has s.managed n) = ap (λ (l : List (List ℕ)). has l n) (all_done (garbage t)) ∙ garbage_is t n in
-    ap is_some (at_without gone t.files n)
-    ∙ ap (λ (b : Bool). is_some (cond (not b) (file_at t n) None)) taken_now
-    ∙ ap (λ (f : Option FileState). is_some (cond (not (not (has (living t.catalog) n || false) && has s.managed n)) f None)) (at_all_left s.files n)
-    ∙ kept_needed (has (living t.catalog) n) false (has s.managed n) (file_at s n) refl (sound.listed n)
+collects_all_else s sound outcomes n none =
+    let gone = done_of (garbage s) outcomes in
+    let taken_now : has gone n ≡ (not (has (living s.catalog) n || has (held s.collections) n) && has s.managed n) = ap (λ (l : List (List ℕ)). has l n) (all_done (garbage s) outcomes none) ∙ garbage_is s n in
+    ap is_some (at_without gone s.files n)
+    ∙ ap (λ (b : Bool). is_some (cond (not b) (file_at s n) None)) taken_now
+    ∙ kept_needed (has (living s.catalog) n) (has (held s.collections) n) (has s.managed n) (file_at s n) (sound.listed n)

@@ -339,12 +339,12 @@ serves s turns none next = record {
 }
 
 -- states of a run stay sound
-sound_after : (s : State) (turns : List Turn) → AllByRecursion Fits (events_of turns) → IsSoundState s → IsSoundState (after s turns)
+pub sound_after : (s : State) (turns : List Turn) → AllByRecursion Fits (events_of turns) → IsSoundState s → IsSoundState (after s turns)
 sound_after s [] fits h = h
 sound_after s (turn ∷ turns) fits h = sound_after (step s turn.0 turn.1).1 turns fits.1 (step_sound s turn.0 turn.1 fits.0 h)
 
 -- what holds of all events of a run holds of those of its first part
-front_fits : (front rest : List Turn) → AllByRecursion Fits (events_of (front ++ rest)) → AllByRecursion Fits (events_of front)
+pub front_fits : (front rest : List Turn) → AllByRecursion Fits (events_of (front ++ rest)) → AllByRecursion Fits (events_of front)
 front_fits [] rest h = tt
 front_fits (turn ∷ front) rest h = (h.0, front_fits front rest h.1)
 

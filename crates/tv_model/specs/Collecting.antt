@@ -6,17 +6,16 @@ use Rattle.tv_model.specs.Collections.{Collection, AreOnce, begun, collection_at
 use Rattle.tv_model.specs.Living.{living}
 use Rattle.tv_model.specs.State.{State, file_at}
 use Rattle.tv_model.specs.CollectionEvents.{garbage, gc_begin_step, gc_end_step, gc_step, gc_step_step, having_deleted, is_done}
-use Rattle.tv_model.specs.ReopenEvents.{reopened}
 use Rattle.tv_model.specs.Machine.{Turn, NeverReopens, after, refused_in}
 
 -- these are exactly the managed names that are neither living nor held
 abbrev pub Takes : State → List (List ℕ) → Type 0
 Takes s names = (n : List ℕ) → has names n ≡ (has s.managed n && not (has (living s.catalog) n) && not (has (held s.collections) n))
 
--- a collection with these outcomes
+-- A collection at once, with these outcomes.
 pub record Collects (s : State) (outcomes : List Bool) : Type 0 where
   -- it takes exactly the managed names that nothing needs and no other collection holds
-  pub taken : Takes s (garbage s)
+  pub takes : Takes s (garbage s)
   -- each of them is told, as done or as failed
   pub each : (n : List ℕ)
       → has (garbage s) n ≡ (has (done_of (garbage s) outcomes) n || has (failed_of (garbage s) outcomes) n)
@@ -32,7 +31,7 @@ pub record Collects (s : State) (outcomes : List Bool) : Type 0 where
   -- no more names fail than deletes were refused
   pub counted : length (failed_of (garbage s) outcomes) ≤ refused_in outcomes
 
--- each collection of a run
+-- each collection at once of a run
 abbrev pub CollectsIn : State → List Turn → Type 0
 CollectsIn s turns = (front rest : List Turn) (outcomes : List Bool)
     → turns ≡ front ++ (events.Gc, outcomes) ∷ rest → Collects (after s front) outcomes
@@ -56,13 +55,20 @@ pub record CollectsInSteps (s : State) : Type 0 where
   pub keeps : (turns : List Turn) (number : ℕ) (first later : Collection) → NeverReopens turns
       → collection_at s.collections number ≡ Some first → collection_at (after s turns).collections number ≡ Some later
       → (n : List ℕ) → has (taken later) n ≡ has (taken first) n
-  -- a step tells the first name that is left, as done or as failed
+  -- a step tries the first name that is left, and tells it as done or as failed
   pub tells : (number : ℕ) (c : Collection) (name : List ℕ) (left : List (List ℕ)) (outcomes : List Bool)
       → collection_at s.collections number ≡ Some c → c.untried ≡ name ∷ left
       → gc_step_step s number outcomes ≡ having_deleted s number c name left (is_done outcomes)
+  -- as failed only where a delete was refused
+  pub counted : (outcomes : List Bool) → is_done outcomes ≡ false → 1 ≤ refused_in outcomes
   -- and an end takes out what is done
   pub ends : (number : ℕ) (c : Collection) → collection_at s.collections number ≡ Some c → Ends s number c
 
--- After an index was opened again, a collection of which no delete is refused leaves exactly the files that are needed.
+-- each state of a run collects so
+abbrev pub CollectsInStepsIn : State → List Turn → Type 0
+CollectsInStepsIn s turns = (front rest : List Turn) → turns ≡ front ++ rest → CollectsInSteps (after s front)
+
+-- A collection at once of which no delete is refused leaves exactly the files that are needed or held; after an opening nothing is held.
 abbrev pub CollectsAllElse : State → Type 0
-CollectsAllElse s = (n : List ℕ) → is_some (file_at (gc_step (reopened s) []).1 n) ≡ (is_some (file_at s n) && has (living (reopened s).catalog) n)
+CollectsAllElse s = (outcomes : List Bool) (n : List ℕ) → refused_in outcomes ≡ 0
+    → is_some (file_at (gc_step s outcomes).1 n) ≡ (is_some (file_at s n) && (has (living s.catalog) n || has (held s.collections) n))

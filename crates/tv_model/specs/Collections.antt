@@ -73,7 +73,7 @@ having_tried c name left is_done =
 abbrev pub with_begun : Collections → List (List ℕ) → Collections
 with_begun collections names = record { unfinished = insert_entry nat_cmp collections.unfinished collections.next (begun names); next = collections.next + 1 }
 
--- the collection of this number stands so
+-- this collection stands at this number
 abbrev pub with_collection : Collections → ℕ → Collection → Collections
 with_collection collections number c = record collections { unfinished = insert_entry nat_cmp collections.unfinished number c }
 

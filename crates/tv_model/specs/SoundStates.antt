@@ -12,11 +12,11 @@ use Rattle.tv_model.specs.Living.{living}
 use Rattle.tv_model.specs.State.{State, Sealed, file_at}
 use Rattle.tv_model.specs.Index.{IsFileOf}
 
--- What the unfinished collections of a state hold.
+-- What holds of the names that unfinished collections took.
 pub record CollectsSoundly (s : State) : Type 0 where
-  -- it is managed
+  -- they are managed
   pub managed : (n : List ℕ) → has (held s.collections) n ≡ true → has s.managed n ≡ true
-  -- and nothing needs it
+  -- and nothing needs them
   pub spared : (n : List ℕ) → has (held s.collections) n ≡ true → has (living s.catalog) n ≡ false
   -- no two collections have a name in common, and none has one twice
   pub once : AreOnce (held s.collections)
