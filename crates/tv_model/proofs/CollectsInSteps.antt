@@ -6,15 +6,15 @@ use Rattle.std.specs.List.{AllByRecursion}
 use Rattle.std.specs.BTreeMap.{is_at}
 use Rattle.std.proofs.lemmas.Bool.{false_from_ne_true}
 use Rattle.tv_model.specs.declared.event.Event.{Event}
-use Rattle.tv_model.specs.Names.{has}
+use Rattle.tv_model.specs.Names.{is, has}
 use Rattle.tv_model.specs.Collections.{Collection, AreOnce, begun, collection_at, done_of, having_tried, held, taken}
 use Rattle.tv_model.specs.Living.{living}
 use Rattle.tv_model.specs.Lines.{given}
-use Rattle.tv_model.specs.State.{State, FileState, file_at}
-use Rattle.tv_model.specs.CollectionEvents.{garbage, gc_end_step, ended, left, tried_first}
+use Rattle.tv_model.specs.State.{State, StepResult, FileState, file_at}
+use Rattle.tv_model.specs.CollectionEvents.{garbage, gc_end_step, gc_step_step, having_deleted, ended, is_done, left, tried_first}
 use Rattle.tv_model.specs.ReopenEvents.{reopened}
 use Rattle.tv_model.specs.Machine.{Turn, NeverReopens, isnt_reopening, after}
-use Rattle.tv_model.specs.Collecting.{Ends, CollectsInSteps, CollectsAllElse}
+use Rattle.tv_model.specs.Collecting.{Tries, Ends, CollectsInSteps, CollectsAllElse}
 use Rattle.tv_model.specs.SoundStates.{CollectsSoundly, IsSoundState}
 use Rattle.tv_model.proofs.Changes.{OfEachChange, after_between, step_changes}
 use Rattle.tv_model.proofs.CollectionStates.{at_without, garbage_is, has_without}
@@ -77,6 +77,32 @@ keeps s turns number first later h never there then n =
     let end = after_between (λ t. Keeps t number first) (λ t event outcomes once k. step_changes (λ u. Keeps u number first) t event outcomes (keeps_changes t event number first once k)) s turns never start in
     same_has (taken later) (taken first) n (found (HasNames number first) (after s turns).collections.unfinished number later end.each then refl n)
 
+-- ---- a step of a collection
+
+-- a step of a collection that has these names left
+step_of : (s : State) (number : ℕ) (c : Collection) (untried : List (List ℕ)) (outcomes : List Bool) → collection_at s.collections number ≡ Some c → c.untried ≡ untried
+    → gc_step_step s number outcomes ≡ tried_first s number c untried outcomes
+step_of s number c untried outcomes there e =
+    ap (λ (x : Option Collection). given s x (codes "unknown-collection") (λ k. tried_first s number k k.untried outcomes)) there
+    ∙ ap (λ (l : List (List ℕ)). tried_first s number c l outcomes) e
+
+without_it : (b : Bool) (file : Option FileState) → cond (not (b || false)) file None ≡ cond b None file
+without_it true file = refl
+without_it false file = refl
+
+tried_file : (s : State) (number : ℕ) (c : Collection) (name : List ℕ) (left : List (List ℕ)) (is_done : Bool) (n : List ℕ) → file_at (having_deleted s number c name left is_done).1 n ≡ cond (is_done && is name n) None (file_at s n)
+tried_file s number c name left true n = at_without (name ∷ []) s.files n ∙ without_it (is name n) (file_at s n)
+tried_file s number c name left false n = refl
+
+tries : (s : State) (number : ℕ) (c : Collection) (name : List ℕ) (left : List (List ℕ)) (outcomes : List Bool) → collection_at s.collections number ≡ Some c → c.untried ≡ name ∷ left → Tries s number c name left outcomes
+tries s number c name left outcomes there e =
+    let now = step_of s number c (name ∷ left) outcomes there e in record {
+      told = ap (λ (r : StepResult State). r.0) now;
+      moved = ap (λ (r : StepResult State). collection_at r.1.collections number) now ∙ put_found s.collections.unfinished number (having_tried c name left (is_done outcomes));
+      gone = λ n. ap (λ (r : StepResult State). file_at r.1 n) now ∙ tried_file s number c name left (is_done outcomes) n;
+      managed = ap (λ (r : StepResult State). r.1.managed) now;
+    }
+
 -- ---- the end of a collection
 
 taken_once : (s : State) (number : ℕ) (c : Collection) → CollectsSoundly s → collection_at s.collections number ≡ Some c → AreOnce (taken c)
@@ -111,9 +137,8 @@ pub collects_in_steps : (s : State) → IsSoundState s → CollectsInSteps s
 collects_in_steps s sound = let h = sound.whole.collecting in record {
   begins = (put_found s.collections.unfinished s.collections.next (begun (garbage s)), takes s);
   keeps = λ turns number first later never there then n. keeps s turns number first later h never there then n;
-  tells = λ number c name left outcomes there e.
-      ap (λ (x : Option Collection). given s x (codes "unknown-collection") (λ k. tried_first s number k k.untried outcomes)) there
-      ∙ ap (λ (l : List (List ℕ)). tried_first s number c l outcomes) e;
+  tries = λ number c name left outcomes there e. tries s number c name left outcomes there e;
+  spent = λ number c outcomes there e. step_of s number c [] outcomes there e;
   ends = λ number c there. ends s number c h there;
 }
 
