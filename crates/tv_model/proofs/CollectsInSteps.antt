@@ -1,5 +1,5 @@
 -- Collections in steps, and what a collection leaves of an index that was opened again.
-use Rattle.std.proofs.Common.{◌≡◌, ℕ, ◌+◌, ◌≤◌, ◌<◌, Bool, true, false, true≢false, not, ◌&&◌, ◌||◌, cond, List, [], ◌∷◌, ◌++◌, codes, Option, Some, None, refl, sym, ap, ◌∙◌, arith}
+use Rattle.std.proofs.Common.{◌≡◌, ℕ, ◌+◌, ◌≤◌, ◌<◌, Bool, true, false, true≢false, not, ◌&&◌, ◌||◌, cond, List, [], ◌∷◌, ◌++◌, codes, Option, Some, None, refl, sym, ap, subst, ◌∙◌, arith, append_assoc, append-nil}
 use Rattle.std.specs.Prelude.{is_some, option_map}
 use Rattle.std.specs.Ordering.{nat_cmp}
 use Rattle.std.specs.List.{AllByRecursion}
@@ -7,14 +7,14 @@ use Rattle.std.specs.BTreeMap.{is_at}
 use Rattle.std.proofs.lemmas.Bool.{false_from_ne_true}
 use Rattle.tv_model.specs.declared.event.Event.{Event}
 use Rattle.tv_model.specs.Names.{is, has}
-use Rattle.tv_model.specs.Collections.{Collection, AreOnce, begun, collection_at, done_of, having_tried, held, taken}
+use Rattle.tv_model.specs.Collections.{Collection, AreOnce, begun, collection_at, done_of, having_tried, held, taken, without}
 use Rattle.tv_model.specs.Living.{living}
 use Rattle.tv_model.specs.Lines.{given}
 use Rattle.tv_model.specs.State.{State, StepResult, FileState, file_at}
-use Rattle.tv_model.specs.CollectionEvents.{garbage, gc_end_step, gc_step_step, having_deleted, ended, is_done, left, tried_first}
+use Rattle.tv_model.specs.CollectionEvents.{garbage, gc_begin_step, gc_end_step, gc_step_step, having_deleted, ended, is_done, left, tried_first}
 use Rattle.tv_model.specs.ReopenEvents.{reopened}
 use Rattle.tv_model.specs.Machine.{Turn, NeverReopens, isnt_reopening, after}
-use Rattle.tv_model.specs.Collecting.{Tries, Ends, CollectsInSteps, CollectsAllElse}
+use Rattle.tv_model.specs.Collecting.{Tries, Ends, IsAtOnce, in_steps, CollectsInSteps, CollectsAllElse}
 use Rattle.tv_model.specs.SoundStates.{CollectsSoundly, IsSoundState}
 use Rattle.tv_model.proofs.Changes.{OfEachChange, after_between, step_changes}
 use Rattle.tv_model.proofs.CollectionStates.{at_without, garbage_is, has_without}
@@ -131,6 +131,63 @@ ends s number c h there = record {
   others = λ n undone. ended_managed s number c n there ∙ (rw undone refl);
 }
 
+-- ---- all steps of a collection
+
+all_done : (names : List (List ℕ)) → done_of names [] ≡ names
+all_done [] = refl
+all_done (name ∷ names) = refl
+
+-- a state after the rest of a collection, whose names that are yet to be done are these
+record IsEnd (s : State) (c : Collection) (done : List (List ℕ)) (t : State) : Type 0 where
+  files : (n : List ℕ) → file_at t n ≡ cond (not (has done n)) (file_at s n) None
+  managed : t.managed ≡ without (c.done ++ done) s.managed
+  catalog : t.catalog ≡ s.catalog
+
+both_gone : (b h : Bool) (file : Option FileState) → cond (not h) (cond (not (b || false)) file None) None ≡ cond (not (b || h)) file None
+both_gone true true file = refl
+both_gone true false file = refl
+both_gone false true file = refl
+both_gone false false file = refl
+
+-- the end from a step on is the end from before it
+end_before : (s t : State) (number : ℕ) (c : Collection) (name : List ℕ) (left : List (List ℕ)) (is_done : Bool) (done : List (List ℕ)) → IsEnd (having_deleted s number c name left is_done).1 (having_tried c name left is_done) done t
+    → IsEnd s c (cond is_done (name ∷ done) done) t
+end_before s t number c name left true done h = record {
+  files = λ n. h.files n ∙ ap (λ (f : Option FileState). cond (not (has done n)) f None) (at_without (name ∷ []) s.files n) ∙ both_gone (is name n) (has done n) (file_at s n);
+  managed = h.managed ∙ ap (λ (l : List (List ℕ)). without l s.managed) (append_assoc c.done (name ∷ []) done);
+  catalog = h.catalog;
+}
+end_before s t number c name left false done h = record { files = h.files; managed = h.managed; catalog = h.catalog }
+
+-- a step, with the end that the steps after it come to
+one_step : (s : State) (number : ℕ) (c : Collection) (name : List ℕ) (left : List (List ℕ)) (outcomes : List Bool) (done : List (List ℕ)) (turns : List Turn) → collection_at s.collections number ≡ Some c → c.untried ≡ name ∷ left
+    → IsEnd (having_deleted s number c name left (is_done outcomes)).1 (having_tried c name left (is_done outcomes)) done (after (having_deleted s number c name left (is_done outcomes)).1 turns)
+    → IsEnd s c (cond (is_done outcomes) (name ∷ done) done) (after (gc_step_step s number outcomes).1 turns)
+one_step s number c name left outcomes done turns there e h =
+    subst (λ (r : StepResult State). IsEnd s c (cond (is_done outcomes) (name ∷ done) done) (after r.1 turns)) (sym (step_of s number c (name ∷ left) outcomes there e))
+    (end_before s (after (having_deleted s number c name left (is_done outcomes)).1 turns) number c name left (is_done outcomes) done h)
+
+-- the collection after it
+tried_at : (s : State) (number : ℕ) (c : Collection) (name : List ℕ) (left : List (List ℕ)) (is_done : Bool) → collection_at (having_deleted s number c name left is_done).1.collections number ≡ Some (having_tried c name left is_done)
+tried_at s number c name left is_done = put_found s.collections.unfinished number (having_tried c name left is_done)
+
+-- the steps that are left, and the end
+steps_end : (s : State) (number : ℕ) (c : Collection) (names : List (List ℕ)) (outcomes : List Bool) → collection_at s.collections number ≡ Some c → c.untried ≡ names
+    → IsEnd s c (done_of names outcomes) (after s (in_steps number names outcomes))
+steps_end s number c [] outcomes there e =
+    subst (λ (x : Option Collection). IsEnd s c [] (given s x (codes "unknown-collection") (ended s number)).1) (sym there)
+    (record { files = λ n. refl; managed = ap (λ (l : List (List ℕ)). without l s.managed) (sym (append-nil c.done)); catalog = refl })
+steps_end s number c (name ∷ names) [] there e =
+    subst (λ (l : List (List ℕ)). IsEnd s c (name ∷ l) (after s (in_steps number (name ∷ names) []))) (all_done names)
+    (one_step s number c name names [] (done_of names []) (in_steps number names []) there e
+    (steps_end (having_deleted s number c name names true).1 number (having_tried c name names true) names [] (tried_at s number c name names true) refl))
+steps_end s number c (name ∷ names) (true ∷ outcomes) there e =
+    one_step s number c name names (true ∷ []) (done_of names outcomes) (in_steps number names outcomes) there e
+    (steps_end (having_deleted s number c name names true).1 number (having_tried c name names true) names outcomes (tried_at s number c name names true) refl)
+steps_end s number c (name ∷ names) (false ∷ outcomes) there e =
+    one_step s number c name names (false ∷ []) (done_of names outcomes) (in_steps number names outcomes) there e
+    (steps_end (having_deleted s number c name names false).1 number (having_tried c name names false) names outcomes (tried_at s number c name names false) refl)
+
 -- ---- the laws
 
 pub collects_in_steps : (s : State) → IsSoundState s → CollectsInSteps s
@@ -142,10 +199,6 @@ collects_in_steps s sound = let h = sound.whole.collecting in record {
   ends = λ number c there. ends s number c h there;
 }
 
-all_done : (names : List (List ℕ)) → done_of names [] ≡ names
-all_done [] = refl
-all_done (name ∷ names) = refl
-
 -- a file that is there and managed is kept exactly where it is needed
 kept_needed : (living held managed : Bool) (file : Option FileState) → held ≡ false → (is_some file ≡ true → managed ≡ true)
     → is_some (cond (not (not (living || held) && managed)) (option_map left file) None) ≡ (is_some file && living)
@@ -156,6 +209,14 @@ kept_needed false false true None e h = refl
 kept_needed false false true (Some file) e h = refl
 kept_needed false false false None e h = refl
 kept_needed false false false (Some file) e h = absurd (true≢false (sym (h refl)))
+
+pub collects_at_once : (s : State) (outcomes : List Bool) → IsAtOnce s outcomes
+collects_at_once s outcomes =
+    let end = steps_end (gc_begin_step s).1 s.collections.next (begun (garbage s)) (garbage s) outcomes (put_found s.collections.unfinished s.collections.next (begun (garbage s))) refl in record {
+      files = λ n. at_without (done_of (garbage s) outcomes) s.files n ∙ sym (end.files n);
+      managed = sym end.managed;
+      catalog = sym end.catalog;
+    }
 
 pub collects_all_else : (s : State) → IsSoundState s → CollectsAllElse s
 collects_all_else s sound n =

@@ -77,6 +77,22 @@ pub record CollectsInSteps (s : State) : Type 0 where
   -- and an end takes out what is done
   pub ends : (number : ℕ) (c : Collection) → collection_at s.collections number ≡ Some c → Ends s number c
 
+-- the steps of a collection of these names, with these outcomes, and its end
+abbrev pub in_steps : (number : ℕ) → (names : List (List ℕ)) → List Bool → List Turn
+in_steps number [] outcomes = (events.GcEnd number, []) ∷ []
+in_steps number (name ∷ names) [] = (events.GcStep number, []) ∷ in_steps number names []
+in_steps number (name ∷ names) (outcome ∷ outcomes) = (events.GcStep number, outcome ∷ []) ∷ in_steps number names outcomes
+
+-- a collection in steps, from its beginning to its end
+abbrev pub whole_collection : State → List Bool → List Turn
+whole_collection s outcomes = (events.GcBegin, []) ∷ in_steps s.collections.next (garbage s) outcomes
+
+-- A collection at once does to files and names what one in steps does with the same outcomes.
+pub record IsAtOnce (s : State) (outcomes : List Bool) : Type 0 where
+  pub files : (n : List ℕ) → file_at (gc_step s outcomes).1 n ≡ file_at (after s (whole_collection s outcomes)) n
+  pub managed : (gc_step s outcomes).1.managed ≡ (after s (whole_collection s outcomes)).managed
+  pub catalog : (gc_step s outcomes).1.catalog ≡ (after s (whole_collection s outcomes)).catalog
+
 -- After an index was opened again, a collection of which no delete is refused leaves exactly the files that are needed.
 abbrev pub CollectsAllElse : State → Type 0
 CollectsAllElse s = (n : List ℕ) → is_some (file_at (gc_step (reopened s) []).1 n) ≡ (is_some (file_at s n) && has (living (reopened s).catalog) n)
