@@ -9,7 +9,8 @@ ghost use Rattle.tv_model.specs.declared.event.Event.{Event};
 ghost use Rattle.tv_model.specs.declared.segment.DeleteMeta.{DeleteMeta};
 ghost use Rattle.tv_model.specs.declared.segment.SegmentComponent.{SegmentComponent};
 ghost use Rattle.tv_model.specs.declared.segment.SegmentComponent.TheVariants.{Delete};
-ghost use Rattle.tv_model.specs.Collecting.{Collects, CollectsAllElse, CollectsIn, CollectsInStepsIn};
+ghost use Rattle.tv_model.specs.Collecting.{Collects, CollectsIn, CollectsInStepsIn};
+ghost use Rattle.tv_model.specs.Collecting.{CollectsAllElse, IsAtOnce};
 ghost use Rattle.tv_model.specs.Collections.{Collection};
 ghost use Rattle.tv_model.specs.Commits.{Commit, IsCommit, Settings, printed};
 ghost use Rattle.tv_model.specs.Files.{Reads};
@@ -59,8 +60,9 @@ pub fn sound_starts_open_to_sound_states()
 /// A collection takes exactly the managed names that nothing needs and no other collection holds. Each
 /// of them is told as done or as failed, and those that failed stay managed. So does each collection of
 /// a run. A collection in steps takes the same names and keeps them until it ends, tells each that it
-/// tries, and takes out those alone that are done. From a sound state on, a collection at once of which
-/// no delete is refused leaves exactly the files that are needed or held.
+/// tries, and takes out those alone that are done; one at once does to files and names what one in steps
+/// does with the same outcomes. From a sound state on, a collection at once of which no delete is refused
+/// leaves exactly the files that are needed or held.
 pub fn collections_take_what_nothing_needs()
     ensures collects { (s : State) (outcomes : List Bool)
         → IsStrictlySortedBy byte_cmp s.managed → Collects s outcomes }
@@ -68,6 +70,7 @@ pub fn collections_take_what_nothing_needs()
         → IsStrictlySortedBy byte_cmp s.managed → CollectsIn s turns }
     ensures in_steps { (s : State) (turns : List Turn) → IsSoundState s
         → AllByRecursion Fits (events_of turns) → CollectsInStepsIn s turns }
+    ensures at_once { (s : State) (outcomes : List Bool) → IsAtOnce s outcomes }
     ensures all_else { (s : State) → IsSoundState s → CollectsAllElse s }
 {}
 
