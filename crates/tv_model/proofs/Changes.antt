@@ -20,7 +20,7 @@ use Rattle.tv_model.specs.CommitEvents.{last_stamp, chosen, first_unknown, first
 use Rattle.tv_model.specs.Names.{has}
 use Rattle.tv_model.specs.Collections.{Collection, collection_at, held}
 use Rattle.tv_model.specs.CollectionEvents.{gc_step, gc_begin_step, having_deleted, is_done, tried_first, ended, released}
-use Rattle.tv_model.specs.DeleteEvents.{delete_name, next_deletes, is_committed_delete, is_taken, having_deleted_docs}
+use Rattle.tv_model.specs.DeleteEvents.{delete_name, next_deletes, is_committed_delete, is_name_in_use, having_deleted_docs}
 use Rattle.tv_model.specs.ReopenEvents.{reopened}
 use Rattle.tv_model.specs.ReaderEvents.{snapshot_in, with_new_reader, with_reloaded, without_reader}
 use Rattle.tv_model.specs.SearcherEvents.{with_searcher, without_searcher, body_at}
@@ -208,7 +208,7 @@ file_changes P s (events.Deletes id n) outcomes e of =
     (nat_lt segment.max_doc n, codes "wrong-docs" ∷ [])
     ∷ (s.catalog.next == last_stamp, codes "stamps-spent" ∷ [])
     ∷ (has (held s.collections) name, codes "leaving" ∷ [])
-    ∷ (is_taken s id name, codes "name-in-use" ∷ [])
+    ∷ (is_name_in_use s id name, codes "name-in-use" ∷ [])
     ∷ []
     ) (having_deleted_docs s id n segment) (λ words. of.same) (λ none. of.deletes id n segment (record {
       there = is;

@@ -27,8 +27,8 @@ is_committed_delete None id name = false
 is_committed_delete (Some segment) id name = is (delete_name id segment.deletes) name
 
 -- the name is managed, or it is that of the segment's delete file in the current commit
-abbrev pub is_taken : State → (id name : List ℕ) → Bool
-is_taken s id name = has s.managed name || is_committed_delete (at s.catalog.commit.segments id) id name
+abbrev pub is_name_in_use : State → (id name : List ℕ) → Bool
+is_name_in_use s id name = has s.managed name || is_committed_delete (at s.catalog.commit.segments id) id name
 
 -- the segment has these deletes, and the next stamp was drawn for them
 abbrev pub with_deletes : Catalog → List ℕ → LiveSegment → ℕ → Catalog
@@ -51,7 +51,7 @@ deletes_step s id n = given s (live_at s.catalog id) (codes "unknown-segment") (
     (nat_lt segment.max_doc n, codes "wrong-docs" ∷ [])
     ∷ (s.catalog.next == last_stamp, codes "stamps-spent" ∷ [])
     ∷ (has (held s.collections) (delete_name id (Some (next_deletes s.catalog n))), codes "leaving" ∷ [])
-    ∷ (is_taken s id (delete_name id (Some (next_deletes s.catalog n))), codes "name-in-use" ∷ [])
+    ∷ (is_name_in_use s id (delete_name id (Some (next_deletes s.catalog n))), codes "name-in-use" ∷ [])
     ∷ []
     )
     (having_deleted_docs s id n segment))
