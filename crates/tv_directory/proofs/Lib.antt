@@ -4,6 +4,7 @@ pub mod CopiedFiles
 pub mod CutTexts
 pub mod WatchLists
 pub mod PersistedFiles
+pub mod TouchedNames
 pub mod Views
 pub mod Recorded
 pub mod Benches

@@ -20,6 +20,10 @@ pub record PersistsRest (told : Type 0) (all rest : List (List ℕ × List ℕ))
   pub split : all ≡ before ++ rest
   pub persisted : told → Persists before old new
 
+-- they begin with this one
+pub split_at : {told : Type 0} {all rest others : List (List ℕ × List ℕ)} {old new : Reads} {file : List ℕ × List ℕ} (r : PersistsRest told all rest old new) → rest ≡ file ∷ others → all ≡ r.before ++ file ∷ others
+split_at r first = r.split ∙ ap (λ (l : List (List ℕ × List ℕ)). r.before ++ l) first
+
 -- one more file among some others
 at_other : (before : List (List ℕ × List ℕ)) (e : List ℕ × List ℕ) (n : List ℕ) → n ≢ e.0 → at (before ++ e ∷ []) n ≡ at before n
 at_other [] e n other = ap (λ (b : Bool). cond b (Some e.1) None) (same_at n e.0 ∙ isnt_at e.0 n other)

@@ -18,10 +18,15 @@ use Rattle.tv_directory.specs.declared.files.Content.TheVariants as content
 use Rattle.tv_directory.specs.declared.files.StoredFile.{StoredFile}
 use Rattle.std.specs.Prelude.{option_map}
 use Rattle.tv_model.specs.State.{at}
-use Rattle.tv_directory.specs.Images.{KeepsDisk}
-use Rattle.tv_directory.specs.Record.{RecordState, Recorded, RecordedRefused, has_line_room, and_since, disk_by, found_by, is_settled, since_sync, settled_by, states_at, stood_before}
+use Rattle.tv_directory.specs.Images.{KeepsDisk, SetsState}
+use Rattle.tv_directory.specs.Record.{AddsAtMost, RecordState, RecordedRefused, has_line_room, and_since, disk_by, found_by, is_settled, since_sync, settled_by, states_at, stood_before}
 use Rattle.tv_directory.specs.RecordLaws.{stands_now, states_now}
 use Rattle.tv_directory.specs.StoredFiles.{StandsAs, States, is_made, is_number, state_of, states_of}
+
+-- A call was recorded that gave this name this state.
+pub record Recorded (old new : Disk) (name : List ℕ) (state : DiskState) : Type 0 where
+  pub sets : SetsState old new name state
+  pub adds : AddsAtMost old new name state
 
 -- whether a name is this one
 by_name : {P : Type 0} (name n : List ℕ) → (is name n ≡ true → name ≡ n → P) → (is name n ≡ false → n ≢ name → P) → P
@@ -116,13 +121,15 @@ module _ (calls : List Call) (name : List ℕ) (before : Option Content) (old ne
         };
       };
     };
-    no_more = record {
-      each = λ n s is. by_name name n
-          (λ is_it eq. ⊎_elim inl (λ e. inr (sym eq, sym e ∙ ap new (sym eq) ∙ stands.changed))
-          (Contains-push_cases _ (new n) s (subst (λ (l : List DiskState). Contains l s) (this_name n is_it eq) is)))
-          (λ isnt other. inl (subst (λ (l : List DiskState). Contains l s) (other_name n isnt other) is));
+    adds = record {
+      no_more = record {
+        each = λ n s is. by_name name n
+            (λ is_it eq. ⊎_elim inl (λ e. inr (sym eq, sym e ∙ ap new (sym eq) ∙ stands.changed))
+            (Contains-push_cases _ (new n) s (subst (λ (l : List DiskState). Contains l s) (this_name n is_it eq) is)))
+            (λ isnt other. inl (subst (λ (l : List DiskState). Contains l s) (other_name n isnt other) is));
+      };
+      time = elapses calls call old new found;
     };
-    time = elapses calls call old new found;
   }
 
   pub replaced : (now : List Call) → now ≡ calls ++ Replaced name before ∷ [] → Recorded (disk_by calls old) (disk_by now new) name state
@@ -164,15 +171,17 @@ module _ (calls : List Call) (name : List ℕ) (before after : Option Content) (
         };
       };
     };
-    no_more = record {
-      each = λ n s is. by_name name n
-          (λ is_it eq. ⊎_elim
-          (λ front. ⊎_elim inl (λ e. inr (sym eq, sym e)) (Contains-push_cases _ (state_of after) s front))
-          (λ e. inl (subst (λ (t : DiskState). Contains (states_at calls (length calls) n (old n)) t) e (stands_now calls n (old n))))
-          (Contains-push_cases _ (old n) s (subst (λ (l : List DiskState). Contains l s) (this_too n is_it eq) is)))
-          (λ isnt other. inl (subst (λ (l : List DiskState). Contains l s) (others_too n isnt) is));
+    adds = record {
+      no_more = record {
+        each = λ n s is. by_name name n
+            (λ is_it eq. ⊎_elim
+            (λ front. ⊎_elim inl (λ e. inr (sym eq, sym e)) (Contains-push_cases _ (state_of after) s front))
+            (λ e. inl (subst (λ (t : DiskState). Contains (states_at calls (length calls) n (old n)) t) e (stands_now calls n (old n))))
+            (Contains-push_cases _ (old n) s (subst (λ (l : List DiskState). Contains l s) (this_too n is_it eq) is)))
+            (λ isnt other. inl (subst (λ (l : List DiskState). Contains l s) (others_too n isnt) is));
+      };
+      time = elapses calls attempt old old (λ n. refl);
     };
-    time = elapses calls attempt old old (λ n. refl);
   }
 
   pub refused : (now : List Call) → now ≡ calls ++ Refused name before after ∷ [] → RecordedRefused (disk_by calls old) (disk_by now old) name (state_of after)

@@ -2,11 +2,13 @@
 use Rattle.std.specs.Prelude.{ℕ, ◌≡◌, [], false, List, Result, length, OnOk, IfErr, if◌then◌else◌}
 use Rattle.tv_model.specs.Disk.{Disk, IsSettled}
 use Rattle.tv_model.specs.Files.{Reads, Same}
+use Rattle.tv_model.specs.Index.{IsSoundDirectory, IsSoundImage}
 use Rattle.tv_base.specs.Causes.{IsDevice, IoCause, DeleteCause}
 use Rattle.tv_base.specs.declared.io.IoError.{IoError}
 use Rattle.tv_base.specs.declared.io.IoFault.{IoFault}
 use Rattle.tv_base.specs.declared.open_errors.DeleteError.{DeleteError}
 use Rattle.tv_directory.specs.Device.{DeviceState, Passed, Faulted, Refused, after_call}
+use Rattle.tv_directory.specs.Locks.{Locks}
 use Rattle.tv_directory.specs.Ram.{KeepsWriters, SameFile, ram_lives, ram_states, ram_view}
 use Rattle.tv_directory.specs.Record.{disk_by, has_line_room}
 use Rattle.tv_directory.specs.StoredFiles.{at_rest}
@@ -34,13 +36,18 @@ pub record IsAtRest (files : Reads) (disk : Disk) : Type 0 where
   pub states : (n : List ℕ) → disk.now n ≡ at_rest (files n)
   pub settled : IsSettled disk
 
+-- where these files are sound, so is the directory: each image that a crash may leave is, and no lock is held
+abbrev pub IsSoundWhere : Reads → Disk → Locks → Type 0
+IsSoundWhere files disk locks = (schema : List ℕ) → IsSoundImage schema files → IsSoundDirectory schema disk locks
+
 -- its device
 abbrev pub device_in : {C : Type 0} → Bench C → DeviceState
 device_in bench = bench.device
 
--- It reads these files; no lock is held, nobody watches it, the clock and the counts are 0, and nothing was told.
+-- It reads these files; no writer was opened, no lock is held, nobody watches it, the clock and the counts are 0, and nothing was told.
 pub record IsNewBench {W : Type 0} (files : Reads) (view : View W) : Type 0 where
   pub reads : Same files view.reads
+  pub unopened : (w : W) → view.opened w ≡ false
   pub free : (n : List ℕ) → view.locks n ≡ false
   pub watched : view.watched ≡ record { registered = []; notice = false }
   pub moment : view.moment ≡ 0

@@ -15,6 +15,10 @@ use Rattle.tv_directory.specs.declared.files.StoredFile.{StoredFile}
 abbrev pub contents : List (List ℕ × StoredFile) → List (List ℕ × List ℕ)
 contents files = map (λ file. (file.0, bytes_of file.1.content)) files
 
+-- one of these files has this name
+abbrev pub IsAmong : List (List ℕ × List ℕ) → List ℕ → Type 0
+IsAmong files n = IsSome (at files n)
+
 -- none of these files was there, each is there now, and every other name reads what it read
 pub record Persists (files : List (List ℕ × List ℕ)) (old new : Reads) : Type 0 where
   pub absent : (n : List ℕ) → IsSome (at files n) → old n ≡ None

@@ -1,8 +1,11 @@
 -- A directory in memory.
-use Rattle.std.specs.Prelude.{ℕ, List, [], ◌≡◌, ◌-◌, Bool, false, nat_lt}
+use Rattle.std.specs.Prelude.{ℕ, List, [], ◌≡◌, ◌-◌, Bool, Result, IfErr, false, nat_lt}
+use Rattle.tv_model.specs.Disk.{Unsealed}
 use Rattle.tv_model.specs.Files.{Reads, Same}
+use Rattle.tv_base.specs.Causes.{OpenWriteCause}
+use Rattle.tv_base.specs.declared.open_errors.OpenWriteError.{OpenWriteError}
 use Rattle.tv_directory.specs.Locks.{Locks, held_in}
-use Rattle.tv_directory.specs.StoredFiles.{States, reads_of, states_of, is_made}
+use Rattle.tv_directory.specs.StoredFiles.{PutsState, States, reads_of, states_of, is_made}
 use Rattle.tv_directory.specs.View.{View, WriterState}
 use Rattle.tv_directory.specs.Watch.{WatchState}
 use Rattle.tv_directory.specs.WatchList.{state_of}
@@ -79,6 +82,12 @@ pub record KeepsWriters {C : Type 0} (writer : RamWriter) (old new : RamDirector
   pub opened : (w : RamWriter) → ram_opened new w ≡ ram_opened old w
   pub lives : (w : RamWriter) → ram_lives new w ≡ ram_lives old w
   pub gone : ram_lives old writer ≡ false → new ≡ old
+
+-- A call that makes an empty file, where there was none: nothing changed but the files, and of these at most that of this name; nothing at all where it was there.
+pub record MakesFile {A C : Type 0} (old new : RamDirectory C) (name : List ℕ) (result : Result A OpenWriteError) : Type 0 where
+  pub states : PutsState (ram_states old) (ram_states new) name Unsealed result
+  pub there : IfErr result (OpenWriteCause name (new ≡ old) ⊥ (Unit {0}))
+  pub others : OnlyFiles old new
 
 -- It reads these files; no writer was opened, no lock is held, and nobody watches it.
 pub record IsNewRam {C : Type 0} (calls : C → ℕ) (files : Reads) (ram : RamDirectory C) : Type 0 where

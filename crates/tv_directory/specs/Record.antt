@@ -3,7 +3,7 @@ use Rattle.std.specs.Prelude.{ℕ, ◌++◌, ◌∷◌, Bool, true, false, List,
 use Rattle.std.specs.List.{Contains, flat_map, fold}
 use Rattle.tv_model.specs.Disk.{Disk, DiskState, Unsealed, MayAdd, Elapses, possible_now}
 use Rattle.tv_model.specs.Names.{is}
-use Rattle.tv_directory.specs.Images.{MayOpen, SetsState, MaySetState}
+use Rattle.tv_directory.specs.Images.{MayOpen, MaySetState}
 use Rattle.tv_directory.specs.StoredFiles.{States, state_of}
 use Rattle.tv_directory.specs.declared.bench_record.Call.{Call}
 use Rattle.tv_directory.specs.declared.bench_record.Call.TheVariants.{Replaced, Refused, Told, Synced}
@@ -70,20 +70,17 @@ has_line_room r = nat_le (if is_settled r.calls then 2 else 3) r.free
 abbrev pub settled_by : List Call → List Call
 settled_by calls = if is_settled calls then calls else calls ++ Synced ∷ []
 
--- A call was recorded that gave this name this state.
-pub record Recorded (old new : Disk) (name : List ℕ) (state : DiskState) : Type 0 where
-  pub sets : SetsState old new name state
+-- One call, after which a crash may leave at most this state of this name besides.
+pub record AddsAtMost (old new : Disk) (name : List ℕ) (state : DiskState) : Type 0 where
   pub no_more : MayAdd (possible_now old) (possible_now new) name state
   pub time : Elapses old new
 
 -- A call was recorded that the device refused, and that would have given this name this state.
 pub record RecordedRefused (old new : Disk) (name : List ℕ) (state : DiskState) : Type 0 where
   pub sets : MaySetState old new name state
-  pub no_more : MayAdd (possible_now old) (possible_now new) name state
-  pub time : Elapses old new
+  pub adds : AddsAtMost old new name state
 
 -- The same of a call that would have made a file, where there was none.
 pub record RefusedOpening (old new : Disk) (name : List ℕ) : Type 0 where
   pub opens : MayOpen old new name
-  pub no_more : MayAdd (possible_now old) (possible_now new) name Unsealed
-  pub time : Elapses old new
+  pub adds : AddsAtMost old new name Unsealed

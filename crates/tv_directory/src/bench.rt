@@ -1,11 +1,10 @@
 //! A directory in memory, for tests.
-ghost use Rattle.std.specs.Prelude.{◌≡◌, ℕ, List, [], true, string_bytes, IfOk};
+ghost use Rattle.std.specs.Prelude.{◌≡◌, [], true, string_bytes, IfOk};
 ghost use Rattle.std.specs.List.{AllByRecursion};
 ghost use Rattle.tv_model.specs.Files.{Reads, Same};
-ghost use Rattle.tv_model.specs.Index.{IsSoundDirectory, IsSoundImage};
 ghost use Rattle.tv_model.specs.Names.{is_file_name};
 ghost use Rattle.tv_base.specs.Causes.{OpenReadCause};
-ghost use Rattle.tv_directory.specs.Bench.{device_in, disk_in, view_in, IsAtRest, IsNewBench, Untouched};
+ghost use Rattle.tv_directory.specs.Bench.{device_in, disk_in, view_in, IsAtRest, IsNewBench, IsSoundWhere, Untouched};
 ghost use Rattle.tv_directory.specs.Device.{after_fault};
 ghost use Rattle.tv_directory.specs.StoredFiles.{AreSealed, named, last_of, reads_of};
 ghost use Rattle.tv_directory.specs.Telling.{bytes_heard};
@@ -33,16 +32,16 @@ pub struct Bench<C> {
 }
 
 impl<C: WatchCall> Bench<C> {
-    /// A directory with these files, sealed and settled. Where a name stands in several pairs, the
-    /// last one counts. The clock and the counts are 0, nothing was told, and no call is refused.
+    /// A directory with these files, sealed and settled: a crash leaves just them. Where a name stands in
+    /// several pairs, the last one counts. The clock and the counts are 0, no writer was opened, nothing
+    /// was told, and no call is refused.
     pub fn new(alloc: Global, files: Vec<(String, Vec<u8>)>) -> Result<Bench<C>, Memory>
         requires { AllByRecursion (λ file. is_file_name (string_bytes file.0) ≡ true) files.items }
         ensures new { IfOk result (λ bench.
             IsNewBench (last_of (named files.items)) (⟦<Bench<C> as Directory>⟧.view bench)) }
         ensures rests { IfOk result (λ bench.
             IsAtRest (last_of (named files.items)) (disk_in bench)) }
-        ensures sound { IfOk result (λ bench. (schema : List ℕ)
-            → IsSoundImage schema (last_of (named files.items)) → IsSoundDirectory schema
+        ensures sound { IfOk result (λ bench. IsSoundWhere (last_of (named files.items))
             (disk_in bench) (⟦<Bench<C> as Directory>⟧.view bench).locks) }
         ensures device { IfOk result (λ bench.
             device_in bench ≡ record { fail_at = []; call = 0; faults = 0; refusals = 0 }) }
@@ -53,7 +52,7 @@ impl<C: WatchCall> Bench<C> {
     // The same of files that are sealed.
     pub(crate) fn with_files(alloc: Global, files: Files) -> Bench<C>
         ensures new { (image : Reads) → Same image (reads_of files.map.entries)
-            → IsNewBench image (view_in C.calls result) }
+            → files.last ≡ 0 → IsNewBench image (view_in C.calls result) }
         ensures rests { (image : Reads) → Same image (reads_of files.map.entries)
             → AreSealed files.map.entries → IsAtRest image (disk_in result) }
         ensures device { device_in result

@@ -3,7 +3,7 @@ ghost use Rattle.std.specs.Prelude.{◌≡◌, ◌≤◌, ◌<◌, ℕ, List, []
 ghost use Rattle.tv_model.specs.Disk.{Left};
 ghost use Rattle.tv_model.specs.Files.{Reads, Sets};
 ghost use Rattle.tv_model.specs.Names.{has};
-ghost use Rattle.tv_directory.specs.Bench.{device_in, disk_in, IsAtRest, IsNewBench};
+ghost use Rattle.tv_directory.specs.Bench.{device_in, disk_in, IsAtRest, IsNewBench, IsSoundWhere};
 ghost use Rattle.tv_directory.specs.Crashes.{is_known, left_in, left_of, numbered, LeavesBy};
 ghost use Rattle.tv_directory.specs.Ram.{ram_reads};
 ghost use Rattle.tv_directory.specs.StoredFiles.{AreSealed, reads_of, state_of};
@@ -17,14 +17,16 @@ use tv_base::OwnedBytes;
 use tv_model::{FileName, Memory};
 
 impl<C: WatchCall> Bench<C> {
-    /// What a crash at this moment leaves, as a directory of its own: its files are sealed and settled,
-    /// as `new` makes one.
+    /// What a crash at this moment, which isn't later than now, leaves: a directory of its own, as `new`
+    /// makes one of these files.
     ///
     /// The names that have a file now, or that a recorded call names, are gone through in their order.
-    /// The states in which a crash at this moment may leave a name are numbered from 0 on, the oldest
-    /// first: each in which a call since the last sync found it or may have left it, and the one in which
-    /// it was then. The i-th name is left in the one whose number is `choice[i]` modulo how many there
-    /// are. Past the end of the choice that number is 0. A file that isn't sealed is left empty.
+    /// The states in which a crash at this moment may leave a name are numbered from 0 on, in this order:
+    /// for each call between the last sync before the moment and the moment, in the order of the calls,
+    /// the state in which the call found the name, and behind it, where the device refused the call, the
+    /// one that the call would have made; at last the state in which the name was at the moment. The i-th
+    /// name is left in the one whose number is `choice[i]` modulo how many there are. Past the end of the
+    /// choice that number is 0. A file that isn't sealed is left empty.
     pub fn crash(&self, moment: u64, choice: &[u32]) -> Result<Bench<C>, Memory>
         requires { moment ≤ (⟦<Bench<C> as Directory>⟧.view self.now).moment }
         ensures left { IfOk result (λ left. (image : Reads)
@@ -33,6 +35,9 @@ impl<C: WatchCall> Bench<C> {
             × IsAtRest image (disk_in left)) }
         ensures image { IfOk result (λ left. Left (⟦<Bench<C> as Directory>⟧.disk self.now) moment
             (⟦<Bench<C> as Directory>⟧.view left).reads) }
+        ensures sound { IfOk result (λ left. IsSoundWhere
+            (⟦<Bench<C> as Directory>⟧.view left).reads (disk_in left)
+            (⟦<Bench<C> as Directory>⟧.view left).locks) }
         ensures device { IfOk result (λ left.
             device_in left ≡ record { fail_at = []; call = 0; faults = 0; refusals = 0 }) }
     {
@@ -65,6 +70,7 @@ impl<C: WatchCall> Bench<C> {
         ensures left { IfOk result (λ files.
             LeavesBy self.now moment choice.now (reads_of files.map.entries)) }
         ensures sealed { IfOk result (λ files. AreSealed files.map.entries) }
+        ensures unmade { IfOk result (λ files. files.last ≡ 0) }
     {
         let mut files = Files::new(self.alloc);
         let mut choices = choice.iter();
@@ -89,6 +95,7 @@ impl<C: WatchCall> Bench<C> {
             (reads_of files.new.map.entries) name (left_in self.now moment name number)) }
         ensures sealed { OnOk result (AreSealed files.old.map.entries
             → AreSealed files.new.map.entries) }
+        ensures last { files.new.last ≡ files.old.last }
     {
         match self.left(&name, moment, number)? {
             Some(bytes) => files.seal(name, bytes),

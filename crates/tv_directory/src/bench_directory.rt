@@ -1,12 +1,12 @@
 //! The calls of a directory in memory.
 ghost use Rattle.tv_model.specs.Disk.{Sealed, Unsealed};
-ghost use Rattle.std.specs.Prelude.{refl, ◌≡◌, ◌<◌, true, length, is_some, Some, IfOk, IfErr, OnOk, OnErr};
+ghost use Rattle.std.specs.Prelude.{refl, ◌≡◌, ◌<◌, true, length, is_some, Some, IfOk, IfErr, OnErr};
 ghost use Rattle.tv_model.specs.Names.{is_file_name};
 ghost use Rattle.tv_model.specs.Lines.{has_no_feed};
 ghost use Rattle.tv_base.specs.Causes.{OpenReadCause, OpenWriteCause};
 ghost use Rattle.tv_directory.specs.View.{tells_all, Frame, Kept, OnlyReads, OnlyLocks, OnlyWatches, OnlyTells, MayDelete};
 ghost use Rattle.tv_directory.specs.Calls.{AskFaults, ReadFaults, OpenFaults, IoFaults, DeviceFaults, DeleteFaults, LockFaults, Frees, MakesRoom};
-ghost use Rattle.tv_directory.specs.Calls.{IsNewWriter, Makes, Appends, HandsBack, Touches, Flushes, Seals, Gives, Notes, Deletes, EndsWriters, Acquires, TellsLineTo};
+ghost use Rattle.tv_directory.specs.Calls.{IsNewWriter, Makes, Appends, Touches, Flushes, Seals, Gives, Notes, Deletes, EndsWriters, Acquires, TellsLineTo};
 ghost use Rattle.tv_directory.specs.Device.{IsSilent};
 ghost use Rattle.tv_directory.specs.Images.{KeepsDisk, GivesState, OpensState, WritesState, DeletesState, Settles};
 ghost use Rattle.tv_directory.specs.RecordLaws.{reads_now, stands_now};
@@ -130,8 +130,6 @@ impl<C: WatchCall> Directory for Bench<C> {
     fn write(&mut self, writer: &mut RamWriter, bytes: &[u8]) -> Result<(), IoError>
         requires { (view_in C.calls self.old).opened writer.old ≡ true }
         ensures appends { Appends (ram_state writer.old) (ram_state writer.new) bytes.now result }
-        ensures hands_back { HandsBack tells_all (view_in C.calls self.old)
-            (view_in C.calls self.new) writer.old writer.new result }
         ensures touches { Touches tells_all (view_in C.calls self.old) (view_in C.calls self.new)
             ram_state writer.old }
         ensures faults { IoFaults (view_in C.calls self.old) (view_in C.calls self.new) result }
@@ -151,8 +149,6 @@ impl<C: WatchCall> Directory for Bench<C> {
         ensures flushes { Flushes tells_all (view_in C.calls self.old) (view_in C.calls self.new)
             ram_state writer.old result }
         ensures state { writer.new ≡ writer.old }
-        ensures hands_back { HandsBack tells_all (view_in C.calls self.old)
-            (view_in C.calls self.new) writer.old writer.new result }
         ensures faults { IoFaults (view_in C.calls self.old) (view_in C.calls self.new) result }
         ensures frame { Kept tells_all (view_in C.calls self.old) (view_in C.calls self.new) }
         ensures device { Numbered (WritesOut writer.old) of_io self.old self.new result }

@@ -1,11 +1,9 @@
 //! A directory whose lines are told to a sink.
-ghost use Rattle.tv_directory.specs.Images.{KeepsDisk};
-ghost use Rattle.std.specs.Prelude.{◌≡◌, ◌<◌, ◌++◌, ◌∷◌, [], true, length, vec_capacity, vec_len, OnOk, OnErr};
+ghost use Rattle.std.specs.Prelude.{◌≡◌, ◌<◌, ◌++◌, ◌∷◌, [], true, length, vec_capacity, vec_len};
 ghost use Rattle.tv_model.specs.Lines.{has_no_feed};
-ghost use Rattle.tv_base.specs.Streams.{Takes, TakesPart};
 ghost use Rattle.tv_directory.specs.View.{OnlyTells};
 ghost use Rattle.tv_directory.specs.Calls.{DeviceFaults, TellsLineTo};
-ghost use Rattle.tv_directory.specs.Desk.{desk_view, told_at};
+ghost use Rattle.tv_directory.specs.Desk.{TellsSink, desk_view, told_at};
 
 use crate::directory::Directory;
 use crate::lock::{DirectoryLock, Lock};
@@ -167,13 +165,7 @@ impl<D: Directory + Drop, S: Sink + Drop> Outside for Desk<D, S> {
             (desk_view D.view S.faults self.new) result }
         ensures frame { OnlyTells (told_at D.told) (desk_view D.view S.faults self.old)
             (desk_view D.view S.faults self.new) }
-        ensures images { D.tells_images → KeepsDisk (D.disk self.old.directory)
-            (D.disk self.new.directory) }
-        ensures takes { OnOk result (Takes (line.now ++ 10 ∷ [])
-            (S.taken self.old.sink) (S.taken self.new.sink)) }
-        ensures part { OnErr result (TakesPart (line.now ++ 10 ∷ [])
-            (S.taken self.old.sink) (S.taken self.new.sink)) }
-        ensures directory { self.new.directory ≡ self.old.directory }
+        ensures sink { TellsSink S.taken self.old self.new line.now result }
     {
         end_line(&mut self.line, line);
         let answer = self.sink.put(self.line.as_slice());

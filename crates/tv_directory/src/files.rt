@@ -86,6 +86,7 @@ impl Files {
         ensures files { IfOk result
             (λ made. Same (last_of (named files.items)) (reads_of made.map.entries)) }
         ensures sealed { IfOk result (λ made. AreSealed made.map.entries) }
+        ensures unmade { IfOk result (λ made. made.last ≡ 0) }
     {
         let map = sealed_files(alloc, files)?;
         Ok(Files { map, last: 0 })
@@ -227,6 +228,7 @@ impl Files {
             (reads_of self.new.map.entries) name (Some bytes)) }
         ensures sealed { OnOk result (AreSealed self.old.map.entries
             → AreSealed self.new.map.entries) }
+        ensures last { self.new.last ≡ self.old.last }
     {
         let content = Content::Sealed(bytes);
         put(&mut self.map, name, StoredFile { number: 0, content })

@@ -2,13 +2,12 @@
 ghost use Rattle.tv_model.specs.Disk.{Absent, Sealed, Unsealed, no_disk};
 ghost use Rattle.std.specs.Prelude.{◌≡◌, true, is_some, Some, IfOk, IfErr, OnErr};
 ghost use Rattle.tv_model.specs.Names.{is_file_name};
-ghost use Rattle.tv_base.specs.Causes.{OpenWriteCause};
 ghost use Rattle.tv_directory.specs.View.{tells_all, Frame, Kept, MayDelete};
 ghost use Rattle.tv_directory.specs.Calls.{AskFaults, ReadFaults, OpenFaults, IoFaults, DeleteFaults, LockFaults};
 ghost use Rattle.tv_directory.specs.Calls.{IsNewWriter, Makes, Appends, HandsBack, Touches, Flushes, Seals, Gives, Notes, Deletes, EndsWriters, Acquires};
 ghost use Rattle.tv_directory.specs.Locks.{FreesLock, LockCause};
 ghost use Rattle.tv_directory.specs.Ram.{ram_view, ram_state, ram_states, ram_reads, ram_opened, ram_lives, ram_locks, ram_watched};
-ghost use Rattle.tv_directory.specs.Ram.{SameFile, OnlyFiles, OnlyNoted, OnlyHeld, OnlyWatchers, KeepsWriters};
+ghost use Rattle.tv_directory.specs.Ram.{MakesFile, SameFile, OnlyFiles, OnlyNoted, OnlyHeld, OnlyWatchers, KeepsWriters};
 ghost use Rattle.tv_directory.specs.StoredFiles.{PutsState, bytes_of, state_of};
 ghost use Rattle.tv_directory.specs.Watch.{IsNewWatcher, delivered, unsubscribed};
 
@@ -117,10 +116,7 @@ impl<C: WatchCall> Directory for RamDirectory<C> {
         ensures faults { OpenFaults tells_all (ram_view C.calls self.old)
             (ram_view C.calls self.new) name.now result }
         ensures frame { Kept tells_all (ram_view C.calls self.old) (ram_view C.calls self.new) }
-        ensures there { IfErr result (OpenWriteCause name.now (self.new ≡ self.old) ⊥ (Unit {0})) }
-        ensures states { PutsState (ram_states self.old) (ram_states self.new) name.now
-            Unsealed result }
-        ensures others { OnlyFiles self.old self.new }
+        ensures file { MakesFile self.old self.new name.now result }
     {
         let key = file_name(self.alloc, name)?;
         if self.files.has(&key) {
@@ -156,8 +152,6 @@ impl<C: WatchCall> Directory for RamDirectory<C> {
         ensures flushes { Flushes tells_all (ram_view C.calls self.old) (ram_view C.calls self.new)
             ram_state writer.old result }
         ensures state { writer.new ≡ writer.old }
-        ensures hands_back { HandsBack tells_all (ram_view C.calls self.old)
-            (ram_view C.calls self.new) writer.old writer.new result }
         ensures faults { IoFaults (ram_view C.calls self.old) (ram_view C.calls self.new) result }
         ensures frame { Kept tells_all (ram_view C.calls self.old) (ram_view C.calls self.new) }
         ensures states { ram_lives self.old writer.old ≡ true

@@ -2,7 +2,7 @@ use Rattle.tv_directory.proofs.Resting.{rests_soundly}
 use Rattle.tv_directory.proofs.bench.Bench.new.Goals as goal
 
 pub returns-clause-new : goal.returns-clause-new
-returns-clause-new g c = c.with_files.ensures.new _ (λ n. c.in_ok-sealed.ensures.files n)
+returns-clause-new g c = c.with_files.ensures.new _ (λ n. c.in_ok-sealed.ensures.files n) c.in_ok-sealed.ensures.unmade
 
 pub returns-clause-rests : goal.returns-clause-rests
 returns-clause-rests g c = c.with_files.ensures.rests _ (λ n. c.in_ok-sealed.ensures.files n) c.in_ok-sealed.ensures.sealed

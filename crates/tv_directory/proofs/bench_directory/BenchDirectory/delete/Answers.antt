@@ -12,4 +12,4 @@ pub returns-clause-images : goal.returns-clause-images
 returns-clause-images g c =
     let (name, before) = c.in-Ok-before.ensures.found in
     let one = replaced_by _ _ _ c.in-Ok-before.before _ _ _ _ (ap (λ b. ram_states b.ram) c.before-2.ensures.others) before c.in_ok-delete.ensures.states.ok (rw (c.before-2.ensures.calls, name) at c.add.ensures.calls) in
-    record { ok = search rules; err = tt; no_more = one.no_more; time = one.time }
+    record { ok = search rules; err = tt; no_more = one.adds.no_more; time = one.adds.time }

@@ -16,7 +16,7 @@ returns-then-refuses-clause-images g c =
     let wrote = c.in_ok-record_refused_where.ensures in
     record {
       there = made_there c.args.self.now.ram.files.map.entries c.args.writer.now.name c.args.writer.now.number;
-      gives = λ lives. let one : RecordedRefused (disk_in c.args.self.now) (disk_in c.record_refused_where.new.self) c.args.writer.now.name Unsealed = rw (c.as_str.ensures.text, c.unsealed.ensures) at wrote.images (rw c.is_made-lives.ensures lives) in record { ok = tt; err = search rules; no_more = one.no_more; time = one.time };
+      gives = λ lives. let one : RecordedRefused (disk_in c.args.self.now) (disk_in c.record_refused_where.new.self) c.args.writer.now.name Unsealed = rw (c.as_str.ensures.text, c.unsealed.ensures) at wrote.images (rw c.is_made-lives.ensures lives) in record { ok = tt; err = search rules; no_more = one.adds.no_more; time = one.adds.time };
       gone = λ isnt. kept_by _ _ _ _ _ (ap (λ b. ram_states b.ram) wrote.others) (ap (λ b. b.recorded.calls) (wrote.gone (rw c.is_made-lives.ensures isnt))) (λ n. refl);
     }
 
@@ -34,7 +34,7 @@ returns-clause-images g c =
     let (name, before) = c.in_ok-name.ensures.found in
     let text = c.as_str-2.ensures.text in
     let one = replaced_by _ _ _ c.in_ok-name.before _ _ _ _ (ap (λ b. ram_states b.ram) c.before-2.ensures.others) (rw text at before) (c.in_ok-flush.ensures.states (rw ram lives)).ok (rw (c.before-2.ensures.calls, name, text) at c.add.ensures.calls) in
-    record { there = made_there c.args.self.now.ram.files.map.entries c.args.writer.now.name c.args.writer.now.number; gives = λ _. record { ok = one.sets; err = tt; no_more = one.no_more; time = one.time }; gone = λ isnt. absurd (true≢false (sym lives ∙ isnt)) }
+    record { there = made_there c.args.self.now.ram.files.map.entries c.args.writer.now.name c.args.writer.now.number; gives = λ _. record { ok = one.sets; err = tt; no_more = one.adds.no_more; time = one.adds.time }; gone = λ isnt. absurd (true≢false (sym lives ∙ isnt)) }
 
 pub returns-in_err-name-clause-images : goal.returns-in_err-name-clause-images
 returns-in_err-name-clause-images g c =

@@ -12,11 +12,11 @@ returns-clause-frame g c =
 
 pub returns-in_err-writer-clause-images : goal.returns-in_err-writer-clause-images
 returns-in_err-writer-clause-images g c =
-    let same = kept_by _ _ _ _ _ (ap (λ b. ram_states b.ram) c.before-2.ensures.others) c.before-2.ensures.calls c.in_err-writer.ensures.states.err in
+    let same = kept_by _ _ _ _ _ (ap (λ b. ram_states b.ram) c.before-2.ensures.others) c.before-2.ensures.calls c.in_err-writer.ensures.file.states.err in
     record { ok = search rules; err = search rules; no_more = may_add _ _ _ _ same.states.possible.no_more; time = same.time }
 
 pub returns-clause-images : goal.returns-clause-images
 returns-clause-images g c =
     let (name, before) = c.in_ok-key.ensures.found in
-    let one = replaced_by _ _ _ c.in_ok-key.before _ _ _ _ (ap (λ b. ram_states b.ram) c.before-2.ensures.others) before c.in_ok-writer.ensures.states.ok (rw (c.before-2.ensures.calls, name) at c.add.ensures.calls) in
-    record { ok = search rules; err = tt; no_more = one.no_more; time = one.time }
+    let one = replaced_by _ _ _ c.in_ok-key.before _ _ _ _ (ap (λ b. ram_states b.ram) c.before-2.ensures.others) before c.in_ok-writer.ensures.file.states.ok (rw (c.before-2.ensures.calls, name) at c.add.ensures.calls) in
+    record { ok = search rules; err = tt; no_more = one.adds.no_more; time = one.adds.time }

@@ -1,7 +1,8 @@
 use Rattle.std.proofs.Common.{rules, ◌∙◌}
 use Rattle.tv_directory.specs.Persisting.{contents}
 use Rattle.tv_directory.proofs.Views.{kept_then}
-use Rattle.tv_directory.proofs.PersistedFiles.{first_of, rest_next, stops_at}
+use Rattle.tv_directory.proofs.PersistedFiles.{first_of, rest_next, split_at, stops_at}
+use Rattle.tv_directory.proofs.TouchedNames.{touches_among, touches_then}
 use Rattle.tv_directory.proofs.ram_directory.RamDirectory.persist.Goals as goal
 
 pub loop-name-preserved : goal.loop-name-preserved
@@ -16,6 +17,7 @@ loop-name-preserved g c =
           inv.persisting first done.ok.absent done.ok.ok;
       faults = done.faults.quiet ∙ inv.faults;
       kept = kept_then inv.kept done.frame;
+      images = λ tells. touches_then (inv.images tells) (touches_among _ inv.persisting.before _ _ _ (split_at inv.persisting first) (done.images tells));
     }
 
 pub returns-in_err-persist_file-clause-faults : goal.returns-in_err-persist_file-clause-faults
@@ -24,3 +26,9 @@ returns-in_err-persist_file-clause-faults g c =
     let inv = c.loop-name.invariant in
     let first = first_of c.loop-name.name-iterator c.next.new.self (c.in-Some.name.now, c.in-Some.file.now) c.as_str.result.now c.as_slice.result.now (search rules) c.as_str.ensures.text c.as_slice.ensures in
     search (rules, stops_at D.told (D.view c.args.dest.now) (D.view c.loop-name.dest) (D.view c.persist_file.new.dest) (contents c.args.self.now.files.map.entries) (contents c.loop-name.name-iterator) (contents c.next.new.self) c.as_str.result.now c.as_slice.result.now inv.persisting first inv.faults)
+
+pub returns-in_err-persist_file-clause-images : goal.returns-in_err-persist_file-clause-images
+returns-in_err-persist_file-clause-images g c =
+    let inv = c.loop-name.invariant in
+    let first = first_of c.loop-name.name-iterator c.next.new.self (c.in-Some.name.now, c.in-Some.file.now) c.as_str.result.now c.as_slice.result.now (search rules) c.as_str.ensures.text c.as_slice.ensures in
+    λ tells. touches_then (inv.images tells) (touches_among _ inv.persisting.before _ _ _ (split_at inv.persisting first) (c.in_err-persist_file.ensures.images tells))

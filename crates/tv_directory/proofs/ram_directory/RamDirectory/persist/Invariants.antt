@@ -1,6 +1,7 @@
 use Rattle.std.proofs.Common.{◌≡◌}
+use Rattle.tv_directory.specs.Images.{TouchesOnly}
 use Rattle.tv_directory.specs.View.{Kept}
-use Rattle.tv_directory.specs.Persisting.{contents}
+use Rattle.tv_directory.specs.Persisting.{IsAmong, contents}
 use Rattle.tv_directory.proofs.PersistedFiles.{PersistsRest}
 use Rattle.tv_directory.proofs.ram_directory.RamDirectory.persist.Given as goal
 
@@ -11,4 +12,5 @@ invariant-loop-name g l =
       persisting : PersistsRest D.told.content (contents l.self.files.map.entries) (contents l.name-iterator) (D.view l.fn.dest).reads (D.view l.dest).reads;
       faults : (D.view l.dest).faults ≡ (D.view l.fn.dest).faults;
       kept : Kept D.told (D.view l.fn.dest) (D.view l.dest);
+      images : D.tells_images → TouchesOnly (IsAmong (contents l.self.files.map.entries)) (D.disk l.fn.dest) (D.disk l.dest);
     }
