@@ -7,7 +7,7 @@ ghost use Rattle.tv_directory.specs.Calls.{AskFaults, ReadFaults, OpenFaults, Io
 ghost use Rattle.tv_directory.specs.Calls.{IsNewWriter, Makes, Appends, HandsBack, Touches, Flushes, Seals, Gives, Notes, Deletes, EndsWriters, Acquires};
 ghost use Rattle.tv_directory.specs.Locks.{FreesLock, LockCause};
 ghost use Rattle.tv_directory.specs.Ram.{ram_view, ram_state, ram_states, ram_reads, ram_opened, ram_lives, ram_locks, ram_watched};
-ghost use Rattle.tv_directory.specs.Ram.{MakesFile, SameFile, OnlyFiles, OnlyNoted, OnlyHeld, OnlyWatchers, KeepsWriters};
+ghost use Rattle.tv_directory.specs.Ram.{MakesRamFile, SameFile, OnlyFiles, OnlyNoted, OnlyHeld, OnlyWatchers, KeepsWriters};
 ghost use Rattle.tv_directory.specs.StoredFiles.{PutsState, bytes_of, state_of};
 ghost use Rattle.tv_directory.specs.Watch.{IsNewWatcher, delivered, unsubscribed};
 
@@ -116,7 +116,7 @@ impl<C: WatchCall> Directory for RamDirectory<C> {
         ensures faults { OpenFaults tells_all (ram_view C.calls self.old)
             (ram_view C.calls self.new) name.now result }
         ensures frame { Kept tells_all (ram_view C.calls self.old) (ram_view C.calls self.new) }
-        ensures file { MakesFile self.old self.new name.now result }
+        ensures file { MakesRamFile self.old self.new name.now result }
     {
         let key = file_name(self.alloc, name)?;
         if self.files.has(&key) {
