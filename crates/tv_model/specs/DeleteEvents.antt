@@ -34,7 +34,7 @@ is_taken s id name = has s.managed name || is_committed_delete (at s.catalog.com
 abbrev pub with_deletes : Catalog → List ℕ → LiveSegment → ℕ → Catalog
 with_deletes c id segment n = record (with_live c id (record segment { deletes = Some (next_deletes c n) })) { next = c.next + 1 }
 
--- an open file of the former deletes is left
+-- the segment has so many deleted documents from now on; an open file of its former deletes is left
 abbrev pub having_deleted_docs : State → List ℕ → ℕ → LiveSegment → StepResult State
 having_deleted_docs s id n segment = (
   line (codes "deletes") (encode_lower id ∷ decimal n ∷ decimal s.catalog.next ∷ []),

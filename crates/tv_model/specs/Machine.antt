@@ -15,7 +15,7 @@ use Rattle.tv_model.specs.ReaderEvents.{bodies_in, reader_step, reload_step, rel
 use Rattle.tv_model.specs.SearcherEvents.{searcher_step, show_step, bytes_step, release_searcher_step}
 use Rattle.tv_model.specs.ReportEvents.{managed_step, validate_step}
 
--- the step of an event that touches no file, beside these managed names; none where the event touches files
+-- the step of an event that needs the catalog and the managed names alone, and changes at most the catalog; none of any other event
 abbrev pub catalog_step : Catalog → (managed : List (List ℕ)) → Event → Option (StepResult Catalog)
 catalog_step c managed (events.Segment id) = Some (segment_step c managed id)
 catalog_step c managed (events.Docs id n) = Some (docs_step c id n)
@@ -27,7 +27,7 @@ catalog_step c managed (events.ReleaseSearcher number) = Some (release_searcher_
 catalog_step c managed events.Managed = Some (managed_step c managed)
 catalog_step c managed other = None
 
--- What an event tells, and the state after it. The outcomes say which deletes that it asks for are refused; only collections ask for some.
+-- What an event tells, and the state after it. The outcomes say which of the deletes of files that it asks for are refused; only collections ask for some.
 abbrev pub step : State → Event → List Bool → StepResult State
 step s (events.Segment id) outcomes = on_catalog s (segment_step s.catalog s.managed id)
 step s (events.Open id component) outcomes = open_step s id component
@@ -52,7 +52,7 @@ step s events.Managed outcomes = on_catalog s (managed_step s.catalog s.managed)
 step s events.Validate outcomes = validate_step s
 step s events.Reopen outcomes = reopen_step s
 
--- an event of a run, with the outcomes of its deletes
+-- an event of a run, with the outcomes of its deletes of files
 abbrev pub Turn : Type 0
 Turn = Event × List Bool
 

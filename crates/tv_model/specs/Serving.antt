@@ -32,7 +32,7 @@ pub record Serves (s : State) (turns : List Turn) : Type 0 where
   pub for_life : (front middle rest : List Turn) (n : ℕ) (first later : Snapshot)
       → turns ≡ front ++ middle ++ rest → NeverReopens middle → searcher_at (after s front).catalog n ≡ Some first
       → searcher_at (after s (front ++ middle)).catalog n ≡ Some later → later ≡ first
-  -- a reader never goes back
+  -- nor does a reader go back until then
   pub never_back : (front middle rest : List Turn) (n : ℕ) (first later : Reader)
       → turns ≡ front ++ middle ++ rest → NeverReopens middle → reader_at (after s front).catalog n ≡ Some first
       → reader_at (after s (front ++ middle)).catalog n ≡ Some later

@@ -21,11 +21,11 @@ pub enum Event {
     Deletes(SegmentId, u32),
     /// Publishes the named segments.
     Commit(Option<Text>, IdList),
-    /// Deletes the files that nothing needs.
+    /// Deletes the managed files that nothing needs and no collection holds.
     Gc,
-    /// Begins a collection of the files that nothing needs.
+    /// Begins a collection of the managed files that nothing needs and no other collection holds.
     GcBegin,
-    /// Deletes the next file of a collection.
+    /// Tries to delete the next file of a collection.
     GcStep(u64),
     /// Ends a collection: what it deleted is managed no more.
     GcEnd(u64),
@@ -49,6 +49,6 @@ pub enum Event {
     Managed,
     /// Asks which files of the current commit have another checksum than that of their body.
     Validate,
-    /// Opens the index again, where it stands.
+    /// Opens the index again, as it stands.
     Reopen,
 }
