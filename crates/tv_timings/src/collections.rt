@@ -1,36 +1,17 @@
-//! Times collections: how long one takes for each name that it deletes.
-use crate::segments::{SCHEMA, segment};
+//! Times collections, at once and in steps: how long one takes for each name that it deletes.
+use crate::segments::{FILES, SCHEMA, Store, each, open, percent, with_files};
 use std::alloc::Global;
 use std::process::ExitCode;
 use std::time::{Clock, Instant};
 use tv_base::TantivyError;
-use tv_directory::{Bench, NoWatch};
-use tv_managed::Refused;
-use tv_model::{Answer, Event, SegmentComponent, SegmentId};
-use tv_replay::IndexStore;
+use tv_model::{Answer, Event};
 
-// The files of a segment.
-const COMPONENTS: [SegmentComponent; 5] = [
-    SegmentComponent::Postings,
-    SegmentComponent::Positions,
-    SegmentComponent::FastFields,
-    SegmentComponent::FieldNorms,
-    SegmentComponent::Terms,
-];
+// Of how many segments the files are deleted: 1,002, 10,002 and 100,002 names.
+const SIZES: [u32; 3] = [167, 1_667, 16_667];
 
-const FILES: u32 = 5;
-
-// How many names are deleted, of twice as many files.
-const SIZES: [u32; 3] = [100, 500, 2_000];
-
-// How often each is timed. The fastest counts.
-const RUNS: u32 = 5;
-
-// How much longer a name of the last size may take than one of the first, in percent.
-const LIMIT: u64 = 150;
-
-// The index in a directory in memory.
-type Store = IndexStore<Bench<NoWatch>>;
+// How many hundredths of the time for a name of the first size one of the last may take. Where the time
+// goes with n log n, it takes 170, and more where memory is far; where it goes with the square, 10,000.
+const LIMIT: u64 = 500;
 
 fn apply(store: &mut Store, event: &Event) -> Result<Answer, TantivyError> {
     if !store.is_open() {
@@ -39,94 +20,74 @@ fn apply(store: &mut Store, event: &Event) -> Result<Answer, TantivyError> {
     store.apply(event)
 }
 
-// Gives an index a segment with these files.
-fn add(store: &mut Store, id: SegmentId) -> Result<(), TantivyError> {
-    apply(store, &Event::Segment(id))?;
-    for component in COMPONENTS {
-        apply(store, &Event::Open(id, component))?;
-        apply(store, &Event::Seal(id, component))?;
-    }
-    Ok(())
+// How many words an answer has.
+fn words(answer: &Answer) -> usize {
+    answer.as_slice().split(|byte| *byte == b' ').count()
 }
 
-// Gives an index twice as many files. Every other segment is released, so that its files aren't needed.
-fn fill(store: &mut Store, names: u32) -> Result<(), TantivyError> {
-    for number in 0..names.saturating_mul(2) / FILES {
-        let id = segment(number);
-        add(store, id)?;
-        if number % 2 == 1 {
-            apply(store, &Event::ReleaseSegment(id))?;
-        }
-    }
-    Ok(())
-}
-
-// How many names a collection deleted: its answer is `gc deleted`, these names, and `failed`.
-fn deleted(answer: &Answer) -> usize {
-    let words = answer.as_slice().split(|byte| *byte == b' ').count();
-    words.saturating_sub(3)
-}
-
-// How many nanoseconds a collection takes for a name.
-fn time(rt: &impl Clock, store: &mut Store, names: u32) -> anyhow::Result<u64> {
-    fill(store, names)?;
-    let start = Instant::now(rt)?;
+// Deletes so many names at once. The answer is `gc deleted`, the names, and `failed`.
+fn at_once(store: &mut Store, names: u32) -> anyhow::Result<()> {
     let answer = apply(store, &Event::Gc)?;
-    let took = start.elapsed(rt)?;
-    if deleted(&answer) != names as usize {
+    if words(&answer) != names as usize + 3 {
         anyhow::bail!("the collection deleted something else");
     }
-    let nanos = u64::try_from(took.as_nanos()).unwrap_or(u64::MAX);
-    Ok(nanos / u64::from(names.max(1)))
+    Ok(())
 }
 
-// The same over a new index.
-fn nanos(rt: &impl Clock, alloc: Global, names: u32) -> anyhow::Result<u64> {
-    let bench = Bench::new(alloc, Vec::new(alloc))?;
-    match IndexStore::open(alloc, bench, SCHEMA.as_bytes()) {
-        Ok(mut store) => {
-            let nanos = time(rt, &mut store, names);
-            let _bench = store.into_outside();
-            nanos
-        }
-        Err(
-            Refused {
-                error,
-                directory: _,
-            },
-        ) => Err(anyhow::Error::from(error)),
+// Deletes so many names one after the other. The first answer is `gc 0` and the names.
+fn in_steps(store: &mut Store, names: u32) -> anyhow::Result<()> {
+    let answer = apply(store, &Event::GcBegin)?;
+    if words(&answer) != names as usize + 2 {
+        anyhow::bail!("the collection took something else");
     }
-}
-
-// The fastest of some runs.
-fn fastest(rt: &impl Clock, alloc: Global, names: u32) -> anyhow::Result<u64> {
-    let mut least = u64::MAX;
-    for _ in 0..RUNS {
-        least = least.min(nanos(rt, alloc, names)?);
+    for _ in 0..names {
+        apply(store, &Event::GcStep(0))?;
     }
-    Ok(least)
+    apply(store, &Event::GcEnd(0))?;
+    Ok(())
 }
 
-/// Prints how long collections of each size take, and how the last compares with the first.
+// How many nanoseconds a collection of the files of so many segments takes for a name.
+fn nanos(
+    rt: &impl Clock,
+    alloc: Global,
+    segments: u32,
+    is_stepped: bool,
+) -> anyhow::Result<u64> {
+    let names = segments.saturating_mul(FILES);
+    let mut store = open(alloc, with_files(alloc, segments)?)?;
+    let start = Instant::now(rt)?;
+    let collected = if is_stepped {
+        in_steps(&mut store, names)
+    } else {
+        at_once(&mut store, names)
+    };
+    let took = start.elapsed(rt);
+    let _bench = store.into_outside();
+    collected?;
+    Ok(each(took?.as_nanos(), names))
+}
+
+/// Prints how long collections of each size take for a name, and how the last compares with the first.
 pub(crate) fn time_all(rt: &(impl Clock + Print), alloc: Global) -> anyhow::Result<ExitCode> {
     let mut first = None;
-    let mut last = 0;
-    for names in SIZES {
-        last = fastest(rt, alloc, names)?;
+    let mut last = (0, 0);
+    for segments in SIZES {
+        let once = nanos(rt, alloc, segments, false)?;
+        last = (once, nanos(rt, alloc, segments, true)?);
         first = first.or(Some(last));
         println!(rt;
-            "{names} of {} files: {last} ns a deleted name",
-            names.saturating_mul(2)
+            "{} names: {} ns a name at once, {} ns in steps",
+            segments.saturating_mul(FILES),
+            last.0,
+            last.1
         )?;
     }
-    let limit = first.unwrap_or(0).saturating_mul(LIMIT) / 100;
-    let word = if last <= limit {
-        "at most"
-    } else {
-        "MORE THAN"
-    };
-    println!(rt; "the last takes {word} 1.5 times as long as the first")?;
-    Ok(if last <= limit {
+    let first = first.unwrap_or(last);
+    let once = percent(last.0, first.0);
+    let steps = percent(last.1, first.1);
+    println!(rt; "the last takes {once} % of the first at once, {steps} % in steps")?;
+    Ok(if once.max(steps) <= LIMIT {
         ExitCode::SUCCESS
     } else {
         ExitCode::FAILURE

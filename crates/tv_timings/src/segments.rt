@@ -1,11 +1,85 @@
-//! The segments of the indexes that are timed.
-use tv_model::SegmentId;
+//! The segments of the indexes that are timed, and their files.
+use std::alloc::Global;
+use tv_base::TantivyError;
+use tv_directory::{Bench, Directory, NoWatch};
+use tv_managed::Refused;
+use tv_model::{FileName, SegmentComponent, SegmentId, segment_file_name};
+use tv_replay::IndexStore;
 
 /// The schema without fields.
 pub(crate) const SCHEMA: &str = "[]";
+
+/// How many files of a segment there are beside that of its deletes.
+pub(crate) const FILES: u32 = 6;
+
+// A sealed file without a body.
+const EMPTY: &[u8] =
+    b"{\"version\":{\"major\":0,\"minor\":26,\"patch\":2,\"index_format_version\":7},\"crc\":0}\x4d\x00\x00\x00\x39\x05\x00\x00";
+
+/// The index in a directory in memory.
+pub(crate) type Store = IndexStore<Bench<NoWatch>>;
 
 /// The segment of this number. Those of higher numbers come later.
 pub(crate) fn segment(number: u32) -> SegmentId {
     let [a, b, c, d] = number.to_be_bytes();
     SegmentId::from_bytes([0, 0, 0, 0, 0, 0, 0, 0, 0, 0, 0, 0, a, b, c, d])
+}
+
+// Adds a name to the text of a list, behind a comma.
+fn push_listed(list: &mut Vec<u8>, name: &FileName) -> Result<(), TantivyError> {
+    list.extend_from_slice(b",\"")?;
+    list.extend_from_slice(name.as_str().as_bytes())?;
+    list.push(b'"')?;
+    Ok(())
+}
+
+// Makes the files of a segment, and adds their names to the list.
+fn add_files(
+    alloc: Global,
+    bench: &mut Bench<NoWatch>,
+    list: &mut Vec<u8>,
+    id: SegmentId,
+) -> Result<(), TantivyError> {
+    // The last one is that of the deletes, of which there are none.
+    for component in SegmentComponent::iterator().take(FILES as usize) {
+        let name = segment_file_name(alloc, id, None, *component)?;
+        bench.atomic_write(name.as_str(), EMPTY)?;
+        push_listed(list, &name)?;
+    }
+    Ok(())
+}
+
+/// A directory with the files of so many segments, which are listed, as `meta.json` is.
+pub(crate) fn with_files(alloc: Global, segments: u32) -> Result<Bench<NoWatch>, TantivyError> {
+    let mut bench = Bench::new(alloc, Vec::new(alloc))?;
+    let mut list = Vec::from_slice(alloc, b"[\"meta.json\"")?;
+    for number in 0..segments {
+        add_files(alloc, &mut bench, &mut list, segment(number))?;
+    }
+    list.push(b']')?;
+    bench.atomic_write(".managed.json", list.as_slice())?;
+    Ok(bench)
+}
+
+/// The index that stands in a directory, or a new one.
+pub(crate) fn open(alloc: Global, bench: Bench<NoWatch>) -> Result<Store, TantivyError> {
+    match IndexStore::open(alloc, bench, SCHEMA.as_bytes()) {
+        Ok(store) => Ok(store),
+        Err(
+            Refused {
+                error,
+                directory: _,
+            },
+        ) => Err(error),
+    }
+}
+
+/// The time for one of so many.
+pub(crate) fn each(nanos: u128, count: u32) -> u64 {
+    u64::try_from(nanos).unwrap_or(u64::MAX) / u64::from(count.max(1))
+}
+
+/// How many hundredths of the first time the last one is.
+pub(crate) fn percent(last: u64, first: u64) -> u64 {
+    last.saturating_mul(100) / first.max(1)
 }
