@@ -1,6 +1,7 @@
 -- An index: what it keeps, how it is opened or made, and what its calls leave alone.
-use Rattle.std.specs.Prelude.{◌≡◌, ◌≢◌, ◌⊎◌, ℕ, List, [], ◌∷◌, map, Option, Some, None}
+use Rattle.std.specs.Prelude.{◌≡◌, ◌≢◌, ◌⊎◌, ℕ, Bool, true, ◌||◌, List, [], ◌∷◌, map, Option, Some, None, string_bytes}
 use Rattle.std.specs.BTreeSet.{insert_key}
+use Rattle.hex.specs.Hex.{encode_lower}
 use Rattle.tv_base.specs.Causes.{IsDevice}
 use Rattle.tv_base.specs.declared.error.TantivyError.{TantivyError}
 use Rattle.tv_base.specs.declared.error.TantivyError.TheVariants as errors
@@ -18,11 +19,12 @@ use Rattle.tv_model.specs.Files.{Reads, Rose, Same}
 use Rattle.tv_model.specs.Listing.{Lists}
 use Rattle.tv_model.specs.Meaning.{Means}
 use Rattle.tv_model.specs.Names.{byte_cmp, list_name, meta_name}
+use Rattle.tv_model.specs.SegmentEvents.{is_named}
 use Rattle.tv_index.specs.NewForms.{OpensForm, form_with, new_text}
 use Rattle.tv_index.specs.Opening.{IsRefusedBytes, ListsSome}
 use Rattle.tv_index.specs.Saving.{FrameNotes}
 use Rattle.tv_index.specs.Standing.{LoadsMeta, MetaCause}
-use Rattle.tv_index.specs.Tracked.{Kept, Share, TrackAll}
+use Rattle.tv_index.specs.Tracked.{Kept, Share, TrackAll, has_id}
 use Rattle.tv_index.specs.TrackedMetas.{tracked_commit, tracked_settings}
 use Rattle.tv_index.specs.declared.tracked_meta.IndexMeta.{IndexMeta}
 use Rattle.tv_index.specs.declared.index_meta.UntrackedIndexMeta.{UntrackedIndexMeta}
@@ -138,3 +140,13 @@ MeansSuch schema read P = ReadsSuch read (λ bytes. (settings : Settings) × (co
 pub record LoadsShares {D W C : Type 0} (g : Ghosts D W C) (old new : IndexState D) (shares : List Share) : Type 0 where
   pub means : g.told.content → MeansSuch old.schema ((g.view old.directory.0).reads meta_name) (λ commit. commit.segments ≡ map (λ s. s.1) shares)
   pub tracks : TrackAll shares old.kept new.kept
+
+-- a segment that is kept has this id, or a managed name begins with it
+abbrev pub is_id_used : {D : Type 0} → IndexState D → List ℕ → Bool
+is_id_used index id = has_id index.kept id || is_named index.directory.1 id
+
+-- Why there is no new segment of this id: the id is in use, and the text is its digits; or memory was wanted.
+abbrev pub NewSegmentCause : {D : Type 0} → IndexState D → List ℕ → TantivyError → Type 0
+NewSegmentCause index id (errors.IdInUse text) = (is_id_used index id ≡ true) × (string_bytes text ≡ encode_lower id)
+NewSegmentCause index id errors.Memory = Unit {0}
+NewSegmentCause index id other = ⊥
