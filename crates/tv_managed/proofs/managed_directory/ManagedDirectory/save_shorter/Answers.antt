@@ -4,7 +4,7 @@ use Rattle.tv_model.specs.Listing.{list_text}
 use Rattle.tv_model.specs.Names.{has}
 use Rattle.tv_managed.specs.Collecting.{names_of}
 use Rattle.tv_managed.specs.Crashes.{CutsList, SavesText}
-use Rattle.tv_managed.specs.Managed.{AreManaged}
+use Rattle.tv_managed.specs.Names.{AreManaged}
 use Rattle.tv_managed.proofs.Cutting.{cuts, cuts_wanted}
 use Rattle.tv_managed.proofs.Removals.{still_managed}
 use Rattle.tv_managed.proofs.SetsOfTexts.{list_of}

@@ -7,7 +7,7 @@ use Rattle.tv_model.specs.Names.{has}
 use Rattle.tv_model.specs.Collections.{collectable}
 use Rattle.tv_managed.specs.Collecting.{names_of}
 use Rattle.tv_managed.proofs.SetsOfTexts.{had_is}
-use Rattle.tv_managed.proofs.collecting.names_to_collect.Goals as goal
+use Rattle.tv_managed.proofs.managed_directory.ManagedDirectory.names_to_collect.Goals as goal
 
 collected : (living names : List (List ℕ)) (name : List ℕ) (b : Bool) → has living name ≡ b → collectable living (names ++ name ∷ []) ≡ collectable living names ++ cond (not b) (name ∷ []) []
 collected living names name b e = rw (← e) (filter-append (λ n. not (has living n)) names (name ∷ []))
