@@ -1,13 +1,12 @@
 pub mod Texts
 pub mod SetsOfTexts
 pub mod ListTrees
-pub mod Saves
 pub mod Removals
-pub mod Tried
 pub mod Endings
-pub mod Shortening
 pub mod Tracking
-pub mod Touching
+pub mod Collections
+pub mod TriedSo
 pub mod Images
+pub mod Touching
+pub mod Saves
 pub mod Listing
-pub mod Cutting

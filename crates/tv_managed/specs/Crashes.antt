@@ -19,18 +19,22 @@ use Rattle.tv_managed.specs.declared.collection.GarbageCollectionResult.{Garbage
 use Rattle.tv_managed.specs.declared.writer.ManagedWriter.{ManagedWriter}
 
 -- The list is for crashes. It forgets no file, each undotted file that a crash may leave is managed, and each managed name that no unfinished collection has done is on
--- whatever it may leave of the list. What such a collection has done is absent now; it may be on no list any more.
-pub record IsTracked {D W C : Type 0} (g : Ghosts D W C) (managed : D × ManagedNames) : Type 0 where
-  pub forgets_none : ListsEachFile (possible_now (g.disk managed.0))
-  pub covers : (n : List ℕ) → is_undotted n ≡ true → (s : DiskState) → possible_now (g.disk managed.0) n s → IsThere s → has managed.1.managed n ≡ true
-  pub listed : (n : List ℕ) → has managed.1.managed n ≡ true → has (done_names managed.1.collections) n ≡ false → (l : DiskState) → possible_now (g.disk managed.0) list_name l → IsOnEach l n
-  pub gone : (n : List ℕ) → has (done_names managed.1.collections) n ≡ true → (g.disk managed.0).now n ≡ Absent
+-- whatever it may leave of the list. What such a collection has done, which has no dot in front, is absent now; it may be on no list any more.
+pub record IsCovered (possible : Possible) (now : List ℕ → DiskState) (names : ManagedNames) : Type 0 where
+  pub forgets_none : ListsEachFile possible
+  pub covers : (n : List ℕ) → is_undotted n ≡ true → (s : DiskState) → possible n s → IsThere s → has names.managed n ≡ true
+  pub listed : (n : List ℕ) → has names.managed n ≡ true → has (done_names names.collections) n ≡ false → (l : DiskState) → possible list_name l → IsOnEach l n
+  pub gone : (n : List ℕ) → is_undotted n ≡ true → has (done_names names.collections) n ≡ true → now n ≡ Absent
+
+-- that is so of a managed directory now
+abbrev pub IsTracked : {D W C : Type 0} → Ghosts D W C → D × ManagedNames → Type 0
+IsTracked g managed = IsCovered (possible_now (g.disk managed.0)) (g.disk managed.0).now managed.1
 
 -- each managed name is on whatever a crash may leave of the list
 abbrev pub AreListed : {D W C : Type 0} → Ghosts D W C → D × ManagedNames → Type 0
 AreListed g managed = (n : List ℕ) → has managed.1.managed n ≡ true → (l : DiskState) → possible_now (g.disk managed.0) list_name l → IsOnEach l n
 
--- the list is tracked after a call, and at each moment of it the list forgets no file
+-- it is so after a call, and at each moment of it the list forgets no file
 pub record KeepsTrack {D W C : Type 0} (g : Ghosts D W C) (old new : D × ManagedNames) : Type 0 where
   pub tracked : IsTracked g new
   pub moments : Throughout ListsEachFile (g.disk old.0) (g.disk new.0)

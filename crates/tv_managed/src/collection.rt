@@ -4,7 +4,7 @@ ghost use Rattle.std.specs.Option.{IfSome};
 ghost use Rattle.tv_model.specs.Names.{has};
 ghost use Rattle.tv_model.specs.Collections.{Collection as CollectionState, begun, collection_at, having_tried, held, no_collections, taken, with_begun, with_collection, without_collection};
 ghost use Rattle.tv_managed.specs.Collecting.{HasLeft, IsLast, names_of};
-ghost use Rattle.tv_managed.specs.Names.{AreManaged};
+ghost use Rattle.tv_managed.specs.Names.{AreManaged, tried_so};
 
 use std::alloc::Global;
 use std::collections::BTreeMap;
@@ -96,6 +96,13 @@ impl Collection {
         self.names.as_slice()
     }
 
+    // Whether it took this name.
+    fn took(&self, name: &str) -> bool
+        ensures { result ≡ has (taken self.now) name.now }
+    {
+        has_name(self.names(), name)
+    }
+
     // How many names it has yet to try.
     fn left(&self) -> usize
         ensures { result ≡ length self.now.untried }
@@ -127,16 +134,43 @@ impl Collection {
         ensures failed { IfOk result (λ r.
             names_of r.failed_to_delete_files.items ≡ self.now.failed) }
     {
-        let mut told = GarbageCollectionResult {
-            deleted_files: Vec::new(alloc),
-            failed_to_delete_files: Vec::new(alloc),
-        };
-        for i in 0..self.tried {
-            let name = String::from_str(alloc, self.names[i].as_str())?;
-            told.add(name, self.outcomes[i])?;
-        }
-        Ok(told)
+        outcomes_of(alloc, self.names.as_slice(), &self.outcomes[..self.tried])
     }
+}
+
+// Whether the name is among these.
+fn has_name(names: &[String], name: &str) -> bool
+    ensures { result ≡ has (names_of names.now) name.now }
+{
+    for other in names {
+        if other.as_str() == name {
+            return true;
+        }
+    }
+    false
+}
+
+// The outcomes of the first ones of these names.
+fn outcomes_of(
+    alloc: Global,
+    names: &[String],
+    outcomes: &[bool],
+) -> Result<GarbageCollectionResult, Memory>
+    requires { length outcomes.now ≤ length names.now }
+    ensures deleted { IfOk result (λ r. names_of r.deleted_files.items
+        ≡ (tried_so (names_of names.now) outcomes.now).done) }
+    ensures failed { IfOk result (λ r. names_of r.failed_to_delete_files.items
+        ≡ (tried_so (names_of names.now) outcomes.now).failed) }
+{
+    let mut told = GarbageCollectionResult {
+        deleted_files: Vec::new(alloc),
+        failed_to_delete_files: Vec::new(alloc),
+    };
+    for i in 0..outcomes.len() {
+        let name = String::from_str(alloc, names[i].as_str())?;
+        told.add(name, outcomes[i])?;
+    }
+    Ok(told)
 }
 
 /// The unfinished collections by their numbers, and the number that the next one gets.
@@ -182,10 +216,8 @@ impl Collections {
         ensures { result ≡ has (held self.now) name.now }
     {
         for collection in self.unfinished.values() {
-            for taken in collection.names() {
-                if taken.as_str() == name {
-                    return true;
-                }
+            if collection.took(name) {
+                return true;
             }
         }
         false
