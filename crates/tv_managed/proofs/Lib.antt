@@ -10,3 +10,4 @@ pub mod Images
 pub mod Touching
 pub mod Saves
 pub mod Listing
+pub mod Giving

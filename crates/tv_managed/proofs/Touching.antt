@@ -3,7 +3,7 @@ use Rattle.std.proofs.Common.{◌≡◌, ◌≢◌, ◌≤◌, ◌<◌, ⊎_elim
 use Rattle.std.proofs.lemmas.Bool.{cases_lt}
 use Rattle.tv_model.specs.Disk.{DiskState, Absent, Unsealed, Sealed, IsThere, Possible, Disk, possible_now, Within, MayAdd, Elapses, Throughout, OnlyTouches, OnlyMoves}
 use Rattle.tv_model.specs.Names.{list_name}
-use Rattle.tv_model.proofs.DiskLaws.{HoldsOfFewer, same_then, started, goes_on, goes_on_run}
+use Rattle.tv_model.proofs.DiskLaws.{HoldsOfFewer, same, same_then, started, goes_on, goes_on_run}
 use Rattle.tv_base.specs.declared.io.IoError.{IoError}
 use Rattle.tv_base.specs.declared.io.IoError.TheVariants as io
 use Rattle.tv_base.specs.declared.open_errors.OpenWriteError.TheVariants as write
@@ -63,6 +63,13 @@ touches_list saves = record {
   now = record { each = saves.others };
 }
 
+-- nothing was done
+pub keeps_same : (disk : Disk) → KeepsDisk disk disk
+keeps_same disk = record {
+  states = record { now = λ n. refl; possible = same (possible_now disk) };
+  time = record { later = omega arith; past = λ x le. same (disk.possible x); inside = λ x from to. absurd (omega arith) };
+}
+
 -- two calls that only read
 pub reads_then : {old mid new : Disk} → KeepsDisk old mid → KeepsDisk mid new → KeepsDisk old new
 reads_then {old} {mid} {new} first second = record {
@@ -107,7 +114,7 @@ pub time_written : {A : Type 0} (lives : Bool) {old new : Disk} {name : List ℕ
 time_written true writes = (writes.gives refl).time
 time_written false writes = (writes.gone refl).time
 
-added_written : {A : Type 0} (lives : Bool) {old new : Disk} {name : List ℕ} {state : DiskState} {result : Result A IoError} → WritesState lives old new name state result → MayAdd (possible_now old) (possible_now new) name state
+pub added_written : {A : Type 0} (lives : Bool) {old new : Disk} {name : List ℕ} {state : DiskState} {result : Result A IoError} → WritesState lives old new name state result → MayAdd (possible_now old) (possible_now new) name state
 added_written true writes = (writes.gives refl).no_more
 added_written false writes = record { each = λ n s is. inl ((writes.gone refl).states.possible.no_more.each n s is) }
 
