@@ -8,7 +8,7 @@ use tv_base::{
 };
 use tv_directory::DirectoryLock;
 use tv_framing::{CompositeFile, Footer};
-use tv_managed::GarbageCollectionResult;
+use tv_managed::{CollectStep, GarbageCollectionResult};
 
 /// What a call on a file is to answer.
 #[derive(Clone, Copy)]
@@ -23,6 +23,8 @@ pub(crate) enum Want {
     Absent,
     /// A file has this name already, and the error says so.
     Taken,
+    /// A collection that isn't finished has the name, and the error says so.
+    Leaving,
     /// The lock is held.
     Busy,
     /// The device refuses the call, and the fault names this file where it names one.
@@ -31,6 +33,10 @@ pub(crate) enum Want {
     Fault(IoKind, &'static str),
     /// The file is of this other format.
     Format(u32),
+    /// A collection has this number.
+    Number(u64),
+    /// A step of a collection deleted this name, or failed to.
+    Tried(&'static str, bool),
     /// A collection deletes these names, and fails to delete those.
     Collected {
         deleted: &'static [&'static str],
@@ -101,6 +107,26 @@ impl Answer for bool {
         match want {
             Want::Done => true,
             Want::Is(answer) => *self == answer,
+            _ => false,
+        }
+    }
+}
+
+impl Answer for u64 {
+    fn is(&self, _name: &str, want: Want) -> bool {
+        matches!(want, Want::Number(number) if *self == number)
+    }
+}
+
+impl Answer for CollectStep {
+    fn is(&self, _name: &str, want: Want) -> bool {
+        match (self, want) {
+            (CollectStep::Done(name), Want::Tried(tried, is_done)) => {
+                is_done && name.as_str() == tried
+            }
+            (CollectStep::Failed(name), Want::Tried(tried, is_done)) => {
+                !is_done && name.as_str() == tried
+            }
             _ => false,
         }
     }
@@ -206,6 +232,9 @@ impl Answer for OpenWriteError {
         match self {
             OpenWriteError::FileAlreadyExists(path) => {
                 matches!(want, Want::Taken) && path.as_str() == name
+            }
+            OpenWriteError::Leaving(path) => {
+                matches!(want, Want::Leaving) && path.as_str() == name
             }
             OpenWriteError::IoError { io_error, filepath } => {
                 io_error.is(name, want) && filepath.as_str() == name

@@ -110,13 +110,23 @@ const FAILS_AFTER: &[Step] = &[
     Step::On(Call::Exists, "a.idx", "", Want::Is(false)),
 ];
 
-// The write of the list, or the sync behind it, is refused. A file that is made again is listed again.
+// The write of the list, or the sync behind it, is refused. The collection isn't finished, and holds its names; a file
+// that is made then is listed beside them.
 const FAILS_SAVING: &[Step] = &[
     Step::Collect(&[], Want::Refused),
-    Step::Names(&[]),
+    Step::Names(&["a.idx", "b.idx", "c.idx", "d.idx"]),
     Step::On(Call::Exists, "a.idx", "", Want::Is(false)),
-    Step::On(Call::AtomicWrite, "a.idx", "new", Want::Done),
-    Step::List("[\"a.idx\"]\n"),
+    Step::On(Call::Seal, "a.idx", "", Want::Leaving),
+    Step::On(Call::AtomicWrite, "e.idx", "new", Want::Done),
+    Step::List("[\"a.idx\",\"b.idx\",\"c.idx\",\"d.idx\",\"e.idx\"]\n"),
+    Step::End(
+        0,
+        Want::Collected {
+            deleted: &["a.idx", "b.idx", "c.idx", "d.idx"],
+            failed: &[],
+        },
+    ),
+    Step::List("[\"e.idx\"]\n"),
 ];
 
 // The calls that are refused, what is done, and how many of the refused ones weren't deletes.
@@ -141,4 +151,73 @@ fn collections_go_on_after_refused_deletes_alone(rt: HostRuntime) {
     for (refused, steps, faults) in COLLECTIONS {
         goes_on(&rt, rt.alloc(), refused, steps, *faults);
     }
+}
+
+// Behind these four: two collections in steps, of which the second leaves to the first what that has.
+const OVERLAPPING: &[Step] = &[
+    Step::Begin(&["b.idx", "c.idx"], Want::Number(0)),
+    Step::Taken(0, &["a.idx", "d.idx"], 2),
+    Step::Begin(&["b.idx"], Want::Number(1)),
+    Step::Taken(1, &["c.idx"], 1),
+    Step::Try(0, Want::Tried("a.idx", true)),
+    Step::Taken(0, &["a.idx", "d.idx"], 1),
+    // What is done is managed up to the end, and nobody makes it anew.
+    Step::Names(&["a.idx", "b.idx", "c.idx", "d.idx"]),
+    Step::On(Call::Seal, "a.idx", "", Want::Leaving),
+    Step::On(Call::Seal, "c.idx", "", Want::Taken),
+    Step::End(
+        0,
+        Want::Collected {
+            deleted: &["a.idx"],
+            failed: &[],
+        },
+    ),
+    Step::Finished(0),
+    Step::List("[\"b.idx\",\"c.idx\",\"d.idx\"]\n"),
+    // One at once takes no number.
+    Step::Collect(
+        &["b.idx"],
+        Want::Collected {
+            deleted: &["d.idx"],
+            failed: &[],
+        },
+    ),
+    Step::Begin(&["b.idx"], Want::Number(2)),
+    Step::Taken(2, &[], 0),
+    Step::Forget,
+    Step::Finished(1),
+    Step::Begin(&[], Want::Number(0)),
+    Step::Taken(0, &["b.idx", "c.idx"], 2),
+];
+
+#[test]
+fn collections_in_steps_overlap(rt: HostRuntime) {
+    assert_eq!(rt; faults_of(&rt, rt.alloc(), &[], FOUR, OVERLAPPING), 0);
+}
+
+// Behind these four: the call 16 is the first delete, and 18 to 20 are the sync, the write of the list and the sync
+// at an end.
+const REFUSED_STEPS: &[Step] = &[
+    Step::Begin(&["b.idx", "c.idx"], Want::Number(0)),
+    Step::Try(0, Want::Tried("a.idx", false)),
+    Step::Try(0, Want::Tried("d.idx", true)),
+    Step::End(0, Want::Refused),
+    // The list lacks what is done, which is still held.
+    Step::List("[\"a.idx\",\"b.idx\",\"c.idx\"]\n"),
+    Step::Names(&["a.idx", "b.idx", "c.idx", "d.idx"]),
+    Step::On(Call::Seal, "d.idx", "", Want::Leaving),
+    Step::End(
+        0,
+        Want::Collected {
+            deleted: &["d.idx"],
+            failed: &["a.idx"],
+        },
+    ),
+    Step::Names(&["a.idx", "b.idx", "c.idx"]),
+    Step::On(Call::Seal, "d.idx", "", Want::Done),
+];
+
+#[test]
+fn a_refused_end_holds_its_names(rt: HostRuntime) {
+    assert_eq!(rt; faults_of(&rt, rt.alloc(), &[16, 20], FOUR, REFUSED_STEPS), 1);
 }

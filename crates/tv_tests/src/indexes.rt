@@ -154,6 +154,7 @@ fn commit<R: Abort>(rt: &R, alloc: Global, index: &mut Index<TestRam>, opstamp: 
         .expect(rt, "memory");
     meta.segments.push(share).expect(rt, "memory");
     meta.opstamp = opstamp;
+    assert!(rt; !index.directory().is_held(META_FILEPATH));
     save_metas(alloc, &meta, index.directory_mut()).expect(rt, "saved");
 }
 
@@ -195,6 +196,20 @@ fn keeps_files<R: Abort>(rt: &R, alloc: Global, index: &mut Index<TestRam>) {
     assert!(rt; damaged.is_empty());
 }
 
+// Makes a segment, whose id is in use from then on.
+fn adds_one<R: Abort>(rt: &R, alloc: Global, index: &mut Index<TestRam>) {
+    let id = SegmentId::from_bytes([9; 16]);
+    let segment = index.new_segment(alloc, id).expect(rt, "a free id");
+    assert!(rt; segment.id() == id && segment.meta().max_doc() == 0);
+    match index.new_segment(alloc, id) {
+        Err(TantivyError::IdInUse(text)) => {
+            assert!(rt; text.as_str() == "09090909090909090909090909090909");
+        }
+        _ => panic!(rt; "the id is in use"),
+    }
+    index.inventory().release(segment.into_meta());
+}
+
 #[test]
 fn an_index_shows_its_commits(rt: HostRuntime) {
     let a = rt.alloc();
@@ -206,6 +221,7 @@ fn an_index_shows_its_commits(rt: HostRuntime) {
     commit(&rt, a, &mut index, 2, 3);
     shows_two(&rt, a, &mut index);
     keeps_files(&rt, a, &mut index);
+    adds_one(&rt, a, &mut index);
     // The shares of the calls above weren't given back.
     let all = index.list_all_segment_metas(a).expect(&rt, "few shares");
     assert!(rt; all.len() > 2);

@@ -44,6 +44,18 @@ pub(crate) enum Step {
     Names(&'static [&'static str]),
     /// A collection that spares these names.
     Collect(&'static [&'static str], Want),
+    /// One in steps begins.
+    Begin(&'static [&'static str], Want),
+    /// Which names a collection took, and how many of them are left.
+    Taken(u64, &'static [&'static str], usize),
+    /// None of this number is unfinished.
+    Finished(u64),
+    /// A collection tries its next name.
+    Try(u64, Want),
+    /// A collection ends.
+    End(u64, Want),
+    /// No collection is unfinished from now on.
+    Forget,
     /// The bytes of a file, and how it reads.
     Footer(&'static Row),
 }
@@ -110,7 +122,9 @@ fn take_on<D: Directory>(
         Call::GetFileHandle => ends(managed.get_file_handle(name), name, want),
         Call::ValidateChecksum => ends(managed.validate_checksum(name), name, want),
         Call::AtomicRead => ends(managed.atomic_read(name), name, want),
-        Call::AtomicWrite => ends(managed.atomic_write(name, bytes), name, want),
+        Call::AtomicWrite => {
+            !managed.is_held(name) && ends(managed.atomic_write(name, bytes), name, want)
+        }
         Call::Seal => seal(managed, name, bytes, want),
         Call::Delete => ends(managed.delete(name), name, want),
     }
@@ -164,6 +178,40 @@ pub(crate) fn collect<R: Abort, D: Directory>(
     managed.garbage_collect(|| living)
 }
 
+// Whether a collection took these names, and has so many left.
+fn has_taken<D: Directory>(
+    managed: &ManagedDirectory<D>,
+    id: u64,
+    names: &[&str],
+    left: usize,
+) -> bool {
+    match managed.collect_names(id) {
+        Some(taken) => {
+            managed.collect_left(id) == Some(left)
+                && taken.len() == names.len()
+                && taken.iter().zip(names).all(|(a, b)| a.as_str() == *b)
+                && names.iter().all(|name| managed.is_held(name))
+        }
+        None => false,
+    }
+}
+
+// Whether a collection tries its next name as it is to.
+fn tries<D: Directory>(managed: &mut ManagedDirectory<D>, id: u64, want: Want) -> bool {
+    match managed.collect_left(id) {
+        None | Some(0) => false,
+        Some(_) => ends(managed.collect_delete(id), "", want),
+    }
+}
+
+// Whether a collection ends as it is to.
+fn finishes<D: Directory>(managed: &mut ManagedDirectory<D>, id: u64, want: Want) -> bool {
+    match managed.collect_left(id) {
+        None => false,
+        Some(_) => ends(managed.collect_end(id), "", want),
+    }
+}
+
 fn take<R: Abort, D: Empty>(
     rt: &R,
     managed: &mut ManagedDirectory<D>,
@@ -186,6 +234,20 @@ fn take<R: Abort, D: Empty>(
         ),
         Step::Names(names) => are_managed(managed, names),
         Step::Collect(living, want) => ends(collect(rt, managed, alloc, living), "", want),
+        Step::Begin(living, want) => {
+            let living = set_of(rt, alloc, living);
+            ends(managed.collect_begin(&living), "", want)
+        }
+        Step::Taken(id, names, left) => has_taken(managed, id, names, left),
+        Step::Finished(id) => {
+            managed.collect_left(id).is_none() && managed.collect_names(id).is_none()
+        }
+        Step::Try(id, want) => tries(managed, id, want),
+        Step::End(id, want) => finishes(managed, id, want),
+        Step::Forget => {
+            managed.forget_collections();
+            true
+        }
         Step::Footer(row) => takes(managed, *row),
     }
 }
