@@ -109,9 +109,10 @@ taken_by living names = collectable (living ++ held names.collections) names.man
 abbrev pub beginning : ManagedNames → List (List ℕ) → ManagedNames
 beginning names taken = record names { collections = with_begun names.collections taken }
 
--- a collection of these names was begun, and this is its number
+-- a collection of these names was begun, and this is its number, which no unfinished one has
 pub record Begins (taken : List (List ℕ)) (old new : ManagedNames) (number : ℕ) : Type 0 where
   pub numbered : number ≡ old.collections.next
+  pub free : collection_at old.collections number ≡ None
   pub names : new ≡ beginning old taken
 
 -- whether a step says that its name is done, and the name
