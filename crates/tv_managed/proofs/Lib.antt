@@ -15,3 +15,4 @@ pub mod Beginning
 pub mod Stepping
 pub mod PlainManaged
 pub mod Cutting
+pub mod Shortening

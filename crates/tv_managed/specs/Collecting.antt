@@ -261,11 +261,11 @@ pub record TriesSome {D W C : Type 0} (g : Ghosts D W C) (number : ℕ) (taken :
 abbrev pub TriesAll : {A E : Type 0} → ℕ → ManagedNames → Result A E → Type 0
 TriesAll number names result = OnOk result ((c : Collection) → collection_at names.collections number ≡ Some c → c.untried ≡ [])
 
--- The managed names become those that are left, and are listed. Otherwise they are as they were, and the list may have either.
+-- The managed names become those that are left, and are listed where they were. After an error they are as they were, and the list may have either.
 pub record Shortens {A D W C : Type 0} (g : Ghosts D W C) (left : List (List ℕ)) (old new : D × ManagedNames) (result : Result A IoError) : Type 0 where
   pub ok : OnOk result (new.1 ≡ record old.1 { managed = left })
   pub err : OnErr result (new.1 ≡ old.1)
-  pub lists : g.told.content → OnOk result (Lists ((g.view new.0).reads list_name) left)
+  pub lists : g.told.content → Lists ((g.view old.0).reads list_name) old.1.managed → OnOk result (Lists ((g.view new.0).reads list_name) left)
   pub either : g.told.content → Lists ((g.view new.0).reads list_name) left ⊎ ((g.view new.0).reads list_name ≡ (g.view old.0).reads list_name)
   pub others : g.told.content → KeepsOthers (g.view old.0).reads (g.view new.0).reads list_name
   pub faults : IoFaults (g.view old.0) (g.view new.0) result

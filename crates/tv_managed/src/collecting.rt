@@ -274,9 +274,13 @@ impl<D: Directory> ManagedDirectory<D> {
             → CutsList D.Directory (names_of left.keys) self.old self.new }
     {
         self.sync_directory()?;
-        save_managed_paths(self.alloc, &mut self.directory, &left)?;
-        self.managed = left;
-        Ok(())
+        match save_managed_paths(self.alloc, &mut self.directory, &left) {
+            Ok(()) => {
+                self.managed = left;
+                Ok(())
+            }
+            Err(error) => Err(error),
+        }
     }
 }
 
