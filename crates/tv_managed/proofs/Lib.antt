@@ -16,3 +16,4 @@ pub mod Stepping
 pub mod PlainManaged
 pub mod Cutting
 pub mod Shortening
+pub mod Ending
