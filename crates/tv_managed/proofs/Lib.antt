@@ -17,3 +17,5 @@ pub mod PlainManaged
 pub mod Cutting
 pub mod Shortening
 pub mod Ending
+pub mod Tried
+pub mod Trying

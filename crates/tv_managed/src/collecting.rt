@@ -9,8 +9,8 @@ ghost use Rattle.tv_directory.specs.View.{Kept, MayDelete, OnlyReads};
 ghost use Rattle.tv_directory.specs.Calls.{DeleteFaults, Deletes, EndsWriters};
 ghost use Rattle.tv_managed.specs.Crashes.{AreListed, CollectsNames, EndsSafely, IsTracked, LeavesSafely, CutsList, SettlesStates, StepsSafely, TouchesOnly, AnyOrList, TriesState};
 ghost use Rattle.tv_managed.specs.Frames.{KeepsNames, OnlyAsks};
-ghost use Rattle.tv_managed.specs.Names.{AreManaged};
-ghost use Rattle.tv_managed.specs.Collecting.{Among, BeginFaults, Begins, ChangesNothing, CollectFaults, EndFaults, EndsCollection, HasLeft, LockedFaults, OnlyDeletes, Shortens, Steps, Tries, TriesAll, TriesName, TriesSome, names_of, taken_by};
+ghost use Rattle.tv_managed.specs.Names.{AreManaged, ManagedNames};
+ghost use Rattle.tv_managed.specs.Collecting.{Among, BeginFaults, Begins, ChangesNothing, CollectFaults, EndFaults, EndsCollection, HasLeft, LockedFaults, OnlyDeletes, Shortens, Steps, Tries, TriesAll, TriesName, TriesSome, names_of, standing, taken_by};
 
 use crate::collection::{CollectStep, Collections, GarbageCollectionResult};
 use crate::list::save_managed_paths;
@@ -200,14 +200,14 @@ impl<D: Directory> ManagedDirectory<D> {
 
     // Tries each name that the collection has left.
     fn try_each(&mut self, number: u64) -> Result<(), TantivyError>
-        ensures leaves { (names : List (List ℕ))
-            → collection_at self.old.1.collections number ≡ Some (begun names)
-            → TriesSome D.Directory number names self.old self.new
-            × TriesAll number self.new.1 result }
+        ensures leaves { (before : ManagedNames) (names : List (List ℕ))
+            → self.old.1 ≡ standing before (begun names) → number ≡ before.collections.next
+            → TriesSome D.Directory before names self.old self.new }
+        ensures all { TriesAll number self.new.1 result }
         ensures memory { IfErr result (λ e. e ≡ TantivyError.Memory) }
         ensures only { OnlyDeletes D.Directory self.old self.new }
-        ensures images { D.tells_images → (names : List (List ℕ))
-            → collection_at self.old.1.collections number ≡ Some (begun names)
+        ensures safe { D.tells_images → (before : ManagedNames) (names : List (List ℕ))
+            → self.old.1 ≡ standing before (begun names) → number ≡ before.collections.next
             → LeavesSafely D.Directory (TouchesOnly (AnyOrList names)
             (D.disk self.old.0) (D.disk self.new.0)) self.old self.new }
     {

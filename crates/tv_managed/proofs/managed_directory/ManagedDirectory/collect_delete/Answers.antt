@@ -35,6 +35,7 @@ returns-clause-steps g c =
           let marked = c.mark.ensures d name left (ap (λ v. collection_at v.collections c.args.id) names ∙ at) next in
           let With : Collections → ManagedNames = λ cs. record { managed = map string_bytes c.self-2.inside.managed.keys; collections = cs } in
           record {
+            plain = subst (λ n. is_plain n ≡ true) (sym c.as_str.ensures.value ∙ same) c.in_ok-name.ensures.plain;
             told = c.new.ensures.told ∙ sym c.as_str.ensures.value ∙ same;
             names = ap With marked ∙ ap (λ v. after v c.args.id d name left gone) names ∙ ap (after c.args.self.now.1 c.args.id d name left) (sym c.new.ensures.done);
             tried = subst (λ x. TriesName D name c.args.self.now (x, With c.mark.new.self) (is_done c.new.result)) (sym (ap (λ v. v.0) c.self-2.view_is)) (tries_named D (With c.mark.new.self) (is_done c.new.result) c.new.ensures.done (subst (λ n. TriesName D n c.args.self.now c.delete_managed.new.self gone) same c.in_ok-is_done.ensures.tried));
