@@ -5,6 +5,7 @@ use Rattle.std.specs.List.{AllByRecursion, flat_map, list_any}
 use Rattle.std.specs.List.Sorted.{IsStrictlySortedBy}
 use Rattle.std.specs.Map.{keys_of, lookup, remove_entry, set_value, values_of}
 use Rattle.std.proofs.lemmas.Cmp.{nat_cmp_total}
+use Rattle.std.specs.Cmp.{nat_cmp_is}
 use Rattle.std.specs.Ordering.{is_eq, match_ordering, nat_cmp}
 use Rattle.std.specs.declared.cmp.Ordering.{Ordering}
 use Rattle.std.specs.declared.cmp.Ordering.TheVariants.{Less, Equal, Greater}
@@ -12,6 +13,10 @@ use Rattle.tv_model.specs.Names.{has}
 use Rattle.tv_model.specs.Collections.{Collection, Collections, collection_at, taken}
 use Rattle.tv_managed.specs.Names.{done_names}
 use Rattle.tv_managed.proofs.Removals.{has_or}
+
+-- a number is the same as itself
+nat_cmp_same : (n : ℕ) → nat_cmp n n ≡ Equal
+nat_cmp_same n = sym (nat_cmp_is n n Equal refl)
 
 abbrev dones : List (ℕ × Collection) → List (List ℕ)
 dones entries = flat_map (λ e. e.1.done) entries
@@ -104,3 +109,33 @@ done_held (e ∷ entries) n h = here (sym (has_or (taken e.1) (flat_map (λ e. t
       has_or e.1.done (dones entries) n
       ∙ none (has e.1.done n) (has e.1.failed n) (has e.1.untried n) (has (flat_map (λ e. taken e.1) entries) n) (has (dones entries) n)
       (ap (λ b. b || has (flat_map (λ e. taken e.1) entries) n) (sym (has_or (e.1.done ++ e.1.failed) e.1.untried n ∙ ap (λ b. b || has e.1.untried n) (has_or e.1.done e.1.failed n))) ∙ k) more
+
+-- what stands at a number after it was put
+pub at_put : {X : Type 0} (entries : List (ℕ × X)) (number : ℕ) (c : X) → lookup (is_at (nat_cmp number)) (insert_entry nat_cmp entries number c) ≡ Some c
+at_put [] number c = rw (nat_cmp_same number) refl
+at_put {X} (e ∷ entries) number c = here (nat_cmp number e.0) refl (at_put entries number c) where
+  here : (r : Ordering) → nat_cmp number e.0 ≡ r → lookup (is_at (nat_cmp number)) (insert_entry nat_cmp entries number c) ≡ Some c
+      → lookup (is_at (nat_cmp number)) (match_ordering r ((number, c) ∷ e ∷ entries) ((e.0, c) ∷ entries) (e ∷ insert_entry nat_cmp entries number c)) ≡ Some c
+  here Less is h = rw (nat_cmp_same number) refl
+  here Equal is h = rw is refl
+  here Greater is h = rw is h
+
+-- what was put twice
+pub put_twice : {X : Type 0} (entries : List (ℕ × X)) (number : ℕ) (c later : X) → insert_entry nat_cmp (insert_entry nat_cmp entries number c) number later ≡ insert_entry nat_cmp entries number later
+put_twice [] number c later = rw (nat_cmp_same number) refl
+put_twice {X} (e ∷ entries) number c later = here (nat_cmp number e.0) refl (put_twice entries number c later) where
+  here : (r : Ordering) → nat_cmp number e.0 ≡ r → insert_entry nat_cmp (insert_entry nat_cmp entries number c) number later ≡ insert_entry nat_cmp entries number later
+      → insert_entry nat_cmp (match_ordering r ((number, c) ∷ e ∷ entries) ((e.0, c) ∷ entries) (e ∷ insert_entry nat_cmp entries number c)) number later ≡ match_ordering r ((number, later) ∷ e ∷ entries) ((e.0, later) ∷ entries) (e ∷ insert_entry nat_cmp entries number later)
+  here Less is h = rw (nat_cmp_same number) refl
+  here Equal is h = rw is refl
+  here Greater is h = rw is (ap (λ (es : List (ℕ × X)). e ∷ es) h)
+
+-- what was put under a free number, and taken out again
+pub put_and_out : {X : Type 0} (entries : List (ℕ × X)) (number : ℕ) (c : X) → lookup (is_at (nat_cmp number)) entries ≡ None → remove_entry (is_at (nat_cmp number)) (insert_entry nat_cmp entries number c) ≡ entries
+put_and_out [] number c free = rw (nat_cmp_same number) refl
+put_and_out {X} (e ∷ entries) number c free = here (nat_cmp number e.0) refl free (put_and_out entries number c) where
+  here : (r : Ordering) → nat_cmp number e.0 ≡ r → cond (is_eq r) (Some e.1) (lookup (is_at (nat_cmp number)) entries) ≡ None → (lookup (is_at (nat_cmp number)) entries ≡ None → remove_entry (is_at (nat_cmp number)) (insert_entry nat_cmp entries number c) ≡ entries)
+      → remove_entry (is_at (nat_cmp number)) (match_ordering r ((number, c) ∷ e ∷ entries) ((e.0, c) ∷ entries) (e ∷ insert_entry nat_cmp entries number c)) ≡ e ∷ entries
+  here Less is k h = rw (nat_cmp_same number) refl
+  here Equal is k h = absurd cc
+  here Greater is k h = rw is (ap (λ (es : List (ℕ × X)). e ∷ es) (h k))

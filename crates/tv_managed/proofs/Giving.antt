@@ -1,17 +1,19 @@
 -- How the calls that make, write, seal and delete a file keep track.
 use Rattle.std.proofs.Common.{◌≡◌, ◌≢◌, ⊎_elim, inl, inr, ℕ, Bool, true, false, true≢false, List, refl, sym, ap, subst, ◌∙◌, Result, Ok, Err}
 use borrow.Table.Steps.{cases}
-use Rattle.tv_model.specs.Disk.{DiskState, Absent, Unsealed, Sealed, IsThere, Possible, Disk, possible_now, Within, MayAdd, Elapses, Throughout, OnlyMoves}
+use Rattle.tv_model.specs.Disk.{DiskState, Absent, Unsealed, Sealed, IsThere, Possible, Disk, possible_now, Within, MayAdd, Elapses, IsSettled, Throughout, OnlyMoves}
+use Rattle.tv_model.proofs.DiskLaws.{HoldsOfFewer, started, goes_on, goes_on_run}
+use Rattle.std.specs.Prelude.{OnOk}
 use Rattle.tv_model.specs.Names.{has, is, is_undotted, list_name}
 use Rattle.tv_model.proofs.Entries.{is_itself, is_text}
 use Rattle.tv_base.specs.declared.open_errors.DeleteError.{DeleteError}
 use Rattle.tv_base.specs.declared.open_errors.DeleteError.TheVariants as delete
 use Rattle.tv_directory.specs.Images.{DeletesState, KeepsDisk, KeepsOtherStates, KeepsStates, Settles}
 use Rattle.tv_directory.specs.declared.directory.Directory.{Ghosts}
-use Rattle.tv_managed.specs.Crashes.{IsTracked, KeepsTrack, LeavesSafely, ListsName, MayAddBoth, OrList}
+use Rattle.tv_managed.specs.Crashes.{IsCovered, IsTracked, KeepsTrack, SettlesStates, LeavesSafely, ListsName, MayAddBoth, OrList}
 use Rattle.tv_managed.specs.Names.{ManagedNames, done_names}
 use Rattle.tv_managed.proofs.Touching.{gained_more, gained_none, gained_one, gained_run, gained_then, keeps_same}
-use Rattle.tv_managed.proofs.Tracking.{safe_read, track_file, track_from, weaker}
+use Rattle.tv_managed.proofs.Tracking.{at_end, covered_within, fewer, safe_read, track_file, track_from, weaker}
 
 -- a call that only reads, and begins with the struct taken apart
 pub read_from : {D W C : Type 0} (g : Ghosts D W C) {old inside new : D × ManagedNames} → inside ≡ old → LeavesSafely g (KeepsDisk (g.disk inside.0) (g.disk new.0)) inside new → LeavesSafely g (KeepsDisk (g.disk old.0) (g.disk new.0)) old new
@@ -73,3 +75,39 @@ pub asked_from : {D W C : Type 0} (g : Ghosts D W C) (old asked : D × ManagedNa
     → Elapses (g.disk inside.0) (g.disk new) → MayAdd (possible_now (g.disk inside.0)) (possible_now (g.disk new)) name state → Throughout (λ possible. MayAddBoth (possible_now (g.disk old.0)) possible name state list) (g.disk old.0) (g.disk new)
 asked_from g old asked {new = new} {name} {state} same asks listed time adds =
     both_states asks listed (subst (λ v. Elapses (g.disk v.0) (g.disk new)) same time) (subst (λ v. MayAdd (possible_now (g.disk v.0)) (possible_now (g.disk new)) name state) same adds)
+
+-- ---- states of which there are no more
+
+fewer_within : (possible : Possible) → HoldsOfFewer (Within possible)
+fewer_within possible old new within was = record { each = λ n s is. was.each n s (within.each n s is) }
+
+within_same : (disk : Disk) → Throughout (Within (possible_now disk)) disk disk
+within_same disk = started _ (fewer_within (possible_now disk)) disk (record { each = λ n s is. is })
+
+within_step : {old new : Disk} → Elapses old new → Within (possible_now old) (possible_now new) → Throughout (Within (possible_now old)) old new
+within_step {old} time within = goes_on _ (fewer_within (possible_now old)) (within_same old) time within
+
+within_then : {old mid new : Disk} → Throughout (Within (possible_now old)) old mid → Throughout (Within (possible_now mid)) mid new → Throughout (Within (possible_now old)) old new
+within_then {old} first second = goes_on_run _ (fewer_within (possible_now old)) first (weaker second (λ p within. record { each = λ n s is. (at_end first).each n s (within.each n s is) }))
+
+-- nothing was done, and the answer is an error
+pub settles_same : {A E : Type 0} (disk : Disk) (e : E) → SettlesStates {A = A} disk disk (Err e)
+settles_same disk e = record { moments = within_same disk; now = λ n. refl; ok = tt }
+
+-- a sync, and then nothing
+pub settles_once : {A E B F : Type 0} {old new : Disk} {result : Result A E} (after : Result B F) → Settles old new result → (OnOk after (IsSettled new)) → SettlesStates old new after
+settles_once after sync ok = record { moments = within_step sync.time sync.no_more; now = sync.now; ok = ok }
+
+-- behind a call that only read
+pub settles_asked : {A E : Type 0} {old asked new : Disk} {result : Result A E} → KeepsDisk old asked → SettlesStates asked new result → SettlesStates old new result
+settles_asked asks settles = record { moments = within_then (within_step asks.time asks.states.possible.no_more) settles.moments; now = λ n. settles.now n ∙ asks.states.now n; ok = settles.ok }
+
+pub settles_none : {A E : Type 0} {old asked : Disk} {result : Result A E} → KeepsDisk old asked → OnOk result (IsSettled asked) → SettlesStates old asked result
+settles_none asks ok = record { moments = within_step asks.time asks.states.possible.no_more; now = asks.states.now; ok = ok }
+
+-- and track is kept
+pub track_settles : {A E D W C : Type 0} (g : Ghosts D W C) {old new : D × ManagedNames} {result : Result A E} → SettlesStates (g.disk old.0) (g.disk new.0) result → IsCovered (possible_now (g.disk new.0)) (g.disk new.0).now new.1 → IsTracked g old → KeepsTrack g old new
+track_settles g settles now was = record { tracked = now; moments = weaker settles.moments (λ p within. fewer _ p within was.forgets_none) }
+
+pub covered_settles : {A E D W C : Type 0} (g : Ghosts D W C) {old : D × ManagedNames} (new : D × ManagedNames) {result : Result A E} → SettlesStates (g.disk old.0) (g.disk new.0) result → IsTracked g old → IsCovered (possible_now (g.disk new.0)) (g.disk new.0).now old.1
+covered_settles g new settles was = covered_within (at_end settles.moments) (λ n undotted h. settles.now n ∙ was.gone n undotted h) was

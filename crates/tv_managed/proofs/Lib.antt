@@ -11,3 +11,11 @@ pub mod Touching
 pub mod Saves
 pub mod Listing
 pub mod Giving
+pub mod Beginning
+pub mod Stepping
+pub mod PlainManaged
+pub mod Cutting
+pub mod Shortening
+pub mod Ending
+pub mod Tried
+pub mod Trying

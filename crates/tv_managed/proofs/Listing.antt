@@ -32,7 +32,7 @@ files_put : {possible : Possible} {now : List ℕ → DiskState} {names : Manage
 files_put put more was n undotted s is there = more n (was.covers n undotted s is there)
 
 -- what is done is absent once the list was saved
-gone_saved : (old new : Disk) {names : ManagedNames} → KeepsOtherStates old new list_name → IsCovered (possible_now old) old.now names → AreGone new.now names
+pub gone_saved : (old new : Disk) {names : ManagedNames} → KeepsOtherStates old new list_name → IsCovered (possible_now old) old.now names → AreGone new.now names
 gone_saved old new others was n undotted h = others n (isnt_the_list n undotted) ∙ was.gone n undotted h
 
 -- The list of more names was saved, or may have been: track is kept of the fewer ones.

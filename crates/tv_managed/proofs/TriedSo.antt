@@ -1,8 +1,10 @@
 -- What a collection's outcomes say of its names.
-use Rattle.std.proofs.Common.{◌≡◌, ℕ, ◌<◌, ◌≤◌, ◌+◌, suc, Bool, true, false, ◌||◌, List, [], ◌∷◌, ◌++◌, length, drop, take, map, get_or, drop-cons, length-drop, set, string_bytes, String, Global, refl, sym, ap, subst, ◌∙◌, arith}
+use Rattle.std.proofs.Common.{◌≡◌, ℕ, zero, ◌<◌, ◌≤◌, ◌+◌, suc, Bool, true, false, ◌||◌, List, [], ◌∷◌, ◌++◌, length, drop, take, map, get_or, drop-cons, length-drop, set, string_bytes, String, Global, refl, sym, ap, subst, ◌∙◌, arith}
 use Rattle.std.proofs.lemmas.List.{length-take-le, map-append, take_more, take_more_set}
 use Rattle.std.specs.Prelude.{if◌then◌else◌}
-use Rattle.tv_model.specs.Names.{has, is}
+use Rattle.std.specs.List.{list_all}
+use Rattle.tv_model.specs.Names.{has, is, is_plain}
+use Rattle.tv_model.proofs.PlainNames.{both}
 use Rattle.tv_model.specs.Collections.{Collection, having_tried, taken}
 use Rattle.tv_managed.specs.Collecting.{names_of}
 use Rattle.tv_managed.specs.Names.{IsCollection, tried_so, trying_first}
@@ -79,3 +81,9 @@ told_failed false c name left texts more text is so same = ap names_of is ∙ ma
 pub outcome_more : (names : List (List ℕ)) (outcomes : List Bool) (i : ℕ) (d : List ℕ) (b : Bool) → i < length outcomes → length outcomes ≤ length names
     → tried_so names (take (i + 1) outcomes) ≡ having_tried (tried_so names (take i outcomes)) (get_or names i d) (drop (suc i) names) (get_or outcomes i b)
 outcome_more names outcomes i d b lt le = ap (tried_so names) (take_more outcomes i b lt) ∙ tried_more names (take i outcomes) (get_or outcomes i b) (get_or names i d) (drop (suc i) names) (next_is names outcomes i d (omega arith) (omega arith))
+
+-- a managed name is plain
+pub plain_at : (names : List (List ℕ)) (i : ℕ) (d : List ℕ) → i < length names → list_all is_plain names ≡ true → is_plain (get_or names i d) ≡ true
+plain_at [] i d lt h = absurd (omega arith)
+plain_at (name ∷ names) zero d lt h = (both (is_plain name) (list_all is_plain names) h).0
+plain_at (name ∷ names) (suc i) d lt h = plain_at names i d (omega arith) (both (is_plain name) (list_all is_plain names) h).1

@@ -1,7 +1,9 @@
 -- What a collection does to a directory and its list.
 use Rattle.std.specs.Prelude.{ℕ, ◌≡◌, ◌≢◌, ◌<◌, ◌≤◌, ◌+◌, ◌^◌, ◌⊎◌, Bool, true, false, List, [], ◌∷◌, ◌++◌, String, Some, None, IsSome, codes, length, map, string_bytes, Result, IfErr, IfOk, OnOk, OnErr}
 use Rattle.std.specs.Option.{IsSomeAnd}
-use Rattle.tv_model.specs.Names.{has, list_name}
+use Rattle.std.specs.BTreeMap.{insert_entry}
+use Rattle.std.specs.Ordering.{nat_cmp}
+use Rattle.tv_model.specs.Names.{has, is_plain, list_name}
 use Rattle.tv_model.specs.Listing.{Lists}
 use Rattle.tv_model.specs.Collections.{Collection, Collections, collectable, collection_at, done_of, failed_of, having_tried, held, with_begun, with_collection, without, without_collection}
 use Rattle.tv_model.specs.Files.{Same, KeepsOthers, Rose}
@@ -36,10 +38,13 @@ SparesWriters {W} names state_of before after = (w : W) → has names (state_of 
 abbrev pub EndsTheirWriters : {W : Type 0} → (deleted : List (List ℕ)) → (state_of : W → WriterState) → (old new : View W) → Type 0
 EndsTheirWriters {W} deleted state_of old new = (w : W) → old.opened w ≡ true → has deleted (state_of w).name ≡ true → IsSome (old.reads (state_of w).name) → new.lives w ≡ false
 
--- a collection of these names has this number and isn't finished: the first ones were tried, with these outcomes
+-- all that is kept in memory, and a collection that was begun under the next number and stands so
+abbrev pub standing : ManagedNames → Collection → ManagedNames
+standing names c = record names { collections = record { unfinished = insert_entry nat_cmp names.collections.unfinished names.collections.next c; next = names.collections.next + 1 } }
+
+-- a collection of these names isn't finished: the first ones were tried, with these outcomes
 abbrev pub LeftUnfinished : (front rest : List (List ℕ)) → (outcomes : List Bool) → (old new : ManagedNames) → Type 0
-LeftUnfinished front rest outcomes old new =
-    new ≡ record old { collections = with_collection (with_begun old.collections (front ++ rest)) old.collections.next (record { untried = rest; done = done_of front outcomes; failed = failed_of front outcomes }) }
+LeftUnfinished front rest outcomes old new = new ≡ standing old (record { untried = rest; done = done_of front outcomes; failed = failed_of front outcomes })
 
 -- What trying these names left, whatever was answered: some first ones were tried, and some of these are done, which don't read. All else is as it was, but that at Ok
 -- the managed names are without those that are done. After an error they are as they were, and unless nothing was begun the collection isn't finished.
@@ -109,9 +114,10 @@ taken_by living names = collectable (living ++ held names.collections) names.man
 abbrev pub beginning : ManagedNames → List (List ℕ) → ManagedNames
 beginning names taken = record names { collections = with_begun names.collections taken }
 
--- a collection of these names was begun, and this is its number
+-- a collection of these names was begun, and this is its number, which no unfinished one has
 pub record Begins (taken : List (List ℕ)) (old new : ManagedNames) (number : ℕ) : Type 0 where
   pub numbered : number ≡ old.collections.next
+  pub free : collection_at old.collections number ≡ None
   pub names : new ≡ beginning old taken
 
 -- whether a step says that its name is done, and the name
@@ -130,6 +136,7 @@ HasLeft collections number = IsSomeAnd (collection_at collections number) (λ c.
 -- A collection tried this name, its first one left: the step tells it, and it is done, or failed and is as it was.
 pub record TriesFirst {D W C : Type 0} (g : Ghosts D W C) (number : ℕ) (c : Collection) (name : List ℕ) (left : List (List ℕ)) (old new : D × ManagedNames) (step : CollectStep) : Type 0 where
   pub told : tried_name step ≡ name
+  pub plain : is_plain name ≡ true
   pub names : new.1 ≡ record old.1 { collections = with_collection old.1.collections number (having_tried c name left (is_done step)) }
   pub tried : TriesName g name old new (is_done step)
 
@@ -245,26 +252,25 @@ pub record Tried {D W C : Type 0} (g : Ghosts D W C) (names : List (List ℕ)) (
   pub fits : (g.view old.0).refusals ≤ 18446744073709551615 → (g.view new.0).refusals ≤ 18446744073709551615
   pub frame : MayDelete g.told (g.view old.0) (g.view new.0)
 
--- Some first ones of the names of a collection were tried, since it stood so: what is left of it is the rest.
-pub record TriesSome {D W C : Type 0} (g : Ghosts D W C) (number : ℕ) (taken : List (List ℕ)) (old new : D × ManagedNames) : Type 0 where
+-- Some first ones of the names of a collection were tried, since it was begun beside these names: what is left of it is the rest.
+pub record TriesSome {D W C : Type 0} (g : Ghosts D W C) (before : ManagedNames) (taken : List (List ℕ)) (old new : D × ManagedNames) : Type 0 where
   pub front : List (List ℕ)
   pub rest : List (List ℕ)
   pub deleted : List (List ℕ)
   pub failed : List (List ℕ)
   pub split : taken ≡ front ++ rest
   pub tried : Tried g front old new deleted failed
-  pub at : collection_at new.1.collections number ≡ Some (record { untried = rest; done = deleted; failed = failed })
-  pub names : new.1 ≡ record old.1 { collections = with_collection old.1.collections number (record { untried = rest; done = deleted; failed = failed }) }
+  pub names : new.1 ≡ standing before (record { untried = rest; done = deleted; failed = failed })
 
 -- at Ok the collection has nothing left
 abbrev pub TriesAll : {A E : Type 0} → ℕ → ManagedNames → Result A E → Type 0
 TriesAll number names result = OnOk result ((c : Collection) → collection_at names.collections number ≡ Some c → c.untried ≡ [])
 
--- The managed names become those that are left, and are listed. Otherwise they are as they were, and the list may have either.
+-- The managed names become those that are left, and are listed where they were. After an error they are as they were, and the list may have either.
 pub record Shortens {A D W C : Type 0} (g : Ghosts D W C) (left : List (List ℕ)) (old new : D × ManagedNames) (result : Result A IoError) : Type 0 where
   pub ok : OnOk result (new.1 ≡ record old.1 { managed = left })
   pub err : OnErr result (new.1 ≡ old.1)
-  pub lists : g.told.content → OnOk result (Lists ((g.view new.0).reads list_name) left)
+  pub lists : g.told.content → Lists ((g.view old.0).reads list_name) old.1.managed → OnOk result (Lists ((g.view new.0).reads list_name) left)
   pub either : g.told.content → Lists ((g.view new.0).reads list_name) left ⊎ ((g.view new.0).reads list_name ≡ (g.view old.0).reads list_name)
   pub others : g.told.content → KeepsOthers (g.view old.0).reads (g.view new.0).reads list_name
   pub faults : IoFaults (g.view old.0) (g.view new.0) result

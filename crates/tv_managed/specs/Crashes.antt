@@ -165,12 +165,10 @@ pub record TriesState {E : Type 0} (old new : Disk) (name : List ℕ) (result : 
   pub no_more : MayAdd (possible_now old) (possible_now new) name Absent
   pub time : Elapses old new
 
--- each managed name that isn't left is absent now
-abbrev pub LacksAbsent : {D W C : Type 0} → Ghosts D W C → (left : List (List ℕ)) → D × ManagedNames → Type 0
-LacksAbsent g left managed = (n : List ℕ) → has managed.1.managed n ≡ true → has left n ≡ false → (g.disk managed.0).now n ≡ Absent
+-- each managed name that isn't left is done by an unfinished collection
+abbrev pub LacksDone : (left : List (List ℕ)) → ManagedNames → Type 0
+LacksDone left names = (n : List ℕ) → has names.managed n ≡ true → has left n ≡ false → has (done_names names.collections) n ≡ true
 
--- The list is cut to the names that are left: where the others are absent, that is durable before the list lacks them. So it goes on having each file, and each managed
--- name that it need have.
-pub record CutsList {D W C : Type 0} (g : Ghosts D W C) (left : List (List ℕ)) (old new : D × ManagedNames) : Type 0 where
-  pub tracks : LacksAbsent g left old → IsTracked g old → KeepsTrack g old new
-  pub states : ShortensStates g left old new
+-- The list is cut to the names that are left: the device has kept that the others are absent before the list lacks them.
+abbrev pub CutsList : {D W C : Type 0} → Ghosts D W C → (left : List (List ℕ)) → (old new : D × ManagedNames) → Type 0
+CutsList g left old new = LacksDone left old.1 → LeavesSafely g (ShortensStates g left old new) old new

@@ -3,14 +3,14 @@ ghost use Rattle.std.specs.Prelude.{◌≡◌, ◌≢◌, ◌≤◌, [], ◌∷�
 ghost use Rattle.std.specs.List.{list_all};
 ghost use Rattle.std.specs.Option.{IfSome};
 ghost use Rattle.tv_model.specs.Names.{has, is_file_name, is_plain, list_name};
-ghost use Rattle.tv_model.specs.Collections.{Collection as CollectionState, begun, collection_at, no_collections, taken, without};
+ghost use Rattle.tv_model.specs.Collections.{Collection as CollectionState, begun, collectable, collection_at, held, no_collections, taken, without};
 ghost use Rattle.tv_directory.specs.Images.{DeletesState};
 ghost use Rattle.tv_directory.specs.View.{Kept, MayDelete, OnlyReads};
 ghost use Rattle.tv_directory.specs.Calls.{DeleteFaults, Deletes, EndsWriters};
 ghost use Rattle.tv_managed.specs.Crashes.{AreListed, CollectsNames, EndsSafely, IsTracked, LeavesSafely, CutsList, SettlesStates, StepsSafely, TouchesOnly, AnyOrList, TriesState};
 ghost use Rattle.tv_managed.specs.Frames.{KeepsNames, OnlyAsks};
-ghost use Rattle.tv_managed.specs.Names.{AreManaged};
-ghost use Rattle.tv_managed.specs.Collecting.{Among, BeginFaults, Begins, ChangesNothing, CollectFaults, EndFaults, EndsCollection, HasLeft, LockedFaults, OnlyDeletes, Shortens, Steps, Tries, TriesAll, TriesName, TriesSome, names_of, taken_by};
+ghost use Rattle.tv_managed.specs.Names.{AreManaged, ManagedNames};
+ghost use Rattle.tv_managed.specs.Collecting.{Among, BeginFaults, Begins, ChangesNothing, CollectFaults, EndFaults, EndsCollection, HasLeft, LockedFaults, OnlyDeletes, Shortens, Steps, Tries, TriesAll, TriesName, TriesSome, names_of, standing, taken_by};
 
 use crate::collection::{CollectStep, Collections, GarbageCollectionResult};
 use crate::list::save_managed_paths;
@@ -134,11 +134,7 @@ impl<D: Directory> ManagedDirectory<D> {
         let name = self.collections.next_name(self.alloc, id)?;
         let is_done = self.delete_managed(name.as_str())?;
         self.collections.mark(id, is_done);
-        if is_done {
-            Ok(CollectStep::Done(name))
-        } else {
-            Ok(CollectStep::Failed(name))
-        }
+        Ok(CollectStep::new(name, is_done))
     }
 
     /// Ends a collection: what is done is managed no more, and what failed or wasn't tried stays managed. Where
@@ -198,35 +194,20 @@ impl<D: Directory> ManagedDirectory<D> {
             return Err(TantivyError::Exhausted);
         }
         self.sync_directory()?;
-        let names = self.names_to_collect(living)?;
+        let names = names_to_collect(self.alloc, living, &self.managed, &self.collections)?;
         Ok(self.collections.begin(self.alloc, names)?)
-    }
-
-    // The managed names that are neither living nor of an unfinished collection, in their order.
-    fn names_to_collect(&self, living: &BTreeSet<String>) -> Result<Vec<String>, Memory>
-        ensures { IfOk result (λ names. names_of names.items
-            ≡ taken_by (names_of living.now.keys) self.now.1) }
-    {
-        let mut names = Vec::new(self.alloc);
-        for name in &self.managed {
-            let name = name.as_str();
-            if !living.contains(name) && !self.collections.holds(name) {
-                names.push(String::from_str(self.alloc, name)?)?;
-            }
-        }
-        Ok(names)
     }
 
     // Tries each name that the collection has left.
     fn try_each(&mut self, number: u64) -> Result<(), TantivyError>
-        ensures leaves { (names : List (List ℕ))
-            → collection_at self.old.1.collections number ≡ Some (begun names)
-            → TriesSome D.Directory number names self.old self.new
-            × TriesAll number self.new.1 result }
+        ensures leaves { (before : ManagedNames) (names : List (List ℕ))
+            → self.old.1 ≡ standing before (begun names) → number ≡ before.collections.next
+            → TriesSome D.Directory before names self.old self.new }
+        ensures all { TriesAll number self.new.1 result }
         ensures memory { IfErr result (λ e. e ≡ TantivyError.Memory) }
         ensures only { OnlyDeletes D.Directory self.old self.new }
-        ensures images { D.tells_images → (names : List (List ℕ))
-            → collection_at self.old.1.collections number ≡ Some (begun names)
+        ensures safe { D.tells_images → (before : ManagedNames) (names : List (List ℕ))
+            → self.old.1 ≡ standing before (begun names) → number ≡ before.collections.next
             → LeavesSafely D.Directory (TouchesOnly (AnyOrList names)
             (D.disk self.old.0) (D.disk self.new.0)) self.old self.new }
     {
@@ -293,9 +274,13 @@ impl<D: Directory> ManagedDirectory<D> {
             → CutsList D.Directory (names_of left.keys) self.old self.new }
     {
         self.sync_directory()?;
-        save_managed_paths(self.alloc, &mut self.directory, &left)?;
-        self.managed = left;
-        Ok(())
+        match save_managed_paths(self.alloc, &mut self.directory, &left) {
+            Ok(()) => {
+                self.managed = left;
+                Ok(())
+            }
+            Err(error) => Err(error),
+        }
     }
 }
 
@@ -309,4 +294,32 @@ fn without(names: BTreeSet<String>, gone: &[String]) -> BTreeSet<String>
         names.remove(name.as_str());
     }
     names
+}
+
+// Whether a name is living, or an unfinished collection has it.
+#[tactic(auto, using(crate::proofs::SetsOfTexts::had_is))]
+fn is_needed(living: &BTreeSet<String>, collections: &Collections, name: &str) -> bool
+    ensures { result ≡ has (names_of living.now.keys ++ held collections.now) name.now }
+{
+    living.contains(name) || collections.holds(name)
+}
+
+// The managed names that are neither living nor of an unfinished collection, in their order.
+fn names_to_collect(
+    alloc: Global,
+    living: &BTreeSet<String>,
+    managed: &BTreeSet<String>,
+    collections: &Collections,
+) -> Result<Vec<String>, Memory>
+    ensures { IfOk result (λ names. names_of names.items
+        ≡ collectable (names_of living.now.keys ++ held collections.now)
+        (names_of managed.now.keys)) }
+{
+    let mut names = Vec::new(alloc);
+    for name in managed {
+        if !is_needed(living, collections, name.as_str()) {
+            names.push(String::from_str(alloc, name.as_str())?)?;
+        }
+    }
+    Ok(names)
 }

@@ -1,9 +1,9 @@
 //! Collections: what they take, and what they told so far.
 ghost use Rattle.std.specs.Prelude.{◌≡◌, ◌≤◌, ◌<◌, ◌+◌, ◌-◌, ◌^◌, ◌∷◌, ◌++◌, [], ℕ, List, length, map, string_bytes, true, false, IsSome, Option, Some, None, option_map, IfOk, OnOk, OnErr, if◌then◌else◌};
 ghost use Rattle.std.specs.Option.{IfSome};
-ghost use Rattle.tv_model.specs.Names.{has};
+ghost use Rattle.tv_model.specs.Names.{has, is_plain};
 ghost use Rattle.tv_model.specs.Collections.{Collection as CollectionState, begun, collection_at, having_tried, held, no_collections, taken, with_begun, with_collection, without_collection};
-ghost use Rattle.tv_managed.specs.Collecting.{HasLeft, IsLast, names_of};
+ghost use Rattle.tv_managed.specs.Collecting.{HasLeft, IsLast, is_done, names_of, tried_name};
 ghost use Rattle.tv_managed.specs.Names.{AreManaged, tried_so};
 
 use std::alloc::Global;
@@ -28,6 +28,20 @@ pub struct GarbageCollectionResult {
     pub deleted_files: Vec<String>,
     /// The names whose delete the device refused. They stay managed.
     pub failed_to_delete_files: Vec<String>,
+}
+
+impl CollectStep {
+    // The step that tried this name, and whether its delete is done.
+    pub(crate) fn new(name: String, gone: bool) -> CollectStep
+        ensures told { tried_name result ≡ string_bytes name }
+        ensures done { is_done result ≡ gone }
+    {
+        if gone {
+            CollectStep::Done(name)
+        } else {
+            CollectStep::Failed(name)
+        }
+    }
 }
 
 impl GarbageCollectionResult {
@@ -113,7 +127,8 @@ impl Collection {
     // The name that it tries next.
     fn next(&self) -> &str
         requires { 0 < length self.now.untried }
-        ensures { (left : List (List ℕ)) × (self.now.untried ≡ result.now ∷ left) }
+        ensures first { (left : List (List ℕ)) × (self.now.untried ≡ result.now ∷ left) }
+        ensures plain { is_plain result.now ≡ true }
     {
         self.names[self.tried].as_str()
     }
@@ -228,6 +243,7 @@ impl Collections {
         requires managed { AreManaged (names_of names.items) }
         requires numbered { IsLast self.old.next → ⊥ }
         ensures number { IfOk result (λ number. number ≡ self.old.next) }
+        ensures free { OnOk result (collection_at self.old self.old.next ≡ None) }
         ensures begun { OnOk result (self.new ≡ with_begun self.old (names_of names.items)) }
         ensures err { OnErr result (self.new ≡ self.old) }
     {
@@ -264,9 +280,10 @@ impl Collections {
     /// A copy of the name that the collection tries next.
     pub(crate) fn next_name(&self, alloc: Global, number: u64) -> Result<String, Memory>
         requires { HasLeft self.now number }
-        ensures { (c : CollectionState) (name : List ℕ) (left : List (List ℕ))
+        ensures first { (c : CollectionState) (name : List ℕ) (left : List (List ℕ))
             → collection_at self.now number ≡ Some c → c.untried ≡ name ∷ left
             → IfOk result (λ found. string_bytes found ≡ name) }
+        ensures plain { IfOk result (λ found. is_plain (string_bytes found) ≡ true) }
     {
         Ok(String::from_str(alloc, self.unfinished[&number].next())?)
     }
