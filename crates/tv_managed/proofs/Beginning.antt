@@ -23,7 +23,7 @@ begun_safely g taken {old} {new} (Ok number) settles begins err = record {
   tracks = λ was.
       let free : collection_at old.1.collections old.1.collections.next ≡ None = subst (λ n. collection_at old.1.collections n ≡ None) begins.numbered begins.free in
       let covered : IsCovered (possible_now (g.disk new.0)) (g.disk new.0).now (beginning old.1 taken) =
-          covered_done (λ n h none. sym (same_done old.1 taken [] n free) ∙ none) (λ n undotted h. (covered_settles g new settles was).gone n undotted (sym (same_done old.1 taken [] n free) ∙ h)) (covered_settles g new settles was) in
+      covered_done (λ n h none. sym (same_done old.1 taken [] n free) ∙ none) (λ n undotted h. (covered_settles g new settles was).gone n undotted (sym (same_done old.1 taken [] n free) ∙ h)) (covered_settles g new settles was) in
       track_settles g settles (subst (IsCovered (possible_now (g.disk new.0)) (g.disk new.0).now) (sym begins.names) covered) was;
   states = settles;
 }

@@ -28,12 +28,15 @@ among_done (e ∷ entries) number c n at = here (is_eq (nat_cmp number e.0)) (am
   twice : (a b : Bool) → (a || (a || b)) ≡ (a || b)
   twice true b = refl
   twice false b = refl
+
   last : (b : Bool) → true ≡ (b || true)
   last true = refl
   last false = refl
+
   later : (a b d : Bool) → (a || d) ≡ d → (a || (b || d)) ≡ (b || d)
   later true b d h = rw (← h) (last b)
   later false b d h = refl
+
   here : (b : Bool) → (lookup (is_at (nat_cmp number)) entries ≡ Some c → (has c.done n || has (dones entries) n) ≡ has (dones entries) n) → cond b (Some e.1) (lookup (is_at (nat_cmp number)) entries) ≡ Some c → (has c.done n || has (e.1.done ++ dones entries) n) ≡ has (e.1.done ++ dones entries) n
   here true before k = let it : e.1 ≡ c = cc in rw (has_or e.1.done (dones entries) n, ← it) (twice (has e.1.done n) (has (dones entries) n))
   here false before k = rw (has_or e.1.done (dones entries) n) (later (has c.done n) (has e.1.done n) (has (dones entries) n) (before k))
@@ -45,10 +48,13 @@ more_done [] number c later n b at is = absurd cc
 more_done (e ∷ entries) number c later n b at is = here (nat_cmp number e.0) (λ k. more_done entries number c later n b k is) at where
   first : (a b x d : Bool) → (a || d) ≡ d → ((a || b) || (x || d)) ≡ ((x || d) || b)
   first a b x d h = grind arith
+
   same : (a b d : Bool) → ((a || b) || d) ≡ ((a || d) || b)
   same a b d = grind arith
+
   other : (x y d b : Bool) → y ≡ (d || b) → (x || y) ≡ ((x || d) || b)
   other x y d b h = grind arith
+
   here : (r : Ordering) → (lookup (is_at (nat_cmp number)) entries ≡ Some c → has (dones (insert_entry nat_cmp entries number later)) n ≡ (has (dones entries) n || b)) → cond (is_eq r) (Some e.1) (lookup (is_at (nat_cmp number)) entries) ≡ Some c
       → has (dones (match_ordering r ((number, later) ∷ e ∷ entries) ((e.0, later) ∷ entries) (e ∷ insert_entry nat_cmp entries number later))) n ≡ (has (e.1.done ++ dones entries) n || b)
   here Less before k = rw (has_or later.done (e.1.done ++ dones entries) n, has_or e.1.done (dones entries) n, is) (first (has c.done n) b (has e.1.done n) (has (dones entries) n) (among_done entries number c n k))
@@ -73,6 +79,7 @@ fewer_done [] number c n at = absurd cc
 fewer_done (e ∷ entries) number c n at = here (is_eq (nat_cmp number e.0)) (fewer_done entries number c n) at where
   turn : (a b d x : Bool) → x ≡ (a || d) → (b || x) ≡ (a || (b || d))
   turn a b d x h = grind arith
+
   here : (b : Bool) → (lookup (is_at (nat_cmp number)) entries ≡ Some c → has (dones entries) n ≡ (has c.done n || has (dones (remove_entry (is_at (nat_cmp number)) entries)) n)) → cond b (Some e.1) (lookup (is_at (nat_cmp number)) entries) ≡ Some c
       → has (e.1.done ++ dones entries) n ≡ (has c.done n || has (dones (cond b entries (e ∷ remove_entry (is_at (nat_cmp number)) entries))) n)
   here true before k = let it : e.1 ≡ c = cc in rw (has_or e.1.done (dones entries) n, it) refl
@@ -87,6 +94,7 @@ set_is_put {X} (e ∷ entries) number c later sorted at = here (nat_cmp number e
   none : (es : List (ℕ × X)) → nat_cmp number e.0 ≡ Less → AllByRecursion (λ k. nat_cmp e.0 k ≡ Less) (keys_of es) → lookup (is_at (nat_cmp number)) es ≡ None
   none [] low h = refl
   none (x ∷ es) low h = rw (nat_cmp_total.trans number e.0 x.0 low h.0) (none es low h.1)
+
   here : (r : Ordering) → nat_cmp number e.0 ≡ r → (lookup (is_at (nat_cmp number)) entries ≡ Some c → set_value (is_at (nat_cmp number)) entries later ≡ insert_entry nat_cmp entries number later) → cond (is_eq r) (Some e.1) (lookup (is_at (nat_cmp number)) entries) ≡ Some c
       → cond (is_eq r) ((e.0, later) ∷ entries) (e ∷ set_value (is_at (nat_cmp number)) entries later) ≡ match_ordering r ((number, later) ∷ e ∷ entries) ((e.0, later) ∷ entries) (e ∷ insert_entry nat_cmp entries number later)
   here Less is before k = absurd (cc (none entries is sorted.0))
@@ -104,6 +112,7 @@ done_held [] n h = refl
 done_held (e ∷ entries) n h = here (sym (has_or (taken e.1) (flat_map (λ e. taken e.1) entries) n) ∙ h) (done_held entries n) where
   none : (a b d x y : Bool) → (((a || b) || d) || x) ≡ false → (x ≡ false → y ≡ false) → (a || y) ≡ false
   none a b d x y h k = grind arith
+
   here : (has (taken e.1) n || has (flat_map (λ e. taken e.1) entries) n) ≡ false → (has (flat_map (λ e. taken e.1) entries) n ≡ false → has (dones entries) n ≡ false) → has (e.1.done ++ dones entries) n ≡ false
   here k more =
       has_or e.1.done (dones entries) n

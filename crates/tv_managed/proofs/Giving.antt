@@ -29,9 +29,6 @@ track_given g {old} time adds others other on was =
 
 -- ---- deletes
 
-
-
-
 -- what is absent stays so
 pub deleted_stays : {A : Type 0} (result : Result A DeleteError) (old new : Disk) (name : List ℕ) → DeletesState old new name result → (n : List ℕ) → old.now n ≡ Absent → new.now n ≡ Absent
 deleted_stays (Ok x) old new name deletes n absent = cases (is n name)

@@ -49,14 +49,14 @@ step_safely g number d name left gone {old} {new} {now} step tries plain at so s
       let first : KeepsTrack g old (new, old.1) = track_deleted g tries.time tries.no_more tries.stays (plain_other name plain) was in
       let later = with_collection old.1.collections number (having_tried d name left gone) in
       let second : KeepsTrack g (new, old.1) (new, record old.1 { collections = later }) = track_names g
-          (covered_done
-          (λ n h none. none_left _ _ (sym (done_after old.1.collections number d name left gone n at) ∙ none))
-          (λ n undotted h. ⊎_elim
-          (λ before. first.tracked.gone n undotted before)
-          (λ it. let two = both_true gone (is name n) it in subst (λ m. (g.disk new).now m ≡ Absent) (is_text name n two.1) (tries.gone two.0))
-          (or_cases _ _ (sym (done_after old.1.collections number d name left gone n at) ∙ h)))
-          first.tracked)
-          first.tracked in
+      (covered_done
+      (λ n h none. none_left _ _ (sym (done_after old.1.collections number d name left gone n at) ∙ none))
+      (λ n undotted h. ⊎_elim
+      (λ before. first.tracked.gone n undotted before)
+      (λ it. let two = both_true gone (is name n) it in subst (λ m. (g.disk new).now m ≡ Absent) (is_text name n two.1) (tries.gone two.0))
+      (or_cases _ _ (sym (done_after old.1.collections number d name left gone n at) ∙ h)))
+      first.tracked)
+      first.tracked in
       subst (λ v. KeepsTrack g old (new, v)) (sym so) (track_then g first second);
   states = record { moments = adds_run (gained_one tries.time tries.no_more); now = record { each = tries.others }; gone = λ done. tries.gone (sym same ∙ done) };
 }

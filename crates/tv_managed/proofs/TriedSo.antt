@@ -27,8 +27,8 @@ has_taken (name ∷ names) (false ∷ outcomes) n le =
     has_or (c.done ++ name ∷ c.failed) c.untried n
     ∙ ap (λ b. b || has c.untried n) (has_or c.done (name ∷ c.failed) n)
     ∙ turn (has c.done n) (is name n) (has c.failed n) (has c.untried n) (has names n) (ap (λ b. b || has c.untried n) (sym (has_or c.done c.failed n)) ∙ sym (has_or (c.done ++ c.failed) c.untried n) ∙ has_taken names outcomes n (omega arith)) where
-  turn : (a b d e x : Bool) → ((a || d) || e) ≡ x → ((a || (b || d)) || e) ≡ (b || x)
-  turn a b d e x h = grind arith
+      turn : (a b d e x : Bool) → ((a || d) || e) ≡ x → ((a || (b || d)) || e) ≡ (b || x)
+      turn a b d e x h = grind arith
 
 -- one name more was tried
 pub tried_more : (names : List (List ℕ)) (outcomes : List Bool) (o : Bool) (name : List ℕ) (left : List (List ℕ)) → (tried_so names outcomes).untried ≡ name ∷ left → tried_so names (outcomes ++ o ∷ []) ≡ having_tried (tried_so names outcomes) name left o

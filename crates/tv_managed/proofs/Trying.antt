@@ -1,5 +1,5 @@
 -- How a collection tries its names one after another.
-use Rattle.std.proofs.Common.{rules, ◌≡◌, ◌<◌, ◌≤◌, ◌+◌, suc, inl, ⊎_elim, Result,  ℕ, Bool, true, false, cond, List, [], ◌∷◌, ◌++◌, length, Option, None, Some, refl, sym, ap, subst, ◌∙◌, arith, append-nil, append_assoc}
+use Rattle.std.proofs.Common.{rules, ◌≡◌, ◌<◌, ◌≤◌, ◌+◌, suc, inl, ⊎_elim, Result, ℕ, Bool, true, false, cond, List, [], ◌∷◌, ◌++◌, length, Option, None, Some, refl, sym, ap, subst, ◌∙◌, arith, append-nil, append_assoc}
 use Rattle.std.specs.Option.{IsSomeAnd}
 use Rattle.std.specs.BTreeMap.{insert_entry}
 use Rattle.std.specs.Ordering.{nat_cmp}
@@ -75,8 +75,10 @@ pub some_next : {D W C : Type 0} (g : Ghosts D W C) (before : ManagedNames) (nam
 some_next g before names number {first} {old} {new} step same has tries only s = by s.rest refl where
   at : collection_at old.1.collections number ≡ Some (record { untried = s.rest; done = s.deleted; failed = s.failed })
   at = ap (λ n. collection_at old.1.collections n) same ∙ ap (λ v. collection_at v.collections before.collections.next) s.names ∙ at_standing before (record { untried = s.rest; done = s.deleted; failed = s.failed })
+
   some : IsSomeAnd (collection_at old.1.collections number) (λ d. 0 < length d.untried) → 0 < length s.rest
   some h = subst (λ o. IsSomeAnd o (λ d. 0 < length d.untried)) at h
+
   by : (r : List (List ℕ)) → s.rest ≡ r → TriesSome g before names first new
   by [] none = absurd (omega (arith, some has, ap length none))
   by (name ∷ left) next = some_more g before names step name left s next
@@ -91,6 +93,7 @@ fewer_left g number old new step has tries = by (collection_at old.1.collections
       let t = tries d name left at next in
       let now : collection_at new.1.collections number ≡ Some (having_tried d name left (is_done step)) = ap (λ v. collection_at v.collections number) t.names ∙ at_put old.1.collections.unfinished number _ in
       omega (arith, ap left_of now, left_tried d name left (is_done step), ap length next)
+
   by : (o : Option Collection) → collection_at old.1.collections number ≡ o → IsSomeAnd o (λ d. 0 < length d.untried) → suc (left_of (collection_at new.1.collections number)) ≤ left_of o
   by None at some = absurd some
   by (Some d) at some = tried d d.untried refl at some
@@ -116,8 +119,10 @@ pub safe_next : {E D W C : Type 0} (g : Ghosts D W C) (before : ManagedNames) (n
 safe_next g before names number {first} {old} {new} same has safe s so_far = by s.rest refl where
   at : collection_at old.1.collections number ≡ Some (record { untried = s.rest; done = s.deleted; failed = s.failed })
   at = ap (λ n. collection_at old.1.collections n) same ∙ ap (λ v. collection_at v.collections before.collections.next) s.names ∙ at_standing before (record { untried = s.rest; done = s.deleted; failed = s.failed })
+
   some : IsSomeAnd (collection_at old.1.collections number) (λ d. 0 < length d.untried) → 0 < length s.rest
   some h = subst (λ o. IsSomeAnd o (λ d. 0 < length d.untried)) at h
+
   by : (r : List (List ℕ)) → s.rest ≡ r → LeavesSafely g (TouchesOnly (AnyOrList names) (g.disk first.0) (g.disk new.0)) first new
   by [] none = absurd (omega (arith, some has, ap length none))
   by (name ∷ left) next =

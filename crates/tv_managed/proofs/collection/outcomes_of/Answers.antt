@@ -17,7 +17,7 @@ loop-i-preserved c =
     let so_far = tried_so names (take i c.args.outcomes.now) in
     let next = outcome_more names c.args.outcomes.now i (string_bytes item) false (omega arith) (omega (arith, length-map texts string_bytes)) in
     let same : string_bytes c.in_ok-name.name ≡ name =
-        c.in_ok-name.ensures.ok ∙ c.as_str.ensures.value ∙ ap string_bytes c.index-names-i.is ∙ sym (get_or-map string_bytes texts i item (string_bytes item) (omega arith)) in
+    c.in_ok-name.ensures.ok ∙ c.as_str.ensures.value ∙ ap string_bytes c.index-names-i.is ∙ sym (get_or-map string_bytes texts i item (string_bytes item) (omega arith)) in
     record {
       deleted = told_done gone so_far name left _ _ c.in_ok-name.name c.in_ok-add.ensures.deleted c.loop-i.invariant.deleted same ∙ ap (λ v. v.done) (sym next);
       failed = told_failed gone so_far name left _ _ c.in_ok-name.name c.in_ok-add.ensures.failed c.loop-i.invariant.failed same ∙ ap (λ v. v.failed) (sym next);

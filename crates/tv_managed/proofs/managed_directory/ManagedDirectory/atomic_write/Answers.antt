@@ -52,9 +52,9 @@ returns-clause-safe g c = λ tells.
     let gives = c.atomic_write.ensures.images tells in
     let inside : ManagedNames = record { managed = map string_bytes c.self.inside.managed.keys; collections = c.self.inside.collections } in
     let free : is_undotted name ≡ true → has (done_names inside.collections) name ≡ false =
-        λ undotted. ap (λ v. has (done_names v.1.collections) name) c.self.view_is ∙ ap (λ v. has (done_names v.collections) name) names ∙ done_held c.args.self.now.1.collections.unfinished c.args.name.now (c.requires.free undotted) in
+    λ undotted. ap (λ v. has (done_names v.1.collections) name) c.self.view_is ∙ ap (λ v. has (done_names v.collections) name) names ∙ done_held c.args.self.now.1.collections.unfinished c.args.name.now (c.requires.free undotted) in
     let there : is_undotted name ≡ true → has inside.managed name ≡ true =
-        λ undotted. ap (λ v. has v.1.managed name) c.self.view_is ∙ ap (λ v. has v.managed name) names ∙ has_registered _ name undotted in
+    λ undotted. ap (λ v. has v.1.managed name) c.self.view_is ∙ ap (λ v. has v.managed name) names ∙ has_registered _ name undotted in
     record {
       tracks = λ was. track_then D (listed.tracks was) (track_from D c.self.view_is (track_given D gives.time gives.no_more (others_given _ gives) c.requires.other (λ undotted. (there undotted, free undotted))) (listed.tracks was).tracked);
       states = record {

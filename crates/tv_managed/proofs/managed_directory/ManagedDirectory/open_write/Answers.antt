@@ -84,9 +84,9 @@ returns-in_err-writer-clause-safe g c = λ tells.
     let opens = c.in_err-writer.ensures.images tells in
     let inside : ManagedNames = record { managed = map string_bytes c.self.inside.managed.keys; collections = c.self.inside.collections } in
     let free : is_undotted name ≡ true → has (done_names inside.collections) name ≡ false =
-        λ undotted. ap (λ v. has (done_names v.1.collections) name) c.self.view_is ∙ ap (λ v. has (done_names v.collections) name) (names ∙ ap (λ v. registering v name) asked.frame.names) ∙ done_held c.args.self.now.1.collections.unfinished name asked.faults.free in
+    λ undotted. ap (λ v. has (done_names v.1.collections) name) c.self.view_is ∙ ap (λ v. has (done_names v.collections) name) (names ∙ ap (λ v. registering v name) asked.frame.names) ∙ done_held c.args.self.now.1.collections.unfinished name asked.faults.free in
     let there : is_undotted name ≡ true → has inside.managed name ≡ true =
-        λ undotted. ap (λ v. has v.1.managed name) c.self.view_is ∙ ap (λ v. has v.managed name) names ∙ has_registered _ name undotted in
+    λ undotted. ap (λ v. has v.1.managed name) c.self.view_is ∙ ap (λ v. has v.managed name) names ∙ has_registered _ name undotted in
     record {
       tracks = λ was.
           let first = track_read D asked.frame.names keeps was in
@@ -110,9 +110,9 @@ returns-clause-safe g c = λ tells.
     let opens = c.in_ok-writer.ensures.images tells in
     let inside : ManagedNames = record { managed = map string_bytes c.self.inside.managed.keys; collections = c.self.inside.collections } in
     let free : is_undotted name ≡ true → has (done_names inside.collections) name ≡ false =
-        λ undotted. ap (λ v. has (done_names v.1.collections) name) c.self.view_is ∙ ap (λ v. has (done_names v.collections) name) (names ∙ ap (λ v. registering v name) asked.frame.names) ∙ done_held c.args.self.now.1.collections.unfinished name asked.faults.free in
+    λ undotted. ap (λ v. has (done_names v.1.collections) name) c.self.view_is ∙ ap (λ v. has (done_names v.collections) name) (names ∙ ap (λ v. registering v name) asked.frame.names) ∙ done_held c.args.self.now.1.collections.unfinished name asked.faults.free in
     let there : is_undotted name ≡ true → has inside.managed name ≡ true =
-        λ undotted. ap (λ v. has v.1.managed name) c.self.view_is ∙ ap (λ v. has v.managed name) names ∙ has_registered _ name undotted in
+    λ undotted. ap (λ v. has v.1.managed name) c.self.view_is ∙ ap (λ v. has v.managed name) names ∙ has_registered _ name undotted in
     record {
       tracks = λ was.
           let first = track_read D asked.frame.names keeps was in
@@ -124,4 +124,3 @@ returns-clause-safe g c = λ tells.
         stands = search rules;
       };
     }
-

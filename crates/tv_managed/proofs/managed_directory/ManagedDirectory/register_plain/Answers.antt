@@ -31,9 +31,9 @@ returns-then-contains-clause-list g c =
     let names : map string_bytes c.self.inside.managed.keys ≡ old.managed = ap (λ v. v.1.managed) c.self.view_is in
     let there = had_is c.self.inside.managed.keys _ c.args.name.now true c.if-contains.ensures names in
     let put : old ≡ registering old c.args.name.now =
-        ap (with_names old) (sym (insert_present old.managed c.args.name.now there (subst AreManaged names c.self.invariant).ordered)) ∙ puts old c.args.name.now c.requires.undotted in
+    ap (with_names old) (sym (insert_present old.managed c.args.name.now there (subst AreManaged names c.self.invariant).ordered)) ∙ puts old c.args.name.now c.requires.undotted in
     let on : Covers ((g.D.Directory.view c.args.self.now.0).reads list_name) old → has (done_names old.collections) c.args.name.now ≡ false → IsOnList ((g.D.Directory.view c.args.self.now.0).reads list_name) c.args.name.now =
-        λ was free. (was.0, was.1, was.2 c.args.name.now there free) in
+    λ was free. (was.0, was.1, was.2 c.args.name.now there free) in
     search rules
 
 pub returns-in-Ok-clause-list : goal.returns-in-Ok-clause-list
@@ -57,9 +57,9 @@ returns-in-Err-clause-list g c =
     let none = had_is c.self.inside.managed.keys _ c.args.name.now false c.if-contains.ensures names in
     let put = c.in-Err.ensures.only.frame.names ∙ c.in_ok-add.ensures.names in
     let same : c.forget.new.self.1 ≡ c.args.self.now.1 =
-        c.forget.ensures.names ∙ ap (λ v. with_names v (without (c.args.name.now ∷ []) v.managed)) put ∙ ap (with_names c.args.self.now.1) (without_inserted c.args.self.now.1.managed _ _ c.args.name.now (subst AreManaged names c.self.invariant) none refl refl) in
+    c.forget.ensures.names ∙ ap (λ v. with_names v (without (c.args.name.now ∷ []) v.managed)) put ∙ ap (with_names c.args.self.now.1) (without_inserted c.args.self.now.1.managed _ _ c.args.name.now (subst AreManaged names c.self.invariant) none refl refl) in
     let covers : g.D.Directory.told.content → Covers ((g.D.Directory.view c.args.self.now.0).reads list_name) old → Covers ((g.D.Directory.view c.forget.new.self.0).reads list_name) c.forget.new.self.1 = λ tells was.
-        rw (c.forget.ensures.directory, same) (covers_put _ _ old c.save.new.self.1.managed (λ n h free. rw (ap (λ v. v.managed) (only.frame.names ∙ c.in_ok-add.ensures.names)) (has_kept old.managed c.args.name.now n h)) (only.either tells) (rw c.in_ok-add.ensures.directory was)) in
+    rw (c.forget.ensures.directory, same) (covers_put _ _ old c.save.new.self.1.managed (λ n h free. rw (ap (λ v. v.managed) (only.frame.names ∙ c.in_ok-add.ensures.names)) (has_kept old.managed c.args.name.now n h)) (only.either tells) (rw c.in_ok-add.ensures.directory was)) in
     search rules
 
 pub returns-then-contains-clause-images : goal.returns-then-contains-clause-images
@@ -81,6 +81,6 @@ returns-in-Err-clause-images g c = λ tells.
     let none = had_is c.self.inside.managed.keys _ c.args.name.now false c.if-contains.ensures names in
     let put = c.in-Err.ensures.only.frame.names ∙ c.in_ok-add.ensures.names in
     let same : c.forget.new.self.1 ≡ c.args.self.now.1 =
-        c.forget.ensures.names ∙ ap (λ v. with_names v (without (c.args.name.now ∷ []) v.managed)) put ∙ ap (with_names c.args.self.now.1) (without_inserted c.args.self.now.1.managed _ _ c.args.name.now (subst AreManaged names c.self.invariant) none refl refl) in
+    c.forget.ensures.names ∙ ap (λ v. with_names v (without (c.args.name.now ∷ []) v.managed)) put ∙ ap (with_names c.args.self.now.1) (without_inserted c.args.self.now.1.managed _ _ c.args.name.now (subst AreManaged names c.self.invariant) none refl refl) in
     lists_refused g.D.Directory c.args.name.now {old = c.args.self.now} {mid = c.add.new.self} {last = c.save.new.self} {new = c.forget.new.self} c.in_ok-add.ensures.directory (c.in-Err.ensures.images tells)
     (c.in_ok-add.ensures.names ∙ puts c.args.self.now.1 c.args.name.now c.requires.undotted) (keeps_put c.args.self.now.1 c.args.name.now c.requires.undotted) c.forget.ensures.directory same
