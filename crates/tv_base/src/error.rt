@@ -106,7 +106,7 @@ pub enum TantivyError {
     /// The library contradicts itself. No call makes it.
     #[error("Internal error: '{0}'")]
     InternalError(String),
-    /// The segment id that was handed in is used already. No call makes it yet.
+    /// The segment id that was handed in is used already.
     #[error("IdInUse")]
     IdInUse(String),
     /// A number can't be counted further, or a script has more lines than can be counted.

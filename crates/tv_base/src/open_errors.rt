@@ -54,7 +54,7 @@ pub enum OpenWriteError {
     /// A file of this name is there. It is left alone.
     #[error("File already exists: '{0}'")]
     FileAlreadyExists(String),
-    /// A collection that is under way holds this name. No call makes this error yet.
+    /// A collection that is under way holds this name.
     #[error("Leaving")]
     Leaving(String),
     /// The device refused the call.
