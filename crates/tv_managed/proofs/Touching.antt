@@ -8,9 +8,9 @@ use Rattle.tv_base.specs.declared.io.IoError.{IoError}
 use Rattle.tv_base.specs.declared.io.IoError.TheVariants as io
 use Rattle.tv_base.specs.declared.open_errors.OpenWriteError.TheVariants as write
 use Rattle.tv_base.specs.declared.open_errors.OpenWriteError.{OpenWriteError}
-use Rattle.tv_directory.specs.Images.{KeepsDisk, SameStates, KeepsOtherStates, GivesState, OpensState, MayOpen, WritesState}
+use Rattle.tv_directory.specs.Images.{KeepsDisk, SameStates, KeepsOtherStates, GivesState, OpensState, MayOpen, WritesState, TouchesOnly}
 use Rattle.tv_directory.specs.declared.directory.Directory.{Ghosts}
-use Rattle.tv_managed.specs.Crashes.{IsCovered, IsTracked, KeepsTrack, SavesText, TouchesOnly}
+use Rattle.tv_managed.specs.Crashes.{IsCovered, IsTracked, KeepsTrack, SavesText}
 use Rattle.tv_managed.specs.Names.{ManagedNames}
 use Rattle.tv_managed.proofs.Tracking.{at_end, covered_file, covered_within, not_done, track_step, weaker}
 

@@ -10,8 +10,9 @@ use Rattle.tv_model.proofs.Entries.{is_itself}
 use Rattle.tv_model.specs.Collections.{Collection, Collections, begun, collection_at, having_tried, with_collection}
 use Rattle.tv_directory.specs.View.{Kept}
 use Rattle.tv_directory.specs.declared.directory.Directory.{Ghosts}
+use Rattle.tv_directory.specs.Images.{TouchesOnly}
 use Rattle.tv_managed.specs.Collecting.{HasLeft, OnlyDeletes, TriesFirst, TriesSome, is_done, standing}
-use Rattle.tv_managed.specs.Crashes.{AnyOrList, LeavesSafely, StepsSafely, TouchesOnly, TriesStates}
+use Rattle.tv_managed.specs.Crashes.{AnyOrList, LeavesSafely, StepsSafely, TriesStates}
 use Rattle.tv_managed.specs.Names.{ManagedNames}
 use Rattle.tv_managed.proofs.Removals.{has_or}
 use Rattle.tv_managed.proofs.Touching.{touches_then}

@@ -8,7 +8,7 @@ use Rattle.tv_model.specs.Footer.{sealed}
 use Rattle.tv_model.specs.Collections.{Collection, collection_at, without}
 use Rattle.tv_base.specs.Causes.{IoCause}
 use Rattle.tv_base.specs.declared.io.IoError.{IoError}
-use Rattle.tv_directory.specs.Images.{KeepsDisk, KeepsOtherStates, SameStates}
+use Rattle.tv_directory.specs.Images.{KeepsDisk, KeepsOtherStates, SameStates, TouchesOnly}
 use Rattle.tv_directory.specs.declared.directory.Directory.{Ghosts}
 use Rattle.tv_managed.specs.Collecting.{is_done, Leaves, SavesNone}
 use Rattle.tv_managed.specs.Managed.{SavesList, registered}
@@ -38,11 +38,6 @@ AreListed g managed = (n : List ℕ) → has managed.1.managed n ≡ true → (l
 pub record KeepsTrack {D W C : Type 0} (g : Ghosts D W C) (old new : D × ManagedNames) : Type 0 where
   pub tracked : IsTracked g new
   pub moments : Throughout ListsEachFile (g.disk old.0) (g.disk new.0)
-
--- names that aren't touched have at each moment no possible state that they hadn't before, and stand as they stood
-pub record TouchesOnly (touched : List ℕ → Type 0) (old new : Disk) : Type 0 where
-  pub moments : Throughout (OnlyTouches touched (possible_now old)) old new
-  pub now : OnlyMoves touched old new
 
 -- this file and the list
 abbrev pub OrList : List ℕ → List ℕ → Type 0

@@ -4,10 +4,10 @@ ghost use Rattle.std.specs.List.{list_all};
 ghost use Rattle.std.specs.Option.{IfSome};
 ghost use Rattle.tv_model.specs.Names.{has, is_file_name, is_plain, list_name};
 ghost use Rattle.tv_model.specs.Collections.{Collection as CollectionState, begun, collectable, collection_at, held, no_collections, taken, without};
-ghost use Rattle.tv_directory.specs.Images.{DeletesState};
+ghost use Rattle.tv_directory.specs.Images.{DeletesState, TouchesOnly};
 ghost use Rattle.tv_directory.specs.View.{Kept, MayDelete, OnlyReads};
 ghost use Rattle.tv_directory.specs.Calls.{DeleteFaults, Deletes, EndsWriters};
-ghost use Rattle.tv_managed.specs.Crashes.{AreListed, CollectsNames, EndsSafely, IsTracked, LeavesSafely, CutsList, SettlesStates, StepsSafely, TouchesOnly, AnyOrList, TriesState};
+ghost use Rattle.tv_managed.specs.Crashes.{AreListed, CollectsNames, EndsSafely, IsTracked, LeavesSafely, CutsList, SettlesStates, StepsSafely, AnyOrList, TriesState};
 ghost use Rattle.tv_managed.specs.Frames.{KeepsNames, OnlyAsks};
 ghost use Rattle.tv_managed.specs.Names.{AreManaged, ManagedNames};
 ghost use Rattle.tv_managed.specs.Collecting.{Among, BeginFaults, Begins, ChangesNothing, CollectFaults, EndFaults, EndsCollection, HasLeft, LockedFaults, OnlyDeletes, Shortens, Steps, Tries, TriesAll, TriesName, TriesSome, names_of, standing, taken_by};
@@ -119,6 +119,13 @@ impl<D: Directory> ManagedDirectory<D> {
             (collection_at self.now.1.collections id) }
     {
         self.collections.left(id)
+    }
+
+    /// Whether an unfinished collection has the name. Takes no memory.
+    pub fn is_held(&self, name: &str) -> bool
+        ensures { result ≡ has (held self.now.1.collections) name.now }
+    {
+        self.collections.holds(name)
     }
 
     /// Deletes the first name that a collection has yet to try. A file that is absent counts as done. One whose

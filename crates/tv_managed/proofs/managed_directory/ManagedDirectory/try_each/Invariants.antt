@@ -1,7 +1,8 @@
 use Rattle.std.proofs.Common.{◌≡◌, List, ℕ}
 use Rattle.tv_model.specs.Collections.{begun, collection_at}
+use Rattle.tv_directory.specs.Images.{TouchesOnly}
 use Rattle.tv_managed.specs.Collecting.{OnlyDeletes, TriesSome, standing}
-use Rattle.tv_managed.specs.Crashes.{AnyOrList, LeavesSafely, TouchesOnly}
+use Rattle.tv_managed.specs.Crashes.{AnyOrList, LeavesSafely}
 use Rattle.tv_managed.specs.Names.{ManagedNames}
 use Rattle.tv_managed.proofs.Trying.{left_of}
 use Rattle.tv_managed.proofs.managed_directory.ManagedDirectory.try_each.Given as goal
