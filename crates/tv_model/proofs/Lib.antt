@@ -4,7 +4,10 @@ pub mod Changes
 pub mod ChecksumFits
 pub mod ComputedValues
 pub mod CollectionStates
+pub mod HeldNames
+pub mod HeldStates
 pub mod Collects
+pub mod CollectsInSteps
 pub mod ComputedRuns
 pub mod ComputedValidations
 pub mod Entries

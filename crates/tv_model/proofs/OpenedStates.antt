@@ -1,22 +1,24 @@
 -- A sound start opens to a sound state.
-use Rattle.std.proofs.Common.{◌≡◌, ◌⊎◌, inl, inr, ℕ, ◌<◌, ◌^◌, ◌==◌, true, false, true≢false, cond, List, [], ◌∷◌, Option, Some, None, refl, sym, ap, subst, ◌∙◌, ◌+◌, arith}
+use Rattle.std.proofs.Common.{◌≡◌, ℕ, ◌<◌, ◌^◌, true, true≢false, List, [], ◌∷◌, Option, Some, None, refl, sym, ap, subst, ◌∙◌, arith}
 use Rattle.std.specs.Prelude.{IsSome, is_some, option_map}
 use Rattle.std.specs.List.{AllByRecursion}
-use Rattle.std.proofs.lemmas.Bool.Decides.{nat_tests}
 use Rattle.tv_model.specs.declared.segment.LiveSegment.{LiveSegment}
 use Rattle.tv_model.specs.Names.{has, list_name, meta_name}
 use Rattle.tv_model.specs.Files.{Reads}
 use Rattle.tv_model.specs.Footer.{IsGood}
 use Rattle.tv_model.specs.Segments.{all_required}
 use Rattle.tv_model.specs.Commits.{Commit, Settings, IsSegment}
-use Rattle.tv_model.specs.CommitEvents.{is_sealed, last_stamp}
+use Rattle.tv_model.specs.CommitEvents.{is_sealed}
 use Rattle.tv_model.specs.State.{State, FileState, Sealed, file_at}
-use Rattle.tv_model.specs.Index.{HasFiles, IsSoundMeta, IsSoundImage, FindsCommit, managed_with, OpensTo, next_after}
+use Rattle.tv_model.specs.Index.{HasFiles, IsSoundMeta, IsSoundImage, FindsCommit, managed_with, OpensTo}
 use Rattle.tv_model.specs.SoundStates.{AreGood, AreWithin, IsSoundState}
 use Rattle.tv_model.proofs.Entries.{has_inserted, has_kept}
 use Rattle.tv_model.proofs.Required.{required_is_file}
 use Rattle.tv_model.proofs.OneMeaning.{means_one}
 use Rattle.tv_model.proofs.ListTexts.{lists_one}
+use Rattle.tv_model.proofs.HeldStates.{nothing_held}
+use Rattle.tv_model.proofs.SoundOpenings.{opens_managed_sorted}
+use Rattle.tv_model.proofs.SoundStates.{stamps_after}
 use Rattle.tv_model.proofs.SpelledCommits.{means_commit}
 
 -- what is known of the commit and of the managed names, whether there is a `meta.json` or not
@@ -55,14 +57,6 @@ there_reads (Some bytes) h = refl
 same_good : (file : Option FileState) (bytes other : List ℕ) → file ≡ Some (Sealed bytes) → IsGood bytes → file ≡ Some (Sealed other) → IsGood other
 same_good file bytes other e good k = let same : bytes ≡ other = cc in subst IsGood same good
 
--- the number after a commit's
-stamps_after : (opstamp next : ℕ) → next ≡ next_after opstamp → (opstamp < next) ⊎ ((opstamp ≡ last_stamp) × (next ≡ last_stamp))
-stamps_after opstamp next e =
-    elim (opstamp == last_stamp) as (λ b. (opstamp == last_stamp) ≡ b → next ≡ cond b last_stamp (opstamp + 1) → (opstamp < next) ⊎ ((opstamp ≡ last_stamp) × (next ≡ last_stamp))) [
-      | true ↦ λ t k. inr (grind (arith, nat_tests, t), k)
-      | false ↦ λ t k. inl (omega (arith, k))
-    ] refl e
-
 segments_within : (segments : List (List ℕ × LiveSegment)) → AllByRecursion IsSegment segments → AreWithin segments
 segments_within [] h = tt
 segments_within (e ∷ segments) h = (h.0.deletes, segments_within segments h.1)
@@ -83,7 +77,7 @@ opens_sound settings schema reads s sound o =
       listed = λ n there.
           let named = o.names n there in
           start.kept n (on_list n (sound.listed n named.0 (there_reads (reads n) (sym (ap is_some (o.files n named)) ∙ there))));
-      whole = record { each = λ n is. ap is_sealed (read n is).1 };
+      whole = record { each = λ n is. ap is_sealed (read n is).1; collecting = nothing_held s o.collections (opens_managed_sorted settings schema reads s o) };
       good = good;
       live = subst (AreGood s) (sym o.live) good;
       stamps = stamps_after s.catalog.commit.opstamp s.catalog.next o.next;

@@ -9,7 +9,9 @@ ghost use Rattle.tv_model.specs.declared.event.Event.{Event};
 ghost use Rattle.tv_model.specs.declared.segment.DeleteMeta.{DeleteMeta};
 ghost use Rattle.tv_model.specs.declared.segment.SegmentComponent.{SegmentComponent};
 ghost use Rattle.tv_model.specs.declared.segment.SegmentComponent.TheVariants.{Delete};
-ghost use Rattle.tv_model.specs.Collecting.{Collects, CollectsAllElse, CollectsIn, CollectsInSteps};
+ghost use Rattle.tv_model.specs.Collecting.{Collects, CollectsIn, CollectsInSteps};
+ghost use Rattle.tv_model.specs.Collecting.{CollectsAllElse, IsAtOnce};
+ghost use Rattle.tv_model.specs.Collections.{Collection};
 ghost use Rattle.tv_model.specs.Commits.{Commit, IsCommit, Settings, printed};
 ghost use Rattle.tv_model.specs.Files.{Reads};
 ghost use Rattle.tv_model.specs.Footer.{HasBody, IsFramed, body_of, sealed};
@@ -29,15 +31,14 @@ ghost use Rattle.tv_model.specs.Segments.{name_of};
 ghost use Rattle.tv_model.specs.Serving.{IsJustOpened, Serves, ServesAsSealed};
 ghost use Rattle.tv_model.specs.SoundStates.{IsSoundState};
 ghost use Rattle.tv_model.specs.State.{State};
-ghost use Rattle.tv_model.specs.Telling.{Determined, Tells, are_plain};
+ghost use Rattle.tv_model.specs.Telling.{Determined, Tells, TellsStep, are_plain};
 ghost use Rattle.tv_model.specs.Validating.{Validates};
 
 use crate::id::SegmentId;
 
 /// In each run of an index that was just opened, a searcher shows one commit of the run for life,
 /// and a reader never shows an older commit than it showed before; both end where the index is opened
-/// again. From a sound state on, what is
-/// shown of a file is the body with which it was sealed.
+/// again. From a sound state on, what is shown of a file is the body with which it was sealed.
 pub fn searchers_keep_their_commit()
     ensures serves { (s : State) (turns : List Turn) → IsJustOpened s → Serves s turns }
     ensures as_sealed { (s : State) (turns : List Turn) → IsSoundState s
@@ -58,21 +59,24 @@ pub fn sound_starts_open_to_sound_states()
 
 /// A collection takes exactly the managed names that nothing needs and no other collection holds. Each
 /// of them is told as done or as failed, and those that failed stay managed. So does each collection of
-/// a run. One in steps does the same, and names that it didn't try stay managed too. After an index was
-/// opened again, a collection of which no delete is refused leaves exactly the files that are needed.
+/// a run. One in steps does the same, and names that it didn't try stay managed too; one at once does to
+/// files and names what one in steps does with the same outcomes. After an index was opened again, a
+/// collection of which no delete is refused leaves exactly the files that are needed.
 pub fn collections_take_what_nothing_needs()
     ensures collects { (s : State) (outcomes : List Bool)
         → IsStrictlySortedBy byte_cmp s.managed → Collects s outcomes }
     ensures in_runs { (s : State) (turns : List Turn)
         → IsStrictlySortedBy byte_cmp s.managed → CollectsIn s turns }
     ensures in_steps { (s : State) → IsSoundState s → CollectsInSteps s }
+    ensures at_once { (s : State) (outcomes : List Bool) → IsAtOnce s outcomes }
     ensures all_else { (s : State) → IsSoundState s → CollectsAllElse s }
 {}
 
 /// The line of a collection tells which names were done and which failed, since no plain name has a
-/// space or is the word `failed`.
+/// space or is the word `failed`. The line of one of its steps tells which of both its name was.
 pub fn lines_tell_outcomes()
     ensures tells { (names : List (List ℕ)) → are_plain names ≡ true → Tells names }
+    ensures step { (s : State) (c : Collection) → TellsStep s c }
 {}
 
 /// What a run tells, together with its events, determines the state that it comes to.
