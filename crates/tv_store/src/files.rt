@@ -52,7 +52,9 @@ pub(crate) struct Files<O: Outside> {
 impl<O: Outside> Model for Files<O> {
     ghost use Rattle.std.specs.Prelude.{map};
     ghost use Rattle.std.specs.List.{AllByRecursion};
-    ghost use Rattle.tv_model.specs.Collections.{no_collections};
+    ghost use Rattle.std.specs.Prelude.{◌≡◌, false};
+    ghost use Rattle.tv_model.specs.Collections.{held};
+    ghost use Rattle.tv_model.specs.Names.{has, meta_name};
     ghost use Rattle.tv_store.specs.Kept.{FilesState};
     ghost use Rattle.tv_index.specs.NewForms.{form_with};
     ghost use Rattle.tv_store.specs.OpenFiles.{IsOpenFile};
@@ -62,8 +64,8 @@ impl<O: Outside> Model for Files<O> {
     ghost view = { λ a. record {
       outside = a.index.directory.0;
       form = form_with a.index.settings a.index.schema;
-      managed = a.index.directory.1;
-      collections = no_collections;
+      managed = a.index.directory.1.managed;
+      collections = a.index.directory.1.collections;
       open_files = map
           (λ e. (e.0, (O.state_of e.1.writer.writer).written)) a.files.entries;
       left = a.left.keys;
@@ -71,7 +73,8 @@ impl<O: Outside> Model for Files<O> {
 
     ghost invariant = { λ a. AllByRecursion
         (λ e. IsOpenFile O.Directory a.index.directory.0 e.0 e.1.writer e.1.len)
-        a.files.entries };
+        a.files.entries
+        × (has (held a.index.directory.1.collections) meta_name ≡ false) };
 }
 
 // Nothing is known of a checksum where the bytes of its file are refused.
@@ -90,11 +93,12 @@ fn unless_device(fault: IoFault) -> Result<Option<bool>, TantivyError>
 impl<O: Outside> Files<O> {
     /// The files of an index, none of them open.
     pub(crate) fn new(alloc: Global, index: Index<O>) -> Files<O>
+        requires { index.directory.1.collections ≡ no_collections }
         ensures { result ≡ record {
           outside = index.directory.0;
           form = form_with index.settings index.schema;
-          managed = index.directory.1;
-          collections = no_collections;
+          managed = index.directory.1.managed;
+          collections = index.directory.1.collections;
           open_files = [];
           left = [];
         } }
@@ -223,7 +227,7 @@ impl<O: Outside> Files<O> {
         }
     }
 
-    /// Makes an empty file, unless the name reads.
+    /// Makes an empty file, unless the name reads, or an unfinished collection holds it.
     pub(crate) fn open(&mut self, name: FileName) -> Result<bool, TantivyError>
         requires { is_plain name ≡ true }
         ensures opened { IfOk result (λ made. made ≡ true
@@ -238,7 +242,10 @@ impl<O: Outside> Files<O> {
     {
         let writer = match self.index.directory_mut().open_write(name.as_str()) {
             Ok(writer) => writer,
-            Err(OpenWriteError::FileAlreadyExists(_)) => return Ok(false),
+            // No live segment has a file that a collection holds.
+            Err(OpenWriteError::FileAlreadyExists(_) | OpenWriteError::Leaving(_)) => {
+                return Ok(false);
+            }
             Err(error) => return Err(TantivyError::from(error)),
         };
         self.files.insert(name, OpenFile { writer, len: 0 })?;

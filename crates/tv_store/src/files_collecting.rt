@@ -22,6 +22,7 @@ use std::collections::{BTreeMap, BTreeSet};
 use std::mem;
 use tv_base::TantivyError;
 use tv_directory::Outside;
+use tv_managed::CollectStep;
 use tv_model::{FileName, Memory};
 
 /// A name that a collection tried, and whether it is done.
@@ -97,8 +98,7 @@ impl<O: Outside> Files<O> {
     pub(crate) fn is_held(&self, name: &FileName) -> bool
         ensures { result ≡ has (held self.now.collections) name.now }
     {
-        let _name = name;
-        false
+        self.index.directory().is_held(name.as_str())
     }
 
     /// How many names a collection has yet to try, and nothing where no such collection is unfinished.
@@ -107,8 +107,7 @@ impl<O: Outside> Files<O> {
         ensures { result ≡ option_map (λ c. length c.untried)
             (collection_at self.now.collections number) }
     {
-        let _number = number;
-        None
+        self.index.directory().collect_left(number)
     }
 
     /// The names that an unfinished collection took, in their order.
@@ -117,9 +116,10 @@ impl<O: Outside> Files<O> {
             → IfOk result (λ names. IsStrictlySortedBy byte_cmp names.items
             × ((n : List ℕ) → has names.items n ≡ has (taken c) n)) }
     {
-        let _number = number;
-        let _alloc = alloc;
-        Err(Memory)
+        match self.index.directory().collect_names(number) {
+            Some(names) => copied_names(alloc, names),
+            None => Ok(Vec::new(alloc)),
+        }
     }
 
     /// Begins a collection of the managed files that aren't among these, and answers its number.
@@ -132,8 +132,7 @@ impl<O: Outside> Files<O> {
             self.old.outside self.new.outside result }
         ensures frame { KeepsUncollected (OnlyReads O.told) O.view self.old self.new }
     {
-        let _living = living;
-        Err(TantivyError::Memory)
+        self.index.directory_mut().collect_begin(living)
     }
 
     /// Tries the first name that a collection has left. One that is done is neither open nor left any
@@ -151,8 +150,23 @@ impl<O: Outside> Files<O> {
         ensures faults { EventFaults ⊥ (O.view self.old.outside) (O.view self.new.outside) result }
         ensures frame { KeepsForm (MayDelete O.told) O.view self.old self.new }
     {
-        let _number = number;
-        Err(TantivyError::Memory)
+        // A contract learns from the names that they are plain.
+        let _names = self.index.directory().collect_names(number);
+        match self.index.directory_mut().collect_delete(number)? {
+            CollectStep::Done(text) => {
+                let name = FileName::new(text);
+                let _file = self.files.remove(&name);
+                let _left = self.left.remove(&name);
+                Ok(TriedName {
+                    name,
+                    is_done: true,
+                })
+            }
+            CollectStep::Failed(text) => Ok(TriedName {
+                name: FileName::new(text),
+                is_done: false,
+            }),
+        }
     }
 
     /// Ends a collection: what is done is managed no more.
@@ -164,8 +178,8 @@ impl<O: Outside> Files<O> {
         ensures faults { EventFaults ⊥ (O.view self.old.outside) (O.view self.new.outside) result }
         ensures frame { KeepsUnlisted (Kept O.told) O.view self.old self.new }
     {
-        let _number = number;
-        Err(TantivyError::Memory)
+        let _result = self.index.directory_mut().collect_end(number)?;
+        Ok(())
     }
 
     /// Deletes the managed files that aren't among these. One that was deleted is neither open nor
