@@ -87,7 +87,7 @@ module _ {O W C : Type 0} (g : Ghosts O W C) (catalog : Catalog) (old new : File
       (told.gone tells) (λ n isnt other. told.others tells n isnt) told.open_files told.left
       (subst (λ (read : Option (List ℕ)). Lists read s.managed) (sym (told.others tells list_name told.listed)) h.listing) h.listed in
       elim is_done as (λ (b : Bool). Holds (g.view new.outside).reads (kept_of catalog new) (record s { files = filter (λ e. not (has (gone_of name b) e.0)) s.files; collections = with_collection s.collections number (having_tried told.collection name told.left_names is_done) })
-          → Holds (g.view new.outside).reads (kept_of catalog new) (record s { files = cond b (filter (λ e. not (has (name ∷ []) e.0)) s.files) s.files; collections = with_collection s.collections number (having_tried told.collection name told.left_names is_done) })) [
+      → Holds (g.view new.outside).reads (kept_of catalog new) (record s { files = cond b (filter (λ e. not (has (name ∷ []) e.0)) s.files) s.files; collections = with_collection s.collections number (having_tried told.collection name told.left_names is_done) })) [
         | true ↦ λ k. k
         | false ↦ λ k.
             subst (λ (files : List (List ℕ × FileState)). Holds (g.view new.outside).reads (kept_of catalog new) (record s { files = files; collections = with_collection s.collections number (having_tried told.collection name told.left_names is_done) })) (all_stay s.files) k

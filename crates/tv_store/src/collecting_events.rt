@@ -31,12 +31,7 @@ fn begun_line(alloc: Global, number: u64, names: &[FileName]) -> Result<Answer, 
 }
 
 // The line of a name that a collection tried.
-fn tried_line(
-    alloc: Global,
-    number: u64,
-    name: &FileName,
-    is_done: bool,
-) -> Result<Answer, Memory>
+fn tried_line(alloc: Global, number: u64, name: &FileName, is_done: bool) -> Result<Answer, Memory>
     ensures { IfOk result (λ answer. answer ≡ line (codes "gc")
         (decimal number ∷ (cond is_done (codes "done") (codes "failed")) ∷ name.now ∷ [])) }
 {

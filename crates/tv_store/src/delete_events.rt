@@ -39,11 +39,7 @@ fn deletes_line(
 }
 
 // The name of a segment's delete file, alone.
-fn former_name(
-    alloc: Global,
-    id: SegmentId,
-    segment: LiveSegment,
-) -> Result<Vec<FileName>, Memory>
+fn former_name(alloc: Global, id: SegmentId, segment: LiveSegment) -> Result<Vec<FileName>, Memory>
     ensures { IfOk result (λ names. names.items ≡ delete_name id segment.deletes ∷ []) }
 {
     let name = file_of(alloc, id, segment.deletes, SegmentComponent::Delete)?;

@@ -83,7 +83,10 @@ fn remove_names(set: &mut BTreeSet<FileName>, names: &[FileName])
 }
 
 // Adds the names of these entries to a set.
-fn leave_all<V: Drop>(set: &mut BTreeSet<FileName>, map: BTreeMap<FileName, V>) -> Result<(), Memory>
+fn leave_all<V: Drop>(
+    set: &mut BTreeSet<FileName>,
+    map: BTreeMap<FileName, V>,
+) -> Result<(), Memory>
     ensures { OnOk result ((n : List ℕ) → has set.new.keys n
         ≡ (has set.old.keys n || is_some (at map.entries n))) }
 {
@@ -232,6 +235,7 @@ impl<O: Outside> Files<O> {
         ensures lens { (bound : ℕ) → AllByRecursion (λ e. length e.1 ≤ bound) self.old.open_files
             → AllByRecursion (λ e. length e.1 ≤ bound) self.new.open_files }
     {
+        self.index.directory_mut().forget_collections();
         let files = mem::replace(&mut self.files, BTreeMap::new(alloc));
         leave_all(&mut self.left, files)
     }

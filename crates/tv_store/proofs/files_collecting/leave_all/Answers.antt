@@ -13,12 +13,12 @@ loop-name-preserved g c = record {
   finite = tt;
   names = λ n.
       grind (
-      arith,
-      ap (λ (ks : List (List ℕ)). has ks n) c.in_ok-insert.ensures.keys,
-      has_put c.loop-name.set.keys c.in-Some.name n,
-      c.loop-name.invariant.names n,
-      ap (λ (ks : List (List ℕ)). has ks n) (map-append (λ e. e.0) c.loop-name.yielded ((c.in-Some.name, c.in-Some._entry) ∷ [])),
-      has_append (map (λ e. e.0) c.loop-name.yielded) (c.in-Some.name ∷ []) n
+        arith,
+        ap (λ (ks : List (List ℕ)). has ks n) c.in_ok-insert.ensures.keys,
+        has_put c.loop-name.set.keys c.in-Some.name n,
+        c.loop-name.invariant.names n,
+        ap (λ (ks : List (List ℕ)). has ks n) (map-append (λ e. e.0) c.loop-name.yielded ((c.in-Some.name, c.in-Some._entry) ∷ [])),
+        has_append (map (λ e. e.0) c.loop-name.yielded) (c.in-Some.name ∷ []) n,
       );
 }
 
