@@ -1,0 +1,242 @@
+//! Collections of files, and the end of open ones.
+ghost use Rattle.std.specs.Prelude.{◌≡◌, ◌≢◌, ◌&&◌, ◌||◌, not, ◌≤◌, List, ℕ, true, length, None, Some, IsSome, is_some, cond, option_map, Contains, IfOk, OnOk, OnErr, map, string_bytes};
+ghost use Rattle.std.specs.List.{list_all, AllByRecursion};
+ghost use Rattle.std.specs.List.Sorted.{IsStrictlySortedBy};
+ghost use Rattle.tv_model.specs.Names.{byte_cmp, has, is_plain, list_name, meta_name};
+ghost use Rattle.tv_model.specs.Collections.{Collection, collection_at, held, taken};
+ghost use Rattle.tv_model.specs.Files.{KeepsOthers, Same};
+ghost use Rattle.tv_model.specs.Listing.{Lists};
+ghost use Rattle.tv_model.specs.State.{at};
+ghost use Rattle.tv_directory.specs.View.{Kept, MayDelete, OnlyReads};
+ghost use Rattle.tv_model.specs.declared.event.Event.TheVariants as events;
+ghost use Rattle.tv_store.specs.CollectingCalls.{BeginsCollection, EndsCollection, HasUntried, KeepsUncollected, KeepsUnlisted, TriesNext};
+ghost use Rattle.tv_store.specs.Exhausted.{PassesEnd, collection_after};
+ghost use Rattle.tv_store.specs.FileCalls.{Collects, GcFaults};
+ghost use Rattle.tv_store.specs.Reopening.{Reopens};
+ghost use Rattle.tv_store.specs.Stays.{EventFaults, KeepsDotted, KeepsForm};
+
+use crate::files::Files;
+use crate::names::push_text;
+use std::alloc::Global;
+use std::collections::{BTreeMap, BTreeSet};
+use std::mem;
+use tv_base::TantivyError;
+use tv_directory::Outside;
+use tv_managed::CollectStep;
+use tv_model::{FileName, Memory};
+
+/// A name that a collection tried, and whether it is done.
+pub(crate) struct TriedName {
+    pub(crate) name: FileName,
+    pub(crate) is_done: bool,
+}
+
+/// What became of a collection: the names that are gone, and those whose delete was refused.
+pub(crate) struct Collected {
+    pub(crate) deleted: Vec<FileName>,
+    pub(crate) failed: Vec<FileName>,
+}
+
+// Names of files, from their texts.
+fn file_names(alloc: Global, texts: Vec<String>) -> Result<Vec<FileName>, Memory>
+    requires { list_all is_plain (map string_bytes texts.items) ≡ true }
+    ensures { IfOk result (λ names. names.items ≡ map string_bytes texts.items) }
+{
+    let mut names = Vec::new(alloc);
+    for text in texts {
+        names.push(FileName::new(text))?;
+    }
+    Ok(names)
+}
+
+// Names of files, from copies of their texts.
+fn copied_names(alloc: Global, texts: &[String]) -> Result<Vec<FileName>, Memory>
+    requires { list_all is_plain (map string_bytes texts.now) ≡ true }
+    ensures { IfOk result (λ names. names.items ≡ map string_bytes texts.now) }
+{
+    let mut names = Vec::new(alloc);
+    for text in texts {
+        push_text(alloc, &mut names, text)?;
+    }
+    Ok(names)
+}
+
+// Takes the entries of these names out of a map.
+fn remove_all<V: Drop>(map: &mut BTreeMap<FileName, V>, names: &[FileName])
+    ensures names { (n : List ℕ) → at map.new.entries n ≡ cond (has names.entry.now n) None
+        (at map.old.entries n) }
+    ensures left { AllByRecursion (Contains map.old.entries) map.new.entries }
+{
+    for name in names {
+        let _entry = map.remove(name);
+    }
+}
+
+// Takes these names out of a set.
+fn remove_names(set: &mut BTreeSet<FileName>, names: &[FileName])
+    ensures { (n : List ℕ) → has set.new.keys n
+        ≡ (not (has names.entry.now n) && has set.old.keys n) }
+{
+    for name in names {
+        let _there = set.remove(name);
+    }
+}
+
+// Adds the names of these entries to a set.
+fn leave_all<V: Drop>(
+    set: &mut BTreeSet<FileName>,
+    map: BTreeMap<FileName, V>,
+) -> Result<(), Memory>
+    ensures { OnOk result ((n : List ℕ) → has set.new.keys n
+        ≡ (has set.old.keys n || is_some (at map.entries n))) }
+{
+    for (name, _entry) in map {
+        set.insert(name)?;
+    }
+    Ok(())
+}
+
+impl<O: Outside> Files<O> {
+    /// Whether an unfinished collection holds this name. Takes no memory.
+    pub(crate) fn is_held(&self, name: &FileName) -> bool
+        ensures { result ≡ has (held self.now.collections) name.now }
+    {
+        self.index.directory().is_held(name.as_str())
+    }
+
+    /// How many names a collection has yet to try, and nothing where no such collection is unfinished.
+    /// Takes no memory.
+    pub(crate) fn collect_left(&self, number: u64) -> Option<usize>
+        ensures { result ≡ option_map (λ c. length c.untried)
+            (collection_at self.now.collections number) }
+    {
+        self.index.directory().collect_left(number)
+    }
+
+    /// The names that an unfinished collection took, in their order.
+    pub(crate) fn collect_names(&self, alloc: Global, number: u64) -> Result<Vec<FileName>, Memory>
+        ensures { (c : Collection) → collection_at self.now.collections number ≡ Some c
+            → IfOk result (λ names. IsStrictlySortedBy byte_cmp names.items
+            × ((n : List ℕ) → has names.items n ≡ has (taken c) n)) }
+    {
+        match self.index.directory().collect_names(number) {
+            Some(names) => copied_names(alloc, names),
+            None => Ok(Vec::new(alloc)),
+        }
+    }
+
+    /// Begins a collection of the managed files that aren't among these, and answers its number.
+    pub(crate) fn collect_begin(&mut self, living: &BTreeSet<String>) -> Result<u64, TantivyError>
+        requires { has (map string_bytes living.now.keys) meta_name ≡ true }
+        ensures begins { IfOk result (λ number. BeginsCollection number
+            (map string_bytes living.now.keys) self.old self.new) }
+        ensures faults { GcFaults O.Directory (PassesEnd
+            (collection_after self.old.collections events.GcBegin))
+            self.old.outside self.new.outside result }
+        ensures frame { KeepsUncollected (OnlyReads O.told) O.view self.old self.new }
+    {
+        self.index.directory_mut().collect_begin(living)
+    }
+
+    /// Tries the first name that a collection has left. One that is done is neither open nor left any
+    /// more.
+    pub(crate) fn collect_delete(&mut self, number: u64) -> Result<TriedName, TantivyError>
+        requires { HasUntried self.old.collections number }
+        ensures tries { IfOk result (λ tried. TriesNext O.Directory number self.old self.new
+            tried.name tried.is_done) }
+        ensures same { O.told.content → OnErr result (Same (O.view self.old.outside).reads
+            (O.view self.new.outside).reads) }
+        ensures dotted { O.told.content → KeepsDotted (O.view self.old.outside).reads
+            (O.view self.new.outside).reads }
+        ensures lens { (bound : ℕ) → AllByRecursion (λ e. length e.1 ≤ bound) self.old.open_files
+            → AllByRecursion (λ e. length e.1 ≤ bound) self.new.open_files }
+        ensures faults { EventFaults ⊥ (O.view self.old.outside) (O.view self.new.outside) result }
+        ensures frame { KeepsForm (MayDelete O.told) O.view self.old self.new }
+    {
+        // A contract learns from the names that they are plain.
+        let _names = self.index.directory().collect_names(number);
+        match self.index.directory_mut().collect_delete(number)? {
+            CollectStep::Done(text) => {
+                let name = FileName::new(text);
+                let _file = self.files.remove(&name);
+                let _left = self.left.remove(&name);
+                Ok(TriedName {
+                    name,
+                    is_done: true,
+                })
+            }
+            CollectStep::Failed(text) => Ok(TriedName {
+                name: FileName::new(text),
+                is_done: false,
+            }),
+        }
+    }
+
+    /// Ends a collection: what is done is managed no more.
+    pub(crate) fn collect_end(&mut self, number: u64) -> Result<(), TantivyError>
+        requires { IsSome (collection_at self.old.collections number) }
+        ensures ends { OnOk result (EndsCollection O.Directory number self.old self.new) }
+        ensures others { O.told.content → KeepsOthers (O.view self.old.outside).reads
+            (O.view self.new.outside).reads list_name }
+        ensures faults { EventFaults ⊥ (O.view self.old.outside) (O.view self.new.outside) result }
+        ensures frame { KeepsUnlisted (Kept O.told) O.view self.old self.new }
+    {
+        let _result = self.index.directory_mut().collect_end(number)?;
+        Ok(())
+    }
+
+    /// Deletes the managed files that aren't among these. One that was deleted is neither open nor
+    /// left any more.
+    pub(crate) fn collect(
+        &mut self,
+        alloc: Global,
+        living: BTreeSet<String>,
+    ) -> Result<Collected, TantivyError>
+        requires { has (map string_bytes living.keys) meta_name ≡ true }
+        ensures collects { IfOk result (λ c. Collects O.Directory
+            (map string_bytes living.keys) self.old self.new c.deleted.items c.failed.items) }
+        // What is living reads what it read.
+        ensures spared { O.told.content → (n : List ℕ) → has (map string_bytes living.keys) n ≡ true
+            → n ≢ list_name
+            → (O.view self.new.outside).reads n ≡ (O.view self.old.outside).reads n }
+        ensures dotted { O.told.content → KeepsDotted (O.view self.old.outside).reads
+            (O.view self.new.outside).reads }
+        ensures list { O.told.content
+            → Lists ((O.view self.old.outside).reads list_name) self.old.managed
+            → OnOk result (Lists ((O.view self.new.outside).reads list_name) self.new.managed) }
+        ensures lens { (bound : ℕ) → AllByRecursion (λ e. length e.1 ≤ bound) self.old.open_files
+            → AllByRecursion (λ e. length e.1 ≤ bound) self.new.open_files }
+        ensures faults { GcFaults O.Directory (PassesEnd
+            (collection_after self.old.collections events.GcBegin))
+            self.old.outside self.new.outside result }
+        ensures frame { KeepsForm (MayDelete O.told) O.view self.old self.new }
+    {
+        // A contract learns from the managed names that they are plain.
+        let _names = self.index.directory().list_managed_files();
+        // No writer is kept beside an error, since nobody could tell which files are gone.
+        let mut files = mem::replace(&mut self.files, BTreeMap::new(alloc));
+        let result = self.index.directory_mut().garbage_collect(move || living)?;
+        let deleted = file_names(alloc, result.deleted_files)?;
+        let failed = file_names(alloc, result.failed_to_delete_files)?;
+        remove_all(&mut files, deleted.as_slice());
+        self.files = files;
+        remove_names(&mut self.left, deleted.as_slice());
+        Ok(Collected { deleted, failed })
+    }
+
+    /// The open files are left, and no collection is unfinished any more.
+    pub(crate) fn reopen(&mut self, alloc: Global) -> Result<(), Memory>
+        ensures reopened { OnOk result (Reopens self.old self.new) }
+        ensures others { self.new ≡ record self.old {
+          collections = self.new.collections;
+          open_files = self.new.open_files;
+          left = self.new.left;
+        } }
+        ensures lens { (bound : ℕ) → AllByRecursion (λ e. length e.1 ≤ bound) self.old.open_files
+            → AllByRecursion (λ e. length e.1 ≤ bound) self.new.open_files }
+    {
+        self.index.directory_mut().forget_collections();
+        let files = mem::replace(&mut self.files, BTreeMap::new(alloc));
+        leave_all(&mut self.left, files)
+    }
+}
