@@ -1,6 +1,7 @@
 -- What a step can do to a state: a property that each such change leads to holds after the step.
-use Rattle.std.proofs.Common.{◌≡◌, ◌≢◌, ℕ, Bool, false, List, [], ◌∷◌, ◌++◌, Option, Some, None, refl, sym, ap, subst, codes, arith, ◌==◌, true, cond}
-use Rattle.std.specs.Prelude.{is_some, option_map}
+use Rattle.std.proofs.Common.{◌≡◌, ◌≢◌, ◌≤◌, ◌⊎◌, inl, inr, ℕ, Bool, false, List, [], ◌∷◌, ◌++◌, Option, Some, None, refl, sym, ap, subst, codes, arith, ◌==◌, true, cond}
+use Rattle.std.specs.Prelude.{is_some, option_map, nat_lt}
+use Rattle.std.proofs.lemmas.Bool.{and_parts, or_parts}
 use Rattle.std.proofs.lemmas.Bool.Decides.{nat_tests}
 use Rattle.std.specs.Fmt.{decimal}
 use Rattle.hex.specs.Hex.{encode_lower}
@@ -12,18 +13,22 @@ use Rattle.tv_model.specs.declared.segment.LiveSegment.{LiveSegment}
 use Rattle.tv_model.specs.declared.segment.SegmentComponent.{SegmentComponent}
 use Rattle.tv_model.specs.Footer.{IsGood, sealed}
 use Rattle.tv_model.specs.Segments.{name_of}
-use Rattle.tv_model.specs.State.{Catalog, State, StepResult, FileState, Sealed, Open, Left, Readers, Reader, live_at, file_at, with_file, with_live, reader_at, searcher_at, on_catalog}
+use Rattle.tv_model.specs.State.{Catalog, State, StepResult, FileState, Sealed, Open, Left, Readers, Reader, at, live_at, file_at, with_file, with_live, reader_at, searcher_at, on_catalog}
 use Rattle.tv_model.specs.Lines.{line, words_of, refuse, unless, given}
 use Rattle.tv_model.specs.SegmentEvents.{is_in_use, fresh_segment, has_docs}
 use Rattle.tv_model.specs.FileEvents.{opened, lacks_deletes, written_to}
 use Rattle.tv_model.specs.CommitEvents.{last_stamp, chosen, first_unknown, first_unsealed, committed}
-use Rattle.tv_model.specs.CollectionEvents.{gc_step, released}
+use Rattle.tv_model.specs.Names.{has}
+use Rattle.tv_model.specs.Collections.{Collection, collection_at, held}
+use Rattle.tv_model.specs.CollectionEvents.{gc_step, gc_begin_step, having_deleted, is_done, tried_first, ended, released}
+use Rattle.tv_model.specs.DeleteEvents.{delete_name, next_deletes, is_committed_delete, is_taken, having_deleted_docs}
+use Rattle.tv_model.specs.ReopenEvents.{reopened}
 use Rattle.tv_model.specs.ReaderEvents.{snapshot_in, with_new_reader, with_reloaded, without_reader}
 use Rattle.tv_model.specs.SearcherEvents.{with_searcher, without_searcher, body_at}
 use Rattle.tv_model.specs.ReportEvents.{committed_names, first_unreadable, damaged_files}
-use Rattle.tv_model.specs.Machine.{Turn, catalog_step, step, after}
+use Rattle.tv_model.specs.Machine.{Turn, NeverReopens, catalog_step, isnt_reopening, step, after}
 use Rattle.tv_model.proofs.Bodies.{sealed_is_good}
-use Rattle.std.specs.List.{AllByRecursion}
+use Rattle.std.specs.List.{AllByRecursion, list_all}
 
 -- ---- a step that may refuse
 
@@ -60,6 +65,14 @@ pub data SegmentMove (s : State) (id : List ℕ) : LiveSegment → Type 0 where
   -- it gets its documents, of which it had none
   HasDocs : (n : ℕ) (segment : LiveSegment) → live_at s.catalog id ≡ Some segment → has_docs segment ≡ false → SegmentMove s id (record segment { max_doc = n })
 
+-- a live segment may have so many deleted documents from now on
+pub record MayDelete (s : State) (id : List ℕ) (n : ℕ) (segment : LiveSegment) : Type 0 where
+  pub there : live_at s.catalog id ≡ Some segment
+  pub within : n ≤ segment.max_doc
+  pub last : s.catalog.next ≢ last_stamp
+  pub spared : has (held s.collections) (delete_name id (Some (next_deletes s.catalog n))) ≡ false
+  pub fresh : has s.managed (delete_name id (Some (next_deletes s.catalog n))) ≡ false
+
 -- what holds of each state to which this event can lead
 pub record OfEachChange (P : State → Type 0) (s : State) (event : Event) : Type 0 where
   -- nothing changes
@@ -68,8 +81,9 @@ pub record OfEachChange (P : State → Type 0) (s : State) (event : Event) : Typ
   pub lives : (id : List ℕ) (segment : LiveSegment) → SegmentMove s id segment → P (record s { catalog = with_live s.catalog id segment })
   -- who reads changes
   pub reads : (now : Readers) → ReadersMove s now → P (record s { catalog = record s.catalog { reading = now } })
-  -- a file comes
-  pub opens : (id : List ℕ) (deletes : Option DeleteMeta) (component : SegmentComponent) → event ≡ events.Open id component → is_some (file_at s (name_of id deletes component)) ≡ false → P (opened s (name_of id deletes component)).1
+  -- a file of a live segment comes
+  pub opens : (id : List ℕ) (segment : LiveSegment) (component : SegmentComponent) → event ≡ events.Open id component → live_at s.catalog id ≡ Some segment
+      → is_some (file_at s (name_of id segment.deletes component)) ≡ false → P (opened s (name_of id segment.deletes component)).1
   -- an open file is another one, or is sealed with its footer
   pub puts : (name body : List ℕ) (file : FileState) → file_at s name ≡ Some (Open body) → ((bytes : List ℕ) → file ≡ Sealed bytes → IsGood bytes) → P (with_file s name file)
   -- live segments whose files are sealed are committed
@@ -78,9 +92,22 @@ pub record OfEachChange (P : State → Type 0) (s : State) (event : Event) : Typ
   pub collects : (outcomes : List Bool) → P (gc_step s outcomes).1
   -- a segment is live no more
   pub releases : (id : List ℕ) (segment : LiveSegment) → P (released s id segment).1
+  -- documents of a segment are deleted
+  pub deletes : (id : List ℕ) (n : ℕ) (segment : LiveSegment) → MayDelete s id n segment → P (having_deleted_docs s id n segment).1
+  -- a collection begins
+  pub begins : P (gc_begin_step s).1
+  -- it tries a name
+  pub tries : (number : ℕ) (c : Collection) (name : List ℕ) (left : List (List ℕ)) (is_done : Bool) → collection_at s.collections number ≡ Some c → c.untried ≡ name ∷ left → P (having_deleted s number c name left is_done).1
+  -- it is finished
+  pub finishes : (number : ℕ) (c : Collection) → collection_at s.collections number ≡ Some c → P (ended s number c).1
+  -- the index is opened again
+  pub reopens : event ≡ events.Reopen → P (reopened s)
 
 other : (a b : ℕ) → (a == b) ≡ false → a ≢ b
 other a b e = grind (arith, nat_tests)
+
+not_less : (a b : ℕ) → nat_lt a b ≡ false → b ≤ a
+not_less a b e = grind (arith, nat_tests)
 
 none_is : {X : Type 0} (x : Option X) → is_some x ≡ false → x ≡ None
 none_is None e = refl
@@ -147,12 +174,18 @@ lifted s other outcomes result e = absurd cc
 abbrev After : (State → Type 0) → StepResult State → Type 0
 After P result = P result.1
 
+-- a step of a collection, which has these names left
+tried : (P : State → Type 0) (s : State) (event : Event) (number : ℕ) (c : Collection) (untried : List (List ℕ)) (outcomes : List Bool) → OfEachChange P s event
+    → collection_at s.collections number ≡ Some c → c.untried ≡ untried → P (tried_first s number c untried outcomes).1
+tried P s event number c [] outcomes of there e = of.same
+tried P s event number c (name ∷ left) outcomes of there e = of.tries number c name left (is_done outcomes) there e
+
 file_changes : (P : State → Type 0) (s : State) (event : Event) (outcomes : List Bool) → catalog_step s.catalog s.managed event ≡ None → OfEachChange P s event → P (step s event outcomes).1
 file_changes P s (events.Open id component) outcomes e of =
     given_all (After P) s (live_at s.catalog id) _ _ of.same (λ segment is.
     let name = name_of id segment.deletes component in
     unless_all (After P) s ((lacks_deletes segment component, codes "no-deletes" ∷ []) ∷ (is_some (file_at s name), codes "exists" ∷ []) ∷ []) (opened s name) (λ words. of.same) (λ none.
-    of.opens id segment.deletes component refl none.1.0))
+    of.opens id segment component refl is none.1.0))
 file_changes P s (events.Write id component bytes) outcomes e of =
     given_all (After P) s (live_at s.catalog id) _ _ of.same (λ segment is.
     given_all (After P) s (written_to (file_at s (name_of id segment.deletes component))) _ _ of.same (λ body e.
@@ -169,7 +202,28 @@ file_changes P s (events.Commit payload ids) outcomes e of =
     ∷ (is_some (first_unsealed s segments), codes "unsealed" ∷ words_of (first_unsealed s segments))
     ∷ []
     ) (on_catalog s (committed s.catalog payload segments)) (λ words. of.same) (λ none. of.commits payload ids (other s.catalog.next last_stamp none.0) (none_is (first_unsealed s segments) none.1.1.0))
+file_changes P s (events.Deletes id n) outcomes e of =
+    given_all (After P) s (live_at s.catalog id) _ _ of.same (λ segment is.
+    let name = delete_name id (Some (next_deletes s.catalog n)) in
+    unless_all (After P) s (
+    (nat_lt segment.max_doc n, codes "wrong-docs" ∷ [])
+    ∷ (s.catalog.next == last_stamp, codes "stamps-spent" ∷ [])
+    ∷ (has (held s.collections) name, codes "leaving" ∷ [])
+    ∷ (is_taken s id name, codes "name-in-use" ∷ [])
+    ∷ []
+    ) (having_deleted_docs s id n segment) (λ words. of.same) (λ none. of.deletes id n segment (record {
+      there = is;
+      within = not_less segment.max_doc n none.0;
+      last = other s.catalog.next last_stamp none.1.0;
+      spared = none.1.1.0;
+      fresh = (or_parts (has s.managed name) (is_committed_delete (at s.catalog.commit.segments id) id name) none.1.1.1.0).0;
+    })))
 file_changes P s events.Gc outcomes e of = of.collects outcomes
+file_changes P s events.GcBegin outcomes e of = of.begins
+file_changes P s (events.GcStep number) outcomes e of =
+    given_all (After P) s (collection_at s.collections number) _ _ of.same (λ c there. tried P s (events.GcStep number) number c c.untried outcomes of there refl)
+file_changes P s (events.GcEnd number) outcomes e of = given_all (After P) s (collection_at s.collections number) _ _ of.same (λ c there. of.finishes number c there)
+file_changes P s events.Reopen outcomes e of = of.reopens refl
 file_changes P s (events.Reader policy) outcomes e of = of.reads _ (Comes policy refl)
 file_changes P s (events.Reload number) outcomes e of =
     given_all (λ (t : StepResult Catalog). P (on_catalog s t).1) s.catalog (reader_at s.catalog number) _ _ of.same (λ reader is. of.reads _ (Reloads number reader is refl))
@@ -194,6 +248,18 @@ step_changes P s event outcomes of = by_half (catalog_step s.catalog s.managed e
         reader = λ number. of.reads _ (Leaves number refl);
         searcher = λ number. of.reads _ (Ends number refl);
       }) e)
+
+-- an event opens the index again or not
+pub reopening : (event : Event) → (isnt_reopening event ≡ true) ⊎ (event ≡ events.Reopen)
+reopening events.Reopen = inr refl
+reopening other = inl refl
+
+-- what each event but that keeps holds after a run without it
+pub after_between : (P : State → Type 0) → ((s : State) (event : Event) (outcomes : List Bool) → isnt_reopening event ≡ true → P s → P (step s event outcomes).1) → (s : State) (turns : List Turn) → NeverReopens turns → P s → P (after s turns)
+after_between P kept s [] never h = h
+after_between P kept s (turn ∷ turns) never h =
+    let t = and_parts (isnt_reopening turn.0) (list_all (λ turn. isnt_reopening turn.0) turns) never in
+    after_between P kept (step s turn.0 turn.1).1 turns t.1 (kept s turn.0 turn.1 t.0 h)
 
 -- what each step keeps holds after a run
 pub after_kept : (P : State → Type 0) → ((s : State) (event : Event) (outcomes : List Bool) → P s → P (step s event outcomes).1) → (s : State) (turns : List Turn) → P s → P (after s turns)

@@ -8,11 +8,7 @@ use Rattle.std.specs.List.{AllByRecursion}
 use Rattle.std.specs.Map.{lookup, remove_entry}
 use Rattle.std.specs.BTreeMap.{is_at, insert_entry}
 use Rattle.std.proofs.lemmas.Cmp.{ranked}
-
--- each number is below those after it
-abbrev pub Rises : {X : Type 0} → List (ℕ × X) → Type 0
-Rises [] = Unit {0}
-Rises (e ∷ es) = AllByRecursion (λ f. e.0 < f.0) es × Rises es
+use Rattle.tv_model.specs.Collections.{Rises}
 
 equal_is : (r : Ordering) → is_eq r ≡ true → r ≡ Equal
 equal_is Less e = absurd cc

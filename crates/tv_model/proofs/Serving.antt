@@ -16,7 +16,7 @@ use Rattle.tv_model.specs.Script.{Fits}
 use Rattle.tv_model.specs.SoundStates.{IsSoundState}
 use Rattle.tv_model.specs.Serving.{Shows, Serves, ShowsAsSealed, ServesAsSealed}
 use Rattle.tv_model.proofs.Bodies.{body_of_good}
-use Rattle.tv_model.proofs.Numbered.{Rises, found, put_all, gone_all, rises_put, rises_gone, only, put_found}
+use Rattle.tv_model.proofs.Numbered.{found, put_all, gone_all, rises_put, rises_gone, only, put_found}
 use Rattle.tv_model.proofs.SoundStates.{step_sound}
 use Rattle.tv_model.proofs.Changes.{ReadersMove, Comes, Reloads, Leaves, Searches, Ends, after_kept, step_changes}
 use Rattle.tv_model.specs.declared.event.Event.{Event}

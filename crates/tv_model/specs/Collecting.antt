@@ -1,5 +1,5 @@
 -- What a collection takes, what it tells, and what stays.
-use Rattle.std.specs.Prelude.{ℕ, ◌≡◌, ◌≤◌, Bool, true, false, not, ◌&&◌, ◌||◌, List, [], ◌∷◌, ◌++◌, length, Some, is_some}
+use Rattle.std.specs.Prelude.{ℕ, ◌≡◌, ◌≤◌, Bool, true, false, not, ◌&&◌, ◌||◌, List, [], ◌∷◌, ◌++◌, length, None, Some, is_some}
 use Rattle.tv_model.specs.declared.event.Event.TheVariants as events
 use Rattle.tv_model.specs.Names.{has}
 use Rattle.tv_model.specs.Collections.{Collection, AreOnce, begun, collection_at, done_of, failed_of, held, taken}
@@ -37,12 +37,16 @@ abbrev pub CollectsIn : State → List Turn → Type 0
 CollectsIn s turns = (front rest : List Turn) (outcomes : List Bool)
     → turns ≡ front ++ (events.Gc, outcomes) ∷ rest → Collects (after s front) outcomes
 
--- An unfinished collection of a state: each of its names is in one of its three lists, and at its end only those that are done are managed no more.
+-- The end of an unfinished collection.
 pub record Ends (s : State) (number : ℕ) (c : Collection) : Type 0 where
+  -- each of its names is done, failed or untried, and is one of these only
   pub apart : AreOnce (taken c)
-  pub gone : (n : List ℕ) → has c.done n ≡ true → has (gc_end_step s number).1.managed n ≡ false
-  pub stay : (n : List ℕ) → has s.managed n ≡ true → has c.done n ≡ false → has (gc_end_step s number).1.managed n ≡ true
-  pub held : (n : List ℕ) → has (taken c) n ≡ true → has s.managed n ≡ true
+  -- what is done has no file, and is managed no more
+  pub done : (n : List ℕ) → has c.done n ≡ true → (file_at s n ≡ None) × (has (gc_end_step s number).1.managed n ≡ false)
+  -- what failed or wasn't tried stays managed
+  pub stay : (n : List ℕ) → has (c.failed ++ c.untried) n ≡ true → has (gc_end_step s number).1.managed n ≡ true
+  -- and so does each other name
+  pub others : (n : List ℕ) → has c.done n ≡ false → has (gc_end_step s number).1.managed n ≡ has s.managed n
 
 -- Collections in steps.
 pub record CollectsInSteps (s : State) : Type 0 where

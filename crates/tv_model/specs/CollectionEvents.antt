@@ -14,9 +14,13 @@ use Rattle.tv_model.specs.Lines.{line, refuse, given}
 abbrev pub garbage : State → List (List ℕ)
 garbage s = collectable (living s.catalog ++ held s.collections) s.managed
 
+-- the files without those of these names
+abbrev pub files_without : (gone : List (List ℕ)) → List (List ℕ × FileState) → List (List ℕ × FileState)
+files_without gone files = filter (λ e. not (has gone e.0)) files
+
 -- these files and their names are gone
 abbrev pub without_files : State → List (List ℕ) → State
-without_files s gone = record s { files = filter (λ e. not (has gone e.0)) s.files; managed = without gone s.managed }
+without_files s gone = record s { files = files_without gone s.files; managed = without gone s.managed }
 
 -- what is told of the names that were done and of those that failed
 abbrev pub collected_line : List (List ℕ) → List (List ℕ) → List ℕ
@@ -41,7 +45,7 @@ abbrev pub having_deleted : State → ℕ → Collection → (name : List ℕ) �
 having_deleted s number c name left is_done = (
   line (codes "gc") (decimal number ∷ (if is_done then codes "done" else codes "failed") ∷ name ∷ []),
   record s {
-    files = if is_done then remove_entry (is_at (byte_cmp name)) s.files else s.files;
+    files = if is_done then files_without (name ∷ []) s.files else s.files;
     collections = with_collection s.collections number (having_tried c name left is_done);
   },
 )

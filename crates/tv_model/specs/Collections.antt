@@ -1,7 +1,7 @@
 -- Collections of files: what they do with names, and those that aren't finished.
-use Rattle.std.specs.Prelude.{ℕ, ◌≡◌, ◌+◌, List, [], ◌∷◌, ◌++◌, Bool, true, false, not, filter, Option, if◌then◌else◌}
+use Rattle.std.specs.Prelude.{ℕ, ◌≡◌, ◌+◌, ◌<◌, List, [], ◌∷◌, ◌++◌, Bool, true, false, not, filter, Option, if◌then◌else◌}
 use Rattle.std.specs.BTreeMap.{is_at, insert_entry}
-use Rattle.std.specs.List.{flat_map}
+use Rattle.std.specs.List.{flat_map, AllByRecursion}
 use Rattle.std.specs.Map.{lookup, remove_entry}
 use Rattle.std.specs.Ordering.{nat_cmp}
 use Rattle.tv_model.specs.Names.{has}
@@ -33,6 +33,11 @@ pub record Collection : Type 0 where
   pub untried : List (List ℕ)
   pub done : List (List ℕ)
   pub failed : List (List ℕ)
+
+-- each number is below those after it
+abbrev pub Rises : {X : Type 0} → List (ℕ × X) → Type 0
+Rises [] = Unit {0}
+Rises (e ∷ es) = AllByRecursion (λ f. e.0 < f.0) es × Rises es
 
 -- the unfinished collections by their numbers, and the number that the next one gets
 pub record Collections : Type 0 where

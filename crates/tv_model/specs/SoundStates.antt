@@ -1,30 +1,18 @@
 -- What every step keeps of a state whose directory is sound.
 use Rattle.std.specs.Prelude.{ℕ, ◌≡◌, ◌⊎◌, ◌<◌, ◌≤◌, true, false, List, None, Some, is_some}
 use Rattle.std.specs.List.{AllByRecursion}
+use Rattle.std.specs.List.Sorted.{IsStrictlySortedBy}
 use Rattle.tv_model.specs.declared.segment.LiveSegment.{LiveSegment}
-use Rattle.tv_model.specs.Names.{has, meta_name}
+use Rattle.tv_model.specs.Names.{byte_cmp, has, meta_name}
 use Rattle.tv_model.specs.Footer.{IsGood}
 use Rattle.tv_model.specs.Segments.{num_deleted, all_required}
-use Rattle.tv_model.specs.Collections.{Collection, AreOnce, collection_at, held}
+use Rattle.tv_model.specs.Collections.{Collection, AreOnce, Rises, collection_at, held}
 use Rattle.tv_model.specs.CommitEvents.{last_stamp, is_sealed}
 use Rattle.tv_model.specs.Living.{living}
 use Rattle.tv_model.specs.State.{State, Sealed, file_at}
 use Rattle.tv_model.specs.Index.{IsFileOf}
 
--- the files that the commit requires are sealed
-pub record IsWhole (s : State) : Type 0 where
-  pub each : (n : List ℕ) → has (all_required s.catalog.commit.segments) n ≡ true
-      → is_sealed (file_at s n) ≡ true
-
--- what is sealed of the files that these segments require has a body and a footer
-abbrev pub AreGood : State → List (List ℕ × LiveSegment) → Type 0
-AreGood s segments = (n bytes : List ℕ) → has (all_required segments) n ≡ true → file_at s n ≡ Some (Sealed bytes) → IsGood bytes
-
--- no more documents of a segment are deleted than it has
-abbrev pub AreWithin : List (List ℕ × LiveSegment) → Type 0
-AreWithin segments = AllByRecursion (λ e. num_deleted e.1.deletes ≤ e.1.max_doc) segments
-
--- What the unfinished collections of such a state hold.
+-- What the unfinished collections of a state hold.
 pub record CollectsSoundly (s : State) : Type 0 where
   -- it is managed
   pub managed : (n : List ℕ) → has (held s.collections) n ≡ true → has s.managed n ≡ true
@@ -36,6 +24,23 @@ pub record CollectsSoundly (s : State) : Type 0 where
   pub gone : (number : ℕ) (c : Collection) (n : List ℕ) → collection_at s.collections number ≡ Some c → has c.done n ≡ true → file_at s n ≡ None
   -- the next number and those after it are free
   pub free : (number : ℕ) → s.collections.next ≤ number → collection_at s.collections number ≡ None
+  -- the collections stand in the order of their numbers, and the managed names in theirs
+  pub ordered : Rises s.collections.unfinished
+  pub sorted : IsStrictlySortedBy byte_cmp s.managed
+
+-- The files that the commit requires are sealed, and no collection takes one of them.
+pub record IsWhole (s : State) : Type 0 where
+  pub each : (n : List ℕ) → has (all_required s.catalog.commit.segments) n ≡ true
+      → is_sealed (file_at s n) ≡ true
+  pub collecting : CollectsSoundly s
+
+-- what is sealed of the files that these segments require has a body and a footer
+abbrev pub AreGood : State → List (List ℕ × LiveSegment) → Type 0
+AreGood s segments = (n bytes : List ℕ) → has (all_required segments) n ≡ true → file_at s n ≡ Some (Sealed bytes) → IsGood bytes
+
+-- no more documents of a segment are deleted than it has
+abbrev pub AreWithin : List (List ℕ × LiveSegment) → Type 0
+AreWithin segments = AllByRecursion (λ e. num_deleted e.1.deletes ≤ e.1.max_doc) segments
 
 -- The state of a sound directory. Files that neither the commit nor a live segment requires may be anything.
 pub record IsSoundState (s : State) : Type 0 where
@@ -45,7 +50,7 @@ pub record IsSoundState (s : State) : Type 0 where
   pub names : (n : List ℕ) → is_some (file_at s n) ≡ true → IsFileOf n
   -- a file is managed
   pub listed : (n : List ℕ) → is_some (file_at s n) ≡ true → has s.managed n ≡ true
-  -- the files that the commit requires are sealed
+  -- the files that the commit requires are sealed, and no collection takes one of them
   pub whole : IsWhole s
   -- and have a body and a footer
   pub good : AreGood s s.catalog.commit.segments
@@ -56,4 +61,3 @@ pub record IsSoundState (s : State) : Type 0 where
   -- no segment has more deleted documents than documents
   pub within : AreWithin s.catalog.commit.segments
   pub live_within : AreWithin s.catalog.live
-  pub collecting : CollectsSoundly s

@@ -10,6 +10,7 @@ ghost use Rattle.tv_model.specs.declared.segment.DeleteMeta.{DeleteMeta};
 ghost use Rattle.tv_model.specs.declared.segment.SegmentComponent.{SegmentComponent};
 ghost use Rattle.tv_model.specs.declared.segment.SegmentComponent.TheVariants.{Delete};
 ghost use Rattle.tv_model.specs.Collecting.{Collects, CollectsAllElse, CollectsIn, CollectsInSteps};
+ghost use Rattle.tv_model.specs.Collections.{Collection};
 ghost use Rattle.tv_model.specs.Commits.{Commit, IsCommit, Settings, printed};
 ghost use Rattle.tv_model.specs.Files.{Reads};
 ghost use Rattle.tv_model.specs.Footer.{HasBody, IsFramed, body_of, sealed};
@@ -29,7 +30,7 @@ ghost use Rattle.tv_model.specs.Segments.{name_of};
 ghost use Rattle.tv_model.specs.Serving.{IsJustOpened, Serves, ServesAsSealed};
 ghost use Rattle.tv_model.specs.SoundStates.{IsSoundState};
 ghost use Rattle.tv_model.specs.State.{State};
-ghost use Rattle.tv_model.specs.Telling.{Determined, Tells, are_plain};
+ghost use Rattle.tv_model.specs.Telling.{Determined, Tells, TellsStep, are_plain};
 ghost use Rattle.tv_model.specs.Validating.{Validates};
 
 use crate::id::SegmentId;
@@ -70,9 +71,10 @@ pub fn collections_take_what_nothing_needs()
 {}
 
 /// The line of a collection tells which names were done and which failed, since no plain name has a
-/// space or is the word `failed`.
+/// space or is the word `failed`. The line of one of its steps tells which of both its name was.
 pub fn lines_tell_outcomes()
     ensures tells { (names : List (List ℕ)) → are_plain names ≡ true → Tells names }
+    ensures step { (s : State) (c : Collection) → TellsStep s c }
 {}
 
 /// What a run tells, together with its events, determines the state that it comes to.
