@@ -28,6 +28,7 @@ opens_first schema reads none = record {
   live = refl;
   next = refl;
   reading = refl;
+  collections = refl;
   names = λ n is. absurd (true≢false (sym is));
   files = λ n is. ap (λ (r : Option (List ℕ)). option_map Sealed r) (sym (none n));
 }
