@@ -12,7 +12,7 @@ use Rattle.tv_model.specs.declared.segment.LiveSegment.{LiveSegment}
 use Rattle.tv_model.specs.declared.segment.SegmentComponent.TheVariants.{Postings, Positions, FastFields, FieldNorms, Terms, Store, Delete}
 use Rattle.tv_model.specs.Names.{byte_cmp, is, has, meta_name}
 use Rattle.tv_model.specs.Segments.{components, name_of, required_names, all_required}
-use Rattle.tv_model.specs.Collections.{done_of, without}
+use Rattle.tv_model.specs.Collections.{done_of, held, without}
 use Rattle.tv_model.specs.Living.{segment_names, living}
 use Rattle.tv_model.specs.State.{State, FileState, at}
 use Rattle.tv_model.specs.CollectionEvents.{garbage, left, with_left}
@@ -37,17 +37,21 @@ done_within (name ∷ names) [] n h = h
 done_within (name ∷ names) (true ∷ outcomes) n h = grind (arith, done_within names outcomes n)
 done_within (name ∷ names) (false ∷ outcomes) n h = or_right (is name n) _ (done_within names outcomes n h)
 
+pub has_append : (names others : List (List ℕ)) (n : List ℕ) → has (names ++ others) n ≡ (has names n || has others n)
+has_append names others n = list_any-append (λ m. is m n) names others
+
+-- a name that a collection takes is managed, isn't needed, and isn't held by another one
+pub garbage_is : (s : State) (n : List ℕ) → has (garbage s) n ≡ (not (has (living s.catalog) n || has (held s.collections) n) && has s.managed n)
+garbage_is s n = has_without (living s.catalog ++ held s.collections) s.managed n ∙ ap (λ (b : Bool). not b && has s.managed n) (has_append (living s.catalog) (held s.collections) n)
+
 -- nothing that is needed is taken
 pub living_spared : (s : State) (outcomes : List Bool) (n : List ℕ) → has (living s.catalog) n ≡ true → has (done_of (garbage s) outcomes) n ≡ false
 living_spared s outcomes n h =
-    false_from_ne_true _ (λ e. true≢false (sym (done_within (garbage s) outcomes n e) ∙ (rw (has_without (living s.catalog) s.managed n, h) refl)))
+    false_from_ne_true _ (λ e. true≢false (sym (done_within (garbage s) outcomes n e) ∙ garbage_is s n ∙ grind (arith, h)))
 
 -- `meta.json` is needed
 pub meta_living : (s : State) → has (living s.catalog) meta_name ≡ true
 meta_living s = refl
-
-pub has_append : (names others : List (List ℕ)) (n : List ℕ) → has (names ++ others) n ≡ (has names n || has others n)
-has_append names others n = list_any-append (λ m. is m n) names others
 
 -- the required files are among those of their segment
 required_among : (id : List ℕ) (deletes : Option DeleteMeta) (b : Bool) (n : List ℕ)

@@ -15,6 +15,9 @@ pub mod JsonStrings
 pub mod JsonWords
 pub mod JsonSplice
 pub mod JsonWithin
+pub mod HeldNames
+pub mod HeldStates
+pub mod CollectsInSteps
 pub mod JsonReadBack
 pub mod PrintedTokens
 pub mod ReadPrinted

@@ -1,5 +1,7 @@
 -- What holds of the managed names stays so: that they are plain, and that they stand in their order.
-use Rattle.std.proofs.Common.{◌≡◌, ℕ, Bool, true, not, List, filter, Option, subst}
+use Rattle.std.proofs.Common.{◌≡◌, ℕ, Bool, true, false, cond, not, codes, List, ◌++◌, filter, Option, subst}
+use Rattle.std.specs.Fmt.{decimal}
+use Rattle.hex.specs.Hex.{encode_lower}
 use Rattle.std.specs.List.Sorted.{IsStrictlySortedBy}
 use Rattle.std.specs.BTreeSet.{insert_key}
 use Rattle.std.proofs.lemmas.List.Kept.{IsStrictlySortedBy-filter}
@@ -12,16 +14,16 @@ use Rattle.tv_model.specs.declared.segment.DeleteMeta.{DeleteMeta}
 use Rattle.tv_model.specs.declared.segment.SegmentComponent.{SegmentComponent}
 use Rattle.tv_model.specs.Names.{byte_cmp, is_plain, has}
 use Rattle.tv_model.specs.Ids.{IsId}
-use Rattle.tv_model.specs.Segments.{name_of}
+use Rattle.tv_model.specs.Segments.{name_of, extension, is_delete, delete_opstamp}
 use Rattle.tv_model.specs.Collections.{done_of}
 use Rattle.tv_model.specs.State.{State}
 use Rattle.tv_model.specs.CollectionEvents.{garbage}
 use Rattle.tv_model.specs.Machine.{Turn, step, after}
-use Rattle.tv_model.specs.Script.{IsNamed, Fits}
+use Rattle.tv_model.specs.Script.{Fits}
 use Rattle.tv_model.specs.Telling.{are_plain}
 use Rattle.tv_model.proofs.Changes.{step_changes, after_kept}
 use Rattle.tv_model.proofs.Entries.{sorted_put}
-use Rattle.tv_model.proofs.PlainNames.{other_plain}
+use Rattle.tv_model.proofs.PlainNames.{delete_plain, other_plain}
 
 -- some of the names, and one more
 pub plain_filter : (test : List ℕ → Bool) (names : List (List ℕ)) → are_plain names ≡ true → are_plain (filter test names) ≡ true
@@ -30,8 +32,11 @@ plain_filter test names h = list_all-from_AllPass is_plain _ (All-filter test (�
 plain_put : (names : List (List ℕ)) (name : List ℕ) → is_plain name ≡ true → are_plain names ≡ true → are_plain (insert_key byte_cmp names name) ≡ true
 plain_put names name h k = list_all-from_AllPass is_plain _ (All-insert_key byte_cmp name (λ n. is_plain n ≡ true) names (AllPass-from_list_all is_plain names k) h)
 
-named_plain : (id : List ℕ) (deletes : Option DeleteMeta) (component : SegmentComponent) → IsId id → IsNamed component → is_plain (name_of id deletes component) ≡ true
-named_plain id deletes component h named = rw named (other_plain id component h)
+named_plain : (id : List ℕ) (deletes : Option DeleteMeta) (component : SegmentComponent) → IsId id → is_plain (name_of id deletes component) ≡ true
+named_plain id deletes component h = either (is_delete component) where
+  either : (b : Bool) → is_plain (cond b (encode_lower id ++ codes "." ++ decimal (delete_opstamp deletes) ++ codes ".del") (encode_lower id ++ codes "." ++ extension component)) ≡ true
+  either true = delete_plain id (delete_opstamp deletes) h
+  either false = other_plain id component h
 
 -- something that holds of the managed names, of some of them, and of them with one that an event opens
 pub record Keeps (P : List (List ℕ) → Type 0) (event : Event) : Type 0 where
@@ -44,11 +49,16 @@ step_kept P s event outcomes keeps h = step_changes (λ u. P u.managed) s event 
   same = h;
   lives = λ id segment move. h;
   reads = λ now move. h;
-  opens = λ id deletes component e absent. keeps.more id deletes component s.managed e h;
+  opens = λ id segment component e there absent. keeps.more id segment.deletes component s.managed e h;
   puts = λ name body file e good. h;
   commits = λ payload ids last e. h;
   collects = λ outcomes. keeps.fewer (λ name. not (has (done_of (garbage s) outcomes) name)) s.managed h;
   releases = λ id segment. h;
+  deletes = λ id n segment may. h;
+  begins = h;
+  tries = λ number c name left is_done there e. h;
+  finishes = λ number c there. keeps.fewer (λ name. not (has c.done name)) s.managed h;
+  reopens = λ e. h;
 })
 
 -- an event leaves plain names plain
@@ -57,7 +67,7 @@ plain_keeps event fits = record {
   fewer = plain_filter;
   more = λ id deletes component names e h.
       let range : Fits (events.Open id component) = subst Fits e fits in
-      plain_put names (name_of id deletes component) (named_plain id deletes component range.0 range.1) h;
+      plain_put names (name_of id deletes component) (named_plain id deletes component range) h;
 }
 
 pub step_plain : (s : State) (event : Event) (outcomes : List Bool) → Fits event → are_plain s.managed ≡ true → are_plain (step s event outcomes).1.managed ≡ true

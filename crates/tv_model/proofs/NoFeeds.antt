@@ -18,7 +18,7 @@ no_feed_id [] = refl
 no_feed_id (b ∷ id) = rw (all_at (λ b. not (b == 10)) lower_digits (b / 16) refl, all_at (λ b. not (b == 10)) lower_digits (b % 16) refl) (no_feed_id id)
 
 pub no_feed_number : (n : ℕ) → n < 2 ^ 64 → has_no_feed (decimal n) ≡ true
-no_feed_number n small = decimal_all (λ b. not (b == 10)) n (λ c e. grind (arith, nat_tests)) small
+no_feed_number n small = decimal_all (λ b. not (b == 10)) n (λ c e. grind (arith, nat_tests))
 
 name_bytes_no_feed : (xs : List ℕ) → list_all is_name_byte xs ≡ true → has_no_feed xs ≡ true
 name_bytes_no_feed xs h = all_more is_name_byte (λ b. not (b == 10)) xs (λ b e. grind (arith, nat_tests)) h

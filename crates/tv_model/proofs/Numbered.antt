@@ -1,5 +1,5 @@
 -- Entries under numbers, in the order of the numbers.
-use Rattle.std.proofs.Common.{◌≡◌, ℕ, ◌<◌, Bool, true, false, true≢false, cond, List, [], ◌∷◌, Some, refl, sym, ap, subst, ◌∙◌, arith}
+use Rattle.std.proofs.Common.{◌≡◌, ℕ, ◌<◌, ◌≤◌, Bool, true, false, true≢false, cond, List, [], ◌∷◌, Option, Some, None, refl, sym, ap, subst, ◌∙◌, arith}
 use Rattle.std.specs.declared.cmp.Ordering.{Ordering}
 use Rattle.std.specs.declared.cmp.Ordering.TheVariants.{Less, Equal, Greater}
 use Rattle.std.specs.Cmp.{eq_by_cmp_equiv, nat_cmp_total}
@@ -7,6 +7,7 @@ use Rattle.std.specs.Ordering.{is_eq, match_ordering, nat_cmp}
 use Rattle.std.specs.List.{AllByRecursion}
 use Rattle.std.specs.Map.{lookup, remove_entry}
 use Rattle.std.specs.BTreeMap.{is_at, insert_entry}
+use Rattle.std.proofs.lemmas.Bool.{false_from_ne_true}
 use Rattle.std.proofs.lemmas.Cmp.{ranked}
 use Rattle.tv_model.specs.Collections.{Rises}
 
@@ -69,7 +70,7 @@ pub rises_gone : {X : Type 0} (test : ℕ → Bool) (es : List (ℕ × X)) → R
 rises_gone test [] h = tt
 rises_gone test (e ∷ es) h = either_way Rises (test e.0) es (e ∷ remove_entry test es) h.1 (gone_all (λ f. e.0 < f.0) test es h.0, rises_gone test es h.1)
 
-itself : (n : ℕ) → is_at (nat_cmp n) n ≡ true
+pub itself : (n : ℕ) → is_at (nat_cmp n) n ≡ true
 itself n = (eq_by_cmp_equiv nat_cmp_total).refl n
 
 above_all : {X : Type 0} (n : ℕ) (P : X → Type 0) (es : List (ℕ × X)) → AllByRecursion (λ f. n < f.0) es → AllByRecursion (λ f. f.0 ≡ n → P f.1) es
@@ -87,6 +88,23 @@ only {X} (x ∷ es) n v h e =
           (λ m. value, above_all n (λ w. w ≡ v) es (subst (λ (m : ℕ). AllByRecursion (λ f. m < f.0) es) (sym key) h.0))
       | false ↦ λ at k. (λ same. absurd (true≢false (sym (itself n) ∙ ap (λ (m : ℕ). is_at (nat_cmp n) m) (sym same) ∙ at)), only es n v h.1 k)
     ] refl e
+
+-- where numbers rise, what holds of each entry that is found holds of all
+pub all_found : {X : Type 0} (P : ℕ × X → Type 0) (es : List (ℕ × X)) → Rises es → ((k : ℕ) (v : X) → lookup (is_at (nat_cmp k)) es ≡ Some v → P (k, v)) → AllByRecursion P es
+all_found P [] rises h = tt
+all_found {X} P (e ∷ es) rises h = (h e.0 e.1 (rw (itself e.0) refl), all_found P es rises.1 (λ k v is. h k v (behind k v is))) where
+  behind : (k : ℕ) (v : X) → lookup (is_at (nat_cmp k)) es ≡ Some v → lookup (is_at (nat_cmp k)) (e ∷ es) ≡ Some v
+  behind k v is =
+      let above : e.0 < k = found (λ f. e.0 < f.0) es k v rises.0 is in
+      let other : is_at (nat_cmp k) e.0 ≡ false = false_from_ne_true _ (λ t. absurd (omega (arith, same_number k e.0 t, above))) in
+      rw other is
+
+-- a number above all has nothing
+pub none_above : {X : Type 0} (es : List (ℕ × X)) (m k : ℕ) → AllByRecursion (λ f. f.0 < m) es → m ≤ k → lookup (is_at (nat_cmp k)) es ≡ None
+none_above {X} es m k h le = either (lookup (is_at (nat_cmp k)) es) refl where
+  either : (there : Option X) → lookup (is_at (nat_cmp k)) es ≡ there → lookup (is_at (nat_cmp k)) es ≡ None
+  either None e = e
+  either (Some v) e = absurd (omega (arith, found (λ f. f.0 < m) es k v h e, le))
 
 -- an entry that was put is found
 pub put_found : {X : Type 0} (es : List (ℕ × X)) (k : ℕ) (v : X) → lookup (is_at (nat_cmp k)) (insert_entry nat_cmp es k v) ≡ Some v

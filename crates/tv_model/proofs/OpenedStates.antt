@@ -17,6 +17,9 @@ use Rattle.tv_model.proofs.Entries.{has_inserted, has_kept}
 use Rattle.tv_model.proofs.Required.{required_is_file}
 use Rattle.tv_model.proofs.OneMeaning.{means_one}
 use Rattle.tv_model.proofs.ListTexts.{lists_one}
+use Rattle.tv_model.proofs.HeldStates.{nothing_held}
+use Rattle.tv_model.proofs.SoundOpenings.{opens_managed_sorted}
+use Rattle.tv_model.proofs.SoundStates.{stamps_after}
 use Rattle.tv_model.proofs.SpelledCommits.{means_commit}
 
 -- what is known of the commit and of the managed names, whether there is a `meta.json` or not
@@ -55,14 +58,6 @@ there_reads (Some bytes) h = refl
 same_good : (file : Option FileState) (bytes other : List ℕ) → file ≡ Some (Sealed bytes) → IsGood bytes → file ≡ Some (Sealed other) → IsGood other
 same_good file bytes other e good k = let same : bytes ≡ other = cc in subst IsGood same good
 
--- the number after a commit's
-stamps_after : (opstamp next : ℕ) → next ≡ next_after opstamp → (opstamp < next) ⊎ ((opstamp ≡ last_stamp) × (next ≡ last_stamp))
-stamps_after opstamp next e =
-    elim (opstamp == last_stamp) as (λ b. (opstamp == last_stamp) ≡ b → next ≡ cond b last_stamp (opstamp + 1) → (opstamp < next) ⊎ ((opstamp ≡ last_stamp) × (next ≡ last_stamp))) [
-      | true ↦ λ t k. inr (grind (arith, nat_tests, t), k)
-      | false ↦ λ t k. inl (omega (arith, k))
-    ] refl e
-
 segments_within : (segments : List (List ℕ × LiveSegment)) → AllByRecursion IsSegment segments → AreWithin segments
 segments_within [] h = tt
 segments_within (e ∷ segments) h = (h.0.deletes, segments_within segments h.1)
@@ -83,7 +78,7 @@ opens_sound settings schema reads s sound o =
       listed = λ n there.
           let named = o.names n there in
           start.kept n (on_list n (sound.listed n named.0 (there_reads (reads n) (sym (ap is_some (o.files n named)) ∙ there))));
-      whole = record { each = λ n is. ap is_sealed (read n is).1 };
+      whole = record { each = λ n is. ap is_sealed (read n is).1; collecting = nothing_held s o.collections (opens_managed_sorted settings schema reads s o) };
       good = good;
       live = subst (AreGood s) (sym o.live) good;
       stamps = stamps_after s.catalog.commit.opstamp s.catalog.next o.next;

@@ -1,8 +1,8 @@
 -- The names of a segment's files are plain.
-use Rattle.std.proofs.Common.{◌≡◌, ℕ, zero, suc, ◌+◌, ◌<◌, ◌≤◌, ◌^◌, ◌/◌, ◌%◌, ◌==◌, Bool, true, false, not, ◌&&◌, nat_le, List, [], ◌∷◌, ◌++◌, length, codes, refl, arith, length-append, append_assoc}
-use Rattle.std.specs.Prelude.{slice_index}
+use Rattle.std.proofs.Common.{◌≡◌, ℕ, zero, suc, ◌+◌, ◌<◌, ◌≤◌, ◌^◌, ◌/◌, ◌%◌, ◌==◌, Bool, true, false, cond, not, ◌&&◌, nat_le, List, [], ◌∷◌, ◌++◌, length, codes, refl, arith, length-append, append_assoc}
+use Rattle.std.specs.Prelude.{slice_index, nat_lt}
 use Rattle.std.specs.List.{list_all}
-use Rattle.std.specs.Fmt.{decimal}
+use Rattle.std.specs.Fmt.{decimal, digits, digits_onto, digit_glyph}
 use Rattle.std.specs.Char.{is_ascii_digit}
 use Rattle.std.specs.Str.{all_ascii_digits}
 use Rattle.std.proofs.lemmas.Bool.Decides.{nat_tests}
@@ -52,10 +52,37 @@ unfolding encode_with
 undotted [] rest h = absurd (omega arith)
 undotted (b ∷ xs) rest h = all_at (λ b. not (b == 46)) lower_digits (b / 16) refl
 
--- what holds of each digit holds of all digits of a number
-pub decimal_all : (test : ℕ → Bool) (n : ℕ) → ((c : ℕ) → is_ascii_digit c ≡ true → test c ≡ true) → n < 2 ^ 64 → list_all test (decimal n) ≡ true
-decimal_all test n f small =
-    all_more is_ascii_digit test (decimal n) f (digits_decimal (numerals_by_value (λ ds. all_ascii_digits ds ≡ true) tells_all_ascii_digits) n small)
+-- a digit of a decimal number is one of ten
+one_of_ten : (r : ℕ) → r < 10 → is_ascii_digit (digit_glyph false r) ≡ true
+one_of_ten r lt = let small : nat_lt r 10 ≡ true = grind (arith, nat_tests) in rw small (grind (arith, nat_tests))
+
+spelled_all : (k n : ℕ) (rest : List ℕ) → list_all is_ascii_digit rest ≡ true → list_all is_ascii_digit (digits_onto k 10 false n rest) ≡ true
+spelled_all zero n rest h = h
+spelled_all (suc k) n rest h =
+    let digit : is_ascii_digit (digit_glyph false (n % 10)) ≡ true = one_of_ten (n % 10) (omega arith) in
+    let more : list_all is_ascii_digit (digit_glyph false (n % 10) ∷ rest) ≡ true = rw digit h in
+    either (n / 10 == 0) _ _ more (spelled_all k (n / 10) (digit_glyph false (n % 10) ∷ rest) more)
+    where
+      either : (b : Bool) (xs ys : List ℕ) → list_all is_ascii_digit xs ≡ true → list_all is_ascii_digit ys ≡ true → list_all is_ascii_digit (cond b xs ys) ≡ true
+      either true xs ys p q = p
+      either false xs ys p q = q
+
+spelled_short : (k n : ℕ) (rest : List ℕ) → length (digits_onto k 10 false n rest) ≤ k + length rest
+spelled_short zero n rest = omega arith
+spelled_short (suc k) n rest =
+    elim (n / 10 == 0) as (λ b. length (cond b (digit_glyph false (n % 10) ∷ rest) (digits_onto k 10 false (n / 10) (digit_glyph false (n % 10) ∷ rest))) ≤ suc k + length rest) [
+      | true ↦ omega arith
+      | false ↦ omega (arith, spelled_short k (n / 10) (digit_glyph false (n % 10) ∷ rest))
+    ]
+
+-- what holds of each digit holds of all digits of a number, and these are few
+pub decimal_all : (test : ℕ → Bool) (n : ℕ) → ((c : ℕ) → is_ascii_digit c ≡ true → test c ≡ true) → list_all test (decimal n) ≡ true
+unfolding digits
+decimal_all test n f = all_more is_ascii_digit test (decimal n) f (spelled_all 64 n [] refl)
+
+decimal_short : (n : ℕ) → length (decimal n) ≤ 64
+unfolding digits
+decimal_short n = spelled_short 64 n []
 
 -- a name's bytes are the third of five tests; the last one is that it isn't a certain word
 pub third_and_last : (a b c d e : Bool) → (a && b && c && d && e) ≡ true → (c ≡ true) × (e ≡ true)
@@ -85,12 +112,12 @@ plain_after id rest h fits short =
       long_isnt (encode_lower id ++ rest) (codes "failed") (omega arith),
     ) refl
 
-pub delete_plain : (id : List ℕ) (n : ℕ) → IsId id → n < 2 ^ 64 → is_plain (encode_lower id ++ codes "." ++ decimal n ++ codes ".del") ≡ true
-delete_plain id n h small =
+pub delete_plain : (id : List ℕ) (n : ℕ) → IsId id → is_plain (encode_lower id ++ codes "." ++ decimal n ++ codes ".del") ≡ true
+delete_plain id n h =
     let rest = codes "." ++ (decimal n ++ codes ".del") in
-    let fits : list_all is_name_byte rest ≡ true = all-append is_name_byte (decimal n) (codes ".del") (decimal_all is_name_byte n (λ c e. grind (arith, nat_tests)) small) refl in
+    let fits : list_all is_name_byte rest ≡ true = all-append is_name_byte (decimal n) (codes ".del") (decimal_all is_name_byte n (λ c e. grind (arith, nat_tests))) refl in
     let long : length (decimal n ++ codes ".del") ≡ length (decimal n) + 4 = length-append (decimal n) (codes ".del") in
-    let few : length (decimal n) ≤ 20 = length-decimal-le 20 n (omega arith) (omega arith) small in
+    let few : length (decimal n) ≤ 64 = decimal_short n in
     rw (append_assoc (encode_lower id ++ codes ".") (decimal n) (codes ".del"), append_assoc (encode_lower id) (codes ".") (decimal n ++ codes ".del")) (plain_after id rest h fits (omega arith))
 
 pub other_plain : (id : List ℕ) (component : SegmentComponent) → IsId id → is_plain (encode_lower id ++ codes "." ++ extension component) ≡ true

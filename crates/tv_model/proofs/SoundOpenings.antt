@@ -10,6 +10,7 @@ use Rattle.tv_model.specs.Files.{Reads}
 use Rattle.tv_model.specs.Listing.{Lists}
 use Rattle.tv_model.specs.Commits.{Commit, Settings, default_settings, first_commit}
 use Rattle.tv_model.specs.Schemas.{IsSchema}
+use Rattle.tv_model.specs.Collections.{no_collections}
 use Rattle.tv_model.specs.State.{Catalog, State, FileState, Sealed, no_readers}
 use Rattle.tv_model.specs.Index.{IsFileOf, IsSoundMeta, IsSoundImage, FindsCommit, managed_with, OpensTo, OpenedIndex, FoundIndex, next_after, opened_catalog}
 use Rattle.tv_model.proofs.Entries.{is_text, is_itself, is_by_order, sorted_put}
@@ -96,7 +97,7 @@ finds schema reads (Some text) sound = (sound.0, sound.1, sound.2)
 
 -- the state of an index that is opened with this commit
 abbrev state_of : Reads → List (List ℕ) → Commit → State
-state_of reads names commit = record { catalog = opened_catalog commit; files = files_of reads names; managed = managed_with (reads meta_name) names }
+state_of reads names commit = record { catalog = opened_catalog commit; files = files_of reads names; managed = managed_with (reads meta_name) names; collections = no_collections }
 
 -- a sound directory opens to a state
 pub sound_opens : (schema : List ℕ) (reads : Reads) → IsSoundImage schema reads → (settings : Settings) × (s : State) × OpensTo settings schema reads s
@@ -113,6 +114,7 @@ sound_opens schema reads sound =
         live = refl;
         next = refl;
         reading = refl;
+        collections = refl;
         names = λ n there.
             let some = ap is_some (sym (at_files reads sound.names n)) ∙ there in
             file_of_test n (some_passes (has sound.names n) (is_file_of n) (option_map Sealed (reads n)) some);

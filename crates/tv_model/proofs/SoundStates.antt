@@ -1,12 +1,16 @@
 -- States stay sound from event to event, and a directory that holds a sound state is sound.
-use Rattle.std.proofs.Common.{◌≡◌, ◌≢◌, ◌≤◌, ◌==◌, inl, ℕ, Bool, true, false, true≢false, not, ◌||◌, cond, List, [], Option, Some, None, refl, sym, ap, subst, ◌∙◌, arith}
+use Rattle.std.proofs.Common.{◌≡◌, ◌≢◌, ◌≤◌, ◌==◌, ◌⊎◌, ◌<◌, ◌+◌, inl, inr, ℕ, Bool, true, false, true≢false, not, ◌||◌, cond, List, [], ◌∷◌, Option, Some, None, refl, sym, ap, subst, ◌∙◌, arith}
 use Rattle.std.specs.Prelude.{IsSome, is_some, option_map}
+use Rattle.std.specs.List.Sorted.{IsStrictlySortedBy}
+use Rattle.std.proofs.lemmas.Bool.{false_from_ne_true}
+use Rattle.std.proofs.lemmas.Bool.Decides.{nat_tests}
 use Rattle.std.specs.BTreeMap.{is_at, insert_entry}
 use Rattle.std.specs.BTreeSet.{insert_key}
 use Rattle.tv_model.specs.declared.event.Event.{Event}
 use Rattle.tv_model.specs.declared.event.Event.TheVariants as events
 use Rattle.tv_model.specs.declared.segment.DeleteMeta.{DeleteMeta}
 use Rattle.tv_model.specs.declared.segment.LiveSegment.{LiveSegment}
+use Rattle.tv_model.specs.declared.segment.SegmentComponent.TheVariants.{Delete}
 use Rattle.tv_model.specs.Names.{byte_cmp, is, has, is_undotted, meta_name}
 use Rattle.tv_model.specs.Files.{Reads}
 use Rattle.tv_model.specs.Footer.{IsGood}
@@ -15,28 +19,32 @@ use Rattle.tv_model.specs.Commits.{Settings}
 use Rattle.tv_model.specs.State.{State, FileState, Sealed, Open, Left, Readers, at, live_at, file_at, with_live, with_file, on_catalog}
 use Rattle.tv_model.specs.SegmentEvents.{is_in_use, is_named, fresh_segment}
 use Rattle.tv_model.specs.FileEvents.{opened}
-use Rattle.tv_model.specs.CommitEvents.{is_sealed, chosen, first_unsealed, committed}
-use Rattle.tv_model.specs.Collections.{done_of}
+use Rattle.tv_model.specs.CommitEvents.{is_sealed, last_stamp, chosen, committed}
+use Rattle.tv_model.specs.Collections.{Collection, Collections, collection_at, done_of, having_tried, with_collection, without}
 use Rattle.tv_model.specs.Living.{living, segment_names}
-use Rattle.tv_model.specs.CollectionEvents.{garbage, without_files, left, released}
+use Rattle.tv_model.specs.CollectionEvents.{garbage, files_without, gc_begin_step, without_files, having_deleted, ended, left, released}
+use Rattle.tv_model.specs.DeleteEvents.{delete_name, next_deletes, with_deletes, having_deleted_docs}
+use Rattle.tv_model.specs.ReopenEvents.{reopened}
 use Rattle.tv_model.specs.Machine.{step}
-use Rattle.tv_model.specs.Index.{FileReads, IsFileOf, DirectoryHolds, IsSoundMeta, IsSoundImage, first_state}
+use Rattle.tv_model.specs.Index.{FileReads, IsFileOf, DirectoryHolds, IsSoundMeta, IsSoundImage, first_state, next_after}
 use Rattle.tv_model.specs.Readable.{CanRead}
 use Rattle.tv_model.specs.Script.{Fits}
-use Rattle.tv_model.specs.SoundStates.{AreGood, IsSoundState}
-use Rattle.tv_model.proofs.Changes.{SegmentMove, IsNew, HasDocs, OfEachChange, step_changes}
+use Rattle.tv_model.specs.SoundStates.{AreGood, IsWhole, IsSoundState}
+use Rattle.tv_model.proofs.Changes.{SegmentMove, IsNew, HasDocs, MayDelete, OfEachChange, step_changes}
 use Rattle.tv_model.proofs.Entries.{is_itself, is_text, text_at, lookup_put, has_inserted, has_kept}
-use Rattle.tv_model.proofs.Required.{by_one, Begins, required_begins, name_is_file, begins_named, required_put, required_found, required_some, required_left, each_put, each_some, each_left}
+use Rattle.tv_model.proofs.Required.{by_one, Begins, required_begins, name_is_file, begins_named, required_put, required_deleted, required_found, required_some, required_left, each_put, each_some, each_left}
 use Rattle.tv_model.proofs.CollectionStates.{has_without, at_without, at_left, meta_living, living_spared}
-use Rattle.tv_model.proofs.WholeStates.{absent_isnt_sealed, with_file_whole, committed_whole, collected_whole, released_whole, put_since, kept_since, left_since}
+use Rattle.tv_model.proofs.HeldStates.{done_held, nothing_held}
+use Rattle.tv_model.proofs.WholeStates.{at_all_left, whole_changes, put_since, kept_since, left_since}
 
 -- the state of an index that was just made
 pub first_sound : IsSoundState first_state
+unfolding IsStrictlySortedBy
 first_sound = record {
   meta = refl;
   names = λ n h. absurd (true≢false (sym h));
   listed = λ n h. absurd (true≢false (sym h));
-  whole = record { each = λ n h. absurd (true≢false (sym h)) };
+  whole = record { each = λ n h. absurd (true≢false (sym h)); collecting = nothing_held first_state refl (tt, tt) };
   good = λ n bytes required h. absurd cc;
   live = λ n bytes required h. absurd cc;
   stamps = inl (omega arith);
@@ -55,9 +63,9 @@ put_good s name file segments good h n bytes required is =
     put_since (is_at (byte_cmp name) n) file (file_at s n) bytes (good bytes) (h n bytes required) (rw (lookup_put s.files name n file) at is)
 
 -- a file under a managed name that is put where no sealed file stands
-put_sound : (s : State) (name : List ℕ) (file : FileState) → IsFileOf name → has s.managed name ≡ true → is_sealed (file_at s name) ≡ false
-    → ((bytes : List ℕ) → file ≡ Sealed bytes → IsGood bytes) → IsSoundState s → IsSoundState (with_file s name file)
-put_sound s name file fits listed unsealed good h = record {
+put_sound : (s : State) (name : List ℕ) (file : FileState) → IsFileOf name → has s.managed name ≡ true
+    → ((bytes : List ℕ) → file ≡ Sealed bytes → IsGood bytes) → IsWhole (with_file s name file) → IsSoundState s → IsSoundState (with_file s name file)
+put_sound s name file fits listed good whole h = record {
   meta = h.meta;
   names = λ n is.
       put_some {P = IsFileOf n} (is_at (byte_cmp name) n) file (file_at s n) (λ e. subst IsFileOf (text_at name n e) fits) (h.names n)
@@ -65,7 +73,7 @@ put_sound s name file fits listed unsealed good h = record {
   listed = λ n is.
       put_some {P = has s.managed n ≡ true} (is_at (byte_cmp name) n) file (file_at s n) (λ e. subst (λ (m : List ℕ). has s.managed m ≡ true) (text_at name n e) listed) (h.listed n)
       (rw (lookup_put s.files name n file) at is);
-  whole = with_file_whole s name file unsealed h.whole;
+  whole = whole;
   good = put_good s name file s.catalog.commit.segments good h.good;
   live = put_good s name file s.catalog.live good h.live;
   stamps = h.stamps;
@@ -73,38 +81,38 @@ put_sound s name file fits listed unsealed good h = record {
   live_within = h.live_within;
 }
 
--- one more managed name
-managed_sound : (s : State) (name : List ℕ) → IsSoundState s → IsSoundState (record s { managed = insert_key byte_cmp s.managed name })
-managed_sound s name h = record {
+-- a new open file, whose name is managed
+opened_sound : (s : State) (name : List ℕ) → IsFileOf name → IsWhole (opened s name).1 → IsSoundState s → IsSoundState (opened s name).1
+opened_sound s name fits whole h = record {
   meta = has_kept s.managed name meta_name h.meta;
-  names = h.names;
-  listed = λ n is. has_kept s.managed name n (h.listed n is);
-  whole = record { each = h.whole.each };
-  good = h.good;
-  live = h.live;
+  names = λ n is.
+      put_some {P = IsFileOf n} (is_at (byte_cmp name) n) (Open []) (file_at s n) (λ e. subst IsFileOf (text_at name n e) fits) (h.names n)
+      (rw (lookup_put s.files name n (Open [])) at is);
+  listed = λ n is.
+      put_some {P = has (insert_key byte_cmp s.managed name) n ≡ true} (is_at (byte_cmp name) n) (Open []) (file_at s n)
+      (λ e. subst (λ (m : List ℕ). has (insert_key byte_cmp s.managed name) m ≡ true) (text_at name n e) (has_inserted s.managed name)) (λ there. has_kept s.managed name n (h.listed n there))
+      (rw (lookup_put s.files name n (Open [])) at is);
+  whole = whole;
+  good = put_good s name (Open []) s.catalog.commit.segments (λ bytes k. absurd cc) h.good;
+  live = put_good s name (Open []) s.catalog.live (λ bytes k. absurd cc) h.live;
   stamps = h.stamps;
   within = h.within;
   live_within = h.live_within;
 }
 
-opened_sound : (s : State) (name : List ℕ) → IsFileOf name → is_some (file_at s name) ≡ false → IsSoundState s → IsSoundState (opened s name).1
-opened_sound s name fits absent h =
-    put_sound (record s { managed = insert_key byte_cmp s.managed name }) name (Open []) fits (has_inserted s.managed name)
-    (absent_isnt_sealed (file_at s name) absent) (λ bytes k. absurd cc) (managed_sound s name h)
-
 -- another open file, or a sealed one, in the place of an open one
-over_open : (s : State) (name body : List ℕ) (file : FileState) → file_at s name ≡ Some (Open body) → ((bytes : List ℕ) → file ≡ Sealed bytes → IsGood bytes) → IsSoundState s → IsSoundState (with_file s name file)
-over_open s name body file e good h =
+over_open : (s : State) (name body : List ℕ) (file : FileState) → file_at s name ≡ Some (Open body) → ((bytes : List ℕ) → file ≡ Sealed bytes → IsGood bytes) → IsWhole (with_file s name file) → IsSoundState s → IsSoundState (with_file s name file)
+over_open s name body file e good whole h =
     let there : is_some (file_at s name) ≡ true = ap is_some e in
-    put_sound s name file (h.names name there) (h.listed name there) (ap is_sealed e) good h
+    put_sound s name file (h.names name there) (h.listed name there) good whole h
 
 -- where only who reads changes
-read_sound : (s : State) (now : Readers) → IsSoundState s → IsSoundState (record s { catalog = record s.catalog { reading = now } })
-read_sound s now h = record {
+read_sound : (s : State) (now : Readers) → IsWhole (record s { catalog = record s.catalog { reading = now } }) → IsSoundState s → IsSoundState (record s { catalog = record s.catalog { reading = now } })
+read_sound s now whole h = record {
   meta = h.meta;
   names = h.names;
   listed = h.listed;
-  whole = record { each = h.whole.each };
+  whole = whole;
   good = h.good;
   live = h.live;
   stamps = h.stamps;
@@ -145,12 +153,12 @@ moved_within s id segment (HasDocs count old there none) = omega (arith, undelet
 abbrev IsWithin : LiveSegment → Type 0
 IsWithin segment = num_deleted segment.deletes ≤ segment.max_doc
 
-moved_sound : (s : State) (id : List ℕ) (segment : LiveSegment) → SegmentMove s id segment → IsSoundState s → IsSoundState (record s { catalog = with_live s.catalog id segment })
-moved_sound s id segment move h = record {
+moved_sound : (s : State) (id : List ℕ) (segment : LiveSegment) → SegmentMove s id segment → IsWhole (record s { catalog = with_live s.catalog id segment }) → IsSoundState s → IsSoundState (record s { catalog = with_live s.catalog id segment })
+moved_sound s id segment move whole h = record {
   meta = h.meta;
   names = h.names;
   listed = h.listed;
-  whole = record { each = h.whole.each };
+  whole = whole;
   good = h.good;
   live = moved_good s id segment move h;
   stamps = h.stamps;
@@ -159,12 +167,12 @@ moved_sound s id segment move h = record {
 }
 
 -- live segments become the commit
-committed_sound : (s : State) (payload : Option (List ℕ)) (ids : List (List ℕ)) → first_unsealed s (chosen s.catalog ids) ≡ None → IsSoundState s → IsSoundState (on_catalog s (committed s.catalog payload (chosen s.catalog ids))).1
-committed_sound s payload ids e h = record {
+committed_sound : (s : State) (payload : Option (List ℕ)) (ids : List (List ℕ)) → IsWhole (on_catalog s (committed s.catalog payload (chosen s.catalog ids))).1 → IsSoundState s → IsSoundState (on_catalog s (committed s.catalog payload (chosen s.catalog ids))).1
+committed_sound s payload ids whole h = record {
   meta = h.meta;
   names = h.names;
   listed = h.listed;
-  whole = committed_whole s payload (chosen s.catalog ids) e;
+  whole = whole;
   good = λ n bytes required is. h.live n bytes (required_some _ s.catalog.live n required) is;
   live = h.live;
   stamps = inl (omega arith);
@@ -179,14 +187,14 @@ kept_some : (gone : Bool) (file : Option FileState) → is_some (cond (not gone)
 kept_some true file e = absurd (true≢false (sym e))
 kept_some false file e = (e, refl)
 
-collected_sound : (s : State) (gone : List (List ℕ)) → ((n : List ℕ) → has (living s.catalog) n ≡ true → has gone n ≡ false) → IsSoundState s → IsSoundState (without_files s gone)
-collected_sound s gone spared h = record {
+collected_sound : (s : State) (gone : List (List ℕ)) → ((n : List ℕ) → has (living s.catalog) n ≡ true → has gone n ≡ false) → IsWhole (without_files s gone) → IsSoundState s → IsSoundState (without_files s gone)
+collected_sound s gone spared whole h = record {
   meta = rw (has_without gone s.managed meta_name, spared meta_name (meta_living s)) h.meta;
   names = λ n is. h.names n (kept_some (has gone n) (file_at s n) (rw (at_without gone s.files n) at is)).0;
   listed = λ n is.
       let k = kept_some (has gone n) (file_at s n) (rw (at_without gone s.files n) at is) in
       rw (has_without gone s.managed n, k.1) (h.listed n k.0);
-  whole = collected_whole s gone spared h.whole;
+  whole = whole;
   good = λ n bytes required is. h.good n bytes required (kept_since (not (has gone n)) (file_at s n) bytes (rw (at_without gone s.files n) at is));
   live = λ n bytes required is. h.live n bytes required (kept_since (not (has gone n)) (file_at s n) bytes (rw (at_without gone s.files n) at is));
   stamps = h.stamps;
@@ -199,12 +207,12 @@ left_some : (b : Bool) (file : Option FileState) → is_some (option_map (λ f. 
 left_some b None = refl
 left_some b (Some file) = refl
 
-released_sound : (s : State) (id : List ℕ) (segment : LiveSegment) → IsSoundState s → IsSoundState (released s id segment).1
-released_sound s id segment h = record {
+released_sound : (s : State) (id : List ℕ) (segment : LiveSegment) → IsWhole (released s id segment).1 → IsSoundState s → IsSoundState (released s id segment).1
+released_sound s id segment whole h = record {
   meta = h.meta;
   names = λ n is. h.names n (sym (left_some (has (segment_names (id, segment)) n) (file_at s n)) ∙ (rw (at_left (segment_names (id, segment)) s.files n) at is));
   listed = λ n is. h.listed n (sym (left_some (has (segment_names (id, segment)) n) (file_at s n)) ∙ (rw (at_left (segment_names (id, segment)) s.files n) at is));
-  whole = released_whole s id segment h.whole;
+  whole = whole;
   good = λ n bytes required is. h.good n bytes required (left_since (has (segment_names (id, segment)) n) (file_at s n) bytes (rw (at_left (segment_names (id, segment)) s.files n) at is));
   live = λ n bytes required is.
       h.live n bytes (required_left (is_at (byte_cmp id)) s.catalog.live n required)
@@ -214,18 +222,136 @@ released_sound s id segment h = record {
   live_within = each_left IsWithin (is_at (byte_cmp id)) s.catalog.live h.live_within;
 }
 
+-- ---- deletes
+
+-- what is sealed of the files of a segment with other deletes was required before, since the name of its delete file is new
+deleted_good : (s : State) (id : List ℕ) (m : ℕ) (segment : LiveSegment) → MayDelete s id m segment → IsSoundState s → AreGood s (with_deletes s.catalog id segment m).live
+deleted_good s id m segment may h n bytes required e =
+    let new = Some (next_deletes s.catalog m) in
+    by_one (has (required_names id (record segment { deletes = new })) n) (has (all_required s.catalog.live) n) (required_put s.catalog.live id (record segment { deletes = new }) n required)
+    (λ own.
+    by_one (is (name_of id new Delete) n) (has (required_names id segment) n) (required_deleted id segment new n own)
+    (λ same. absurd (true≢false (sym (h.listed n (ap is_some e)) ∙ subst (λ (x : List ℕ). has s.managed x ≡ false) (is_text (name_of id new Delete) n same) may.fresh)))
+    (λ old. h.live n bytes (required_found s.catalog.live id segment n may.there old) e))
+    (λ old. h.live n bytes old e)
+
+-- one stamp more was drawn
+drawn : (opstamp next last : ℕ) → next ≢ last → (opstamp < next) ⊎ ((opstamp ≡ last) × (next ≡ last)) → (opstamp < next + 1) ⊎ ((opstamp ≡ last) × (next + 1 ≡ last))
+drawn opstamp next last other (inl below) = inl (omega (arith, below))
+drawn opstamp next last other (inr ends) = absurd (other ends.1)
+
+deleted_sound : (s : State) (id : List ℕ) (m : ℕ) (segment : LiveSegment) → MayDelete s id m segment → IsWhole (having_deleted_docs s id m segment).1 → IsSoundState s → IsSoundState (having_deleted_docs s id m segment).1
+deleted_sound s id m segment may whole h =
+    let former = delete_name id segment.deletes ∷ [] in record {
+      meta = h.meta;
+      names = λ n is. h.names n (sym (left_some (has former n) (file_at s n)) ∙ (rw (at_left former s.files n) at is));
+      listed = λ n is. h.listed n (sym (left_some (has former n) (file_at s n)) ∙ (rw (at_left former s.files n) at is));
+      whole = whole;
+      good = λ n bytes required is. h.good n bytes required (left_since (has former n) (file_at s n) bytes (rw (at_left former s.files n) at is));
+      live = λ n bytes required is. deleted_good s id m segment may h n bytes required (left_since (has former n) (file_at s n) bytes (rw (at_left former s.files n) at is));
+      stamps = drawn s.catalog.commit.opstamp s.catalog.next last_stamp may.last h.stamps;
+      within = h.within;
+      live_within = each_put IsWithin s.catalog.live id (record segment { deletes = Some (next_deletes s.catalog m) }) h.live_within may.within;
+    }
+
+-- ---- collections in steps
+
+-- other collections, and nothing else
+other_collections : (s : State) (collections : Collections) → IsWhole (record s { collections = collections }) → IsSoundState s → IsSoundState (record s { collections = collections })
+other_collections s collections whole h = record {
+  meta = h.meta;
+  names = h.names;
+  listed = h.listed;
+  whole = whole;
+  good = h.good;
+  live = h.live;
+  stamps = h.stamps;
+  within = h.within;
+  live_within = h.live_within;
+}
+
+-- fewer files
+fewer_sound : (s : State) (gone : List (List ℕ)) (collections : Collections) → IsWhole (record s { files = files_without gone s.files; collections = collections }) → IsSoundState s
+    → IsSoundState (record s { files = files_without gone s.files; collections = collections })
+fewer_sound s gone collections whole h =
+    let before : (n : List ℕ) → is_some (at (files_without gone s.files) n) ≡ true → is_some (file_at s n) ≡ true = λ n is. (kept_some (has gone n) (file_at s n) (rw (at_without gone s.files n) at is)).0 in record {
+      meta = h.meta;
+      names = λ n is. h.names n (before n is);
+      listed = λ n is. h.listed n (before n is);
+      whole = whole;
+      good = λ n bytes required is. h.good n bytes required (kept_since (not (has gone n)) (file_at s n) bytes (rw (at_without gone s.files n) at is));
+      live = λ n bytes required is. h.live n bytes required (kept_since (not (has gone n)) (file_at s n) bytes (rw (at_without gone s.files n) at is));
+      stamps = h.stamps;
+      within = h.within;
+      live_within = h.live_within;
+    }
+
+tried_sound : (s : State) (number : ℕ) (c : Collection) (name : List ℕ) (left : List (List ℕ)) (is_done : Bool) → IsWhole (having_deleted s number c name left is_done).1 → IsSoundState s → IsSoundState (having_deleted s number c name left is_done).1
+tried_sound s number c name left true whole h = fewer_sound s (name ∷ []) (with_collection s.collections number (having_tried c name left true)) whole h
+tried_sound s number c name left false whole h = other_collections s (with_collection s.collections number (having_tried c name left false)) whole h
+
+-- what is done has no file, so that no file loses its name
+ended_sound : (s : State) (number : ℕ) (c : Collection) → collection_at s.collections number ≡ Some c → IsWhole (ended s number c).1 → IsSoundState s → IsSoundState (ended s number c).1
+ended_sound s number c there whole h = record {
+  meta = undone_stays meta_name (undone meta_name (λ done. true≢false (sym (meta_living s) ∙ h.whole.collecting.spared meta_name (done_held s number c meta_name there done)))) h.meta;
+  names = h.names;
+  listed = λ n is. undone_stays n (undone n (λ done. true≢false (sym is ∙ ap is_some (h.whole.collecting.gone number c n there done)))) (h.listed n is);
+  whole = whole;
+  good = h.good;
+  live = h.live;
+  stamps = h.stamps;
+  within = h.within;
+  live_within = h.live_within;
+}
+    where
+      undone : (n : List ℕ) → (has c.done n ≡ true → ⊥) → has c.done n ≡ false
+      undone n no = false_from_ne_true (has c.done n) no
+      undone_stays : (n : List ℕ) → has c.done n ≡ false → has s.managed n ≡ true → has (without c.done s.managed) n ≡ true
+      undone_stays n e is = has_without c.done s.managed n ∙ (rw e is)
+
+-- ---- the index is opened again
+
+-- the number after a commit's
+pub stamps_after : (opstamp next : ℕ) → next ≡ next_after opstamp → (opstamp < next) ⊎ ((opstamp ≡ last_stamp) × (next ≡ last_stamp))
+stamps_after opstamp next e =
+    elim (opstamp == last_stamp) as (λ b. (opstamp == last_stamp) ≡ b → next ≡ cond b last_stamp (opstamp + 1) → (opstamp < next) ⊎ ((opstamp ≡ last_stamp) × (next ≡ last_stamp))) [
+      | true ↦ λ t k. inr (grind (arith, nat_tests, t), k)
+      | false ↦ λ t k. inl (omega (arith, k))
+    ] refl e
+
+reopened_sound : (s : State) → IsWhole (reopened s) → IsSoundState s → IsSoundState (reopened s)
+reopened_sound s whole h =
+    let good : AreGood (reopened s) s.catalog.commit.segments = λ n bytes required is. h.good n bytes required (left_since true (file_at s n) bytes (rw (at_all_left s.files n) at is)) in record {
+      meta = h.meta;
+      names = λ n is. h.names n (sym (left_some true (file_at s n)) ∙ (rw (at_all_left s.files n) at is));
+      listed = λ n is. h.listed n (sym (left_some true (file_at s n)) ∙ (rw (at_all_left s.files n) at is));
+      whole = whole;
+      good = good;
+      live = good;
+      stamps = stamps_after s.catalog.commit.opstamp (next_after s.catalog.commit.opstamp) refl;
+      within = h.within;
+      live_within = h.within;
+    }
+
+-- ---- each event
+
 sound_changes : (s : State) (event : Event) → Fits event → IsSoundState s → OfEachChange IsSoundState s event
-sound_changes s event fits h = record {
+sound_changes s event fits h = let w = whole_changes s event h.whole in record {
   same = h;
-  lives = λ id segment move. moved_sound s id segment move h;
-  reads = λ now move. read_sound s now h;
-  opens = λ id deletes component e absent.
+  lives = λ id segment move. moved_sound s id segment move (w.lives id segment move) h;
+  reads = λ now move. read_sound s now (w.reads now move) h;
+  opens = λ id segment component e there absent.
       let range : Fits (events.Open id component) = subst Fits e fits in
-      opened_sound s (name_of id deletes component) (name_is_file id deletes component range.0) absent h;
-  puts = λ name body file e good. over_open s name body file e good h;
-  commits = λ payload ids last e. committed_sound s payload ids e h;
-  collects = λ outcomes. collected_sound s (done_of (garbage s) outcomes) (living_spared s outcomes) h;
-  releases = λ id segment. released_sound s id segment h;
+      opened_sound s (name_of id segment.deletes component) (name_is_file id segment.deletes component range) (w.opens id segment component e there absent) h;
+  puts = λ name body file e good. over_open s name body file e good (w.puts name body file e good) h;
+  commits = λ payload ids last e. committed_sound s payload ids (w.commits payload ids last e) h;
+  collects = λ outcomes. collected_sound s (done_of (garbage s) outcomes) (living_spared s outcomes) (w.collects outcomes) h;
+  releases = λ id segment. released_sound s id segment (w.releases id segment) h;
+  deletes = λ id m segment may. deleted_sound s id m segment may (w.deletes id m segment may) h;
+  begins = other_collections s (gc_begin_step s).1.collections w.begins h;
+  tries = λ number c name left is_done there e. tried_sound s number c name left is_done (w.tries number c name left is_done there e) h;
+  finishes = λ number c there. ended_sound s number c there (w.finishes number c there) h;
+  reopens = λ e. reopened_sound s (w.reopens e) h;
 }
 
 -- an event leaves a sound state sound

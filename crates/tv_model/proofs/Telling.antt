@@ -1,5 +1,6 @@
 -- The outcomes of a collection can be read off its line, and so lines and events determine a run.
-use Rattle.std.proofs.Common.{◌≡◌, ℕ, ◌==◌, Bool, true, false, true≢false, not, codes, List, [], ◌∷◌, ◌++◌, refl, sym, ap, ap₂, subst, ◌∙◌, arith, append_assoc, append-nil}
+use Rattle.std.proofs.Common.{◌≡◌, ℕ, ◌==◌, Bool, true, false, true≢false, not, codes, List, [], ◌∷◌, ◌++◌, refl, sym, ap, ap₂, subst, ◌∙◌, arith, append_assoc, append-nil, get_or, Option, Some, None}
+use Rattle.std.specs.Fmt.{decimal}
 use Rattle.std.proofs.lemmas.Bool.Decides.{nat_tests}
 use Rattle.std.proofs.lemmas.List.{append_cancel_left}
 use Rattle.std.specs.List.{list_all, AllByRecursion}
@@ -7,14 +8,14 @@ use Rattle.std.proofs.lemmas.List.Folds.{list_all-append}
 use Rattle.tv_model.specs.declared.event.Event.{Event}
 use Rattle.tv_model.specs.declared.event.Event.TheVariants as events
 use Rattle.tv_model.specs.Names.{is, is_name_byte, is_plain, has}
-use Rattle.tv_model.specs.Collections.{done_of, failed_of}
+use Rattle.tv_model.specs.Collections.{Collection, collection_at, done_of, failed_of, held}
 use Rattle.tv_model.specs.Living.{living}
-use Rattle.tv_model.specs.Lines.{line, opening_line}
+use Rattle.tv_model.specs.Lines.{line, given, opening_line}
 use Rattle.tv_model.specs.State.{State}
-use Rattle.tv_model.specs.CollectionEvents.{garbage, collected_line, without_files}
+use Rattle.tv_model.specs.CollectionEvents.{garbage, collected_line, without_files, having_deleted, is_done, tried_first}
 use Rattle.tv_model.specs.Machine.{Turn, step, answers, after, events_of}
 use Rattle.tv_model.specs.Script.{Fits}
-use Rattle.tv_model.specs.Telling.{are_plain, Tells, Determined}
+use Rattle.tv_model.specs.Telling.{are_plain, Tells, TellsStep, Determined}
 use Rattle.tv_model.proofs.PlainNames.{all_more, both, plain_parts}
 use Rattle.tv_model.proofs.ManagedStates.{plain_filter, step_plain}
 
@@ -108,9 +109,37 @@ parts_plain (name ∷ names) (false ∷ outcomes) h = let t = both (is_plain nam
 pub tells : (names : List (List ℕ)) → are_plain names ≡ true → Tells names
 tells names h a b e = let p = parts_plain names a h in let q = parts_plain names b h in line_tells _ _ _ _ p.0 p.1 q.0 q.1 e
 
+-- of a step's line the word for what became of the name
+step_spaced : (number name : List ℕ) (word : List ℕ) → line (codes "gc") (number ∷ word ∷ name ∷ []) ≡ (codes "gc" ++ 32 ∷ number) ++ (32 ∷ word ++ spaced (name ∷ []))
+step_spaced number name word = line_spaced (codes "gc" ++ 32 ∷ number) (word ∷ name ∷ [])
+
+-- the words for both begin with other letters
+apart_words : (rest : List ℕ) → 32 ∷ codes "done" ++ rest ≡ 32 ∷ codes "failed" ++ rest → ⊥
+apart_words rest e = true≢false (ap (λ (l : List ℕ). get_or l 1 0 == 100) e)
+
+-- the line of a step tells whether its name was done
+pub tells_step : (s : State) (c : Collection) → TellsStep s c
+tells_step s c number name left true true e = refl
+tells_step s c number name left false false e = refl
+tells_step s c number name left true false e =
+    absurd (apart_words (spaced (name ∷ [])) (append_cancel_left (codes "gc" ++ 32 ∷ decimal number) _ _ (sym (step_spaced (decimal number) name (codes "done")) ∙ e ∙ step_spaced (decimal number) name (codes "failed"))))
+tells_step s c number name left false true e =
+    absurd (apart_words (spaced (name ∷ [])) (append_cancel_left (codes "gc" ++ 32 ∷ decimal number) _ _ (sym (step_spaced (decimal number) name (codes "done")) ∙ sym e ∙ step_spaced (decimal number) name (codes "failed"))))
+
+same_tried : (s : State) (number : ℕ) (c : Collection) (untried : List (List ℕ)) (a b : List Bool) → (tried_first s number c untried a).0 ≡ (tried_first s number c untried b).0 → (tried_first s number c untried a).1 ≡ (tried_first s number c untried b).1
+same_tried s number c [] a b e = refl
+same_tried s number c (name ∷ left) a b e = ap (λ (d : Bool). (having_deleted s number c name left d).1) (tells_step s c number name left (is_done a) (is_done b) e)
+
+same_given : (s : State) (number : ℕ) (found : Option Collection) (a b : List Bool) → (given s found (codes "unknown-collection") (λ c. tried_first s number c c.untried a)).0 ≡ (given s found (codes "unknown-collection") (λ c. tried_first s number c c.untried b)).0
+    → (given s found (codes "unknown-collection") (λ c. tried_first s number c c.untried a)).1 ≡ (given s found (codes "unknown-collection") (λ c. tried_first s number c c.untried b)).1
+same_given s number None a b e = refl
+same_given s number (Some c) a b e = same_tried s number c c.untried a b e
+
 -- events that tell the same come to the same state
 same_step : (s : State) (event : Event) (a b : List Bool) → are_plain s.managed ≡ true → (step s event a).0 ≡ (step s event b).0 → (step s event a).1 ≡ (step s event b).1
-same_step s events.Gc a b h e = ap (without_files s) (tells (garbage s) (plain_filter (λ name. not (has (living s.catalog) name)) s.managed h) a b e).0
+same_step s events.Gc a b h e =
+    ap (without_files s) (tells (garbage s) (plain_filter (λ name. not (has (living s.catalog ++ held s.collections) name)) s.managed h) a b e).0
+same_step s (events.GcStep number) a b h e = same_given s number (collection_at s.collections number) a b e
 same_step s other a b h e = refl
 
 same_run : (s : State) (a b : List Turn) → are_plain s.managed ≡ true → AllByRecursion Fits (events_of a) → events_of a ≡ events_of b → answers s a ≡ answers s b → after s a ≡ after s b

@@ -1,23 +1,27 @@
--- The files that a commit requires stay sealed, and a file that was sealed in a run has a footer.
-use Rattle.std.proofs.Common.{◌≡◌, ◌⊎◌, inl, inr, ℕ, Bool, true, false, true≢false, not, ◌||◌, cond, List, [], ◌∷◌, Option, Some, None, refl, sym, ap, subst, ◌∙◌}
+-- The files that a commit requires stay sealed.
+use Rattle.std.proofs.Common.{◌≡◌, ℕ, ◌≤◌, Bool, true, false, true≢false, not, ◌||◌, cond, List, [], ◌∷◌, Option, Some, None, refl, sym, ap, subst, ◌∙◌, arith}
 use Rattle.std.specs.Prelude.{is_some, option_map, find}
 use Rattle.std.specs.BTreeMap.{is_at}
-use Rattle.std.proofs.lemmas.Bool.{not-false}
+use Rattle.std.proofs.lemmas.Bool.{false_from_ne_true, not-false}
 use Rattle.tv_model.specs.declared.event.Event.{Event}
 use Rattle.tv_model.specs.declared.segment.LiveSegment.{LiveSegment}
 use Rattle.tv_model.specs.Names.{byte_cmp, is, has}
 use Rattle.tv_model.specs.Footer.{IsGood}
 use Rattle.tv_model.specs.Segments.{name_of, all_required}
-use Rattle.tv_model.specs.State.{State, FileState, Sealed, Open, Left, file_at, with_file, on_catalog}
+use Rattle.tv_model.specs.State.{State, FileState, Sealed, Open, Left, at, file_at, with_file, on_catalog}
 use Rattle.tv_model.specs.CommitEvents.{is_sealed, chosen, first_unsealed, committed}
-use Rattle.tv_model.specs.Collections.{done_of}
+use Rattle.tv_model.specs.Collections.{Collection, collection_at, done_of, held}
 use Rattle.tv_model.specs.Living.{living, segment_names}
-use Rattle.tv_model.specs.CollectionEvents.{garbage, without_files, left, released}
+use Rattle.tv_model.specs.CollectionEvents.{garbage, files_without, without_files, having_deleted, left, with_left, released}
+use Rattle.tv_model.specs.DeleteEvents.{delete_name}
+use Rattle.tv_model.specs.ReopenEvents.{all_left}
 use Rattle.tv_model.specs.Machine.{Turn, after}
-use Rattle.tv_model.specs.SoundStates.{IsWhole}
-use Rattle.tv_model.proofs.Entries.{is_text, text_at, lookup_put}
+use Rattle.tv_model.specs.SoundStates.{CollectsSoundly, IsWhole}
+use Rattle.tv_model.proofs.Entries.{is_itself, is_text, text_at, lookup_put}
 use Rattle.tv_model.proofs.Changes.{OfEachChange, step_changes, after_kept}
 use Rattle.tv_model.proofs.CollectionStates.{at_without, at_left, required_living, living_spared}
+use Rattle.tv_model.proofs.HeldNames.{times, some_times, has_times, taken_held, untried_taken}
+use Rattle.tv_model.proofs.HeldStates.{collecting_changes}
 
 put_whole : (b : Bool) (file : FileState) (old : Option FileState) → (b ≡ true → is_sealed old ≡ false) → is_sealed old ≡ true → is_sealed (cond b (Some file) old) ≡ true
 put_whole true file old here h = absurd (true≢false (sym h ∙ here refl))
@@ -48,39 +52,73 @@ left_sealed true (Some (Sealed other)) = refl
 left_sealed true (Some (Open body)) = refl
 left_sealed true (Some Left) = refl
 
+-- the files that the commit requires are sealed
+abbrev AreSealed : State → Type 0
+AreSealed s = (n : List ℕ) → has (all_required s.catalog.commit.segments) n ≡ true → is_sealed (file_at s n) ≡ true
+
 -- a file that is put where no sealed file stands
-pub with_file_whole : (s : State) (name : List ℕ) (file : FileState) → is_sealed (file_at s name) ≡ false → IsWhole s → IsWhole (with_file s name file)
-with_file_whole s name file unsealed h = record {
-  each = λ n is. rw (lookup_put s.files name n file) (put_whole (is_at (byte_cmp name) n) file (file_at s n) (λ e. subst (λ (m : List ℕ). is_sealed (file_at s m) ≡ false) (text_at name n e) unsealed) (h.each n is));
-}
+with_file_whole : (s : State) (name : List ℕ) (file : FileState) → is_sealed (file_at s name) ≡ false → AreSealed s → AreSealed (with_file s name file)
+with_file_whole s name file unsealed h n is =
+    rw (lookup_put s.files name n file) (put_whole (is_at (byte_cmp name) n) file (file_at s n) (λ e. subst (λ (m : List ℕ). is_sealed (file_at s m) ≡ false) (text_at name n e) unsealed) (h n is))
 
 -- a commit, all of whose files are sealed
-pub committed_whole : (s : State) (payload : Option (List ℕ)) (segments : List (List ℕ × LiveSegment)) → first_unsealed s segments ≡ None → IsWhole (on_catalog s (committed s.catalog payload segments)).1
-committed_whole s payload segments e = record {
-  each = λ n is. not-false (is_sealed (file_at s n)) (none_passes (λ name. not (is_sealed (file_at s name))) (all_required segments) n e is);
-}
+committed_whole : (s : State) (payload : Option (List ℕ)) (segments : List (List ℕ × LiveSegment)) → first_unsealed s segments ≡ None → AreSealed (on_catalog s (committed s.catalog payload segments)).1
+committed_whole s payload segments e n is = not-false (is_sealed (file_at s n)) (none_passes (λ name. not (is_sealed (file_at s name))) (all_required segments) n e is)
 
 -- files that nothing needs are gone
-pub collected_whole : (s : State) (gone : List (List ℕ)) → ((n : List ℕ) → has (living s.catalog) n ≡ true → has gone n ≡ false) → IsWhole s → IsWhole (without_files s gone)
-collected_whole s gone spared h = record { each = λ n is. rw (at_without gone s.files n, spared n (required_living s n is)) (h.each n is) }
+gone_whole : (s : State) (gone : List (List ℕ)) (n : List ℕ) → has gone n ≡ false → is_sealed (file_at s n) ≡ true → is_sealed (at (files_without gone s.files) n) ≡ true
+gone_whole s gone n spared h = rw (at_without gone s.files n, spared) h
 
--- a segment is live no more
-pub released_whole : (s : State) (id : List ℕ) (segment : LiveSegment) → IsWhole s → IsWhole (released s id segment).1
-released_whole s id segment h = record {
-  each = λ n is. rw (at_left (segment_names (id, segment)) s.files n, left_sealed (has (segment_names (id, segment)) n) (file_at s n)) (h.each n is);
-}
+collected_whole : (s : State) (outcomes : List Bool) → AreSealed s → AreSealed (without_files s (done_of (garbage s) outcomes))
+collected_whole s outcomes h n is = gone_whole s (done_of (garbage s) outcomes) n (living_spared s outcomes n (required_living s n is)) (h n is)
 
--- what the commit requires stays sealed
-whole_changes : (s : State) (event : Event) → IsWhole s → OfEachChange IsWhole s event
-whole_changes s event h = record {
+-- files that are left
+left_whole : (s : State) (names : List (List ℕ)) (n : List ℕ) → is_sealed (file_at s n) ≡ true → is_sealed (at (with_left names s.files) n) ≡ true
+left_whole s names n h = rw (at_left names s.files n, left_sealed (has names n) (file_at s n)) h
+
+-- a collection tries a name that it has yet to try, which nothing needs
+untried_held : (s : State) (number : ℕ) (c : Collection) (name : List ℕ) (left : List (List ℕ)) → collection_at s.collections number ≡ Some c → c.untried ≡ name ∷ left → has (held s.collections) name ≡ true
+untried_held s number c name left there e =
+    let first : 1 ≤ times (name ∷ left) name = some_times (name ∷ left) name (rw (is_itself name) refl) in
+    has_times (held s.collections) name (omega (arith, first, ap (λ (l : List (List ℕ)). times l name) e, untried_taken c name, taken_held s.collections.unfinished number c name there))
+
+pub tried_spared : (s : State) (number : ℕ) (c : Collection) (name : List ℕ) (left : List (List ℕ)) (n : List ℕ) → collection_at s.collections number ≡ Some c → c.untried ≡ name ∷ left → CollectsSoundly s
+    → has (living s.catalog) n ≡ true → has (name ∷ []) n ≡ false
+tried_spared s number c name left n there e h needed =
+    let other : is name n ≡ false = false_from_ne_true _ (λ t.
+    true≢false (sym needed ∙ subst (λ (m : List ℕ). has (living s.catalog) m ≡ false) (is_text name n t) (h.spared name (untried_held s number c name left there e)))) in
+    rw other refl
+
+tried_whole : (s : State) (number : ℕ) (c : Collection) (name : List ℕ) (left : List (List ℕ)) (is_done : Bool) → collection_at s.collections number ≡ Some c → c.untried ≡ name ∷ left → CollectsSoundly s
+    → AreSealed s → AreSealed (having_deleted s number c name left is_done).1
+tried_whole s number c name left true there e collecting h n is = gone_whole s (name ∷ []) n (tried_spared s number c name left n there e collecting (required_living s n is)) (h n is)
+tried_whole s number c name left false there e collecting h n is = h n is
+
+-- the open files are left
+pub at_all_left : (files : List (List ℕ × FileState)) (n : List ℕ) → at (all_left files) n ≡ option_map left (at files n)
+at_all_left [] n = refl
+at_all_left (e ∷ files) n =
+    elim (is_at (byte_cmp n) e.0) as (λ b. cond b (Some (left e.1)) (at (all_left files) n) ≡ option_map left (cond b (Some e.1) (at files n))) [ true ↦ refl | false ↦ at_all_left files n ]
+
+-- what the commit requires stays sealed, and no collection takes it
+pub whole_changes : (s : State) (event : Event) → IsWhole s → OfEachChange IsWhole s event
+whole_changes s event h = let k = collecting_changes s event h.collecting in record {
   same = h;
-  lives = λ id segment move. record { each = h.each };
-  reads = λ now move. record { each = h.each };
-  opens = λ id deletes component e absent. record { each = (with_file_whole s (name_of id deletes component) (Open []) (absent_isnt_sealed _ absent) h).each };
-  puts = λ name body file e good. with_file_whole s name file (ap is_sealed e) h;
-  commits = λ payload ids last e. committed_whole s payload (chosen s.catalog ids) e;
-  collects = λ outcomes. collected_whole s (done_of (garbage s) outcomes) (living_spared s outcomes) h;
-  releases = λ id segment. released_whole s id segment h;
+  lives = λ id segment move. record { each = h.each; collecting = k.lives id segment move };
+  reads = λ now move. record { each = h.each; collecting = k.reads now move };
+  opens = λ id segment component e there absent. record {
+    each = with_file_whole s (name_of id segment.deletes component) (Open []) (absent_isnt_sealed _ absent) h.each;
+    collecting = k.opens id segment component e there absent;
+  };
+  puts = λ name body file e good. record { each = with_file_whole s name file (ap is_sealed e) h.each; collecting = k.puts name body file e good };
+  commits = λ payload ids last e. record { each = committed_whole s payload (chosen s.catalog ids) e; collecting = k.commits payload ids last e };
+  collects = λ outcomes. record { each = collected_whole s outcomes h.each; collecting = k.collects outcomes };
+  releases = λ id segment. record { each = λ n is. left_whole s (segment_names (id, segment)) n (h.each n is); collecting = k.releases id segment };
+  deletes = λ id m segment may. record { each = λ n is. left_whole s (delete_name id segment.deletes ∷ []) n (h.each n is); collecting = k.deletes id m segment may };
+  begins = record { each = h.each; collecting = k.begins };
+  tries = λ number c name left is_done there e. record { each = tried_whole s number c name left is_done there e h.collecting h.each; collecting = k.tries number c name left is_done there e };
+  finishes = λ number c there. record { each = h.each; collecting = k.finishes number c there };
+  reopens = λ e. record { each = λ n is. rw (at_all_left s.files n, left_sealed true (file_at s n)) (h.each n is); collecting = k.reopens e };
 }
 
 pub after_whole : (s : State) (turns : List Turn) → IsWhole s → IsWhole (after s turns)
@@ -88,10 +126,7 @@ after_whole s turns h = after_kept IsWhole (λ t event outcomes k. step_changes 
 
 -- ---- sealed files
 
--- a sealed file has a footer, or was sealed with these bytes in a state
-abbrev IsSince : State → State → Type 0
-IsSince start s = (n bytes : List ℕ) → file_at s n ≡ Some (Sealed bytes) → (file_at start n ≡ Some (Sealed bytes)) ⊎ IsGood bytes
-
+-- what is sealed was sealed with these bytes before, or is put
 pub put_since : {P : Type 0} (b : Bool) (file : FileState) (old : Option FileState) (bytes : List ℕ) → (file ≡ Sealed bytes → P) → (old ≡ Some (Sealed bytes) → P) → cond b (Some file) old ≡ Some (Sealed bytes) → P
 put_since true file old bytes here there h = here cc
 put_since false file old bytes here there h = there h
@@ -106,20 +141,3 @@ left_since false (Some file) bytes e = e
 left_since true (Some (Sealed other)) bytes e = e
 left_since true (Some (Open body)) bytes e = absurd cc
 left_since true (Some Left) bytes e = absurd cc
-
-since_changes : (start s : State) (event : Event) → IsSince start s → OfEachChange (IsSince start) s event
-since_changes start s event h = record {
-  same = h;
-  lives = λ id segment move. h;
-  reads = λ now move. h;
-  opens = λ id deletes component e absent n bytes is.
-      put_since (is_at (byte_cmp (name_of id deletes component)) n) (Open []) (file_at s n) bytes (λ k. absurd cc) (h n bytes) (rw (lookup_put s.files (name_of id deletes component) n (Open [])) at is);
-  puts = λ name body file e good n bytes is. put_since (is_at (byte_cmp name) n) file (file_at s n) bytes (λ k. inr (good bytes k)) (h n bytes) (rw (lookup_put s.files name n file) at is);
-  commits = λ payload ids last e. h;
-  collects = λ outcomes n bytes is. h n bytes (kept_since _ (file_at s n) bytes (rw (at_without (done_of (garbage s) outcomes) s.files n) at is));
-  releases = λ id segment n bytes is. h n bytes (left_since (has (segment_names (id, segment)) n) (file_at s n) bytes (rw (at_left (segment_names (id, segment)) s.files n) at is));
-}
-
--- a file that is sealed after a run has a footer, or was sealed with these bytes before
-pub sealed_since : (s : State) (turns : List Turn) (n bytes : List ℕ) → file_at (after s turns) n ≡ Some (Sealed bytes) → (file_at s n ≡ Some (Sealed bytes)) ⊎ IsGood bytes
-sealed_since s turns = after_kept (IsSince s) (λ t event outcomes k. step_changes (IsSince s) t event outcomes (since_changes s t event k)) s turns (λ n bytes e. inl e)

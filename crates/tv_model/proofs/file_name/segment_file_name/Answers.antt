@@ -5,11 +5,11 @@ use Rattle.tv_model.proofs.file_name.segment_file_name.Goals as goal
 
 pub new-requires : goal.new-requires
 new-requires c =
-    let plain : is_plain (string_bytes c.in_ok-text.text) ≡ true = rw c.in_ok-text.ensures.name (delete_plain c.args.id c.delete_opstamp-opstamp.result c.delete_file_name.ensures.id c.delete_file_name.ensures.small) in
+    let plain : is_plain (string_bytes c.in_ok-text.text) ≡ true = rw c.in_ok-text.ensures.name (delete_plain c.args.id c.delete_opstamp-opstamp.result c.delete_file_name.ensures.id) in
     plain_is_file_name (string_bytes c.in_ok-text.text) plain
 
 pub returns-then-eq-clause-plain : goal.returns-then-eq-clause-plain
-returns-then-eq-clause-plain c = rw (c.new.ensures, c.in_ok-text.ensures.name) (delete_plain c.args.id c.delete_opstamp-opstamp.result c.delete_file_name.ensures.id c.delete_file_name.ensures.small)
+returns-then-eq-clause-plain c = rw (c.new.ensures, c.in_ok-text.ensures.name) (delete_plain c.args.id c.delete_opstamp-opstamp.result c.delete_file_name.ensures.id)
 
 pub new-requires-2 : goal.new-requires-2
 new-requires-2 c =

@@ -1,5 +1,5 @@
-use Rattle.tv_model.proofs.Telling.{tells}
+use Rattle.tv_model.proofs.Telling.{tells, tells_step}
 use Rattle.tv_model.proofs.laws.lines_tell_outcomes.Goals as goal
 
 pub returns : goal.returns
-returns c = record { tells = tells }
+returns c = record { tells = tells; step = tells_step }

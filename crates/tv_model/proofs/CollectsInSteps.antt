@@ -1,0 +1,2 @@
+-- Collections in steps.
+use Rattle.tv_model.proofs.HeldStates.{collecting_changes}
