@@ -1,31 +1,29 @@
 -- A collection takes what nothing needs, and what failed stays.
-use Rattle.std.proofs.Common.{◌≡◌, ℕ, ◌≤◌, Bool, true, false, true≢false, not, ◌&&◌, ◌||◌, List, [], ◌∷◌, length, refl, sym, ◌∙◌, arith}
+use Rattle.std.proofs.Common.{◌≡◌, ℕ, ◌≤◌, Bool, true, false, true≢false, not, ◌&&◌, ◌||◌, List, [], ◌∷◌, ◌++◌, length, refl, sym, ◌∙◌, arith}
 use Rattle.std.specs.List.Sorted.{IsStrictlySortedBy}
 use Rattle.std.proofs.lemmas.Bool.{and_parts, false_from_ne_true, or_right}
 use Rattle.std.proofs.lemmas.List.Kept.{IsStrictlySortedBy-filter}
 use Rattle.tv_model.specs.Names.{byte_cmp, is, has}
-use Rattle.tv_model.specs.Collections.{done_of, failed_of}
+use Rattle.tv_model.specs.Collections.{AreOnce, done_of, failed_of, held}
 use Rattle.tv_model.specs.Living.{living}
 use Rattle.tv_model.specs.State.{State}
 use Rattle.tv_model.specs.CollectionEvents.{garbage}
 use Rattle.tv_model.specs.Machine.{Turn, after, refused_in}
-use Rattle.tv_model.specs.Collecting.{Collects, CollectsIn}
-use Rattle.tv_model.proofs.Entries.{is_text, below_absent}
+use Rattle.tv_model.specs.Collecting.{Takes, Collects, CollectsIn}
+use Rattle.tv_model.proofs.Entries.{is_text}
 use Rattle.tv_model.proofs.ManagedStates.{sorted_after}
-use Rattle.tv_model.proofs.CollectionStates.{has_without, done_within}
+use Rattle.tv_model.proofs.CollectionStates.{has_without, done_within, garbage_is}
+use Rattle.tv_model.proofs.HeldNames.{once_sorted}
 
--- each name stands once
-abbrev Once : List (List ℕ) → Type 0
-Once [] = Unit {0}
-Once (name ∷ names) = (has names name ≡ false) × Once names
+-- what is managed, and neither living nor held
+neither : (living held managed : Bool) → (not (living || held) && managed) ≡ (managed && not living && not held)
+neither living held managed = grind arith
 
-once_sorted : (names : List (List ℕ)) → IsStrictlySortedBy byte_cmp names → Once names
-unfolding IsStrictlySortedBy
-once_sorted [] h = tt
-once_sorted (name ∷ names) h = (below_absent names name h.0, once_sorted names h.1)
+pub takes : (s : State) → Takes s (garbage s)
+takes s n = garbage_is s n ∙ neither (has (living s.catalog) n) (has (held s.collections) n) (has s.managed n)
 
-swapped : (a b : Bool) → (a && b) ≡ (b && a)
-swapped a b = grind arith
+managed_of : (living held managed : Bool) → (managed && not living && not held) ≡ true → managed ≡ true
+managed_of living held managed e = grind (arith, e)
 
 -- each name is done or failed
 told : (names : List (List ℕ)) (outcomes : List Bool) (n : List ℕ) → has names n ≡ (has (done_of names outcomes) n || has (failed_of names outcomes) n)
@@ -38,7 +36,7 @@ failed_within : (names : List (List ℕ)) (outcomes : List Bool) (n : List ℕ) 
 failed_within names outcomes n h = told names outcomes n ∙ or_right (has (done_of names outcomes) n) _ h
 
 -- and not both, where names stand once
-one_way : (names : List (List ℕ)) (outcomes : List Bool) (n : List ℕ) → Once names → has (done_of names outcomes) n ≡ true → has (failed_of names outcomes) n ≡ false
+one_way : (names : List (List ℕ)) (outcomes : List Bool) (n : List ℕ) → AreOnce names → has (done_of names outcomes) n ≡ true → has (failed_of names outcomes) n ≡ false
 one_way [] outcomes n once h = refl
 one_way (name ∷ names) [] n once h = refl
 one_way (name ∷ names) (true ∷ outcomes) n once h =
@@ -65,19 +63,19 @@ few_failed (name ∷ names) (false ∷ outcomes) = omega (arith, few_failed name
 -- what a collection takes, tells and leaves
 pub collects : (s : State) (outcomes : List Bool) → IsStrictlySortedBy byte_cmp s.managed → Collects s outcomes
 collects s outcomes sorted = record {
-  taken = λ n. has_without (living s.catalog) s.managed n ∙ swapped (not (has (living s.catalog) n)) (has s.managed n);
+  taken = takes s;
   each = told (garbage s) outcomes;
   apart = λ n h. one_way (garbage s) outcomes n once h;
   gone = λ n h. rw (has_without (done_of (garbage s) outcomes) s.managed n, h) refl;
   stay = λ n h.
-      let managed : has s.managed n ≡ true = (and_parts (not (has (living s.catalog) n)) (has s.managed n) (sym (has_without (living s.catalog) s.managed n) ∙ failed_within (garbage s) outcomes n h)).1 in
+      let managed : has s.managed n ≡ true = managed_of (has (living s.catalog) n) (has (held s.collections) n) (has s.managed n) (sym (takes s n) ∙ failed_within (garbage s) outcomes n h) in
       let spared : has (done_of (garbage s) outcomes) n ≡ false = false_from_ne_true _ (λ d. true≢false (sym h ∙ one_way (garbage s) outcomes n once d)) in
       rw (has_without (done_of (garbage s) outcomes) s.managed n, spared) managed;
   counted = few_failed (garbage s) outcomes;
 }
   where
-    once : Once (garbage s)
-    once = once_sorted (garbage s) (IsStrictlySortedBy-filter byte_cmp (λ name. not (has (living s.catalog) name)) s.managed sorted)
+    once : AreOnce (garbage s)
+    once = once_sorted (garbage s) (IsStrictlySortedBy-filter byte_cmp (λ name. not (has (living s.catalog ++ held s.collections) name)) s.managed sorted)
 
 -- and so does each collection of a run
 pub collects_in : (s : State) (turns : List Turn) → IsStrictlySortedBy byte_cmp s.managed → CollectsIn s turns

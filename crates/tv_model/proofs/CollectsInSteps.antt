@@ -1,2 +1,144 @@
--- Collections in steps.
-use Rattle.tv_model.proofs.HeldStates.{collecting_changes}
+-- Collections in steps, and what a collection leaves of an index that was opened again.
+use Rattle.std.proofs.Common.{◌≡◌, ℕ, ◌+◌, ◌≤◌, ◌<◌, Bool, true, false, true≢false, not, ◌&&◌, ◌||◌, cond, List, [], ◌∷◌, ◌++◌, codes, Option, Some, None, refl, sym, ap, subst, ◌∙◌, arith}
+use Rattle.std.specs.Prelude.{is_some, option_map}
+use Rattle.std.specs.Ordering.{nat_cmp}
+use Rattle.std.specs.List.{AllByRecursion}
+use Rattle.std.specs.BTreeMap.{is_at}
+use Rattle.std.proofs.lemmas.Bool.{false_from_ne_true}
+use Rattle.tv_model.specs.declared.event.Event.{Event}
+use Rattle.tv_model.specs.declared.event.Event.TheVariants as events
+use Rattle.tv_model.specs.Names.{has}
+use Rattle.tv_model.specs.Collections.{Collection, Collections, AreOnce, begun, collection_at, done_of, having_tried, held, no_collections, taken}
+use Rattle.tv_model.specs.Living.{living}
+use Rattle.tv_model.specs.Lines.{given}
+use Rattle.tv_model.specs.State.{State, FileState, file_at}
+use Rattle.tv_model.specs.CollectionEvents.{garbage, gc_begin_step, gc_end_step, gc_step, gc_step_step, having_deleted, ended, is_done, left, tried_first}
+use Rattle.tv_model.specs.ReopenEvents.{all_left, reopened}
+use Rattle.tv_model.specs.Machine.{Turn, NeverReopens, isnt_reopening, step, after}
+use Rattle.tv_model.specs.Collecting.{Ends, CollectsInSteps, CollectsAllElse}
+use Rattle.tv_model.specs.SoundStates.{CollectsSoundly, IsSoundState}
+use Rattle.tv_model.proofs.Changes.{OfEachChange, after_between, step_changes}
+use Rattle.tv_model.proofs.CollectionStates.{at_without, garbage_is, has_append, has_without}
+use Rattle.tv_model.proofs.Collects.{takes}
+use Rattle.tv_model.proofs.HeldNames.{times, times_append, some_times, no_times, has_times, once_times, times_once, taken_held, taken_times, tried_times}
+use Rattle.tv_model.proofs.HeldStates.{given_at}
+use Rattle.tv_model.proofs.Numbered.{found, gone_all, only, put_all, put_found}
+use Rattle.tv_model.proofs.WholeStates.{at_all_left}
+
+-- ---- what a collection keeps
+
+-- names that stand equally often are the same
+same_has : (xs ys : List (List ℕ)) (n : List ℕ) → times xs n ≡ times ys n → has xs n ≡ has ys n
+same_has xs ys n e = either (has ys n) refl where
+  either : (b : Bool) → has ys n ≡ b → has xs n ≡ has ys n
+  either true there = has_times xs n (omega (arith, e, some_times ys n there)) ∙ sym there
+  either false absent = false_from_ne_true (has xs n) (λ there. absurd (omega (arith, e, some_times xs n there, no_times ys n absent))) ∙ sym absent
+
+-- a collection of this number has these names
+abbrev Takes : ℕ → Collection → ℕ × Collection → Type 0
+Takes number first e = e.0 ≡ number → (n : List ℕ) → times (taken e.1) n ≡ times (taken first) n
+
+-- its number was given, and it has its names as long as it is there
+record Keeps (s : State) (number : ℕ) (first : Collection) : Type 0 where
+  given : number < s.collections.next
+  each : AllByRecursion (Takes number first) s.collections.unfinished
+
+keeps_changes : (s : State) (event : Event) (number : ℕ) (first : Collection) → isnt_reopening event ≡ true → Keeps s number first → OfEachChange (λ t. Keeps t number first) s event
+keeps_changes s event number first never h = record {
+  same = h;
+  lives = λ id segment move. record { given = h.given; each = h.each };
+  reads = λ now move. record { given = h.given; each = h.each };
+  opens = λ id segment component e there absent. record { given = h.given; each = h.each };
+  puts = λ name body file e good. record { given = h.given; each = h.each };
+  commits = λ payload ids last e. record { given = h.given; each = h.each };
+  collects = λ outcomes. record { given = h.given; each = h.each };
+  releases = λ id segment. record { given = h.given; each = h.each };
+  deletes = λ id n segment may. record { given = h.given; each = h.each };
+  begins = record {
+    given = omega (arith, h.given);
+    each = put_all (Takes number first) s.collections.unfinished s.collections.next (begun (garbage s)) h.each (λ same. absurd (omega (arith, same, h.given)));
+  };
+  tries = λ k c name left is_done there e. record {
+    given = h.given;
+    each = put_all (Takes number first) s.collections.unfinished k (having_tried c name left is_done) h.each
+        (λ same n. tried_times c name left is_done n e ∙ found (Takes number first) s.collections.unfinished k c h.each there same n);
+  };
+  finishes = λ k c there. record { given = h.given; each = gone_all (Takes number first) (is_at (nat_cmp k)) s.collections.unfinished h.each };
+  reopens = λ e. absurd (true≢false (sym never ∙ ap isnt_reopening e));
+}
+
+same_names : (first : Collection) (es : List (ℕ × Collection)) (number : ℕ) → AllByRecursion (λ e. e.0 ≡ number → e.1 ≡ first) es → AllByRecursion (Takes number first) es
+same_names first [] number h = tt
+same_names first (e ∷ es) number h = (λ same n. ap (λ (c : Collection). times (taken c) n) (h.0 same), same_names first es number h.1)
+
+keeps : (s : State) (turns : List Turn) (number : ℕ) (first later : Collection) → CollectsSoundly s → NeverReopens turns → collection_at s.collections number ≡ Some first
+    → collection_at (after s turns).collections number ≡ Some later → (n : List ℕ) → has (taken later) n ≡ has (taken first) n
+keeps s turns number first later h never there then n =
+    let start : Keeps s number first = record { given = given_at s h number first there; each = same_names first s.collections.unfinished number (only s.collections.unfinished number first h.ordered there) } in
+    let end = after_between (λ t. Keeps t number first) (λ t event outcomes once k. step_changes (λ u. Keeps u number first) t event outcomes (keeps_changes t event number first once k)) s turns never start in
+    same_has (taken later) (taken first) n (found (Takes number first) (after s turns).collections.unfinished number later end.each then refl n)
+
+-- ---- the end of a collection
+
+taken_once : (s : State) (number : ℕ) (c : Collection) → CollectsSoundly s → collection_at s.collections number ≡ Some c → AreOnce (taken c)
+taken_once s number c h there = times_once (taken c) (λ n. omega (arith, taken_held s.collections.unfinished number c n there, once_times (held s.collections) n h.once))
+
+-- the managed names after it
+ended_managed : (s : State) (number : ℕ) (c : Collection) (n : List ℕ) → collection_at s.collections number ≡ Some c → has (gc_end_step s number).1.managed n ≡ (not (has c.done n) && has s.managed n)
+ended_managed s number c n there =
+    ap (λ (x : Option Collection). has (given s x (codes "unknown-collection") (ended s number)).1.managed n) there ∙ has_without c.done s.managed n
+
+-- what failed or wasn't tried isn't done, and is held
+rest_stays : (s : State) (number : ℕ) (c : Collection) (n : List ℕ) → CollectsSoundly s → collection_at s.collections number ≡ Some c → has (c.failed ++ c.untried) n ≡ true
+    → (has c.done n ≡ false) × (has s.managed n ≡ true)
+rest_stays s number c n h there rest =
+    let some : 1 ≤ times c.failed n + times c.untried n = omega (arith, some_times (c.failed ++ c.untried) n rest, times_append c.failed c.untried n) in
+    let few : times (taken c) n ≤ 1 = omega (arith, taken_held s.collections.unfinished number c n there, once_times (held s.collections) n h.once) in (
+      false_from_ne_true (has c.done n) (λ done. absurd (omega (arith, some, few, taken_times c n, some_times c.done n done))),
+      h.managed n (has_times (held s.collections) n (omega (arith, some, taken_times c n, taken_held s.collections.unfinished number c n there))),
+    )
+
+ends : (s : State) (number : ℕ) (c : Collection) → CollectsSoundly s → collection_at s.collections number ≡ Some c → Ends s number c
+ends s number c h there = record {
+  apart = taken_once s number c h there;
+  done = λ n is. (h.gone number c n there is, ended_managed s number c n there ∙ (rw is refl));
+  stay = λ n rest. let t = rest_stays s number c n h there rest in ended_managed s number c n there ∙ (rw t.0 t.1);
+  others = λ n undone. ended_managed s number c n there ∙ (rw undone refl);
+}
+
+-- ---- the laws
+
+pub collects_in_steps : (s : State) → IsSoundState s → CollectsInSteps s
+collects_in_steps s sound = let h = sound.whole.collecting in record {
+  begins = (put_found s.collections.unfinished s.collections.next (begun (garbage s)), takes s);
+  keeps = λ turns number first later never there then n. keeps s turns number first later h never there then n;
+  tells = λ number c name left outcomes there e.
+      ap (λ (x : Option Collection). given s x (codes "unknown-collection") (λ k. tried_first s number k k.untried outcomes)) there
+      ∙ ap (λ (l : List (List ℕ)). tried_first s number c l outcomes) e;
+  ends = λ number c there. ends s number c h there;
+}
+
+all_done : (names : List (List ℕ)) → done_of names [] ≡ names
+all_done [] = refl
+all_done (name ∷ names) = refl
+
+-- a file that is there and managed is kept exactly where it is needed
+kept_needed : (living held managed : Bool) (file : Option FileState) → held ≡ false → (is_some file ≡ true → managed ≡ true)
+    → is_some (cond (not (not (living || held) && managed)) (option_map left file) None) ≡ (is_some file && living)
+kept_needed living true managed file e h = absurd (true≢false e)
+kept_needed true false managed None e h = refl
+kept_needed true false managed (Some file) e h = refl
+kept_needed false false true None e h = refl
+kept_needed false false true (Some file) e h = refl
+kept_needed false false false None e h = refl
+kept_needed false false false (Some file) e h = absurd (true≢false (sym (h refl)))
+
+pub collects_all_else : (s : State) → IsSoundState s → CollectsAllElse s
+collects_all_else s sound n =
+    let t = reopened s in
+    let gone = done_of (garbage t) [] in
+    let taken_now : has gone n ≡ (not (has (living t.catalog) n || false) && has s.managed n) = ap (λ (l : List (List ℕ)). has l n) (all_done (garbage t)) ∙ garbage_is t n in
+    ap is_some (at_without gone t.files n)
+    ∙ ap (λ (b : Bool). is_some (cond (not b) (file_at t n) None)) taken_now
+    ∙ ap (λ (f : Option FileState). is_some (cond (not (not (has (living t.catalog) n || false) && has s.managed n)) f None)) (at_all_left s.files n)
+    ∙ kept_needed (has (living t.catalog) n) false (has s.managed n) (file_at s n) refl (sound.listed n)

@@ -8,6 +8,7 @@ use Rattle.tv_model.proofs.Samples.{first_script, id_a, id_b, unrefused, id_c}
 use Rattle.tv_model.specs.declared.event.Event.TheVariants as events
 use Rattle.tv_model.specs.declared.segment.SegmentComponent.TheVariants.{Postings, Delete, Positions, FastFields, FieldNorms}
 use Rattle.tv_model.specs.Names.{meta_name}
+use Rattle.tv_model.specs.Collections.{no_collections}
 use Rattle.tv_model.specs.State.{State, no_readers}
 use Rattle.tv_model.specs.declared.reload_policy.ReloadPolicy.TheVariants.{Manual}
 
@@ -101,6 +102,7 @@ spent_state = record {
   };
   files = [];
   managed = meta_name ∷ [];
+  collections = no_collections;
 }
 
 -- nothing more is committed there, and other events go on

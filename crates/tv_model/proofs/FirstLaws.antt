@@ -15,6 +15,7 @@ use Rattle.tv_model.specs.Index.{IsFileOf, IsSoundImage, OpensTo, first_state}
 use Rattle.tv_model.specs.State.{State, Sealed, file_at}
 use Rattle.tv_model.specs.SoundStates.{IsSoundState}
 use Rattle.tv_model.proofs.Entries.{text_at}
+use Rattle.tv_model.proofs.HeldStates.{nothing_held}
 use Rattle.tv_model.proofs.SoundStates.{first_sound}
 use Rattle.tv_model.proofs.Serving.{serves, serves_as_sealed}
 use Rattle.tv_model.proofs.Collects.{collects_in}
@@ -34,6 +35,7 @@ first_opens schema = record {
   live = refl;
   next = refl;
   reading = refl;
+  collections = refl;
   names = λ n there. absurd (true≢false (sym there));
   files = λ n file. refl;
 }
@@ -50,11 +52,12 @@ is_stray n h = sym (text_at n (codes "notes") (either (is_at (byte_cmp n) (codes
 
 -- it is sound
 pub stray_sound : IsSoundState stray
+unfolding IsStrictlySortedBy
 stray_sound = record {
   meta = refl;
   names = λ n there. subst IsFileOf (is_stray n there) (refl, λ e. absurd cc);
   listed = λ n there. subst (λ (name : List ℕ). has stray.managed name ≡ true) (is_stray n there) refl;
-  whole = record { each = λ n required. absurd (true≢false (sym required)) };
+  whole = record { each = λ n required. absurd (true≢false (sym required)); collecting = nothing_held stray refl ((refl, tt), (tt, tt)) };
   good = λ n bytes required is. absurd (true≢false (sym required));
   live = λ n bytes required is. absurd (true≢false (sym required));
   stamps = inl (omega arith);

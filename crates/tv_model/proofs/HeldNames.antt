@@ -114,7 +114,7 @@ held_gone (e ∷ es) k c n is =
 pub taken_held : (es : List (ℕ × Collection)) (k : ℕ) (c : Collection) (n : List ℕ) → lookup (is_at (nat_cmp k)) es ≡ Some c → times (taken c) n ≤ times (names_held es) n
 taken_held es k c n is = omega (arith, held_gone es k c n is)
 
-taken_times : (c : Collection) (n : List ℕ) → times (taken c) n ≡ times c.done n + times c.failed n + times c.untried n
+pub taken_times : (c : Collection) (n : List ℕ) → times (taken c) n ≡ times c.done n + times c.failed n + times c.untried n
 taken_times c n = omega (arith, times_append (c.done ++ c.failed) c.untried n, times_append c.done c.failed n)
 
 -- what is done was taken

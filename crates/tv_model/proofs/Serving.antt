@@ -6,11 +6,13 @@ use Rattle.std.specs.BTreeMap.{is_at}
 use Rattle.std.specs.Ordering.{nat_cmp}
 use Rattle.tv_model.specs.declared.event.Event.TheVariants as events
 use Rattle.tv_model.specs.Footer.{HasBody, IsGood}
+use Rattle.tv_model.specs.Collections.{Rises}
 use Rattle.tv_model.specs.State.{Catalog, State, FileState, Sealed, Open, Left, Readers, Reader, Snapshot, file_at, reader_at, searcher_at, no_readers}
 use Rattle.tv_model.specs.CommitEvents.{last_stamp, is_sealed}
 use Rattle.tv_model.specs.ReaderEvents.{body_in, snapshot_in}
 use Rattle.tv_model.specs.SearcherEvents.{searcher_step}
-use Rattle.tv_model.specs.Machine.{Turn, step, after, events_of}
+use Rattle.tv_model.specs.ReopenEvents.{reopened}
+use Rattle.tv_model.specs.Machine.{Turn, NeverReopens, isnt_reopening, step, after, events_of}
 use Rattle.tv_model.specs.Index.{next_after}
 use Rattle.tv_model.specs.Script.{Fits}
 use Rattle.tv_model.specs.SoundStates.{IsSoundState}
@@ -18,27 +20,43 @@ use Rattle.tv_model.specs.Serving.{Shows, Serves, ShowsAsSealed, ServesAsSealed}
 use Rattle.tv_model.proofs.Bodies.{body_of_good}
 use Rattle.tv_model.proofs.Numbered.{found, put_all, gone_all, rises_put, rises_gone, only, put_found}
 use Rattle.tv_model.proofs.SoundStates.{step_sound}
-use Rattle.tv_model.proofs.Changes.{ReadersMove, Comes, Reloads, Leaves, Searches, Ends, after_kept, step_changes}
+use Rattle.tv_model.proofs.Changes.{ReadersMove, Comes, Reloads, Leaves, Searches, Ends, after_between, after_kept, reopening, step_changes}
 use Rattle.tv_model.specs.declared.event.Event.{Event}
 
--- what a step does: nothing to the commit and to who reads, a commit, or a change of who reads
+-- what a step does that doesn't open the index again: nothing to the commit and to who reads, where it may draw a stamp; a commit; or a change of who reads
 pub data Moves (t u : State) : Type 0 where
   Stays : u.catalog.reading ≡ t.catalog.reading → u.catalog.commit ≡ t.catalog.commit → u.catalog.next ≡ t.catalog.next → Moves t u
+  Draws : u.catalog.reading ≡ t.catalog.reading → u.catalog.commit ≡ t.catalog.commit → t.catalog.next ≢ last_stamp → u.catalog.next ≡ t.catalog.next + 1 → Moves t u
   Commits : u.catalog.reading ≡ t.catalog.reading → t.catalog.next ≢ last_stamp → u.catalog.commit.opstamp ≡ t.catalog.next → u.catalog.next ≡ t.catalog.next + 1 → Moves t u
   Reads : ReadersMove t u.catalog.reading → u.catalog.commit ≡ t.catalog.commit → u.catalog.next ≡ t.catalog.next → Moves t u
 
--- each step is of one of these kinds
-pub step_moves : (s : State) (event : Event) (outcomes : List Bool) → Moves s (step s event outcomes).1
-step_moves s event outcomes = step_changes (Moves s) s event outcomes (record {
+reopens_again : (event : Event) → isnt_reopening event ≡ true → event ≡ events.Reopen → ⊥
+reopens_again event never e = true≢false (sym never ∙ ap isnt_reopening e)
+
+-- each such step is of one of these kinds
+pub step_moves : (s : State) (event : Event) (outcomes : List Bool) → isnt_reopening event ≡ true → Moves s (step s event outcomes).1
+step_moves s event outcomes never = step_changes (Moves s) s event outcomes (record {
   same = Stays refl refl refl;
   lives = λ id segment move. Stays refl refl refl;
   reads = λ now move. Reads move refl refl;
-  opens = λ id deletes component e absent. Stays refl refl refl;
+  opens = λ id segment component e there absent. Stays refl refl refl;
   puts = λ name body file e good. Stays refl refl refl;
   commits = λ payload ids last e. Commits refl last refl refl;
   collects = λ outcomes. Stays refl refl refl;
   releases = λ id segment. Stays refl refl refl;
+  deletes = λ id n segment may. Draws refl refl may.last refl;
+  begins = Stays refl refl refl;
+  tries = λ number c name left is_done there e. Stays refl refl refl;
+  finishes = λ number c there. Stays refl refl refl;
+  reopens = λ e. absurd (reopens_again event never e);
 })
+
+-- what such steps keep, and opening the index again too, each step keeps
+step_keeps : (P : State → Type 0) → ((t u : State) → Moves t u → P t → P u) → ((t : State) → P t → P (reopened t)) → (t : State) (event : Event) (outcomes : List Bool) → P t → P (step t event outcomes).1
+step_keeps P moves reopens t event outcomes h = either (reopening event) where
+  either : ((isnt_reopening event ≡ true) ⊎ (event ≡ events.Reopen)) → P (step t event outcomes).1
+  either (inl never) = moves t (step t event outcomes).1 (step_moves t event outcomes never) h
+  either (inr again) = subst (λ (e : Event). P (step t e outcomes).1) (sym again) (reopens t h)
 
 -- a run and one more run
 pub after_append : (s : State) (front rest : List Turn) → after s (front ++ rest) ≡ after (after s front) rest
@@ -81,6 +99,7 @@ readers_hold P R t now (Ends n e) spreads h =
 -- what holds of all who read, and of those that come in a step, holds of all after it
 pub moves_hold : (P : ℕ × Snapshot → Type 0) (R : ℕ × Reader → Type 0) (t u : State) → Moves t u → Spreads P R t → Holds P R t.catalog.reading → Holds P R u.catalog.reading
 moves_hold P R t u (Stays e c n) spreads h = subst (Holds P R) (sym e) h
+moves_hold P R t u (Draws e c last n) spreads h = subst (Holds P R) (sym e) h
 moves_hold P R t u (Commits e last c n) spreads h = subst (Holds P R) (sym e) h
 moves_hold P R t u (Reads move c n) spreads h = readers_hold P R t u.catalog.reading move spreads h
 
@@ -148,6 +167,7 @@ pub record Orderly (t : State) : Type 0 where
 -- a step doesn't lower the current number
 rises : (t u : State) → Moves t u → IsAhead t → t.catalog.commit.opstamp ≤ u.catalog.commit.opstamp
 rises t u (Stays e c n) h = omega (arith, ap (λ k. k.opstamp) c)
+rises t u (Draws e c last n) h = omega (arith, ap (λ k. k.opstamp) c)
 rises t u (Commits e last c n) (inl is) = absurd (last is)
 rises t u (Commits e last c n) (inr above) = omega (arith, c, above)
 rises t u (Reads move c n) h = omega (arith, ap (λ k. k.opstamp) c)
@@ -158,6 +178,8 @@ ahead_same t u c n (inr above) = inr (omega (arith, n, ap (λ k. k.opstamp) c, a
 
 ahead : (t u : State) → Moves t u → IsAhead t → IsAhead u
 ahead t u (Stays e c n) h = ahead_same t u c n h
+ahead t u (Draws e c last n) (inl is) = absurd (last is)
+ahead t u (Draws e c last n) (inr above) = inr (omega (arith, n, ap (λ k. k.opstamp) c, above))
 ahead t u (Commits e last c n) h = inr (omega (arith, c, n))
 ahead t u (Reads move c n) h = ahead_same t u c n h
 
@@ -172,6 +194,7 @@ later_shown who opstamp more le h = record {
 
 who_in_order : (t u : State) → Moves t u → InOrder t.catalog.reading t.catalog.commit.opstamp → InOrder u.catalog.reading t.catalog.commit.opstamp
 who_in_order t u (Stays e c n) h = subst (λ who. InOrder who t.catalog.commit.opstamp) (sym e) h
+who_in_order t u (Draws e c last n) h = subst (λ who. InOrder who t.catalog.commit.opstamp) (sym e) h
 who_in_order t u (Commits e last c n) h = subst (λ who. InOrder who t.catalog.commit.opstamp) (sym e) h
 who_in_order t u (Reads move c n) h = readers_in_order t u.catalog.reading move h
 
@@ -180,10 +203,6 @@ orderly t u move h = record {
   who = later_shown u.catalog.reading t.catalog.commit.opstamp u.catalog.commit.opstamp (rises t u move h.ahead) (who_in_order t u move h.who);
   ahead = ahead t u move h.ahead;
 }
-
--- states of a run stay orderly
-pub orderly_after : (t : State) (turns : List Turn) → Orderly t → Orderly (after t turns)
-orderly_after t turns h = after_kept Orderly (λ u event outcomes k. orderly u (step u event outcomes).1 (step_moves u event outcomes) k) t turns h
 
 first_in_order : (opstamp : ℕ) → InOrder no_readers opstamp
 first_in_order opstamp = record { searchers = tt; readers = tt; searchers_given = tt; readers_given = tt; shown = tt }
@@ -194,6 +213,10 @@ next_ahead opstamp next e = grind (arith, nat_tests)
 
 pub first_orderly : (s : State) → s.catalog.reading ≡ no_readers → s.catalog.next ≡ next_after s.catalog.commit.opstamp → Orderly s
 first_orderly s e n = record { who = subst (λ who. InOrder who s.catalog.commit.opstamp) (sym e) (first_in_order s.catalog.commit.opstamp); ahead = next_ahead s.catalog.commit.opstamp s.catalog.next n }
+
+-- states of a run stay orderly
+pub orderly_after : (t : State) (turns : List Turn) → Orderly t → Orderly (after t turns)
+orderly_after t turns h = after_kept Orderly (step_keeps Orderly orderly (λ u k. first_orderly (reopened u) refl refl)) t turns h
 
 -- what a run's readers and searchers show at a part of it
 abbrev Sees : State → List Turn → Readers → Type 0
@@ -206,12 +229,19 @@ sees_spreads s turns before rest e = record {
   searches = λ n reader h. h;
 }
 
+sees_step : (s : State) (turns before rest : List Turn) (turn : Turn) → turns ≡ before ++ turn ∷ rest → Sees s turns (after s before).catalog.reading → Sees s turns (step (after s before) turn.0 turn.1).1.catalog.reading
+sees_step s turns before rest turn e h = either (reopening turn.0) where
+  either : ((isnt_reopening turn.0 ≡ true) ⊎ (turn.0 ≡ events.Reopen)) → Sees s turns (step (after s before) turn.0 turn.1).1.catalog.reading
+  either (inl never) =
+      moves_hold _ _ (after s before) (step (after s before) turn.0 turn.1).1 (step_moves (after s before) turn.0 turn.1 never) (sees_spreads s turns before (turn ∷ rest) e) h
+  either (inr again) = subst (λ (event : Event). Sees s turns (step (after s before) event turn.1).1.catalog.reading) (sym again) (record { searchers = tt; readers = tt })
+
 sees_run : (s : State) (turns before rest : List Turn) → turns ≡ before ++ rest → Sees s turns (after s before).catalog.reading → Sees s turns (after s turns).catalog.reading
 sees_run s turns before [] e h = subst (λ (l : List Turn). Sees s turns (after s l).catalog.reading) (sym (e ∙ append-nil before)) h
 sees_run s turns before (turn ∷ rest) e h =
     sees_run s turns (before ++ turn ∷ []) rest (e ∙ sym (append_assoc before (turn ∷ []) rest))
     (subst (λ (t : State). Sees s turns t.catalog.reading) (sym (after_append s before (turn ∷ [])))
-    (moves_hold _ _ (after s before) (step (after s before) turn.0 turn.1).1 (step_moves (after s before) turn.0 turn.1) (sees_spreads s turns before (turn ∷ rest) e) h))
+    (sees_step s turns before rest turn e h))
 
 shows_one : (s : State) (turns : List Turn) (n : ℕ) (shown : Snapshot) → s.catalog.reading ≡ no_readers → searcher_at (after s turns).catalog n ≡ Some shown → Shows s turns shown
 shows_one s turns n shown e is =
@@ -228,6 +258,7 @@ readers_counted t now (Ends n e) = omega (arith, ap (λ k. k.next_reader) e, ap 
 
 counted : (t u : State) → Moves t u → (t.catalog.reading.next_reader ≤ u.catalog.reading.next_reader) × (t.catalog.reading.next_searcher ≤ u.catalog.reading.next_searcher)
 counted t u (Stays e c n) = omega (arith, ap (λ k. k.next_reader) e, ap (λ k. k.next_searcher) e)
+counted t u (Draws e c last n) = omega (arith, ap (λ k. k.next_reader) e, ap (λ k. k.next_searcher) e)
 counted t u (Commits e last c n) = omega (arith, ap (λ k. k.next_reader) e, ap (λ k. k.next_searcher) e)
 counted t u (Reads move c n) = readers_counted t u.catalog.reading move
 
@@ -242,20 +273,20 @@ stays_searcher t u n first move h = record {
   one = moves_hold _ _ t u move (record { comes = λ reader e. tt; reloads = λ k old new e is. tt; searches = λ k reader is same. absurd (omega (arith, same, h.given)) }) h.one;
 }
 
-searcher_after : (t : State) (turns : List Turn) (n : ℕ) (first : Snapshot) → Searcher t n first → Searcher (after t turns) n first
-searcher_after t turns n first h = after_kept (λ u. Searcher u n first) (λ u event outcomes k. stays_searcher u (step u event outcomes).1 n first (step_moves u event outcomes) k) t turns h
+searcher_after : (t : State) (turns : List Turn) (n : ℕ) (first : Snapshot) → NeverReopens turns → Searcher t n first → Searcher (after t turns) n first
+searcher_after t turns n first never h = after_between (λ u. Searcher u n first) (λ u event outcomes once k. stays_searcher u (step u event outcomes).1 n first (step_moves u event outcomes once) k) t turns never h
 
 nothing : {X : Type 0} (es : List X) → AllByRecursion (λ e. Unit {0}) es
 nothing [] = tt
 nothing (e ∷ es) = (tt, nothing es)
 
-same_for_life : (t : State) (turns : List Turn) (n : ℕ) (first later : Snapshot) → Orderly t → searcher_at t.catalog n ≡ Some first → searcher_at (after t turns).catalog n ≡ Some later → later ≡ first
-same_for_life t turns n first later h is then =
+same_for_life : (t : State) (turns : List Turn) (n : ℕ) (first later : Snapshot) → NeverReopens turns → Orderly t → searcher_at t.catalog n ≡ Some first → searcher_at (after t turns).catalog n ≡ Some later → later ≡ first
+same_for_life t turns n first later never h is then =
     let start : Searcher t n first = record {
       given = found (λ e. e.0 < t.catalog.reading.next_searcher) t.catalog.reading.searchers n first h.who.searchers_given is;
       one = record { searchers = only t.catalog.reading.searchers n first h.who.searchers is; readers = nothing t.catalog.reading.readers };
     } in
-    found (λ e. e.0 ≡ n → e.1 ≡ first) (after t turns).catalog.reading.searchers n later (searcher_after t turns n first start).one.searchers then refl
+    found (λ e. e.0 ≡ n → e.1 ≡ first) (after t turns).catalog.reading.searchers n later (searcher_after t turns n first never start).one.searchers then refl
 
 -- a reader that was given this number shows no commit below this one
 record Reading (t : State) (n opstamp : ℕ) : Type 0 where
@@ -276,12 +307,12 @@ reading_step t u n opstamp move h = record {
   }) h.one;
 }
 
-reading_after : (t : State) (turns : List Turn) (n opstamp : ℕ) → Reading t n opstamp → Reading (after t turns) n opstamp
-reading_after t turns n opstamp h = after_kept (λ u. Reading u n opstamp) (λ u event outcomes k. reading_step u (step u event outcomes).1 n opstamp (step_moves u event outcomes) k) t turns h
+reading_after : (t : State) (turns : List Turn) (n opstamp : ℕ) → NeverReopens turns → Reading t n opstamp → Reading (after t turns) n opstamp
+reading_after t turns n opstamp never h = after_between (λ u. Reading u n opstamp) (λ u event outcomes once k. reading_step u (step u event outcomes).1 n opstamp (step_moves u event outcomes once) k) t turns never h
 
-goes_on : (t : State) (turns : List Turn) (n : ℕ) (first later : Reader) → Orderly t → reader_at t.catalog n ≡ Some first → reader_at (after t turns).catalog n ≡ Some later
+goes_on : (t : State) (turns : List Turn) (n : ℕ) (first later : Reader) → NeverReopens turns → Orderly t → reader_at t.catalog n ≡ Some first → reader_at (after t turns).catalog n ≡ Some later
     → first.shown.commit.opstamp ≤ later.shown.commit.opstamp
-goes_on t turns n first later h is then =
+goes_on t turns n first later never h is then =
     let at_first : AllByRecursion (λ e. e.0 ≡ n → first.shown.commit.opstamp ≤ e.1.shown.commit.opstamp) t.catalog.reading.readers =
     all_weaker _ _ t.catalog.reading.readers (λ e one same. omega (arith, ap (λ r. r.shown.commit.opstamp) (one same))) (only t.catalog.reading.readers n first h.who.readers is) in
     let start : Reading t n first.shown.commit.opstamp = record {
@@ -291,7 +322,7 @@ goes_on t turns n first later h is then =
       one = record { searchers = nothing t.catalog.reading.searchers; readers = at_first };
     } in
     found (λ e. e.0 ≡ n → first.shown.commit.opstamp ≤ e.1.shown.commit.opstamp) (after t turns).catalog.reading.readers n later
-    (reading_after t turns n first.shown.commit.opstamp start).one.readers then refl
+    (reading_after t turns n first.shown.commit.opstamp never start).one.readers then refl
 
 new_searcher : (c : Catalog) (n : ℕ) (reader : Reader) → reader_at c n ≡ Some reader → searcher_at (searcher_step c n).1 c.reading.next_searcher ≡ Some reader.shown
 new_searcher c n reader is = rw is (put_found c.reading.searchers c.reading.next_searcher reader.shown)
@@ -300,10 +331,10 @@ new_searcher c n reader is = rw is (put_found c.reading.searchers c.reading.next
 pub serves : (s : State) (turns : List Turn) → s.catalog.reading ≡ no_readers → s.catalog.next ≡ next_after s.catalog.commit.opstamp → Serves s turns
 serves s turns none next = record {
   one_commit = λ front rest n shown e is. shows_one s front n shown none is;
-  for_life = λ front middle rest n first later e is then.
-      same_for_life (after s front) middle n first later (orderly_after s front (first_orderly s none next)) is (rw (after_append s front middle) at then);
-  never_back = λ front middle rest n first later e is then.
-      goes_on (after s front) middle n first later (orderly_after s front (first_orderly s none next)) is (rw (after_append s front middle) at then);
+  for_life = λ front middle rest n first later e never is then.
+      same_for_life (after s front) middle n first later never (orderly_after s front (first_orderly s none next)) is (rw (after_append s front middle) at then);
+  never_back = λ front middle rest n first later e never is then.
+      goes_on (after s front) middle n first later never (orderly_after s front (first_orderly s none next)) is (rw (after_append s front middle) at then);
   as_reader = λ front rest n outcomes reader e is. rw (after_append s front ((events.Searcher n, outcomes) ∷ [])) (new_searcher (after s front).catalog n reader is);
 }
 

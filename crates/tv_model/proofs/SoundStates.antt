@@ -305,9 +305,9 @@ ended_sound s number c there whole h = record {
 }
     where
       undone : (n : List ℕ) → (has c.done n ≡ true → ⊥) → has c.done n ≡ false
-      undone n no = false_from_ne_true (has c.done n) no
+      undone n never = false_from_ne_true (has c.done n) never
       undone_stays : (n : List ℕ) → has c.done n ≡ false → has s.managed n ≡ true → has (without c.done s.managed) n ≡ true
-      undone_stays n e is = has_without c.done s.managed n ∙ (rw e is)
+      undone_stays n e there = has_without c.done s.managed n ∙ (rw e there)
 
 -- ---- the index is opened again
 
