@@ -1,24 +1,23 @@
 -- Collections in steps, and what a collection leaves of an index that was opened again.
-use Rattle.std.proofs.Common.{◌≡◌, ℕ, ◌+◌, ◌≤◌, ◌<◌, Bool, true, false, true≢false, not, ◌&&◌, ◌||◌, cond, List, [], ◌∷◌, ◌++◌, codes, Option, Some, None, refl, sym, ap, subst, ◌∙◌, arith}
+use Rattle.std.proofs.Common.{◌≡◌, ℕ, ◌+◌, ◌≤◌, ◌<◌, Bool, true, false, true≢false, not, ◌&&◌, ◌||◌, cond, List, [], ◌∷◌, ◌++◌, codes, Option, Some, None, refl, sym, ap, subst, ◌∙◌, arith, append_assoc, append-nil}
 use Rattle.std.specs.Prelude.{is_some, option_map}
 use Rattle.std.specs.Ordering.{nat_cmp}
 use Rattle.std.specs.List.{AllByRecursion}
 use Rattle.std.specs.BTreeMap.{is_at}
 use Rattle.std.proofs.lemmas.Bool.{false_from_ne_true}
 use Rattle.tv_model.specs.declared.event.Event.{Event}
-use Rattle.tv_model.specs.declared.event.Event.TheVariants as events
-use Rattle.tv_model.specs.Names.{has}
-use Rattle.tv_model.specs.Collections.{Collection, Collections, AreOnce, begun, collection_at, done_of, having_tried, held, no_collections, taken}
+use Rattle.tv_model.specs.Names.{is, has}
+use Rattle.tv_model.specs.Collections.{Collection, AreOnce, begun, collection_at, done_of, having_tried, held, taken, without}
 use Rattle.tv_model.specs.Living.{living}
 use Rattle.tv_model.specs.Lines.{given}
-use Rattle.tv_model.specs.State.{State, FileState, file_at}
-use Rattle.tv_model.specs.CollectionEvents.{garbage, gc_begin_step, gc_end_step, gc_step, gc_step_step, having_deleted, ended, is_done, left, tried_first}
-use Rattle.tv_model.specs.ReopenEvents.{all_left, reopened}
-use Rattle.tv_model.specs.Machine.{Turn, NeverReopens, isnt_reopening, step, after}
-use Rattle.tv_model.specs.Collecting.{Ends, CollectsInSteps, CollectsAllElse}
+use Rattle.tv_model.specs.State.{State, StepResult, FileState, file_at}
+use Rattle.tv_model.specs.CollectionEvents.{garbage, gc_begin_step, gc_end_step, gc_step_step, having_deleted, ended, is_done, left, tried_first}
+use Rattle.tv_model.specs.ReopenEvents.{reopened}
+use Rattle.tv_model.specs.Machine.{Turn, NeverReopens, isnt_reopening, after}
+use Rattle.tv_model.specs.Collecting.{Tries, Ends, IsAtOnce, in_steps, CollectsInSteps, CollectsAllElse}
 use Rattle.tv_model.specs.SoundStates.{CollectsSoundly, IsSoundState}
 use Rattle.tv_model.proofs.Changes.{OfEachChange, after_between, step_changes}
-use Rattle.tv_model.proofs.CollectionStates.{at_without, garbage_is, has_append, has_without}
+use Rattle.tv_model.proofs.CollectionStates.{at_without, garbage_is, has_without}
 use Rattle.tv_model.proofs.Collects.{takes}
 use Rattle.tv_model.proofs.HeldNames.{times, times_append, some_times, no_times, has_times, once_times, times_once, taken_held, taken_times, tried_times}
 use Rattle.tv_model.proofs.HeldStates.{given_at}
@@ -35,13 +34,13 @@ same_has xs ys n e = either (has ys n) refl where
   either false absent = false_from_ne_true (has xs n) (λ there. absurd (omega (arith, e, some_times xs n there, no_times ys n absent))) ∙ sym absent
 
 -- a collection of this number has these names
-abbrev Takes : ℕ → Collection → ℕ × Collection → Type 0
-Takes number first e = e.0 ≡ number → (n : List ℕ) → times (taken e.1) n ≡ times (taken first) n
+abbrev HasNames : ℕ → Collection → ℕ × Collection → Type 0
+HasNames number first e = e.0 ≡ number → (n : List ℕ) → times (taken e.1) n ≡ times (taken first) n
 
 -- its number was given, and it has its names as long as it is there
 record Keeps (s : State) (number : ℕ) (first : Collection) : Type 0 where
   given : number < s.collections.next
-  each : AllByRecursion (Takes number first) s.collections.unfinished
+  each : AllByRecursion (HasNames number first) s.collections.unfinished
 
 keeps_changes : (s : State) (event : Event) (number : ℕ) (first : Collection) → isnt_reopening event ≡ true → Keeps s number first → OfEachChange (λ t. Keeps t number first) s event
 keeps_changes s event number first never h = record {
@@ -56,18 +55,18 @@ keeps_changes s event number first never h = record {
   deletes = λ id n segment may. record { given = h.given; each = h.each };
   begins = record {
     given = omega (arith, h.given);
-    each = put_all (Takes number first) s.collections.unfinished s.collections.next (begun (garbage s)) h.each (λ same. absurd (omega (arith, same, h.given)));
+    each = put_all (HasNames number first) s.collections.unfinished s.collections.next (begun (garbage s)) h.each (λ same. absurd (omega (arith, same, h.given)));
   };
   tries = λ k c name left is_done there e. record {
     given = h.given;
-    each = put_all (Takes number first) s.collections.unfinished k (having_tried c name left is_done) h.each
-        (λ same n. tried_times c name left is_done n e ∙ found (Takes number first) s.collections.unfinished k c h.each there same n);
+    each = put_all (HasNames number first) s.collections.unfinished k (having_tried c name left is_done) h.each
+        (λ same n. tried_times c name left is_done n e ∙ found (HasNames number first) s.collections.unfinished k c h.each there same n);
   };
-  finishes = λ k c there. record { given = h.given; each = gone_all (Takes number first) (is_at (nat_cmp k)) s.collections.unfinished h.each };
+  finishes = λ k c there. record { given = h.given; each = gone_all (HasNames number first) (is_at (nat_cmp k)) s.collections.unfinished h.each };
   reopens = λ e. absurd (true≢false (sym never ∙ ap isnt_reopening e));
 }
 
-same_names : (first : Collection) (es : List (ℕ × Collection)) (number : ℕ) → AllByRecursion (λ e. e.0 ≡ number → e.1 ≡ first) es → AllByRecursion (Takes number first) es
+same_names : (first : Collection) (es : List (ℕ × Collection)) (number : ℕ) → AllByRecursion (λ e. e.0 ≡ number → e.1 ≡ first) es → AllByRecursion (HasNames number first) es
 same_names first [] number h = tt
 same_names first (e ∷ es) number h = (λ same n. ap (λ (c : Collection). times (taken c) n) (h.0 same), same_names first es number h.1)
 
@@ -76,7 +75,33 @@ keeps : (s : State) (turns : List Turn) (number : ℕ) (first later : Collection
 keeps s turns number first later h never there then n =
     let start : Keeps s number first = record { given = given_at s h number first there; each = same_names first s.collections.unfinished number (only s.collections.unfinished number first h.ordered there) } in
     let end = after_between (λ t. Keeps t number first) (λ t event outcomes once k. step_changes (λ u. Keeps u number first) t event outcomes (keeps_changes t event number first once k)) s turns never start in
-    same_has (taken later) (taken first) n (found (Takes number first) (after s turns).collections.unfinished number later end.each then refl n)
+    same_has (taken later) (taken first) n (found (HasNames number first) (after s turns).collections.unfinished number later end.each then refl n)
+
+-- ---- a step of a collection
+
+-- a step of a collection that has these names left
+step_of : (s : State) (number : ℕ) (c : Collection) (untried : List (List ℕ)) (outcomes : List Bool) → collection_at s.collections number ≡ Some c → c.untried ≡ untried
+    → gc_step_step s number outcomes ≡ tried_first s number c untried outcomes
+step_of s number c untried outcomes there e =
+    ap (λ (x : Option Collection). given s x (codes "unknown-collection") (λ k. tried_first s number k k.untried outcomes)) there
+    ∙ ap (λ (l : List (List ℕ)). tried_first s number c l outcomes) e
+
+without_it : (b : Bool) (file : Option FileState) → cond (not (b || false)) file None ≡ cond b None file
+without_it true file = refl
+without_it false file = refl
+
+tried_file : (s : State) (number : ℕ) (c : Collection) (name : List ℕ) (left : List (List ℕ)) (is_done : Bool) (n : List ℕ) → file_at (having_deleted s number c name left is_done).1 n ≡ cond (is_done && is name n) None (file_at s n)
+tried_file s number c name left true n = at_without (name ∷ []) s.files n ∙ without_it (is name n) (file_at s n)
+tried_file s number c name left false n = refl
+
+tries : (s : State) (number : ℕ) (c : Collection) (name : List ℕ) (left : List (List ℕ)) (outcomes : List Bool) → collection_at s.collections number ≡ Some c → c.untried ≡ name ∷ left → Tries s number c name left outcomes
+tries s number c name left outcomes there e =
+    let now = step_of s number c (name ∷ left) outcomes there e in record {
+      told = ap (λ (r : StepResult State). r.0) now;
+      moved = ap (λ (r : StepResult State). collection_at r.1.collections number) now ∙ put_found s.collections.unfinished number (having_tried c name left (is_done outcomes));
+      gone = λ n. ap (λ (r : StepResult State). file_at r.1 n) now ∙ tried_file s number c name left (is_done outcomes) n;
+      managed = ap (λ (r : StepResult State). r.1.managed) now;
+    }
 
 -- ---- the end of a collection
 
@@ -106,21 +131,73 @@ ends s number c h there = record {
   others = λ n undone. ended_managed s number c n there ∙ (rw undone refl);
 }
 
+-- ---- all steps of a collection
+
+all_done : (names : List (List ℕ)) → done_of names [] ≡ names
+all_done [] = refl
+all_done (name ∷ names) = refl
+
+-- a state after the rest of a collection, whose names that are yet to be done are these
+record IsEnd (s : State) (c : Collection) (done : List (List ℕ)) (t : State) : Type 0 where
+  files : (n : List ℕ) → file_at t n ≡ cond (not (has done n)) (file_at s n) None
+  managed : t.managed ≡ without (c.done ++ done) s.managed
+  catalog : t.catalog ≡ s.catalog
+
+both_gone : (b h : Bool) (file : Option FileState) → cond (not h) (cond (not (b || false)) file None) None ≡ cond (not (b || h)) file None
+both_gone true true file = refl
+both_gone true false file = refl
+both_gone false true file = refl
+both_gone false false file = refl
+
+-- the end from a step on is the end from before it
+end_before : (s t : State) (number : ℕ) (c : Collection) (name : List ℕ) (left : List (List ℕ)) (is_done : Bool) (done : List (List ℕ)) → IsEnd (having_deleted s number c name left is_done).1 (having_tried c name left is_done) done t
+    → IsEnd s c (cond is_done (name ∷ done) done) t
+end_before s t number c name left true done h = record {
+  files = λ n. h.files n ∙ ap (λ (f : Option FileState). cond (not (has done n)) f None) (at_without (name ∷ []) s.files n) ∙ both_gone (is name n) (has done n) (file_at s n);
+  managed = h.managed ∙ ap (λ (l : List (List ℕ)). without l s.managed) (append_assoc c.done (name ∷ []) done);
+  catalog = h.catalog;
+}
+end_before s t number c name left false done h = record { files = h.files; managed = h.managed; catalog = h.catalog }
+
+-- a step, with the end that the steps after it come to
+one_step : (s : State) (number : ℕ) (c : Collection) (name : List ℕ) (left : List (List ℕ)) (outcomes : List Bool) (done : List (List ℕ)) (turns : List Turn) → collection_at s.collections number ≡ Some c → c.untried ≡ name ∷ left
+    → IsEnd (having_deleted s number c name left (is_done outcomes)).1 (having_tried c name left (is_done outcomes)) done (after (having_deleted s number c name left (is_done outcomes)).1 turns)
+    → IsEnd s c (cond (is_done outcomes) (name ∷ done) done) (after (gc_step_step s number outcomes).1 turns)
+one_step s number c name left outcomes done turns there e h =
+    subst (λ (r : StepResult State). IsEnd s c (cond (is_done outcomes) (name ∷ done) done) (after r.1 turns)) (sym (step_of s number c (name ∷ left) outcomes there e))
+    (end_before s (after (having_deleted s number c name left (is_done outcomes)).1 turns) number c name left (is_done outcomes) done h)
+
+-- the collection after it
+tried_at : (s : State) (number : ℕ) (c : Collection) (name : List ℕ) (left : List (List ℕ)) (is_done : Bool) → collection_at (having_deleted s number c name left is_done).1.collections number ≡ Some (having_tried c name left is_done)
+tried_at s number c name left is_done = put_found s.collections.unfinished number (having_tried c name left is_done)
+
+-- the steps that are left, and the end
+steps_end : (s : State) (number : ℕ) (c : Collection) (names : List (List ℕ)) (outcomes : List Bool) → collection_at s.collections number ≡ Some c → c.untried ≡ names
+    → IsEnd s c (done_of names outcomes) (after s (in_steps number names outcomes))
+steps_end s number c [] outcomes there e =
+    subst (λ (x : Option Collection). IsEnd s c [] (given s x (codes "unknown-collection") (ended s number)).1) (sym there)
+    (record { files = λ n. refl; managed = ap (λ (l : List (List ℕ)). without l s.managed) (sym (append-nil c.done)); catalog = refl })
+steps_end s number c (name ∷ names) [] there e =
+    subst (λ (l : List (List ℕ)). IsEnd s c (name ∷ l) (after s (in_steps number (name ∷ names) []))) (all_done names)
+    (one_step s number c name names [] (done_of names []) (in_steps number names []) there e
+    (steps_end (having_deleted s number c name names true).1 number (having_tried c name names true) names [] (tried_at s number c name names true) refl))
+steps_end s number c (name ∷ names) (true ∷ outcomes) there e =
+    one_step s number c name names (true ∷ []) (done_of names outcomes) (in_steps number names outcomes) there e
+    (steps_end (having_deleted s number c name names true).1 number (having_tried c name names true) names outcomes (tried_at s number c name names true) refl)
+steps_end s number c (name ∷ names) (false ∷ outcomes) there e =
+    one_step s number c name names (false ∷ []) (done_of names outcomes) (in_steps number names outcomes) there e
+    (steps_end (having_deleted s number c name names false).1 number (having_tried c name names false) names outcomes (tried_at s number c name names false) refl)
+
 -- ---- the laws
 
 pub collects_in_steps : (s : State) → IsSoundState s → CollectsInSteps s
 collects_in_steps s sound = let h = sound.whole.collecting in record {
   begins = (put_found s.collections.unfinished s.collections.next (begun (garbage s)), takes s);
   keeps = λ turns number first later never there then n. keeps s turns number first later h never there then n;
-  tells = λ number c name left outcomes there e.
-      ap (λ (x : Option Collection). given s x (codes "unknown-collection") (λ k. tried_first s number k k.untried outcomes)) there
-      ∙ ap (λ (l : List (List ℕ)). tried_first s number c l outcomes) e;
+  tries = λ number c name left outcomes there e. tries s number c name left outcomes there e;
+  spent = λ number c outcomes there e. step_of s number c [] outcomes there e;
   ends = λ number c there. ends s number c h there;
 }
-
-all_done : (names : List (List ℕ)) → done_of names [] ≡ names
-all_done [] = refl
-all_done (name ∷ names) = refl
 
 -- a file that is there and managed is kept exactly where it is needed
 kept_needed : (living held managed : Bool) (file : Option FileState) → held ≡ false → (is_some file ≡ true → managed ≡ true)
@@ -132,6 +209,14 @@ kept_needed false false true None e h = refl
 kept_needed false false true (Some file) e h = refl
 kept_needed false false false None e h = refl
 kept_needed false false false (Some file) e h = absurd (true≢false (sym (h refl)))
+
+pub collects_at_once : (s : State) (outcomes : List Bool) → IsAtOnce s outcomes
+collects_at_once s outcomes =
+    let end = steps_end (gc_begin_step s).1 s.collections.next (begun (garbage s)) (garbage s) outcomes (put_found s.collections.unfinished s.collections.next (begun (garbage s))) refl in record {
+      files = λ n. at_without (done_of (garbage s) outcomes) s.files n ∙ sym (end.files n);
+      managed = sym end.managed;
+      catalog = sym end.catalog;
+    }
 
 pub collects_all_else : (s : State) → IsSoundState s → CollectsAllElse s
 collects_all_else s sound n =

@@ -105,11 +105,13 @@ spent_state = record {
   collections = no_collections;
 }
 
--- nothing more is committed there, and other events go on
-pub stamps_spent : report spent_state (unrefused (events.Commit None [] ∷ events.Segment id_b ∷ [])) ≡
+-- nothing more is committed or deleted there, and other events go on
+pub stamps_spent : report spent_state (unrefused (events.Commit None [] ∷ events.Segment id_b ∷ events.Deletes id_b 0 ∷ events.Gc ∷ [])) ≡
     codes "open 18446744073709551615 0"
     ∷ codes "refused stamps-spent"
     ∷ codes "segment 00000000000000000000000000000001"
+    ∷ codes "refused stamps-spent"
+    ∷ codes "gc deleted failed"
     ∷ []
 unfolding encode_with digits
 stamps_spent = refl
@@ -234,3 +236,103 @@ pub snapshot_told : answers (after first_state first_script) (unrefused (
     ∷ []
 unfolding encode_with digits
 snapshot_told = refl
+
+-- a collection takes no name that another one holds, and the next one takes what was left untried
+pub overlapping_told : answers first_state (unrefused (
+    events.Segment id_b
+    ∷ events.Open id_b Postings
+    ∷ events.Segment id_c
+    ∷ events.Open id_c Postings
+    ∷ events.ReleaseSegment id_b
+    ∷ events.GcBegin
+    ∷ events.ReleaseSegment id_c
+    ∷ events.GcBegin
+    ∷ events.GcEnd 0
+    ∷ events.GcBegin
+    ∷ events.GcStep 2
+    ∷ events.GcStep 2
+    ∷ events.GcEnd 2
+    ∷ events.GcStep 0
+    ∷ events.Managed
+    ∷ [])) ≡
+    codes "segment 00000000000000000000000000000001"
+    ∷ codes "opened 00000000000000000000000000000001.idx"
+    ∷ codes "segment 00000000000000000000000000000002"
+    ∷ codes "opened 00000000000000000000000000000002.idx"
+    ∷ codes "released"
+    ∷ codes "gc 0 00000000000000000000000000000001.idx"
+    ∷ codes "released"
+    ∷ codes "gc 1 00000000000000000000000000000002.idx"
+    ∷ codes "gc 0 end"
+    ∷ codes "gc 2 00000000000000000000000000000001.idx"
+    ∷ codes "gc 2 done 00000000000000000000000000000001.idx"
+    ∷ codes "refused nothing-left"
+    ∷ codes "gc 2 end"
+    ∷ codes "refused unknown-collection"
+    ∷ codes "managed 00000000000000000000000000000002.idx meta.json"
+    ∷ []
+unfolding encode_with digits
+overlapping_told = refl
+
+-- a name that is done is managed up to the end of its collection, and one that failed stays managed
+pub managed_to_the_end : answers first_state (unrefused (events.Segment id_b ∷ events.Open id_b Postings ∷ events.Open id_b Positions ∷ events.ReleaseSegment id_b ∷ events.GcBegin ∷ events.GcStep 0 ∷ []) ++ (events.GcStep 0, false ∷ []) ∷ unrefused (events.Segment id_b ∷ events.Managed ∷ events.GcEnd 0 ∷ events.Managed ∷ [])) ≡
+    codes "segment 00000000000000000000000000000001"
+    ∷ codes "opened 00000000000000000000000000000001.idx"
+    ∷ codes "opened 00000000000000000000000000000001.pos"
+    ∷ codes "released"
+    ∷ codes "gc 0 00000000000000000000000000000001.idx 00000000000000000000000000000001.pos"
+    ∷ codes "gc 0 done 00000000000000000000000000000001.idx"
+    ∷ codes "gc 0 failed 00000000000000000000000000000001.pos"
+    ∷ codes "refused id-in-use"
+    ∷ codes "managed 00000000000000000000000000000001.idx 00000000000000000000000000000001.pos meta.json"
+    ∷ codes "gc 0 end"
+    ∷ codes "managed 00000000000000000000000000000001.pos meta.json"
+    ∷ []
+unfolding encode_with digits
+managed_to_the_end = refl
+
+-- a stamp that was drawn for deletes alone is drawn again after reopening, once its file is collected
+pub reopened_told : answers (after first_state first_script) (unrefused (
+    events.Deletes id_a 1
+    ∷ events.Open id_a Delete
+    ∷ events.Seal id_a Delete
+    ∷ events.Reopen
+    ∷ events.Deletes id_a 1
+    ∷ events.GcBegin
+    ∷ events.Deletes id_a 1
+    ∷ events.GcStep 0
+    ∷ events.GcEnd 0
+    ∷ events.Deletes id_a 1
+    ∷ events.Commit None (id_a ∷ [])
+    ∷ events.Open id_a Delete
+    ∷ events.Seal id_a Delete
+    ∷ events.Commit None (id_a ∷ [])
+    ∷ [])) ≡
+    codes "deletes a5c4dfcbdfe645089129e308e26d5523 1 2"
+    ∷ codes "opened a5c4dfcbdfe645089129e308e26d5523.2.del"
+    ∷ codes "sealed a5c4dfcbdfe645089129e308e26d5523.2.del 0"
+    ∷ codes "open 1 1"
+    ∷ codes "refused name-in-use"
+    ∷ codes "gc 0 a5c4dfcbdfe645089129e308e26d5523.2.del"
+    ∷ codes "refused leaving"
+    ∷ codes "gc 0 done a5c4dfcbdfe645089129e308e26d5523.2.del"
+    ∷ codes "gc 0 end"
+    ∷ codes "deletes a5c4dfcbdfe645089129e308e26d5523 1 2"
+    ∷ codes "refused unsealed a5c4dfcbdfe645089129e308e26d5523.2.del"
+    ∷ codes "opened a5c4dfcbdfe645089129e308e26d5523.2.del"
+    ∷ codes "sealed a5c4dfcbdfe645089129e308e26d5523.2.del 0"
+    ∷ codes "commit 3 1"
+    ∷ []
+unfolding encode_with digits
+reopened_told = refl
+
+-- no more documents are deleted than there are, and a segment without living ones is left out of a commit
+pub deletes_refused : answers (after first_state first_script) (unrefused (events.Deletes id_a 4 ∷ events.Docs id_a 5 ∷ events.Open id_a Delete ∷ events.Deletes id_a 3 ∷ events.Commit None (id_a ∷ []) ∷ [])) ≡
+    codes "refused wrong-docs"
+    ∷ codes "refused wrong-docs"
+    ∷ codes "refused no-deletes"
+    ∷ codes "deletes a5c4dfcbdfe645089129e308e26d5523 3 2"
+    ∷ codes "commit 3 0"
+    ∷ []
+unfolding encode_with digits
+deletes_refused = refl

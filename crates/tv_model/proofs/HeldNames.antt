@@ -1,8 +1,8 @@
 -- The names that unfinished collections hold, and how often each stands there.
-use Rattle.std.proofs.Common.{◌≡◌, ℕ, ◌+◌, ◌≤◌, ◌<◌, Bool, true, false, true≢false, ◌||◌, cond, List, [], ◌∷◌, ◌++◌, Option, Some, None, refl, sym, ap, subst, ◌∙◌, arith}
+use Rattle.std.proofs.Common.{◌≡◌, ℕ, ◌+◌, ◌≤◌, ◌<◌, Bool, true, false, true≢false, ◌||◌, cond, List, [], ◌∷◌, ◌++◌, Some, refl, sym, ap, subst, arith}
 use Rattle.std.specs.declared.cmp.Ordering.TheVariants.{Less, Equal, Greater}
 use Rattle.std.specs.Ordering.{is_eq, match_ordering, nat_cmp}
-use Rattle.std.specs.List.{flat_map, AllByRecursion}
+use Rattle.std.specs.List.{flat_map}
 use Rattle.std.specs.List.Sorted.{IsStrictlySortedBy}
 use Rattle.std.specs.Map.{lookup, remove_entry}
 use Rattle.std.specs.BTreeMap.{is_at, insert_entry}
@@ -89,7 +89,7 @@ pub held_over : (es : List (ℕ × Collection)) (k : ℕ) (old c : Collection) (
 held_over [] k old c n rises is = absurd cc
 held_over (e ∷ es) k old c n rises is =
     elim (nat_cmp k e.0) as (λ r. nat_cmp k e.0 ≡ r → cond (is_eq r) (Some e.1) (lookup (is_at (nat_cmp k)) es) ≡ Some old
-        → times (names_held (match_ordering r ((k, c) ∷ e ∷ es) ((e.0, c) ∷ es) (e ∷ insert_entry nat_cmp es k c))) n + times (taken old) n ≡ times (names_held (e ∷ es)) n + times (taken c) n) [
+    → times (names_held (match_ordering r ((k, c) ∷ e ∷ es) ((e.0, c) ∷ es) (e ∷ insert_entry nat_cmp es k c))) n + times (taken old) n ≡ times (names_held (e ∷ es)) n + times (taken c) n) [
       | Less ↦ λ r there. absurd (omega (arith, ranked k e.0 Less (sym r), found (λ f. e.0 < f.0) es k old rises.0 there))
       | Equal ↦ λ r there.
           let same : e.1 ≡ old = cc in
@@ -103,7 +103,7 @@ pub held_gone : (es : List (ℕ × Collection)) (k : ℕ) (c : Collection) (n : 
 held_gone [] k c n is = absurd cc
 held_gone (e ∷ es) k c n is =
     elim (is_at (nat_cmp k) e.0) as (λ b. cond b (Some e.1) (lookup (is_at (nat_cmp k)) es) ≡ Some c
-        → times (names_held (cond b es (e ∷ remove_entry (is_at (nat_cmp k)) es))) n + times (taken c) n ≡ times (names_held (e ∷ es)) n) [
+    → times (names_held (cond b es (e ∷ remove_entry (is_at (nat_cmp k)) es))) n + times (taken c) n ≡ times (names_held (e ∷ es)) n) [
       | true ↦ λ there.
           let same : e.1 ≡ c = cc in
           omega (arith, held_more e es n, ap (λ (d : Collection). times (taken d) n) same)

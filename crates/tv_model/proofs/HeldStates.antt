@@ -1,12 +1,12 @@
 -- What unfinished collections hold, from event to event.
-use Rattle.std.proofs.Common.{◌≡◌, ◌≢◌, ℕ, ◌+◌, ◌≤◌, ◌<◌, Bool, true, false, true≢false, not, ◌&&◌, ◌||◌, cond, List, [], ◌∷◌, ◌++◌, map, filter, Option, Some, None, refl, sym, ap, subst, ◌∙◌, arith}
+use Rattle.std.proofs.Common.{◌≡◌, ◌≢◌, ℕ, ◌+◌, ◌≤◌, ◌<◌, Bool, true, false, true≢false, not, ◌&&◌, ◌||◌, cond, List, [], ◌∷◌, ◌++◌, map, Option, Some, None, refl, sym, ap, subst, ◌∙◌, arith}
 use Rattle.std.proofs.Math.Nat.{lt_of_not-le}
-use Rattle.std.specs.Prelude.{is_some, option_map, nat_lt}
+use Rattle.std.specs.Prelude.{is_some, nat_lt}
 use Rattle.std.specs.Ordering.{nat_cmp}
 use Rattle.std.specs.List.{flat_map, AllByRecursion}
 use Rattle.std.specs.List.Sorted.{IsStrictlySortedBy}
-use Rattle.std.specs.BTreeMap.{is_at, insert_entry}
-use Rattle.std.proofs.lemmas.Bool.{and_parts, false_from_ne_true, or_parts, or_right}
+use Rattle.std.specs.BTreeMap.{is_at}
+use Rattle.std.proofs.lemmas.Bool.{and_parts, false_from_ne_true}
 use Rattle.std.proofs.lemmas.List.Kept.{IsStrictlySortedBy-filter}
 use Rattle.tv_model.specs.declared.event.Event.{Event}
 use Rattle.tv_model.specs.declared.segment.DeleteMeta.{DeleteMeta}
@@ -15,10 +15,10 @@ use Rattle.tv_model.specs.Names.{byte_cmp, is, has, meta_name}
 use Rattle.tv_model.specs.declared.segment.SegmentComponent.{SegmentComponent}
 use Rattle.tv_model.specs.declared.segment.SegmentComponent.TheVariants.{Postings, Positions, FastFields, FieldNorms, Terms, Store, Delete}
 use Rattle.tv_model.specs.Segments.{components, name_of, num_docs}
-use Rattle.tv_model.specs.Collections.{Collection, Collections, AreOnce, Rises, no_collections, begun, collection_at, done_of, having_tried, held, taken, without}
+use Rattle.tv_model.specs.Collections.{Collection, Collections, AreOnce, Rises, no_collections, begun, collection_at, done_of, having_tried, held, without}
 use Rattle.tv_model.specs.Living.{living, segment_names}
-use Rattle.tv_model.specs.State.{Catalog, State, FileState, Sealed, Open, Left, at, live_at, file_at, with_file, with_live, on_catalog}
-use Rattle.tv_model.specs.SegmentEvents.{is_in_use, is_named, fresh_segment}
+use Rattle.tv_model.specs.State.{Catalog, State, FileState, Open, at, live_at, file_at, with_file, with_live, on_catalog}
+use Rattle.tv_model.specs.SegmentEvents.{is_named}
 use Rattle.tv_model.specs.FileEvents.{opened}
 use Rattle.tv_model.specs.CommitEvents.{chosen, committed}
 use Rattle.tv_model.specs.CollectionEvents.{garbage, files_without, gc_begin_step, without_files, having_deleted, ended, left, released, with_left, without_live}
@@ -29,8 +29,8 @@ use Rattle.tv_model.proofs.Entries.{is_itself, is_text, text_at, lookup_put, has
 use Rattle.tv_model.proofs.Numbered.{all_found, found, gone_all, none_above, put_all, rises_gone, rises_put}
 use Rattle.tv_model.proofs.Changes.{SegmentMove, IsNew, HasDocs, MayDelete, OfEachChange}
 use Rattle.tv_model.proofs.CollectionStates.{at_left, at_without, done_within, garbage_is, has_append, has_without}
-use Rattle.tv_model.proofs.Required.{by_one, Begins, begins_named, names_begin, names_both, names_deleted, names_found, names_left, names_put, names_some}
-use Rattle.tv_model.proofs.HeldNames.{times, some_times, no_times, has_times, once_times, times_once, once_sorted, names_held, held_put, held_over, held_gone, taken_held, done_taken, tried_times}
+use Rattle.tv_model.proofs.Required.{by_one, begins_named, names_begin, names_both, names_deleted, names_found, names_left, names_put, names_some}
+use Rattle.tv_model.proofs.HeldNames.{times, some_times, no_times, has_times, once_times, times_once, once_sorted, held_put, held_over, held_gone, taken_held, done_taken, tried_times}
 
 -- ---- what is living
 
@@ -209,21 +209,21 @@ begun_held : (s : State) (n : List ℕ) → has (held (gc_begin_step s).1.collec
 begun_held s n is =
     let some : 1 ≤ times (held s.collections) n + times (garbage s) n = omega (arith, some_times _ n is, held_put s.collections.unfinished s.collections.next (begun (garbage s)) n) in
     either (has (held s.collections) n) refl some
-    where
-      either : (b : Bool) → has (held s.collections) n ≡ b → 1 ≤ times (held s.collections) n + times (garbage s) n → (has (held s.collections) n || has (garbage s) n) ≡ true
-      either true e some = rw e refl
-      either false e some = rw e (has_times (garbage s) n (omega (arith, no_times (held s.collections) n e, some)))
+  where
+    either : (b : Bool) → has (held s.collections) n ≡ b → 1 ≤ times (held s.collections) n + times (garbage s) n → (has (held s.collections) n || has (garbage s) n) ≡ true
+    either true e some = rw e refl
+    either false e some = rw e (has_times (garbage s) n (omega (arith, no_times (held s.collections) n e, some)))
 
 begun_once : (s : State) (n : List ℕ) → CollectsSoundly s → times (held (gc_begin_step s).1.collections) n ≤ 1
 begun_once s n h =
     let sorted : IsStrictlySortedBy byte_cmp (garbage s) = IsStrictlySortedBy-filter byte_cmp (λ name. not (has (living s.catalog ++ held s.collections) name)) s.managed h.sorted in
     either (has (held s.collections) n) refl (once_times (garbage s) n (once_sorted (garbage s) sorted))
-    where
-      either : (b : Bool) → has (held s.collections) n ≡ b → times (garbage s) n ≤ 1 → times (held (gc_begin_step s).1.collections) n ≤ 1
-      either true e few =
-          let none : has (garbage s) n ≡ false = garbage_is s n ∙ grind (arith, e) in
-          omega (arith, held_put s.collections.unfinished s.collections.next (begun (garbage s)) n, no_times (garbage s) n none, once_times (held s.collections) n h.once)
-      either false e few = omega (arith, held_put s.collections.unfinished s.collections.next (begun (garbage s)) n, no_times (held s.collections) n e, few)
+  where
+    either : (b : Bool) → has (held s.collections) n ≡ b → times (garbage s) n ≤ 1 → times (held (gc_begin_step s).1.collections) n ≤ 1
+    either true e few =
+        let none : has (garbage s) n ≡ false = garbage_is s n ∙ grind (arith, e) in
+        omega (arith, held_put s.collections.unfinished s.collections.next (begun (garbage s)) n, no_times (garbage s) n none, once_times (held s.collections) n h.once)
+    either false e few = omega (arith, held_put s.collections.unfinished s.collections.next (begun (garbage s)) n, no_times (held s.collections) n e, few)
 
 begun_collecting : (s : State) → CollectsSoundly s → CollectsSoundly (gc_begin_step s).1
 begun_collecting s h =
@@ -237,9 +237,9 @@ begun_collecting s h =
       ordered = rises_put s.collections.unfinished s.collections.next (begun (garbage s)) h.ordered;
       sorted = h.sorted;
     }
-    where
-      unneeded : (a b c : Bool) → (not (a || b) && c) ≡ true → a ≡ false
-      unneeded a b c e = grind (arith, e)
+  where
+    unneeded : (a b c : Bool) → (not (a || b) && c) ≡ true → a ≡ false
+    unneeded a b c e = grind (arith, e)
 
 -- ---- a collection tries a name
 

@@ -4,7 +4,10 @@ pub mod Changes
 pub mod ChecksumFits
 pub mod ComputedValues
 pub mod CollectionStates
+pub mod HeldNames
+pub mod HeldStates
 pub mod Collects
+pub mod CollectsInSteps
 pub mod ComputedRuns
 pub mod ComputedValidations
 pub mod Entries
@@ -15,9 +18,6 @@ pub mod JsonStrings
 pub mod JsonWords
 pub mod JsonSplice
 pub mod JsonWithin
-pub mod HeldNames
-pub mod HeldStates
-pub mod CollectsInSteps
 pub mod JsonReadBack
 pub mod PrintedTokens
 pub mod ReadPrinted

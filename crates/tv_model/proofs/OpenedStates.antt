@@ -1,17 +1,16 @@
 -- A sound start opens to a sound state.
-use Rattle.std.proofs.Common.{◌≡◌, ◌⊎◌, inl, inr, ℕ, ◌<◌, ◌^◌, ◌==◌, true, false, true≢false, cond, List, [], ◌∷◌, Option, Some, None, refl, sym, ap, subst, ◌∙◌, ◌+◌, arith}
+use Rattle.std.proofs.Common.{◌≡◌, ℕ, ◌<◌, ◌^◌, true, true≢false, List, [], ◌∷◌, Option, Some, None, refl, sym, ap, subst, ◌∙◌, arith}
 use Rattle.std.specs.Prelude.{IsSome, is_some, option_map}
 use Rattle.std.specs.List.{AllByRecursion}
-use Rattle.std.proofs.lemmas.Bool.Decides.{nat_tests}
 use Rattle.tv_model.specs.declared.segment.LiveSegment.{LiveSegment}
 use Rattle.tv_model.specs.Names.{has, list_name, meta_name}
 use Rattle.tv_model.specs.Files.{Reads}
 use Rattle.tv_model.specs.Footer.{IsGood}
 use Rattle.tv_model.specs.Segments.{all_required}
 use Rattle.tv_model.specs.Commits.{Commit, Settings, IsSegment}
-use Rattle.tv_model.specs.CommitEvents.{is_sealed, last_stamp}
+use Rattle.tv_model.specs.CommitEvents.{is_sealed}
 use Rattle.tv_model.specs.State.{State, FileState, Sealed, file_at}
-use Rattle.tv_model.specs.Index.{HasFiles, IsSoundMeta, IsSoundImage, FindsCommit, managed_with, OpensTo, next_after}
+use Rattle.tv_model.specs.Index.{HasFiles, IsSoundMeta, IsSoundImage, FindsCommit, managed_with, OpensTo}
 use Rattle.tv_model.specs.SoundStates.{AreGood, AreWithin, IsSoundState}
 use Rattle.tv_model.proofs.Entries.{has_inserted, has_kept}
 use Rattle.tv_model.proofs.Required.{required_is_file}

@@ -303,11 +303,12 @@ ended_sound s number c there whole h = record {
   within = h.within;
   live_within = h.live_within;
 }
-    where
-      undone : (n : List ℕ) → (has c.done n ≡ true → ⊥) → has c.done n ≡ false
-      undone n never = false_from_ne_true (has c.done n) never
-      undone_stays : (n : List ℕ) → has c.done n ≡ false → has s.managed n ≡ true → has (without c.done s.managed) n ≡ true
-      undone_stays n e there = has_without c.done s.managed n ∙ (rw e there)
+  where
+    undone : (n : List ℕ) → (has c.done n ≡ true → ⊥) → has c.done n ≡ false
+    undone n never = false_from_ne_true (has c.done n) never
+
+    undone_stays : (n : List ℕ) → has c.done n ≡ false → has s.managed n ≡ true → has (without c.done s.managed) n ≡ true
+    undone_stays n e there = has_without c.done s.managed n ∙ (rw e there)
 
 -- ---- the index is opened again
 

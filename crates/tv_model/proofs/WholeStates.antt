@@ -6,13 +6,12 @@ use Rattle.std.proofs.lemmas.Bool.{false_from_ne_true, not-false}
 use Rattle.tv_model.specs.declared.event.Event.{Event}
 use Rattle.tv_model.specs.declared.segment.LiveSegment.{LiveSegment}
 use Rattle.tv_model.specs.Names.{byte_cmp, is, has}
-use Rattle.tv_model.specs.Footer.{IsGood}
 use Rattle.tv_model.specs.Segments.{name_of, all_required}
 use Rattle.tv_model.specs.State.{State, FileState, Sealed, Open, Left, at, file_at, with_file, on_catalog}
 use Rattle.tv_model.specs.CommitEvents.{is_sealed, chosen, first_unsealed, committed}
 use Rattle.tv_model.specs.Collections.{Collection, collection_at, done_of, held}
 use Rattle.tv_model.specs.Living.{living, segment_names}
-use Rattle.tv_model.specs.CollectionEvents.{garbage, files_without, without_files, having_deleted, left, with_left, released}
+use Rattle.tv_model.specs.CollectionEvents.{garbage, files_without, without_files, having_deleted, left, with_left}
 use Rattle.tv_model.specs.DeleteEvents.{delete_name}
 use Rattle.tv_model.specs.ReopenEvents.{all_left}
 use Rattle.tv_model.specs.Machine.{Turn, after}

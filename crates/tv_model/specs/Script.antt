@@ -1,5 +1,5 @@
 -- The lines of a script, and the events that they are.
-use Rattle.std.specs.Prelude.{ℕ, ◌≡◌, ◌<◌, ◌≤◌, ◌^◌, ◌==◌, true, false, List, [], ◌∷◌, length, map, codes, Option, Some, None, Ok, IfSome, IsUtf8, if◌then◌else◌}
+use Rattle.std.specs.Prelude.{ℕ, ◌≡◌, ◌<◌, ◌≤◌, ◌^◌, ◌==◌, true, List, [], ◌∷◌, length, map, codes, Option, Some, None, Ok, IfSome, IsUtf8, if◌then◌else◌}
 use Rattle.std.specs.Fmt.{decimal}
 use Rattle.std.specs.List.{join_with_byte, onto_first, AllByRecursion}
 use Rattle.hex.specs.Hex.{encode_lower, decode_of}

@@ -9,7 +9,8 @@ ghost use Rattle.tv_model.specs.declared.event.Event.{Event};
 ghost use Rattle.tv_model.specs.declared.segment.DeleteMeta.{DeleteMeta};
 ghost use Rattle.tv_model.specs.declared.segment.SegmentComponent.{SegmentComponent};
 ghost use Rattle.tv_model.specs.declared.segment.SegmentComponent.TheVariants.{Delete};
-ghost use Rattle.tv_model.specs.Collecting.{Collects, CollectsAllElse, CollectsIn, CollectsInSteps};
+ghost use Rattle.tv_model.specs.Collecting.{Collects, CollectsIn, CollectsInSteps};
+ghost use Rattle.tv_model.specs.Collecting.{CollectsAllElse, IsAtOnce};
 ghost use Rattle.tv_model.specs.Collections.{Collection};
 ghost use Rattle.tv_model.specs.Commits.{Commit, IsCommit, Settings, printed};
 ghost use Rattle.tv_model.specs.Files.{Reads};
@@ -37,8 +38,7 @@ use crate::id::SegmentId;
 
 /// In each run of an index that was just opened, a searcher shows one commit of the run for life,
 /// and a reader never shows an older commit than it showed before; both end where the index is opened
-/// again. From a sound state on, what is
-/// shown of a file is the body with which it was sealed.
+/// again. From a sound state on, what is shown of a file is the body with which it was sealed.
 pub fn searchers_keep_their_commit()
     ensures serves { (s : State) (turns : List Turn) → IsJustOpened s → Serves s turns }
     ensures as_sealed { (s : State) (turns : List Turn) → IsSoundState s
@@ -59,14 +59,16 @@ pub fn sound_starts_open_to_sound_states()
 
 /// A collection takes exactly the managed names that nothing needs and no other collection holds. Each
 /// of them is told as done or as failed, and those that failed stay managed. So does each collection of
-/// a run. One in steps does the same, and names that it didn't try stay managed too. After an index was
-/// opened again, a collection of which no delete is refused leaves exactly the files that are needed.
+/// a run. One in steps does the same, and names that it didn't try stay managed too; one at once does to
+/// files and names what one in steps does with the same outcomes. After an index was opened again, a
+/// collection of which no delete is refused leaves exactly the files that are needed.
 pub fn collections_take_what_nothing_needs()
     ensures collects { (s : State) (outcomes : List Bool)
         → IsStrictlySortedBy byte_cmp s.managed → Collects s outcomes }
     ensures in_runs { (s : State) (turns : List Turn)
         → IsStrictlySortedBy byte_cmp s.managed → CollectsIn s turns }
     ensures in_steps { (s : State) → IsSoundState s → CollectsInSteps s }
+    ensures at_once { (s : State) (outcomes : List Bool) → IsAtOnce s outcomes }
     ensures all_else { (s : State) → IsSoundState s → CollectsAllElse s }
 {}
 

@@ -1,6 +1,6 @@
 use Rattle.tv_model.proofs.Collects.{collects, collects_in}
-use Rattle.tv_model.proofs.CollectsInSteps.{collects_in_steps, collects_all_else}
+use Rattle.tv_model.proofs.CollectsInSteps.{collects_in_steps, collects_at_once, collects_all_else}
 use Rattle.tv_model.proofs.laws.collections_take_what_nothing_needs.Goals as goal
 
 pub returns : goal.returns
-returns c = record { collects = collects; in_runs = collects_in; in_steps = collects_in_steps; all_else = collects_all_else }
+returns c = record { collects = collects; in_runs = collects_in; in_steps = collects_in_steps; at_once = collects_at_once; all_else = collects_all_else }
