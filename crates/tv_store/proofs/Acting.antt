@@ -1,5 +1,5 @@
 -- What the calls of the events do, put together.
-use Rattle.std.proofs.Common.{ℕ, ◌≡◌, ◌<◌, ◌+◌, true, false, List, [], length, Result, Ok, Err, Some, refl, sym, ap, subst, ◌∙◌, inl, arith}
+use Rattle.std.proofs.Common.{ℕ, ◌≡◌, ◌≤◌, ◌<◌, ◌+◌, true, false, List, [], length, Result, Ok, Err, Some, refl, sym, ap, subst, ◌∙◌, inl, arith}
 use Rattle.std.specs.Prelude.{IfOk, OnOk, OnErr}
 use Rattle.std.proofs.lemmas.Result.{on_err_weaker}
 use Rattle.tv_base.specs.declared.error.TantivyError.{TantivyError}
@@ -11,7 +11,8 @@ use Rattle.tv_managed.specs.Collecting.{meta_lock_name}
 use Rattle.tv_model.specs.Names.{meta_name}
 use Rattle.tv_model.proofs.Changes.{lifted}
 use Rattle.tv_model.specs.Files.{Rose}
-use Rattle.tv_model.specs.State.{Catalog, State, StepResult, on_catalog}
+use Rattle.tv_model.specs.Collections.{Collections, no_collections}
+use Rattle.tv_model.specs.State.{Catalog, State, StepResult, no_readers, on_catalog}
 use Rattle.tv_model.specs.Machine.{catalog_step, step}
 use Rattle.tv_model.specs.Readable.{ReadsGood}
 use Rattle.tv_model.specs.declared.event.Event.{Event}
@@ -25,7 +26,7 @@ use Rattle.tv_store.specs.Applying.{Stepped, ActCause, ApplyFaults, GoneAt, MayN
 use Rattle.tv_store.specs.Stays.{Asks, Stays, KeepsDotted, KeepsReaders, EventFaults}
 use Rattle.tv_index.specs.Saving.{FrameNotes}
 use Rattle.tv_store.specs.Committing.{Commits}
-use Rattle.tv_store.specs.Acting.{Acts, KeepsMeta, OnFiles, LeavesStep, Passes, StepsTo, StepsReading, StepsDeleting}
+use Rattle.tv_store.specs.Acting.{Acts, GivesNone, KeepsMeta, OnFiles, LeavesStep, Passes, StepsTo, StepsReading, StepsDeleting}
 use Rattle.tv_store.specs.Catalogs.{CatalogCause, FitsCatalog}
 use Rattle.tv_store.proofs.Holding.{same_holds}
 use Rattle.tv_store.proofs.Lifting.{catalog_held, numbers_grow, plain_event}
@@ -51,6 +52,11 @@ passed_deleting told event old new none h = record {
   locks = h.locks;
   watched = none old.watched new.watched h.watched;
 }
+
+-- the same collections give no number
+none_given : {A E : Type 0} {before now : Collections} (result : Result A E) → now ≡ before → OnOk result (now.next ≤ before.next)
+none_given (Ok a) same = omega (arith, ap (λ (c : Collections). c.next) same)
+none_given (Err e) same = tt
 
 on_err : {A E : Type 0} (result : Result A E) (P : Type 0) → P → OnErr result P
 on_err (Ok a) P h = tt
@@ -78,7 +84,7 @@ module _ {O W C : Type 0} (g : Ghosts O W C) (old new : StoreState O) (event sho
 
   pub acts : Steps → IfOk result (λ answer. length answer < (g.view new.outside).room)
       → ((bound : ℕ) → AtMost bound old.kept → AtMost (bound + written_by shown) new.kept)
-      → ((bound : ℕ) → FewNumbers bound old.kept.catalog.reading → OnOk result (FewNumbers (bound + written_by shown) new.kept.catalog.reading))
+      → ((bound : ℕ) → FewNumbers bound old.kept.catalog.reading old.kept.collections → OnOk result (FewNumbers (bound + written_by shown) new.kept.catalog.reading new.kept.collections))
       → ApplyFaults g old new shown result → KeepsMeta g old new result → (g.told.content → KeepsDotted (g.view old.outside).reads (g.view new.outside).reads) → Frames
       → Acts g old new event result
   acts step room lens numbers faults meta dotted frame =
@@ -116,14 +122,14 @@ module _ {O W C : Type 0} (g : Ghosts O W C) (old new : StoreState O) (event sho
       let stays = does.frame.stays in
       let below = weaker (g.view old.outside) (g.view new.outside) stays.below in
       acts (step_alone good below.frame.tells_none.deletes_none.refusals step) does.room lens
-      (λ bound h. numbers_stay bound (written_by shown) old.kept.catalog.reading new.kept.catalog.reading result does.frame.reading h) (faults_alone spent all free does.faults) does.meta does.dotted
+      (λ bound h. numbers_stay bound (written_by shown) old.kept.catalog.reading new.kept.catalog.reading old.kept.collections new.kept.collections result does.frame.reading does.numbers h) (faults_alone spent all free does.faults) does.meta does.dotted
       (record { form = stays.form; is_open = stays.is_open; below = passed g.told shown (g.view old.outside) (g.view new.outside) none below })
 
   -- one that reads a commit's files
   pub acts_reading : NotesNothing shown → (good : State → Type 0) → ((s : State) → good s → ReadsGood s shown)
       → StepsReading g old new (λ s. step s shown []) good result → IfOk result (λ answer. length answer < (g.view new.outside).room)
       → ((bound : ℕ) → AtMost bound old.kept → AtMost (bound + written_by shown) new.kept)
-      → ((bound : ℕ) → FewNumbers bound old.kept.catalog.reading → OnOk result (FewNumbers (bound + written_by shown) new.kept.catalog.reading))
+      → ((bound : ℕ) → FewNumbers bound old.kept.catalog.reading old.kept.collections → OnOk result (FewNumbers (bound + written_by shown) new.kept.catalog.reading new.kept.collections))
       → ApplyFaults g old new shown result → Stays (OnlyReads g.told) g.view old new
       → Acts g old new event result
   acts_reading none good reads did room lens numbers faults frame =
@@ -133,15 +139,34 @@ module _ {O W C : Type 0} (g : Ghosts O W C) (old new : StoreState O) (event sho
       (λ tells n dot other. frame.below.content tells n)
       (record { form = frame.form; is_open = frame.is_open; below = passed g.told shown (g.view old.outside) (g.view new.outside) none below })
 
+  -- one after which nobody reads, and no collection was begun
+  pub acts_anew : NotesNothing shown → ((s : State) → ReadsGood s shown) → (TakesMetaLock old.kept.catalog shown → ⊥)
+      → StepsTo g old new (λ s. step s shown []) result → IfOk result (λ answer. length answer < (g.view new.outside).room)
+      → ((bound : ℕ) → AtMost bound old.kept → AtMost (bound + written_by shown) new.kept)
+      → OnOk result ((new.kept.collections ≡ no_collections) × (new.kept.catalog.reading ≡ no_readers))
+      → EventFaults ⊥ (g.view old.outside) (g.view new.outside) result → Stays (OnlyReads g.told) g.view old new
+      → Acts g old new event result
+  acts_anew none good free step room lens anew faults frame =
+      let below = frame.below.kept in
+      acts (step_alone good below.frame.tells_none.deletes_none.refusals step) room lens (λ bound few. begun (bound + written_by shown) result anew)
+      (faults_alone ⊥ (λ never. absurd never) free faults)
+      (λ tells. on_err result ((g.view new.outside).reads meta_name ≡ (g.view old.outside).reads meta_name) (frame.below.content tells meta_name))
+      (λ tells n dot other. frame.below.content tells n)
+      (record { form = frame.form; is_open = frame.is_open; below = passed g.told shown (g.view old.outside) (g.view new.outside) none below }) where
+        begun : (bound : ℕ) (r : Result (List ℕ) TantivyError) → OnOk r ((new.kept.collections ≡ no_collections) × (new.kept.catalog.reading ≡ no_readers)) → OnOk r (FewNumbers bound new.kept.catalog.reading new.kept.collections)
+        begun bound (Ok a) h = rw (h.0, h.1) (record { next_reader = omega arith; next_searcher = omega arith; next_collection = omega arith; next_snapshots = tt })
+        begun bound (Err e) h = tt
+
   -- one that deletes files
   pub acts_deleting : NotesNothing shown → ((s : State) → ReadsGood s shown)
       → IfOk result (StepsDeleting g old new (λ s outcomes. step s shown outcomes)) → IfOk result (λ answer. length answer < (g.view new.outside).room)
       → ((bound : ℕ) → AtMost bound old.kept → AtMost (bound + written_by shown) new.kept)
+      → GivesNone old new result
       → ApplyFaults g old new shown result → KeepsMeta g old new result → (g.told.content → KeepsDotted (g.view old.outside).reads (g.view new.outside).reads) → KeepsReaders (MayDelete g.told) g.view old new
       → Acts g old new event result
-  acts_deleting none good did room lens faults meta dotted frame =
+  acts_deleting none good did room lens numbers faults meta dotted frame =
       acts (stepped_deleting g old new shown (λ s outcomes. step s shown outcomes) result (λ s outcomes. refl) good did) room lens
-      (λ bound h. numbers_stay bound (written_by shown) old.kept.catalog.reading new.kept.catalog.reading result frame.reading h) faults meta dotted
+      (λ bound h. numbers_stay bound (written_by shown) old.kept.catalog.reading new.kept.catalog.reading old.kept.collections new.kept.collections result frame.reading numbers h) faults meta dotted
       (record { form = frame.stays.form; is_open = frame.stays.is_open; below = passed_deleting g.told shown (g.view old.outside) (g.view new.outside) none frame.stays.below })
 
   -- one that commits
@@ -154,7 +179,7 @@ module _ {O W C : Type 0} (g : Ghosts O W C) (old new : StoreState O) (event sho
         step = step_alone good below.frame.tells_none.deletes_none.refusals (λ tells s held. h.step tells s held tt);
         room = h.room;
         lens = λ bound all. at_most bound (written_by shown) new.kept (same_lens bound old.kept new.kept.open_files h.frame.open_files all);
-        numbers = λ bound few. numbers_stay bound (written_by shown) old.kept.catalog.reading new.kept.catalog.reading result h.frame.reading few;
+        numbers = λ bound few. numbers_stay bound (written_by shown) old.kept.catalog.reading new.kept.catalog.reading old.kept.collections new.kept.collections result h.frame.reading (none_given result h.frame.collections) few;
         faults = faults_alone ⊥ (λ never. absurd never) free h.faults;
         leaves = record {
           meta = λ tells s held whole. on_err_weaker result (λ left. ([], left)) (h.meta tells s held tt);
@@ -194,7 +219,7 @@ acts_known g old mid new event known result steps fits kept outside is_open answ
     ))))
     room
     (λ bound h. at_most bound (written_by event) new.kept (subst (AtMost bound) (sym now) h))
-    (λ bound few. ok_result result (subst (λ (k : Kept). FewNumbers (bound + written_by event) k.catalog.reading) (sym now) (numbers_grow bound old.kept.catalog old.kept.managed event known few steps)))
+    (λ bound few. ok_result result (subst (λ (k : Kept). FewNumbers (bound + written_by event) k.catalog.reading k.collections) (sym now) (numbers_grow bound old.kept.catalog old.kept.collections old.kept.managed event known few steps)))
     (faults_alone g old new event event refl result ⊥ (λ never. absurd never) (plain.free old.kept.catalog) (subst (λ o. EventFaults ⊥ (g.view o) (g.view new.outside) result) outside faults))
     (λ tells. on_err result ((g.view new.outside).reads meta_name ≡ (g.view old.outside).reads meta_name) (below.content tells meta_name))
     (λ tells n dot other. below.content tells n)

@@ -58,7 +58,7 @@ module _ {O W C : Type 0} (g : Ghosts O W C) (old mid new : StoreState O) (event
   grows_told = record {
     lens = lens_as;
     numbers = λ bound more small few.
-        subst (FewNumbers (bound + more)) (sym (ap (λ (k : Kept). k.catalog.reading) kept)) (few_below (bound + written_by event) (bound + more) mid.kept.catalog.reading (omega (arith, small)) (acted.numbers bound few));
+        subst (λ (k : Kept). FewNumbers (bound + more) k.catalog.reading k.collections) (sym kept) (few_below (bound + written_by event) (bound + more) mid.kept.catalog.reading mid.kept.collections (omega (arith, small)) (acted.numbers bound few));
   }
 
   -- or it wasn't

@@ -51,6 +51,7 @@ pub kept_by_files : {O W : Type 0} {keeps : View W → View W → Type 0} {view 
 kept_by_files {O} {W} {keeps} {view} {old} {new} catalog frame =
     let form : new.form ≡ old.form = frame.managed.form in
     let names : new.managed ≡ old.managed = frame.managed.names in
+    let collections : new.collections ≡ old.collections = frame.managed.collections in
     let open_files : new.open_files ≡ old.open_files = frame.open_files in
     let left : new.left ≡ old.left = frame.managed.left in
     cc

@@ -1,5 +1,5 @@
 -- What is held after a collection, and after the end of a segment; and which files are sealed.
-use Rattle.std.proofs.Common.{◌≡◌, ℕ, inl, inr, ⊎_elim, Bool, true, false, true≢false, cond, not, ◌&&◌, ◌||◌, List, [], ◌∷◌, length, Option, Some, None, option_map, is_some, refl, sym, ap, subst, ◌∙◌, arith}
+use Rattle.std.proofs.Common.{◌≡◌, ◌≢◌, filter, ℕ, inl, inr, ⊎_elim, Bool, true, false, true≢false, cond, not, ◌&&◌, ◌||◌, List, [], ◌∷◌, ◌++◌, length, Option, Some, None, option_map, is_some, refl, sym, ap, subst, ◌∙◌, arith}
 use Rattle.std.specs.Prelude.{IsSome}
 use Rattle.std.specs.List.{AllByRecursion}
 use Rattle.std.specs.BTreeMap.{is_at}
@@ -8,17 +8,17 @@ use Rattle.tv_model.specs.Names.{byte_cmp, is, has, meta_name, list_name}
 use Rattle.tv_model.specs.Files.{Reads, RoseBy}
 use Rattle.tv_model.specs.Listing.{Lists}
 use Rattle.tv_model.specs.Segments.{components}
-use Rattle.tv_model.specs.Collections.{done_of, failed_of, collectable, without}
+use Rattle.tv_model.specs.Collections.{Collections, done_of, failed_of, collectable, held, without}
 use Rattle.tv_model.specs.Living.{living, segment_names}
 use Rattle.tv_model.specs.State.{Catalog, State, FileState, Sealed, Open, Left, at, live_at, file_at}
-use Rattle.tv_model.specs.CollectionEvents.{garbage, without_files, without_live, collected_line, gc_step, left, released}
+use Rattle.tv_model.specs.CollectionEvents.{garbage, without_files, without_live, collected_line, gc_step, left, released, with_left}
 use Rattle.tv_model.specs.Machine.{refused_in}
 use Rattle.tv_model.specs.CommitEvents.{is_sealed}
 use Rattle.tv_model.specs.Meaning.{Means}
-use Rattle.tv_model.specs.Commits.{IsSegment, IndexForm}
+use Rattle.tv_model.specs.Commits.{Commit, IsSegment, IndexForm}
 use Rattle.tv_model.specs.Index.{IsFileOf}
 use Rattle.tv_model.proofs.Entries.{is_text}
-use Rattle.tv_model.proofs.CollectionStates.{has_without, at_without, living_spared, meta_living, at_left}
+use Rattle.tv_model.proofs.CollectionStates.{has_append, has_without, at_without, living_spared, meta_living, at_left}
 use Rattle.tv_directory.specs.declared.directory.Directory.{Ghosts}
 use Rattle.tv_managed.specs.Collecting.{FailsAtMost}
 use Rattle.tv_store.specs.FileCalls.{Asked, Tried, Collects, LeavesFiles}
@@ -33,6 +33,13 @@ use Rattle.tv_store.proofs.CommitEvents.{undotted_isnt_list, files_named}
 same_collectable : (needed others managed : List (List ℕ)) → ((n : List ℕ) → has needed n ≡ has others n) → collectable needed managed ≡ collectable others managed
 same_collectable needed others [] h = refl
 same_collectable needed others (x ∷ managed) h = rw (h x, same_collectable needed others managed h) refl
+
+-- what is needed, and what is held, by the state
+same_needs : (needed : List (List ℕ)) (collections held_by : Collections) (catalog : Catalog) → collections ≡ held_by → ((n : List ℕ) → has needed n ≡ has (living catalog) n)
+    → (n : List ℕ) → has (needed ++ held collections) n ≡ has (living catalog ++ held held_by) n
+same_needs needed collections held_by catalog same needs n =
+    has_append needed (held collections) n ∙ ap (λ (b : Bool). b || has (held collections) n) (needs n) ∙ ap (λ (c : Collections). has (living catalog) n || has (held c) n) same
+    ∙ sym (has_append (living catalog) (held held_by) n)
 
 -- as many deletes were refused as names failed
 refused_is : (names : List (List ℕ)) (outcomes : List Bool) → length outcomes ≡ length names → refused_in outcomes ≡ length (failed_of names outcomes)
@@ -95,26 +102,45 @@ module _ {O W C : Type 0} (g : Ghosts O W C) (catalog : Catalog) (old new : File
   still : (text : List ℕ) → Means old.form.settings old.form.schema text s.catalog.commit → Means new.form.settings new.form.schema text s.catalog.commit
   still text means = subst (λ (f : IndexForm). Means f.settings f.schema text s.catalog.commit) (sym made) means
 
-  -- after the files of some names are gone
-  gone_holds : (names deleted failed : List (List ℕ)) → g.told.content → Holds (g.view old.outside).reads (kept_of catalog old) s → has deleted meta_name ≡ false → Collects g names old new deleted failed
+  -- after the files of some names are gone, with these managed names and these collections
+  pub gone_holds : (gone managed : List (List ℕ)) (collections : Collections) → Holds (g.view old.outside).reads (kept_of catalog old) s → has gone meta_name ≡ false
+      → new.managed ≡ managed → new.collections ≡ collections
+      → ((n : List ℕ) → has gone n ≡ true → (g.view new.outside).reads n ≡ None) → ((n : List ℕ) → has gone n ≡ false → n ≢ list_name → (g.view new.outside).reads n ≡ (g.view old.outside).reads n)
+      → ((n : List ℕ) → at new.open_files n ≡ cond (has gone n) None (at old.open_files n)) → ((n : List ℕ) → has new.left n ≡ (not (has gone n) && has old.left n))
+      → Lists ((g.view new.outside).reads list_name) managed → has managed meta_name ≡ true
+      → Holds (g.view new.outside).reads (kept_of catalog new) (record s { files = filter (λ e. not (has gone e.0)) s.files; managed = managed; collections = collections })
+  gone_holds gone managed collections h spared names are absent others open_files left_files listing listed = record {
+    catalog = h.catalog;
+    managed = names;
+    collections = are;
+    segments = h.segments;
+    names = λ n is. h.names n (was_there (has gone n) (file_at s n) (sym (ap is_some (at_without gone s.files n)) ∙ is));
+    files = λ n file.
+        subst (λ (o : Option FileState). FileHolds o ((g.view new.outside).reads n) (at new.open_files n)) (sym (at_without gone s.files n))
+        (held_file (has gone n) (file_at s n) _ _ _ _ (absent n) (λ e. others n e (undotted_isnt_list n file.0)) (open_files n) (h.files n file));
+    left = λ n file. left_stays (has gone n) (has old.left n) (has new.left n) (file_at s n) (left_files n) (h.left n file) ∙ ap is_left (sym (at_without gone s.files n));
+    meta = (h.meta.0, others meta_name spared (undotted_isnt_list meta_name refl) ∙ h.meta.1, still h.meta.0 h.meta.2);
+    listing = listing;
+    listed = listed;
+  }
+
+  -- after a collection
+  collected_holds : (names deleted failed : List (List ℕ)) → g.told.content → Holds (g.view old.outside).reads (kept_of catalog old) s → has deleted meta_name ≡ false → Collects g names old new deleted failed
       → (Lists ((g.view old.outside).reads list_name) old.managed → Lists ((g.view new.outside).reads list_name) new.managed)
       → Holds (g.view new.outside).reads (kept_of catalog new) (without_files s deleted)
-  gone_holds names deleted failed tells h spared told list =
-      let others = told.tried.others tells in
+  collected_holds names deleted failed tells h spared told list =
       let managed : new.managed ≡ without deleted s.managed = told.tried.managed ∙ ap (without deleted) h.managed in
-      record {
-        catalog = h.catalog;
-        managed = managed;
-        segments = h.segments;
-        names = λ n is. h.names n (was_there (has deleted n) (file_at s n) (sym (ap is_some (at_without deleted s.files n)) ∙ is));
-        files = λ n file.
-            subst (λ (o : Option FileState). FileHolds o ((g.view new.outside).reads n) (at new.open_files n)) (sym (at_without deleted s.files n))
-            (held_file (has deleted n) (file_at s n) _ _ _ _ (told.tried.gone tells n) (λ e. others n e (undotted_isnt_list n file.0)) (told.open_files n) (h.files n file));
-        left = λ n. left_stays (has deleted n) (has old.left n) (has new.left n) (file_at s n) (told.left n) (h.left n) ∙ ap is_left (sym (at_without deleted s.files n));
-        meta = (h.meta.0, others meta_name spared (undotted_isnt_list meta_name refl) ∙ h.meta.1, still h.meta.0 h.meta.2);
-        listing = subst (λ (ns : List (List ℕ)). Lists ((g.view new.outside).reads list_name) ns) managed (list (subst (λ (ns : List (List ℕ)). Lists ((g.view old.outside).reads list_name) ns) (sym h.managed) h.listing));
-        listed = has_without deleted s.managed meta_name ∙ rw spared h.listed;
-      }
+      gone_holds deleted (without deleted s.managed) s.collections h spared managed (told.collections ∙ h.collections) (told.tried.gone tells) (told.tried.others tells) told.open_files told.left
+      (subst (λ (ns : List (List ℕ)). Lists ((g.view new.outside).reads list_name) ns) managed (list (subst (λ (ns : List (List ℕ)). Lists ((g.view old.outside).reads list_name) ns) (sym h.managed) h.listing)))
+      (has_without deleted s.managed meta_name ∙ rw spared h.listed)
+
+  -- a collection takes the names that nothing needs
+  pub takes_garbage : (needed : List (List ℕ)) → Holds (g.view old.outside).reads (kept_of catalog old) s → ((n : List ℕ) → has needed n ≡ has (living catalog) n)
+      → collectable (needed ++ held old.collections) old.managed ≡ garbage s
+  takes_garbage needed h needs =
+      ap (collectable (needed ++ held old.collections)) h.managed
+      ∙ same_collectable (needed ++ held old.collections) (living s.catalog ++ held s.collections) s.managed
+      (same_needs needed old.collections s.collections s.catalog h.collections (λ n. needs n ∙ ap (λ (c : Catalog). has (living c) n) h.catalog))
 
   -- the step of a collection
   pub collected : (needed deleted failed : List (List ℕ)) → g.told.content → Holds (g.view old.outside).reads (kept_of catalog old) s → ((n : List ℕ) → has needed n ≡ has (living catalog) n)
@@ -122,45 +148,51 @@ module _ {O W C : Type 0} (g : Ghosts O W C) (catalog : Catalog) (old new : File
       → (collected_line deleted failed ≡ (gc_step s told.tried.outcomes).0) × Holds (g.view new.outside).reads (kept_of catalog new) (gc_step s told.tried.outcomes).1
   collected needed deleted failed tells h needs told list =
       let outcomes = told.tried.outcomes in
-      let all : collectable needed old.managed ≡ garbage s =
-      ap (collectable needed) h.managed ∙ same_collectable needed (living s.catalog) s.managed (λ n. needs n ∙ ap (λ (c : Catalog). has (living c) n) h.catalog) in
+      let all : collectable (needed ++ held old.collections) old.managed ≡ garbage s = takes_garbage needed h needs in
       let done : deleted ≡ done_of (garbage s) outcomes = told.tried.deleted_is ∙ ap (λ (ns : List (List ℕ)). done_of ns outcomes) all in
       let not_done : failed ≡ failed_of (garbage s) outcomes = told.tried.failed_is ∙ ap (λ (ns : List (List ℕ)). failed_of ns outcomes) all in
       let spared : has deleted meta_name ≡ false = ap (λ (ns : List (List ℕ)). has ns meta_name) done ∙ living_spared s outcomes meta_name (meta_living s) in (
         ap (λ (ns : List (List ℕ)). collected_line ns failed) done ∙ ap (λ (ns : List (List ℕ)). collected_line (done_of (garbage s) outcomes) ns) not_done,
-        subst (λ (ns : List (List ℕ)). Holds (g.view new.outside).reads (kept_of catalog new) (without_files s ns)) done (gone_holds needed deleted failed tells h spared told list),
+        subst (λ (ns : List (List ℕ)). Holds (g.view new.outside).reads (kept_of catalog new) (without_files s ns)) done (collected_holds needed deleted failed tells h spared told list),
       )
 
-  -- and the state after the end of a segment
-  pub released_holds : (id : List ℕ) (segment : LiveSegment) → Holds (g.view old.outside).reads (kept_of catalog old) s → live_at catalog id ≡ Some segment
-      → new.outside ≡ old.outside → new.managed ≡ old.managed → LeavesFiles (segment_names (id, segment)) old new
-      → Holds (g.view new.outside).reads (kept_of (without_live catalog id) new) (released s id segment).1
-  released_holds id segment h there outside managed told =
-      let names = segment_names (id, segment) in
-      let known : IsSegment (id, segment) = found_segment s.catalog.live id segment (ap (λ (c : Catalog). live_at c id) (sym h.catalog) ∙ there) h.segments in
-      subst (λ o. Holds (g.view o).reads (kept_of (without_live catalog id) new) (released s id segment).1) (sym outside) (record {
-        catalog = ap (λ (c : Catalog). without_live c id) h.catalog;
-        managed = managed ∙ h.managed;
-        segments = all_left IsSegment s.catalog.live (is_at (byte_cmp id)) h.segments;
+  -- and the state with this catalog, after the open ones of some files were left
+  pub left_holds : (names : List (List ℕ)) (after : Catalog) → Holds (g.view old.outside).reads (kept_of catalog old) s → AllByRecursion IsSegment after.live → after.commit ≡ s.catalog.commit
+      → new ≡ record old { open_files = new.open_files; left = new.left } → LeavesFiles names old new
+      → Holds (g.view new.outside).reads (kept_of after new) (record s { catalog = after; files = with_left names s.files })
+  left_holds names after h segments commit others told =
+      subst (λ o. Holds (g.view o).reads (kept_of after new) (record s { catalog = after; files = with_left names s.files })) (sym (ap (λ v. v.outside) others)) (record {
+        catalog = refl;
+        managed = ap (λ v. v.managed) others ∙ h.managed;
+        collections = ap (λ v. v.collections) others ∙ h.collections;
+        segments = segments;
         names = λ n some. h.names n (was_named (has names n) (file_at s n) (sym (ap is_some (at_left names s.files n)) ∙ some));
         files = λ n file.
             subst (λ (o : Option FileState). FileHolds o ((g.view old.outside).reads n) (at new.open_files n)) (sym (at_left names s.files n))
             (left_file (has names n) (file_at s n) _ _ _ (told.open_files n) (h.files n file));
-        left = λ n.
+        left = λ n file.
             told.left n
-            ∙ ap (λ (b : Bool). b || (has names n && is_some (at old.open_files n))) (h.left n)
-            ∙ left_is (has names n) (file_at s n) _ _ (λ named. h.files n (named_of IsFileOf names n (files_named id segment.deletes components known.id) named))
+            ∙ ap (λ (b : Bool). b || (has names n && is_some (at old.open_files n))) (h.left n file)
+            ∙ left_is (has names n) (file_at s n) _ _ (λ named. h.files n file)
             ∙ ap is_left (sym (at_left names s.files n));
-        meta = (h.meta.0, h.meta.1, still h.meta.0 h.meta.2);
+        meta = (h.meta.0, h.meta.1, subst (λ (c : Commit). Means new.form.settings new.form.schema h.meta.0 c) (sym commit) (still h.meta.0 h.meta.2));
         listing = h.listing;
         listed = h.listed;
       })
 
+  -- such is that after the end of a segment
+  pub released_holds : (id : List ℕ) (segment : LiveSegment) → Holds (g.view old.outside).reads (kept_of catalog old) s
+      → new ≡ record old { open_files = new.open_files; left = new.left } → LeavesFiles (segment_names (id, segment)) old new
+      → Holds (g.view new.outside).reads (kept_of (without_live catalog id) new) (released s id segment).1
+  released_holds id segment h others told =
+      subst (λ (c : Catalog). Holds (g.view new.outside).reads (kept_of (without_live c id) new) (released s id segment).1) (sym h.catalog)
+      (left_holds (segment_names (id, segment)) (without_live s.catalog id) h (all_left IsSegment s.catalog.live (is_at (byte_cmp id)) h.segments) refl others told)
+
 -- how the count of refused deletes rose
-pub refusals_rose : (needed before after deleted failed : List (List ℕ)) (tells : Type 0) (old new : Reads) (told : Tried (collectable needed before) before after deleted failed tells old new) (start end : ℕ)
+pub refusals_rose : (names before after deleted failed : List (List ℕ)) (tells : Type 0) (old new : Reads) (told : Tried names before after deleted failed tells old new) (start end : ℕ)
     → FailsAtMost (length failed) start end → RoseBy (refused_in told.outcomes) start end
-refusals_rose needed before after deleted failed tells old new told start end h =
-    let same = refused_is (collectable needed before) told.outcomes told.each ∙ ap length (sym told.failed_is) in
+refusals_rose names before after deleted failed tells old new told start end h =
+    let same = refused_is names told.outcomes told.each ∙ ap length (sym told.failed_is) in
     ⊎_elim (λ most. inl (omega (arith, most, same))) (λ full. inr (omega (arith, full))) h
 
 -- ---- which files are sealed

@@ -101,7 +101,7 @@ chosen_are_segments c ids h = filtered (λ e. has ids e.0 && nat_lt 0 (num_docs 
 
 -- ---- what is held
 
-listed_sorted : (read : Option (List ℕ)) (names : List (List ℕ)) (name : List ℕ) → Lists read names → has names name ≡ true → IsStrictlySortedBy byte_cmp names
+pub listed_sorted : (read : Option (List ℕ)) (names : List (List ℕ)) (name : List ℕ) → Lists read names → has names name ≡ true → IsStrictlySortedBy byte_cmp names
 listed_sorted None names name lists there = absurd (true≢false (sym there ∙ ap (λ (ns : List (List ℕ)). has ns name) lists))
 listed_sorted (Some bytes) names name lists there = lists.ordered
 
@@ -138,6 +138,7 @@ published before now kept after s commit text h is is_after saved others list =
     subst (λ (k : Kept). Holds now k (record s { catalog = (committed s.catalog commit.payload commit.segments).1 })) (sym is_after) (record {
       catalog = catalog;
       managed = names;
+      collections = ap (λ (k : Kept). k.collections) is_after ∙ h.collections;
       segments = h.segments;
       names = h.names;
       files = λ n file. subst (λ (read : Option (List ℕ)). FileHolds (file_at s n) read (at kept.open_files n)) (sym (others n file.1 (undotted_isnt_list n file.0))) (h.files n file);

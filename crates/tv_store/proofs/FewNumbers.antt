@@ -1,6 +1,7 @@
 -- Numbers that are few stay few.
 use Rattle.std.proofs.Common.{ℕ, ◌+◌, ◌≤◌, List, [], ◌∷◌, arith}
 use Rattle.std.specs.List.{AllByRecursion}
+use Rattle.tv_model.specs.Collections.{Collections}
 use Rattle.tv_model.specs.State.{Reader, Readers}
 use Rattle.tv_store.specs.ReaderNumbers.{FewNumbers}
 
@@ -9,12 +10,13 @@ few_readers small large [] le h = tt
 few_readers small large (e ∷ readers) le h = (omega (arith, h.0), few_readers small large readers le h.1)
 
 -- below a larger bound too
-pub few_below : (small large : ℕ) (reading : Readers) → small ≤ large → FewNumbers small reading → FewNumbers large reading
-few_below small large reading le h = record {
+pub few_below : (small large : ℕ) (reading : Readers) (collections : Collections) → small ≤ large → FewNumbers small reading collections → FewNumbers large reading collections
+few_below small large reading collections le h = record {
   next_reader = omega (arith, h.next_reader);
   next_searcher = omega (arith, h.next_searcher);
+  next_collection = omega (arith, h.next_collection);
   next_snapshots = few_readers small large reading.readers le h.next_snapshots;
 }
 
-pub few_more : (bound n : ℕ) (reading : Readers) → FewNumbers bound reading → FewNumbers (bound + n) reading
-few_more bound n reading h = few_below bound (bound + n) reading (omega arith) h
+pub few_more : (bound n : ℕ) (reading : Readers) (collections : Collections) → FewNumbers bound reading collections → FewNumbers (bound + n) reading collections
+few_more bound n reading collections h = few_below bound (bound + n) reading collections (omega arith) h

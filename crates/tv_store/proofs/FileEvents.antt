@@ -147,11 +147,12 @@ left_put false left file old here now was = was
 changed : {O : Type 0} (c : Catalog) (reads reads2 : Reads) (old new : FilesState O) (s : State) (name : List ℕ) (file : FileState) (managed : List (List ℕ))
     → IsFileOf name → ((n : List ℕ) → n ≢ name → n ≢ list_name → reads2 n ≡ reads n) → new.managed ≡ managed → Lists (reads2 list_name) managed → has managed meta_name ≡ true
     → FileHolds (Some file) (reads2 name) (at new.open_files name) → ((n : List ℕ) → is_at (byte_cmp name) n ≡ false → at new.open_files n ≡ at old.open_files n)
-    → new.left ≡ old.left → new.form ≡ old.form → is_left (file_at s name) ≡ false → is_left (Some file) ≡ false
+    → new.left ≡ old.left → new.form ≡ old.form → new.collections ≡ old.collections → is_left (file_at s name) ≡ false → is_left (Some file) ≡ false
     → Holds reads (kept_of c old) s → Holds reads2 (kept_of c new) (record (with_file s name file) { managed = managed })
-changed c reads reads2 old new s name file managed fits others names listing listed here rest left made was now h = record {
+changed c reads reads2 old new s name file managed fits others names listing listed here rest left made still was now h = record {
   catalog = h.catalog;
   managed = names;
+  collections = still ∙ h.collections;
   segments = h.segments;
   names = λ n is.
       named {P = IsFileOf n} (is_at (byte_cmp name) n) file (file_at s n) (λ e. subst IsFileOf (text_at name n e) fits) (h.names n)
@@ -164,10 +165,10 @@ changed c reads reads2 old new s name file managed fits others names listing lis
       let undotted_isnt : n ≢ list_name = λ same. true≢false (sym it.0 ∙ ap is_undotted same) in
       subst (λ (r : Option (List ℕ)). FileHolds (file_at s n) r (at new.open_files n)) (sym (others n (apart name n e) undotted_isnt))
       (subst (λ (w : Option (List ℕ)). FileHolds (file_at s n) (reads n) w) (sym (rest n e)) (h.files n it))));
-  left = λ n.
-      let still : has new.left n ≡ is_left (file_at s n) = ap (λ (names : List (List ℕ)). has names n) left ∙ h.left n in
+  left = λ n it.
+      let stays : has new.left n ≡ is_left (file_at s n) = ap (λ (names : List (List ℕ)). has names n) left ∙ h.left n it in
       subst (λ (o : Option FileState). has new.left n ≡ is_left o) (sym (lookup_put s.files name n file))
-      (left_put (is_at (byte_cmp name) n) (has new.left n) file (file_at s n) (λ e. still ∙ ap (λ (m : List ℕ). is_left (file_at s m)) (sym (text_at name n e)) ∙ was) now still);
+      (left_put (is_at (byte_cmp name) n) (has new.left n) file (file_at s n) (λ e. stays ∙ ap (λ (m : List ℕ). is_left (file_at s m)) (sym (text_at name n e)) ∙ was) now stays);
   meta = (h.meta.0, others meta_name (λ e. fits.1 (sym e)) (λ e. absurd cc) ∙ h.meta.1, subst (λ (f : IndexForm). Means f.settings f.schema h.meta.0 s.catalog.commit) (sym made) h.meta.2);
   listing = listing;
   listed = listed;
@@ -210,20 +211,20 @@ kept_list reads reads2 name names fits others h =
 module _ {O W C : Type 0} (g : Ghosts O W C) (c : Catalog) (old new : FilesState O) (s : State) (id name : List ℕ) (component : SegmentComponent) (segment : LiveSegment) (answer : List ℕ) where
   -- that is there
   pub open_exists : g.told.content → live_at s.catalog id ≡ Some segment → lacks_deletes segment component ≡ false → name ≡ name_of id segment.deletes component → IsFileOf name
-      → new.form ≡ old.form → FindsFile g old new name → answer ≡ line (codes "refused") (codes "exists" ∷ [])
+      → new.form ≡ old.form → new.collections ≡ old.collections → FindsFile g old new name → answer ≡ line (codes "refused") (codes "exists" ∷ [])
       → Holds (g.view old.outside).reads (kept_of c old) s → Told answer (g.view new.outside).reads (kept_of c new) (open_step s id component)
-  open_exists tells found lacks is fits made finds said h =
+  open_exists tells found lacks is fits made still finds said h =
       let there : is_some (file_at s name) ≡ true = is_there (file_at s name) ((g.view old.outside).reads name) (at old.open_files name) (h.files name fits) (finds.there tells) in
-      let kept : kept_of c new ≡ kept_of c old = rw (made, finds.names tells, finds.open_files, finds.left) refl in
+      let kept : kept_of c new ≡ kept_of c old = rw (made, still, finds.names tells, finds.open_files, finds.left) refl in
       told_is answer (g.view new.outside).reads (kept_of c new) (open_step s id component) (refuse s (codes "exists" ∷ []))
       (file_known s id name component segment (λ x n. open_name s x component n) found is ∙ open_by s segment component name false true lacks there)
       (said, same_holds (g.view old.outside).reads (g.view new.outside).reads (kept_of c old) (kept_of c new) s (finds.same tells) kept h)
 
   -- that was made
   pub open_made : g.told.content → live_at s.catalog id ≡ Some segment → lacks_deletes segment component ≡ false → name ≡ name_of id segment.deletes component → IsFileOf name
-      → new.form ≡ old.form → OpensFile g old new name → answer ≡ line (codes "opened") (name ∷ [])
+      → new.form ≡ old.form → new.collections ≡ old.collections → OpensFile g old new name → answer ≡ line (codes "opened") (name ∷ [])
       → Holds (g.view old.outside).reads (kept_of c old) s → Told answer (g.view new.outside).reads (kept_of c new) (open_step s id component)
-  open_made tells found lacks is fits made opens said h =
+  open_made tells found lacks is fits made still opens said h =
       let makes = opens.makes tells in
       let gone : is_some (file_at s name) ≡ false = isnt_there (file_at s name) ((g.view old.outside).reads name) (at old.open_files name) (h.files name fits) makes.absent in
       let names : new.managed ≡ insert_key byte_cmp s.managed name = opens.names ∙ ap (λ (m : List (List ℕ)). insert_key byte_cmp m name) h.managed in
@@ -236,7 +237,7 @@ module _ {O W C : Type 0} (g : Ghosts O W C) (c : Catalog) (old new : FilesState
             (subst (Lists ((g.view new.outside).reads list_name)) names (opens.list tells (subst (Lists ((g.view old.outside).reads list_name)) (sym h.managed) h.listing)))
             (has_kept s.managed name meta_name h.listed)
             (ap is_some makes.empty, looks name ∙ ap (λ (b : Bool). cond b (Some []) (at old.open_files name)) (at_itself name))
-            (λ n e. looks n ∙ ap (λ (b : Bool). cond b (Some []) (at old.open_files n)) e) opens.left made (absent_isnt_left (file_at s name) gone) refl h,
+            (λ n e. looks n ∙ ap (λ (b : Bool). cond b (Some []) (at old.open_files n)) e) opens.left made still (absent_isnt_left (file_at s name) gone) refl h,
       )
 
   -- to which bytes were written
@@ -258,7 +259,7 @@ module _ {O W C : Type 0} (g : Ghosts O W C) (c : Catalog) (old new : FilesState
         changed c (g.view old.outside).reads (g.view new.outside).reads old new s name (Open (body ++ bytes)) s.managed fits (λ n isnt _. others n isnt) (frame.names ∙ h.managed)
             (kept_list (g.view old.outside).reads (g.view new.outside).reads name s.managed fits others h.listing) h.listed
             (there, looks name ∙ ap (λ (b : Bool). cond b (Some (body ++ bytes)) (at rest name)) (at_itself name))
-            (λ n e. looks n ∙ ap (λ (b : Bool). cond b (Some (body ++ bytes)) (at rest n)) e ∙ left_at old.open_files name n e) frame.left frame.form
+            (λ n e. looks n ∙ ap (λ (b : Bool). cond b (Some (body ++ bytes)) (at rest n)) e ∙ left_at old.open_files name n e) frame.left frame.form frame.collections
             (open_isnt_left (file_at s name) ((g.view old.outside).reads name) (at old.open_files name) body (h.files name fits) it.1) refl h,
       )
 
@@ -277,7 +278,7 @@ module _ {O W C : Type 0} (g : Ghosts O W C) (c : Catalog) (old new : FilesState
         said ∙ ap (λ (n : ℕ). line (codes "sealed") (name ∷ decimal n ∷ [])) it.2,
         changed c (g.view old.outside).reads (g.view new.outside).reads old new s name (Sealed (sealed body)) s.managed fits (λ n isnt _. now.others n isnt) (frame.names ∙ h.managed)
             (kept_list (g.view old.outside).reads (g.view new.outside).reads name s.managed fits now.others h.listing) h.listed
-            (now.changed, closed) (λ n e. ap (λ (es : List (List ℕ × List ℕ)). at es n) cut ∙ left_at old.open_files name n e) frame.left frame.form
+            (now.changed, closed) (λ n e. ap (λ (es : List (List ℕ × List ℕ)). at es n) cut ∙ left_at old.open_files name n e) frame.left frame.form frame.collections
             (open_isnt_left (file_at s name) ((g.view old.outside).reads name) (at old.open_files name) body (h.files name fits) it.1) refl h,
       )
 

@@ -130,10 +130,11 @@ module _ {O W C : Type 0} (g : Ghosts O W C) (outside : O) (schema : List ℕ) (
       record {
         catalog = catalog_is;
         managed = managed_is;
+        collections = f.collections ∙ sym index.opens.collections;
         segments = segments_are;
         names = index.opens.names;
         files = λ n file. sealed_holds (file_at index.state n) (now n) _ (sealed_is n file) (rw f.open_files refl);
-        left = λ n. left_is n;
+        left = λ n file. left_is n;
         meta =
             (let M = meta_means form.schema f.spelled.tree (before meta_name) (now meta_name) form.settings catalog.commit f.spelled.form (f.finds tells).found
             (λ some. (f.leaves tells).stood some meta_name) (λ none. (f.leaves tells).made none) in

@@ -14,6 +14,7 @@ same_holds old new was now s same is h =
     subst (λ (kept : Kept). Holds new kept s) (sym is) (record {
       catalog = h.catalog;
       managed = h.managed;
+      collections = h.collections;
       segments = h.segments;
       names = h.names;
       files = λ n file. subst (λ (read : Option (List ℕ)). FileHolds (file_at s n) read (at was.open_files n)) (sym (same n)) (h.files n file);

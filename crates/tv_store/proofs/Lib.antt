@@ -2,6 +2,8 @@ pub mod CollectionEvents
 pub mod OpenFiles
 pub mod Removals
 pub mod Holding
+pub mod SortedNames
+pub mod Held
 pub mod FileNames
 pub mod Named
 pub mod FileEvents
@@ -9,6 +11,8 @@ pub mod ChosenSegments
 pub mod CommitEvents
 pub mod Lifting
 pub mod LoadedCommits
+pub mod DeleteEvents
+pub mod ReopenEvents
 pub mod Steps
 pub mod FewNumbers
 pub mod ReaderNumbers

@@ -2,6 +2,7 @@
 use Rattle.std.proofs.Common.{ℕ, ◌≡◌, ◌+◌, ◌<◌, ◌^◌, Bool, true, false, true≢false, not, ◌==◌, ◌||◌, List, Option, Some, None, refl, sym, subst, arith}
 use Rattle.std.specs.Prelude.{is_some}
 use Rattle.std.specs.List.{AllByRecursion}
+use Rattle.tv_model.specs.Collections.{Collections}
 use Rattle.tv_model.specs.declared.event.Event.{Event}
 use Rattle.tv_model.specs.declared.event.Event.TheVariants as events
 use Rattle.tv_model.specs.declared.segment.DeleteMeta.{DeleteMeta}
@@ -61,22 +62,24 @@ segments_stay c managed event result fits all =
       numbered segment n id none known small = record { id = known.id; max_doc = small; deletes = omega (arith, undeleted segment.deletes (not (segment.max_doc == 0)) none); opstamp = known.opstamp }
 
 -- the numbers of who reads are few still
-pub numbers_grow : (bound : ℕ) (c : Catalog) (managed : List (List ℕ)) (event : Event) (result : StepResult Catalog) → FewNumbers bound c.reading → catalog_step c managed event ≡ Some result → FewNumbers (bound + written_by event) result.1.reading
-numbers_grow bound c managed event result few =
-    catalog_changes (λ d. FewNumbers (bound + written_by event) d.reading) c managed event result (record {
+pub numbers_grow : (bound : ℕ) (c : Catalog) (collections : Collections) (managed : List (List ℕ)) (event : Event) (result : StepResult Catalog) → FewNumbers bound c.reading collections → catalog_step c managed event ≡ Some result
+    → FewNumbers (bound + written_by event) result.1.reading collections
+numbers_grow bound c collections managed event result few =
+    catalog_changes (λ d. FewNumbers (bound + written_by event) d.reading collections) c managed event result (record {
       same = more;
       fresh = λ id is free. more;
       said = λ id n segment is there none. more;
-      shows = λ number reader is there. subst (λ (e : Event). FewNumbers (bound + written_by e) (with_searcher c reader.shown).reading) (sym is) (record {
+      shows = λ number reader is there. subst (λ (e : Event). FewNumbers (bound + written_by e) (with_searcher c reader.shown).reading collections) (sym is) (record {
         next_reader = omega (arith, few.next_reader);
         next_searcher = omega (arith, few.next_searcher);
-        next_snapshots = (few_more bound 1 c.reading few).next_snapshots;
+        next_collection = omega (arith, few.next_collection);
+        next_snapshots = (few_more bound 1 c.reading collections few).next_snapshots;
       });
-      reader = λ number. few_released (bound + written_by event) c.reading _ number refl more;
-      searcher = λ number. record { next_reader = more.next_reader; next_searcher = more.next_searcher; next_snapshots = more.next_snapshots };
+      reader = λ number. few_released (bound + written_by event) c.reading collections _ number refl more;
+      searcher = λ number. record { next_reader = more.next_reader; next_searcher = more.next_searcher; next_collection = more.next_collection; next_snapshots = more.next_snapshots };
     }) where
-      more : FewNumbers (bound + written_by event) c.reading
-      more = few_more bound (written_by event) c.reading few
+      more : FewNumbers (bound + written_by event) c.reading collections
+      more = few_more bound (written_by event) c.reading collections few
 
 -- it reads no file, takes no lock and leaves no notice
 pub record Plain (event : Event) : Type 0 where
@@ -87,6 +90,7 @@ pub record Plain (event : Event) : Type 0 where
 pub plain_event : (c : Catalog) (managed : List (List ℕ)) (event : Event) (result : StepResult Catalog) → catalog_step c managed event ≡ Some result → Plain event
 plain_event c managed (events.Commit payload ids) result e = absurd cc
 plain_event c managed events.Gc result e = absurd cc
+plain_event c managed events.GcBegin result e = absurd cc
 plain_event c managed (events.Reader policy) result e = absurd cc
 plain_event c managed (events.Reload number) result e = absurd cc
 plain_event c managed other result e = record { reads = λ s. tt; free = λ k takes. takes; notes = λ o n same. same }
@@ -99,6 +103,7 @@ catalog_held reads kept s event result fits e h =
     record {
       catalog = refl;
       managed = h.managed;
+      collections = h.collections;
       segments = segments_stay s.catalog s.managed event result fits h.segments here;
       names = h.names;
       files = h.files;

@@ -10,6 +10,7 @@ use Rattle.std.specs.BTreeMap.{is_at, insert_entry}
 use Rattle.std.specs.BTreeSet.{insert_key}
 use Rattle.tv_model.specs.Names.{byte_cmp, is_name_byte, is_undotted, is_plain}
 use Rattle.tv_model.specs.State.{at}
+use Rattle.tv_model.specs.Collections.{Collections}
 use Rattle.tv_model.specs.Files.{Reads, KeepsOthers, Sets}
 use Rattle.tv_model.specs.Footer.{sealed}
 use Rattle.tv_model.proofs.Entries.{text_at}
@@ -174,14 +175,14 @@ bodies_left {D} {W} {C} written es new old test cut is =
     ap (λ (fs : List (List ℕ × OpenFile D W C)). bodies written fs) cut ∙ cut_seen (λ (file : OpenFile D W C). written file.writer.writer) es test ∙ ap (λ (bs : List (List ℕ × List ℕ)). remove_entry test bs) is
 
 -- the files of a store after one was taken out
-pub one_less : {O D W C : Type 0} (written : W → List ℕ) (outside : O) (form : IndexForm) (managed : List (List ℕ)) (es new : List (List ℕ × OpenFile D W C)) (left : List (List ℕ)) (old : FilesState O) (test : List ℕ → Bool)
-    → new ≡ remove_entry test es → record { outside = outside; form = form; managed = managed; open_files = bodies written es; left = left } ≡ old
-    → record { outside = outside; form = form; managed = managed; open_files = bodies written new; left = left } ≡ record old { open_files = remove_entry test old.open_files }
-one_less {O} written outside form managed es new left old test cut is =
+pub one_less : {O D W C : Type 0} (written : W → List ℕ) (outside : O) (form : IndexForm) (managed : List (List ℕ)) (collections : Collections) (es new : List (List ℕ × OpenFile D W C)) (left : List (List ℕ)) (old : FilesState O) (test : List ℕ → Bool)
+    → new ≡ remove_entry test es → record { outside = outside; form = form; managed = managed; collections = collections; open_files = bodies written es; left = left } ≡ old
+    → record { outside = outside; form = form; managed = managed; collections = collections; open_files = bodies written new; left = left } ≡ record old { open_files = remove_entry test old.open_files }
+one_less {O} written outside form managed collections es new left old test cut is =
     ap (λ (open_files : List (List ℕ × List ℕ)). the_files open_files) (bodies_left written es new (bodies written es) test cut refl)
     ∙ ap (λ (v : FilesState O). record v { open_files = remove_entry test v.open_files }) is where
       the_files : List (List ℕ × List ℕ) → FilesState O
-      the_files open_files = record { outside = outside; form = form; managed = managed; open_files = open_files; left = left }
+      the_files open_files = record { outside = outside; form = form; managed = managed; collections = collections; open_files = open_files; left = left }
 
 read_absent : {X : Type 0} (o : Option X) → is_some o ≡ false → o ≡ None
 read_absent None e = refl

@@ -156,6 +156,7 @@ module _ {O W C : Type 0} (g : Ghosts O W C) (outside : O) (schema : List ℕ) (
           );
       lens = subst (λ (es : List (List ℕ × List ℕ)). AllByRecursion (λ e. length e.1 ≤ 0) es) (sym (ap (λ (k : Kept). k.open_files) kept_is ∙ f.open_files)) tt;
       numbers = ap (λ (k : Kept). k.catalog.reading) kept_is ∙ ap (λ (c : Catalog). c.reading) f.opened;
+      collections = ap (λ (k : Kept). k.collections) kept_is ∙ f.collections;
     }
 
     told_begun : g.told.heard → TellsLine (g.view outside).heard (g.view begun.outside).heard (g.view outside).moment (g.view begun.outside).moment (opening_of begun.kept.catalog.commit)

@@ -43,6 +43,7 @@ use Rattle.tv_index.specs.Standing.{MetaCause}
 use Rattle.tv_store.specs.Kept.{Kept, FileHolds, Holds}
 use Rattle.tv_store.specs.Applying.{LacksIn, BadIn, HoldsNone}
 use Rattle.tv_store.specs.Exhausted.{PassesEnd, number_after}
+use Rattle.tv_model.specs.Collections.{Collections}
 use Rattle.tv_store.specs.ReaderNumbers.{FewNumbers}
 use Rattle.tv_store.proofs.Holding.{same_holds}
 use Rattle.tv_store.proofs.ReaderNumbers.{few_added, few_published}
@@ -486,11 +487,11 @@ reload_passes c number h = (h.0.next + 1, ap (option_map (λ (r : Reader). r.nex
 pub isnt_there : {A : Type 0} (o : Option A) → o ≡ None → IsSome o → ⊥
 isnt_there o e h = true≢false (sym h ∙ ap is_some e)
 
-pub few_with_new : (bound : ℕ) (old now : Catalog) (policy : ReloadPolicy) (shown : Snapshot) → now ≡ with_new_reader old policy shown → FewNumbers bound old.reading → FewNumbers (bound + 1) now.reading
-few_with_new bound old now policy shown put few =
-    subst (λ (c : Catalog). FewNumbers (bound + 1) c.reading) (sym put) (few_added bound old.reading _ old.reading.next_reader (record { policy = policy; next = 1; shown = shown }) refl (omega arith) few)
+pub few_with_new : (bound : ℕ) (collections : Collections) (old now : Catalog) (policy : ReloadPolicy) (shown : Snapshot) → now ≡ with_new_reader old policy shown → FewNumbers bound old.reading collections → FewNumbers (bound + 1) now.reading collections
+few_with_new bound collections old now policy shown put few =
+    subst (λ (c : Catalog). FewNumbers (bound + 1) c.reading collections) (sym put) (few_added bound old.reading collections _ old.reading.next_reader (record { policy = policy; next = 1; shown = shown }) refl (omega arith) few)
 
-pub few_with_reloaded : (bound : ℕ) (old now : Catalog) (number : ℕ) (reader : Reader) (shown : Snapshot) → reader_at old number ≡ Some reader → now ≡ with_reloaded old number reader shown
-    → FewNumbers bound old.reading → FewNumbers (bound + 1) now.reading
-few_with_reloaded bound old now number reader shown there put few =
-    subst (λ (c : Catalog). FewNumbers (bound + 1) c.reading) (sym put) (few_published bound old.reading _ number reader (record reader { next = reader.next + 1; shown = shown }) there refl refl few)
+pub few_with_reloaded : (bound : ℕ) (collections : Collections) (old now : Catalog) (number : ℕ) (reader : Reader) (shown : Snapshot) → reader_at old number ≡ Some reader → now ≡ with_reloaded old number reader shown
+    → FewNumbers bound old.reading collections → FewNumbers (bound + 1) now.reading collections
+few_with_reloaded bound collections old now number reader shown there put few =
+    subst (λ (c : Catalog). FewNumbers (bound + 1) c.reading collections) (sym put) (few_published bound old.reading collections _ number reader (record reader { next = reader.next + 1; shown = shown }) there refl refl few)

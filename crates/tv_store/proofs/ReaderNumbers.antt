@@ -6,6 +6,7 @@ use Rattle.std.specs.BTreeMap.{is_at, insert_entry}
 use Rattle.std.specs.Ordering.{nat_cmp, match_ordering}
 use Rattle.std.specs.declared.cmp.Ordering.{Ordering}
 use Rattle.std.specs.declared.cmp.Ordering.TheVariants.{Less, Equal, Greater}
+use Rattle.tv_model.specs.Collections.{Collections}
 use Rattle.tv_model.specs.State.{Reader, Readers, at_number}
 use Rattle.tv_store.specs.ReaderNumbers.{FewNumbers}
 
@@ -44,32 +45,35 @@ found bound [] number reader h e = absurd cc
 found bound (x ∷ es) number reader h e = chosen bound (is_at (nat_cmp number) x.0) x.1 reader (at_number es number) e h.0 (found bound es number reader h.1)
 
 -- the number of a reader's next snapshot
-pub few_found : (bound : ℕ) (reading : Readers) (number : ℕ) (reader : Reader) → FewNumbers bound reading → at_number reading.readers number ≡ Some reader → reader.next ≤ bound
-few_found bound reading number reader few e = found bound reading.readers number reader few.next_snapshots e
+pub few_found : (bound : ℕ) (reading : Readers) (collections : Collections) (number : ℕ) (reader : Reader) → FewNumbers bound reading collections → at_number reading.readers number ≡ Some reader → reader.next ≤ bound
+few_found bound reading collections number reader few e = found bound reading.readers number reader few.next_snapshots e
 
 -- one more reader
-pub few_added : (bound : ℕ) (reading : Readers) (readers : List (ℕ × Reader)) (number : ℕ) (reader : Reader) → readers ≡ insert_entry nat_cmp reading.readers number reader → reader.next ≤ bound + 1
-    → FewNumbers bound reading → FewNumbers (bound + 1) (record reading { readers = readers; next_reader = reading.next_reader + 1 })
-few_added bound reading readers number reader added first few = record {
+pub few_added : (bound : ℕ) (reading : Readers) (collections : Collections) (readers : List (ℕ × Reader)) (number : ℕ) (reader : Reader) → readers ≡ insert_entry nat_cmp reading.readers number reader → reader.next ≤ bound + 1
+    → FewNumbers bound reading collections → FewNumbers (bound + 1) (record reading { readers = readers; next_reader = reading.next_reader + 1 }) collections
+few_added bound reading collections readers number reader added first few = record {
   next_reader = omega (arith, few.next_reader);
   next_searcher = omega (arith, few.next_searcher);
+  next_collection = omega (arith, few.next_collection);
   next_snapshots = rw added (put (bound + 1) reading.readers number reader first (more bound reading.readers few.next_snapshots));
 }
 
 -- one more snapshot of a reader
-pub few_published : (bound : ℕ) (reading : Readers) (readers : List (ℕ × Reader)) (number : ℕ) (old reader : Reader) → at_number reading.readers number ≡ Some old → readers ≡ insert_entry nat_cmp reading.readers number reader
-    → reader.next ≡ old.next + 1 → FewNumbers bound reading → FewNumbers (bound + 1) (record reading { readers = readers })
-few_published bound reading readers number old reader there published next few = record {
+pub few_published : (bound : ℕ) (reading : Readers) (collections : Collections) (readers : List (ℕ × Reader)) (number : ℕ) (old reader : Reader) → at_number reading.readers number ≡ Some old → readers ≡ insert_entry nat_cmp reading.readers number reader
+    → reader.next ≡ old.next + 1 → FewNumbers bound reading collections → FewNumbers (bound + 1) (record reading { readers = readers }) collections
+few_published bound reading collections readers number old reader there published next few = record {
   next_reader = omega (arith, few.next_reader);
   next_searcher = omega (arith, few.next_searcher);
-  next_snapshots = rw published (put (bound + 1) reading.readers number reader (omega (arith, next, few_found bound reading number old few there)) (more bound reading.readers few.next_snapshots));
+  next_collection = omega (arith, few.next_collection);
+  next_snapshots = rw published (put (bound + 1) reading.readers number reader (omega (arith, next, few_found bound reading collections number old few there)) (more bound reading.readers few.next_snapshots));
 }
 
 -- one reader less
-pub few_released : (bound : ℕ) (reading : Readers) (readers : List (ℕ × Reader)) (number : ℕ) → readers ≡ remove_entry (is_at (nat_cmp number)) reading.readers
-    → FewNumbers bound reading → FewNumbers bound (record reading { readers = readers })
-few_released bound reading readers number released few = record {
+pub few_released : (bound : ℕ) (reading : Readers) (collections : Collections) (readers : List (ℕ × Reader)) (number : ℕ) → readers ≡ remove_entry (is_at (nat_cmp number)) reading.readers
+    → FewNumbers bound reading collections → FewNumbers bound (record reading { readers = readers }) collections
+few_released bound reading collections readers number released few = record {
   next_reader = few.next_reader;
   next_searcher = few.next_searcher;
+  next_collection = few.next_collection;
   next_snapshots = rw released (left bound reading.readers number few.next_snapshots);
 }

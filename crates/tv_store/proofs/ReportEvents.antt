@@ -84,7 +84,7 @@ intact_held (Some (Open body)) read written h = rw h.1 refl
 intact_held (Some Left) read written h = rw h.1 refl
 
 pub held_intact : (reads : Reads) (kept : Kept) (s : State) (name : List ℕ) → Holds reads kept s → IsFileOf name → intact_in (reads name) (at kept.open_files name) (has kept.left name) ≡ intact_at (file_at s name)
-held_intact reads kept s name h file = ap (intact_in (reads name) (at kept.open_files name)) (h.left name) ∙ intact_held (file_at s name) (reads name) (at kept.open_files name) (h.files name file)
+held_intact reads kept s name h file = ap (intact_in (reads name) (at kept.open_files name)) (h.left name file) ∙ intact_held (file_at s name) (reads name) (at kept.open_files name) (h.files name file)
 
 -- ---- the files that are looked at
 

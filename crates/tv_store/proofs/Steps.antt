@@ -12,6 +12,7 @@ use Rattle.tv_store.specs.ReaderNumbers.{FewNumbers}
 use Rattle.tv_store.specs.Applying.{Stepped, LeavesOldOrNew}
 use Rattle.tv_store.specs.ReadCauses.{LoadingCause, IsReadError}
 use Rattle.tv_store.proofs.FewNumbers.{few_more}
+use Rattle.tv_model.specs.Collections.{Collections}
 use Rattle.tv_model.specs.Commits.{IndexForm}
 use Rattle.tv_model.specs.State.{State, StepResult, Readers}
 use Rattle.tv_model.specs.Machine.{step}
@@ -153,9 +154,16 @@ pub at_most : (bound n : ℕ) (kept : Kept) → AtMost bound kept → AtMost (bo
 at_most bound n kept h = longer kept.open_files bound (bound + n) (omega arith) h
 
 -- so are the numbers of who reads, where they stay
-pub numbers_stay : {A E : Type 0} (bound n : ℕ) (old new : Readers) (result : Result A E) → new ≡ old → FewNumbers bound old → OnOk result (FewNumbers (bound + n) new)
-numbers_stay bound n old new (Ok answer) same h = subst (FewNumbers (bound + n)) (sym same) (few_more bound n old h)
-numbers_stay bound n old new (Err error) same h = tt
+pub numbers_stay : {A E : Type 0} (bound n : ℕ) (old new : Readers) (before now : Collections) (result : Result A E) → new ≡ old → OnOk result (now.next ≤ before.next) → FewNumbers bound old before → OnOk result (FewNumbers (bound + n) new now)
+numbers_stay bound n old new before now (Ok answer) same still h =
+    let more = few_more bound n old before h in
+    subst (λ (r : Readers). FewNumbers (bound + n) r now) (sym same) (record {
+      next_reader = more.next_reader;
+      next_searcher = more.next_searcher;
+      next_collection = omega (arith, still, more.next_collection);
+      next_snapshots = more.next_snapshots;
+    })
+numbers_stay bound n old new before now (Err error) same still h = tt
 
 -- the same bodies are open
 pub same_lens : (bound : ℕ) (kept : Kept) (files : List (List ℕ × List ℕ)) → files ≡ kept.open_files → AtMost bound kept → AllByRecursion (λ e. length e.1 ≤ bound) files

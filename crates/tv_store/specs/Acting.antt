@@ -1,5 +1,5 @@
 -- What a call does that makes one step of the machine, and is yet to tell its line.
-use Rattle.std.specs.Prelude.{ℕ, ◌≡◌, ◌<◌, ◌+◌, Bool, List, length, Result, IfOk, IfErr, OnOk, OnErr}
+use Rattle.std.specs.Prelude.{ℕ, ◌≡◌, ◌≤◌, ◌<◌, ◌+◌, Bool, List, length, Result, IfOk, IfErr, OnOk, OnErr}
 use Rattle.tv_base.specs.declared.error.TantivyError.{TantivyError}
 use Rattle.tv_base.specs.declared.error.TantivyError.TheVariants as errors
 use Rattle.tv_directory.specs.Locks.{SameLocks}
@@ -46,13 +46,18 @@ reload_event number s = on_catalog s (reload_step s.catalog number (bodies_in s 
 abbrev pub KeepsMeta : {O W C : Type 0} (g : Ghosts O W C) (old new : StoreState O) (result : Result (List ℕ) TantivyError) → Type 0
 KeepsMeta g old new result = g.told.content → OnErr result ((g.view new.outside).reads meta_name ≡ (g.view old.outside).reads meta_name)
 
--- What an event on files does beside its step, if a number is spent or not: there is room for its answer; an error has its cause, and leaves `meta.json` as it was; and
--- of the directory below what such a call keeps.
+-- no number of a collection is given
+abbrev pub GivesNone : {A E O : Type 0} → (old new : StoreState O) → Result A E → Type 0
+GivesNone old new result = OnOk result (new.kept.collections.next ≤ old.kept.collections.next)
+
+-- What an event on files does beside its step, if a number is spent or not: there is room for its answer; an error has its cause, and leaves `meta.json` as it was; no
+-- number of a collection is given, and of the directory below what such a call keeps.
 pub record OnFiles {O W C : Type 0} (g : Ghosts O W C) (keeps : View W → View W → Type 0) (spent : Type 0) (old new : StoreState O) (result : Result (List ℕ) TantivyError) : Type 0 where
   pub room : IfOk result (λ answer. length answer < (g.view new.outside).room)
   pub faults : EventFaults spent (g.view old.outside) (g.view new.outside) result
   pub meta : KeepsMeta g old new result
   pub dotted : g.told.content → KeepsDotted (g.view old.outside).reads (g.view new.outside).reads
+  pub numbers : GivesNone old new result
   pub frame : KeepsReaders keeps g.view old new
 
 -- What each event keeps of the directory: nothing was told, no lock was taken or freed, and nobody was registered or called.
@@ -72,7 +77,7 @@ pub record Acts {O W C : Type 0} (g : Ghosts O W C) (old new : StoreState O) (ev
   pub step : IfOk result (Stepped g old new event)
   pub room : IfOk result (λ answer. length answer < (g.view new.outside).room)
   pub lens : (bound : ℕ) → AtMost bound old.kept → AtMost (bound + written_by event) new.kept
-  pub numbers : (bound : ℕ) → FewNumbers bound old.kept.catalog.reading → OnOk result (FewNumbers (bound + written_by event) new.kept.catalog.reading)
+  pub numbers : (bound : ℕ) → FewNumbers bound old.kept.catalog.reading old.kept.collections → OnOk result (FewNumbers (bound + written_by event) new.kept.catalog.reading new.kept.collections)
   pub faults : ApplyFaults g old new event result
   pub leaves : LeavesStep g old new event result
   pub dotted : g.told.content → KeepsDotted (g.view old.outside).reads (g.view new.outside).reads

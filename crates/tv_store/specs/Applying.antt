@@ -29,12 +29,13 @@ use Rattle.tv_store.specs.StoreCauses.{IsBusy}
 use Rattle.tv_store.specs.Stays.{KeepsDotted}
 use Rattle.tv_store.specs.Telling.{TellsFirstPart}
 
--- how many bytes an event adds to a file, or how many numbers of readers, searchers and snapshots it takes
+-- how many bytes an event adds to a file, or how many numbers of readers, searchers, snapshots and collections it takes
 abbrev pub written_by : Event → ℕ
 written_by (events.Write id component bytes) = length bytes
 written_by (events.Reader policy) = 1
 written_by (events.Reload number) = 1
 written_by (events.Searcher number) = 1
+written_by events.GcBegin = 1
 written_by other = 0
 
 -- One event was applied, with some outcomes of its deletes: from each state that was held before, the state after its step is held now, and this is the step's
@@ -108,10 +109,10 @@ pub record LeavesMeta {O W C : Type 0} (g : Ghosts O W C) (old new : StoreState 
   pub memory : g.told.content → IfErr result (λ error. error ≡ errors.Memory → (g.view new.outside).reads meta_name ≡ (g.view old.outside).reads meta_name)
   pub part : g.told.content → g.told.heard → (s : State) → Holds (g.view old.outside).reads old.kept s → IsWhole s → OnErr result (TellsPartOf (g.view old.outside).heard (g.view new.outside).heard s event)
 
--- No open file is longer by more than the bytes that the event adds, and at Ok no number of readers, searchers and snapshots is larger by more than it takes.
+-- No open file is longer by more than the bytes that the event adds, and at Ok no number of readers, searchers, snapshots and collections is larger by more than it takes.
 pub record Grows (old new : Kept) (event : Event) (result : Result (List ℕ) TantivyError) : Type 0 where
   pub lens : (bound more : ℕ) → written_by event ≤ more → AtMost bound old → AtMost (bound + more) new
-  pub numbers : (bound more : ℕ) → written_by event ≤ more → FewNumbers bound old.catalog.reading → OnOk result (FewNumbers (bound + more) new.catalog.reading)
+  pub numbers : (bound more : ℕ) → written_by event ≤ more → FewNumbers bound old.catalog.reading old.collections → OnOk result (FewNumbers (bound + more) new.catalog.reading new.collections)
 
 -- after an event nobody was registered or called; and a notice of a commit may stand after one, but else as before
 abbrev pub MayNoteAt : Event → WatchState → WatchState → Type 0

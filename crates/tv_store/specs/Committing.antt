@@ -20,10 +20,11 @@ use Rattle.tv_store.specs.Applying.{LeavesCommit}
 use Rattle.tv_store.specs.Stays.{Stays, KeepsDotted, EventFaults}
 use Rattle.tv_index.specs.Saving.{FrameNotes}
 
--- The open files, who reads, the schema and whether the store is open stay; nothing was told, and a notice of a commit may stand.
+-- The open files, the unfinished collections, who reads, the schema and whether the store is open stay; nothing was told, and a notice of a commit may stand.
 pub record KeepsRest {O W : Type 0} (told : ToldParts) (view : O → View W) (old new : StoreState O) : Type 0 where
   pub stays : Stays (FrameNotes told) view old new
   pub open_files : new.kept.open_files ≡ old.kept.open_files
+  pub collections : new.kept.collections ≡ old.kept.collections
   pub reading : new.kept.catalog.reading ≡ old.kept.catalog.reading
 
 -- A call makes this step of the machine from each state that was held, if this is so. An error leaves the commit before, or, where a call was refused, that of the

@@ -1,5 +1,6 @@
--- What would pass 64 bits: the number of a reader, of a snapshot or of a searcher, or the length of an open file.
+-- What would pass 64 bits: the number of a reader, of a snapshot, of a searcher or of a collection, or the length of an open file.
 use Rattle.std.specs.Prelude.{ℕ, ◌≡◌, ◌≤◌, ◌+◌, ◌^◌, ◌⊎◌, ◌++◌, length, Option, Some, None, option_map, option_and_then}
+use Rattle.tv_model.specs.Collections.{Collections}
 use Rattle.tv_model.specs.Segments.{name_of}
 use Rattle.tv_model.specs.State.{Catalog, at, live_at, reader_at}
 use Rattle.tv_model.specs.declared.event.Event.{Event}
@@ -13,6 +14,12 @@ number_after c (events.Reload number) = option_map (λ reader. reader.next + 1) 
 number_after c (events.Searcher number) = Some (c.reading.next_searcher + 1)
 number_after c other = None
 
+-- the number after that of a collection
+abbrev pub collection_after : Collections → Event → Option ℕ
+collection_after collections events.Gc = Some (collections.next + 1)
+collection_after collections events.GcBegin = Some (collections.next + 1)
+collection_after collections other = None
+
 -- how long the open file is after an event that writes to it
 abbrev pub length_after : Kept → Event → Option ℕ
 length_after kept (events.Write id component bytes) =
@@ -25,4 +32,4 @@ PassesEnd number = (n : ℕ) × (number ≡ Some n) × (2 ^ 64 ≤ n)
 
 -- the event would make such a number, or such a file
 abbrev pub IsExhausted : Kept → Event → Type 0
-IsExhausted kept event = PassesEnd (number_after kept.catalog event) ⊎ PassesEnd (length_after kept event)
+IsExhausted kept event = PassesEnd (number_after kept.catalog event) ⊎ PassesEnd (collection_after kept.collections event) ⊎ PassesEnd (length_after kept event)

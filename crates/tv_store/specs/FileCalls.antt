@@ -1,5 +1,5 @@
 -- What the calls on the files of a store do.
-use Rattle.std.specs.Prelude.{ℕ, ◌≡◌, ◌≢◌, ◌⊎◌, ◌&&◌, ◌||◌, Bool, not, is_some, true, false, List, [], length, cond, Option, Some, None, IsSome, Result, IfErr, OnOk, OnErr, option_and_then}
+use Rattle.std.specs.Prelude.{ℕ, ◌≡◌, ◌≢◌, ◌⊎◌, ◌&&◌, ◌||◌, ◌++◌, Bool, not, is_some, true, false, List, [], length, cond, Option, Some, None, IsSome, Result, IfErr, OnOk, OnErr, option_and_then}
 use Rattle.std.specs.BTreeMap.{insert_entry}
 use Rattle.std.specs.BTreeSet.{insert_key}
 use Rattle.tv_base.specs.declared.error.TantivyError.{TantivyError}
@@ -8,7 +8,7 @@ use Rattle.tv_directory.specs.View.{View, Told}
 use Rattle.tv_directory.specs.declared.directory.Directory.{Ghosts}
 use Rattle.tv_managed.specs.Collecting.{FailsAtMost, meta_lock_name}
 use Rattle.tv_managed.specs.Managed.{MakesFile}
-use Rattle.tv_model.specs.Collections.{collectable, done_of, failed_of, without}
+use Rattle.tv_model.specs.Collections.{collectable, done_of, failed_of, held, without}
 use Rattle.tv_model.specs.Files.{Reads, Rose, Same}
 use Rattle.tv_model.specs.Framing.{is_intact}
 use Rattle.tv_model.specs.Listing.{Lists}
@@ -67,12 +67,14 @@ pub record Tried (names before after deleted failed : List (List ℕ)) (tells : 
   -- every other name but that of the list reads what it read
   pub others : tells → (n : List ℕ) → has deleted n ≡ false → n ≢ list_name → new n ≡ old n
 
--- The managed files were tried that aren't among these. Those that were deleted are neither open nor left any more, and no more deletes failed than were refused.
+-- The managed files were tried that aren't among these, and that no unfinished collection holds. Those that were deleted are neither open nor left any more, no more
+-- deletes failed than were refused, and the unfinished collections are those that were.
 pub record Collects {O W C : Type 0} (g : Ghosts O W C) (living : List (List ℕ)) (old new : FilesState O) (deleted failed : List (List ℕ)) : Type 0 where
-  pub tried : Tried (collectable living old.managed) old.managed new.managed deleted failed g.told.content (g.view old.outside).reads (g.view new.outside).reads
+  pub tried : Tried (collectable (living ++ held old.collections) old.managed) old.managed new.managed deleted failed g.told.content (g.view old.outside).reads (g.view new.outside).reads
   pub counted : FailsAtMost (length failed) (g.view old.outside).refusals (g.view new.outside).refusals
   pub open_files : (n : List ℕ) → at new.open_files n ≡ cond (has deleted n) None (at old.open_files n)
   pub left : (n : List ℕ) → has new.left n ≡ (not (has deleted n) && has old.left n)
+  pub collections : new.collections ≡ old.collections
 
 -- A collection fails where the meta lock isn't given, where the device refused a call other than a delete, or where memory was wanted. Else the lock was free.
 pub record GcFaults {A O W C : Type 0} (g : Ghosts O W C) (old new : O) (result : Result A TantivyError) : Type 0 where
@@ -91,9 +93,10 @@ pub record LeavesText {A O W C : Type 0} (g : Ghosts O W C) (old new : O) (text 
   pub either : g.told.content → OnErr result (((g.view new).reads meta_name ≡ Some text) ⊎ ((g.view new).reads meta_name ≡ (g.view old).reads meta_name))
   pub memory : g.told.content → IfErr result (λ error. error ≡ errors.Memory → (g.view new).reads meta_name ≡ (g.view old).reads meta_name)
 
--- The settings and the schema stay; no file was opened, written, closed or left, and no lock was taken or freed; a notice of a commit may stand.
+-- The settings and the schema stay, and the unfinished collections; no file was opened, written, closed or left, and no lock was taken or freed; a notice of a commit may stand.
 pub record KeepsOpenFiles {O W : Type 0} (told : Told) (view : O → View W) (old new : FilesState O) : Type 0 where
   pub form : new.form ≡ old.form
+  pub collections : new.collections ≡ old.collections
   pub open_files : new.open_files ≡ old.open_files
   pub left : new.left ≡ old.left
   pub below : FrameNotes told (view old.outside) (view new.outside)

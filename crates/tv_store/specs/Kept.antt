@@ -6,14 +6,17 @@ use Rattle.tv_model.specs.Files.{Reads}
 use Rattle.tv_model.specs.Listing.{Lists}
 use Rattle.tv_model.specs.Commits.{IndexForm, IsSegment}
 use Rattle.tv_model.specs.Meaning.{Means}
+use Rattle.tv_model.specs.Collections.{Collections}
 use Rattle.tv_model.specs.State.{Catalog, State, FileState, Sealed, Open, Left, at, file_at}
 use Rattle.tv_model.specs.Index.{IsFileOf}
 
--- what a store keeps in memory: its index's settings and schema, the catalog, the managed names, what was written to each open file, and the files that were left
+-- what a store keeps in memory: its index's settings and schema, the catalog, the managed names, the unfinished collections, what was written to each open file, and
+-- the files that were left
 pub record Kept : Type 0 where
   pub form : IndexForm
   pub catalog : Catalog
   pub managed : List (List ℕ)
+  pub collections : Collections
   pub open_files : List (List ℕ × List ℕ)
   pub left : List (List ℕ)
 
@@ -23,17 +26,19 @@ pub record StoreState (O : Type 0) : Type 0 where
   pub outside : O
   pub is_open : Bool
 
--- the files of a store: its directory, its index's settings and schema, the managed names, what was written to each open file, and the files that were left
+-- the files of a store: its directory, its index's settings and schema, the managed names, the unfinished collections, what was written to each open file, and the
+-- files that were left
 pub record FilesState (O : Type 0) : Type 0 where
   pub outside : O
   pub form : IndexForm
   pub managed : List (List ℕ)
+  pub collections : Collections
   pub open_files : List (List ℕ × List ℕ)
   pub left : List (List ℕ)
 
 -- what a store keeps of an index, with this catalog and these files
 abbrev pub kept_of : {O : Type 0} → Catalog → FilesState O → Kept
-kept_of catalog files = record { form = files.form; catalog = catalog; managed = files.managed; open_files = files.open_files; left = files.left }
+kept_of catalog files = record { form = files.form; catalog = catalog; managed = files.managed; collections = files.collections; open_files = files.open_files; left = files.left }
 
 -- a file of the machine, next to what its name reads and what was written to it
 abbrev pub FileHolds : Option FileState → Option (List ℕ) → Option (List ℕ) → Type 0
@@ -53,10 +58,11 @@ is_left (Some Left) = true
 pub record Holds (reads : Reads) (kept : Kept) (s : State) : Type 0 where
   pub catalog : kept.catalog ≡ s.catalog
   pub managed : kept.managed ≡ s.managed
+  pub collections : kept.collections ≡ s.collections
   pub segments : AllByRecursion IsSegment s.catalog.live
   pub names : (n : List ℕ) → is_some (file_at s n) ≡ true → IsFileOf n
   pub files : (n : List ℕ) → IsFileOf n → FileHolds (file_at s n) (reads n) (at kept.open_files n)
-  pub left : (n : List ℕ) → has kept.left n ≡ is_left (file_at s n)
+  pub left : (n : List ℕ) → IsFileOf n → has kept.left n ≡ is_left (file_at s n)
   pub meta : (text : List ℕ) × (reads meta_name ≡ Some text) × Means kept.form.settings kept.form.schema text s.catalog.commit
   pub listing : Lists (reads list_name) s.managed
   pub listed : has s.managed meta_name ≡ true

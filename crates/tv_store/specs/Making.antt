@@ -9,6 +9,7 @@ use Rattle.tv_directory.specs.View.{DeletesNone, OnlyReads, OnlyTells}
 use Rattle.tv_index.specs.Opening.{Finds, LeavesFound, LeavesUnopened}
 use Rattle.tv_index.specs.Saving.{FrameNotes}
 use Rattle.tv_model.specs.Commits.{IsCommit}
+use Rattle.tv_model.specs.Collections.{no_collections}
 use Rattle.tv_model.specs.Files.{Reads, Rose, Same}
 use Rattle.tv_model.specs.Index.{opened_catalog}
 use Rattle.tv_model.specs.Lines.{opening_of}
@@ -43,7 +44,8 @@ IsRefusedFirst (errors.DataCorruption why) = Unit {0}
 IsRefusedFirst (errors.SchemaError text) = Unit {0}
 IsRefusedFirst other = ⊥
 
--- The index that stands in this directory was found, or a new one was made: its settings and its schema, its catalog, and its files, none of them open.
+-- The index that stands in this directory was found, or a new one was made: its settings and its schema, its catalog, and its files, none of them open; no collection was
+-- begun.
 pub record FindsFiles {O W C : Type 0} (g : Ghosts O W C) (outside : O) (schema : List ℕ) (catalog : Catalog) (files : FilesState O) : Type 0 where
   pub spelled : IsSchema schema files.form.schema
   pub is_commit : IsCommit catalog.commit
@@ -53,6 +55,7 @@ pub record FindsFiles {O W C : Type 0} (g : Ghosts O W C) (outside : O) (schema 
   pub lists : g.told.content → Lists ((g.view files.outside).reads list_name) files.managed
   pub open_files : files.open_files ≡ []
   pub left : files.left ≡ []
+  pub collections : files.collections ≡ no_collections
   pub quiet : (g.view files.outside).faults ≡ (g.view outside).faults
   pub frame : FrameNotes g.told (g.view outside) (g.view files.outside)
 

@@ -3,6 +3,7 @@ use Rattle.std.specs.Prelude.{ℕ, ◌≡◌, true, false, List, Result, IfOk, I
 use Rattle.tv_directory.specs.declared.directory.Directory.{Ghosts}
 use Rattle.tv_directory.specs.Locks.{SameLocks, TakesLock}
 use Rattle.tv_managed.specs.declared.managed_directory.Refused.{Refused}
+use Rattle.tv_model.specs.Collections.{no_collections}
 use Rattle.tv_model.specs.Files.{Rose, Same}
 use Rattle.tv_model.specs.Lines.{opening_of}
 use Rattle.tv_model.specs.Schemas.{IsSchema}
@@ -18,8 +19,8 @@ use Rattle.tv_store.specs.Stays.{MayNotify}
 use Rattle.tv_store.specs.Telling.{TellsLine, TellsFirstPart, TellsNoLine}
 
 -- An index with this schema is open in this directory: the one that stood there, of which no name was touched, or a new one. What it keeps is its settings, its commit,
--- and its list. It is each one to which the directory opens, and holds its state; the files that its commit requires can be read. No open file has a byte, and nobody
--- reads.
+-- and its list. It is each one to which the directory opens, and holds its state; the files that its commit requires can be read. No open file has a byte, nobody
+-- reads, and no collection was begun.
 pub record Opens {O W C : Type 0} (g : Ghosts O W C) (outside : O) (schema : List ℕ) (store : StoreState O) : Type 0 where
   pub is_open : store.is_open ≡ true
   pub spelled : IsSchema schema store.kept.form.schema
@@ -30,6 +31,7 @@ pub record Opens {O W C : Type 0} (g : Ghosts O W C) (outside : O) (schema : Lis
   pub holds : g.told.content → (index : OpenedIndex schema (g.view outside).reads) → (store.kept.form ≡ index.form) × Holds (g.view store.outside).reads store.kept index.state × CanRead index.state
   pub lens : AtMost 0 store.kept
   pub numbers : store.kept.catalog.reading ≡ no_readers
+  pub collections : store.kept.collections ≡ no_collections
 
 -- A refusal takes no commit away: where `meta.json` was there, each name reads what it read, and where it wasn't, there may be the first commit of a new index. That of
 -- an argument or of bytes changes nothing.

@@ -18,9 +18,10 @@ ReadsCommit c (events.Reader policy) = Unit {0}
 ReadsCommit c (events.Reload number) = IsSome (reader_at c number)
 ReadsCommit c other = ⊥
 
--- an event that takes the meta lock: a collection, or one that reads the current commit
+-- an event that takes the meta lock: one that begins a collection, or that reads the current commit
 abbrev pub TakesMetaLock : Catalog → Event → Type 0
 TakesMetaLock c events.Gc = Unit {0}
+TakesMetaLock c events.GcBegin = Unit {0}
 TakesMetaLock c other = ReadsCommit c other
 
 -- a file that was to be read wasn't, or `meta.json` means no commit of the index

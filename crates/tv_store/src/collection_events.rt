@@ -4,11 +4,11 @@ ghost use Rattle.tv_model.specs.CollectionEvents.{gc_step, collected_line, relea
 ghost use Rattle.tv_model.specs.Lines.{line};
 ghost use Rattle.tv_directory.specs.View.{OnlyReads, MayDelete};
 ghost use Rattle.tv_store.specs.Kept.{AtMost};
-ghost use Rattle.tv_store.specs.Acting.{StepsTo, StepsDeleting, KeepsMeta, OnFiles};
+ghost use Rattle.tv_store.specs.Acting.{GivesNone, StepsTo, StepsDeleting, KeepsMeta, OnFiles};
 ghost use Rattle.tv_store.specs.FileCalls.{GcFaults};
 ghost use Rattle.tv_store.specs.Stays.{AsksQuietly, KeepsDotted, KeepsReaders};
 
-use crate::files::Collected;
+use crate::files_collecting::Collected;
 use crate::index_store::IndexStore;
 use crate::names::names_of;
 use std::alloc::Global;
@@ -56,6 +56,7 @@ impl<O: Outside> IndexStore<O> {
         ensures step { IfOk result (StepsDeleting O.Directory self.old self.new gc_step) }
         ensures room { IfOk result (λ answer. length answer < (O.view self.new.outside).room) }
         ensures lens { (bound : ℕ) → AtMost bound self.old.kept → AtMost bound self.new.kept }
+        ensures numbers { GivesNone self.old self.new result }
         ensures faults { GcFaults O.Directory self.old.outside self.new.outside result }
         ensures meta { KeepsMeta O.Directory self.old self.new result }
         ensures dotted { O.told.content → KeepsDotted (O.view self.old.outside).reads

@@ -97,6 +97,13 @@ impl Commit {
         self.segments.contains_key(&id)
     }
 
+    /// The segment of this id, where it is one of its own.
+    pub(crate) fn segment(&self, id: SegmentId) -> Option<LiveSegment>
+        ensures { result ≡ at self.now.segments id }
+    {
+        self.segments.get(&id).copied()
+    }
+
     // Its segments, as `meta.json` has them.
     fn metas(&self, alloc: Global) -> Result<Vec<InnerSegmentMeta>, Memory>
         ensures { IfOk result (λ metas. map entry_of metas.items ≡ self.now.segments) }

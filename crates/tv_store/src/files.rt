@@ -8,6 +8,7 @@ ghost use Rattle.tv_base.specs.declared.io.IoKind.TheVariants.{Device};
 ghost use Rattle.tv_model.specs.Names.{byte_cmp, has, is_plain, is_file_name, list_name, meta_name};
 ghost use Rattle.tv_model.specs.Footer.{sealed};
 ghost use Rattle.tv_model.specs.Listing.{Lists};
+ghost use Rattle.tv_model.specs.Collections.{no_collections};
 ghost use Rattle.tv_model.specs.Files.{Sets, KeepsOthers};
 ghost use Rattle.tv_model.specs.State.{at};
 ghost use Rattle.tv_model.specs.Lines.{has_no_feed};
@@ -38,24 +39,20 @@ pub(crate) struct OpenFile<D: Directory> {
     len: u64,
 }
 
-/// What became of a collection: the names that are gone, and those whose delete was refused.
-pub(crate) struct Collected {
-    pub(crate) deleted: Vec<FileName>,
-    pub(crate) failed: Vec<FileName>,
-}
-
 /// An index and its open files. To a contract it is the directory, the index's settings and schema, the
-/// managed names, what was written to each open file, and the files that were left.
+/// managed names, the unfinished collections, what was written to each open file, and the files that
+/// were left.
 pub(crate) struct Files<O: Outside> {
-    index: Index<O>,
-    files: BTreeMap<FileName, OpenFile<O>>,
+    pub(crate) index: Index<O>,
+    pub(crate) files: BTreeMap<FileName, OpenFile<O>>,
     // Neither sealed nor written any more.
-    left: BTreeSet<FileName>,
+    pub(crate) left: BTreeSet<FileName>,
 }
 
 impl<O: Outside> Model for Files<O> {
     ghost use Rattle.std.specs.Prelude.{map};
     ghost use Rattle.std.specs.List.{AllByRecursion};
+    ghost use Rattle.tv_model.specs.Collections.{no_collections};
     ghost use Rattle.tv_store.specs.Kept.{FilesState};
     ghost use Rattle.tv_index.specs.NewForms.{form_with};
     ghost use Rattle.tv_store.specs.OpenFiles.{IsOpenFile};
@@ -66,6 +63,7 @@ impl<O: Outside> Model for Files<O> {
       outside = a.index.directory.0;
       form = form_with a.index.settings a.index.schema;
       managed = a.index.directory.1;
+      collections = no_collections;
       open_files = map
           (λ e. (e.0, (O.state_of e.1.writer.writer).written)) a.files.entries;
       left = a.left.keys;
@@ -74,18 +72,6 @@ impl<O: Outside> Model for Files<O> {
     ghost invariant = { λ a. AllByRecursion
         (λ e. IsOpenFile O.Directory a.index.directory.0 e.0 e.1.writer e.1.len)
         a.files.entries };
-}
-
-// Names of files, from their texts.
-fn file_names(alloc: Global, texts: Vec<String>) -> Result<Vec<FileName>, Memory>
-    requires { list_all is_plain (map string_bytes texts.items) ≡ true }
-    ensures { IfOk result (λ names. names.items ≡ map string_bytes texts.items) }
-{
-    let mut names = Vec::new(alloc);
-    for text in texts {
-        names.push(FileName::new(text))?;
-    }
-    Ok(names)
 }
 
 // Nothing is known of a checksum where the bytes of its file are refused.
@@ -101,27 +87,6 @@ fn unless_device(fault: IoFault) -> Result<Option<bool>, TantivyError>
     }
 }
 
-// Takes the entries of these names out of a map.
-fn remove_all<V: Drop>(map: &mut BTreeMap<FileName, V>, names: &[FileName])
-    ensures names { (n : List ℕ) → at map.new.entries n ≡ cond (has names.entry.now n) None
-        (at map.old.entries n) }
-    ensures left { AllByRecursion (Contains map.old.entries) map.new.entries }
-{
-    for name in names {
-        let _entry = map.remove(name);
-    }
-}
-
-// Takes these names out of a set.
-fn remove_names(set: &mut BTreeSet<FileName>, names: &[FileName])
-    ensures { (n : List ℕ) → has set.new.keys n
-        ≡ (not (has names.entry.now n) && has set.old.keys n) }
-{
-    for name in names {
-        let _there = set.remove(name);
-    }
-}
-
 impl<O: Outside> Files<O> {
     /// The files of an index, none of them open.
     pub(crate) fn new(alloc: Global, index: Index<O>) -> Files<O>
@@ -129,6 +94,7 @@ impl<O: Outside> Files<O> {
           outside = index.directory.0;
           form = form_with index.settings index.schema;
           managed = index.directory.1;
+          collections = no_collections;
           open_files = [];
           left = [];
         } }
@@ -341,9 +307,10 @@ impl<O: Outside> Files<O> {
     /// The open ones of these files are left: they are written no more.
     pub(crate) fn leave(&mut self, names: Vec<FileName>) -> Result<(), Memory>
         ensures left { OnOk result (LeavesFiles names.items self.old self.new) }
-        ensures outside { self.new.outside ≡ self.old.outside }
-        ensures form { self.new.form ≡ self.old.form }
-        ensures names { self.new.managed ≡ self.old.managed }
+        ensures others { self.new ≡ record self.old {
+          open_files = self.new.open_files;
+          left = self.new.left;
+        } }
         ensures lens { (bound : ℕ) → AllByRecursion (λ e. length e.1 ≤ bound) self.old.open_files
             → AllByRecursion (λ e. length e.1 ≤ bound) self.new.open_files }
     {
@@ -386,42 +353,6 @@ impl<O: Outside> Files<O> {
     {
         let body = self.index.directory_mut().open_read(name.as_str())?;
         Ok(body)
-    }
-
-    /// Deletes the managed files that aren't among these. One that was deleted is neither open nor
-    /// left any more.
-    pub(crate) fn collect(
-        &mut self,
-        alloc: Global,
-        living: BTreeSet<String>,
-    ) -> Result<Collected, TantivyError>
-        ensures collects { IfOk result (λ c. Collects O.Directory
-            (map string_bytes living.keys) self.old self.new c.deleted.items c.failed.items) }
-        // What is living reads what it read.
-        ensures spared { O.told.content → (n : List ℕ) → has (map string_bytes living.keys) n ≡ true
-            → n ≢ list_name
-            → (O.view self.new.outside).reads n ≡ (O.view self.old.outside).reads n }
-        ensures dotted { O.told.content → KeepsDotted (O.view self.old.outside).reads
-            (O.view self.new.outside).reads }
-        ensures list { O.told.content
-            → Lists ((O.view self.old.outside).reads list_name) self.old.managed
-            → OnOk result (Lists ((O.view self.new.outside).reads list_name) self.new.managed) }
-        ensures lens { (bound : ℕ) → AllByRecursion (λ e. length e.1 ≤ bound) self.old.open_files
-            → AllByRecursion (λ e. length e.1 ≤ bound) self.new.open_files }
-        ensures faults { GcFaults O.Directory self.old.outside self.new.outside result }
-        ensures frame { KeepsMade (MayDelete O.told) O.view self.old self.new }
-    {
-        // A contract learns from the managed names that they are plain.
-        let _names = self.index.directory().list_managed_files();
-        // No writer is kept beside an error, since nobody could tell which files are gone.
-        let mut files = mem::replace(&mut self.files, BTreeMap::new(alloc));
-        let result = self.index.directory_mut().garbage_collect(move || living)?;
-        let deleted = file_names(alloc, result.deleted_files)?;
-        let failed = file_names(alloc, result.failed_to_delete_files)?;
-        remove_all(&mut files, deleted.as_slice());
-        self.files = files;
-        remove_names(&mut self.left, deleted.as_slice());
-        Ok(Collected { deleted, failed })
     }
 
     /// Makes these bytes the text of `meta.json`. The directory is synced before and afterwards.

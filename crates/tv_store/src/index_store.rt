@@ -174,12 +174,14 @@ impl<O: Outside> IndexStore<O> {
             Event::Open(id, component) => self.open_file(*id, *component),
             Event::Write(id, component, bytes) => self.write_file(*id, *component, bytes),
             Event::Seal(id, component) => self.seal_file(*id, *component),
+            Event::Deletes(id, n) => self.deletes(*id, *n),
             Event::Commit(payload, ids) => self.commit(payload, ids),
             Event::Gc => self.gc(),
             Event::Reader(policy) => self.reader(*policy),
             Event::Reload(number) => self.reload(*number),
             Event::ReleaseSegment(id) => self.release_segment(*id),
             Event::Validate => self.validate(),
+            Event::Reopen => self.reopen(),
             _ => unreachable!(),
         }
     }

@@ -13,13 +13,16 @@ mod chosen;
 mod collection_events;
 mod commit;
 mod commit_events;
+mod delete_events;
 mod file_events;
 mod files;
+mod files_collecting;
 mod index_store;
 mod names;
 mod opening;
 mod reader_events;
 mod readers;
+mod reopen_events;
 mod report_events;
 mod snapshot;
 

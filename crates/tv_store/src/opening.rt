@@ -46,8 +46,8 @@ fn by_id(
     Ok(by_id)
 }
 
-// The number of the commit after the one with this number.
-fn next_after(opstamp: Opstamp) -> Opstamp
+/// The number of the commit after the one with this number. Takes no memory.
+pub(crate) fn next_after(opstamp: Opstamp) -> Opstamp
     ensures { result ≡ next_after opstamp }
 {
     opstamp.saturating_add(1)

@@ -181,8 +181,10 @@ impl<O: Outside> IndexStore<O> {
             (reader_event policy) CanRead result }
         ensures room { IfOk result (λ answer. length answer < (O.view self.new.outside).room) }
         ensures lens { (bound : ℕ) → AtMost bound self.old.kept → AtMost bound self.new.kept }
-        ensures numbers { (bound : ℕ) → FewNumbers bound self.old.kept.catalog.reading
-            → OnOk result (FewNumbers (bound + 1) self.new.kept.catalog.reading) }
+        ensures numbers { (bound : ℕ)
+            → FewNumbers bound self.old.kept.catalog.reading self.old.kept.collections
+            → OnOk result (FewNumbers (bound + 1) self.new.kept.catalog.reading
+            self.new.kept.collections) }
         ensures faults { ReadingFaults O.Directory (Unit {0})
             (PassesEnd (number_after self.old.kept.catalog (events.Reader policy)))
             self.old self.new (events.Reader policy) result }
@@ -211,8 +213,10 @@ impl<O: Outside> IndexStore<O> {
             (λ s. ReadsGood s (events.Reload number)) result }
         ensures room { IfOk result (λ answer. length answer < (O.view self.new.outside).room) }
         ensures lens { (bound : ℕ) → AtMost bound self.old.kept → AtMost bound self.new.kept }
-        ensures numbers { (bound : ℕ) → FewNumbers bound self.old.kept.catalog.reading
-            → OnOk result (FewNumbers (bound + 1) self.new.kept.catalog.reading) }
+        ensures numbers { (bound : ℕ)
+            → FewNumbers bound self.old.kept.catalog.reading self.old.kept.collections
+            → OnOk result (FewNumbers (bound + 1) self.new.kept.catalog.reading
+            self.new.kept.collections) }
         ensures faults { ReadingFaults O.Directory
             (IsSome (reader_at self.old.kept.catalog number))
             (PassesEnd (number_after self.old.kept.catalog (events.Reload number)))

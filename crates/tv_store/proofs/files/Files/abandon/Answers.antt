@@ -1,3 +1,4 @@
+use Rattle.tv_model.specs.Collections.{no_collections}
 use Rattle.tv_index.specs.NewForms.{form_with}
 use Rattle.std.proofs.Common.{refl, sym, ap, is_some, ◌∙◌}
 use Rattle.tv_store.proofs.OpenFiles.{left_open, is_open, isnt_open, one_less}
@@ -12,7 +13,7 @@ returns-clause-found g c =
 
 pub returns-clause-abandoned : goal.returns-clause-abandoned
 returns-clause-abandoned g c =
-    one_less (λ w. (g.O.Directory.state_of w).written) c.self.inside.index.directory.0 (form_with c.self.inside.index.settings c.self.inside.index.schema) c.self.inside.index.directory.1 c.self.inside.files.entries c.remove.new.self.entries c.self.inside.left.keys c.args.self.now _ c.remove.ensures.entries c.self.view_is
+    one_less (λ w. (g.O.Directory.state_of w).written) c.self.inside.index.directory.0 (form_with c.self.inside.index.settings c.self.inside.index.schema) c.self.inside.index.directory.1 no_collections c.self.inside.files.entries c.remove.new.self.entries c.self.inside.left.keys c.args.self.now _ c.remove.ensures.entries c.self.view_is
 
 pub returns-clause-closed : goal.returns-clause-closed
 returns-clause-closed g c = isnt_open (λ w. (g.O.Directory.state_of w).written) c.remove.new.self.entries _ c.args.name.now refl (sym c.remove.ensures.updates.1)

@@ -8,7 +8,7 @@ use Rattle.tv_store.specs.StoreCauses.{IsBusy}
 use Rattle.tv_store.specs.ReadCauses.{TakesMetaLock}
 use Rattle.tv_store.specs.Applying.{GoneAt, RefusedAt, UnloadedAt}
 use Rattle.tv_store.proofs.Steps.{at_most, locks_none, takes_lock_in, locking_cause_in, read_cause_in}
-use Rattle.tv_store.proofs.Acting.{acts_on_files, acts_reading, acts_deleting, acts_committing}
+use Rattle.tv_store.proofs.Acting.{acts_anew, acts_on_files, acts_reading, acts_deleting, acts_committing}
 use Rattle.tv_store.proofs.index_store.IndexStore.act_on_files.Goals as goal
 
 pub returns-in-ReleaseSegment : goal.returns-in-ReleaseSegment
@@ -22,6 +22,18 @@ returns-in-Validate g c =
     let did = c.validate.ensures in
     acts_on_files g.O.Directory c.args.self.now c.validate.new.self c.args.event.now _ c.in-Validate.is c.validate.result (λ o n same. same) _ (λ o n h. h.kept) ⊥ (λ never. absurd never) (λ s. tt) (λ takes. takes)
     did.step (λ bound h. at_most bound 0 c.validate.new.self.kept (did.lens bound h)) did.does
+
+pub returns-in-Deletes : goal.returns-in-Deletes
+returns-in-Deletes g c =
+    let did = c.deletes.ensures in
+    acts_on_files g.O.Directory c.args.self.now c.deletes.new.self c.args.event.now _ c.in-Deletes.is c.deletes.result (λ o n same. same) _ (λ o n h. h.kept) ⊥ (λ never. absurd never) (λ s. tt) (λ takes. takes)
+    did.step (λ bound h. at_most bound 0 c.deletes.new.self.kept (did.lens bound h)) did.does
+
+pub returns-in-Reopen : goal.returns-in-Reopen
+returns-in-Reopen g c =
+    let did = c.reopen.ensures in
+    acts_anew g.O.Directory c.args.self.now c.reopen.new.self c.args.event.now _ c.in-Reopen.is c.reopen.result (λ o n same. same) (λ s. tt) (λ takes. takes)
+    did.step did.room (λ bound h. at_most bound 0 c.reopen.new.self.kept (did.lens bound h)) did.anew did.faults did.frame
 
 pub returns-in-Open : goal.returns-in-Open
 returns-in-Open g c =
@@ -38,7 +50,7 @@ returns-in-Seal g c =
 pub returns-in-Write : goal.returns-in-Write
 returns-in-Write g c =
     let did = c.write_file.ensures in
-    acts_on_files g.O.Directory c.args.self.now c.write_file.new.self c.args.event.now _ c.in-Write.is c.write_file.result (λ o n same. same) _ (λ o n h. h) _ inr (λ s. tt) (λ takes. takes) did.step did.lens did.does
+    acts_on_files g.O.Directory c.args.self.now c.write_file.new.self c.args.event.now _ c.in-Write.is c.write_file.result (λ o n same. same) _ (λ o n h. h) _ (λ spent. inr (inr spent)) (λ s. tt) (λ takes. takes) did.step did.lens did.does
 
 pub returns-in-Commit : goal.returns-in-Commit
 returns-in-Commit g c =
@@ -54,7 +66,7 @@ returns-in-Gc g c =
     let quiet : Type 0 = (d.view new.outside).faults ≡ (d.view old.outside).faults in
     let busy : Type 0 = IsBusy d.told.locks ((d.view old.outside).locks meta_lock_name ≡ true) refused in
     acts_deleting d old new c.args.event.now Gc c.in-Gc.is c.gc.result (λ o n same. same) (λ s. tt)
-    did.step did.room (λ bound h. at_most bound 0 new.kept (did.lens bound h))
+    did.step did.room (λ bound h. at_most bound 0 new.kept (did.lens bound h)) did.numbers
     (record {
       quiet = did.faults.quiet;
       free = λ told takes. did.faults.free told;

@@ -1,5 +1,6 @@
-use Rattle.std.proofs.Common.{◌≡◌, ℕ, List, map, length, sym, ap, subst, ◌∙◌, string_bytes}
+use Rattle.std.proofs.Common.{◌≡◌, ◌++◌, ℕ, List, map, length, sym, ap, subst, ◌∙◌, string_bytes}
 use Rattle.tv_model.specs.Names.{has}
+use Rattle.tv_model.specs.Collections.{collectable, held}
 use Rattle.tv_model.specs.Living.{living}
 use Rattle.tv_model.specs.State.{Catalog}
 use Rattle.tv_model.specs.CollectionEvents.{collected_line}
@@ -40,7 +41,7 @@ returns-clause-step g c =
     let first : (D.view inside.files.outside).refusals ≡ (D.view old.outside).refusals = ap (λ v. (D.view v.outside).refusals) c.self-2.view_is ∙ asked.below.kept.frame.tells_none.deletes_none.refusals in
     let catalog : c.self.inside.catalog ≡ inside.catalog = ap (λ v. v.kept.catalog) c.self.view_is ∙ sym (ap (λ (k : Kept). k.catalog) asked.kept) ∙ sym (ap (λ v. v.kept.catalog) c.self-2.view_is) in (
       told.tried.outcomes,
-      refusals_rose needed inside.files.managed new.managed deleted failed D.told.content (D.view inside.files.outside).reads (D.view new.outside).reads told.tried (D.view old.outside).refusals (D.view end.outside).refusals
+      refusals_rose (collectable (needed ++ held inside.files.collections) inside.files.managed) inside.files.managed new.managed deleted failed D.told.content (D.view inside.files.outside).reads (D.view new.outside).reads told.tried (D.view old.outside).refusals (D.view end.outside).refusals
           (subst (λ (n : ℕ). FailsAtMost (length failed) n (D.view end.outside).refusals) first
           (subst (λ (n : ℕ). FailsAtMost (length failed) (D.view inside.files.outside).refusals n) (sym made.below.kept.frame.tells_none.deletes_none.refusals) told.counted)),
       λ tells s held.

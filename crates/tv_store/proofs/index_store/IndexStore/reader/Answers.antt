@@ -39,5 +39,5 @@ returns-in_err-shown-clause-faults g c =
 
 pub returns-clause-numbers : goal.returns-clause-numbers
 returns-clause-numbers g c bound few =
-    few_with_new bound c.self-2.inside.catalog c.add_reader.new.self c.args.policy c.in_ok-shown.shown c.in_ok-add_reader.ensures
-    (subst (λ (k : Catalog). FewNumbers bound k.reading) (sym (ap (λ v. v.kept.catalog) c.self-2.view_is ∙ ap (λ (k : Kept). k.catalog) (c.in_ok-shown.ensures.frame.kept ∙ c.in_ok-answer-2.ensures.asks.frame.kept))) few)
+    few_with_new bound c.self-2.inside.files.collections c.self-2.inside.catalog c.add_reader.new.self c.args.policy c.in_ok-shown.shown c.in_ok-add_reader.ensures
+    (subst (λ (k : Kept). FewNumbers bound k.catalog.reading k.collections) (sym (ap (λ v. v.kept) c.self-2.view_is ∙ c.in_ok-shown.ensures.frame.kept ∙ c.in_ok-answer-2.ensures.asks.frame.kept)) few)

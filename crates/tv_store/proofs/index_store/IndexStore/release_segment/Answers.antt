@@ -30,7 +30,7 @@ returns-clause-step g c tells s held =
     let now = subst (λ v. Holds (D.view v.outside).reads v.kept s) (sym c.self-2.view_is)
     (same_holds (D.view old.outside).reads (D.view mid.outside).reads old.kept mid.kept s (asked.below.content tells) asked.kept held) in
     let holds =
-    released_holds D inside.catalog inside.files new done.form s id segment now (ap (λ (k : Catalog). live_at k id) now.catalog ∙ there) done.outside done.names
+    released_holds D inside.catalog inside.files new (ap (λ v. v.form) done.others) s id segment now done.others
     (subst (λ names. LeavesFiles names inside.files new) c.in_ok-names.ensures done.left) in (
       c.in_ok-answer-2.ensures.answer ∙ c.in_ok-answer.ensures ∙ sym (ap (λ (t : StepResult State). t.0) step),
       subst (λ (t : StepResult State). Holds (D.view new.outside).reads (kept_of c.remove.new.self new) t.1) (sym step)

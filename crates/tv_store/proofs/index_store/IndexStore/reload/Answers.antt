@@ -63,5 +63,5 @@ returns-clause-numbers g c bound few =
     let same : c.self-2.inside.catalog ≡ c.args.self.now.kept.catalog = ap (λ v. v.kept.catalog) c.self-2.view_is ∙ ap (λ (k : Kept). k.catalog) (c.in_ok-shown.ensures.frame.kept ∙ c.in_ok-answer-2.ensures.asks.frame.kept) in
     let found = mapped (λ (r : Reader). r.next) (reader_at c.self.inside.catalog c.args.number) c.in-Some.generation (sym c.in-Some.is ∙ c.next_generation.ensures) in
     let there : reader_at c.self-2.inside.catalog c.args.number ≡ Some found.0 = ap (λ (k : Catalog). reader_at k c.args.number) (same ∙ sym (ap (λ v. v.kept.catalog) c.self.view_is)) ∙ found.1 in
-    few_with_reloaded bound c.self-2.inside.catalog c.publish.new.self c.args.number found.0 c.in_ok-shown.shown there (c.in_ok-publish.ensures found.0 there)
-    (subst (λ (k : Catalog). FewNumbers bound k.reading) (sym same) few)
+    few_with_reloaded bound c.self-2.inside.files.collections c.self-2.inside.catalog c.publish.new.self c.args.number found.0 c.in_ok-shown.shown there (c.in_ok-publish.ensures found.0 there)
+    (subst (λ (k : Kept). FewNumbers bound k.catalog.reading k.collections) (sym (ap (λ v. v.kept) c.self-2.view_is ∙ c.in_ok-shown.ensures.frame.kept ∙ c.in_ok-answer-2.ensures.asks.frame.kept)) few)

@@ -1,6 +1,6 @@
 use Rattle.std.proofs.Common.{drop, arith, ◌+◌}
 use Rattle.tv_store.proofs.Removals.{drop_here, one_out}
-use Rattle.tv_store.proofs.files.remove_names.Goals as goal
+use Rattle.tv_store.proofs.files_collecting.remove_names.Goals as goal
 
 pub loop-name-preserved : goal.loop-name-preserved
 loop-name-preserved c n =

@@ -2,7 +2,7 @@ use Rattle.std.proofs.Common.{◌+◌, drop, refl, arith}
 use Rattle.std.specs.BTreeMap.{is_at}
 use Rattle.tv_model.specs.Names.{byte_cmp}
 use Rattle.tv_store.proofs.Removals.{contains_itself, one_gone, removed_still, drop_here}
-use Rattle.tv_store.proofs.files.remove_all.Goals as goal
+use Rattle.tv_store.proofs.files_collecting.remove_all.Goals as goal
 
 pub loop-name-init : goal.loop-name-init
 loop-name-init g c = record { names = λ n. refl; left = contains_itself c.args.map.now.entries }

@@ -1,0 +1,72 @@
+-- Which names the unfinished collections hold, after each change of them.
+use Rattle.std.proofs.Common.{◌≡◌, ℕ, Bool, true, false, true≢false, cond, ◌||◌, List, [], ◌∷◌, ◌++◌, Option, Some, None, refl, sym, ap, ◌∙◌, arith}
+use Rattle.std.specs.List.{flat_map}
+use Rattle.std.specs.Map.{lookup, remove_entry}
+use Rattle.std.specs.BTreeMap.{is_at, insert_entry}
+use Rattle.std.specs.Ordering.{nat_cmp, match_ordering}
+use Rattle.std.specs.declared.cmp.Ordering.{Ordering}
+use Rattle.std.specs.declared.cmp.Ordering.TheVariants.{Less, Equal, Greater}
+use Rattle.tv_model.specs.Names.{has}
+use Rattle.tv_model.specs.Collections.{Collection, Collections, begun, collection_at, having_tried, held, taken, with_begun, with_collection, without_collection}
+use Rattle.tv_model.proofs.CollectionStates.{has_append}
+
+-- what the collections of these entries took
+abbrev pub all_taken : List (ℕ × Collection) → List (List ℕ)
+all_taken es = flat_map (λ e. taken e.1) es
+
+module _ (n : List ℕ) where
+  -- a name of these entries is one of those
+  abbrev Within : List (ℕ × Collection) → (names : List (List ℕ)) → Type 0
+  Within es names = has (all_taken es) n ≡ true → has names n ≡ true
+
+  first_taken : (e : ℕ × Collection) (es : List (ℕ × Collection)) → has (all_taken (e ∷ es)) n ≡ (has (taken e.1) n || has (all_taken es) n)
+  first_taken e es = has_append (taken e.1) (all_taken es) n
+
+  -- one that was put took it, or another one did
+  put : (es : List (ℕ × Collection)) (number : ℕ) (c : Collection) → has (all_taken (insert_entry nat_cmp es number c)) n ≡ true → (has (taken c) n || has (all_taken es) n) ≡ true
+  put [] number c h = sym (first_taken (number, c) []) ∙ h
+  put (e ∷ es) number c h = placed (nat_cmp number e.0) h where
+    placed : (r : Ordering) → has (all_taken (match_ordering r ((number, c) ∷ e ∷ es) ((e.0, c) ∷ es) (e ∷ insert_entry nat_cmp es number c))) n ≡ true → (has (taken c) n || has (all_taken (e ∷ es)) n) ≡ true
+    placed Less k = sym (first_taken (number, c) (e ∷ es)) ∙ k
+    placed Equal k = grind (arith, first_taken (e.0, c) es, first_taken e es, k)
+    placed Greater k = grind (arith, first_taken e (insert_entry nat_cmp es number c), first_taken e es, put es number c, k)
+
+  -- one less took none else
+  cut : (es : List (ℕ × Collection)) (test : ℕ → Bool) → has (all_taken (remove_entry test es)) n ≡ true → has (all_taken es) n ≡ true
+  cut [] test h = h
+  cut (e ∷ es) test h = left (test e.0) h where
+    left : (b : Bool) → has (all_taken (cond b es (e ∷ remove_entry test es))) n ≡ true → has (all_taken (e ∷ es)) n ≡ true
+    left true k = grind (arith, first_taken e es, k)
+    left false k = grind (arith, first_taken e (remove_entry test es), first_taken e es, cut es test, k)
+
+  -- what an unfinished collection took is held
+  found : (es : List (ℕ × Collection)) (test : ℕ → Bool) (c : Collection) → lookup test es ≡ Some c → has (taken c) n ≡ true → has (all_taken es) n ≡ true
+  found [] test c e h = absurd cc
+  found (x ∷ es) test c e h = here (test x.0) e where
+    here : (b : Bool) → cond b (Some x.1) (lookup test es) ≡ Some c → has (all_taken (x ∷ es)) n ≡ true
+    here true k = let same : x.1 ≡ c = cc in grind (arith, first_taken x es, ap (λ (d : Collection). has (taken d) n) same, h)
+    here false k = grind (arith, first_taken x es, found es test c k h)
+
+  pub held_taken : (collections : Collections) (number : ℕ) (c : Collection) → collection_at collections number ≡ Some c → has (taken c) n ≡ true → has (held collections) n ≡ true
+  held_taken collections number c there h = found collections.unfinished (is_at (nat_cmp number)) c there h
+
+  -- a name that is held after a collection began is one of its names, or was held
+  pub held_begun : (collections : Collections) (names : List (List ℕ)) → has (held (with_begun collections names)) n ≡ true → (has names n || has (held collections) n) ≡ true
+  held_begun collections names h = put collections.unfinished collections.next (begun names) h
+
+  -- the names of a collection are the same after one was tried
+  taken_tried : (c : Collection) (name : List ℕ) (left : List (List ℕ)) (done : Bool) → c.untried ≡ name ∷ left → has (taken (having_tried c name left done)) n ≡ has (taken c) n
+  taken_tried c name left true is =
+      rw (has_append (c.done ++ name ∷ []) (c.failed ++ left) n, has_append c.done (name ∷ []) n, has_append c.failed left n, has_append c.done (c.failed ++ c.untried) n, has_append c.failed c.untried n, is)
+      (grind arith)
+  taken_tried c name left false is =
+      rw (has_append c.done ((c.failed ++ name ∷ []) ++ left) n, has_append (c.failed ++ name ∷ []) left n, has_append c.failed (name ∷ []) n, has_append c.done (c.failed ++ c.untried) n, has_append c.failed c.untried n, is)
+      (grind arith)
+
+  pub held_tried : (collections : Collections) (number : ℕ) (c : Collection) (name : List ℕ) (left : List (List ℕ)) (done : Bool) → collection_at collections number ≡ Some c → c.untried ≡ name ∷ left
+      → has (held (with_collection collections number (having_tried c name left done))) n ≡ true → has (held collections) n ≡ true
+  held_tried collections number c name left done there is h =
+      grind (arith, put collections.unfinished number (having_tried c name left done) h, taken_tried c name left done is, held_taken collections number c there)
+
+  pub held_ended : (collections : Collections) (number : ℕ) → has (held (without_collection collections number)) n ≡ true → has (held collections) n ≡ true
+  held_ended collections number h = cut collections.unfinished (is_at (nat_cmp number)) h

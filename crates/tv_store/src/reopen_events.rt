@@ -1,0 +1,61 @@
+//! The event that opens an index again, where it stands.
+ghost use Rattle.std.specs.Prelude.{◌≡◌, ◌<◌, ℕ, length, IfOk, OnOk};
+ghost use Rattle.tv_model.specs.Collections.{no_collections};
+ghost use Rattle.tv_model.specs.Index.{opened_catalog};
+ghost use Rattle.tv_model.specs.ReopenEvents.{reopen_step};
+ghost use Rattle.tv_model.specs.State.{no_readers};
+ghost use Rattle.tv_directory.specs.View.{OnlyReads};
+ghost use Rattle.tv_store.specs.Acting.{StepsTo};
+ghost use Rattle.tv_store.specs.Kept.{AtMost};
+ghost use Rattle.tv_store.specs.Stays.{EventFaults, Stays};
+
+use crate::catalog::Catalog;
+use crate::index_store::IndexStore;
+use crate::opening::{next_after, opening_line};
+use crate::readers::Readers;
+use std::alloc::Global;
+use std::collections::BTreeMap;
+use tv_base::TantivyError;
+use tv_directory::Outside;
+use tv_model::{Answer, LiveSegment, Memory, SegmentId};
+
+impl Catalog {
+    // A copy of the segments of the current commit, by their ids.
+    fn committed(&self) -> Result<BTreeMap<SegmentId, LiveSegment>, Memory>
+        ensures { IfOk result (λ segments. segments.entries ≡ self.now.commit.segments) }
+    {
+        let segments = self.commit.by_id().clone()?;
+        Ok(segments)
+    }
+
+    // The catalog is that of an index that was just opened with the current commit, of which these are the
+    // segments. Takes no memory.
+    fn reopen(&mut self, segments: BTreeMap<SegmentId, LiveSegment>)
+        requires { segments.entries ≡ self.old.commit.segments }
+        ensures { self.new ≡ opened_catalog self.old.commit }
+    {
+        self.live = segments;
+        self.next = next_after(self.commit.opstamp());
+        self.readers = Readers::new(self.alloc);
+    }
+}
+
+impl<O: Outside> IndexStore<O> {
+    // The index is opened again: open files are left, nobody reads, and no collection is unfinished.
+    pub(crate) fn reopen(&mut self) -> Result<Answer, TantivyError>
+        ensures step { StepsTo O.Directory self.old self.new reopen_step result }
+        ensures room { IfOk result (λ answer. length answer < (O.view self.new.outside).room) }
+        ensures lens { (bound : ℕ) → AtMost bound self.old.kept → AtMost bound self.new.kept }
+        ensures anew { OnOk result ((self.new.kept.collections ≡ no_collections)
+            × (self.new.kept.catalog.reading ≡ no_readers)) }
+        ensures faults { EventFaults ⊥ (O.view self.old.outside) (O.view self.new.outside) result }
+        ensures frame { Stays (OnlyReads O.told) O.view self.old self.new }
+    {
+        let segments = self.catalog.committed()?;
+        let line = opening_line(self.alloc, self.catalog.commit())?;
+        let answer = self.ready(line)?;
+        self.files.reopen(self.alloc)?;
+        self.catalog.reopen(segments);
+        Ok(answer)
+    }
+}
