@@ -28,6 +28,7 @@ use Rattle.tv_index.specs.Saving.{FrameNotes}
 use Rattle.tv_store.specs.Committing.{Commits}
 use Rattle.tv_store.specs.Acting.{Acts, GivesNone, KeepsMeta, OnFiles, LeavesStep, Passes, StepsTo, StepsReading, StepsDeleting}
 use Rattle.tv_store.specs.Catalogs.{CatalogCause, FitsCatalog}
+use Rattle.tv_store.proofs.FewNumbers.{few_more, none_given}
 use Rattle.tv_store.proofs.Holding.{same_holds}
 use Rattle.tv_store.proofs.Lifting.{catalog_held, numbers_grow, plain_event}
 use Rattle.tv_store.proofs.Steps.{cause_in, reads_none, leaves_old, old_at_memory, stepped, stepped_reading, stepped_deleting, at_most, numbers_stay, same_lens}
@@ -52,11 +53,6 @@ passed_deleting told event old new none h = record {
   locks = h.locks;
   watched = none old.watched new.watched h.watched;
 }
-
--- the same collections give no number
-none_given : {A E : Type 0} {before now : Collections} (result : Result A E) → now ≡ before → OnOk result (now.next ≤ before.next)
-none_given (Ok a) same = omega (arith, ap (λ (c : Collections). c.next) same)
-none_given (Err e) same = tt
 
 on_err : {A E : Type 0} (result : Result A E) (P : Type 0) → P → OnErr result P
 on_err (Ok a) P h = tt
@@ -156,6 +152,31 @@ module _ {O W C : Type 0} (g : Ghosts O W C) (old new : StoreState O) (event sho
         begun : (bound : ℕ) (r : Result (List ℕ) TantivyError) → OnOk r ((new.kept.collections ≡ no_collections) × (new.kept.catalog.reading ≡ no_readers)) → OnOk r (FewNumbers bound new.kept.catalog.reading new.kept.collections)
         begun bound (Ok a) h = rw (h.0, h.1) (record { next_reader = omega arith; next_searcher = omega arith; next_collection = omega arith; next_snapshots = tt })
         begun bound (Err e) h = tt
+
+  -- one that gives a number to a collection
+  pub acts_beginning : NotesNothing shown → ((s : State) → ReadsGood s shown) → written_by shown ≡ 1
+      → StepsTo g old new (λ s. step s shown []) result → IfOk result (λ answer. length answer < (g.view new.outside).room)
+      → ((bound : ℕ) → AtMost bound old.kept → AtMost (bound + written_by shown) new.kept)
+      → OnOk result (new.kept.collections.next ≡ old.kept.collections.next + 1)
+      → ApplyFaults g old new shown result → KeepsReaders (OnlyReads g.told) g.view old new
+      → Acts g old new event result
+  acts_beginning none good takes step room lens next faults frame =
+      let below = frame.stays.below.kept in
+      acts (step_alone good below.frame.tells_none.deletes_none.refusals step) room lens (λ bound few. more bound result next few) faults
+      (λ tells. on_err result ((g.view new.outside).reads meta_name ≡ (g.view old.outside).reads meta_name) (frame.stays.below.content tells meta_name))
+      (λ tells n dot other. frame.stays.below.content tells n)
+      (record { form = frame.stays.form; is_open = frame.stays.is_open; below = passed g.told shown (g.view old.outside) (g.view new.outside) none below }) where
+        more : (bound : ℕ) (r : Result (List ℕ) TantivyError) → OnOk r (new.kept.collections.next ≡ old.kept.collections.next + 1) → FewNumbers bound old.kept.catalog.reading old.kept.collections
+            → OnOk r (FewNumbers (bound + written_by shown) new.kept.catalog.reading new.kept.collections)
+        more bound (Ok a) is few =
+            let one = few_more bound 1 old.kept.catalog.reading old.kept.collections few in
+            rw (takes, frame.reading) (record {
+              next_reader = one.next_reader;
+              next_searcher = one.next_searcher;
+              next_collection = omega (arith, is, few.next_collection);
+              next_snapshots = one.next_snapshots;
+            })
+        more bound (Err e) is few = tt
 
   -- one that deletes files
   pub acts_deleting : NotesNothing shown → ((s : State) → ReadsGood s shown)

@@ -31,6 +31,7 @@ module _ {O W C : Type 0} (g : Ghosts O W C) (given : Type 0) (old new : StoreSt
   rest_asked asks = record {
     stays = record { form = ap (λ (k : Kept). k.form) asks.kept; is_open = asks.is_open; below = record { frame = asks.below.kept.frame; watched = inl asks.below.kept.watched } };
     open_files = ap (λ (k : Kept). k.open_files) asks.kept;
+    collections = ap (λ (k : Kept). k.collections) asks.kept;
     reading = ap (λ (k : Kept). k.catalog.reading) asks.kept;
   }
 
@@ -100,6 +101,7 @@ module _ {O W C : Type 0} (g : Ghosts O W C) (old mid new : StoreState O) where
       below = notes_later asks.below rest.stays.below;
     };
     open_files = rest.open_files ∙ ap (λ (k : Kept). k.open_files) asks.kept;
+    collections = rest.collections ∙ ap (λ (k : Kept). k.collections) asks.kept;
     reading = rest.reading ∙ ap (λ (k : Kept). k.catalog.reading) asks.kept;
   }
 

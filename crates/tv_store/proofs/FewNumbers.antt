@@ -1,5 +1,6 @@
 -- Numbers that are few stay few.
-use Rattle.std.proofs.Common.{ℕ, ◌+◌, ◌≤◌, List, [], ◌∷◌, arith}
+use Rattle.std.proofs.Common.{◌≡◌, ℕ, ◌+◌, ◌≤◌, List, [], ◌∷◌, Result, Ok, Err, ap, arith}
+use Rattle.std.specs.Prelude.{OnOk}
 use Rattle.std.specs.List.{AllByRecursion}
 use Rattle.tv_model.specs.Collections.{Collections}
 use Rattle.tv_model.specs.State.{Reader, Readers}
@@ -20,3 +21,8 @@ few_below small large reading collections le h = record {
 
 pub few_more : (bound n : ℕ) (reading : Readers) (collections : Collections) → FewNumbers bound reading collections → FewNumbers (bound + n) reading collections
 few_more bound n reading collections h = few_below bound (bound + n) reading collections (omega arith) h
+
+-- the same collections give no number
+pub none_given : {A E : Type 0} {before now : Collections} (result : Result A E) → now ≡ before → OnOk result (now.next ≤ before.next)
+none_given (Ok a) same = omega (arith, ap (λ (c : Collections). c.next) same)
+none_given (Err e) same = tt

@@ -22,30 +22,35 @@ module _ (n : List ℕ) where
   first_taken : (e : ℕ × Collection) (es : List (ℕ × Collection)) → has (all_taken (e ∷ es)) n ≡ (has (taken e.1) n || has (all_taken es) n)
   first_taken e es = has_append (taken e.1) (all_taken es) n
 
+  placed : (r : Ordering) (number : ℕ) (c : Collection) (e : ℕ × Collection) (es rest : List (ℕ × Collection)) → (has (all_taken rest) n ≡ true → (has (taken c) n || has (all_taken es) n) ≡ true)
+      → has (all_taken (match_ordering r ((number, c) ∷ e ∷ es) ((e.0, c) ∷ es) (e ∷ rest))) n ≡ true → (has (taken c) n || has (all_taken (e ∷ es)) n) ≡ true
+  placed Less number c e es rest h k = sym (first_taken (number, c) (e ∷ es)) ∙ k
+  placed Equal number c e es rest h k = grind (arith, first_taken (e.0, c) es, first_taken e es, k)
+  placed Greater number c e es rest h k = grind (arith, first_taken e rest, first_taken e es, h, k)
+
   -- one that was put took it, or another one did
   put : (es : List (ℕ × Collection)) (number : ℕ) (c : Collection) → has (all_taken (insert_entry nat_cmp es number c)) n ≡ true → (has (taken c) n || has (all_taken es) n) ≡ true
   put [] number c h = sym (first_taken (number, c) []) ∙ h
-  put (e ∷ es) number c h = placed (nat_cmp number e.0) h where
-    placed : (r : Ordering) → has (all_taken (match_ordering r ((number, c) ∷ e ∷ es) ((e.0, c) ∷ es) (e ∷ insert_entry nat_cmp es number c))) n ≡ true → (has (taken c) n || has (all_taken (e ∷ es)) n) ≡ true
-    placed Less k = sym (first_taken (number, c) (e ∷ es)) ∙ k
-    placed Equal k = grind (arith, first_taken (e.0, c) es, first_taken e es, k)
-    placed Greater k = grind (arith, first_taken e (insert_entry nat_cmp es number c), first_taken e es, put es number c, k)
+  put (e ∷ es) number c h = placed (nat_cmp number e.0) number c e es (insert_entry nat_cmp es number c) (put es number c) h
+
+  left : (b : Bool) (e : ℕ × Collection) (es rest : List (ℕ × Collection)) → (has (all_taken rest) n ≡ true → has (all_taken es) n ≡ true) → has (all_taken (cond b es (e ∷ rest))) n ≡ true → has (all_taken (e ∷ es)) n ≡ true
+  left true e es rest h k = grind (arith, first_taken e es, k)
+  left false e es rest h k = grind (arith, first_taken e rest, first_taken e es, h, k)
 
   -- one less took none else
   cut : (es : List (ℕ × Collection)) (test : ℕ → Bool) → has (all_taken (remove_entry test es)) n ≡ true → has (all_taken es) n ≡ true
   cut [] test h = h
-  cut (e ∷ es) test h = left (test e.0) h where
-    left : (b : Bool) → has (all_taken (cond b es (e ∷ remove_entry test es))) n ≡ true → has (all_taken (e ∷ es)) n ≡ true
-    left true k = grind (arith, first_taken e es, k)
-    left false k = grind (arith, first_taken e (remove_entry test es), first_taken e es, cut es test, k)
+  cut (e ∷ es) test h = left (test e.0) e es (remove_entry test es) (cut es test) h
+
+  here : (b : Bool) (x : ℕ × Collection) (es : List (ℕ × Collection)) (rest : Option Collection) (c : Collection) → (rest ≡ Some c → has (all_taken es) n ≡ true) → cond b (Some x.1) rest ≡ Some c → has (taken c) n ≡ true
+      → has (all_taken (x ∷ es)) n ≡ true
+  here true x es rest c more k h = let same : x.1 ≡ c = cc in grind (arith, first_taken x es, ap (λ (d : Collection). has (taken d) n) same, h)
+  here false x es rest c more k h = grind (arith, first_taken x es, more k)
 
   -- what an unfinished collection took is held
   found : (es : List (ℕ × Collection)) (test : ℕ → Bool) (c : Collection) → lookup test es ≡ Some c → has (taken c) n ≡ true → has (all_taken es) n ≡ true
   found [] test c e h = absurd cc
-  found (x ∷ es) test c e h = here (test x.0) e where
-    here : (b : Bool) → cond b (Some x.1) (lookup test es) ≡ Some c → has (all_taken (x ∷ es)) n ≡ true
-    here true k = let same : x.1 ≡ c = cc in grind (arith, first_taken x es, ap (λ (d : Collection). has (taken d) n) same, h)
-    here false k = grind (arith, first_taken x es, found es test c k h)
+  found (x ∷ es) test c e h = here (test x.0) x es (lookup test es) c (λ k. found es test c k h) e h
 
   pub held_taken : (collections : Collections) (number : ℕ) (c : Collection) → collection_at collections number ≡ Some c → has (taken c) n ≡ true → has (held collections) n ≡ true
   held_taken collections number c there h = found collections.unfinished (is_at (nat_cmp number)) c there h
@@ -57,11 +62,9 @@ module _ (n : List ℕ) where
   -- the names of a collection are the same after one was tried
   taken_tried : (c : Collection) (name : List ℕ) (left : List (List ℕ)) (done : Bool) → c.untried ≡ name ∷ left → has (taken (having_tried c name left done)) n ≡ has (taken c) n
   taken_tried c name left true is =
-      rw (has_append (c.done ++ name ∷ []) (c.failed ++ left) n, has_append c.done (name ∷ []) n, has_append c.failed left n, has_append c.done (c.failed ++ c.untried) n, has_append c.failed c.untried n, is)
-      (grind arith)
+      grind (arith, has_append (c.done ++ name ∷ []) (c.failed ++ left) n, has_append c.done (name ∷ []) n, has_append c.failed left n, has_append c.done (c.failed ++ c.untried) n, has_append c.failed c.untried n, ap (λ (names : List (List ℕ)). has names n) is)
   taken_tried c name left false is =
-      rw (has_append c.done ((c.failed ++ name ∷ []) ++ left) n, has_append (c.failed ++ name ∷ []) left n, has_append c.failed (name ∷ []) n, has_append c.done (c.failed ++ c.untried) n, has_append c.failed c.untried n, is)
-      (grind arith)
+      grind (arith, has_append c.done ((c.failed ++ name ∷ []) ++ left) n, has_append (c.failed ++ name ∷ []) left n, has_append c.failed (name ∷ []) n, has_append c.done (c.failed ++ c.untried) n, has_append c.failed c.untried n, ap (λ (names : List (List ℕ)). has names n) is)
 
   pub held_tried : (collections : Collections) (number : ℕ) (c : Collection) (name : List ℕ) (left : List (List ℕ)) (done : Bool) → collection_at collections number ≡ Some c → c.untried ≡ name ∷ left
       → has (held (with_collection collections number (having_tried c name left done))) n ≡ true → has (held collections) n ≡ true

@@ -1,12 +1,12 @@
 -- Entries and names that are taken out: of maps, of sets, and of the open files.
-use Rattle.std.proofs.Common.{◌≡◌, ◌≢◌, true≢false, nat_le, codes, ℕ, suc, ◌+◌, ◌≤◌, ◌<◌, inl, inr, Bool, true, false, cond, not, ◌&&◌, ◌||◌, List, [], ◌∷◌, map, length, get_or, drop, drop-cons, Option, Some, None, option_map, is_some, refl, sym, ap, subst, ◌∙◌, arith}
-use Rattle.std.specs.Prelude.{Contains}
+use Rattle.std.proofs.Common.{◌≡◌, ◌≢◌, true≢false, nat_le, codes, ℕ, suc, ◌+◌, ◌≤◌, ◌<◌, inl, inr, Bool, true, false, cond, not, ◌&&◌, ◌||◌, List, [], ◌∷◌, map, length, get_or, drop, drop-cons, Option, Some, None, option_map, is_some, Result, Ok, Err, refl, sym, ap, subst, ◌∙◌, arith}
+use Rattle.std.specs.Prelude.{Contains, OnOk}
 use Rattle.std.specs.List.{AllByRecursion, list_all, list_any}
 use Rattle.std.specs.Map.{remove_entry}
 use Rattle.std.specs.BTreeMap.{is_at}
 use Rattle.std.specs.BTreeSet.{insert_key}
 use Rattle.tv_model.specs.Names.{byte_cmp, is, has, is_name_byte, is_plain, is_undotted, list_name}
-use Rattle.tv_model.specs.Collections.{done_of, failed_of, collectable}
+use Rattle.tv_model.specs.Collections.{Collections, done_of, failed_of, collectable}
 use Rattle.tv_model.specs.State.{at}
 use Rattle.tv_model.proofs.Entries.{same_at, text_at, at_itself, is_text, is_by_order, has_put}
 use Rattle.tv_model.proofs.PlainNames.{both}
@@ -16,6 +16,8 @@ use Rattle.tv_directory.specs.declared.directory.Directory.{Ghosts}
 use Rattle.tv_managed.specs.Collecting.{Among, Leaves, Tries, SparesWriters, names_of}
 use Rattle.tv_managed.specs.declared.collecting.GarbageCollectionResult.{GarbageCollectionResult}
 use Rattle.tv_managed.proofs.Removals.{all_filtered}
+use Rattle.tv_model.specs.Commits.{IndexForm}
+use Rattle.tv_store.specs.Kept.{FilesState}
 use Rattle.tv_store.specs.FileCalls.{Tried}
 use Rattle.tv_store.specs.declared.files.OpenFile.{OpenFile}
 use Rattle.tv_store.specs.OpenFiles.{IsOpenFile}
@@ -313,3 +315,32 @@ one_closed {X} es new x names rest n all split cut closed h =
 -- and those that are left are as long
 pub lens_cut : (bound : ℕ) (es new : List (List ℕ × List ℕ)) (test : List ℕ → Bool) → new ≡ remove_entry test es → AllByRecursion (λ e. length e.1 ≤ bound) es → AllByRecursion (λ e. length e.1 ≤ bound) new
 lens_cut bound es new test cut h = subst (AllByRecursion (λ e. length e.1 ≤ bound)) (sym cut) (all_left (λ e. length e.1 ≤ bound) es test h)
+
+-- where all else stays, only these parts are others
+pub others_stay : {O : Type 0} (new old : FilesState O) → new.outside ≡ old.outside → new.form ≡ old.form → new.managed ≡ old.managed → new.collections ≡ old.collections
+    → new ≡ record old { open_files = new.open_files; left = new.left }
+others_stay {O} new old outside form managed collections =
+    ap (λ (o : O). files o new.form new.managed new.collections) outside
+    ∙ ap (λ (f : IndexForm). files old.outside f new.managed new.collections) form
+    ∙ ap (λ (names : List (List ℕ)). files old.outside old.form names new.collections) managed
+    ∙ ap (λ (c : Collections). files old.outside old.form old.managed c) collections where
+      files : O → IndexForm → List (List ℕ) → Collections → FilesState O
+      files o f names c = record { outside = o; form = f; managed = names; collections = c; open_files = new.open_files; left = new.left }
+
+-- what is true where a call succeeds
+pub on_ok_weaker : {A E P Q : Type 0} (result : Result A E) → (P → Q) → OnOk result P → OnOk result Q
+on_ok_weaker (Ok a) f h = f h
+on_ok_weaker (Err e) f h = tt
+
+some_or : {X : Type 0} (b : Bool) (x : X) (rest : Option X) → is_some (cond b (Some x) rest) ≡ (b || is_some rest)
+some_or true x rest = refl
+some_or false x rest = refl
+
+-- the names of entries are those at which something stands
+pub has_keys : {X : Type 0} (es : List (List ℕ × X)) (n : List ℕ) → has (map (λ e. e.0) es) n ≡ is_some (at es n)
+has_keys [] n = refl
+has_keys (e ∷ es) n = rw (is_by_order n e.0, has_keys es n) (sym (some_or (is_at (byte_cmp n) e.0) e.1 (at es n)))
+
+pub map_same : {X : Type 0} (xs : List X) → map (λ x. x) xs ≡ xs
+map_same [] = refl
+map_same {X} (x ∷ xs) = ap (λ (ys : List X). x ∷ ys) (map_same xs)

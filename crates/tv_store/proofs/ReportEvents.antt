@@ -26,6 +26,7 @@ use Rattle.tv_model.proofs.Framing.{intact_again, intact_none}
 use Rattle.tv_model.proofs.Required.{by_one}
 use Rattle.tv_store.specs.Acting.{OnFiles}
 use Rattle.tv_store.specs.FileCalls.{intact_in}
+use Rattle.tv_store.proofs.FewNumbers.{none_given}
 use Rattle.tv_store.specs.Kept.{Kept, StoreState, FileHolds, Holds, is_left}
 use Rattle.tv_store.specs.Stays.{AsksOrFails}
 use Rattle.tv_store.proofs.CommitEvents.{all_joined, files_named}
@@ -177,6 +178,7 @@ asks_on_files g old new result asks room =
       faults = asks.faults;
       meta = λ tells. on_err result ((g.view new.outside).reads meta_name ≡ (g.view old.outside).reads meta_name) (below.content tells meta_name);
       dotted = λ tells n dot other. below.content tells n;
+      numbers = none_given result (ap (λ (k : Kept). k.collections) asks.frame.kept);
       frame = record {
         stays = record { form = ap (λ (k : Kept). k.form) asks.frame.kept; is_open = asks.frame.is_open; below = below };
         reading = ap (λ (k : Kept). k.catalog.reading) asks.frame.kept;

@@ -21,7 +21,7 @@ same_sorted (x ∷ xs) (y ∷ ys) s t h =
       | Equal ↦ λ r.
           let one : x ≡ y = text_at x y (ap is_eq r) in
           let rest : xs ≡ ys = same_sorted xs ys s.1 t.1 (λ n. others x y xs ys n one (below_absent xs x s.0) (below_absent ys y t.0) (h n)) in
-          ap₂ (λ (a : List ℕ) (as : List (List ℕ)). a ∷ as) one rest
+          ap₂ (λ (a : List ℕ) (names : List (List ℕ)). a ∷ names) one rest
       | Greater ↦ λ r.
           let l : byte_cmp y x ≡ Less = nat_list_cmp_total.antisymm y x ∙ ap ordering_reverse r in
           absurd (true≢false (sym (first_is y ys) ∙ sym (h y) ∙ below_absent (x ∷ xs) y (l, below_all xs y x l s.0)))

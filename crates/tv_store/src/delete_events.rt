@@ -3,7 +3,7 @@ ghost use Rattle.std.specs.Prelude.{◌≡◌, ◌≤◌, ◌<◌, ◌||◌, [],
 ghost use Rattle.std.specs.Fmt.{decimal};
 ghost use Rattle.hex.specs.Hex.{encode_lower};
 ghost use Rattle.tv_model.specs.CommitEvents.{last_stamp};
-ghost use Rattle.tv_model.specs.DeleteEvents.{deletes_step, having_deleted_docs, is_committed_delete, next_deletes, with_deletes};
+ghost use Rattle.tv_model.specs.DeleteEvents.{delete_name, deletes_step, having_deleted_docs, is_committed_delete, next_deletes, with_deletes};
 ghost use Rattle.tv_model.specs.Lines.{line};
 ghost use Rattle.tv_model.specs.Names.{has};
 ghost use Rattle.tv_model.specs.State.{at, live_at};
@@ -36,6 +36,20 @@ fn deletes_line(
         .id(id)?
         .number(u64::from(num_deleted_docs))?
         .number(opstamp)
+}
+
+// The name of a segment's delete file, alone.
+fn former_name(
+    alloc: Global,
+    id: SegmentId,
+    segment: LiveSegment,
+) -> Result<Vec<FileName>, Memory>
+    ensures { IfOk result (λ names. names.items ≡ delete_name id segment.deletes ∷ []) }
+{
+    let name = file_of(alloc, id, segment.deletes, SegmentComponent::Delete)?;
+    let mut names = Vec::new(alloc);
+    names.push(name)?;
+    Ok(names)
 }
 
 impl Catalog {
@@ -133,9 +147,7 @@ impl<O: Outside> IndexStore<O> {
         ensures lens { (bound : ℕ) → AtMost bound self.old.kept → AtMost bound self.new.kept }
         ensures does { OnFiles O.Directory (OnlyReads O.told) ⊥ self.old self.new result }
     {
-        let former = file_of(self.alloc, id, segment.deletes, SegmentComponent::Delete)?;
-        let mut names = Vec::new(self.alloc);
-        names.push(former)?;
+        let names = former_name(self.alloc, id, segment)?;
         let answer = deletes_line(self.alloc, id, n, self.catalog.next_opstamp())?;
         let answer = self.ready(answer)?;
         self.files.leave(names)?;

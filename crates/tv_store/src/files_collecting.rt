@@ -57,6 +57,17 @@ fn remove_names(set: &mut BTreeSet<FileName>, names: &[FileName])
     }
 }
 
+// Adds the names of these entries to a set.
+fn leave_all<V: Drop>(set: &mut BTreeSet<FileName>, map: BTreeMap<FileName, V>) -> Result<(), Memory>
+    ensures { OnOk result ((n : List ℕ) → has set.new.keys n
+        ≡ (has set.old.keys n || is_some (at map.entries n))) }
+{
+    for (name, _entry) in map {
+        set.insert(name)?;
+    }
+    Ok(())
+}
+
 impl<O: Outside> Files<O> {
     /// Whether an unfinished collection holds this name.
     pub(crate) fn is_held(&self, name: &FileName) -> bool
@@ -114,9 +125,6 @@ impl<O: Outside> Files<O> {
             → AllByRecursion (λ e. length e.1 ≤ bound) self.new.open_files }
     {
         let files = mem::replace(&mut self.files, BTreeMap::new(alloc));
-        for (name, _file) in files {
-            self.left.insert(name)?;
-        }
-        Ok(())
+        leave_all(&mut self.left, files)
     }
 }

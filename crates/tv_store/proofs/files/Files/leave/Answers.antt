@@ -4,7 +4,7 @@ use Rattle.std.specs.BTreeSet.{insert_key}
 use Rattle.std.specs.Vec.Iter.{into_iter_items}
 use Rattle.tv_model.specs.Names.{byte_cmp, has}
 use Rattle.tv_model.specs.State.{at}
-use Rattle.tv_store.proofs.Removals.{one_closed, one_left, none_left, lens_cut}
+use Rattle.tv_store.proofs.Removals.{others_stay, one_closed, one_left, none_left, lens_cut}
 use Rattle.tv_store.proofs.files.Files.leave.Goals as goal
 
 pub loop-name-preserved-in_ok-insert : goal.loop-name-preserved-in_ok-insert
@@ -25,6 +25,7 @@ loop-name-preserved-in_ok-insert g c =
       outside = ap (λ v. v.outside) whole ∙ inv.outside;
       form = ap (λ v. v.form) whole ∙ inv.form;
       managed = ap (λ v. v.managed) whole ∙ inv.managed;
+      collections = ap (λ v. v.collections) whole ∙ inv.collections;
       lens = λ bound h. lens_cut bound now.open_files _ (is_at (byte_cmp name)) (ap (λ v. v.open_files) whole) (inv.lens bound h);
     }
 
@@ -49,5 +50,17 @@ loop-name-preserved g c =
       outside = ap (λ v. v.outside) done.abandoned ∙ inv.outside;
       form = ap (λ v. v.form) done.abandoned ∙ inv.form;
       managed = ap (λ v. v.managed) done.abandoned ∙ inv.managed;
+      collections = ap (λ v. v.collections) done.abandoned ∙ inv.collections;
       lens = λ bound h. lens_cut bound now.open_files c.abandon.new.self.open_files (is_at (byte_cmp name)) (ap (λ v. v.open_files) done.abandoned) (inv.lens bound h);
     }
+
+pub returns-in_err-insert-clause-others : goal.returns-in_err-insert-clause-others
+returns-in_err-insert-clause-others g c =
+    let inv = c.loop-name.invariant in
+    let whole = c.self.view_is ∙ c.abandon.ensures.abandoned in
+    others_stay _ c.args.self.now (ap (λ v. v.outside) whole ∙ inv.outside) (ap (λ v. v.form) whole ∙ inv.form) (ap (λ v. v.managed) whole ∙ inv.managed) (ap (λ v. v.collections) whole ∙ inv.collections)
+
+pub returns-clause-others : goal.returns-clause-others
+returns-clause-others g c =
+    let inv = c.loop-name.invariant in
+    others_stay c.loop-name.self c.args.self.now inv.outside inv.form inv.managed inv.collections

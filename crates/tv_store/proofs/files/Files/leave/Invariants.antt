@@ -17,5 +17,6 @@ invariant-loop-name g l =
       outside : now.outside ≡ old.outside;
       form : now.form ≡ old.form;
       managed : now.managed ≡ old.managed;
+      collections : now.collections ≡ old.collections;
       lens : (bound : ℕ) → AllByRecursion (λ e. length e.1 ≤ bound) old.open_files → AllByRecursion (λ e. length e.1 ≤ bound) now.open_files;
     }

@@ -24,6 +24,7 @@ returns-in_default-checked_add-clause-does g c =
               (subst (λ (bs : List ℕ). 18446744073709551616 ≤ c.in-Some-body_len.len + length bs) c.as_slice-bytes.ensures large),
         );
       };
+      numbers = tt;
       meta = search rules;
       dotted = search rules;
       frame = search rules;

@@ -5,7 +5,7 @@ use Rattle.tv_model.specs.State.{at}
 use Rattle.tv_managed.specs.Collecting.{SparesWriters}
 use Rattle.tv_store.proofs.Removals.{told_plain, tried_as, collected_open, bodies_gone, lens_left, living_stands, dotted_stands}
 use Rattle.tv_store.proofs.OpenFiles.{AreOpen, bodies}
-use Rattle.tv_store.proofs.files_collecting.Files.collect.Goals as goal
+use Rattle.tv_store.proofs.files.Files.collect.Goals as goal
 
 pub file_names-requires : goal.file_names-requires
 file_names-requires g c = (told_plain g.O.Directory _ _ _ _ c.in_ok-result.ensures.tries.2 (subst (λ d. list_all is_plain d.1 ≡ true) (c.directory.ensures ∙ sym c.directory_mut.ensures.value) c.list_managed_files-names.ensures.plain)).0
