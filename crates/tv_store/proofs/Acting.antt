@@ -26,12 +26,13 @@ use Rattle.tv_store.specs.Applying.{Stepped, ActCause, ApplyFaults, GoneAt, MayN
 use Rattle.tv_store.specs.Stays.{Asks, Stays, KeepsDotted, KeepsReaders, EventFaults}
 use Rattle.tv_index.specs.Saving.{FrameNotes}
 use Rattle.tv_store.specs.Committing.{Commits}
+use Rattle.tv_store.specs.FileCalls.{GcFaults}
 use Rattle.tv_store.specs.Acting.{Acts, GivesNone, KeepsMeta, OnFiles, LeavesStep, Passes, StepsTo, StepsReading, StepsDeleting}
 use Rattle.tv_store.specs.Catalogs.{CatalogCause, FitsCatalog}
 use Rattle.tv_store.proofs.FewNumbers.{few_more, none_given}
 use Rattle.tv_store.proofs.Holding.{same_holds}
 use Rattle.tv_store.proofs.Lifting.{catalog_held, numbers_grow, plain_event}
-use Rattle.tv_store.proofs.Steps.{cause_in, reads_none, leaves_old, old_at_memory, stepped, stepped_reading, stepped_deleting, at_most, numbers_stay, same_lens}
+use Rattle.tv_store.proofs.Steps.{cause_in, locking_cause_in, locks_none, takes_lock_in, reads_none, leaves_old, old_at_memory, stepped, stepped_reading, stepped_deleting, at_most, numbers_stay, same_lens}
 
 -- nothing noted anything
 abbrev pub NotesNothing : Event → Type 0
@@ -96,7 +97,7 @@ module _ {O W C : Type 0} (g : Ghosts O W C) (old new : StoreState O) (event sho
       })
 
   -- one that takes no lock and reads no commit's files
-  faults_alone : (spent : Type 0) → (spent → IsExhausted old.kept shown) → (TakesMetaLock old.kept.catalog shown → ⊥) → EventFaults spent (g.view old.outside) (g.view new.outside) result → ApplyFaults g old new shown result
+  pub faults_alone : (spent : Type 0) → (spent → IsExhausted old.kept shown) → (TakesMetaLock old.kept.catalog shown → ⊥) → EventFaults spent (g.view old.outside) (g.view new.outside) result → ApplyFaults g old new shown result
   faults_alone spent all free faults = record {
     quiet = faults.quiet;
     free = λ told takes. absurd (free takes);
@@ -105,6 +106,19 @@ module _ {O W C : Type 0} (g : Ghosts O W C) (old new : StoreState O) (event sho
         cause_in (List ℕ) (TakesMetaLock old.kept.catalog shown × IsBusy g.told.locks ((g.view old.outside).locks meta_lock_name ≡ true) RefusedOne) RefusedOne RefusedNone spent (IsExhausted old.kept shown)
         (UnloadedAt g old new shown) (RefusedAt g old shown) (λ path. GoneAt g old shown) result faults.cause all;
   }
+
+  -- one that begins a collection
+  pub faults_collecting : (spent : Type 0) → (spent → IsExhausted old.kept shown) → TakesMetaLock old.kept.catalog shown → GcFaults g spent old.outside new.outside result → ApplyFaults g old new shown result
+  faults_collecting spent all takes faults = record {
+    quiet = faults.quiet;
+    free = λ told takes. faults.free told;
+    reads = λ told. locks_none (List ℕ) Busy RefusedOne RefusedNone spent ((g.view old.outside).locks meta_lock_name ≡ false) result faults.cause;
+    cause =
+        takes_lock_in (List ℕ) Busy (TakesMetaLock old.kept.catalog shown) RefusedOne RefusedNone (IsExhausted old.kept shown) (UnloadedAt g old new shown) (RefusedAt g old shown) (λ path. GoneAt g old shown) result takes
+        (locking_cause_in (List ℕ) Busy RefusedOne RefusedNone spent (IsExhausted old.kept shown) (UnloadedAt g old new shown) (RefusedAt g old shown) (λ path. GoneAt g old shown) result faults.cause all);
+  } where
+    Busy : Type 0
+    Busy = IsBusy g.told.locks ((g.view old.outside).locks meta_lock_name ≡ true) RefusedOne
 
   step_alone : ((s : State) → ReadsGood s shown) → (g.view new.outside).refusals ≡ (g.view old.outside).refusals → StepsTo g old new (λ s. step s shown []) result → Steps
   step_alone good refusals h = stepped g old new shown (λ s. step s shown []) result refusals (λ s. refl) good h

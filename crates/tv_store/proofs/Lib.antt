@@ -11,6 +11,7 @@ pub mod ChosenSegments
 pub mod CommitEvents
 pub mod Lifting
 pub mod LoadedCommits
+pub mod CollectingEvents
 pub mod DeleteEvents
 pub mod ReopenEvents
 pub mod Steps

@@ -40,11 +40,11 @@ pub record OpensFile {O W C : Type 0} (g : Ghosts O W C) (old new : FilesState O
   pub makes : g.told.content → MakesFile (g.view old.outside).reads (g.view new.outside).reads name
   pub list : g.told.content → Lists ((g.view old.outside).reads list_name) old.managed → Lists ((g.view new.outside).reads list_name) new.managed
 
--- The file was there, and nothing changed.
+-- The file was there, or an unfinished collection holds its name, and nothing changed.
 pub record FindsFile {O W C : Type 0} (g : Ghosts O W C) (old new : FilesState O) (name : List ℕ) : Type 0 where
   pub open_files : new.open_files ≡ old.open_files
   pub left : new.left ≡ old.left
-  pub there : g.told.content → IsSome ((g.view old.outside).reads name)
+  pub there : g.told.content → IsSome ((g.view old.outside).reads name) ⊎ (has (held old.collections) name ≡ true)
   pub same : g.told.content → Same (g.view old.outside).reads (g.view new.outside).reads
   pub names : g.told.content → new.managed ≡ old.managed
 
@@ -76,11 +76,12 @@ pub record Collects {O W C : Type 0} (g : Ghosts O W C) (living : List (List ℕ
   pub left : (n : List ℕ) → has new.left n ≡ (not (has deleted n) && has old.left n)
   pub collections : new.collections ≡ old.collections
 
--- A collection fails where the meta lock isn't given, where the device refused a call other than a delete, or where memory was wanted. Else the lock was free.
-pub record GcFaults {A O W C : Type 0} (g : Ghosts O W C) (old new : O) (result : Result A TantivyError) : Type 0 where
+-- A collection fails where the meta lock isn't given, where its number is spent, where the device refused a call other than a delete, or where memory was wanted. Else
+-- the lock was free.
+pub record GcFaults {A O W C : Type 0} (g : Ghosts O W C) (spent : Type 0) (old new : O) (result : Result A TantivyError) : Type 0 where
   pub quiet : OnOk result ((g.view new).faults ≡ (g.view old).faults)
   pub free : g.told.locks → OnOk result ((g.view old).locks meta_lock_name ≡ false)
-  pub cause : IfErr result (LockingCause (IsBusy g.told.locks ((g.view old).locks meta_lock_name ≡ true) (Rose (g.view old).faults (g.view new).faults)) (Rose (g.view old).faults (g.view new).faults) ((g.view new).faults ≡ (g.view old).faults) ⊥)
+  pub cause : IfErr result (LockingCause (IsBusy g.told.locks ((g.view old).locks meta_lock_name ≡ true) (Rose (g.view old).faults (g.view new).faults)) (Rose (g.view old).faults (g.view new).faults) ((g.view new).faults ≡ (g.view old).faults) spent)
 
 -- The text is that of `meta.json`, which is managed.
 pub record SavesMeta {O W C : Type 0} (g : Ghosts O W C) (old new : FilesState O) (text : List ℕ) : Type 0 where

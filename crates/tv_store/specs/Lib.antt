@@ -13,6 +13,7 @@ pub mod Applying
 pub mod Stays
 pub mod Committing
 pub mod FileCalls
+pub mod CollectingCalls
 pub mod Reopening
 pub mod SnapshotCalls
 pub mod Acting

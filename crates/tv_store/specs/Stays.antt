@@ -9,6 +9,11 @@ use Rattle.tv_directory.specs.Watch.{MayNote}
 use Rattle.tv_store.specs.Kept.{FilesState, StoreState}
 use Rattle.tv_store.specs.StoreCauses.{EventCause, MakesNoFile}
 
+-- Of the files of a store: the index's settings and schema stay, and of the directory below what such a call keeps.
+pub record KeepsForm {O W : Type 0} (keeps : View W → View W → Type 0) (view : O → View W) (old new : FilesState O) : Type 0 where
+  pub form : new.form ≡ old.form
+  pub below : keeps (view old.outside) (view new.outside)
+
 -- Of the files of a store: the index's settings and schema stay, and the unfinished collections, and of the directory below what such a call keeps.
 pub record KeepsMade {O W : Type 0} (keeps : View W → View W → Type 0) (view : O → View W) (old new : FilesState O) : Type 0 where
   pub form : new.form ≡ old.form

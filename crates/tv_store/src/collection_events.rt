@@ -5,6 +5,8 @@ ghost use Rattle.tv_model.specs.Lines.{line};
 ghost use Rattle.tv_directory.specs.View.{OnlyReads, MayDelete};
 ghost use Rattle.tv_store.specs.Kept.{AtMost};
 ghost use Rattle.tv_store.specs.Acting.{GivesNone, StepsTo, StepsDeleting, KeepsMeta, OnFiles};
+ghost use Rattle.tv_model.specs.declared.event.Event.TheVariants as events;
+ghost use Rattle.tv_store.specs.Exhausted.{PassesEnd, collection_after};
 ghost use Rattle.tv_store.specs.FileCalls.{GcFaults};
 ghost use Rattle.tv_store.specs.Stays.{AsksQuietly, KeepsDotted, KeepsReaders};
 
@@ -16,8 +18,9 @@ use tv_base::TantivyError;
 use tv_directory::Outside;
 use tv_model::{Answer, FileName, Memory, SegmentId};
 
-// How much longer the words of a collection's answer are than the one before the managed names.
-const WORDS: usize = 10;
+// How much longer the words and the number of a collection's answer are at most than the one before the
+// managed names.
+const WORDS: usize = 16;
 
 // A line with more words, which are names.
 fn with_names(answer: Answer, names: &[FileName]) -> Result<Answer, Memory>
@@ -42,7 +45,7 @@ fn collected(alloc: Global, done: &[FileName], failed: &[FileName]) -> Result<An
 
 impl<O: Outside> IndexStore<O> {
     // Makes room for the answer to a collection: all names that it may tell are managed.
-    fn ready_for_all(&mut self) -> Result<(), Memory>
+    pub(crate) fn ready_for_all(&mut self) -> Result<(), Memory>
         ensures asks { AsksQuietly O.Directory self.old self.new }
     {
         let all = self.catalog.managed(self.files.managed())?;
@@ -57,7 +60,9 @@ impl<O: Outside> IndexStore<O> {
         ensures room { IfOk result (λ answer. length answer < (O.view self.new.outside).room) }
         ensures lens { (bound : ℕ) → AtMost bound self.old.kept → AtMost bound self.new.kept }
         ensures numbers { GivesNone self.old self.new result }
-        ensures faults { GcFaults O.Directory self.old.outside self.new.outside result }
+        ensures faults { GcFaults O.Directory
+            (PassesEnd (collection_after self.old.kept.collections events.Gc))
+            self.old.outside self.new.outside result }
         ensures meta { KeepsMeta O.Directory self.old self.new result }
         ensures dotted { O.told.content → KeepsDotted (O.view self.old.outside).reads
             (O.view self.new.outside).reads }

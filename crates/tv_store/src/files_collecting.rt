@@ -1,22 +1,34 @@
 //! Collections of files, and the end of open ones.
-ghost use Rattle.std.specs.Prelude.{◌≡◌, ◌≢◌, ◌&&◌, ◌||◌, not, ◌≤◌, [], List, ℕ, true, false, length, None, is_some, cond, Contains, IfOk, OnOk, map, string_bytes};
+ghost use Rattle.std.specs.Prelude.{◌≡◌, ◌≢◌, ◌&&◌, ◌||◌, not, ◌≤◌, List, ℕ, true, length, None, Some, IsSome, is_some, cond, option_map, Contains, IfOk, OnOk, OnErr, map, string_bytes};
 ghost use Rattle.std.specs.List.{list_all, AllByRecursion};
-ghost use Rattle.tv_model.specs.Names.{has, is_plain, list_name};
-ghost use Rattle.tv_model.specs.Collections.{held};
+ghost use Rattle.std.specs.List.Sorted.{IsStrictlySortedBy};
+ghost use Rattle.tv_model.specs.Names.{byte_cmp, has, is_plain, list_name, meta_name};
+ghost use Rattle.tv_model.specs.Collections.{Collection, collection_at, held, taken};
+ghost use Rattle.tv_model.specs.Files.{KeepsOthers, Same};
 ghost use Rattle.tv_model.specs.Listing.{Lists};
 ghost use Rattle.tv_model.specs.State.{at};
-ghost use Rattle.tv_directory.specs.View.{MayDelete};
+ghost use Rattle.tv_directory.specs.View.{Kept, MayDelete, OnlyReads};
+ghost use Rattle.tv_model.specs.declared.event.Event.TheVariants as events;
+ghost use Rattle.tv_store.specs.CollectingCalls.{BeginsCollection, EndsCollection, HasUntried, KeepsUncollected, KeepsUnlisted, TriesNext};
+ghost use Rattle.tv_store.specs.Exhausted.{PassesEnd, collection_after};
 ghost use Rattle.tv_store.specs.FileCalls.{Collects, GcFaults};
 ghost use Rattle.tv_store.specs.Reopening.{Reopens};
-ghost use Rattle.tv_store.specs.Stays.{KeepsDotted, KeepsMade};
+ghost use Rattle.tv_store.specs.Stays.{EventFaults, KeepsDotted, KeepsForm};
 
 use crate::files::Files;
+use crate::names::push_text;
 use std::alloc::Global;
 use std::collections::{BTreeMap, BTreeSet};
 use std::mem;
 use tv_base::TantivyError;
 use tv_directory::Outside;
 use tv_model::{FileName, Memory};
+
+/// A name that a collection tried, and whether it is done.
+pub(crate) struct TriedName {
+    pub(crate) name: FileName,
+    pub(crate) is_done: bool,
+}
 
 /// What became of a collection: the names that are gone, and those whose delete was refused.
 pub(crate) struct Collected {
@@ -32,6 +44,18 @@ fn file_names(alloc: Global, texts: Vec<String>) -> Result<Vec<FileName>, Memory
     let mut names = Vec::new(alloc);
     for text in texts {
         names.push(FileName::new(text))?;
+    }
+    Ok(names)
+}
+
+// Names of files, from copies of their texts.
+fn copied_names(alloc: Global, texts: &[String]) -> Result<Vec<FileName>, Memory>
+    requires { list_all is_plain (map string_bytes texts.now) ≡ true }
+    ensures { IfOk result (λ names. names.items ≡ map string_bytes texts.now) }
+{
+    let mut names = Vec::new(alloc);
+    for text in texts {
+        push_text(alloc, &mut names, text)?;
     }
     Ok(names)
 }
@@ -69,12 +93,78 @@ fn leave_all<V: Drop>(set: &mut BTreeSet<FileName>, map: BTreeMap<FileName, V>) 
 }
 
 impl<O: Outside> Files<O> {
-    /// Whether an unfinished collection holds this name.
+    /// Whether an unfinished collection holds this name. Takes no memory.
     pub(crate) fn is_held(&self, name: &FileName) -> bool
         ensures { result ≡ has (held self.now.collections) name.now }
     {
         let _name = name;
         false
+    }
+
+    /// How many names a collection has yet to try, and nothing where no such collection is unfinished.
+    /// Takes no memory.
+    pub(crate) fn collect_left(&self, number: u64) -> Option<usize>
+        ensures { result ≡ option_map (λ c. length c.untried)
+            (collection_at self.now.collections number) }
+    {
+        let _number = number;
+        None
+    }
+
+    /// The names that an unfinished collection took, in their order.
+    pub(crate) fn collect_names(&self, alloc: Global, number: u64) -> Result<Vec<FileName>, Memory>
+        ensures { (c : Collection) → collection_at self.now.collections number ≡ Some c
+            → IfOk result (λ names. IsStrictlySortedBy byte_cmp names.items
+            × ((n : List ℕ) → has names.items n ≡ has (taken c) n)) }
+    {
+        let _number = number;
+        Ok(Vec::new(alloc))
+    }
+
+    /// Begins a collection of the managed files that aren't among these, and answers its number.
+    pub(crate) fn collect_begin(&mut self, living: &BTreeSet<String>) -> Result<u64, TantivyError>
+        requires { has (map string_bytes living.now.keys) meta_name ≡ true }
+        ensures begins { IfOk result (λ number. BeginsCollection number
+            (map string_bytes living.now.keys) self.old self.new) }
+        ensures faults { GcFaults O.Directory (PassesEnd
+            (collection_after self.old.collections events.GcBegin))
+            self.old.outside self.new.outside result }
+        ensures frame { KeepsUncollected (OnlyReads O.told) O.view self.old self.new }
+    {
+        let _living = living;
+        Err(TantivyError::Memory)
+    }
+
+    /// Tries the first name that a collection has left. One that is done is neither open nor left any
+    /// more.
+    pub(crate) fn collect_delete(&mut self, number: u64) -> Result<TriedName, TantivyError>
+        requires { HasUntried self.old.collections number }
+        ensures tries { IfOk result (λ tried. TriesNext O.Directory number self.old self.new
+            tried.name tried.is_done) }
+        ensures same { O.told.content → OnErr result (Same (O.view self.old.outside).reads
+            (O.view self.new.outside).reads) }
+        ensures dotted { O.told.content → KeepsDotted (O.view self.old.outside).reads
+            (O.view self.new.outside).reads }
+        ensures lens { (bound : ℕ) → AllByRecursion (λ e. length e.1 ≤ bound) self.old.open_files
+            → AllByRecursion (λ e. length e.1 ≤ bound) self.new.open_files }
+        ensures faults { EventFaults ⊥ (O.view self.old.outside) (O.view self.new.outside) result }
+        ensures frame { KeepsForm (MayDelete O.told) O.view self.old self.new }
+    {
+        let _number = number;
+        Err(TantivyError::Memory)
+    }
+
+    /// Ends a collection: what is done is managed no more.
+    pub(crate) fn collect_end(&mut self, number: u64) -> Result<(), TantivyError>
+        requires { IsSome (collection_at self.old.collections number) }
+        ensures ends { OnOk result (EndsCollection O.Directory number self.old self.new) }
+        ensures others { O.told.content → KeepsOthers (O.view self.old.outside).reads
+            (O.view self.new.outside).reads list_name }
+        ensures faults { EventFaults ⊥ (O.view self.old.outside) (O.view self.new.outside) result }
+        ensures frame { KeepsUnlisted (Kept O.told) O.view self.old self.new }
+    {
+        let _number = number;
+        Err(TantivyError::Memory)
     }
 
     /// Deletes the managed files that aren't among these. One that was deleted is neither open nor
@@ -84,6 +174,7 @@ impl<O: Outside> Files<O> {
         alloc: Global,
         living: BTreeSet<String>,
     ) -> Result<Collected, TantivyError>
+        requires { has (map string_bytes living.keys) meta_name ≡ true }
         ensures collects { IfOk result (λ c. Collects O.Directory
             (map string_bytes living.keys) self.old self.new c.deleted.items c.failed.items) }
         // What is living reads what it read.
@@ -97,8 +188,10 @@ impl<O: Outside> Files<O> {
             → OnOk result (Lists ((O.view self.new.outside).reads list_name) self.new.managed) }
         ensures lens { (bound : ℕ) → AllByRecursion (λ e. length e.1 ≤ bound) self.old.open_files
             → AllByRecursion (λ e. length e.1 ≤ bound) self.new.open_files }
-        ensures faults { GcFaults O.Directory self.old.outside self.new.outside result }
-        ensures frame { KeepsMade (MayDelete O.told) O.view self.old self.new }
+        ensures faults { GcFaults O.Directory (PassesEnd
+            (collection_after self.old.collections events.GcBegin))
+            self.old.outside self.new.outside result }
+        ensures frame { KeepsForm (MayDelete O.told) O.view self.old self.new }
     {
         // A contract learns from the managed names that they are plain.
         let _names = self.index.directory().list_managed_files();

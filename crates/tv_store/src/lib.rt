@@ -10,6 +10,7 @@ mod answers;
 mod catalog;
 mod catalog_events;
 mod chosen;
+mod collecting_events;
 mod collection_events;
 mod commit;
 mod commit_events;

@@ -130,8 +130,8 @@ pub(crate) fn names_among(
     set_of(alloc, names)
 }
 
-// Adds a name that is a text in a set.
-fn push_text(alloc: Global, names: &mut Vec<FileName>, text: &String) -> Result<(), Memory>
+/// Adds a name that is a text.
+pub(crate) fn push_text(alloc: Global, names: &mut Vec<FileName>, text: &String) -> Result<(), Memory>
     requires { is_plain (string_bytes text.now) ≡ true }
     ensures { OnOk result (names.new.items ≡ names.old.items ++ string_bytes text.now ∷ []) }
 {

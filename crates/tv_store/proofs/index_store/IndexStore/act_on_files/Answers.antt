@@ -1,14 +1,14 @@
-use Rattle.std.proofs.Common.{◌≡◌, true, false, inl, inr}
+use Rattle.std.proofs.Common.{◌≡◌, true, refl, inl, inr}
 use Rattle.tv_managed.specs.Collecting.{meta_lock_name}
 use Rattle.tv_model.specs.Files.{Rose}
 use Rattle.tv_model.specs.declared.event.Event.{Event}
-use Rattle.tv_model.specs.declared.event.Event.TheVariants.{Gc, Reader, Reload}
+use Rattle.tv_model.specs.declared.event.Event.TheVariants.{Gc, GcBegin, GcEnd, GcStep, Reader, Reload}
 use Rattle.tv_store.specs.Exhausted.{IsExhausted, PassesEnd, number_after}
 use Rattle.tv_store.specs.StoreCauses.{IsBusy}
 use Rattle.tv_store.specs.ReadCauses.{TakesMetaLock}
 use Rattle.tv_store.specs.Applying.{GoneAt, RefusedAt, UnloadedAt}
-use Rattle.tv_store.proofs.Steps.{at_most, locks_none, takes_lock_in, locking_cause_in, read_cause_in}
-use Rattle.tv_store.proofs.Acting.{acts_anew, acts_on_files, acts_reading, acts_deleting, acts_committing}
+use Rattle.tv_store.proofs.Steps.{at_most, read_cause_in}
+use Rattle.tv_store.proofs.Acting.{acts_anew, acts_beginning, faults_alone, faults_collecting, acts_on_files, acts_reading, acts_deleting, acts_committing}
 use Rattle.tv_store.proofs.index_store.IndexStore.act_on_files.Goals as goal
 
 pub returns-in-ReleaseSegment : goal.returns-in-ReleaseSegment
@@ -59,23 +59,36 @@ returns-in-Commit g c =
 pub returns-in-Gc : goal.returns-in-Gc
 returns-in-Gc g c =
     let did = c.gc.ensures in
-    let d = g.O.Directory in
     let old = c.args.self.now in
     let new = c.gc.new.self in
-    let refused : Type 0 = Rose (d.view old.outside).faults (d.view new.outside).faults in
-    let quiet : Type 0 = (d.view new.outside).faults ≡ (d.view old.outside).faults in
-    let busy : Type 0 = IsBusy d.told.locks ((d.view old.outside).locks meta_lock_name ≡ true) refused in
-    acts_deleting d old new c.args.event.now Gc c.in-Gc.is c.gc.result (λ o n same. same) (λ s. tt)
+    acts_deleting g.O.Directory old new c.args.event.now Gc c.in-Gc.is c.gc.result (λ o n same. same) (λ s. tt)
     did.step did.room (λ bound h. at_most bound 0 new.kept (did.lens bound h)) did.numbers
-    (record {
-      quiet = did.faults.quiet;
-      free = λ told takes. did.faults.free told;
-      reads = λ told. locks_none _ busy refused quiet ⊥ ((d.view old.outside).locks meta_lock_name ≡ false) c.gc.result did.faults.cause;
-      cause =
-          takes_lock_in _ busy (TakesMetaLock old.kept.catalog Gc) refused quiet (IsExhausted old.kept Gc) (UnloadedAt d old new Gc) (RefusedAt d old Gc) (λ path. GoneAt d old Gc) c.gc.result tt
-          (locking_cause_in _ busy refused quiet ⊥ (IsExhausted old.kept Gc) (UnloadedAt d old new Gc) (RefusedAt d old Gc) (λ path. GoneAt d old Gc) c.gc.result did.faults.cause (λ never. absurd never));
-    })
-    did.meta did.dotted did.frame
+    (faults_collecting g.O.Directory old new c.args.event.now Gc c.in-Gc.is c.gc.result _ (λ spent. inr (inl spent)) tt did.faults) did.meta did.dotted did.frame
+
+pub returns-in-GcBegin : goal.returns-in-GcBegin
+returns-in-GcBegin g c =
+    let did = c.gc_begin.ensures in
+    let old = c.args.self.now in
+    let new = c.gc_begin.new.self in
+    acts_beginning g.O.Directory old new c.args.event.now GcBegin c.in-GcBegin.is c.gc_begin.result (λ o n same. same) (λ s. tt) refl
+    did.step did.room (λ bound h. at_most bound 1 new.kept (did.lens bound h)) did.numbers
+    (faults_collecting g.O.Directory old new c.args.event.now GcBegin c.in-GcBegin.is c.gc_begin.result _ (λ spent. inr (inl spent)) tt did.faults) did.frame
+
+pub returns-in-GcStep : goal.returns-in-GcStep
+returns-in-GcStep g c =
+    let did = c.gc_step.ensures in
+    let old = c.args.self.now in
+    let new = c.gc_step.new.self in
+    let event : Event = GcStep c.in-GcStep.number in
+    acts_deleting g.O.Directory old new c.args.event.now event c.in-GcStep.is c.gc_step.result (λ o n same. same) (λ s. tt)
+    did.step did.does.room (λ bound h. at_most bound 0 new.kept (did.lens bound h)) did.does.numbers
+    (faults_alone g.O.Directory old new c.args.event.now event c.in-GcStep.is c.gc_step.result ⊥ (λ never. absurd never) (λ takes. takes) did.does.faults) did.does.meta did.does.dotted did.does.frame
+
+pub returns-in-GcEnd : goal.returns-in-GcEnd
+returns-in-GcEnd g c =
+    let did = c.gc_end.ensures in
+    acts_on_files g.O.Directory c.args.self.now c.gc_end.new.self c.args.event.now _ c.in-GcEnd.is c.gc_end.result (λ o n same. same) _ (λ o n h. h) ⊥ (λ never. absurd never) (λ s. tt) (λ takes. takes)
+    did.step (λ bound h. at_most bound 0 c.gc_end.new.self.kept (did.lens bound h)) did.does
 
 pub returns-in-Reader : goal.returns-in-Reader
 returns-in-Reader g c =

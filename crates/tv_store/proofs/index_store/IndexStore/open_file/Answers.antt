@@ -1,6 +1,16 @@
-use Rattle.std.proofs.Common.{sym, ap, subst, ◌∙◌}
+use Rattle.std.proofs.Common.{rules, sym, ap, subst, ◌∙◌}
 use Rattle.tv_store.proofs.FileEvents.{open_exists, open_made, live_found, inside_holds, asked_holds, Short, short_opened}
 use Rattle.tv_store.proofs.index_store.IndexStore.open_file.Goals as goal
+
+pub returns-in_err-open-clause-does : goal.returns-in_err-open-clause-does
+returns-in_err-open-clause-does g c = record {
+  room = search rules;
+  faults = search rules;
+  meta = search rules;
+  dotted = search rules;
+  numbers = search rules;
+  frame = search rules;
+}
 
 pub returns-then-not-branch-clause-step : goal.returns-then-not-branch-clause-step
 returns-then-not-branch-clause-step g c tells s h =

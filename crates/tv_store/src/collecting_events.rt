@@ -1,0 +1,123 @@
+//! The events of a collection in steps.
+ghost use Rattle.std.specs.Prelude.{◌≡◌, ◌<◌, ◌+◌, [], ◌∷◌, ℕ, length, codes, cond, IfOk, OnOk};
+ghost use Rattle.std.specs.Fmt.{decimal};
+ghost use Rattle.tv_model.specs.CollectionEvents.{gc_begin_step, gc_end_step, gc_step_step};
+ghost use Rattle.tv_model.specs.Lines.{line};
+ghost use Rattle.tv_directory.specs.View.{Kept, MayDelete, OnlyReads};
+ghost use Rattle.tv_model.specs.declared.event.Event.TheVariants as events;
+ghost use Rattle.tv_store.specs.Acting.{OnFiles, StepsDeleting, StepsTo};
+ghost use Rattle.tv_store.specs.Exhausted.{PassesEnd, collection_after};
+ghost use Rattle.tv_store.specs.FileCalls.{GcFaults};
+ghost use Rattle.tv_store.specs.Kept.{AtMost};
+ghost use Rattle.tv_store.specs.Stays.{AsksQuietly, KeepsReaders};
+
+use crate::files_collecting::TriedName;
+use crate::index_store::IndexStore;
+use std::alloc::Global;
+use tv_base::TantivyError;
+use tv_directory::Outside;
+use tv_model::{Answer, FileName, Memory};
+
+// As long as the longest line of a step: the words, a number and a name.
+const STEP_ROOM: usize = 288;
+
+// The line of a collection of these names that began.
+fn begun_line(alloc: Global, number: u64, names: &[FileName]) -> Result<Answer, Memory>
+    ensures { IfOk result (λ answer. answer ≡ line (codes "gc") (decimal number ∷ names.entry.now)) }
+{
+    let mut answer = Answer::new(alloc, "gc")?.number(number)?;
+    for name in names {
+        answer = answer.name(name)?;
+    }
+    Ok(answer)
+}
+
+// The line of a name that a collection tried.
+fn tried_line(
+    alloc: Global,
+    number: u64,
+    name: &FileName,
+    is_done: bool,
+) -> Result<Answer, Memory>
+    ensures { IfOk result (λ answer. answer ≡ line (codes "gc")
+        (decimal number ∷ (cond is_done (codes "done") (codes "failed")) ∷ name.now ∷ [])) }
+{
+    let word = if is_done { "done" } else { "failed" };
+    Answer::new(alloc, "gc")?
+        .number(number)?
+        .word(word.as_bytes())?
+        .name(name)
+}
+
+// The line of a collection that ended.
+fn ended_line(alloc: Global, number: u64) -> Result<Answer, Memory>
+    ensures { IfOk result (λ answer. answer ≡ line (codes "gc")
+        (decimal number ∷ codes "end" ∷ [])) }
+{
+    Answer::new(alloc, "gc")?.number(number)?.word(b"end")
+}
+
+impl<O: Outside> IndexStore<O> {
+    // A collection begins, which takes the files that nothing needs.
+    pub(crate) fn gc_begin(&mut self) -> Result<Answer, TantivyError>
+        ensures step { StepsTo O.Directory self.old self.new gc_begin_step result }
+        ensures room { IfOk result (λ answer. length answer < (O.view self.new.outside).room) }
+        ensures lens { (bound : ℕ) → AtMost bound self.old.kept → AtMost bound self.new.kept }
+        ensures numbers { OnOk result (self.new.kept.collections.next
+            ≡ self.old.kept.collections.next + 1) }
+        ensures faults { GcFaults O.Directory
+            (PassesEnd (collection_after self.old.kept.collections events.GcBegin))
+            self.old.outside self.new.outside result }
+        ensures frame { KeepsReaders (OnlyReads O.told) O.view self.old self.new }
+    {
+        let living = self.catalog.living()?;
+        self.ready_for_all()?;
+        let number = self.files.collect_begin(&living)?;
+        let names = self.files.collect_names(self.alloc, number)?;
+        let answer = begun_line(self.alloc, number, names.as_slice())?;
+        let answer = self.ready(answer)?;
+        Ok(answer)
+    }
+
+    // Makes room for the answer to a step of a collection.
+    fn ready_for_step(&mut self) -> Result<(), Memory>
+        ensures asks { AsksQuietly O.Directory self.old self.new }
+    {
+        self.files.ready(STEP_ROOM)
+    }
+
+    // The first name that a collection has left is tried.
+    pub(crate) fn gc_step(&mut self, number: u64) -> Result<Answer, TantivyError>
+        ensures step { IfOk result (StepsDeleting O.Directory self.old self.new
+            (λ s outcomes. gc_step_step s number outcomes)) }
+        ensures lens { (bound : ℕ) → AtMost bound self.old.kept → AtMost bound self.new.kept }
+        ensures does { OnFiles O.Directory (MayDelete O.told) ⊥ self.old self.new result }
+    {
+        let Some(left) = self.files.collect_left(number) else {
+            return self.refuse("unknown-collection");
+        };
+        if left == 0 {
+            return self.refuse("nothing-left");
+        }
+        self.ready_for_step()?;
+        let TriedName { name, is_done } = self.files.collect_delete(number)?;
+        let answer = tried_line(self.alloc, number, &name, is_done)?;
+        let answer = self.ready(answer)?;
+        Ok(answer)
+    }
+
+    // A collection is finished.
+    pub(crate) fn gc_end(&mut self, number: u64) -> Result<Answer, TantivyError>
+        ensures step { StepsTo O.Directory self.old self.new (λ s. gc_end_step s number) result }
+        ensures lens { (bound : ℕ) → AtMost bound self.old.kept → AtMost bound self.new.kept }
+        ensures does { OnFiles O.Directory (Kept O.told) ⊥ self.old self.new result }
+    {
+        if self.files.collect_left(number).is_none() {
+            return self.refuse("unknown-collection");
+        }
+        let answer = ended_line(self.alloc, number)?;
+        let answer = self.ready(answer)?;
+        self.files.collect_end(number)?;
+        Ok(answer)
+    }
+}
