@@ -41,7 +41,7 @@ module _ {D W C : Type 0} (g : Ghosts D W C) (before now : D) where
   pub one_stands : (index : IndexState D) (error : TantivyError) → OpensStanding g before index → now ≡ index.directory.0 → IsMissing error → OpensNone g before now error
   one_stands index error h is why = record {
     cause = missing error why (ap (λ (d : D). (g.view d).faults) is ∙ h.quiet) (λ t. record {
-      lists = (index.directory.1, h.lists t);
+      lists = (index.directory.1.managed, h.lists t);
       settings = settings_of h.meta;
       schema = h.meta.schema;
       commit = commit_of h.meta;

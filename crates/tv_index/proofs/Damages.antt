@@ -15,6 +15,7 @@ use Rattle.tv_base.specs.declared.open_errors.OpenReadError.TheVariants as openi
 use Rattle.tv_directory.specs.View.{OnlyReads}
 use Rattle.tv_directory.specs.declared.directory.Directory.{Ghosts}
 use Rattle.tv_managed.specs.Reading.{FooterFaults, OpenBodyCause, ReadsRefused, ReadsSuch, SomeRefused}
+use Rattle.tv_managed.specs.Names.{ManagedNames}
 use Rattle.tv_model.specs.Files.{Reads, Rose, Same}
 use Rattle.tv_model.specs.Meaning.{Means}
 use Rattle.tv_model.specs.Names.{byte_cmp, has, is, meta_name}
@@ -152,7 +153,7 @@ pub unread_faults : {A D W C : Type 0} (g : Ghosts D W C) (old new : D) (names :
 unread_faults g old new names (Ok a) error h cause = absurd h
 unread_faults g old new names (Err e) error h cause = record { quiet = tt; cause = subst (UnreadCause g old new names) (sym h) cause }
 
-module _ {D W C : Type 0} (g : Ghosts D W C) (directory : D × List (List ℕ)) (schema : List ℕ) (meta : UntrackedIndexMeta) (names : List (List ℕ)) (loads : LoadsMeta g directory.0 (Some schema) meta) (are : names ≡ looked_at (commit_of meta) directory.1) where
+module _ {D W C : Type 0} (g : Ghosts D W C) (directory : D × ManagedNames) (schema : List ℕ) (meta : UntrackedIndexMeta) (names : List (List ℕ)) (loads : LoadsMeta g directory.0 (Some schema) meta) (are : names ≡ looked_at (commit_of meta) directory.1.managed) where
   means : g.told.content → ReadsSuch ((g.view directory.0).reads meta_name) (λ bytes. Means (settings_of meta) schema bytes (commit_of meta))
   means t =
       let m = loads.means t in
@@ -160,7 +161,7 @@ module _ {D W C : Type 0} (g : Ghosts D W C) (directory : D × List (List ℕ)) 
 
   module _ (mid new : D) (frame : OnlyReads g.told (g.view directory.0) (g.view mid)) (still : (g.view mid).faults ≡ (g.view directory.0).faults) where
     pub damaged_files : (damaged : List (List ℕ)) → g.told.content → AreDamaged (g.view mid).reads names damaged
-        → MeansSuch schema ((g.view directory.0).reads meta_name) (λ commit. AreDamaged (g.view directory.0).reads (looked_at commit directory.1) damaged)
+        → MeansSuch schema ((g.view directory.0).reads meta_name) (λ commit. AreDamaged (g.view directory.0).reads (looked_at commit directory.1.managed) damaged)
     damaged_files damaged t h =
         let m = means t in (
           m.0,
@@ -189,7 +190,7 @@ module _ {D W C : Type 0} (g : Ghosts D W C) (directory : D × List (List ℕ)) 
     err_before name (opening.IncompatibleIndex why) t k = absurd k
     err_before name opening.Memory t k = absurd k
 
-    file_before : (why : OpenReadError) → UnreadFile g mid new names why → UnreadFile g directory.0 new (looked_at (commit_of meta) directory.1) why
+    file_before : (why : OpenReadError) → UnreadFile g mid new names why → UnreadFile g directory.0 new (looked_at (commit_of meta) directory.1.managed) why
     file_before why f = record {
       front = f.front;
       name = f.name;

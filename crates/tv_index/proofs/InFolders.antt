@@ -26,6 +26,7 @@ module _ {D W C : Type 0} (g : Ghosts D W C) (before mid : D) (asked : OnlyReads
     others = λ t n other list. h.others t n other list ∙ asked.content t n;
     listed = λ t. let l = h.listed t in (l.0, subst (λ (read : Option (List ℕ)). Lists read l.0) (asked.content t list_name) l.1, l.2);
     lists = h.lists;
+    collections = h.collections;
     quiet = h.quiet ∙ still;
     notes = h.notes ∙ ap (noted meta_name) asked.kept.watched;
     frame = notes_later asked h.frame;

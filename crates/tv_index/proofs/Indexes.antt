@@ -15,6 +15,7 @@ use Rattle.tv_directory.specs.View.{OnlyReads}
 use Rattle.tv_directory.specs.declared.directory.Directory.{Ghosts}
 use Rattle.tv_managed.specs.Managed.{KeepsOtherFiles}
 use Rattle.tv_managed.specs.Wrapping.{ListRefusal, NotWrapped, Wraps}
+use Rattle.tv_managed.specs.Names.{ManagedNames}
 use Rattle.tv_model.specs.Commits.{Commit, IndexForm, IsCommit, IsSegment, Settings}
 use Rattle.tv_model.specs.Files.{Rose}
 use Rattle.tv_model.specs.Meaning.{Means}
@@ -68,7 +69,7 @@ ids_mean g directory schema meta ids loads is t =
 
 -- ---- the index that stands
 
-module _ {D W C : Type 0} (g : Ghosts D W C) (before : D) (wrapped : D × List (List ℕ)) (w : Wraps g before wrapped) where
+module _ {D W C : Type 0} (g : Ghosts D W C) (before : D) (wrapped : D × ManagedNames) (w : Wraps g before wrapped) where
   pub loads_before : (expected : Option (List ℕ)) (meta : UntrackedIndexMeta) → LoadsMeta g wrapped.0 expected meta → LoadsMeta g before expected meta
   loads_before expected meta h = record {
     has = h.has;
@@ -77,7 +78,7 @@ module _ {D W C : Type 0} (g : Ghosts D W C) (before : D) (wrapped : D × List (
   }
 
   lists_some : g.told.content → ListsSome ((g.view before).reads list_name)
-  lists_some t = (wrapped.1, w.names t)
+  lists_some t = (wrapped.1.managed, w.names t)
 
   read_before : {bytes : List ℕ} → (g.told.content → (g.view wrapped.0).reads meta_name ≡ Some bytes) → g.told.content → (g.view before).reads meta_name ≡ Some bytes
   read_before is t = sym (w.frame.content t meta_name) ∙ is t
@@ -129,7 +130,7 @@ module _ {D W C : Type 0} (g : Ghosts D W C) (before : D) (form : IndexForm) whe
     frame = quiet_notes h.frame;
   }
 
-  module _ (wrapped : D × List (List ℕ)) (w : Wraps g before wrapped) where
+  module _ (wrapped : D × ManagedNames) (w : Wraps g before wrapped) where
     no_bytes : (error : IoError) → IsRefusedBytes (of_io error) → ⊥
     no_bytes (io.Fault fault) h = h
     no_bytes io.Memory h = h

@@ -2,10 +2,10 @@
 use Rattle.std.proofs.Common.{◌≡◌, ◌⊎◌, inl, inr, ℕ, List, Option, Some, None, Result, Ok, Err, sym, ap, subst, ◌∙◌, true, true≢false}
 use Rattle.std.specs.Prelude.{IsErrAnd, IsSome, OnErr, OnOk}
 use Rattle.tv_directory.specs.declared.directory.Directory.{Ghosts}
-use Rattle.tv_managed.specs.Managed.{Covers, KeepsList, Registers, registered}
+use Rattle.tv_managed.specs.Managed.{Covers, ManagesFile, registering}
+use Rattle.tv_managed.specs.Names.{ManagedNames}
 use Rattle.tv_model.specs.Listing.{IsOnList, Lists}
 use Rattle.tv_model.specs.Names.{has, list_name, meta_name}
-use Rattle.tv_index.specs.Saving.{ManagesMeta}
 
 on_ok : {A E X Y : Type 0} (result : Result A E) → (X → Y) → OnOk result X → OnOk result Y
 on_ok (Ok a) f h = f h
@@ -21,72 +21,79 @@ some_none (Some bytes) is some = absurd cc
 
 -- ---- another answer
 
-or_one_more : {A E : Type 0} (old new : List (List ℕ)) (result : Result A E) → Registers old new meta_name result → (new ≡ old) ⊎ (new ≡ registered old meta_name)
-or_one_more old new (Ok a) h = inr h.ok
-or_one_more old new (Err e) h = h.err
+or_one_more : {A E D W C : Type 0} (g : Ghosts D W C) (old new : D × ManagedNames) (result : Result A E) → ManagesFile g old new meta_name result → (new.1 ≡ old.1) ⊎ (new.1 ≡ registering old.1 meta_name)
+or_one_more g old new (Ok a) h = inr h.ok
+or_one_more g old new (Err e) h = h.err
 
-module _ {A B E F D W C : Type 0} (g : Ghosts D W C) (old new : D × List (List ℕ)) where
+module _ {A B E F D W C : Type 0} (g : Ghosts D W C) (old new : D × ManagedNames) where
   -- what was done before an error is no more than what is done at Ok
-  pub manages_err : (P : F → Type 0) (inner : Result A E) (result : Result B F) → IsErrAnd result P → ManagesMeta g old new inner → ManagesMeta g old new result
+  pub manages_err : (P : F → Type 0) (inner : Result A E) (result : Result B F) → IsErrAnd result P → ManagesFile g old new meta_name inner → ManagesFile g old new meta_name result
   manages_err P inner (Ok b) failed h = absurd failed
   manages_err P inner (Err f) failed h = record {
-    names = record { ok = tt; err = or_one_more old.1 new.1 inner h.names };
-    list = record { saves = record { list = λ t lists. tt; covers = h.list.saves.covers }; listed = h.list.listed; managed = h.list.managed };
+    ok = tt;
+    err = or_one_more g old new inner h;
+    saves = record { list = λ t lists. tt; covers = h.saves.covers };
+    listed = h.listed;
+    managed = h.managed;
   }
 
   -- and what is done at Ok is that
-  pub manages_ok : (inner : Result A E) (result : Result B F) → OnErr inner ⊥ → OnErr result ⊥ → ManagesMeta g old new inner → ManagesMeta g old new result
+  pub manages_ok : (inner : Result A E) (result : Result B F) → OnErr inner ⊥ → OnErr result ⊥ → ManagesFile g old new meta_name inner → ManagesFile g old new meta_name result
   manages_ok (Err e) result failed ok h = absurd failed
   manages_ok (Ok a) (Err f) ok failed h = absurd failed
   manages_ok (Ok a) (Ok b) ok did h = record {
-    names = record { ok = h.names.ok; err = tt };
-    list = record { saves = record { list = h.list.saves.list; covers = h.list.saves.covers }; listed = h.list.listed; managed = h.list.managed };
+    ok = h.ok;
+    err = tt;
+    saves = record { list = h.saves.list; covers = h.saves.covers };
+    listed = h.listed;
+    managed = h.managed;
   }
 
 -- ---- between calls that only read
 
-module _ {D W C : Type 0} (g : Ghosts D W C) (old mid now new : D × List (List ℕ))
+module _ {D W C : Type 0} (g : Ghosts D W C) (old mid now new : D × ManagedNames)
     (reads_before : g.told.content → (n : List ℕ) → (g.view mid.0).reads n ≡ (g.view old.0).reads n) (names_before : mid.1 ≡ old.1)
     (reads_after : g.told.content → (n : List ℕ) → (g.view new.0).reads n ≡ (g.view now.0).reads n) (names_after : new.1 ≡ now.1) where
-  names : now.1 ≡ registered mid.1 meta_name → new.1 ≡ registered old.1 meta_name
-  names h = names_after ∙ h ∙ ap (λ (ns : List (List ℕ)). registered ns meta_name) names_before
+  names : now.1 ≡ registering mid.1 meta_name → new.1 ≡ registering old.1 meta_name
+  names h = names_after ∙ h ∙ ap (λ (ns : ManagedNames). registering ns meta_name) names_before
 
-  names_or : (now.1 ≡ mid.1) ⊎ (now.1 ≡ registered mid.1 meta_name) → (new.1 ≡ old.1) ⊎ (new.1 ≡ registered old.1 meta_name)
+  names_or : (now.1 ≡ mid.1) ⊎ (now.1 ≡ registering mid.1 meta_name) → (new.1 ≡ old.1) ⊎ (new.1 ≡ registering old.1 meta_name)
   names_or (inl h) = inl (names_after ∙ h ∙ names_before)
   names_or (inr h) = inr (names h)
 
-  lists_in : g.told.content → Lists ((g.view old.0).reads list_name) old.1 → Lists ((g.view mid.0).reads list_name) mid.1
-  lists_in t h = subst (λ (ns : List (List ℕ)). Lists ((g.view mid.0).reads list_name) ns) (sym names_before) (subst (λ (read : Option (List ℕ)). Lists read old.1) (sym (reads_before t list_name)) h)
+  lists_in : g.told.content → Lists ((g.view old.0).reads list_name) old.1.managed → Lists ((g.view mid.0).reads list_name) mid.1.managed
+  lists_in t h = subst (λ (ns : ManagedNames). Lists ((g.view mid.0).reads list_name) ns.managed) (sym names_before) (subst (λ (read : Option (List ℕ)). Lists read old.1.managed) (sym (reads_before t list_name)) h)
 
-  lists_out : g.told.content → Lists ((g.view now.0).reads list_name) now.1 → Lists ((g.view new.0).reads list_name) new.1
-  lists_out t h = subst (λ (ns : List (List ℕ)). Lists ((g.view new.0).reads list_name) ns) (sym names_after) (subst (λ (read : Option (List ℕ)). Lists read now.1) (sym (reads_after t list_name)) h)
+  lists_out : g.told.content → Lists ((g.view now.0).reads list_name) now.1.managed → Lists ((g.view new.0).reads list_name) new.1.managed
+  lists_out t h = subst (λ (ns : ManagedNames). Lists ((g.view new.0).reads list_name) ns.managed) (sym names_after) (subst (λ (read : Option (List ℕ)). Lists read now.1.managed) (sym (reads_after t list_name)) h)
 
   covers_in : g.told.content → Covers ((g.view old.0).reads list_name) old.1 → Covers ((g.view mid.0).reads list_name) mid.1
-  covers_in t h = subst (λ (ns : List (List ℕ)). Covers ((g.view mid.0).reads list_name) ns) (sym names_before) (subst (λ (read : Option (List ℕ)). Covers read old.1) (sym (reads_before t list_name)) h)
+  covers_in t h = subst (λ (ns : ManagedNames). Covers ((g.view mid.0).reads list_name) ns) (sym names_before) (subst (λ (read : Option (List ℕ)). Covers read old.1) (sym (reads_before t list_name)) h)
 
   covers_out : g.told.content → Covers ((g.view now.0).reads list_name) now.1 → Covers ((g.view new.0).reads list_name) new.1
-  covers_out t h = subst (λ (ns : List (List ℕ)). Covers ((g.view new.0).reads list_name) ns) (sym names_after) (subst (λ (read : Option (List ℕ)). Covers read now.1) (sym (reads_after t list_name)) h)
+  covers_out t h = subst (λ (ns : ManagedNames). Covers ((g.view new.0).reads list_name) ns) (sym names_after) (subst (λ (read : Option (List ℕ)). Covers read now.1) (sym (reads_after t list_name)) h)
 
-  pub manages_between : {A E : Type 0} (inner : Result A E) → Registers mid.1 now.1 meta_name inner → KeepsList g mid now inner → ManagesMeta g old new inner
-  manages_between inner registers h = record {
-    names = record { ok = on_ok inner names registers.ok; err = on_err inner names_or registers.err };
-    list = record {
-      saves = record {
-        list = λ t lists. on_ok inner (lists_out t) (h.saves.list t (lists_in t lists));
-        covers = λ t covers. covers_out t (h.saves.covers t (covers_in t covers));
-      };
-      listed = λ t covers n undotted some none. subst (λ (read : Option (List ℕ)). IsOnList read n) (sym (reads_after t list_name))
-          (h.listed t (covers_in t covers) n undotted (subst IsSome (reads_after t n) some) (reads_before t n ∙ none));
-      managed = λ t n undotted some none. subst (λ (ns : List (List ℕ)). has ns n ≡ true) (sym names_after)
-          (h.managed t n undotted (subst IsSome (reads_after t n) some) (reads_before t n ∙ none));
+  pub manages_between : {A E : Type 0} (inner : Result A E) → ManagesFile g mid now meta_name inner → ManagesFile g old new meta_name inner
+  manages_between inner h = record {
+    ok = on_ok inner names h.ok;
+    err = on_err inner names_or h.err;
+    saves = record {
+      list = λ t lists. on_ok inner (lists_out t) (h.saves.list t (lists_in t lists));
+      covers = λ t covers. covers_out t (h.saves.covers t (covers_in t covers));
     };
+    listed = λ t covers n undotted some none. subst (λ (read : Option (List ℕ)). IsOnList read n) (sym (reads_after t list_name))
+        (h.listed t (covers_in t covers) n undotted (subst IsSome (reads_after t n) some) (reads_before t n ∙ none));
+    managed = λ t n undotted some none. subst (λ (ns : ManagedNames). has ns.managed n ≡ true) (sym names_after)
+        (h.managed t n undotted (subst IsSome (reads_after t n) some) (reads_before t n ∙ none));
   }
 
   -- nothing was done between them
-  pub manages_none : {A E : Type 0} (P : E → Type 0) (result : Result A E) → IsErrAnd result P → now ≡ mid → ManagesMeta g old new result
+  pub manages_none : {A E : Type 0} (P : E → Type 0) (result : Result A E) → IsErrAnd result P → now ≡ mid → ManagesFile g old new meta_name result
   manages_none P (Ok a) failed is = absurd failed
-  manages_none P (Err e) failed is = manages_between (Err e) (record { ok = tt; err = inl (ap (λ (d : D × List (List ℕ)). d.1) is) }) (record {
-    saves = record { list = λ t lists. tt; covers = λ t covers. subst (λ (d : D × List (List ℕ)). Covers ((g.view d.0).reads list_name) d.1) (sym is) covers };
-    listed = λ t covers n undotted some none. absurd (some_none ((g.view now.0).reads n) (ap (λ (d : D × List (List ℕ)). (g.view d.0).reads n) is ∙ none) some);
-    managed = λ t n undotted some none. absurd (some_none ((g.view now.0).reads n) (ap (λ (d : D × List (List ℕ)). (g.view d.0).reads n) is ∙ none) some);
+  manages_none P (Err e) failed is = manages_between (Err e) (record {
+    ok = tt;
+    err = inl (ap (λ (d : D × ManagedNames). d.1) is);
+    saves = record { list = λ t lists. tt; covers = λ t covers. subst (λ (d : D × ManagedNames). Covers ((g.view d.0).reads list_name) d.1) (sym is) covers };
+    listed = λ t covers n undotted some none. absurd (some_none ((g.view now.0).reads n) (ap (λ (d : D × ManagedNames). (g.view d.0).reads n) is ∙ none) some);
+    managed = λ t n undotted some none. absurd (some_none ((g.view now.0).reads n) (ap (λ (d : D × ManagedNames). (g.view d.0).reads n) is ∙ none) some);
   })

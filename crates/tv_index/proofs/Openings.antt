@@ -14,6 +14,7 @@ use Rattle.tv_directory.specs.declared.directory.Directory.{Ghosts}
 use Rattle.tv_managed.specs.Managed.{KeepsOtherFiles}
 use Rattle.tv_managed.specs.Wrapping.{ListsNothing, ListRefusal, NotWrapped, Wraps}
 use Rattle.tv_managed.specs.declared.managed_directory.Refused.{Refused}
+use Rattle.tv_managed.specs.Names.{ManagedNames}
 use Rattle.tv_model.specs.Commits.{Commit, IndexForm, Settings, IsCommit, first_commit, new_form}
 use Rattle.tv_model.specs.Files.{Reads, Rose, Same}
 use Rattle.tv_model.specs.Index.{FindsCommit}
@@ -126,7 +127,7 @@ io_cause : (tells : Type 0) (schema : List ℕ) (read : Option (List ℕ)) (refu
 io_cause tells schema read refused quiet (io.Fault fault) f q h = (h.0, f h.1)
 io_cause tells schema read refused quiet io.Memory f q h = q h
 
-module _ {A D W C : Type 0} (g : Ghosts D W C) (old mid new : D × List (List ℕ)) (form : IndexForm) (result : Result A TantivyError) (error : IoError) where
+module _ {A D W C : Type 0} (g : Ghosts D W C) (old mid new : D × ManagedNames) (form : IndexForm) (result : Result A TantivyError) (error : IoError) where
   pub creates_none : {B : Type 0} → IsErrAnd result (λ e. e ≡ of_io error) → (g.told.content → (g.view old.0).reads meta_name ≡ None) → OnlyReads g.told (g.view old.0) (g.view mid.0) → (g.view mid.0).faults ≡ (g.view old.0).faults
       → (g.told.content → KeepsOtherFiles (g.view mid.0).reads (g.view new.0).reads meta_name) → LeavesText {A = B} g mid.0 new.0 (new_text form) (Err error)
       → IoCause (Rose (g.view mid.0).faults (g.view new.0).faults) ((g.view new.0).faults ≡ (g.view mid.0).faults) error → FrameNotes g.told (g.view mid.0) (g.view new.0) → IfErr result (NotLoaded g old new.0 form)
@@ -164,9 +165,10 @@ later_unmade old mid new text same h = record {
 
 -- behind a sync
 module _ {D W C : Type 0} (g : Ghosts D W C) (before mid : D) (synced : OnlyReads g.told (g.view before) (g.view mid)) (still : (g.view mid).faults ≡ (g.view before).faults) where
-  pub wraps_later : (wrapped : D × List (List ℕ)) → Wraps g mid wrapped → Wraps g before wrapped
+  pub wraps_later : (wrapped : D × ManagedNames) → Wraps g mid wrapped → Wraps g before wrapped
   wraps_later wrapped w = record {
-    names = λ t. subst (λ (read : Option (List ℕ)). Lists read wrapped.1) (synced.content t list_name) (w.names t);
+    names = λ t. subst (λ (read : Option (List ℕ)). Lists read wrapped.1.managed) (synced.content t list_name) (w.names t);
+    collections = w.collections;
     quiet = w.quiet ∙ still;
     frame = reads_later synced w.frame;
   }
@@ -199,9 +201,9 @@ module _ {D W C : Type 0} (g : Ghosts D W C) (before : D) (form : IndexForm) whe
       → IfErr result (λ r. NotOpenedForm g before form r.directory r.error)
   wrap_fails result refused h none = failed_as result refused (λ r. NotOpenedForm g before form r.directory r.error) h (not_wrapped refused.directory refused.error none)
 
-  module _ (wrapped : D × List (List ℕ)) (w : Wraps g before wrapped) where
+  module _ (wrapped : D × ManagedNames) (w : Wraps g before wrapped) where
     lists_some : g.told.content → ListsSome ((g.view before).reads list_name)
-    lists_some t = (wrapped.1, w.names t)
+    lists_some t = (wrapped.1.managed, w.names t)
 
     loaded_cause : (now : D) (error : TantivyError)
         → LoadCause g.told.content form.schema ((g.view wrapped.0).reads meta_name) (Rose (g.view wrapped.0).faults (g.view now).faults) ((g.view now).faults ≡ (g.view wrapped.0).faults) error
@@ -229,7 +231,7 @@ finds_default schema None settings commit h = h
 finds_default schema (Some text) settings commit h = h
 
 module _ {D W C : Type 0} (g : Ghosts D W C) (before : D) (schema : List ℕ) where
-  pub opens_default : (form : IndexForm) → form ≡ new_form schema → (now : D × List (List ℕ)) (meta : UntrackedIndexMeta) → OpensForm g before form now meta → OpensIndex g before schema now meta
+  pub opens_default : (form : IndexForm) → form ≡ new_form schema → (now : D × ManagedNames) (meta : UntrackedIndexMeta) → OpensForm g before form now meta → OpensIndex g before schema now meta
   opens_default form is now meta opens = by (subst (λ (f : IndexForm). OpensForm g before f now meta) is opens) where
     by : OpensForm g before (new_form schema) now meta → OpensIndex g before schema now meta
     by h = record {
@@ -245,6 +247,7 @@ module _ {D W C : Type 0} (g : Ghosts D W C) (before : D) (schema : List ℕ) wh
           };
       left = λ t. let l = h.left t in record { stood = l.stood; others = l.others; made = l.made };
       lists = h.lists;
+      collections = h.collections;
       quiet = h.quiet;
       frame = h.frame;
     }

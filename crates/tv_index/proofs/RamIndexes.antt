@@ -17,7 +17,7 @@ never m n a b (inl lt) = omega (arith, a, b, lt)
 never m n a b (inr e) = omega (arith, a, b, e)
 
 module _ {D W C : Type 0} (g : Ghosts D W C) (before : D) (tells : g.told.content) (empty : (n : List ℕ) → (g.view before).reads n ≡ None) where
-  pub managed_one : (settings : IndexSettings) (schema : List ℕ) (index : IndexState D) → CreatesIndex g before settings schema index → index.directory.1 ≡ meta_name ∷ []
+  pub managed_one : (settings : IndexSettings) (schema : List ℕ) (index : IndexState D) → CreatesIndex g before settings schema index → index.directory.1.managed ≡ meta_name ∷ []
   managed_one settings schema index h =
       let l = h.listed tells in
       l.2 ∙ ap (λ (names : List (List ℕ)). insert_key byte_cmp names meta_name) (subst (λ (read : Option (List ℕ)). Lists read l.0) (empty list_name) l.1)

@@ -10,6 +10,7 @@ use Rattle.tv_base.specs.declared.error.TantivyError.{TantivyError}
 use Rattle.tv_base.specs.declared.io.IoError.{IoError}
 use Rattle.tv_base.specs.declared.io.IoError.TheVariants as io
 use Rattle.tv_directory.specs.declared.directory.Directory.{Ghosts}
+use Rattle.tv_managed.specs.Names.{ManagedNames}
 use Rattle.tv_model.specs.Commits.{Commit, IsCommit, IsSegment, Settings}
 use Rattle.tv_model.specs.Meaning.{Means}
 use Rattle.tv_model.specs.Names.{meta_name}
@@ -39,7 +40,7 @@ pub cause_of_io : {more same refused quiet : Type 0} (error : IoError) → (more
 cause_of_io (io.Fault fault) f q h = (h.0, f h.1)
 cause_of_io io.Memory f q h = q h
 
-module _ {A D W C : Type 0} (g : Ghosts D W C) (old new : D × List (List ℕ)) (settings : Settings) (schema : List ℕ) (commit : Commit) (has : HasSchemaTree schema) (small : settings.blocksize < 2 ^ 64) (is_commit : IsCommit commit) where
+module _ {A D W C : Type 0} (g : Ghosts D W C) (old new : D × ManagedNames) (settings : Settings) (schema : List ℕ) (commit : Commit) (has : HasSchemaTree schema) (small : settings.blocksize < 2 ^ 64) (is_commit : IsCommit commit) where
   -- it is saved
   pub saved : (result : Result A TantivyError) (text : List ℕ) → text ≡ saved_text settings schema commit → OnErr result ⊥ → SavesMeta g old new text → SavesCommit g old new settings schema commit result
   saved (Ok a) text is ok h = record {
@@ -66,7 +67,7 @@ module _ {A D W C : Type 0} (g : Ghosts D W C) (old new : D × List (List ℕ)) 
   pub unprinted : (result : Result A TantivyError) → IsErrAnd result (λ e. e ≡ of_io io.Memory) → new ≡ old → SavesCommit g old new settings schema commit result
   unprinted (Ok a) h same = absurd h
   unprinted (Err e) h same =
-      let stays : (g.view new.0).reads meta_name ≡ (g.view old.0).reads meta_name = ap (λ (d : D × List (List ℕ)). (g.view d.0).reads meta_name) same in
+      let stays : (g.view new.0).reads meta_name ≡ (g.view old.0).reads meta_name = ap (λ (d : D × ManagedNames). (g.view d.0).reads meta_name) same in
       record {
         saves = tt;
         means = saved_means settings schema commit has small is_commit;

@@ -5,6 +5,7 @@ use Rattle.tv_base.specs.declared.error.TantivyError.{TantivyError}
 use Rattle.tv_base.specs.declared.error.TantivyError.TheVariants as errors
 use Rattle.tv_base.specs.declared.open_errors.OpenReadError.{OpenReadError}
 use Rattle.tv_directory.specs.declared.directory.Directory.{Ghosts}
+use Rattle.tv_managed.specs.Names.{ManagedNames}
 use Rattle.tv_managed.specs.Reading.{NamesFile, OpenBodyCause, ReadsRefused, ReadsSuch, SomeRefused, TellsChecksum}
 use Rattle.tv_model.specs.Commits.{Commit, Settings}
 use Rattle.tv_model.specs.Files.{Reads, Rose}
@@ -49,19 +50,19 @@ pub record UnreadFaults {A D W C : Type 0} (g : Ghosts D W C) (old new : D) (nam
   pub cause : IfErr result (UnreadCause g old new names)
 
 -- A file of the commit that `meta.json` means isn't read.
-pub record UnreadCommit {D W C : Type 0} (g : Ghosts D W C) (old : D × List (List ℕ)) (new : D) (schema : List ℕ) (why : OpenReadError) : Type 0 where
+pub record UnreadCommit {D W C : Type 0} (g : Ghosts D W C) (old : D × ManagedNames) (new : D) (schema : List ℕ) (why : OpenReadError) : Type 0 where
   pub settings : Settings
   pub commit : Commit
   pub means : g.told.content → ReadsSuch ((g.view old.0).reads meta_name) (λ bytes. Means settings schema bytes commit)
-  pub file : UnreadFile g old.0 new (looked_at commit old.1) why
+  pub file : UnreadFile g old.0 new (looked_at commit old.1.managed) why
 
 -- Why a validation fails: `meta.json` isn't read, or then a file of its commit.
-abbrev pub ValidateCause : {D W C : Type 0} (g : Ghosts D W C) (old : D × List (List ℕ)) (new : D) (schema : List ℕ) → (refused quiet : Type 0) → TantivyError → Type 0
+abbrev pub ValidateCause : {D W C : Type 0} (g : Ghosts D W C) (old : D × ManagedNames) (new : D) (schema : List ℕ) → (refused quiet : Type 0) → TantivyError → Type 0
 ValidateCause g old new schema refused quiet (errors.OpenReadError why) =
     MetaCause g.told.content (Some schema) ((g.view old.0).reads meta_name) refused quiet (errors.OpenReadError why) ⊎ UnreadCommit g old new schema why
 ValidateCause g old new schema refused quiet other = MetaCause g.told.content (Some schema) ((g.view old.0).reads meta_name) refused quiet other
 
 -- it fails for one of these causes
-pub record ValidateFaults {A D W C : Type 0} (g : Ghosts D W C) (old : D × List (List ℕ)) (new : D) (schema : List ℕ) (result : Result A TantivyError) : Type 0 where
+pub record ValidateFaults {A D W C : Type 0} (g : Ghosts D W C) (old : D × ManagedNames) (new : D) (schema : List ℕ) (result : Result A TantivyError) : Type 0 where
   pub quiet : OnOk result ((g.view new).faults ≡ (g.view old.0).faults)
   pub cause : IfErr result (ValidateCause g old new schema (Rose (g.view old.0).faults (g.view new).faults) ((g.view new).faults ≡ (g.view old.0).faults))

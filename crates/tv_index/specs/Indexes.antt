@@ -1,6 +1,7 @@
 -- An index: what it keeps, how it is opened or made, and what its calls leave alone.
-use Rattle.std.specs.Prelude.{◌≡◌, ◌≢◌, ◌⊎◌, ℕ, List, [], ◌∷◌, map, Option, Some, None}
+use Rattle.std.specs.Prelude.{◌≡◌, ◌≢◌, ◌⊎◌, ℕ, Bool, true, ◌||◌, List, [], ◌∷◌, map, Option, Some, None, string_bytes}
 use Rattle.std.specs.BTreeSet.{insert_key}
+use Rattle.hex.specs.Hex.{encode_lower}
 use Rattle.tv_base.specs.Causes.{IsDevice}
 use Rattle.tv_base.specs.declared.error.TantivyError.{TantivyError}
 use Rattle.tv_base.specs.declared.error.TantivyError.TheVariants as errors
@@ -11,26 +12,29 @@ use Rattle.tv_directory.specs.declared.directory.Directory.{Ghosts}
 use Rattle.tv_directory.specs.declared.ram_directory.RamDirectory.{RamDirectory}
 use Rattle.tv_managed.specs.Frames.{KeepsNames}
 use Rattle.tv_managed.specs.Managed.{KeepsOtherFiles}
+use Rattle.tv_managed.specs.Names.{ManagedNames}
 use Rattle.tv_managed.specs.Reading.{ReadsSuch}
 use Rattle.tv_managed.specs.Wrapping.{ListCause, ListRefusal, ListsNothing}
+use Rattle.tv_model.specs.Collections.{no_collections}
 use Rattle.tv_model.specs.Commits.{Commit, IndexForm, Settings}
 use Rattle.tv_model.specs.Files.{Reads, Rose, Same}
 use Rattle.tv_model.specs.Listing.{Lists}
 use Rattle.tv_model.specs.Meaning.{Means}
 use Rattle.tv_model.specs.Names.{byte_cmp, list_name, meta_name}
+use Rattle.tv_model.specs.SegmentEvents.{is_named}
 use Rattle.tv_index.specs.NewForms.{OpensForm, form_with, new_text}
 use Rattle.tv_index.specs.Opening.{IsRefusedBytes, ListsSome}
 use Rattle.tv_index.specs.Saving.{FrameNotes}
 use Rattle.tv_index.specs.Standing.{LoadsMeta, MetaCause}
-use Rattle.tv_index.specs.Tracked.{Kept, Share, TrackAll}
+use Rattle.tv_index.specs.Tracked.{Kept, Share, TrackAll, has_id}
 use Rattle.tv_index.specs.TrackedMetas.{tracked_commit, tracked_settings}
 use Rattle.tv_index.specs.declared.tracked_meta.IndexMeta.{IndexMeta}
 use Rattle.tv_index.specs.declared.index_meta.UntrackedIndexMeta.{UntrackedIndexMeta}
 use Rattle.tv_index.specs.declared.index_settings.IndexSettings.{IndexSettings}
 
--- an index: its directory with the managed names, its settings, the text of its schema, and the segments that its inventory keeps
+-- an index: its directory with the managed names and the unfinished collections, its settings, the text of its schema, and the segments that its inventory keeps
 pub record IndexState (D : Type 0) : Type 0 where
-  pub directory : D × List (List ℕ)
+  pub directory : D × ManagedNames
   pub settings : IndexSettings
   pub schema : List ℕ
   pub kept : Kept
@@ -41,12 +45,13 @@ pub record Shows {D : Type 0} (meta : UntrackedIndexMeta) (index : IndexState D)
   pub schema : index.schema ≡ meta.schema
   pub kept : index.kept ≡ []
 
--- The index that stands in a directory is open, with the schema that its `meta.json` spells. Nothing was changed.
+-- The index that stands in a directory is open, with the schema that its `meta.json` spells. Nothing was changed, and no collection was begun.
 pub record OpensStanding {D W C : Type 0} (g : Ghosts D W C) (before : D) (index : IndexState D) : Type 0 where
   pub meta : UntrackedIndexMeta
   pub loads : LoadsMeta g before None meta
   pub shows : Shows meta index
-  pub lists : g.told.content → Lists ((g.view before).reads list_name) index.directory.1
+  pub lists : g.told.content → Lists ((g.view before).reads list_name) index.directory.1.managed
+  pub collections : index.directory.1.collections ≡ no_collections
   pub quiet : (g.view index.directory.0).faults ≡ (g.view before).faults
   pub frame : OnlyReads g.told (g.view before) (g.view index.directory.0)
 
@@ -74,26 +79,30 @@ pub record OpensIndexOf {D W C : Type 0} (g : Ghosts D W C) (before : D) (form :
   pub shows : Shows meta index
 
 -- A new index of this form stands in the directory: `meta.json` was replaced by its first commit, of which a notice stands, and no other file but the list was changed.
+-- No collection was begun.
 pub record CreatesIndex {D W C : Type 0} (g : Ghosts D W C) (before : D) (settings : IndexSettings) (schema : List ℕ) (index : IndexState D) : Type 0 where
   pub settings_is : index.settings ≡ settings
   pub schema_is : index.schema ≡ schema
   pub kept : index.kept ≡ []
   pub saved : g.told.content → (g.view index.directory.0).reads meta_name ≡ Some (new_text (form_with settings schema))
   pub others : g.told.content → KeepsOtherFiles (g.view before).reads (g.view index.directory.0).reads meta_name
-  pub listed : g.told.content → (names : List (List ℕ)) × Lists ((g.view before).reads list_name) names × (index.directory.1 ≡ insert_key byte_cmp names meta_name)
-  pub lists : g.told.content → Lists ((g.view index.directory.0).reads list_name) index.directory.1
+  pub listed : g.told.content → (names : List (List ℕ)) × Lists ((g.view before).reads list_name) names × (index.directory.1.managed ≡ insert_key byte_cmp names meta_name)
+  pub lists : g.told.content → Lists ((g.view index.directory.0).reads list_name) index.directory.1.managed
+  pub collections : index.directory.1.collections ≡ no_collections
   pub quiet : (g.view index.directory.0).faults ≡ (g.view before).faults
   pub notes : (g.view index.directory.0).watched ≡ noted meta_name (g.view before).watched
   pub frame : FrameNotes g.told (g.view before) (g.view index.directory.0)
 
--- A new index of this form in memory: no name is managed but `meta.json`, which has its first commit, and the list lists it; there is no other file.
+-- A new index of this form in memory: no name is managed but `meta.json`, which has its first commit, and the list lists it; there is no other file. No collection was
+-- begun.
 pub record IsNewInRam {C : Type 0} (settings : IndexSettings) (schema : List ℕ) (index : IndexState (RamDirectory C)) : Type 0 where
   pub settings_is : index.settings ≡ settings
   pub schema_is : index.schema ≡ schema
   pub kept : index.kept ≡ []
-  pub managed : index.directory.1 ≡ meta_name ∷ []
+  pub managed : index.directory.1.managed ≡ meta_name ∷ []
+  pub collections : index.directory.1.collections ≡ no_collections
   pub saved : ram_reads index.directory.0 meta_name ≡ Some (new_text (form_with settings schema))
-  pub lists : Lists (ram_reads index.directory.0 list_name) index.directory.1
+  pub lists : Lists (ram_reads index.directory.0 list_name) index.directory.1.managed
   pub others : (n : List ℕ) → n ≢ meta_name → n ≢ list_name → ram_reads index.directory.0 n ≡ None
 
 -- It doesn't stand, and the directory comes back. `meta.json` has the text of the first commit, or what it had; after want of memory what it had. Where the list was
@@ -106,7 +115,7 @@ pub record NotCreated {D W C : Type 0} (g : Ghosts D W C) (before : D) (form : I
   pub cause : ListRefusal g.told (g.view before) (g.view now) error
   pub frame : FrameNotes g.told (g.view before) (g.view now)
 
--- The managed names, the settings and the schema stay, and of the directory below what such a call keeps.
+-- The managed names, the unfinished collections, the settings and the schema stay, and of the directory below what such a call keeps.
 pub record KeepsForm {D W : Type 0} (keeps : View W → View W → Type 0) (view : D → View W) (old new : IndexState D) : Type 0 where
   pub directory : KeepsNames keeps view old.directory new.directory
   pub settings : new.settings ≡ old.settings
@@ -138,3 +147,13 @@ MeansSuch schema read P = ReadsSuch read (λ bytes. (settings : Settings) × (co
 pub record LoadsShares {D W C : Type 0} (g : Ghosts D W C) (old new : IndexState D) (shares : List Share) : Type 0 where
   pub means : g.told.content → MeansSuch old.schema ((g.view old.directory.0).reads meta_name) (λ commit. commit.segments ≡ map (λ s. s.1) shares)
   pub tracks : TrackAll shares old.kept new.kept
+
+-- a segment that is kept has this id, or a managed name begins with it
+abbrev pub is_id_used : {D : Type 0} → IndexState D → List ℕ → Bool
+is_id_used index id = has_id index.kept id || is_named index.directory.1.managed id
+
+-- Why there is no new segment of this id: the id is in use, and the text is its digits; or memory was wanted.
+abbrev pub NewSegmentCause : {D : Type 0} → IndexState D → List ℕ → TantivyError → Type 0
+NewSegmentCause index id (errors.IdInUse text) = (is_id_used index id ≡ true) × (string_bytes text ≡ encode_lower id)
+NewSegmentCause index id errors.Memory = Unit {0}
+NewSegmentCause index id other = ⊥

@@ -3,6 +3,8 @@ use Rattle.std.specs.Prelude.{◌≡◌, ◌⊎◌, ◌++◌, ◌∷◌, [], ℕ
 use Rattle.tv_base.specs.declared.error.TantivyError.{TantivyError}
 use Rattle.tv_directory.specs.declared.directory.Directory.{Ghosts}
 use Rattle.tv_managed.specs.Managed.{KeepsOtherFiles}
+use Rattle.tv_managed.specs.Names.{ManagedNames}
+use Rattle.tv_model.specs.Collections.{no_collections}
 use Rattle.tv_model.specs.Commits.{Commit, IndexForm, Settings, first_commit, printed}
 use Rattle.tv_model.specs.Files.{Reads, Rose, Same}
 use Rattle.tv_model.specs.Index.{managed_with}
@@ -49,12 +51,13 @@ pub record LeavesUnmade (old new : Reads) (text : List ℕ) : Type 0 where
   pub others : KeepsOtherFiles old new meta_name
   pub made : old meta_name ≡ None → (new meta_name ≡ None) ⊎ (new meta_name ≡ Some text)
 
--- An index is open in this directory: the one that stood there under the form's schema, or a new one of this form.
-pub record OpensForm {D W C : Type 0} (g : Ghosts D W C) (before : D) (form : IndexForm) (now : D × List (List ℕ)) (meta : UntrackedIndexMeta) : Type 0 where
+-- An index is open in this directory: the one that stood there under the form's schema, or a new one of this form. No collection was begun.
+pub record OpensForm {D W C : Type 0} (g : Ghosts D W C) (before : D) (form : IndexForm) (now : D × ManagedNames) (meta : UntrackedIndexMeta) : Type 0 where
   pub has : HasCommit form.schema meta
-  pub finds : g.told.content → FindsAmong (g.view before).reads form (form_of meta) (commit_of meta) now.1
+  pub finds : g.told.content → FindsAmong (g.view before).reads form (form_of meta) (commit_of meta) now.1.managed
   pub left : g.told.content → LeavesMade (g.view before).reads (g.view now.0).reads (new_text form)
-  pub lists : g.told.content → Lists ((g.view now.0).reads list_name) now.1
+  pub lists : g.told.content → Lists ((g.view now.0).reads list_name) now.1.managed
+  pub collections : now.1.collections ≡ no_collections
   pub quiet : (g.view now.0).faults ≡ (g.view before).faults
   pub frame : FrameNotes g.told (g.view before) (g.view now.0)
 
@@ -72,17 +75,18 @@ pub record IsFirst (form : IndexForm) (meta : UntrackedIndexMeta) : Type 0 where
   pub has : HasCommit form.schema meta
 
 -- The same behind the list of managed names, which was read: the index that stood there, or a new one, and its managed names.
-pub record LoadsOrCreates {D W C : Type 0} (g : Ghosts D W C) (old new : D × List (List ℕ)) (form : IndexForm) (meta : UntrackedIndexMeta) : Type 0 where
+pub record LoadsOrCreates {D W C : Type 0} (g : Ghosts D W C) (old new : D × ManagedNames) (form : IndexForm) (meta : UntrackedIndexMeta) : Type 0 where
   pub has : HasCommit form.schema meta
   pub found : g.told.content → FindsOrMakes form ((g.view old.0).reads meta_name) (settings_of meta) (commit_of meta)
-  pub managed : g.told.content → new.1 ≡ managed_with ((g.view old.0).reads meta_name) old.1
+  pub managed : g.told.content → new.1.managed ≡ managed_with ((g.view old.0).reads meta_name) old.1.managed
+  pub collections : new.1.collections ≡ old.1.collections
   pub left : g.told.content → LeavesMade (g.view old.0).reads (g.view new.0).reads (new_text form)
-  pub lists : g.told.content → Lists ((g.view old.0).reads list_name) old.1 → Lists ((g.view new.0).reads list_name) new.1
+  pub lists : g.told.content → Lists ((g.view old.0).reads list_name) old.1.managed → Lists ((g.view new.0).reads list_name) new.1.managed
   pub quiet : (g.view new.0).faults ≡ (g.view old.0).faults
   pub frame : FrameNotes g.told (g.view old.0) (g.view new.0)
 
 -- it wasn't opened
-pub record NotLoaded {D W C : Type 0} (g : Ghosts D W C) (old : D × List (List ℕ)) (now : D) (form : IndexForm) (error : TantivyError) : Type 0 where
+pub record NotLoaded {D W C : Type 0} (g : Ghosts D W C) (old : D × ManagedNames) (now : D) (form : IndexForm) (error : TantivyError) : Type 0 where
   pub left : g.told.content → LeavesUnmade (g.view old.0).reads (g.view now).reads (new_text form)
   pub unchanged : g.told.content → IsRefusedBytes error → Same (g.view old.0).reads (g.view now).reads
   pub cause : LoadCause g.told.content form.schema ((g.view old.0).reads meta_name) (Rose (g.view old.0).faults (g.view now).faults) ((g.view now).faults ≡ (g.view old.0).faults) error

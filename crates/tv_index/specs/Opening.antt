@@ -5,7 +5,9 @@ use Rattle.tv_base.specs.declared.error.TantivyError.{TantivyError}
 use Rattle.tv_base.specs.declared.error.TantivyError.TheVariants as errors
 use Rattle.tv_directory.specs.declared.directory.Directory.{Ghosts}
 use Rattle.tv_managed.specs.Managed.{KeepsOtherFiles}
+use Rattle.tv_managed.specs.Names.{ManagedNames}
 use Rattle.tv_managed.specs.Wrapping.{ListsNothing}
+use Rattle.tv_model.specs.Collections.{no_collections}
 use Rattle.tv_model.specs.Commits.{Commit, IndexForm, IsCommit, default_settings, first_commit, printed}
 use Rattle.tv_model.specs.Files.{Reads, Rose, Same}
 use Rattle.tv_model.specs.Index.{FindsCommit, managed_with}
@@ -85,12 +87,13 @@ pub record LeavesFound (old new : Reads) (schema : List ℕ) : Type 0 where
   pub others : KeepsOtherFiles old new meta_name
   pub made : old meta_name ≡ None → new meta_name ≡ Some (first_text schema)
 
--- An index with this schema is open in this directory: the one that stood there, or a new one.
-pub record OpensIndex {D W C : Type 0} (g : Ghosts D W C) (before : D) (schema : List ℕ) (now : D × List (List ℕ)) (meta : UntrackedIndexMeta) : Type 0 where
+-- An index with this schema is open in this directory: the one that stood there, or a new one. No collection was begun.
+pub record OpensIndex {D W C : Type 0} (g : Ghosts D W C) (before : D) (schema : List ℕ) (now : D × ManagedNames) (meta : UntrackedIndexMeta) : Type 0 where
   pub has : HasCommit schema meta
-  pub finds : g.told.content → Finds (g.view before).reads (form_of meta) (commit_of meta) now.1
+  pub finds : g.told.content → Finds (g.view before).reads (form_of meta) (commit_of meta) now.1.managed
   pub left : g.told.content → LeavesFound (g.view before).reads (g.view now.0).reads schema
-  pub lists : g.told.content → Lists ((g.view now.0).reads list_name) now.1
+  pub lists : g.told.content → Lists ((g.view now.0).reads list_name) now.1.managed
+  pub collections : now.1.collections ≡ no_collections
   pub quiet : (g.view now.0).faults ≡ (g.view before).faults
   pub frame : FrameNotes g.told (g.view before) (g.view now.0)
 

@@ -8,7 +8,7 @@ use Rattle.tv_base.specs.declared.io.IoError.{IoError}
 use Rattle.tv_directory.specs.View.{View, Told, Frame}
 use Rattle.tv_directory.specs.Watch.{MayNote, noted}
 use Rattle.tv_directory.specs.declared.directory.Directory.{Ghosts}
-use Rattle.tv_managed.specs.Managed.{KeepsList, Registers}
+use Rattle.tv_managed.specs.Names.{ManagedNames}
 use Rattle.tv_model.specs.Commits.{Commit, Settings, printed}
 use Rattle.tv_model.specs.Files.{Rose}
 use Rattle.tv_model.specs.Listing.{Lists}
@@ -21,16 +21,11 @@ pub record FrameNotes {W : Type 0} (told : Told) (old new : View W) : Type 0 whe
   pub watched : MayNote meta_name old.watched new.watched
 
 -- The text is that of `meta.json`, which is managed, and a notice of it stands.
-pub record SavesMeta {D W C : Type 0} (g : Ghosts D W C) (old new : D × List (List ℕ)) (text : List ℕ) : Type 0 where
-  pub names : new.1 ≡ insert_key byte_cmp old.1 meta_name
+pub record SavesMeta {D W C : Type 0} (g : Ghosts D W C) (old new : D × ManagedNames) (text : List ℕ) : Type 0 where
+  pub names : new.1 ≡ record old.1 { managed = insert_key byte_cmp old.1.managed meta_name }
   pub saved : g.told.content → (g.view new.0).reads meta_name ≡ Some text
-  pub list : g.told.content → Lists ((g.view old.0).reads list_name) old.1 → Lists ((g.view new.0).reads list_name) new.1
+  pub list : g.told.content → Lists ((g.view old.0).reads list_name) old.1.managed → Lists ((g.view new.0).reads list_name) new.1.managed
   pub notes : (g.view new.0).watched ≡ noted meta_name (g.view old.0).watched
-
--- `meta.json` is managed afterwards; after an error the managed names are as they were, or it is one more. The list on the device goes on having each of them.
-pub record ManagesMeta {A E D W C : Type 0} (g : Ghosts D W C) (old new : D × List (List ℕ)) (result : Result A E) : Type 0 where
-  pub names : Registers old.1 new.1 meta_name result
-  pub list : KeepsList g old new result
 
 -- After an error `meta.json` has this text, or what it had; after want of memory what it had.
 pub record LeavesText {A D W C : Type 0} (g : Ghosts D W C) (old new : D) (text : List ℕ) (result : Result A IoError) : Type 0 where
@@ -58,7 +53,7 @@ pub record LeavesOne {A D W C : Type 0} (g : Ghosts D W C) (old new : D) (text :
   pub memory : g.told.content → IfErr result (SaveCause (Unit {0}) ((g.view new).reads meta_name ≡ (g.view old).reads meta_name))
 
 -- `meta.json`, which is managed, has the text of this commit, and means it. After an error it has that text, or what it had.
-pub record SavesCommit {A D W C : Type 0} (g : Ghosts D W C) (old new : D × List (List ℕ)) (settings : Settings) (schema : List ℕ) (commit : Commit) (result : Result A TantivyError) : Type 0 where
+pub record SavesCommit {A D W C : Type 0} (g : Ghosts D W C) (old new : D × ManagedNames) (settings : Settings) (schema : List ℕ) (commit : Commit) (result : Result A TantivyError) : Type 0 where
   pub saves : OnOk result (SavesMeta g old new (saved_text settings schema commit))
   pub means : Means settings schema (saved_text settings schema commit) commit
   pub leaves : LeavesOne g old.0 new.0 (saved_text settings schema commit) result

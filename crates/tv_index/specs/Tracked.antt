@@ -1,5 +1,5 @@
 -- The segments of an inventory.
-use Rattle.std.specs.Prelude.{ℕ, ◌≡◌, ◌≤◌, true, List, [], ◌∷◌, None, find}
+use Rattle.std.specs.Prelude.{ℕ, ◌≡◌, ◌≤◌, Bool, true, List, [], ◌∷◌, None, find}
 use Rattle.std.specs.List.{list_any}
 use Rattle.tv_base.specs.declared.inventory.Entry.{Entry}
 use Rattle.tv_base.specs.Entries.{is_at, is_full, one_more, released, tracked}
@@ -7,6 +7,7 @@ use Rattle.tv_base.specs.declared.error.TantivyError.{TantivyError}
 use Rattle.tv_base.specs.declared.error.TantivyError.TheVariants as errors
 use Rattle.tv_base.specs.Places.{change_at}
 use Rattle.tv_model.specs.declared.segment.LiveSegment.{LiveSegment}
+use Rattle.tv_model.specs.Names.{is}
 use Rattle.tv_model.specs.Segments.{name_of, num_deleted}
 use Rattle.tv_model.specs.declared.segment.SegmentComponent.{SegmentComponent}
 use Rattle.tv_index.specs.declared.segment_meta.InnerSegmentMeta.{InnerSegmentMeta}
@@ -34,6 +35,10 @@ share_of e = (e.number, entry_of e.value)
 -- the name of a file of a shared segment
 abbrev pub file_of : Share → SegmentComponent → List ℕ
 file_of share component = name_of share.1.0 share.1.1.deletes component
+
+-- a segment that is kept has this id
+abbrev pub has_id : Kept → List ℕ → Bool
+has_id kept id = list_any (λ e. is e.value.segment_id id) kept
 
 -- Why no share of every segment is given: of one as many are out as can be counted, or memory was wanted.
 abbrev pub ShareAllCause : Kept → TantivyError → Type 0

@@ -7,7 +7,9 @@ ghost use Rattle.tv_directory.specs.Calls.{AskFaults};
 ghost use Rattle.tv_directory.specs.View.{OnlyReads};
 ghost use Rattle.tv_model.specs.Commits.{new_form};
 ghost use Rattle.tv_model.specs.Names.{meta_name};
+ghost use Rattle.tv_model.specs.SegmentEvents.{fresh_segment};
 ghost use Rattle.tv_index.specs.Indexes.{CreatesIndex, IsNewInRam, KeepsForm, KeepsIndex, LoadsCommit, LoadsShares, MeansSuch};
+ghost use Rattle.tv_index.specs.Indexes.{NewSegmentCause, is_id_used};
 ghost use Rattle.tv_index.specs.Indexes.{NotCreated, NotStanding, OpensIndexOf, OpensStanding};
 ghost use Rattle.tv_index.specs.Lending.{lends_directory, lends_inventory, lends_settings};
 ghost use Rattle.tv_index.specs.NewForms.{NotOpenedForm, form_with};
@@ -18,6 +20,7 @@ ghost use Rattle.tv_index.specs.Tracked.{ShareAllCause, Tracks, share_of};
 use crate::index_builder::IndexBuilder;
 use crate::index_meta::UntrackedIndexMeta;
 use crate::index_settings::IndexSettings;
+use crate::naming::is_named;
 use crate::opening::{create, load_meta, open_or_create_with, settled};
 use crate::refusals::error_of;
 use crate::schema::Schema;
@@ -332,6 +335,40 @@ impl<D: Directory> Index<D> {
         ensures others { self.new ≡ record self.old { kept = self.new.kept } }
     {
         self.inventory.new_segment_meta(segment_id, max_doc)
+    }
+
+    // Whether a segment of the inventory has this id, or a managed name begins with it.
+    fn is_id_used(&self, alloc: Global, segment_id: SegmentId) -> Result<bool, Memory>
+        ensures { IfOk result (λ used. used ≡ is_id_used self.now segment_id) }
+    {
+        if self.inventory.has_id(segment_id) {
+            return Ok(true);
+        }
+        let digits = segment_id.uuid_string(alloc)?;
+        Ok(is_named(self.directory.list_managed_files(), segment_id, digits))
+    }
+
+    /// A new segment, which has no documents yet and no deletes.
+    ///
+    /// `IdInUse` with the digits of the id comes exactly where a segment of the inventory has the
+    /// id, or a managed name begins with it.
+    pub fn new_segment(
+        &mut self,
+        alloc: Global,
+        segment_id: SegmentId,
+    ) -> Result<Segment, TantivyError>
+        ensures ok { IfOk result
+            (Tracks (segment_id, fresh_segment) self.old.kept self.new.kept) }
+        ensures err { OnErr result (self.new.kept ≡ self.old.kept) }
+        ensures cause { MatchResult result (λ _. is_id_used self.old segment_id ≡ false)
+            (NewSegmentCause self.old segment_id) }
+        ensures others { self.new ≡ record self.old { kept = self.new.kept } }
+    {
+        if self.is_id_used(alloc, segment_id)? {
+            return Err(TantivyError::IdInUse(segment_id.uuid_string(alloc)?));
+        }
+        let meta = self.inventory.new_segment_meta(segment_id, 0)?;
+        Ok(Segment::new(meta))
     }
 
     /// A share of every segment of the inventory, in the order in which they were tracked.

@@ -1,7 +1,8 @@
 //! How an index is opened, or made where there is none.
-ghost use Rattle.std.specs.Prelude.{◌≡◌, ◌<◌, ◌^◌, IfOk, IfErr, IfSome, OnOk, option_map};
+ghost use Rattle.std.specs.Prelude.{◌≡◌, ◌<◌, ◌^◌, IfOk, IfErr, IfSome, OnOk, false, option_map};
+ghost use Rattle.tv_model.specs.Collections.{held};
 ghost use Rattle.tv_model.specs.Commits.{first_commit};
-ghost use Rattle.tv_model.specs.Names.{meta_name};
+ghost use Rattle.tv_model.specs.Names.{has, meta_name};
 ghost use Rattle.tv_directory.specs.Calls.{IoFaults};
 ghost use Rattle.tv_directory.specs.View.{OnlyReads};
 ghost use Rattle.tv_managed.specs.Frames.{KeepsNames};
@@ -118,6 +119,7 @@ pub(crate) fn create<D: Directory>(
     schema: &Schema,
     settings: &IndexSettings,
 ) -> Result<(), IoError>
+    requires { has (held directory.old.1.collections) meta_name ≡ false }
     ensures saves { OnOk result (SavesMeta D.Directory directory.old directory.new
         (new_text (form_with settings.now schema.now))) }
     ensures others { D.told.content → KeepsOtherFiles (D.view directory.old.0).reads
@@ -139,6 +141,7 @@ fn load_or_create<D: Directory>(
     schema: &Schema,
     settings: IndexSettings,
 ) -> Result<UntrackedIndexMeta, TantivyError>
+    requires { has (held directory.old.1.collections) meta_name ≡ false }
     ensures ok { IfOk result (LoadsOrCreates D.Directory directory.old directory.new
         (form_with settings schema.now)) }
     ensures err { IfErr result (NotLoaded D.Directory directory.old directory.new.0

@@ -1,11 +1,12 @@
 //! How the text of `meta.json` is saved.
-ghost use Rattle.std.specs.Prelude.{◌≡◌, ◌<◌, ◌^◌, IfOk, OnOk, map};
+ghost use Rattle.std.specs.Prelude.{◌≡◌, ◌<◌, ◌^◌, IfOk, OnOk, false, map};
 ghost use Rattle.std.specs.List.{AllByRecursion};
+ghost use Rattle.tv_model.specs.Collections.{held};
 ghost use Rattle.tv_model.specs.Commits.{Commit, IsCommit, IsSegment};
-ghost use Rattle.tv_model.specs.Names.{meta_name};
+ghost use Rattle.tv_model.specs.Names.{has, meta_name};
 ghost use Rattle.tv_directory.specs.Calls.{IoFaults};
-ghost use Rattle.tv_managed.specs.Managed.{KeepsOtherFiles};
-ghost use Rattle.tv_index.specs.Saving.{FrameNotes, LeavesText, ManagesMeta, SaveFaults, SavesCommit, SavesMeta, saved_text};
+ghost use Rattle.tv_managed.specs.Managed.{KeepsOtherFiles, ManagesFile};
+ghost use Rattle.tv_index.specs.Saving.{FrameNotes, LeavesText, SaveFaults, SavesCommit, SavesMeta, saved_text};
 ghost use Rattle.tv_index.specs.Schemas.{HasSchemaTree};
 ghost use Rattle.tv_index.specs.TrackedMetas.{IsInOrder, tracked_commit, tracked_settings};
 
@@ -18,16 +19,18 @@ use tv_managed::ManagedDirectory;
 use tv_model::Memory;
 
 /// Makes these bytes the text of `meta.json`, by one atomic write. The directory is synced before and
-/// afterwards. After an error `meta.json` may be managed, where it wasn't before.
+/// afterwards. After an error `meta.json` may be managed, where it wasn't before. No unfinished
+/// collection may have it.
 pub fn save_meta_text<D: Directory>(
     directory: &mut ManagedDirectory<D>,
     text: &[u8],
 ) -> Result<(), IoError>
+    requires { has (held directory.old.1.collections) meta_name ≡ false }
     ensures saves { OnOk result (SavesMeta D.Directory directory.old directory.new text.now) }
     ensures others { D.told.content → KeepsOtherFiles (D.view directory.old.0).reads
         (D.view directory.new.0).reads meta_name }
     ensures leaves { LeavesText D.Directory directory.old.0 directory.new.0 text.now result }
-    ensures managed { ManagesMeta D.Directory directory.old directory.new result }
+    ensures manages { ManagesFile D.Directory directory.old directory.new meta_name result }
     ensures faults { IoFaults (D.view directory.old.0) (D.view directory.new.0) result }
     ensures frame { FrameNotes D.told (D.view directory.old.0) (D.view directory.new.0) }
 {
@@ -76,18 +79,19 @@ fn saved_text(alloc: Global, meta: &IndexMeta) -> Result<Vec<u8>, Memory>
 ///
 /// The directory is synced before and afterwards. An `IoError` comes where the device refused a call,
 /// and `Memory` where memory was wanted; then `meta.json` has what it had. After an error `meta.json`
-/// may be managed, where it wasn't before.
+/// may be managed, where it wasn't before. No unfinished collection may have it.
 pub fn save_metas<D: Directory>(
     alloc: Global,
     meta: &IndexMeta,
     directory: &mut ManagedDirectory<D>,
 ) -> Result<(), TantivyError>
+    requires { has (held directory.old.1.collections) meta_name ≡ false }
     ensures saves { (commit : Commit) → IsInOrder (tracked_commit meta.now) commit
         → SavesCommit D.Directory directory.old directory.new (tracked_settings meta.now)
         meta.now.schema commit result }
     ensures others { D.told.content → KeepsOtherFiles (D.view directory.old.0).reads
         (D.view directory.new.0).reads meta_name }
-    ensures managed { ManagesMeta D.Directory directory.old directory.new result }
+    ensures manages { ManagesFile D.Directory directory.old directory.new meta_name result }
     ensures faults { SaveFaults (D.view directory.old.0) (D.view directory.new.0) result }
     ensures frame { FrameNotes D.told (D.view directory.old.0) (D.view directory.new.0) }
 {

@@ -1,8 +1,7 @@
 //! The files of a segment, in the directory of its index.
 ghost use Rattle.std.specs.Prelude.{◌≡◌, ℕ, List, IfOk};
-ghost use Rattle.tv_directory.specs.Calls.{OpenFaults};
 ghost use Rattle.tv_directory.specs.View.{Kept, OnlyReads};
-ghost use Rattle.tv_managed.specs.Managed.{Creates, KeepsList, Registers};
+ghost use Rattle.tv_managed.specs.Managed.{CreateFaults, Creates, ManagesFile};
 ghost use Rattle.tv_managed.specs.Reading.{BodyFaults, ReadsBody};
 ghost use Rattle.tv_managed.specs.Writers.{IsNewManaged};
 ghost use Rattle.tv_index.specs.Indexes.{KeepsBeside, KeepsIndex};
@@ -38,7 +37,7 @@ impl Segment {
     }
 
     /// Makes a file of the segment, as `ManagedDirectory::open_write` does. `FileAlreadyExists`
-    /// comes where its name reads.
+    /// comes where its name reads, `Leaving` where an unfinished collection has it.
     pub fn open_write<D: Directory>(
         &self,
         alloc: Global,
@@ -49,11 +48,10 @@ impl Segment {
             (file_of self.now component)) }
         ensures creates { Creates D.Directory index.old.directory index.new.directory
             (file_of self.now component) result }
-        ensures names { Registers index.old.directory.1 index.new.directory.1
+        ensures manages { ManagesFile D.Directory index.old.directory index.new.directory
             (file_of self.now component) result }
-        ensures list { KeepsList D.Directory index.old.directory index.new.directory result }
-        ensures faults { OpenFaults D.told (D.view index.old.directory.0)
-            (D.view index.new.directory.0) (file_of self.now component) result }
+        ensures faults { CreateFaults D.Directory index.old.directory index.new.directory
+            (file_of self.now component) result }
         ensures frame { KeepsBeside (Kept D.told) D.view index.old index.new }
     {
         let name = self.meta().file_name(alloc, component)?;

@@ -8,7 +8,7 @@ ghost use Rattle.tv_model.specs.Living.{segment_names};
 ghost use Rattle.tv_model.specs.Names.{has, list_name};
 ghost use Rattle.tv_model.specs.Segments.{delete_opstamp, name_of, num_deleted, num_docs};
 ghost use Rattle.tv_index.specs.Segments.{entry_of};
-ghost use Rattle.tv_index.specs.Tracked.{IsWithin, Retracks, ShareAllCause, Shares, Tracks, file_of, share_of};
+ghost use Rattle.tv_index.specs.Tracked.{IsWithin, Retracks, ShareAllCause, Shares, Tracks, file_of, has_id, share_of};
 
 use crate::segment_meta::InnerSegmentMeta;
 use std::alloc::Global;
@@ -325,6 +325,16 @@ impl SegmentMetaInventory {
             Ok(()) => Ok(shares),
             Err(Exhausted) => Err(TantivyError::Exhausted),
         }
+    }
+
+    // Whether a segment has this id.
+    pub(crate) fn has_id(&self, id: SegmentId) -> bool
+        ensures { result ≡ has_id self.now id }
+    {
+        self.segments
+            .entries()
+            .iter()
+            .any(|e| e.value.segment_id == id)
     }
 
     // Takes a segment in.

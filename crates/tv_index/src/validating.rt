@@ -30,7 +30,7 @@ impl<D: Directory> Index<D> {
         ensures damaged { D.told.content → IfOk result (λ damaged. MeansSuch self.old.schema
             ((D.view self.old.directory.0).reads meta_name)
             (λ commit. AreDamaged (D.view self.old.directory.0).reads
-            (looked_at commit self.old.directory.1) (map string_bytes damaged.keys))) }
+            (looked_at commit self.old.directory.1.managed) (map string_bytes damaged.keys))) }
         ensures faults { ValidateFaults D.Directory self.old.directory self.new.directory.0
             self.old.schema result }
         ensures frame { KeepsIndex (OnlyReads D.told) D.view self.old self.new }

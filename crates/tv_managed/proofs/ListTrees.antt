@@ -18,7 +18,7 @@ use Rattle.tv_base.specs.Causes.{OpenReadCause}
 use Rattle.tv_base.specs.declared.open_errors.OpenReadError.{OpenReadError}
 use Rattle.tv_base.specs.declared.open_errors.OpenReadError.TheVariants.{FileDoesNotExist}
 use Rattle.tv_managed.specs.ListTrees.{name_of, names_in, put_items}
-use Rattle.tv_managed.specs.Managed.{AreManaged}
+use Rattle.tv_managed.specs.Names.{AreManaged}
 use Rattle.tv_managed.specs.Wrapping.{ListsNothing}
 
 kept : (b : Bool) (t s : List ℕ) → (if b then Some t else None) ≡ Some s → (b ≡ true) × (t ≡ s)

@@ -1,57 +1,75 @@
 -- How a save of the list keeps track.
-use Rattle.std.proofs.Common.{◌≡◌, ℕ, true, List, [], refl, sym, ap, subst, ◌∙◌, Option, None, Some, Result, Ok}
+use Rattle.std.proofs.Common.{◌≡◌, ℕ, true, false, true≢false, List, [], refl, sym, ap, subst, ◌∙◌, Option, None, Some, Result, Ok}
 use Rattle.json.proofs.OnLiterals.{json_on_literals}
 use Rattle.serde_json.specs.Data.{array}
-use Rattle.tv_model.specs.Disk.{DiskState, Absent, Unsealed, Sealed, MayRead, Disk, possible_now, IsSettledAt}
+use Rattle.tv_model.specs.Disk.{DiskState, Absent, Unsealed, Sealed, IsThere, MayRead, Possible, Disk, possible_now, IsSettledAt, Throughout}
+use Rattle.tv_model.specs.Collections.{no_collections}
 use Rattle.tv_model.specs.Listed.{IsAList, ListsEachFile}
 use Rattle.tv_model.specs.Listing.{IsListOf, Lists, list_text}
 use Rattle.tv_model.specs.Names.{has, is_undotted, list_name}
 use Rattle.tv_model.proofs.Entries.{has_inserted}
 use Rattle.tv_model.proofs.ListTexts.{lists_one}
 use Rattle.tv_base.specs.declared.io.IoError.{IoError}
-use Rattle.tv_directory.specs.Images.{StandsNow}
+use Rattle.tv_directory.specs.Images.{KeepsOtherStates, StandsNow}
 use Rattle.tv_directory.specs.View.{View}
 use Rattle.tv_directory.specs.declared.directory.Directory.{Ghosts}
-use Rattle.tv_managed.specs.Crashes.{IsCovered, IsTracked, KeepsTrack, SavesManaged, SavesText, TouchesOnly, Tracks}
-use Rattle.tv_managed.specs.Managed.{registered}
-use Rattle.tv_managed.proofs.Tracking.{at_end, covered_list, covered_saved, lists_covered, track_same, weaker}
-use Rattle.tv_managed.proofs.Touching.{touches_list, touches_same}
+use Rattle.tv_managed.specs.Crashes.{IsCovered, IsTracked, KeepsTrack, ListsName, SavesManaged, SavesText}
+use Rattle.tv_managed.specs.Managed.{registered, registering}
+use Rattle.tv_managed.specs.Names.{ManagedNames, done_names}
+use Rattle.tv_managed.proofs.Tracking.{AreGone, at_end, covered_list, covered_saved, isnt_the_list, track_same, weaker}
+use Rattle.tv_managed.proofs.Touching.{Gains, OneState, adds_run, gained_same}
 
 -- nothing was done
-pub tracks_same : {D W C : Type 0} (g : Ghosts D W C) {old new : D × List (List ℕ)} → new.0 ≡ old.0 → new.1 ≡ old.1 → Tracks g old new
-tracks_same g {old} {new} same names = record {
+pub lists_same : {D W C : Type 0} (g : Ghosts D W C) (name : List ℕ) {old new : D × ManagedNames} → new.0 ≡ old.0 → new.1 ≡ old.1 → ListsName g old new name
+lists_same g name {old} {new} same names = record {
   tracks = λ was. subst (λ v. KeepsTrack g old v) (ap (λ d. (d, old.1)) (sym same) ∙ ap (λ l. (new.0, l)) (sym names)) (track_same g was);
-  touches = subst (λ d. TouchesOnly (λ n. n ≡ list_name) (g.disk old.0) (g.disk d)) (sym same) (touches_same (g.disk old.0) _);
+  moments = adds_run (subst (λ d. Throughout (Gains (OneState list_name (Sealed (list_text (registered old.1.managed name)))) (possible_now (g.disk old.0))) (g.disk old.0) (g.disk d)) (sym same) (gained_same _ (g.disk old.0)));
+  others = λ n other. ap (λ d. (g.disk d).now n) same;
 }
 
--- The list of more names was saved, or may have been: the fewer ones are still those of each file.
-saved_or_not : {A D W C : Type 0} (g : Ghosts D W C) {old new : D × List (List ℕ)} {put : List (List ℕ)} {result : Result A IoError} → SavesText (g.disk old.0) (g.disk new.0) (list_text put) result → IsListOf (list_text put) put
-    → ((n : List ℕ) → has old.1 n ≡ true → has put n ≡ true) → new.1 ≡ old.1 → IsTracked g old → KeepsTrack g old new
-saved_or_not g {new = new} saves listed more names was = record {
-  tracked = subst (IsCovered (possible_now (g.disk new.0))) (sym names) (covered_list listed more (at_end saves.moments) was);
-  moments = weaker saves.moments (λ p adds. lists_covered (covered_list listed more adds was));
+-- more names are those of each file
+files_put : {possible : Possible} {now : List ℕ → DiskState} {names : ManagedNames} (put : List (List ℕ)) → ((n : List ℕ) → has names.managed n ≡ true → has put n ≡ true) → IsCovered possible now names → (n : List ℕ) → is_undotted n ≡ true → (s : DiskState) → possible n s → IsThere s → has put n ≡ true
+files_put put more was n undotted s is there = more n (was.covers n undotted s is there)
+
+-- what is done is absent once the list was saved
+pub gone_saved : (old new : Disk) {names : ManagedNames} → KeepsOtherStates old new list_name → IsCovered (possible_now old) old.now names → AreGone new.now names
+gone_saved old new others was n undotted h = others n (isnt_the_list n undotted) ∙ was.gone n undotted h
+
+-- The list of more names was saved, or may have been: track is kept of the fewer ones.
+saved_or_not : {A D W C : Type 0} (g : Ghosts D W C) {old new : D × ManagedNames} {put : List (List ℕ)} {result : Result A IoError} → SavesText (g.disk old.0) (g.disk new.0) (list_text put) result → IsListOf (list_text put) put
+    → ((n : List ℕ) → has old.1.managed n ≡ true → has put n ≡ true) → new.1 ≡ old.1 → IsTracked g old → KeepsTrack g old new
+saved_or_not g {old} {new} saves listed more names was = record {
+  tracked = subst (IsCovered (possible_now (g.disk new.0)) (g.disk new.0).now) (sym names) (covered_list listed (files_put _ more was) (λ n h free. more n h) (at_end saves.moments) (gone_saved (g.disk old.0) (g.disk new.0) saves.others was) was);
+  moments = weaker saves.moments (λ p adds. (covered_list listed (files_put _ more was) (λ n h free. more n h) adds was.gone was).forgets_none);
 }
 
--- and where it was saved, the more ones are
-saved : {A D W C : Type 0} (g : Ghosts D W C) {old new : D × List (List ℕ)} {put : List (List ℕ)} (x : A) → SavesText (g.disk old.0) (g.disk new.0) (list_text put) (Ok x) → IsListOf (list_text put) put
-    → ((n : List ℕ) → has old.1 n ≡ true → has put n ≡ true) → new.1 ≡ put → IsTracked g old → KeepsTrack g old new
-saved g {new = new} x saves listed more names was = record {
-  tracked = subst (IsCovered (possible_now (g.disk new.0))) (sym names) (covered_saved listed more saves.ok (covered_list listed more (at_end saves.moments) was));
-  moments = weaker saves.moments (λ p adds. lists_covered (covered_list listed more adds was));
-}
+-- and where it was saved, of the more ones
+saved : {A D W C : Type 0} (g : Ghosts D W C) {old new : D × ManagedNames} {put : List (List ℕ)} (x : A) → SavesText (g.disk old.0) (g.disk new.0) (list_text put) (Ok x) → IsListOf (list_text put) put
+    → ((n : List ℕ) → has old.1.managed n ≡ true → has put n ≡ true) → new.1 ≡ record old.1 { managed = put } → IsTracked g old → KeepsTrack g old new
+saved g {old} {new} {put} x saves listed more names was =
+    let behind : IsCovered (possible_now (g.disk new.0)) (g.disk new.0).now old.1 = covered_list listed (files_put _ more was) (λ n h free. more n h) (at_end saves.moments) (gone_saved (g.disk old.0) (g.disk new.0) saves.others was) was in
+    record {
+      tracked = subst (IsCovered (possible_now (g.disk new.0)) (g.disk new.0).now) (sym names) (covered_saved listed (files_put _ more behind) saves.ok behind);
+      moments = weaker saves.moments (λ p adds. (covered_list listed (files_put _ more was) (λ n h free. more n h) adds was.gone was).forgets_none);
+    }
 
 -- a registration whose save is done
-pub tracks_saved : {A D W C : Type 0} (g : Ghosts D W C) {old mid new : D × List (List ℕ)} (x : A) → mid.0 ≡ old.0 → SavesManaged g mid new (Ok x) → ((n : List ℕ) → has old.1 n ≡ true → has mid.1 n ≡ true) → new.1 ≡ mid.1 → Tracks g old new
-tracks_saved g {old} {mid} {new} x same saves more names =
-    let from = subst (λ d. SavesText (g.disk d) (g.disk new.0) (list_text mid.1) (Ok x)) same saves.saves in
-    record { tracks = saved g x from saves.listed more names; touches = touches_list from }
+pub lists_saved : {A D W C : Type 0} (g : Ghosts D W C) (name : List ℕ) {old mid new : D × ManagedNames} (x : A) → mid.0 ≡ old.0 → SavesManaged g mid new (Ok x) → mid.1 ≡ registering old.1 name → ((n : List ℕ) → has old.1.managed n ≡ true → has (registered old.1.managed name) n ≡ true) → new.1 ≡ mid.1
+    → ListsName g old new name
+lists_saved g name {old} {mid} {new} x same saves put more names =
+    let text : list_text mid.1.managed ≡ list_text (registered old.1.managed name) = ap (λ v. list_text v.managed) put in
+    let from = subst (λ t. SavesText (g.disk old.0) (g.disk new.0) t (Ok x)) text (subst (λ d. SavesText (g.disk d) (g.disk new.0) (list_text mid.1.managed) (Ok x)) same saves.saves) in
+    let listed : IsListOf (list_text (registered old.1.managed name)) (registered old.1.managed name) = subst (λ v. IsListOf (list_text v.managed) v.managed) put saves.listed in
+    record { tracks = saved g x from listed more (names ∙ put); moments = from.moments; others = from.others }
 
 -- one that failed, after which the name was taken out
-pub tracks_refused : {A D W C : Type 0} (g : Ghosts D W C) {old mid last new : D × List (List ℕ)} {result : Result A IoError} → mid.0 ≡ old.0 → SavesManaged g mid last result → ((n : List ℕ) → has old.1 n ≡ true → has mid.1 n ≡ true)
-    → new.0 ≡ last.0 → new.1 ≡ old.1 → Tracks g old new
-tracks_refused g {old} {mid} {last} {new} {result} same saves more within names =
-    let from = subst (λ d. SavesText (g.disk d) (g.disk new.0) (list_text mid.1) result) same (subst (λ d. SavesText (g.disk mid.0) (g.disk d) (list_text mid.1) result) (sym within) saves.saves) in
-    record { tracks = saved_or_not g from saves.listed more names; touches = touches_list from }
+pub lists_refused : {A D W C : Type 0} (g : Ghosts D W C) (name : List ℕ) {old mid last new : D × ManagedNames} {result : Result A IoError} → mid.0 ≡ old.0 → SavesManaged g mid last result → mid.1 ≡ registering old.1 name
+    → ((n : List ℕ) → has old.1.managed n ≡ true → has (registered old.1.managed name) n ≡ true) → new.0 ≡ last.0 → new.1 ≡ old.1 → ListsName g old new name
+lists_refused g name {old} {mid} {last} {new} {result} same saves put more within names =
+    let text : list_text mid.1.managed ≡ list_text (registered old.1.managed name) = ap (λ v. list_text v.managed) put in
+    let from = subst (λ t. SavesText (g.disk old.0) (g.disk new.0) t result) text (subst (λ d. SavesText (g.disk d) (g.disk new.0) (list_text mid.1.managed) result) same (subst (λ d. SavesText (g.disk mid.0) (g.disk d) (list_text mid.1.managed) result) (sym within) saves.saves)) in
+    let listed : IsListOf (list_text (registered old.1.managed name)) (registered old.1.managed name) = subst (λ v. IsListOf (list_text v.managed) v.managed) put saves.listed in
+    record { tracks = saved_or_not g from listed more names; moments = from.moments; others = from.others }
 
 -- a name without a dot in front that was registered
 pub has_registered : (names : List (List ℕ)) (name : List ℕ) → is_undotted name ≡ true → has (registered names name) name ≡ true
@@ -74,13 +92,14 @@ one_read Unsealed any first second h k = absurd (not_any any)
 one_read (Sealed bytes) any first second h k = h ∙ sym k
 
 -- the names of the list that reads are those of each file
-pub covered_read : {W : Type 0} (view : View W) (disk : Disk) (names : List (List ℕ)) → StandsNow view disk → Lists (view.reads list_name) names → IsSettledAt disk list_name → ListsEachFile (possible_now disk) → IsCovered (possible_now disk) names
-covered_read view disk names stands lists settled each = record {
-  lists = each.lists;
+pub covered_read : {W : Type 0} (view : View W) (disk : Disk) (names : ManagedNames) → StandsNow view disk → Lists (view.reads list_name) names.managed → names.collections ≡ no_collections → IsSettledAt disk list_name → ListsEachFile (possible_now disk) → IsCovered (possible_now disk) disk.now names
+covered_read view disk names stands lists none settled each = record {
+  forgets_none = each;
   covers = λ n undotted s is there.
       let on = each.each n undotted s is there (disk.now list_name) (stands.possible list_name) (view.reads list_name) (stands.reads list_name) in
-      ap (λ ns. has ns n) (lists_one (view.reads list_name) names on.0 lists on.1) ∙ on.2;
-  listed = λ n h l of_list read may.
+      ap (λ ns. has ns n) (lists_one (view.reads list_name) names.managed on.0 lists on.1) ∙ on.2;
+  listed = λ n h free l of_list read may.
       let one = one_read (disk.now list_name) (each.lists (disk.now list_name) (stands.possible list_name)) (view.reads list_name) read (stands.reads list_name) (subst (λ s. MayRead s read) (settled l of_list) may) in
-      (names, subst (λ r. Lists r names) one lists, h);
+      (names.managed, subst (λ r. Lists r names.managed) one lists, h);
+  gone = λ n undotted h. absurd (true≢false (sym h ∙ ap (λ v. has (done_names v) n) none));
 }

@@ -15,7 +15,7 @@ use Rattle.tv_model.specs.Names.{byte_cmp, is, has, is_plain}
 use Rattle.tv_model.specs.Collections.{done_of, failed_of, without}
 use Rattle.tv_model.proofs.Entries.{is_text, remove_inserted, sorted_put}
 use Rattle.tv_model.proofs.PlainNames.{both}
-use Rattle.tv_managed.specs.Managed.{AreManaged}
+use Rattle.tv_managed.specs.Names.{AreManaged}
 use Rattle.tv_managed.proofs.SetsOfTexts.{bytes_removed}
 
 pub all_filtered : (p test : List ℕ → Bool) (names : List (List ℕ)) → list_all test names ≡ true → list_all test (filter p names) ≡ true

@@ -12,10 +12,12 @@ use Rattle.tv_base.specs.declared.open_errors.OpenWriteError.{OpenWriteError}
 use Rattle.tv_base.specs.declared.open_errors.OpenWriteError.TheVariants as write
 use Rattle.tv_directory.specs.Calls.{MayMake}
 use Rattle.tv_managed.specs.Managed.{Covers, ListsNew, ManagesNew, registered}
+use Rattle.tv_managed.specs.Names.{ManagedNames, done_names}
 
 -- whatever became of a save of names that may be more, the list that reads has the names of before
-pub covers_put : (now before : Option (List ℕ)) (names put : List (List ℕ)) → ((n : List ℕ) → has names n ≡ true → has put n ≡ true) → Lists now put ⊎ (now ≡ before) → Covers before names → Covers now names
-covers_put now before names put more either was = ⊎_elim (λ saved. (put, saved, more)) (λ kept. rw kept was) either
+pub covers_put : (now before : Option (List ℕ)) (names : ManagedNames) (put : List (List ℕ)) → ((n : List ℕ) → has names.managed n ≡ true → has (done_names names.collections) n ≡ false → has put n ≡ true) → Lists now put ⊎ (now ≡ before) → Covers before names
+    → Covers now names
+covers_put now before names put more either was = ⊎_elim (λ saved. (put, saved, more)) (λ kept. subst (λ r. Covers r names) (sym kept) was) either
 
 pub isnt_some : {X : Type 0} (o : Option X) → IsSome o → o ≡ None → ⊥
 isnt_some o h e = let k = subst IsSome e h in absurd (true≢false (sym k))
@@ -68,5 +70,5 @@ others_of_refused old new name (write.IoError fault path) h = ⊎_elim (λ same 
 others_of_refused old new name write.Memory h = λ n ne. h n
 
 -- a call that changes nothing
-pub still_covers : {D : Type 0} (reads : D → Reads) (old new : D) (before after : List (List ℕ)) → Same (reads old) (reads new) → after ≡ before → Covers (reads old list_name) before → Covers (reads new list_name) after
+pub still_covers : {D : Type 0} (reads : D → Reads) (old new : D) (before after : ManagedNames) → Same (reads old) (reads new) → after ≡ before → Covers (reads old list_name) before → Covers (reads new list_name) after
 still_covers reads old new before after same is h = subst (Covers (reads new list_name)) (sym is) (subst (λ r. Covers r before) (sym (same list_name)) h)

@@ -15,7 +15,7 @@ use Rattle.tv_model.specs.Listing.{IsListed, IsListOf, list_text}
 use Rattle.tv_model.proofs.Entries.{is_by_order, sorted_put}
 use Rattle.tv_model.proofs.ListTexts.{written_is_list}
 use Rattle.tv_model.proofs.PlainNames.{both}
-use Rattle.tv_managed.specs.Managed.{AreManaged}
+use Rattle.tv_managed.specs.Names.{AreManaged}
 
 placed : (r : Ordering) (k x : String Global) (xs : List (String Global)) (rest : List (String Global)) (rest' : List (List ℕ)) → map string_bytes rest ≡ rest'
     → map string_bytes (match_ordering r (k ∷ x ∷ xs) (x ∷ xs) (x ∷ rest)) ≡ match_ordering r (string_bytes k ∷ string_bytes x ∷ map string_bytes xs) (string_bytes x ∷ map string_bytes xs) (string_bytes x ∷ rest')

@@ -1,9 +1,9 @@
 -- What each step leaves alone of the files on a disk.
-use Rattle.std.proofs.Common.{◌≡◌, ◌≢◌, ◌≤◌, ◌<◌, ⊎_elim, ℕ, Bool, true, false, List, refl, sym, subst, ◌∙◌, inl, inr, arith, Result, Ok, Err}
+use Rattle.std.proofs.Common.{◌≡◌, ◌≢◌, ◌≤◌, ◌<◌, ⊎_elim, ℕ, Bool, true, false, List, refl, sym, ap, subst, ◌⊎◌, ◌∙◌, inl, inr, arith, Result, Ok, Err}
 use Rattle.std.proofs.lemmas.Bool.{cases_lt}
-use Rattle.tv_model.specs.Disk.{DiskState, Absent, Unsealed, Sealed, IsThere, Possible, Disk, possible_now, Within, MayAdd, Elapses, OnlyTouches, OnlyMoves}
+use Rattle.tv_model.specs.Disk.{DiskState, Absent, Unsealed, Sealed, IsThere, Possible, Disk, possible_now, Within, MayAdd, Elapses, Throughout, OnlyTouches, OnlyMoves}
 use Rattle.tv_model.specs.Names.{list_name}
-use Rattle.tv_model.proofs.DiskLaws.{HoldsOfFewer, same_then, started, goes_on, goes_on_run}
+use Rattle.tv_model.proofs.DiskLaws.{HoldsOfFewer, same, same_then, started, goes_on, goes_on_run}
 use Rattle.tv_base.specs.declared.io.IoError.{IoError}
 use Rattle.tv_base.specs.declared.io.IoError.TheVariants as io
 use Rattle.tv_base.specs.declared.open_errors.OpenWriteError.TheVariants as write
@@ -11,7 +11,8 @@ use Rattle.tv_base.specs.declared.open_errors.OpenWriteError.{OpenWriteError}
 use Rattle.tv_directory.specs.Images.{KeepsDisk, SameStates, KeepsOtherStates, GivesState, OpensState, MayOpen, WritesState}
 use Rattle.tv_directory.specs.declared.directory.Directory.{Ghosts}
 use Rattle.tv_managed.specs.Crashes.{IsCovered, IsTracked, KeepsTrack, SavesText, TouchesOnly}
-use Rattle.tv_managed.proofs.Tracking.{at_end, covered_file, covered_within, track_step, weaker}
+use Rattle.tv_managed.specs.Names.{ManagedNames}
+use Rattle.tv_managed.proofs.Tracking.{at_end, covered_file, covered_within, not_done, track_step, weaker}
 
 pub fewer_added : (possible : Possible) (name : List ℕ) (state : DiskState) → HoldsOfFewer (λ now. MayAdd possible now name state)
 fewer_added possible name state old new within was = record { each = λ n s is. was.each n s (within.each n s is) }
@@ -62,6 +63,13 @@ touches_list saves = record {
   now = record { each = saves.others };
 }
 
+-- nothing was done
+pub keeps_same : (disk : Disk) → KeepsDisk disk disk
+keeps_same disk = record {
+  states = record { now = λ n. refl; possible = same (possible_now disk) };
+  time = record { later = omega arith; past = λ x le. same (disk.possible x); inside = λ x from to. absurd (omega arith) };
+}
+
 -- two calls that only read
 pub reads_then : {old mid new : Disk} → KeepsDisk old mid → KeepsDisk mid new → KeepsDisk old new
 reads_then {old} {mid} {new} first second = record {
@@ -106,24 +114,72 @@ pub time_written : {A : Type 0} (lives : Bool) {old new : Disk} {name : List ℕ
 time_written true writes = (writes.gives refl).time
 time_written false writes = (writes.gone refl).time
 
-added_written : {A : Type 0} (lives : Bool) {old new : Disk} {name : List ℕ} {state : DiskState} {result : Result A IoError} → WritesState lives old new name state result → MayAdd (possible_now old) (possible_now new) name state
+pub added_written : {A : Type 0} (lives : Bool) {old new : Disk} {name : List ℕ} {state : DiskState} {result : Result A IoError} → WritesState lives old new name state result → MayAdd (possible_now old) (possible_now new) name state
 added_written true writes = (writes.gives refl).no_more
 added_written false writes = record { each = λ n s is. inl ((writes.gone refl).states.possible.no_more.each n s is) }
 
 pub touches_written : {A : Type 0} (lives : Bool) {old new : Disk} {name : List ℕ} {state : DiskState} {result : Result A IoError} → WritesState lives old new name state result → TouchesOnly (λ n. n ≡ name) old new
 touches_written lives writes = touches_file (time_written lives writes) (added_written lives writes) (others_written lives writes)
 
--- a file that its writer's call finds is one of the names
-pub covered_written : {A : Type 0} (lives : Bool) {old new : Disk} {names : List (List ℕ)} {name : List ℕ} {state : DiskState} {result : Result A IoError} → WritesState lives old new name state result → ((n : List ℕ) → possible_now old n (old.now n))
-    → name ≢ list_name → IsCovered (possible_now old) names → IsCovered (possible_now new) names
-covered_written true {old = old} {name = name} writes stands other was = covered_file (writes.gives refl).no_more other (λ undotted. was.covers name undotted (old.now name) (stands name) (writes.there refl)) was
-covered_written false writes stands other was = covered_within (writes.gone refl).states.possible.no_more was
+-- a file that its writer's call finds is managed, and not done
+pub covered_written : {A : Type 0} (lives : Bool) {old new : Disk} {names : ManagedNames} {name : List ℕ} {state : DiskState} {result : Result A IoError} → WritesState lives old new name state result → ((n : List ℕ) → possible_now old n (old.now n))
+    → name ≢ list_name → IsCovered (possible_now old) old.now names → IsCovered (possible_now new) new.now names
+covered_written true {old = old} {name = name} writes stands other was =
+    covered_file (writes.gives refl).no_more other
+    (λ undotted there. (was.covers name undotted (old.now name) (stands name) (writes.there refl), not_done name was undotted (writes.there refl)))
+    (λ n undotted h. others_written true writes n (λ same. subst IsThere (ap old.now (sym same) ∙ was.gone n undotted h) (writes.there refl)) ∙ was.gone n undotted h)
+    was
+covered_written false writes stands other was = covered_within (writes.gone refl).states.possible.no_more (λ n undotted h. (writes.gone refl).states.now n ∙ was.gone n undotted h) was
 
 -- the call keeps track
-pub track_written : {A D W C : Type 0} (g : Ghosts D W C) (lives : Bool) {old : D × List (List ℕ)} {new : D} {name : List ℕ} {state : DiskState} {result : Result A IoError} → WritesState lives (g.disk old.0) (g.disk new) name state result
+pub track_written : {A D W C : Type 0} (g : Ghosts D W C) (lives : Bool) {old : D × ManagedNames} {new : D} {name : List ℕ} {state : DiskState} {result : Result A IoError} → WritesState lives (g.disk old.0) (g.disk new) name state result
     → ((n : List ℕ) → possible_now (g.disk old.0) n ((g.disk old.0).now n)) → name ≢ list_name → IsTracked g old → KeepsTrack g old (new, old.1)
 track_written g lives writes stands other was = track_step g (time_written lives writes) was (covered_written lives writes stands other was)
 
 -- what a call touches that begins with the struct taken apart
-pub touches_from : {D W C : Type 0} (g : Ghosts D W C) {old inside : D × List (List ℕ)} {new : D} {touched : List ℕ → Type 0} → inside ≡ old → TouchesOnly touched (g.disk inside.0) (g.disk new) → TouchesOnly touched (g.disk old.0) (g.disk new)
+pub touches_from : {D W C : Type 0} (g : Ghosts D W C) {old inside : D × ManagedNames} {new : D} {touched : List ℕ → Type 0} → inside ≡ old → TouchesOnly touched (g.disk inside.0) (g.disk new) → TouchesOnly touched (g.disk old.0) (g.disk new)
 touches_from g {new = new} {touched = touched} same touches = subst (λ v. TouchesOnly touched (g.disk v.0) (g.disk new)) same touches
+
+-- ---- states that are possible besides
+
+-- at most these states are possible besides
+pub record Gains (extra : List ℕ → DiskState → Type 0) (old new : Possible) : Type 0 where
+  pub each : (n : List ℕ) (s : DiskState) → new n s → old n s ⊎ extra n s
+
+fewer_gained : (extra : List ℕ → DiskState → Type 0) (possible : Possible) → HoldsOfFewer (Gains extra possible)
+fewer_gained extra possible old new within was = record { each = λ n s is. was.each n s (within.each n s is) }
+
+pub gained_same : (extra : List ℕ → DiskState → Type 0) (disk : Disk) → Throughout (Gains extra (possible_now disk)) disk disk
+gained_same extra disk = started _ (fewer_gained extra _) disk (record { each = λ n s is. inl is })
+
+-- one call
+pub gained_step : {extra : List ℕ → DiskState → Type 0} {old new : Disk} → Elapses old new → Gains extra (possible_now old) (possible_now new) → Throughout (Gains extra (possible_now old)) old new
+gained_step {extra} {old} time gains = goes_on _ (fewer_gained extra (possible_now old)) (gained_same extra old) time gains
+
+pub gained_within : (extra : List ℕ → DiskState → Type 0) {old new : Disk} → Elapses old new → Within (possible_now old) (possible_now new) → Throughout (Gains extra (possible_now old)) old new
+gained_within extra time within = gained_step time (record { each = λ n s is. inl (within.each n s is) })
+
+pub gained_none : (extra : List ℕ → DiskState → Type 0) {old new : Disk} → KeepsDisk old new → Throughout (Gains extra (possible_now old)) old new
+gained_none extra keeps = gained_within extra keeps.time keeps.states.possible.no_more
+
+-- one run, and another
+pub gained_then : {extra : List ℕ → DiskState → Type 0} {old mid new : Disk} → Throughout (Gains extra (possible_now old)) old mid → Throughout (Gains extra (possible_now mid)) mid new → Throughout (Gains extra (possible_now old)) old new
+gained_then {extra} {old} first second = goes_on_run _ (fewer_gained extra (possible_now old)) first
+    (weaker second (λ p gains. record { each = λ n s is. ⊎_elim (λ before. (at_end first).each n s before) (λ it. inr it) (gains.each n s is) }))
+
+-- more states may be possible
+pub gained_more : {extra more : List ℕ → DiskState → Type 0} {old new : Disk} → ((n : List ℕ) (s : DiskState) → extra n s → more n s) → Throughout (Gains extra (possible_now old)) old new → Throughout (Gains more (possible_now old)) old new
+gained_more among run = weaker run (λ p gains. record { each = λ n s is. ⊎_elim (λ before. inl before) (λ it. inr (among n s it)) (gains.each n s is) })
+
+-- one call gives a name one state more
+abbrev pub OneState : List ℕ → DiskState → List ℕ → DiskState → Type 0
+OneState name state n s = (n ≡ name) × (s ≡ state)
+
+pub gained_one : {old new : Disk} {name : List ℕ} {state : DiskState} → Elapses old new → MayAdd (possible_now old) (possible_now new) name state → Throughout (Gains (OneState name state) (possible_now old)) old new
+gained_one time adds = gained_step time (record { each = λ n s is. adds.each n s is })
+
+pub gained_run : {old new : Disk} {name : List ℕ} {state : DiskState} → Throughout (λ possible. MayAdd (possible_now old) possible name state) old new → Throughout (Gains (OneState name state) (possible_now old)) old new
+gained_run run = weaker run (λ p adds. record { each = λ n s is. adds.each n s is })
+
+pub adds_run : {old new : Disk} {name : List ℕ} {state : DiskState} → Throughout (Gains (OneState name state) (possible_now old)) old new → Throughout (λ possible. MayAdd (possible_now old) possible name state) old new
+adds_run run = weaker run (λ p gains. record { each = λ n s is. gains.each n s is })

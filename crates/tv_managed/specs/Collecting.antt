@@ -1,9 +1,13 @@
 -- What a collection does to a directory and its list.
-use Rattle.std.specs.Prelude.{ℕ, ◌≡◌, ◌≢◌, ◌≤◌, ◌+◌, ◌⊎◌, Bool, true, false, List, [], ◌++◌, String, None, IsSome, codes, length, map, string_bytes, Result, IfErr, IfOk, OnOk}
-use Rattle.tv_model.specs.Names.{has, list_name}
-use Rattle.tv_model.specs.Collections.{collectable, done_of, failed_of, without}
+use Rattle.std.specs.Prelude.{ℕ, ◌≡◌, ◌≢◌, ◌<◌, ◌≤◌, ◌+◌, ◌^◌, ◌⊎◌, Bool, true, false, List, [], ◌∷◌, ◌++◌, String, Some, None, IsSome, codes, length, map, string_bytes, Result, IfErr, IfOk, OnOk, OnErr}
+use Rattle.std.specs.Option.{IsSomeAnd}
+use Rattle.std.specs.BTreeMap.{insert_entry}
+use Rattle.std.specs.Ordering.{nat_cmp}
+use Rattle.tv_model.specs.Names.{has, is_plain, list_name}
+use Rattle.tv_model.specs.Listing.{Lists}
+use Rattle.tv_model.specs.Collections.{Collection, Collections, collectable, collection_at, done_of, failed_of, having_tried, held, with_begun, with_collection, without, without_collection}
 use Rattle.tv_model.specs.Files.{Same, KeepsOthers, Rose}
-use Rattle.tv_base.specs.Causes.{IoCause, IsDevice}
+use Rattle.tv_base.specs.Causes.{IsDevice}
 use Rattle.tv_base.specs.declared.error.TantivyError.{TantivyError}
 use Rattle.tv_base.specs.declared.error.TantivyError.TheVariants as errors
 use Rattle.tv_base.specs.declared.io.IoError.{IoError}
@@ -13,7 +17,10 @@ use Rattle.tv_directory.specs.View.{View, WriterState, Kept, MayDelete, OnlyRead
 use Rattle.tv_directory.specs.declared.directory.Directory.{Ghosts}
 use Rattle.tv_managed.specs.Frames.{KeepsNames}
 use Rattle.tv_managed.specs.Managed.{SavesList}
-use Rattle.tv_managed.specs.declared.collecting.GarbageCollectionResult.{GarbageCollectionResult}
+use Rattle.tv_managed.specs.Names.{ManagedNames}
+use Rattle.tv_managed.specs.declared.collection.CollectStep.{CollectStep}
+use Rattle.tv_managed.specs.declared.collection.CollectStep.TheVariants as steps
+use Rattle.tv_managed.specs.declared.collection.GarbageCollectionResult.{GarbageCollectionResult}
 
 -- texts, as names
 abbrev pub names_of : {X : Type 0} → List (String X) → List (List ℕ)
@@ -31,23 +38,30 @@ SparesWriters {W} names state_of before after = (w : W) → has names (state_of 
 abbrev pub EndsTheirWriters : {W : Type 0} → (deleted : List (List ℕ)) → (state_of : W → WriterState) → (old new : View W) → Type 0
 EndsTheirWriters {W} deleted state_of old new = (w : W) → old.opened w ≡ true → has deleted (state_of w).name ≡ true → IsSome (old.reads (state_of w).name) → new.lives w ≡ false
 
--- What trying these names left, whatever was answered: some first ones were tried, and some of these are done, which don't read. All else is as it was, but that the
--- managed names may be without those that are done.
-pub record Leaves {D W C : Type 0} (g : Ghosts D W C) (names : List (List ℕ)) (old new : D × List (List ℕ)) : Type 0 where
+-- all that is kept in memory, and a collection that was begun under the next number and stands so
+abbrev pub standing : ManagedNames → Collection → ManagedNames
+standing names c = record names { collections = record { unfinished = insert_entry nat_cmp names.collections.unfinished names.collections.next c; next = names.collections.next + 1 } }
+
+-- a collection of these names isn't finished: the first ones were tried, with these outcomes
+abbrev pub LeftUnfinished : (front rest : List (List ℕ)) → (outcomes : List Bool) → (old new : ManagedNames) → Type 0
+LeftUnfinished front rest outcomes old new = new ≡ standing old (record { untried = rest; done = done_of front outcomes; failed = failed_of front outcomes })
+
+-- What trying these names left, whatever was answered: some first ones were tried, and some of these are done, which don't read. All else is as it was, but that at Ok
+-- the managed names are without those that are done. After an error they are as they were, and unless nothing was begun the collection isn't finished.
+pub record Leaves {A E D W C : Type 0} (g : Ghosts D W C) (names : List (List ℕ)) (old new : D × ManagedNames) (result : Result A E) : Type 0 where
   pub front : List (List ℕ)
   pub rest : List (List ℕ)
   pub outcomes : List Bool
   pub split : names ≡ front ++ rest
   pub each : length outcomes ≡ length front
-  -- the managed names are as they were, or without those that are done
-  pub managed : (new.1 ≡ old.1) ⊎ (new.1 ≡ without (done_of front outcomes) old.1)
+  pub ok : OnOk result (new.1 ≡ record old.1 { managed = without (done_of front outcomes) old.1.managed })
+  pub err : OnErr result ((new.1 ≡ old.1) ⊎ LeftUnfinished front rest outcomes old.1 new.1)
   -- a name that is done doesn't read
   pub gone : g.told.content → (n : List ℕ) → has (done_of front outcomes) n ≡ true → (g.view new.0).reads n ≡ None
   -- every other name but that of the list reads what it read
   pub others : g.told.content → (n : List ℕ) → has (done_of front outcomes) n ≡ false → n ≢ list_name → (g.view new.0).reads n ≡ (g.view old.0).reads n
-  -- a name that isn't among them reads what it read, and is managed where it was
+  -- a name that isn't among them reads what it read
   pub spared : g.told.content → (n : List ℕ) → has names n ≡ false → n ≢ list_name → (g.view new.0).reads n ≡ (g.view old.0).reads n
-  pub kept : (n : List ℕ) → has names n ≡ false → has new.1 n ≡ has old.1 n
   -- its writers live on
   pub alive : g.told.content → SparesWriters names g.state_of (g.view old.0).lives (g.view new.0).lives
   -- and no writer that was open lives of a file that was deleted
@@ -56,13 +70,13 @@ pub record Leaves {D W C : Type 0} (g : Ghosts D W C) (names : List (List ℕ)) 
   pub fits : (g.view old.0).refusals ≤ 18446744073709551615 → (g.view new.0).refusals ≤ 18446744073709551615
 
 -- What trying these names gave where all were tried: each is told as done or as failed, in their order.
-pub record Tries {D W C : Type 0} (g : Ghosts D W C) (names : List (List ℕ)) (old new : D × List (List ℕ)) (result : GarbageCollectionResult) : Type 0 where
+pub record Tries {D W C : Type 0} (g : Ghosts D W C) (names : List (List ℕ)) (old new : D × ManagedNames) (result : GarbageCollectionResult) : Type 0 where
   pub outcomes : List Bool
   pub each : length outcomes ≡ length names
   pub deleted : names_of result.deleted_files.items ≡ done_of names outcomes
   pub failed : names_of result.failed_to_delete_files.items ≡ failed_of names outcomes
-  -- the managed names are those that were, without the deleted ones
-  pub managed : new.1 ≡ without (names_of result.deleted_files.items) old.1
+  -- the managed names are those that were, without the deleted ones, and the collections are as they were
+  pub managed : new.1 ≡ record old.1 { managed = without (names_of result.deleted_files.items) old.1.managed }
   -- a deleted name doesn't read
   pub gone : g.told.content → (n : List ℕ) → has (names_of result.deleted_files.items) n ≡ true → (g.view new.0).reads n ≡ None
   -- every other name but that of the list reads what it read
@@ -75,7 +89,7 @@ pub record Tries {D W C : Type 0} (g : Ghosts D W C) (names : List (List ℕ)) (
   pub calm : names_of result.failed_to_delete_files.items ≡ [] → (g.view new.0).refusals ≡ (g.view old.0).refusals
 
 -- What trying a name gave: it doesn't read any more, or all is as it was, and the device refused its delete.
-pub record TriesName {D W C : Type 0} (g : Ghosts D W C) (name : List ℕ) (old new : D × List (List ℕ)) (is_gone : Bool) : Type 0 where
+pub record TriesName {D W C : Type 0} (g : Ghosts D W C) (name : List ℕ) (old new : D × ManagedNames) (is_gone : Bool) : Type 0 where
   pub gone : g.told.content → is_gone ≡ true → (g.view new.0).reads name ≡ None
   pub others : g.told.content → KeepsOthers (g.view old.0).reads (g.view new.0).reads name
   pub same : g.told.content → is_gone ≡ false → Same (g.view old.0).reads (g.view new.0).reads
@@ -86,20 +100,144 @@ pub record TriesName {D W C : Type 0} (g : Ghosts D W C) (name : List ℕ) (old 
   pub ended : g.told.content → is_gone ≡ true → IsSome ((g.view old.0).reads name) → (w : W) → (g.state_of w).name ≡ name → (g.view new.0).lives w ≡ false
   pub fits : (g.view new.0).refusals ≤ 18446744073709551615
 
--- where no name could be tried all is as it was
-pub record TriesNone {D W C : Type 0} (g : Ghosts D W C) (old new : D × List (List ℕ)) : Type 0 where
-  pub frame : KeepsNames (OnlyReads g.told) g.view old new
-  pub fits : (g.view new.0).refusals ≤ 18446744073709551615
-
--- What trying managed names leaves alone: they stay managed, the list reads what it read, the device refused no call other than a delete, and all else is as a
--- delete leaves it.
-pub record OnlyDeletes {D W C : Type 0} (g : Ghosts D W C) (old new : D × List (List ℕ)) : Type 0 where
+-- What trying managed names leaves alone: the list reads what it read, the device refused no call other than a delete, and all else is as a delete leaves it.
+pub record OnlyDeletes {D W C : Type 0} (g : Ghosts D W C) (old new : D × ManagedNames) : Type 0 where
   pub list : g.told.content → (g.view new.0).reads list_name ≡ (g.view old.0).reads list_name
   pub faults : (g.view new.0).faults ≡ (g.view old.0).faults
-  pub frame : KeepsNames (MayDelete g.told) g.view old new
+  pub frame : MayDelete g.told (g.view old.0) (g.view new.0)
+
+-- the names that a collection takes: the managed ones that aren't living, and that no unfinished collection holds
+abbrev pub taken_by : (living : List (List ℕ)) → ManagedNames → List (List ℕ)
+taken_by living names = collectable (living ++ held names.collections) names.managed
+
+-- a collection of these names begins, under the next number
+abbrev pub beginning : ManagedNames → List (List ℕ) → ManagedNames
+beginning names taken = record names { collections = with_begun names.collections taken }
+
+-- a collection of these names was begun, and this is its number, which no unfinished one has
+pub record Begins (taken : List (List ℕ)) (old new : ManagedNames) (number : ℕ) : Type 0 where
+  pub numbered : number ≡ old.collections.next
+  pub free : collection_at old.collections number ≡ None
+  pub names : new ≡ beginning old taken
+
+-- whether a step says that its name is done, and the name
+abbrev pub is_done : CollectStep → Bool
+is_done (steps.Done name) = true
+is_done (steps.Failed name) = false
+
+abbrev pub tried_name : CollectStep → List ℕ
+tried_name (steps.Done name) = string_bytes name
+tried_name (steps.Failed name) = string_bytes name
+
+-- a collection has names that are yet to be tried
+abbrev pub HasLeft : Collections → ℕ → Type 0
+HasLeft collections number = IsSomeAnd (collection_at collections number) (λ c. 0 < length c.untried)
+
+-- A collection tried this name, its first one left: the step tells it, and it is done, or failed and is as it was.
+pub record TriesFirst {D W C : Type 0} (g : Ghosts D W C) (number : ℕ) (c : Collection) (name : List ℕ) (left : List (List ℕ)) (old new : D × ManagedNames) (step : CollectStep) : Type 0 where
+  pub told : tried_name step ≡ name
+  pub plain : is_plain name ≡ true
+  pub names : new.1 ≡ record old.1 { collections = with_collection old.1.collections number (having_tried c name left (is_done step)) }
+  pub tried : TriesName g name old new (is_done step)
+
+-- nothing changed: the names and collections are as they were, and the directory was only read from
+pub record ChangesNothing {D W C : Type 0} (g : Ghosts D W C) (old new : D × ManagedNames) : Type 0 where
+  pub frame : KeepsNames (OnlyReads g.told) g.view old new
+  pub faults : (g.view new.0).faults ≡ (g.view old.0).faults
+
+-- A step of a collection tries its first name left, whatever its names are. It fails where memory was wanted alone, and then nothing changed.
+pub record Steps {D W C : Type 0} (g : Ghosts D W C) (number : ℕ) (old new : D × ManagedNames) (result : Result CollectStep TantivyError) : Type 0 where
+  pub ok : (c : Collection) (name : List ℕ) (left : List (List ℕ)) → collection_at old.1.collections number ≡ Some c → c.untried ≡ name ∷ left → IfOk result (TriesFirst g number c name left old new)
+  pub memory : IfErr result (λ e. e ≡ errors.Memory)
+  pub err : OnErr result (ChangesNothing g old new)
+
+-- all names and collections after the end of a collection
+abbrev pub ending : ManagedNames → ℕ → Collection → ManagedNames
+ending names number c = record { managed = without c.done names.managed; collections = without_collection names.collections number }
+
+-- A collection ended. The result has what was done and what failed, in the order in which it was tried; what is done is managed no more.
+pub record Ended (number : ℕ) (c : Collection) (old new : ManagedNames) (result : GarbageCollectionResult) : Type 0 where
+  pub deleted : names_of result.deleted_files.items ≡ c.done
+  pub failed : names_of result.failed_to_delete_files.items ≡ c.failed
+  pub names : new ≡ ending old number c
+
+-- where nothing was deleted, each name reads what it read, the list's too
+abbrev pub SavesNone : {D W C E : Type 0} → Ghosts D W C → (old new : D × ManagedNames) → Result GarbageCollectionResult E → Type 0
+SavesNone g old new result = g.told.content → IfOk result (λ r. r.deleted_files.items ≡ [] → Same (g.view old.0).reads (g.view new.0).reads)
+
+-- A collection ends. After an error it isn't finished, and all names are as they were. The list goes on having the managed names; where nothing is done each name
+-- reads what it read, the list's too.
+pub record EndsCollection {E D W C : Type 0} (g : Ghosts D W C) (number : ℕ) (old new : D × ManagedNames) (result : Result GarbageCollectionResult E) : Type 0 where
+  pub ok : (c : Collection) → collection_at old.1.collections number ≡ Some c → IfOk result (Ended number c old.1 new.1)
+  pub err : OnErr result (new.1 ≡ old.1)
+  pub saves : SavesList g old new result
+  pub saves_none : SavesNone g old new result
+  pub others : g.told.content → KeepsOthers (g.view old.0).reads (g.view new.0).reads list_name
+
+-- the lock that is held while the living names are asked for
+abbrev pub meta_lock_name : List ℕ
+meta_lock_name = codes ".tantivy-meta.lock"
+
+-- names that may be tried: none, or those that a collection takes where a set was answered as living
+abbrev pub Among : {S : Type 0} → (answered : S → Type 0) → (living : S → List (List ℕ)) → ManagedNames → (names : List (List ℕ)) → Type 0
+Among {S} answered living managed names = (names ≡ []) ⊎ ((set : S) × answered set × (names ≡ taken_by (living set) managed))
+
+-- Why a collection was given up: `busy` where the lock isn't given, `spent` where it has no number, `refused` where the device refused a call other than a delete,
+-- `quiet` where memory was wanted.
+abbrev pub CollectCause : (busy spent refused quiet : Type 0) → TantivyError → Type 0
+CollectCause busy spent refused quiet (errors.IoError fault) = IsDevice fault × refused
+CollectCause busy spent refused quiet (errors.LockFailure why text) = LockCause busy refused ⊥ why × (text ≡ None)
+CollectCause busy spent refused quiet errors.Exhausted = spent
+CollectCause busy spent refused quiet errors.Memory = quiet
+CollectCause busy spent refused quiet _ = ⊥
+
+-- whether the error says that no collection was begun: the lock wasn't given, or there is no number
+abbrev pub is_unbegun : TantivyError → Bool
+is_unbegun (errors.LockFailure why text) = true
+is_unbegun errors.Exhausted = true
+is_unbegun _ = false
+
+-- a number after which there is none
+abbrev pub IsLast : ℕ → Type 0
+IsLast number = 2 ^ 64 ≤ number + 1
+
+-- A collection fails where the meta lock is held, where its number would be the last, where the device refused a call other than a delete, or where memory was wanted.
+-- The lock is asked for first. Where the lock isn't given, or the number would be the last, nothing changed; at Ok the lock was free, and the number wasn't the last.
+pub record CollectFaults {A D W C : Type 0} (g : Ghosts D W C) (old new : D × ManagedNames) (result : Result A TantivyError) : Type 0 where
+  pub quiet : OnOk result ((g.view new.0).faults ≡ (g.view old.0).faults)
+  pub free : g.told.locks → OnOk result ((g.view old.0).locks meta_lock_name ≡ false)
+  pub numbered : OnOk result (IsLast old.1.collections.next → ⊥)
+  pub busy : g.told.locks → IfErr result (CollectCause ((g.view old.0).locks meta_lock_name ≡ true) ((g.view old.0).locks meta_lock_name ≡ false) (Unit {0}) (Unit {0}))
+  pub cause : IfErr result (CollectCause
+      ((g.told.locks × ((g.view new.0).faults ≡ (g.view old.0).faults)) ⊎ Rose (g.view old.0).faults (g.view new.0).faults)
+      (IsLast old.1.collections.next × ((g.view new.0).faults ≡ (g.view old.0).faults))
+      (Rose (g.view old.0).faults (g.view new.0).faults)
+      ((g.view new.0).faults ≡ (g.view old.0).faults))
+  pub unchanged : IfErr result (λ e. is_unbegun e ≡ true → KeepsNames (OnlyReads g.told) g.view old new)
+
+-- The end of a collection, which takes no lock, fails where the device refused a call other than a delete, or where memory was wanted.
+pub record EndFaults {A D W C : Type 0} (g : Ghosts D W C) (old new : D × ManagedNames) (result : Result A TantivyError) : Type 0 where
+  pub quiet : OnOk result ((g.view new.0).faults ≡ (g.view old.0).faults)
+  pub cause : IfErr result (CollectCause ⊥ ⊥ (Rose (g.view old.0).faults (g.view new.0).faults) ((g.view new.0).faults ≡ (g.view old.0).faults))
+
+-- What follows is cited by private functions alone.
+
+-- A step that is made under the meta lock fails where the lock is held, where the device refused a call, or where memory was wanted.
+pub record LockedFaults {A D W C : Type 0} (g : Ghosts D W C) (old new : D × ManagedNames) (result : Result A TantivyError) : Type 0 where
+  pub quiet : OnOk result ((g.view new.0).faults ≡ (g.view old.0).faults)
+  pub free : g.told.locks → OnOk result ((g.view old.0).locks meta_lock_name ≡ false)
+  pub busy : g.told.locks → IfErr result (CollectCause ((g.view old.0).locks meta_lock_name ≡ true) ⊥ (Unit {0}) (Unit {0}))
+  pub cause : IfErr result (CollectCause ((g.told.locks × ((g.view new.0).faults ≡ (g.view old.0).faults)) ⊎ Rose (g.view old.0).faults (g.view new.0).faults) ⊥ (Rose (g.view old.0).faults (g.view new.0).faults) ((g.view new.0).faults ≡ (g.view old.0).faults))
+
+-- A step that begins a collection, which takes no lock, fails where its number would be the last, and then nothing changed, where the device refused a call, or where
+-- memory was wanted.
+pub record BeginFaults {A D W C : Type 0} (g : Ghosts D W C) (old new : D × ManagedNames) (result : Result A TantivyError) : Type 0 where
+  pub quiet : OnOk result ((g.view new.0).faults ≡ (g.view old.0).faults)
+  pub numbered : OnOk result (IsLast old.1.collections.next → ⊥)
+  pub cause : IfErr result (CollectCause ⊥ (IsLast old.1.collections.next × (new ≡ old)) (Rose (g.view old.0).faults (g.view new.0).faults) ((g.view new.0).faults ≡ (g.view old.0).faults))
 
 -- What trying these names gave, one after another: the deleted ones don't read; those that failed, and all else but the list, are as they were.
-pub record Tried {D W C : Type 0} (g : Ghosts D W C) (names : List (List ℕ)) (old new : D × List (List ℕ)) (deleted failed : List (List ℕ)) : Type 0 where
+pub record Tried {D W C : Type 0} (g : Ghosts D W C) (names : List (List ℕ)) (old new : D × ManagedNames) (deleted failed : List (List ℕ)) : Type 0 where
   pub outcomes : List Bool
   pub each : length outcomes ≡ length names
   pub deleted_is : deleted ≡ done_of names outcomes
@@ -114,69 +252,26 @@ pub record Tried {D W C : Type 0} (g : Ghosts D W C) (names : List (List ℕ)) (
   pub fits : (g.view old.0).refusals ≤ 18446744073709551615 → (g.view new.0).refusals ≤ 18446744073709551615
   pub frame : MayDelete g.told (g.view old.0) (g.view new.0)
 
--- some first ones of these names were tried, and the managed names are as they were or without those that were deleted
-pub record TriesSome {D W C : Type 0} (g : Ghosts D W C) (names : List (List ℕ)) (old new : D × List (List ℕ)) : Type 0 where
+-- Some first ones of the names of a collection were tried, since it was begun beside these names: what is left of it is the rest.
+pub record TriesSome {D W C : Type 0} (g : Ghosts D W C) (before : ManagedNames) (taken : List (List ℕ)) (old new : D × ManagedNames) : Type 0 where
   pub front : List (List ℕ)
   pub rest : List (List ℕ)
   pub deleted : List (List ℕ)
   pub failed : List (List ℕ)
-  pub split : names ≡ front ++ rest
+  pub split : taken ≡ front ++ rest
   pub tried : Tried g front old new deleted failed
-  pub managed : (new.1 ≡ old.1) ⊎ (new.1 ≡ without deleted old.1)
+  pub names : new.1 ≡ standing before (record { untried = rest; done = deleted; failed = failed })
 
--- What the end of a collection does. The names that are left become the managed ones, and they are listed. Where memory was wanted the managed names are as they
--- were. Where the device refused a call they may be those that are left, as the list that reads may be.
-pub record Shortens {A D W C : Type 0} (g : Ghosts D W C) (left : List (List ℕ)) (old new : D × List (List ℕ)) (result : Result A IoError) : Type 0 where
-  pub saves : SavesList g old new result
-  pub ok : OnOk result (new.1 ≡ left)
-  pub err : IfErr result (IoCause ((new.1 ≡ old.1) ⊎ (new.1 ≡ left)) (new.1 ≡ old.1))
+-- at Ok the collection has nothing left
+abbrev pub TriesAll : {A E : Type 0} → ℕ → ManagedNames → Result A E → Type 0
+TriesAll number names result = OnOk result ((c : Collection) → collection_at names.collections number ≡ Some c → c.untried ≡ [])
+
+-- The managed names become those that are left, and are listed where they were. After an error they are as they were, and the list may have either.
+pub record Shortens {A D W C : Type 0} (g : Ghosts D W C) (left : List (List ℕ)) (old new : D × ManagedNames) (result : Result A IoError) : Type 0 where
+  pub ok : OnOk result (new.1 ≡ record old.1 { managed = left })
+  pub err : OnErr result (new.1 ≡ old.1)
+  pub lists : g.told.content → Lists ((g.view old.0).reads list_name) old.1.managed → OnOk result (Lists ((g.view new.0).reads list_name) left)
+  pub either : g.told.content → Lists ((g.view new.0).reads list_name) left ⊎ ((g.view new.0).reads list_name ≡ (g.view old.0).reads list_name)
   pub others : g.told.content → KeepsOthers (g.view old.0).reads (g.view new.0).reads list_name
   pub faults : IoFaults (g.view old.0) (g.view new.0) result
   pub frame : Kept g.told (g.view old.0) (g.view new.0)
-
--- where nothing was deleted, each name reads what it read, the list's too
-abbrev pub SavesNone : {D W C E : Type 0} → Ghosts D W C → (old new : D × List (List ℕ)) → Result GarbageCollectionResult E → Type 0
-SavesNone g old new result = g.told.content → IfOk result (λ r. r.deleted_files.items ≡ [] → Same (g.view old.0).reads (g.view new.0).reads)
-
--- the lock that is held while the living names are asked for
-abbrev pub meta_lock_name : List ℕ
-meta_lock_name = codes ".tantivy-meta.lock"
-
--- names that may be tried: none, or the managed ones that aren't among those of a set that was answered
-abbrev pub Among : {S : Type 0} → (answered : S → Type 0) → (living : S → List (List ℕ)) → (managed names : List (List ℕ)) → Type 0
-Among {S} answered living managed names = (names ≡ []) ⊎ ((set : S) × answered set × (names ≡ collectable (living set) managed))
-
--- whether the error is that a lock wasn't given
-abbrev pub is_lock_failure : TantivyError → Bool
-is_lock_failure (errors.LockFailure why text) = true
-is_lock_failure _ = false
-
--- whether the error is that the device refused a call other than one for a lock
-abbrev pub is_io_error : TantivyError → Bool
-is_io_error (errors.IoError fault) = true
-is_io_error _ = false
-
--- Why a collection was given up: `busy` where the lock isn't given, `refused` where the device refused a call other than a delete, `quiet` where memory was wanted.
-abbrev pub CollectCause : (busy refused quiet : Type 0) → TantivyError → Type 0
-CollectCause busy refused quiet (errors.IoError fault) = IsDevice fault × refused
-CollectCause busy refused quiet (errors.LockFailure why text) = LockCause busy refused ⊥ why × (text ≡ None)
-CollectCause busy refused quiet errors.Memory = quiet
-CollectCause busy refused quiet _ = ⊥
-
--- A collection fails where the meta lock is held, where the device refused a call other than a delete, or where memory was wanted. Where the lock isn't given,
--- nothing changed; at Ok it was free.
-pub record CollectFaults {A D W C : Type 0} (g : Ghosts D W C) (old new : D × List (List ℕ)) (result : Result A TantivyError) : Type 0 where
-  pub quiet : OnOk result ((g.view new.0).faults ≡ (g.view old.0).faults)
-  pub free : g.told.locks → OnOk result ((g.view old.0).locks meta_lock_name ≡ false)
-  pub busy : g.told.locks → IfErr result (CollectCause ((g.view old.0).locks meta_lock_name ≡ true) (Unit {0}) (Unit {0}))
-  pub cause : IfErr result (CollectCause ((g.told.locks × ((g.view new.0).faults ≡ (g.view old.0).faults)) ⊎ Rose (g.view old.0).faults (g.view new.0).faults) (Rose (g.view old.0).faults (g.view new.0).faults) ((g.view new.0).faults ≡ (g.view old.0).faults))
-  pub unchanged : IfErr result (λ e. is_lock_failure e ≡ true → KeepsNames (OnlyReads g.told) g.view old new)
-
--- How the part of a collection ends that takes no lock: the list goes on having each managed name, and the part fails where the device refused a call other than a
--- delete, or where memory was wanted. Where the device refused none the managed names are as they were. It never answers that a lock wasn't given.
-pub record EndsUnlocked {A D W C : Type 0} (g : Ghosts D W C) (old new : D × List (List ℕ)) (result : Result A TantivyError) : Type 0 where
-  pub saves : SavesList g old new result
-  pub quiet : OnOk result ((g.view new.0).faults ≡ (g.view old.0).faults)
-  pub cause : IfErr result (CollectCause ⊥ (Rose (g.view old.0).faults (g.view new.0).faults) ((g.view new.0).faults ≡ (g.view old.0).faults))
-  pub kept : IfErr result (λ e. is_io_error e ≡ false → new.1 ≡ old.1)
-  pub unlocked : IfErr result (λ e. is_lock_failure e ≡ false)

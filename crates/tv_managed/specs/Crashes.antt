@@ -1,28 +1,41 @@
 -- What a crash may leave of a managed directory at each moment of its calls.
-use Rattle.std.specs.Prelude.{ℕ, ◌≡◌, ◌⊎◌, Bool, true, false, List, Result, IfErr, IfOk, OnOk}
-use Rattle.tv_model.specs.Disk.{DiskState, Absent, Sealed, IsThere, Possible, Disk, possible_now, Within, MayAdd, IsSettledAt, Elapses, Throughout, OnlyTouches, OnlyMoves}
+use Rattle.std.specs.Prelude.{ℕ, ◌≡◌, ◌⊎◌, Bool, true, false, List, ◌∷◌, Some, Result, IfErr, IfOk, OnOk}
+use Rattle.tv_model.specs.Disk.{DiskState, Absent, Sealed, IsThere, Possible, Disk, possible_now, Within, MayAdd, IsSettled, IsSettledAt, Elapses, Throughout, OnlyTouches, OnlyMoves}
 use Rattle.tv_model.specs.Listed.{IsAList, IsOnEach, ListsEachFile}
 use Rattle.tv_model.specs.Listing.{IsListOf, list_text}
 use Rattle.tv_model.specs.Names.{has, is_undotted, list_name}
+use Rattle.tv_model.specs.Footer.{sealed}
+use Rattle.tv_model.specs.Collections.{Collection, collection_at, without}
 use Rattle.tv_base.specs.Causes.{IoCause}
 use Rattle.tv_base.specs.declared.io.IoError.{IoError}
-use Rattle.tv_directory.specs.Images.{KeepsDisk, KeepsOtherStates}
+use Rattle.tv_directory.specs.Images.{KeepsDisk, KeepsOtherStates, SameStates}
 use Rattle.tv_directory.specs.declared.directory.Directory.{Ghosts}
-use Rattle.tv_managed.specs.Collecting.{names_of}
-use Rattle.tv_managed.specs.declared.collecting.GarbageCollectionResult.{GarbageCollectionResult}
+use Rattle.tv_managed.specs.Collecting.{is_done, Leaves, SavesNone}
+use Rattle.tv_managed.specs.Managed.{SavesList, registered}
+use Rattle.tv_managed.specs.Names.{ManagedNames, done_names}
+use Rattle.tv_managed.specs.Writers.{IsSummed}
+use Rattle.tv_managed.specs.declared.collection.CollectStep.{CollectStep}
+use Rattle.tv_managed.specs.declared.collection.GarbageCollectionResult.{GarbageCollectionResult}
+use Rattle.tv_managed.specs.declared.writer.ManagedWriter.{ManagedWriter}
 
--- each undotted file that a crash may leave is one of these names, and each of them is on whatever it may leave of the list, which is a list
-pub record IsCovered (possible : Possible) (names : List (List ℕ)) : Type 0 where
-  pub lists : (l : DiskState) → possible list_name l → IsAList l
-  pub covers : (n : List ℕ) → is_undotted n ≡ true → (s : DiskState) → possible n s → IsThere s → has names n ≡ true
-  pub listed : (n : List ℕ) → has names n ≡ true → (l : DiskState) → possible list_name l → IsOnEach l n
+-- The list is for crashes. It forgets no file, each undotted file that a crash may leave is managed, and each managed name that no unfinished collection has done is on
+-- whatever it may leave of the list. What such a collection has done, which has no dot in front, is absent now; it may be on no list any more.
+pub record IsCovered (possible : Possible) (now : List ℕ → DiskState) (names : ManagedNames) : Type 0 where
+  pub forgets_none : ListsEachFile possible
+  pub covers : (n : List ℕ) → is_undotted n ≡ true → (s : DiskState) → possible n s → IsThere s → has names.managed n ≡ true
+  pub listed : (n : List ℕ) → has names.managed n ≡ true → has (done_names names.collections) n ≡ false → (l : DiskState) → possible list_name l → IsOnEach l n
+  pub gone : (n : List ℕ) → is_undotted n ≡ true → has (done_names names.collections) n ≡ true → now n ≡ Absent
 
--- that is so of the managed names now
-abbrev pub IsTracked : {D W C : Type 0} → Ghosts D W C → D × List (List ℕ) → Type 0
-IsTracked g managed = IsCovered (possible_now (g.disk managed.0)) managed.1
+-- that is so of a managed directory now
+abbrev pub IsTracked : {D W C : Type 0} → Ghosts D W C → D × ManagedNames → Type 0
+IsTracked g managed = IsCovered (possible_now (g.disk managed.0)) (g.disk managed.0).now managed.1
+
+-- each managed name is on whatever a crash may leave of the list
+abbrev pub AreListed : {D W C : Type 0} → Ghosts D W C → D × ManagedNames → Type 0
+AreListed g managed = (n : List ℕ) → has managed.1.managed n ≡ true → (l : DiskState) → possible_now (g.disk managed.0) list_name l → IsOnEach l n
 
 -- it is so after a call, and at each moment of it the list forgets no file
-pub record KeepsTrack {D W C : Type 0} (g : Ghosts D W C) (old new : D × List (List ℕ)) : Type 0 where
+pub record KeepsTrack {D W C : Type 0} (g : Ghosts D W C) (old new : D × ManagedNames) : Type 0 where
   pub tracked : IsTracked g new
   pub moments : Throughout ListsEachFile (g.disk old.0) (g.disk new.0)
 
@@ -41,21 +54,96 @@ AnyOrList names n = (has names n ≡ true) ⊎ (n ≡ list_name)
 
 -- The disk was only read. Where a crash leaves the list as it is, as after a directory sync that succeeded, and it forgets no file, the managed names are those of it,
 -- and each file is one of them.
-pub record WrapsDisk {D W C : Type 0} (g : Ghosts D W C) (directory : D) (managed : D × List (List ℕ)) : Type 0 where
+pub record WrapsDisk {D W C : Type 0} (g : Ghosts D W C) (directory : D) (managed : D × ManagedNames) : Type 0 where
   pub keeps : KeepsDisk (g.disk directory) (g.disk managed.0)
   pub tracked : IsSettledAt (g.disk directory) list_name → ListsEachFile (possible_now (g.disk directory)) → IsTracked g managed
 
+-- What a call of a managed directory does to what a crash may leave: it keeps track, and this becomes of the states.
+pub record LeavesSafely {D W C : Type 0} (g : Ghosts D W C) (becomes : Type 0) (old new : D × ManagedNames) : Type 0 where
+  pub tracks : IsTracked g old → KeepsTrack g old new
+  pub states : becomes
+
+-- a call that only reads
+abbrev pub ReadsSafely : {D W C : Type 0} → Ghosts D W C → (old new : D × ManagedNames) → Type 0
+ReadsSafely g old new = LeavesSafely g (KeepsDisk (g.disk old.0) (g.disk new.0)) old new
+
+-- at most this state of this name is possible besides, and this one of the list
+pub record MayAddBoth (old new : Possible) (name : List ℕ) (state list : DiskState) : Type 0 where
+  pub each : (n : List ℕ) (s : DiskState) → new n s → old n s ⊎ (((n ≡ name) × (s ≡ state)) ⊎ ((n ≡ list_name) × (s ≡ list)))
+
+-- A file is made, or given its bytes. At each moment it may be in this state, and the list may have its name; no other state is possible besides. At Ok it is in this
+-- state; other files stand as they stood.
+pub record GivesStates {A E : Type 0} (old new : Disk) (name : List ℕ) (state list : DiskState) (result : Result A E) : Type 0 where
+  pub moments : Throughout (λ possible. MayAddBoth (possible_now old) possible name state list) old new
+  pub now : OnlyMoves (OrList name) old new
+  pub stands : OnOk result (new.now name ≡ state)
+
+abbrev pub GivesSafely : {A E D W C : Type 0} → Ghosts D W C → (name : List ℕ) → DiskState → (old new : D × ManagedNames) → Result A E → Type 0
+GivesSafely g name state old new result =
+    LeavesSafely g (GivesStates (g.disk old.0) (g.disk new.0) name state (Sealed (list_text (registered old.1.managed name))) result) old new
+
+-- No state is possible besides those that were, at any moment, and names stand as they stood; at Ok a crash leaves each so.
+pub record SettlesStates {A E : Type 0} (old new : Disk) (result : Result A E) : Type 0 where
+  pub moments : Throughout (Within (possible_now old)) old new
+  pub now : SameStates old new
+  pub ok : OnOk result (IsSettled new)
+
+-- A writer's file is sealed. Whatever its checksum is, no other file is touched. Where that is right, the file may at each moment have all that was written, with its
+-- footer, and no other state is possible besides; at Ok it has it. Where its name was deleted since, nothing changed.
+pub record SealsStates {A E D W C : Type 0} (g : Ghosts D W C) (old new : D) (w : ManagedWriter D W C) (result : Result A E) : Type 0 where
+  pub touches : TouchesOnly (λ n. n ≡ (g.state_of w.writer).name) (g.disk old) (g.disk new)
+  pub moments : IsSummed g.state_of w
+      → Throughout (λ possible. MayAdd (possible_now (g.disk old)) possible (g.state_of w.writer).name (Sealed (sealed (g.state_of w.writer).written))) (g.disk old) (g.disk new)
+  pub stands : (g.view old).lives w.writer ≡ true → IsSummed g.state_of w → OnOk result ((g.disk new).now (g.state_of w.writer).name ≡ Sealed (sealed (g.state_of w.writer).written))
+  pub gone : (g.view old).lives w.writer ≡ false → KeepsDisk (g.disk old) (g.disk new)
+
+-- a name that is managed no more has no file after any crash
+abbrev pub Forgets : {D W C : Type 0} → Ghosts D W C → (old new : D × ManagedNames) → Type 0
+Forgets g old new = (n : List ℕ) → has old.1.managed n ≡ true → has new.1.managed n ≡ false → (s : DiskState) → possible_now (g.disk new.0) n s → s ≡ Absent
+
+-- A collection tries this name: at each moment it may be absent besides, and is where it is told as done. No other name is touched.
+pub record TriesStates {E : Type 0} (old new : Disk) (name : List ℕ) (result : Result CollectStep E) : Type 0 where
+  pub moments : Throughout (λ possible. MayAdd (possible_now old) possible name Absent) old new
+  pub now : OnlyMoves (λ n. n ≡ name) old new
+  pub gone : IfOk result (λ step. is_done step ≡ true → new.now name ≡ Absent)
+
+-- that is so of the first name left of a collection
+abbrev pub StepsSafely : {E D W C : Type 0} → Ghosts D W C → (number : ℕ) → (old new : D × ManagedNames) → Result CollectStep E → Type 0
+StepsSafely g number old new result =
+    (c : Collection) (name : List ℕ) (left : List (List ℕ)) → collection_at old.1.collections number ≡ Some c → c.untried ≡ name ∷ left
+    → LeavesSafely g (TriesStates (g.disk old.0) (g.disk new.0) name result) old new
+
+-- The list may have these names besides. No file is touched. A name that is managed no more has no file after any crash.
+pub record ShortensStates {D W C : Type 0} (g : Ghosts D W C) (left : List (List ℕ)) (old new : D × ManagedNames) : Type 0 where
+  pub moments : Throughout (λ possible. MayAdd (possible_now (g.disk old.0)) possible list_name (Sealed (list_text left))) (g.disk old.0) (g.disk new.0)
+  pub now : OnlyMoves (λ n. n ≡ list_name) (g.disk old.0) (g.disk new.0)
+  pub forgets : IsTracked g old → Forgets g old new
+
+-- that is so of the names that a collection's end leaves
+abbrev pub EndsSafely : {D W C : Type 0} → Ghosts D W C → (number : ℕ) → (old new : D × ManagedNames) → Type 0
+EndsSafely g number old new =
+    (c : Collection) → collection_at old.1.collections number ≡ Some c → LeavesSafely g (ShortensStates g (without c.done old.1.managed) old new) old new
+
 -- A collection that tries these names touches them and the list alone. A name that is managed no more has no file after any crash.
-pub record CollectsFiles {D W C : Type 0} (g : Ghosts D W C) (names : List (List ℕ)) (old new : D × List (List ℕ)) : Type 0 where
+pub record CollectsStates {D W C : Type 0} (g : Ghosts D W C) (names : List (List ℕ)) (old new : D × ManagedNames) : Type 0 where
   pub touches : TouchesOnly (AnyOrList names) (g.disk old.0) (g.disk new.0)
-  pub forgets : (n : List ℕ) → has old.1 n ≡ true → has new.1 n ≡ false → (s : DiskState) → possible_now (g.disk new.0) n s → s ≡ Absent
+  pub forgets : IsTracked g old → Forgets g old new
+
+-- What a collection of these names did, whatever it answered: what it left, of the names, the files, the list, and of what a crash may leave.
+pub record CollectsNames {E D W C : Type 0} (g : Ghosts D W C) (names : List (List ℕ)) (old new : D × ManagedNames) (result : Result GarbageCollectionResult E) : Type 0 where
+  pub leaves : Leaves g names old new result
+  pub saves : SavesList g old new result
+  pub saves_none : SavesNone g old new result
+  pub safe : g.tells_images → LeavesSafely g (CollectsStates g names old new) old new
 
 -- What follows is cited by private functions alone.
 
--- a step that lists a file keeps track, and touches the list alone
-pub record Tracks {D W C : Type 0} (g : Ghosts D W C) (old new : D × List (List ℕ)) : Type 0 where
+-- A step that lists a name keeps track. At each moment the list may be that of the managed names and this one; at Ok each list that may be left has each of them, unless
+-- an unfinished collection has done it.
+pub record ListsName {D W C : Type 0} (g : Ghosts D W C) (old new : D × ManagedNames) (name : List ℕ) : Type 0 where
   pub tracks : IsTracked g old → KeepsTrack g old new
-  pub touches : TouchesOnly (λ n. n ≡ list_name) (g.disk old.0) (g.disk new.0)
+  pub moments : Throughout (λ possible. MayAdd (possible_now (g.disk old.0)) possible list_name (Sealed (list_text (registered old.1.managed name)))) (g.disk old.0) (g.disk new.0)
+  pub others : KeepsOtherStates (g.disk old.0) (g.disk new.0) list_name
 
 -- The list is given this text: at each moment it may have it, or be as it was, and at Ok it has it. Where memory was wanted, no state is possible that wasn't.
 pub record SavesText {A : Type 0} (old new : Disk) (text : List ℕ) (result : Result A IoError) : Type 0 where
@@ -65,9 +153,9 @@ pub record SavesText {A : Type 0} (old new : Disk) (text : List ℕ) (result : R
   pub memory : IfErr result (IoCause (Unit {0}) (Within (possible_now old) (possible_now new)))
 
 -- The list of the managed names was saved so, and its text is a list of them.
-pub record SavesManaged {A D W C : Type 0} (g : Ghosts D W C) (old new : D × List (List ℕ)) (result : Result A IoError) : Type 0 where
-  pub saves : SavesText (g.disk old.0) (g.disk new.0) (list_text old.1) result
-  pub listed : IsListOf (list_text old.1) old.1
+pub record SavesManaged {A D W C : Type 0} (g : Ghosts D W C) (old new : D × ManagedNames) (result : Result A IoError) : Type 0 where
+  pub saves : SavesText (g.disk old.0) (g.disk new.0) (list_text old.1.managed) result
+  pub listed : IsListOf (list_text old.1.managed) old.1.managed
 
 -- A name is tried: it may be absent besides, and is where it is told as gone; what is absent stays so.
 pub record TriesState {E : Type 0} (old new : Disk) (name : List ℕ) (result : Result Bool E) : Type 0 where
@@ -77,26 +165,10 @@ pub record TriesState {E : Type 0} (old new : Disk) (name : List ℕ) (result : 
   pub no_more : MayAdd (possible_now old) (possible_now new) name Absent
   pub time : Elapses old new
 
--- at most these names may be absent besides
-pub record MayBeGone (names : List (List ℕ)) (old new : Possible) : Type 0 where
-  pub each : (n : List ℕ) (s : DiskState) → new n s → old n s ⊎ ((has names n ≡ true) × (s ≡ Absent))
+-- each managed name that isn't left is done by an unfinished collection
+abbrev pub LacksDone : (left : List (List ℕ)) → ManagedNames → Type 0
+LacksDone left names = (n : List ℕ) → has names.managed n ≡ true → has left n ≡ false → has (done_names names.collections) n ≡ true
 
--- each of these names is absent now
-abbrev pub AreAbsent : List (List ℕ) → Disk → Type 0
-AreAbsent names disk = (n : List ℕ) → has names n ≡ true → disk.now n ≡ Absent
-
--- These names are tried: at each moment they may be absent besides, and all others are as they were; those that are told as deleted are absent.
-pub record TriesStates {E : Type 0} (names : List (List ℕ)) (old new : Disk) (result : Result GarbageCollectionResult E) : Type 0 where
-  pub moments : Throughout (MayBeGone names (possible_now old)) old new
-  pub others : (n : List ℕ) → has names n ≡ false → new.now n ≡ old.now n
-  pub absent : IfOk result (λ r. AreAbsent (names_of r.deleted_files.items) new)
-
--- each managed name that isn't left is absent now
-abbrev pub LacksAbsent : {D W C : Type 0} → Ghosts D W C → (left : List (List ℕ)) → D × List (List ℕ) → Type 0
-LacksAbsent g left managed = (n : List ℕ) → has managed.1 n ≡ true → has left n ≡ false → (g.disk managed.0).now n ≡ Absent
-
--- The list is cut to the names that are left: where the others are absent, that is durable before the list lacks them.
-pub record CutsList {D W C : Type 0} (g : Ghosts D W C) (left : List (List ℕ)) (old new : D × List (List ℕ)) : Type 0 where
-  pub tracks : LacksAbsent g left old → IsTracked g old → KeepsTrack g old new
-  pub touches : TouchesOnly (λ n. n ≡ list_name) (g.disk old.0) (g.disk new.0)
-  pub forgets : LacksAbsent g left old → (n : List ℕ) → has old.1 n ≡ true → has new.1 n ≡ false → (s : DiskState) → possible_now (g.disk new.0) n s → s ≡ Absent
+-- The list is cut to the names that are left: the device has kept that the others are absent before the list lacks them.
+abbrev pub CutsList : {D W C : Type 0} → Ghosts D W C → (left : List (List ℕ)) → (old new : D × ManagedNames) → Type 0
+CutsList g left old new = LacksDone left old.1 → LeavesSafely g (ShortensStates g left old new) old new

@@ -6,14 +6,15 @@ use Rattle.tv_base.specs.declared.open_errors.OpenWriteError.{OpenWriteError}
 use Rattle.tv_directory.specs.Images.{KeepsDisk}
 use Rattle.tv_directory.specs.View.{View, OnlyReads}
 use Rattle.tv_directory.specs.declared.directory.Directory.{Ghosts}
+use Rattle.tv_managed.specs.Names.{ManagedNames}
 
--- the managed names stay, and of the directory below what such a call keeps
-pub record KeepsNames {D W : Type 0} (keeps : View W → View W → Type 0) (view : D → View W) (old new : D × List (List ℕ)) : Type 0 where
+-- the managed names and the unfinished collections stay, and of the directory below what such a call keeps
+pub record KeepsNames {D W : Type 0} (keeps : View W → View W → Type 0) (view : D → View W) (old new : D × ManagedNames) : Type 0 where
   pub names : new.1 ≡ old.1
   pub below : keeps (view old.0) (view new.0)
 
--- A step that only asks: the managed names stay, and of the directory below what a read keeps; where it fails, it is for these causes.
-pub record OnlyAsks {D W C : Type 0} (g : Ghosts D W C) (old new : D × List (List ℕ)) (causes : Type 0) : Type 0 where
+-- A step that only asks: the managed names and the unfinished collections stay, and of the directory below what a read keeps; where it fails, it is for these causes.
+pub record OnlyAsks {D W C : Type 0} (g : Ghosts D W C) (old new : D × ManagedNames) (causes : Type 0) : Type 0 where
   pub frame : KeepsNames (OnlyReads g.told) g.view old new
   pub images : g.tells_images → KeepsDisk (g.disk old.0) (g.disk new.0)
   pub faults : causes

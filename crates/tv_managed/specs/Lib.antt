@@ -1,5 +1,6 @@
 pub mod Reading
 pub mod Writers
+pub mod Names
 pub mod Managed
 pub mod Collecting
 pub mod Crashes

@@ -1,6 +1,7 @@
 -- How a directory is wrapped, or isn't.
 use Rattle.std.specs.Prelude.{◌≡◌, ℕ, List, Option, Some, option_map, string_bytes, Result, IfErr, OnOk}
 use Rattle.tv_model.specs.Names.{list_name}
+use Rattle.tv_model.specs.Collections.{no_collections}
 use Rattle.tv_model.specs.Listing.{Lists}
 use Rattle.tv_model.specs.Files.{Rose}
 use Rattle.tv_base.specs.Causes.{IsDevice}
@@ -8,6 +9,7 @@ use Rattle.tv_base.specs.declared.error.TantivyError.{TantivyError}
 use Rattle.tv_base.specs.declared.error.TantivyError.TheVariants as errors
 use Rattle.tv_directory.specs.View.{Told, View, OnlyReads}
 use Rattle.tv_directory.specs.declared.directory.Directory.{Ghosts}
+use Rattle.tv_managed.specs.Names.{ManagedNames}
 
 -- what is read of the list stands for no names at all, not even for an empty list of them
 abbrev pub ListsNothing : Option (List ℕ) → Type 0
@@ -30,9 +32,10 @@ pub record ListFaults {A W : Type 0} (told : Told) (old new : View W) (result : 
   pub quiet : OnOk result (new.faults ≡ old.faults)
   pub cause : IfErr result (ListRefusal told old new)
 
--- The directory was only read from, and is wrapped: the managed names are those for which its list stands.
-pub record Wraps {D W C : Type 0} (g : Ghosts D W C) (directory : D) (managed : D × List (List ℕ)) : Type 0 where
-  pub names : g.told.content → Lists ((g.view directory).reads list_name) managed.1
+-- The directory was only read from, and is wrapped: the managed names are those for which its list stands, and no collection was begun.
+pub record Wraps {D W C : Type 0} (g : Ghosts D W C) (directory : D) (managed : D × ManagedNames) : Type 0 where
+  pub names : g.told.content → Lists ((g.view directory).reads list_name) managed.1.managed
+  pub collections : managed.1.collections ≡ no_collections
   pub quiet : (g.view managed.0).faults ≡ (g.view directory).faults
   pub frame : OnlyReads g.told (g.view directory) (g.view managed.0)
 

@@ -1,16 +1,18 @@
-//! Deletes the managed files that nothing needs.
-ghost use Rattle.std.specs.Prelude.{◌≡◌, ◌≢◌, [], ◌∷◌, ◌++◌, ℕ, List, true, false, IfOk, IfErr, OnOk, OnErr, if◌then◌else◌};
+//! Deletes the managed files that nothing needs, at once or in steps.
+ghost use Rattle.std.specs.Prelude.{◌≡◌, ◌≢◌, ◌≤◌, [], ◌∷◌, ◌++◌, ℕ, List, length, true, false, Option, Some, None, IsSome, option_map, IfOk, IfErr, OnOk, OnErr};
 ghost use Rattle.std.specs.List.{list_all};
-ghost use Rattle.tv_model.specs.Names.{is_file_name, is_plain, list_name};
-ghost use Rattle.tv_model.specs.Collections.{collectable, without};
+ghost use Rattle.std.specs.Option.{IfSome};
+ghost use Rattle.tv_model.specs.Names.{has, is_file_name, is_plain, list_name};
+ghost use Rattle.tv_model.specs.Collections.{Collection as CollectionState, begun, collectable, collection_at, held, no_collections, taken, without};
 ghost use Rattle.tv_directory.specs.Images.{DeletesState};
-ghost use Rattle.tv_directory.specs.View.{MayDelete};
+ghost use Rattle.tv_directory.specs.View.{Kept, MayDelete, OnlyReads};
 ghost use Rattle.tv_directory.specs.Calls.{DeleteFaults, Deletes, EndsWriters};
-ghost use Rattle.tv_managed.specs.Crashes.{IsTracked, KeepsTrack, CollectsFiles, CutsList, TriesState, TriesStates};
-ghost use Rattle.tv_managed.specs.Managed.{AreManaged, SavesList};
+ghost use Rattle.tv_managed.specs.Crashes.{AreListed, CollectsNames, EndsSafely, IsTracked, LeavesSafely, CutsList, SettlesStates, StepsSafely, TouchesOnly, AnyOrList, TriesState};
 ghost use Rattle.tv_managed.specs.Frames.{KeepsNames, OnlyAsks};
-ghost use Rattle.tv_managed.specs.Collecting.{Among, names_of, Leaves, SavesNone, Tries, Tried, TriesName, TriesNone, TriesSome, CollectFaults, EndsUnlocked, OnlyDeletes, Shortens, is_io_error};
+ghost use Rattle.tv_managed.specs.Names.{AreManaged, ManagedNames};
+ghost use Rattle.tv_managed.specs.Collecting.{Among, BeginFaults, Begins, ChangesNothing, CollectFaults, EndFaults, EndsCollection, HasLeft, LockedFaults, OnlyDeletes, Shortens, Steps, Tries, TriesAll, TriesName, TriesSome, names_of, standing, taken_by};
 
+use crate::collection::{CollectStep, Collections, GarbageCollectionResult};
 use crate::list::save_managed_paths;
 use crate::managed_directory::ManagedDirectory;
 use std::alloc::Global;
@@ -18,35 +20,6 @@ use std::collections::BTreeSet;
 use tv_base::{DeleteError, IoError, TantivyError};
 use tv_directory::{Directory, meta_lock};
 use tv_model::Memory;
-
-/// The names that a collection tried, in their order: those that are gone, and those whose delete the
-/// device refused.
-#[derive(Debug, Drop, PartialEq, Eq)]
-pub struct GarbageCollectionResult {
-    /// The names that are gone, those that were absent before too.
-    pub deleted_files: Vec<String>,
-    /// The names whose delete the device refused. They stay managed.
-    pub failed_to_delete_files: Vec<String>,
-}
-
-impl GarbageCollectionResult {
-    // Adds a name that was tried: it is gone, or its delete was refused.
-    fn add(&mut self, name: String, gone: bool) -> Result<(), Memory>
-        ensures deleted { OnOk result (self.new.deleted_files.items ≡ (if gone
-            then self.old.deleted_files.items ++ name ∷ []
-            else self.old.deleted_files.items)) }
-        ensures failed { OnOk result (self.new.failed_to_delete_files.items ≡ (if gone
-            then self.old.failed_to_delete_files.items
-            else self.old.failed_to_delete_files.items ++ name ∷ [])) }
-    {
-        if gone {
-            self.deleted_files.push(name)?;
-        } else {
-            self.failed_to_delete_files.push(name)?;
-        }
-        Ok(())
-    }
-}
 
 impl<D: Directory> ManagedDirectory<D> {
     /// Deletes the file. `FileDoesNotExist` comes where the name doesn't read. The name stays managed.
@@ -59,22 +32,23 @@ impl<D: Directory> ManagedDirectory<D> {
         ensures faults { DeleteFaults D.told (D.view self.old.0) (D.view self.new.0)
             name.now result }
         ensures frame { KeepsNames (MayDelete D.told) D.view self.old self.new }
-        ensures crash { D.tells_images → IsTracked D.Directory self.old
-            → KeepsTrack D.Directory self.old self.new }
-        ensures images { D.tells_images
-            → DeletesState (D.disk self.old.0) (D.disk self.new.0) name.now result }
+        ensures safe { D.tells_images → LeavesSafely D.Directory
+            (DeletesState (D.disk self.old.0) (D.disk self.new.0) name.now result)
+            self.old self.new }
     {
         self.directory.delete(name)
     }
 
-    /// Deletes each managed file whose name isn't living, in the order of the names. The living names are
+    /// Deletes each managed file whose name isn't living, in the order of the names: begins a collection, tries
+    /// each of its names, and ends it. The living names are
     /// asked for while the meta lock is held, and the lock is free while files are deleted. A file that is
     /// absent counts as deleted. One whose delete is refused has failed: it stays managed, a writer of
-    /// it lives on, and the others are still tried. Where something was deleted, the shorter list is
+    /// it lives on, and the others are still tried. Names that an unfinished collection has are left to it.
+    /// Where something was deleted, the shorter list is
     /// saved; where nothing was, each file reads what it read, and the list too. The managed names change
-    /// at the end alone: after an error they are as they were, unless the device refused a call while the
-    /// shorter list was saved. Then they are without those that were deleted, since the list that reads may
-    /// be without them. `LockFailure` comes where the lock isn't given, and then nothing changed.
+    /// at the end alone, and then the collection's number is given back; after an error they are as they
+    /// were, and the collection stays unfinished where it was begun. `LockFailure` comes where the lock isn't
+    /// given, `Exhausted` where the collection's number would be the last; then nothing changed.
     ///
     /// The device has kept what was deleted before the shorter list is saved: no crash leaves a file whose name
     /// isn't managed any more.
@@ -95,39 +69,102 @@ impl<D: Directory> ManagedDirectory<D> {
     ) -> Result<GarbageCollectionResult, TantivyError>
         requires { L.IsAlwaysCallable living }
         ensures tries { IfOk result (λ r. (set : _) × L.post living set
-            × Tries D.Directory (collectable (names_of set.keys) self.old.1)
-            self.old self.new r) }
-        ensures leaves { (names : List (List ℕ)) × Leaves D.Directory names self.old self.new
+            × Tries D.Directory (taken_by (names_of set.keys) self.old.1) self.old self.new r) }
+        ensures collects { (names : List (List ℕ))
+            × CollectsNames D.Directory names self.old self.new result
             × Among (L.post living) (λ set. names_of set.keys) self.old.1 names }
-        ensures saves_none { SavesNone D.Directory self.old self.new result }
-        ensures kept { IfErr result (λ e. is_io_error e ≡ false → self.new.1 ≡ self.old.1) }
-        ensures list { SavesList D.Directory self.old self.new result }
         ensures faults { CollectFaults D.Directory self.old self.new result }
         ensures frame { MayDelete D.told (D.view self.old.0) (D.view self.new.0) }
-        ensures crash { D.tells_images → IsTracked D.Directory self.old
-            → KeepsTrack D.Directory self.old self.new }
-        ensures images { D.tells_images → (names : List (List ℕ))
-            × CollectsFiles D.Directory names self.old self.new
-            × Among (L.post living) (λ set. names_of set.keys) self.old.1 names }
-    {
-        let names = self.unneeded(living)?;
-        self.collect(names)
-    }
-
-    // The managed names that nothing needs. The living ones are asked for while the meta lock is held.
-    fn unneeded<L: FnOnce() -> BTreeSet<String>>(
-        &mut self,
-        living: L,
-    ) -> Result<Vec<String>, TantivyError>
-        requires { L.IsAlwaysCallable living }
-        ensures names { IfOk result (λ names. (set : _) × L.post living set
-            × (names_of names.items ≡ collectable (names_of set.keys) self.old.1)) }
-        ensures plain { IfOk result (λ names. list_all is_plain (names_of names.items) ≡ true) }
-        ensures asks { OnlyAsks D.Directory self.old self.new
-            (CollectFaults D.Directory self.old self.new result) }
     {
         let living = self.under_meta_lock(living)?;
-        Ok(names_to_collect(self.alloc, &living, &self.managed)?)
+        let number = self.begin(&living)?;
+        self.try_each(number)?;
+        let result = self.collect_end(number)?;
+        self.collections.give_back();
+        Ok(result)
+    }
+
+    /// Begins a collection, and answers its number. It takes the managed names that are neither living nor of
+    /// an unfinished collection, and keeps them until it ends. The meta lock is taken, and freed, and the device
+    /// has kept what was written before. `LockFailure` comes where the lock isn't given, `Exhausted` where the
+    /// number would be the last.
+    pub fn collect_begin(&mut self, living: &BTreeSet<String>) -> Result<u64, TantivyError>
+        ensures begins { IfOk result (Begins (taken_by (names_of living.now.keys) self.old.1)
+            self.old.1 self.new.1) }
+        ensures err { OnErr result (self.new.1 ≡ self.old.1) }
+        ensures faults { CollectFaults D.Directory self.old self.new result }
+        ensures frame { OnlyReads D.told (D.view self.old.0) (D.view self.new.0) }
+        ensures safe { D.tells_images → LeavesSafely D.Directory
+            (SettlesStates (D.disk self.old.0) (D.disk self.new.0) result) self.old self.new }
+    {
+        self.under_meta_lock(|| ())?;
+        self.begin(living)
+    }
+
+    /// The names that a collection took, in their order, and nothing where no such collection is unfinished.
+    /// Takes no memory.
+    pub fn collect_names(&self, id: u64) -> Option<&[String]>
+        ensures absent { collection_at self.now.1.collections id ≡ None → result ≡ None }
+        ensures names { (c : CollectionState) → collection_at self.now.1.collections id ≡ Some c
+            → (names : _) × (result ≡ Some names) × AreManaged (names_of names.now)
+            × ((n : List ℕ) → has (names_of names.now) n ≡ has (taken c) n) }
+    {
+        self.collections.names(id)
+    }
+
+    /// How many names a collection has yet to try, and nothing where no such collection is unfinished. Takes
+    /// no memory.
+    pub fn collect_left(&self, id: u64) -> Option<usize>
+        ensures { result ≡ option_map (λ c. length c.untried)
+            (collection_at self.now.1.collections id) }
+    {
+        self.collections.left(id)
+    }
+
+    /// Deletes the first name that a collection has yet to try. A file that is absent counts as done. One whose
+    /// delete is refused has failed, and a writer of it lives on. The name stays managed. It fails where memory
+    /// was wanted alone, and then nothing changed.
+    pub fn collect_delete(&mut self, id: u64) -> Result<CollectStep, TantivyError>
+        requires { HasLeft self.old.1.collections id }
+        ensures steps { Steps D.Directory id self.old self.new result }
+        ensures only { OnlyDeletes D.Directory self.old self.new }
+        ensures safe { D.tells_images
+            → StepsSafely D.Directory id self.old self.new result }
+    {
+        let name = self.collections.next_name(self.alloc, id)?;
+        let is_done = self.delete_managed(name.as_str())?;
+        self.collections.mark(id, is_done);
+        Ok(CollectStep::new(name, is_done))
+    }
+
+    /// Ends a collection: what is done is managed no more, and what failed or wasn't tried stays managed. Where
+    /// something is done, the shorter list is saved; where nothing is, each file reads what it read, and the
+    /// list too. After an error the collection isn't finished, and the managed names are as they were.
+    ///
+    /// The device has kept what was deleted before the shorter list is saved.
+    pub fn collect_end(&mut self, id: u64) -> Result<GarbageCollectionResult, TantivyError>
+        requires { IsSome (collection_at self.old.1.collections id) }
+        ensures ends { EndsCollection D.Directory id self.old self.new result }
+        ensures faults { EndFaults D.Directory self.old self.new result }
+        ensures frame { Kept D.told (D.view self.old.0) (D.view self.new.0) }
+        ensures safe { D.tells_images → EndsSafely D.Directory id self.old self.new }
+    {
+        let result = self.collections.result(self.alloc, id)?;
+        self.take_out(result.deleted_files.as_slice())?;
+        self.collections.finish(id);
+        Ok(result)
+    }
+
+    /// No collection is unfinished from now on, and numbers begin at 0, as after a new wrap. What is done of one
+    /// stays managed. Where each managed name is on every list that a crash may leave, track is kept.
+    /// Takes no memory.
+    pub fn forget_collections(&mut self)
+        ensures forgets { self.new.1 ≡ record self.old.1 { collections = no_collections } }
+        ensures directory { self.new.0 ≡ self.old.0 }
+        ensures tracked { AreListed D.Directory self.old → IsTracked D.Directory self.old
+            → IsTracked D.Directory self.new }
+    {
+        self.collections = Collections::new(self.alloc);
     }
 
     // What a call answers that is made while the meta lock is held.
@@ -135,7 +172,7 @@ impl<D: Directory> ManagedDirectory<D> {
         requires { F.IsAlwaysCallable call }
         ensures answer { IfOk result (F.post call) }
         ensures asks { OnlyAsks D.Directory self.old self.new
-            (CollectFaults D.Directory self.old self.new result) }
+            (LockedFaults D.Directory self.old self.new result) }
     {
         let lock = self.acquire_lock(&meta_lock())?;
         let answer = call();
@@ -143,55 +180,60 @@ impl<D: Directory> ManagedDirectory<D> {
         Ok(answer)
     }
 
-    // Deletes these names, and takes those that are gone out of the managed ones. The room for the names
-    // that are left is made before the first delete.
-    fn collect(&mut self, names: Vec<String>) -> Result<GarbageCollectionResult, TantivyError>
-        requires { list_all is_plain (names_of names.items) ≡ true }
-        ensures tries { IfOk result (λ r. Tried D.Directory (names_of names.items) self.old self.new
-            (names_of r.deleted_files.items) (names_of r.failed_to_delete_files.items)) }
-        ensures names { IfOk result (λ r. self.new.1
-            ≡ without (names_of r.deleted_files.items) self.old.1) }
-        ensures leaves { TriesSome D.Directory (names_of names.items) self.old self.new }
-        ensures saves_none { SavesNone D.Directory self.old self.new result }
-        ensures ends { EndsUnlocked D.Directory self.old self.new result }
-        ensures crash { D.tells_images → IsTracked D.Directory self.old
-            → KeepsTrack D.Directory self.old self.new }
+    // Begins a collection, where there is a number for it, once the device has kept what was written.
+    fn begin(&mut self, living: &BTreeSet<String>) -> Result<u64, TantivyError>
+        ensures begins { IfOk result (Begins (taken_by (names_of living.now.keys) self.old.1)
+            self.old.1 self.new.1) }
+        ensures err { OnErr result (self.new.1 ≡ self.old.1) }
+        ensures faults { BeginFaults D.Directory self.old self.new result }
+        ensures frame { OnlyReads D.told (D.view self.old.0) (D.view self.new.0) }
         ensures images { D.tells_images
-            → CollectsFiles D.Directory (names_of names.items) self.old self.new }
+            → SettlesStates (D.disk self.old.0) (D.disk self.new.0) result }
     {
-        let managed = self.managed.clone()?;
+        if self.collections.is_spent() {
+            return Err(TantivyError::Exhausted);
+        }
         self.sync_directory()?;
-        let result = self.delete_each(names)?;
-        self.take_out(managed, result.deleted_files.as_slice())?;
-        Ok(result)
+        let names = names_to_collect(self.alloc, living, &self.managed, &self.collections)?;
+        Ok(self.collections.begin(self.alloc, names)?)
     }
 
-    // Tries each of these names.
-    fn delete_each(&mut self, names: Vec<String>) -> Result<GarbageCollectionResult, Memory>
-        requires { list_all is_plain (names_of names.items) ≡ true }
-        ensures tries { IfOk result (λ r. Tried D.Directory (names_of names.items) self.old self.new
-            (names_of r.deleted_files.items) (names_of r.failed_to_delete_files.items)) }
-        ensures leaves { TriesSome D.Directory (names_of names.items) self.old self.new }
+    // Tries each name that the collection has left.
+    fn try_each(&mut self, number: u64) -> Result<(), TantivyError>
+        ensures leaves { (before : ManagedNames) (names : List (List ℕ))
+            → self.old.1 ≡ standing before (begun names) → number ≡ before.collections.next
+            → TriesSome D.Directory before names self.old self.new }
+        ensures all { TriesAll number self.new.1 result }
+        ensures memory { IfErr result (λ e. e ≡ TantivyError.Memory) }
         ensures only { OnlyDeletes D.Directory self.old self.new }
-        ensures images { D.tells_images → TriesStates (names_of names.items)
-            (D.disk self.old.0) (D.disk self.new.0) result }
+        ensures safe { D.tells_images → (before : ManagedNames) (names : List (List ℕ))
+            → self.old.1 ≡ standing before (begun names) → number ≡ before.collections.next
+            → LeavesSafely D.Directory (TouchesOnly (AnyOrList names)
+            (D.disk self.old.0) (D.disk self.new.0)) self.old self.new }
     {
-        let mut tried = GarbageCollectionResult {
-            deleted_files: Vec::new(self.alloc),
-            failed_to_delete_files: Vec::new(self.alloc),
-        };
-        for name in names {
-            let gone = self.delete_managed(name.as_str())?;
-            tried.add(name, gone)?;
+        while self.has_left(number) {
+            self.collect_delete(number)?;
         }
-        Ok(tried)
+        Ok(())
+    }
+
+    // Whether a collection has names that are yet to be tried.
+    fn has_left(&self, number: u64) -> bool
+        ensures left { result ≡ true → HasLeft self.now.1.collections number }
+        ensures none { result ≡ false → HasLeft self.now.1.collections number → ⊥ }
+    {
+        match self.collections.left(number) {
+            Some(left) => 0 < left,
+            None => false,
+        }
     }
 
     // Deletes a managed name, and answers whether it is gone.
     fn delete_managed(&mut self, name: &str) -> Result<bool, Memory>
         requires { is_plain name.now ≡ true }
         ensures tried { IfOk result (TriesName D.Directory name.now self.old self.new) }
-        ensures err { OnErr result (TriesNone D.Directory self.old self.new) }
+        ensures err { OnErr result (ChangesNothing D.Directory self.old self.new) }
+        ensures names { self.new.1 ≡ self.old.1 }
         ensures only { OnlyDeletes D.Directory self.old self.new }
         ensures images { D.tells_images
             → TriesState (D.disk self.old.0) (D.disk self.new.0) name.now result }
@@ -209,36 +251,36 @@ impl<D: Directory> ManagedDirectory<D> {
         }
     }
 
-    // Takes these names out of the managed ones, where there are some. `managed` is a copy of all.
-    fn take_out(&mut self, managed: BTreeSet<String>, deleted: &[String]) -> Result<(), IoError>
-        requires ordered { AreManaged (names_of managed.keys) }
-        requires copies { names_of managed.keys ≡ self.old.1 }
-        ensures shortens { Shortens D.Directory (without (names_of deleted.now) self.old.1)
+    // Takes these names out of the managed ones, where there are some.
+    fn take_out(&mut self, done: &[String]) -> Result<(), IoError>
+        ensures shortens { Shortens D.Directory (without (names_of done.now) self.old.1.managed)
             self.old self.new result }
-        ensures saves_none { deleted.now ≡ [] → self.new ≡ self.old }
-        ensures images { D.tells_images → CutsList D.Directory
-            (without (names_of deleted.now) self.old.1) self.old self.new }
+        ensures saves_none { done.now ≡ [] → self.new ≡ self.old }
+        ensures safe { D.tells_images → CutsList D.Directory
+            (without (names_of done.now) self.old.1.managed) self.old self.new }
     {
-        if deleted.is_empty() {
+        if done.is_empty() {
             return Ok(());
         }
-        self.save_shorter(without(managed, deleted))
+        let managed = self.managed.clone()?;
+        self.save_shorter(without(managed, done))
     }
 
     // Waits until the device has kept what was deleted, and saves the list of the names that are left.
     fn save_shorter(&mut self, left: BTreeSet<String>) -> Result<(), IoError>
-        requires { (gone : List (List ℕ)) × (names_of left.keys ≡ without gone self.old.1) }
+        requires { (gone : List (List ℕ)) × (names_of left.keys ≡ without gone self.old.1.managed) }
         ensures shortens { Shortens D.Directory (names_of left.keys) self.old self.new result }
-        ensures images { D.tells_images
+        ensures safe { D.tells_images
             → CutsList D.Directory (names_of left.keys) self.old self.new }
     {
         self.sync_directory()?;
-        let saved = save_managed_paths(self.alloc, &mut self.directory, &left);
-        if matches!(saved, Err(IoError::Memory)) {
-            return saved;
+        match save_managed_paths(self.alloc, &mut self.directory, &left) {
+            Ok(()) => {
+                self.managed = left;
+                Ok(())
+            }
+            Err(error) => Err(error),
         }
-        self.managed = left;
-        saved
     }
 }
 
@@ -254,18 +296,28 @@ fn without(names: BTreeSet<String>, gone: &[String]) -> BTreeSet<String>
     names
 }
 
-// The managed names that aren't living, in their order.
+// Whether a name is living, or an unfinished collection has it.
+#[tactic(auto, using(crate::proofs::SetsOfTexts::had_is))]
+fn is_needed(living: &BTreeSet<String>, collections: &Collections, name: &str) -> bool
+    ensures { result ≡ has (names_of living.now.keys ++ held collections.now) name.now }
+{
+    living.contains(name) || collections.holds(name)
+}
+
+// The managed names that are neither living nor of an unfinished collection, in their order.
 fn names_to_collect(
     alloc: Global,
     living: &BTreeSet<String>,
     managed: &BTreeSet<String>,
+    collections: &Collections,
 ) -> Result<Vec<String>, Memory>
     ensures { IfOk result (λ names. names_of names.items
-        ≡ collectable (names_of living.now.keys) (names_of managed.now.keys)) }
+        ≡ collectable (names_of living.now.keys ++ held collections.now)
+        (names_of managed.now.keys)) }
 {
     let mut names = Vec::new(alloc);
     for name in managed {
-        if !living.contains(name.as_str()) {
+        if !is_needed(living, collections, name.as_str()) {
             names.push(String::from_str(alloc, name.as_str())?)?;
         }
     }

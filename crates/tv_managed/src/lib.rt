@@ -2,6 +2,7 @@
 #![tactic(auto)]
 
 mod collecting;
+mod collection;
 mod list;
 mod list_json;
 mod managed_directory;
@@ -10,6 +11,6 @@ mod sharing;
 mod telling;
 mod writer;
 
-pub use collecting::GarbageCollectionResult;
+pub use collection::{CollectStep, GarbageCollectionResult};
 pub use managed_directory::{ManagedDirectory, Refused};
 pub use writer::ManagedWriter;

@@ -6,7 +6,8 @@ ghost use Rattle.tv_directory.specs.Images.{KeepsDisk};
 ghost use Rattle.tv_directory.specs.View.{OnlyReads};
 ghost use Rattle.tv_managed.specs.Collecting.{names_of};
 ghost use Rattle.tv_managed.specs.Crashes.{SavesText};
-ghost use Rattle.tv_managed.specs.Managed.{AreManaged, SavesNames};
+ghost use Rattle.tv_managed.specs.Managed.{SavesNames};
+ghost use Rattle.tv_managed.specs.Names.{AreManaged};
 ghost use Rattle.tv_managed.specs.Wrapping.{ListFaults};
 
 use crate::list_json::read_names;

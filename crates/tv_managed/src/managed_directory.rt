@@ -1,25 +1,27 @@
 //! A directory that writes down the name of each file before it makes the file.
-ghost use Rattle.std.specs.Prelude.{List, Option, ℕ, ◌≡◌, ◌≢◌, ◌<◌, ◌+◌, ◌^◌, [], ◌∷◌, true, length, Some, None, is_some, IfOk, IfErr, OnOk, OnErr, map, string_bytes};
+ghost use Rattle.std.specs.Prelude.{List, Option, ℕ, ◌≡◌, ◌≢◌, ◌<◌, ◌+◌, ◌^◌, [], ◌∷◌, true, false, length, Some, None, is_some, IfOk, IfErr, OnOk, OnErr, map, string_bytes};
 ghost use Rattle.std.specs.List.{list_all};
 ghost use Rattle.std.specs.BTreeSet.{insert_key};
-ghost use Rattle.tv_model.specs.Names.{byte_cmp, is_file_name, is_plain, is_undotted, list_name};
+ghost use Rattle.tv_model.specs.Names.{byte_cmp, has, is_file_name, is_plain, is_undotted, list_name};
 ghost use Rattle.tv_model.specs.Disk.{Left, Sealed, Unsealed};
 ghost use Rattle.tv_model.specs.Listed.{ListsEachFile, ListsItsFiles};
 ghost use Rattle.tv_model.specs.Listing.{Lists};
-ghost use Rattle.tv_model.specs.Collections.{without};
+ghost use Rattle.tv_model.specs.Collections.{held, without};
 ghost use Rattle.tv_model.specs.Checksum.{crc32};
 ghost use Rattle.tv_model.specs.Footer.{footer, sealed};
 ghost use Rattle.tv_checksum.specs.Crc32.{HasTaken};
 ghost use Rattle.tv_directory.specs.View.{Frame, Kept, OnlyReads};
-ghost use Rattle.tv_directory.specs.Calls.{AskFaults, ReadFaults, OpenFaults, IoFaults, DeviceFaults, Appends, HandsBack, Touches, Flushes, Notes};
+ghost use Rattle.tv_directory.specs.Calls.{AskFaults, ReadFaults, IoFaults, DeviceFaults, Appends, HandsBack, Touches, Flushes, Notes};
 ghost use Rattle.tv_directory.specs.Device.{IsSilent};
-ghost use Rattle.tv_directory.specs.Images.{KeepsDisk, Settles};
-ghost use Rattle.tv_managed.specs.Writers.{HandsOn, IsNewManaged, IsSummed};
-ghost use Rattle.tv_managed.specs.Managed.{HasListed, OnlySaves, Registers, KeepsList, Creates, GivesFile, SealsBody};
-ghost use Rattle.tv_managed.specs.Crashes.{IsTracked, KeepsTrack, OrList, TouchesOnly, Tracks, SavesManaged, WrapsDisk};
+ghost use Rattle.tv_directory.specs.Images.{KeepsDisk, Settles, WritesState};
+ghost use Rattle.tv_managed.specs.Writers.{HandsOn, IsNewManaged, IsSummed, KeepsWritten};
+ghost use Rattle.tv_managed.specs.Managed.{HasListed, OnlySaves, ManagesFile, CreateFaults, Creates, GivesFile, SealsBody};
+ghost use Rattle.tv_managed.specs.Crashes.{GivesSafely, LeavesSafely, ListsName, ReadsSafely, SavesManaged, SealsStates, WrapsDisk};
 ghost use Rattle.tv_managed.specs.Frames.{KeepsNames, MakeFaults, OnlyAsks};
+ghost use Rattle.tv_managed.specs.Names.{ManagedNames};
 ghost use Rattle.tv_managed.specs.Wrapping.{NotWrapped, Wraps};
 
+use crate::collection::Collections;
 use crate::list::{load_managed_paths, save_managed_paths};
 use crate::writer::ManagedWriter;
 use std::alloc::Global;
@@ -31,26 +33,33 @@ use tv_directory::Directory;
 use tv_framing::Footer;
 use tv_model::Memory;
 
-/// A directory with the list of the files that it manages. To a contract it is the directory, and
-/// the managed names in their order.
+/// A directory with the list of the files that it manages. To a contract it is the directory, and what is
+/// kept in memory beside it: the managed names in their order, and the unfinished collections.
 ///
 /// The list is for crashes: a file that is on no list is never collected. Where the directory tells images, the
-/// clause `crash` of a call says that at each moment of it, whatever it answers, each undotted file that a
-/// crash may leave is on each list that it may leave. It holds from a wrapped directory on, whose list a crash
-/// leaves as it is (`wrap`: `tracks`). The clause `images` says which other states are possible then.
+/// clause `safe` of a call says that it keeps track: at each moment of it, whatever it answers, each undotted
+/// file that a crash may leave is on each list that it may leave. That holds from a wrapped directory on, whose
+/// list a crash leaves as it is (`wrap`: `tracks`). The clause says too which other states are possible then.
 pub struct ManagedDirectory<D: Directory> {
     pub(crate) alloc: Global,
     pub(crate) directory: D,
     pub(crate) managed: BTreeSet<String>,
+    pub(crate) collections: Collections,
 }
 
 impl<D: Directory> Model for ManagedDirectory<D> {
-    ghost use Rattle.std.specs.Prelude.{List, ℕ, map, string_bytes};
-    ghost use Rattle.tv_managed.specs.Managed.{AreManaged};
+    ghost use Rattle.std.specs.Prelude.{map, string_bytes};
+    ghost use Rattle.tv_managed.specs.Names.{AreManaged, ManagedNames};
 
-    ghost Value = { D × List (List ℕ) };
+    ghost Value = { D × ManagedNames };
 
-    ghost view = { λ a. (a.directory, map string_bytes a.managed.keys) };
+    ghost view = { λ a. (
+      a.directory,
+      record {
+        managed = map string_bytes a.managed.keys;
+        collections = a.collections;
+      },
+    ) };
 
     ghost invariant = { λ a. AreManaged (map string_bytes a.managed.keys) };
 }
@@ -100,6 +109,7 @@ impl<D: Directory> ManagedDirectory<D> {
                 alloc,
                 directory,
                 managed,
+                collections: Collections::new(alloc),
             }),
             Err(error) => Err(Refused { error, directory }),
         }
@@ -113,14 +123,15 @@ impl<D: Directory> ManagedDirectory<D> {
             alloc: _,
             directory,
             managed: _,
+            collections: _,
         } = self;
         directory
     }
 
     /// The managed names. Takes no memory.
     pub fn list_managed_files(&self) -> &BTreeSet<String>
-        ensures names { map string_bytes result.now.keys ≡ self.now.1 }
-        ensures plain { list_all is_plain self.now.1 ≡ true }
+        ensures names { map string_bytes result.now.keys ≡ self.now.1.managed }
+        ensures plain { list_all is_plain self.now.1.managed ≡ true }
     {
         &self.managed
     }
@@ -137,7 +148,7 @@ impl<D: Directory> ManagedDirectory<D> {
         requires { is_file_name name.now ≡ true }
         ensures list { HasListed D.Directory self.old self.new name.now result }
         ensures faults { IoFaults (D.view self.old.0) (D.view self.new.0) result }
-        ensures images { D.tells_images → Tracks D.Directory self.old self.new }
+        ensures images { D.tells_images → ListsName D.Directory self.old self.new name.now }
     {
         if !is_managed(name) {
             return Ok(());
@@ -151,7 +162,7 @@ impl<D: Directory> ManagedDirectory<D> {
         requires undotted { is_undotted name.now ≡ true }
         ensures list { HasListed D.Directory self.old self.new name.now result }
         ensures faults { IoFaults (D.view self.old.0) (D.view self.new.0) result }
-        ensures images { D.tells_images → Tracks D.Directory self.old self.new }
+        ensures images { D.tells_images → ListsName D.Directory self.old self.new name.now }
     {
         if self.managed.contains(name) {
             return Ok(());
@@ -170,7 +181,9 @@ impl<D: Directory> ManagedDirectory<D> {
     #[tactic(auto, using(crate::proofs::SetsOfTexts::texts_inserted))]
     fn add(&mut self, name: &str) -> Result<(), Memory>
         requires { is_plain name.now ≡ true }
-        ensures names { OnOk result (self.new.1 ≡ insert_key byte_cmp self.old.1 name.now) }
+        ensures names { OnOk result (self.new.1 ≡ record self.old.1 {
+          managed = insert_key byte_cmp self.old.1.managed name.now;
+        }) }
         ensures kept { OnErr result (self.new.1 ≡ self.old.1) }
         ensures directory { self.new.0 ≡ self.old.0 }
     {
@@ -182,7 +195,9 @@ impl<D: Directory> ManagedDirectory<D> {
     // Takes a name out of the managed ones.
     #[tactic(auto, using(crate::proofs::Removals::texts_without))]
     fn forget(&mut self, name: &str)
-        ensures names { self.new.1 ≡ without (name.now ∷ []) self.old.1 }
+        ensures names { self.new.1 ≡ record self.old.1 {
+          managed = without (name.now ∷ []) self.old.1.managed;
+        } }
         ensures directory { self.new.0 ≡ self.old.0 }
     {
         self.managed.remove(name);
@@ -191,7 +206,7 @@ impl<D: Directory> ManagedDirectory<D> {
     // Saves the list of the managed names, and waits until the device has kept it.
     fn save(&mut self) -> Result<(), IoError>
         ensures lists { D.told.content
-            → OnOk result (Lists ((D.view self.new.0).reads list_name) self.new.1) }
+            → OnOk result (Lists ((D.view self.new.0).reads list_name) self.new.1.managed) }
         ensures only { OnlySaves D.Directory self.old self.new result }
         ensures images { D.tells_images → SavesManaged D.Directory self.old self.new result }
     {
@@ -214,24 +229,20 @@ impl<D: Directory> ManagedDirectory<D> {
     }
 
     /// Makes an empty file. A name without a dot in front is on the list by then.
-    /// `FileAlreadyExists` comes where the name reads, and then nothing changes.
+    /// `FileAlreadyExists` comes where the name reads, and `Leaving` where an unfinished collection has it;
+    /// then nothing changes.
     pub fn open_write(&mut self, name: &str) -> Result<ManagedWriter<D>, OpenWriteError>
         requires name { is_file_name name.now ≡ true }
         requires other { name.now ≢ list_name }
         ensures writer { IfOk result (IsNewManaged D.Directory self.new.0 name.now) }
         ensures creates { Creates D.Directory self.old self.new name.now result }
-        ensures names { Registers self.old.1 self.new.1 name.now result }
-        ensures list { KeepsList D.Directory self.old self.new result }
-        ensures faults { OpenFaults D.told (D.view self.old.0) (D.view self.new.0) name.now result }
+        ensures manages { ManagesFile D.Directory self.old self.new name.now result }
+        ensures faults { CreateFaults D.Directory self.old self.new name.now result }
         ensures frame { Kept D.told (D.view self.old.0) (D.view self.new.0) }
-        ensures crash { D.tells_images → IsTracked D.Directory self.old
-            → KeepsTrack D.Directory self.old self.new }
-        ensures images { D.tells_images
-            → TouchesOnly (OrList name.now) (D.disk self.old.0) (D.disk self.new.0) }
-        ensures stands { D.tells_images
-            → OnOk result ((D.disk self.new.0).now name.now ≡ Unsealed) }
+        ensures safe { D.tells_images
+            → GivesSafely D.Directory name.now Unsealed self.old self.new result }
     {
-        self.refuse_existing(name)?;
+        self.refuse_taken(name)?;
         self.list(name)?;
         let writer = self.directory.open_write(name)?;
         Ok(ManagedWriter {
@@ -240,18 +251,22 @@ impl<D: Directory> ManagedDirectory<D> {
         })
     }
 
-    // An error where the name reads.
-    fn refuse_existing(&mut self, name: &str) -> Result<(), OpenWriteError>
+    // An error where the name reads, or where an unfinished collection has it.
+    fn refuse_taken(&mut self, name: &str) -> Result<(), OpenWriteError>
         requires { is_file_name name.now ≡ true }
         ensures absent { D.told.content → OnOk result ((D.view self.old.0).reads name.now ≡ None) }
         ensures asks { OnlyAsks D.Directory self.old self.new
-            (OpenFaults D.told (D.view self.old.0) (D.view self.new.0) name.now result) }
+            (CreateFaults D.Directory self.old self.new name.now result) }
     {
-        if !self.is_there(name)? {
-            return Ok(());
+        if self.is_there(name)? {
+            let path = String::from_str(self.alloc, name)?;
+            return Err(OpenWriteError::FileAlreadyExists(path));
         }
-        let path = String::from_str(self.alloc, name)?;
-        Err(OpenWriteError::FileAlreadyExists(path))
+        if self.collections.holds(name) {
+            let path = String::from_str(self.alloc, name)?;
+            return Err(OpenWriteError::Leaving(path));
+        }
+        Ok(())
     }
 
     // Whether the name reads, asked before a file is made.
@@ -278,7 +293,7 @@ impl<D: Directory> ManagedDirectory<D> {
         requires { is_file_name name.now ≡ true }
         ensures list { HasListed D.Directory self.old self.new name.now result }
         ensures faults { MakeFaults (D.view self.old.0) (D.view self.new.0) name.now result }
-        ensures images { D.tells_images → Tracks D.Directory self.old self.new }
+        ensures images { D.tells_images → ListsName D.Directory self.old self.new name.now }
     {
         let filepath = String::from_str(self.alloc, name)?;
         match self.register_file_as_managed(name) {
@@ -299,10 +314,7 @@ impl<D: Directory> ManagedDirectory<D> {
             writer.old.writer }
         ensures faults { IoFaults (D.view self.old.0) (D.view self.new.0) result }
         ensures frame { KeepsNames (Kept D.told) D.view self.old self.new }
-        ensures crash { D.tells_images → IsTracked D.Directory self.old
-            → KeepsTrack D.Directory self.old self.new }
-        ensures images { D.tells_images → TouchesOnly (λ n. n ≡ (D.state_of writer.old.writer).name)
-            (D.disk self.old.0) (D.disk self.new.0) }
+        ensures safe { D.tells_images → ReadsSafely D.Directory self.old self.new }
     {
         self.directory.write(&mut writer.writer, bytes)?;
         writer.checksum.update(bytes);
@@ -315,16 +327,15 @@ impl<D: Directory> ManagedDirectory<D> {
         requires { (D.view self.old.0).opened writer.old.writer ≡ true }
         ensures flushes { Flushes D.told (D.view self.old.0) (D.view self.new.0) D.state_of
             writer.old.writer result }
-        ensures state { D.state_of writer.new.writer ≡ D.state_of writer.old.writer }
-        ensures summed { IsSummed D.state_of writer.old → IsSummed D.state_of writer.new }
+        ensures keeps { KeepsWritten D.state_of writer.old writer.new }
         ensures hands_back { HandsBack D.told (D.view self.old.0) (D.view self.new.0)
             writer.old.writer writer.new.writer result }
         ensures faults { IoFaults (D.view self.old.0) (D.view self.new.0) result }
         ensures frame { KeepsNames (Kept D.told) D.view self.old self.new }
-        ensures crash { D.tells_images → (D.state_of writer.old.writer).name ≢ list_name
-            → IsTracked D.Directory self.old → KeepsTrack D.Directory self.old self.new }
-        ensures images { D.tells_images → TouchesOnly (λ n. n ≡ (D.state_of writer.old.writer).name)
-            (D.disk self.old.0) (D.disk self.new.0) }
+        ensures safe { D.tells_images → (D.state_of writer.old.writer).name ≢ list_name
+            → LeavesSafely D.Directory (WritesState ((D.view self.old.0).lives writer.old.writer)
+            (D.disk self.old.0) (D.disk self.new.0) (D.state_of writer.old.writer).name Unsealed
+            result) self.old self.new }
     {
         self.directory.flush(&mut writer.writer)
     }
@@ -336,14 +347,9 @@ impl<D: Directory> ManagedDirectory<D> {
         ensures seals { SealsBody D.Directory self.old.0 self.new.0 writer result }
         ensures faults { IoFaults (D.view self.old.0) (D.view self.new.0) result }
         ensures frame { KeepsNames (Kept D.told) D.view self.old self.new }
-        ensures crash { D.tells_images → (D.state_of writer.writer).name ≢ list_name
-            → IsTracked D.Directory self.old → KeepsTrack D.Directory self.old self.new }
-        ensures images { D.tells_images → TouchesOnly (λ n. n ≡ (D.state_of writer.writer).name)
-            (D.disk self.old.0) (D.disk self.new.0) }
-        ensures stands { D.tells_images → (D.view self.old.0).lives writer.writer ≡ true
-            → IsSummed D.state_of writer → OnOk result
-            ((D.disk self.new.0).now (D.state_of writer.writer).name
-            ≡ Sealed (sealed (D.state_of writer.writer).written)) }
+        ensures safe { D.tells_images → (D.state_of writer.writer).name ≢ list_name
+            → LeavesSafely D.Directory
+            (SealsStates D.Directory self.old.0 self.new.0 writer result) self.old self.new }
     {
         let ManagedWriter {
             mut writer,
@@ -367,22 +373,20 @@ impl<D: Directory> ManagedDirectory<D> {
         self.directory.atomic_read(name)
     }
 
-    /// Gives the name these bytes in one step. A name without a dot in front is on the list by then.
+    /// Gives the name these bytes in one step. A name without a dot in front is on the list by then; no unfinished
+    /// collection has it.
     pub fn atomic_write(&mut self, name: &str, bytes: &[u8]) -> Result<(), IoError>
         requires name { is_file_name name.now ≡ true }
         requires other { name.now ≢ list_name }
+        requires free { is_undotted name.now ≡ true
+            → has (held self.old.1.collections) name.now ≡ false }
         ensures gives { GivesFile D.Directory self.old.0 self.new.0 name.now bytes.now result }
-        ensures names { Registers self.old.1 self.new.1 name.now result }
-        ensures list { KeepsList D.Directory self.old self.new result }
+        ensures manages { ManagesFile D.Directory self.old self.new name.now result }
         ensures notes { Notes (D.view self.old.0) (D.view self.new.0) name.now result }
         ensures faults { IoFaults (D.view self.old.0) (D.view self.new.0) result }
         ensures frame { Frame D.told (D.view self.old.0) (D.view self.new.0) }
-        ensures crash { D.tells_images → IsTracked D.Directory self.old
-            → KeepsTrack D.Directory self.old self.new }
-        ensures images { D.tells_images
-            → TouchesOnly (OrList name.now) (D.disk self.old.0) (D.disk self.new.0) }
-        ensures stands { D.tells_images
-            → OnOk result ((D.disk self.new.0).now name.now ≡ Sealed bytes.now) }
+        ensures safe { D.tells_images
+            → GivesSafely D.Directory name.now (Sealed bytes.now) self.old self.new result }
     {
         self.register_file_as_managed(name)?;
         self.directory.atomic_write(name, bytes)
@@ -393,10 +397,8 @@ impl<D: Directory> ManagedDirectory<D> {
         ensures faults { DeviceFaults (D.view self.old.0) (D.view self.new.0) result }
         ensures silent { IfErr result IsSilent }
         ensures frame { KeepsNames (OnlyReads D.told) D.view self.old self.new }
-        ensures crash { D.tells_images → IsTracked D.Directory self.old
-            → KeepsTrack D.Directory self.old self.new }
-        ensures images { D.tells_images
-            → Settles (D.disk self.old.0) (D.disk self.new.0) result }
+        ensures safe { D.tells_images → LeavesSafely D.Directory
+            (Settles (D.disk self.old.0) (D.disk self.new.0) result) self.old self.new }
     {
         self.directory.sync_directory()
     }

@@ -149,6 +149,18 @@ module _ {O W C : Type 0} (g : Ghosts O W C) (old new : StoreState O) (event sho
       (λ tells n dot other. frame.below.content tells n)
       (record { form = frame.form; is_open = frame.is_open; below = passed g.told shown (g.view old.outside) (g.view new.outside) none below })
 
+  -- one on files that is made from whole states
+  pub acts_on_whole : NotesNothing shown → ((s : State) → ReadsGood s shown) → (TakesMetaLock old.kept.catalog shown → ⊥)
+      → StepsReading g old new (λ s. step s shown []) (λ s. Unit {0}) result → ((bound : ℕ) → AtMost bound old.kept → AtMost (bound + written_by shown) new.kept)
+      → OnFiles g (KeptView g.told) ⊥ old new result
+      → Acts g old new event result
+  acts_on_whole none good free did lens does =
+      let stays = does.frame.stays in
+      acts (stepped_reading g old new shown (λ s. step s shown []) (λ s. Unit {0}) result stays.below.frame.tells_none.deletes_none.refusals (λ s. refl) (λ s h. good s) did) does.room lens
+      (λ bound h. numbers_stay bound (written_by shown) old.kept.catalog.reading new.kept.catalog.reading old.kept.collections new.kept.collections result does.frame.reading does.numbers h)
+      (faults_alone ⊥ (λ never. absurd never) free does.faults) does.meta does.dotted
+      (record { form = stays.form; is_open = stays.is_open; below = passed g.told shown (g.view old.outside) (g.view new.outside) none stays.below })
+
   -- one after which nobody reads, and no collection was begun
   pub acts_anew : NotesNothing shown → ((s : State) → ReadsGood s shown) → (TakesMetaLock old.kept.catalog shown → ⊥)
       → StepsTo g old new (λ s. step s shown []) result → IfOk result (λ answer. length answer < (g.view new.outside).room)

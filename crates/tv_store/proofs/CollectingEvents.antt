@@ -59,9 +59,9 @@ module _ {O W C : Type 0} (g : Ghosts O W C) (catalog : Catalog) (old new : File
         ∙ ap (with_begun s.collections) (takes_garbage g catalog old new made s needed h needs)
 
     -- and the names are told that the collection took
-    pub begun_told : (names answer : List (List ℕ)) → ((c : Collection) → collection_at new.collections number ≡ Some c → IsStrictlySortedBy byte_cmp names × ((n : List ℕ) → has names n ≡ has (taken c) n))
+    pub begun_told : (names : List (List ℕ)) → ((c : Collection) → collection_at new.collections number ≡ Some c → IsStrictlySortedBy byte_cmp names × ((n : List ℕ) → has names n ≡ has (taken c) n))
         → names ≡ garbage s
-    begun_told names answer took =
+    begun_told names took =
         let number_is : number ≡ s.collections.next = told.number_is ∙ ap (λ (c : Collections). c.next) h.collections in
         let at_number : collection_at new.collections number ≡ Some (begun (garbage s)) =
         ap (λ (c : Collections). collection_at c number) begun_are ∙ ap (collection_at (with_begun s.collections (garbage s))) number_is ∙ put_found s.collections.unfinished s.collections.next (begun (garbage s)) in

@@ -1,5 +1,5 @@
 -- What is held after an event on a file.
-use Rattle.std.proofs.Common.{◌≡◌, ◌≢◌, ℕ, ◌+◌, ◌≤◌, ◌<◌, Bool, true, false, true≢false, cond, List, [], ◌∷◌, ◌++◌, length, length-append, append_assoc, codes, Option, Some, None, option_map, is_some, Result, Ok, Err, refl, sym, ap, subst, ◌∙◌, arith}
+use Rattle.std.proofs.Common.{◌≡◌, ◌≢◌, ℕ, ◌+◌, ◌≤◌, ◌<◌, Bool, true, false, true≢false, ⊎_elim, cond, List, [], ◌∷◌, ◌++◌, length, length-append, append_assoc, codes, Option, Some, None, option_map, is_some, Result, Ok, Err, refl, sym, ap, subst, ◌∙◌, arith}
 use Rattle.std.specs.Prelude.{IfOk, IsSome, SomeIff}
 use Rattle.std.specs.Fmt.{decimal}
 use Rattle.std.specs.List.{AllByRecursion}
@@ -21,6 +21,9 @@ use Rattle.tv_model.specs.Segments.{name_of, extension, is_delete, delete_opstam
 use Rattle.tv_model.specs.State.{Catalog, State, StepResult, FileState, Sealed, Open, Left, at, live_at, file_at, with_file}
 use Rattle.tv_model.specs.Lines.{line, refuse, unless, given}
 use Rattle.tv_model.specs.FileEvents.{lacks_deletes, open_name, open_step, opened, seal_name, seal_step, sealed_as, write_name, write_step, written_to, wrote}
+use Rattle.tv_model.specs.Collections.{Collections, held}
+use Rattle.tv_model.specs.Living.{living}
+use Rattle.tv_model.specs.SoundStates.{IsWhole}
 use Rattle.tv_model.specs.Index.{IsFileOf}
 use Rattle.tv_model.proofs.Entries.{same_at, at_itself, text_at, lookup_put, has_kept}
 use Rattle.tv_model.proofs.PlainNames.{undotted}
@@ -33,6 +36,7 @@ use Rattle.tv_store.specs.Exhausted.{PassesEnd, length_after}
 use Rattle.tv_store.specs.FileCalls.{OpensFile, FindsFile}
 use Rattle.tv_store.specs.Stays.{Asks, KeepsManaged}
 use Rattle.tv_store.proofs.Holding.{same_holds}
+use Rattle.tv_store.proofs.LivingNames.{living_name}
 use Rattle.tv_store.proofs.OpenFiles.{all_put, all_left, all_found}
 
 -- a name that begins with an id is that of a file of the machine
@@ -209,12 +213,15 @@ kept_list reads reads2 name names fits others h =
 
 -- a file of a live segment, by its step under this name
 module _ {O W C : Type 0} (g : Ghosts O W C) (c : Catalog) (old new : FilesState O) (s : State) (id name : List ℕ) (component : SegmentComponent) (segment : LiveSegment) (answer : List ℕ) where
-  -- that is there
-  pub open_exists : g.told.content → live_at s.catalog id ≡ Some segment → lacks_deletes segment component ≡ false → name ≡ name_of id segment.deletes component → IsFileOf name
+  -- that is there, since no collection holds a file of a live segment
+  pub open_exists : g.told.content → IsWhole s → live_at s.catalog id ≡ Some segment → lacks_deletes segment component ≡ false → name ≡ name_of id segment.deletes component → IsFileOf name
       → new.form ≡ old.form → new.collections ≡ old.collections → FindsFile g old new name → answer ≡ line (codes "refused") (codes "exists" ∷ [])
       → Holds (g.view old.outside).reads (kept_of c old) s → Told answer (g.view new.outside).reads (kept_of c new) (open_step s id component)
-  open_exists tells found lacks is fits made still finds said h =
-      let there : is_some (file_at s name) ≡ true = is_there (file_at s name) ((g.view old.outside).reads name) (at old.open_files name) (h.files name fits) (finds.there tells) in
+  open_exists tells whole found lacks is fits made still finds said h =
+      let needed : has (living s.catalog) name ≡ true = ap (has (living s.catalog)) is ∙ living_name s id segment component found in
+      let reads : IsSome ((g.view old.outside).reads name) =
+      ⊎_elim (λ some. some) (λ holds. absurd (true≢false (sym needed ∙ whole.collecting.spared name (ap (λ (c : Collections). has (held c) name) (sym h.collections) ∙ holds)))) (finds.there tells) in
+      let there : is_some (file_at s name) ≡ true = is_there (file_at s name) ((g.view old.outside).reads name) (at old.open_files name) (h.files name fits) reads in
       let kept : kept_of c new ≡ kept_of c old = rw (made, still, finds.names tells, finds.open_files, finds.left) refl in
       told_is answer (g.view new.outside).reads (kept_of c new) (open_step s id component) (refuse s (codes "exists" ∷ []))
       (file_known s id name component segment (λ x n. open_name s x component n) found is ∙ open_by s segment component name false true lacks there)

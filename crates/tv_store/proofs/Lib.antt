@@ -2,6 +2,7 @@ pub mod CollectionEvents
 pub mod OpenFiles
 pub mod Removals
 pub mod Holding
+pub mod LivingNames
 pub mod SortedNames
 pub mod Held
 pub mod FileNames

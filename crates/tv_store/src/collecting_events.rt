@@ -11,6 +11,7 @@ ghost use Rattle.tv_store.specs.FileCalls.{GcFaults};
 ghost use Rattle.tv_store.specs.Kept.{AtMost};
 ghost use Rattle.tv_store.specs.Stays.{AsksQuietly, KeepsReaders};
 
+use crate::collection_events::with_names;
 use crate::files_collecting::TriedName;
 use crate::index_store::IndexStore;
 use std::alloc::Global;
@@ -25,11 +26,8 @@ const STEP_ROOM: usize = 288;
 fn begun_line(alloc: Global, number: u64, names: &[FileName]) -> Result<Answer, Memory>
     ensures { IfOk result (λ answer. answer ≡ line (codes "gc") (decimal number ∷ names.entry.now)) }
 {
-    let mut answer = Answer::new(alloc, "gc")?.number(number)?;
-    for name in names {
-        answer = answer.name(name)?;
-    }
-    Ok(answer)
+    let answer = Answer::new(alloc, "gc")?.number(number)?;
+    with_names(answer, names)
 }
 
 // The line of a name that a collection tried.

@@ -22,8 +22,8 @@ use tv_model::{Answer, FileName, Memory, SegmentId};
 // managed names.
 const WORDS: usize = 16;
 
-// A line with more words, which are names.
-fn with_names(answer: Answer, names: &[FileName]) -> Result<Answer, Memory>
+/// A line with more words, which are names.
+pub(crate) fn with_names(answer: Answer, names: &[FileName]) -> Result<Answer, Memory>
     ensures { IfOk result (λ longer. longer ≡ line answer names.entry.now) }
 {
     let mut longer = answer;

@@ -7,7 +7,7 @@ ghost use Rattle.tv_directory.specs.View.{Kept};
 ghost use Rattle.tv_model.specs.declared.event.Event.TheVariants as events;
 ghost use Rattle.tv_store.specs.Exhausted.{PassesEnd, length_after};
 ghost use Rattle.tv_store.specs.Kept.{AtMost};
-ghost use Rattle.tv_store.specs.Acting.{StepsTo, OnFiles};
+ghost use Rattle.tv_store.specs.Acting.{StepsTo, StepsReading, OnFiles};
 
 use crate::index_store::IndexStore;
 use crate::names::file_of;
@@ -45,8 +45,8 @@ impl<O: Outside> IndexStore<O> {
         id: SegmentId,
         component: SegmentComponent,
     ) -> Result<Answer, TantivyError>
-        ensures step { StepsTo O.Directory self.old self.new
-            (λ s. open_step s id component) result }
+        ensures step { StepsReading O.Directory self.old self.new
+            (λ s. open_step s id component) (λ s. Unit {0}) result }
         ensures lens { (bound : ℕ) → AtMost bound self.old.kept → AtMost bound self.new.kept }
         ensures does { OnFiles O.Directory (Kept O.told) ⊥ self.old self.new result }
     {

@@ -118,7 +118,8 @@ impl<O: Outside> Files<O> {
             × ((n : List ℕ) → has names.items n ≡ has (taken c) n)) }
     {
         let _number = number;
-        Ok(Vec::new(alloc))
+        let _alloc = alloc;
+        Err(Memory)
     }
 
     /// Begins a collection of the managed files that aren't among these, and answers its number.

@@ -25,16 +25,16 @@ returns-clause-saves g c commit order =
     saved g.D.Directory c.args.directory.now c.save_meta_text.new.directory (tracked_settings meta) meta.schema commit learned.schema learned.blocksize (learned.commit commit order) _ c.as_slice.result.now
     (c.as_slice.ensures.value ∙ c.in_ok-text.ensures commit order) tt c.in_ok-save_meta_text.ensures.saves
 
-pub returns-in_err-text-clause-managed : goal.returns-in_err-text-clause-managed
-returns-in_err-text-clause-managed g c =
+pub returns-in_err-text-clause-manages : goal.returns-in_err-text-clause-manages
+returns-in_err-text-clause-manages g c =
     let old = c.args.directory.now in
     manages_none g.D.Directory old old old old (λ t n. refl) refl (λ t n. refl) refl _ c.from_residual.result c.from_residual.ensures.1 refl
 
-pub returns-in_err-save_meta_text-clause-managed : goal.returns-in_err-save_meta_text-clause-managed
-returns-in_err-save_meta_text-clause-managed g c =
+pub returns-in_err-save_meta_text-clause-manages : goal.returns-in_err-save_meta_text-clause-manages
+returns-in_err-save_meta_text-clause-manages g c =
     let saving = c.from_residual-in_err-save_meta_text in
-    manages_err g.D.Directory c.args.directory.now c.save_meta_text.new.directory _ c.save_meta_text.result saving.result saving.ensures.1 c.save_meta_text.ensures.managed
+    manages_err g.D.Directory c.args.directory.now c.save_meta_text.new.directory _ c.save_meta_text.result saving.result saving.ensures.1 c.save_meta_text.ensures.manages
 
-pub returns-clause-managed : goal.returns-clause-managed
-returns-clause-managed g c =
-    manages_ok g.D.Directory c.args.directory.now c.save_meta_text.new.directory _ _ tt tt c.in_ok-save_meta_text.ensures.managed
+pub returns-clause-manages : goal.returns-clause-manages
+returns-clause-manages g c =
+    manages_ok g.D.Directory c.args.directory.now c.save_meta_text.new.directory _ _ tt tt c.in_ok-save_meta_text.ensures.manages

@@ -1,7 +1,7 @@
 use Rattle.std.proofs.Common.{◌≡◌, drop}
 use Rattle.tv_model.specs.Collections.{without}
 use Rattle.tv_managed.specs.Collecting.{names_of}
-use Rattle.tv_managed.specs.Managed.{AreManaged}
+use Rattle.tv_managed.specs.Names.{AreManaged}
 use Rattle.tv_managed.proofs.collecting.without.Given as goal
 
 abbrev pub invariant-loop-name : goal.invariant-loop-name

@@ -10,6 +10,7 @@ returns-in-Ok-clause-created g c =
       schema_is = made.schema_is;
       kept = made.kept;
       managed = managed_one _ c.create.result tt c.create.ensures.new.reads _ _ _ made;
+      collections = made.collections;
       saved = made.saved tt;
       lists = made.lists tt;
       others = no_others _ c.create.result tt c.create.ensures.new.reads _ _ _ made;

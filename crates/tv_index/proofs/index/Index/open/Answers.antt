@@ -1,4 +1,5 @@
-use Rattle.std.proofs.Common.{◌∙◌, ℕ, List, None, refl, sym, subst}
+use Rattle.std.proofs.Common.{◌∙◌, None, refl, sym, ap, subst}
+use Rattle.tv_managed.specs.Names.{ManagedNames}
 use Rattle.tv_model.specs.Listing.{Lists}
 use Rattle.tv_model.specs.Names.{list_name}
 use Rattle.tv_index.proofs.Indexes.{loads_before}
@@ -14,7 +15,8 @@ returns-in-Ok-clause-opened g c =
       meta = c.in-Ok.meta;
       loads = loads_before D c.args.directory c.in_ok-directory.directory wraps None c.in-Ok.meta loaded.meta;
       shows = record { settings = refl; schema = refl; kept = refl };
-      lists = λ t. subst (λ (names : List (List ℕ)). Lists ((D.view c.args.directory).reads list_name) names) (sym loaded.frame.names) (wraps.names t);
+      lists = λ t. subst (λ (names : ManagedNames). Lists ((D.view c.args.directory).reads list_name) names.managed) (sym loaded.frame.names) (wraps.names t);
+      collections = ap (λ (names : ManagedNames). names.collections) loaded.frame.names ∙ wraps.collections;
       quiet = loaded.faults.quiet ∙ wraps.quiet;
       frame = reads_later wraps.frame loaded.frame.below;
     })

@@ -1,37 +1,65 @@
-use Rattle.std.proofs.Common.{rules, refl, ap, ◌∙◌, inl, inr}
+use Rattle.std.proofs.Common.{rules, refl, ap, ◌∙◌, ◌≡◌, inl, inr, map, string_bytes, true, false}
+use Rattle.tv_model.specs.Disk.{Sealed}
+use Rattle.tv_model.specs.Listing.{list_text}
+use Rattle.tv_model.specs.Names.{has, is_undotted}
+use Rattle.tv_managed.specs.Crashes.{GivesStates}
+use Rattle.tv_managed.specs.Managed.{registered}
+use Rattle.tv_managed.specs.Names.{ManagedNames, done_names}
+use Rattle.tv_managed.proofs.Collections.{done_held}
 use Rattle.tv_managed.proofs.Saves.{lists_new, manages_new, others_written}
-use Rattle.tv_model.specs.Names.{has}
 use Rattle.tv_managed.proofs.Listing.{has_registered}
-use Rattle.tv_managed.proofs.Tracking.{track_file, track_from, track_then}
-use Rattle.tv_managed.proofs.Touching.{others_given, touches_file, touches_from, touches_more, touches_then}
+use Rattle.tv_managed.proofs.Giving.{both_from, list_states, track_given}
+use Rattle.tv_managed.proofs.Tracking.{track_from, track_then}
+use Rattle.tv_managed.proofs.Touching.{keeps_same, others_given}
 use Rattle.tv_managed.proofs.managed_directory.ManagedDirectory.atomic_write.Goals as goal
 
-pub returns-clause-list : goal.returns-clause-list
-returns-clause-list g c =
+pub returns-clause-manages : goal.returns-clause-manages
+returns-clause-manages g c =
     let D = g.D.Directory in
+    let list = c.in_ok-register_file_as_managed.ensures.list in
     record {
+      ok = search rules;
+      err = search rules;
       saves = search rules;
       listed = λ tells covers.
-          lists_new (λ d. (D.view d).reads) c.args.self.now.0 c.args.self.now.0 c.register_file_as_managed.new.self.0 c.self.inside.directory c.atomic_write.new.self c.args.name.now (ap (λ v. v.0) c.self.view_is) (λ n. refl) (c.in_ok-register_file_as_managed.ensures.list.others tells)
-          (others_written c.atomic_write.result (D.view c.self.inside.directory).reads (D.view c.atomic_write.new.self).reads c.args.name.now _ (c.atomic_write.ensures.gives.ok tells) (c.atomic_write.ensures.gives.err tells)) c.requires.other (c.in_ok-register_file_as_managed.ensures.list.on_list tells covers);
+          lists_new (λ d. (D.view d).reads) c.args.self.now.0 c.args.self.now.0 c.register_file_as_managed.new.self.0 c.self.inside.directory c.atomic_write.new.self c.args.name.now (ap (λ v. v.0) c.self.view_is) (λ n. refl) (list.others tells)
+          (others_written c.atomic_write.result (D.view c.self.inside.directory).reads (D.view c.atomic_write.new.self).reads c.args.name.now _ (c.atomic_write.ensures.gives.ok tells) (c.atomic_write.ensures.gives.err tells)) c.requires.other
+          (λ undotted. list.on_list tells covers (done_held c.args.self.now.1.collections.unfinished c.args.name.now (c.requires.free undotted)) undotted);
       managed = λ tells.
-          manages_new (λ d. (D.view d).reads) c.args.self.now.0 c.args.self.now.0 c.register_file_as_managed.new.self.0 c.self.inside.directory c.atomic_write.new.self c.args.name.now (ap (λ v. v.0) c.self.view_is) (λ n. refl) (c.in_ok-register_file_as_managed.ensures.list.others tells)
+          manages_new (λ d. (D.view d).reads) c.args.self.now.0 c.args.self.now.0 c.register_file_as_managed.new.self.0 c.self.inside.directory c.atomic_write.new.self c.args.name.now (ap (λ v. v.0) c.self.view_is) (λ n. refl) (list.others tells)
           (others_written c.atomic_write.result (D.view c.self.inside.directory).reads (D.view c.atomic_write.new.self).reads c.args.name.now _ (c.atomic_write.ensures.gives.ok tells) (c.atomic_write.ensures.gives.err tells))
-          c.args.self.now.1 _ (ap (λ v. v.1) c.self.view_is ∙ c.in_ok-register_file_as_managed.ensures.list.names);
+          c.args.self.now.1.managed _ (ap (λ v. v.1.managed) c.self.view_is ∙ ap (λ v. v.managed) list.names);
     }
 
-pub returns-in_err-register_file_as_managed-clause-images : goal.returns-in_err-register_file_as_managed-clause-images
-returns-in_err-register_file_as_managed-clause-images g c = λ tells. touches_more (λ n it. inr it) (c.in_err-register_file_as_managed.ensures.images tells).touches
+pub returns-in_err-register_file_as_managed-clause-safe : goal.returns-in_err-register_file_as_managed-clause-safe
+returns-in_err-register_file_as_managed-clause-safe g c = λ tells.
+    let listed = c.in_err-register_file_as_managed.ensures.images tells in
+    record {
+      tracks = listed.tracks;
+      states = record {
+        moments = list_states c.args.name.now (Sealed c.args.bytes.now) (keeps_same _) listed.moments;
+        now = record { each = λ n other. listed.others n (λ e. other (inr e)) };
+        stands = search rules;
+      };
+    }
 
-pub returns-clause-crash : goal.returns-clause-crash
-returns-clause-crash g c = λ tells was.
-    let listed = (c.in_ok-register_file_as_managed.ensures.images tells).tracks was in
+pub returns-clause-safe : goal.returns-clause-safe
+returns-clause-safe g c = λ tells.
+    let D = g.D.Directory in
+    let name = c.args.name.now in
+    let listed = c.in_ok-register_file_as_managed.ensures.images tells in
+    let names = c.in_ok-register_file_as_managed.ensures.list.names in
     let gives = c.atomic_write.ensures.images tells in
-    track_then g.D.Directory listed (track_from g.D.Directory c.self.view_is (track_file g.D.Directory gives.time gives.no_more c.requires.other
-    (λ undotted. ap (λ v. has v.1 c.args.name.now) c.self.view_is ∙ rw c.in_ok-register_file_as_managed.ensures.list.names (has_registered _ c.args.name.now undotted))) listed.tracked)
-
-pub returns-clause-images : goal.returns-clause-images
-returns-clause-images g c = λ tells.
-    let gives = c.atomic_write.ensures.images tells in
-    touches_then (touches_more (λ n it. inr it) (c.in_ok-register_file_as_managed.ensures.images tells).touches)
-    (touches_more (λ n it. inl it) (touches_from g.D.Directory c.self.view_is (touches_file gives.time gives.no_more (others_given _ gives))))
+    let inside : ManagedNames = record { managed = map string_bytes c.self.inside.managed.keys; collections = c.self.inside.collections } in
+    let free : is_undotted name ≡ true → has (done_names inside.collections) name ≡ false =
+    λ undotted. ap (λ v. has (done_names v.1.collections) name) c.self.view_is ∙ ap (λ v. has (done_names v.collections) name) names ∙ done_held c.args.self.now.1.collections.unfinished c.args.name.now (c.requires.free undotted) in
+    let there : is_undotted name ≡ true → has inside.managed name ≡ true =
+    λ undotted. ap (λ v. has v.1.managed name) c.self.view_is ∙ ap (λ v. has v.managed name) names ∙ has_registered _ name undotted in
+    record {
+      tracks = λ was. track_then D (listed.tracks was) (track_from D c.self.view_is (track_given D gives.time gives.no_more (others_given _ gives) c.requires.other (λ undotted. (there undotted, free undotted))) (listed.tracks was).tracked);
+      states = record {
+        moments = both_from D c.args.self.now c.self.view_is listed.moments gives.time gives.no_more;
+        now = record { each = λ n other. others_given _ gives n (λ e. other (inl e)) ∙ ap (λ v. (D.disk v.0).now n) c.self.view_is ∙ listed.others n (λ e. other (inr e)) };
+        stands = search rules;
+      };
+    }

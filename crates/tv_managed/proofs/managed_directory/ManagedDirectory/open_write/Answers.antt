@@ -1,86 +1,126 @@
-use Rattle.std.proofs.Common.{rules, ap, ◌∙◌, inl, inr}
+use Rattle.std.proofs.Common.{rules, ap, ◌∙◌, ◌≡◌, inl, inr, map, string_bytes, true, false}
+use Rattle.tv_model.specs.Disk.{Sealed, Unsealed}
+use Rattle.tv_model.specs.Listing.{list_text}
+use Rattle.tv_model.specs.Names.{has, is_undotted, list_name}
+use Rattle.tv_managed.specs.Managed.{registered, registering}
+use Rattle.tv_managed.specs.Names.{ManagedNames, done_names}
+use Rattle.tv_managed.proofs.Collections.{done_held}
 use Rattle.tv_managed.proofs.Saves.{lists_new, manages_new, others_of_refused, still_covers}
-use Rattle.tv_model.specs.Names.{has}
-use Rattle.tv_managed.specs.Crashes.{OrList}
 use Rattle.tv_managed.proofs.Listing.{has_registered}
-use Rattle.tv_managed.proofs.Tracking.{track_file, track_from, track_read, track_then}
-use Rattle.tv_managed.proofs.Touching.{others_opened, touches_file, touches_from, touches_more, touches_none, touches_then}
+use Rattle.tv_managed.proofs.Giving.{asked_from, list_states, no_states, track_given}
+use Rattle.tv_managed.proofs.Tracking.{track_from, track_read, track_then}
+use Rattle.tv_managed.proofs.Touching.{others_opened}
 use Rattle.tv_managed.proofs.managed_directory.ManagedDirectory.open_write.Goals as goal
 
-pub returns-in_err-writer-clause-list : goal.returns-in_err-writer-clause-list
-returns-in_err-writer-clause-list g c =
+pub returns-in_err-writer-clause-manages : goal.returns-in_err-writer-clause-manages
+returns-in_err-writer-clause-manages g c =
     let D = g.D.Directory in
-    let asked = c.in_ok-refuse_existing.ensures.asks.frame in
+    let asked = c.in_ok-refuse_taken.ensures.asks.frame in
+    let free = done_held c.args.self.now.1.collections.unfinished c.args.name.now c.in_ok-refuse_taken.ensures.asks.faults.free in
+    let list = c.in_ok-list.ensures.list in
     record {
+      ok = search rules;
+      err = search rules;
       saves = search rules;
       listed = λ tells covers.
-          lists_new (λ d. (D.view d).reads) c.args.self.now.0 c.refuse_existing.new.self.0 c.list.new.self.0 c.self.inside.directory c.open_write.new.self c.args.name.now (ap (λ v. v.0) c.self.view_is) (asked.below.content tells) (c.in_ok-list.ensures.list.others tells)
+          lists_new (λ d. (D.view d).reads) c.args.self.now.0 c.refuse_taken.new.self.0 c.list.new.self.0 c.self.inside.directory c.open_write.new.self c.args.name.now (ap (λ v. v.0) c.self.view_is) (asked.below.content tells) (list.others tells)
           (others_of_refused (D.view c.self.inside.directory).reads (D.view c.open_write.new.self).reads c.args.name.now c.in_err-writer.field-0.0 (c.in_err-writer.ensures.makes.err tells)) c.requires.other
-          (c.in_ok-list.ensures.list.on_list tells (still_covers (λ d. (D.view d).reads) c.args.self.now.0 c.refuse_existing.new.self.0 c.args.self.now.1 c.refuse_existing.new.self.1 (asked.below.content tells) asked.names covers));
-      managed = λ tells. manages_new (λ d. (D.view d).reads) c.args.self.now.0 c.refuse_existing.new.self.0 c.list.new.self.0 c.self.inside.directory c.open_write.new.self c.args.name.now (ap (λ v. v.0) c.self.view_is) (asked.below.content tells) (c.in_ok-list.ensures.list.others tells)
+          (list.on_list tells (still_covers (λ d. (D.view d).reads) c.args.self.now.0 c.refuse_taken.new.self.0 c.args.self.now.1 c.refuse_taken.new.self.1 (asked.below.content tells) asked.names covers) (ap (λ v. has (done_names v.collections) c.args.name.now) asked.names ∙ free));
+      managed = λ tells. manages_new (λ d. (D.view d).reads) c.args.self.now.0 c.refuse_taken.new.self.0 c.list.new.self.0 c.self.inside.directory c.open_write.new.self c.args.name.now (ap (λ v. v.0) c.self.view_is) (asked.below.content tells) (list.others tells)
           (others_of_refused (D.view c.self.inside.directory).reads (D.view c.open_write.new.self).reads c.args.name.now c.in_err-writer.field-0.0 (c.in_err-writer.ensures.makes.err tells))
-          c.refuse_existing.new.self.1 _ (ap (λ v. v.1) c.self.view_is ∙ c.in_ok-list.ensures.list.names);
+          c.refuse_taken.new.self.1.managed _ (ap (λ v. v.1.managed) c.self.view_is ∙ ap (λ v. v.managed) list.names);
     }
 
-pub returns-clause-list : goal.returns-clause-list
-returns-clause-list g c =
+pub returns-clause-manages : goal.returns-clause-manages
+returns-clause-manages g c =
     let D = g.D.Directory in
-    let asked = c.in_ok-refuse_existing.ensures.asks.frame in
+    let asked = c.in_ok-refuse_taken.ensures.asks.frame in
+    let free = done_held c.args.self.now.1.collections.unfinished c.args.name.now c.in_ok-refuse_taken.ensures.asks.faults.free in
+    let list = c.in_ok-list.ensures.list in
     record {
+      ok = search rules;
+      err = search rules;
       saves = search rules;
       listed = λ tells covers.
-          lists_new (λ d. (D.view d).reads) c.args.self.now.0 c.refuse_existing.new.self.0 c.list.new.self.0 c.self.inside.directory c.open_write.new.self c.args.name.now (ap (λ v. v.0) c.self.view_is) (asked.below.content tells) (c.in_ok-list.ensures.list.others tells)
+          lists_new (λ d. (D.view d).reads) c.args.self.now.0 c.refuse_taken.new.self.0 c.list.new.self.0 c.self.inside.directory c.open_write.new.self c.args.name.now (ap (λ v. v.0) c.self.view_is) (asked.below.content tells) (list.others tells)
           (c.in_ok-writer.ensures.makes.ok tells).1.others c.requires.other
-          (c.in_ok-list.ensures.list.on_list tells (still_covers (λ d. (D.view d).reads) c.args.self.now.0 c.refuse_existing.new.self.0 c.args.self.now.1 c.refuse_existing.new.self.1 (asked.below.content tells) asked.names covers));
-      managed = λ tells. manages_new (λ d. (D.view d).reads) c.args.self.now.0 c.refuse_existing.new.self.0 c.list.new.self.0 c.self.inside.directory c.open_write.new.self c.args.name.now (ap (λ v. v.0) c.self.view_is) (asked.below.content tells) (c.in_ok-list.ensures.list.others tells)
+          (list.on_list tells (still_covers (λ d. (D.view d).reads) c.args.self.now.0 c.refuse_taken.new.self.0 c.args.self.now.1 c.refuse_taken.new.self.1 (asked.below.content tells) asked.names covers) (ap (λ v. has (done_names v.collections) c.args.name.now) asked.names ∙ free));
+      managed = λ tells. manages_new (λ d. (D.view d).reads) c.args.self.now.0 c.refuse_taken.new.self.0 c.list.new.self.0 c.self.inside.directory c.open_write.new.self c.args.name.now (ap (λ v. v.0) c.self.view_is) (asked.below.content tells) (list.others tells)
           (c.in_ok-writer.ensures.makes.ok tells).1.others
-          c.refuse_existing.new.self.1 _ (ap (λ v. v.1) c.self.view_is ∙ c.in_ok-list.ensures.list.names);
+          c.refuse_taken.new.self.1.managed _ (ap (λ v. v.1.managed) c.self.view_is ∙ ap (λ v. v.managed) list.names);
     }
 
-pub returns-in_err-refuse_existing-clause-crash : goal.returns-in_err-refuse_existing-clause-crash
-returns-in_err-refuse_existing-clause-crash g c = λ tells.
-    let asked = c.in_err-refuse_existing.ensures.asks in
-    track_read g.D.Directory asked.frame.names (asked.images tells)
+pub returns-in_err-refuse_taken-clause-safe : goal.returns-in_err-refuse_taken-clause-safe
+returns-in_err-refuse_taken-clause-safe g c = λ tells.
+    let asked = c.in_err-refuse_taken.ensures.asks in
+    let keeps = asked.images tells in
+    record {
+      tracks = track_read g.D.Directory asked.frame.names keeps;
+      states = record { moments = no_states c.args.name.now Unsealed _ keeps; now = record { each = λ n other. keeps.states.now n }; stands = search rules };
+    }
 
-pub returns-in_err-refuse_existing-clause-images : goal.returns-in_err-refuse_existing-clause-images
-returns-in_err-refuse_existing-clause-images g c = λ tells. touches_none (OrList c.args.name.now) (c.in_err-refuse_existing.ensures.asks.images tells)
+pub returns-in_err-list-clause-safe : goal.returns-in_err-list-clause-safe
+returns-in_err-list-clause-safe g c = λ tells.
+    let asked = c.in_ok-refuse_taken.ensures.asks in
+    let keeps = asked.images tells in
+    let listed = c.in_err-list.ensures.images tells in
+    record {
+      tracks = λ was. let first = track_read g.D.Directory asked.frame.names keeps was in track_then g.D.Directory first (listed.tracks first.tracked);
+      states = record {
+        moments = list_states c.args.name.now Unsealed keeps (rw asked.frame.names at listed.moments);
+        now = record { each = λ n other. listed.others n (λ e. other (inr e)) ∙ keeps.states.now n };
+        stands = search rules;
+      };
+    }
 
-pub returns-in_err-list-clause-crash : goal.returns-in_err-list-clause-crash
-returns-in_err-list-clause-crash g c = λ tells was.
-    let asked = c.in_ok-refuse_existing.ensures.asks in
-    let first = track_read g.D.Directory asked.frame.names (asked.images tells) was in
-    track_then g.D.Directory first ((c.in_err-list.ensures.images tells).tracks first.tracked)
-
-pub returns-in_err-list-clause-images : goal.returns-in_err-list-clause-images
-returns-in_err-list-clause-images g c = λ tells.
-    touches_then (touches_none (OrList c.args.name.now) (c.in_ok-refuse_existing.ensures.asks.images tells)) (touches_more (λ n it. inr it) (c.in_err-list.ensures.images tells).touches)
-
-pub returns-in_err-writer-clause-crash : goal.returns-in_err-writer-clause-crash
-returns-in_err-writer-clause-crash g c = λ tells was.
-    let asked = c.in_ok-refuse_existing.ensures.asks in
-    let first = track_read g.D.Directory asked.frame.names (asked.images tells) was in
-    let listed = (c.in_ok-list.ensures.images tells).tracks first.tracked in
+pub returns-in_err-writer-clause-safe : goal.returns-in_err-writer-clause-safe
+returns-in_err-writer-clause-safe g c = λ tells.
+    let D = g.D.Directory in
+    let name = c.args.name.now in
+    let asked = c.in_ok-refuse_taken.ensures.asks in
+    let keeps = asked.images tells in
+    let listed = c.in_ok-list.ensures.images tells in
+    let names = c.in_ok-list.ensures.list.names in
     let opens = c.in_err-writer.ensures.images tells in
-    track_then g.D.Directory (track_then g.D.Directory first listed) (track_from g.D.Directory c.self.view_is (track_file g.D.Directory opens.time opens.no_more c.requires.other
-    (λ undotted. ap (λ v. has v.1 c.args.name.now) c.self.view_is ∙ rw c.in_ok-list.ensures.list.names (has_registered _ c.args.name.now undotted))) listed.tracked)
+    let inside : ManagedNames = record { managed = map string_bytes c.self.inside.managed.keys; collections = c.self.inside.collections } in
+    let free : is_undotted name ≡ true → has (done_names inside.collections) name ≡ false =
+    λ undotted. ap (λ v. has (done_names v.1.collections) name) c.self.view_is ∙ ap (λ v. has (done_names v.collections) name) (names ∙ ap (λ v. registering v name) asked.frame.names) ∙ done_held c.args.self.now.1.collections.unfinished name asked.faults.free in
+    let there : is_undotted name ≡ true → has inside.managed name ≡ true =
+    λ undotted. ap (λ v. has v.1.managed name) c.self.view_is ∙ ap (λ v. has v.managed name) names ∙ has_registered _ name undotted in
+    record {
+      tracks = λ was.
+          let first = track_read D asked.frame.names keeps was in
+          let second = listed.tracks first.tracked in
+          track_then D (track_then D first second) (track_from D c.self.view_is (track_given D opens.time opens.no_more (others_opened _ opens) c.requires.other (λ undotted. (there undotted, free undotted))) second.tracked);
+      states = record {
+        moments = asked_from D c.args.self.now c.refuse_taken.new.self c.self.view_is keeps (rw asked.frame.names at listed.moments) opens.time opens.no_more;
+        now = record { each = λ n other. others_opened _ opens n (λ e. other (inl e)) ∙ ap (λ v. (D.disk v.0).now n) c.self.view_is ∙ listed.others n (λ e. other (inr e)) ∙ keeps.states.now n };
+        stands = search rules;
+      };
+    }
 
-pub returns-in_err-writer-clause-images : goal.returns-in_err-writer-clause-images
-returns-in_err-writer-clause-images g c = λ tells.
-    let opens = c.in_err-writer.ensures.images tells in
-    touches_then (touches_then (touches_none (OrList c.args.name.now) (c.in_ok-refuse_existing.ensures.asks.images tells)) (touches_more (λ n it. inr it) (c.in_ok-list.ensures.images tells).touches))
-    (touches_more (λ n it. inl it) (touches_from g.D.Directory c.self.view_is (touches_file opens.time opens.no_more (others_opened _ opens))))
-
-pub returns-clause-crash : goal.returns-clause-crash
-returns-clause-crash g c = λ tells was.
-    let asked = c.in_ok-refuse_existing.ensures.asks in
-    let first = track_read g.D.Directory asked.frame.names (asked.images tells) was in
-    let listed = (c.in_ok-list.ensures.images tells).tracks first.tracked in
+pub returns-clause-safe : goal.returns-clause-safe
+returns-clause-safe g c = λ tells.
+    let D = g.D.Directory in
+    let name = c.args.name.now in
+    let asked = c.in_ok-refuse_taken.ensures.asks in
+    let keeps = asked.images tells in
+    let listed = c.in_ok-list.ensures.images tells in
+    let names = c.in_ok-list.ensures.list.names in
     let opens = c.in_ok-writer.ensures.images tells in
-    track_then g.D.Directory (track_then g.D.Directory first listed) (track_from g.D.Directory c.self.view_is (track_file g.D.Directory opens.time opens.no_more c.requires.other
-    (λ undotted. ap (λ v. has v.1 c.args.name.now) c.self.view_is ∙ rw c.in_ok-list.ensures.list.names (has_registered _ c.args.name.now undotted))) listed.tracked)
-
-pub returns-clause-images : goal.returns-clause-images
-returns-clause-images g c = λ tells.
-    let opens = c.in_ok-writer.ensures.images tells in
-    touches_then (touches_then (touches_none (OrList c.args.name.now) (c.in_ok-refuse_existing.ensures.asks.images tells)) (touches_more (λ n it. inr it) (c.in_ok-list.ensures.images tells).touches))
-    (touches_more (λ n it. inl it) (touches_from g.D.Directory c.self.view_is (touches_file opens.time opens.no_more (others_opened _ opens))))
+    let inside : ManagedNames = record { managed = map string_bytes c.self.inside.managed.keys; collections = c.self.inside.collections } in
+    let free : is_undotted name ≡ true → has (done_names inside.collections) name ≡ false =
+    λ undotted. ap (λ v. has (done_names v.1.collections) name) c.self.view_is ∙ ap (λ v. has (done_names v.collections) name) (names ∙ ap (λ v. registering v name) asked.frame.names) ∙ done_held c.args.self.now.1.collections.unfinished name asked.faults.free in
+    let there : is_undotted name ≡ true → has inside.managed name ≡ true =
+    λ undotted. ap (λ v. has v.1.managed name) c.self.view_is ∙ ap (λ v. has v.managed name) names ∙ has_registered _ name undotted in
+    record {
+      tracks = λ was.
+          let first = track_read D asked.frame.names keeps was in
+          let second = listed.tracks first.tracked in
+          track_then D (track_then D first second) (track_from D c.self.view_is (track_given D opens.time opens.no_more (others_opened _ opens) c.requires.other (λ undotted. (there undotted, free undotted))) second.tracked);
+      states = record {
+        moments = asked_from D c.args.self.now c.refuse_taken.new.self c.self.view_is keeps (rw asked.frame.names at listed.moments) opens.time opens.no_more;
+        now = record { each = λ n other. others_opened _ opens n (λ e. other (inl e)) ∙ ap (λ v. (D.disk v.0).now n) c.self.view_is ∙ listed.others n (λ e. other (inr e)) ∙ keeps.states.now n };
+        stands = search rules;
+      };
+    }

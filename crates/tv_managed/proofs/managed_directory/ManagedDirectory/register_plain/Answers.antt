@@ -1,59 +1,86 @@
-use Rattle.std.proofs.Common.{rules, refl, ◌≡◌, true, false, sym, ap, subst, ◌∙◌, map, string_bytes}
-use Rattle.tv_model.specs.Listing.{IsOnList}
-use Rattle.tv_model.specs.Names.{list_name}
+use Rattle.std.proofs.Common.{rules, refl, ◌≡◌, true, false, sym, ap, subst, ◌∙◌, List, ℕ, [], ◌∷◌, map, string_bytes}
+use Rattle.std.specs.BTreeSet.{insert_key}
+use Rattle.tv_model.specs.Collections.{without}
+use Rattle.tv_model.specs.Listing.{IsOnList, Lists}
+use Rattle.tv_model.specs.Names.{byte_cmp, has, is_undotted, list_name}
 use Rattle.tv_model.proofs.Entries.{has_inserted, has_kept, insert_present}
-use Rattle.tv_managed.specs.Managed.{AreManaged, Covers, registered}
+use Rattle.tv_managed.specs.Managed.{Covers, registered, registering}
+use Rattle.tv_managed.specs.Names.{AreManaged, ManagedNames, done_names}
 use Rattle.tv_managed.proofs.Removals.{without_inserted}
 use Rattle.tv_managed.proofs.SetsOfTexts.{had_is}
 use Rattle.tv_managed.proofs.Saves.{covers_put}
-use Rattle.tv_managed.proofs.Listing.{tracks_refused, tracks_same, tracks_saved}
+use Rattle.tv_managed.proofs.Listing.{lists_refused, lists_same, lists_saved}
 use Rattle.tv_managed.proofs.managed_directory.ManagedDirectory.register_plain.Goals as goal
 
+-- these names, and those that are kept in memory beside them
+with_names : ManagedNames → List (List ℕ) → ManagedNames
+with_names names managed = record names { managed = managed }
+
+-- an undotted name is put among the managed ones
+puts : (names : ManagedNames) (name : List ℕ) → is_undotted name ≡ true → with_names names (insert_key byte_cmp names.managed name) ≡ registering names name
+unfolding with_names
+puts names name undotted = rw undotted refl
+
+keeps_put : (names : ManagedNames) (name : List ℕ) → is_undotted name ≡ true → (n : List ℕ) → has names.managed n ≡ true → has (registered names.managed name) n ≡ true
+keeps_put names name undotted n h = rw undotted (has_kept names.managed name n h)
+
 pub returns-then-contains-clause-list : goal.returns-then-contains-clause-list
+unfolding with_names
 returns-then-contains-clause-list g c =
-    let names : map string_bytes c.self.inside.managed.keys ≡ c.args.self.now.1 = ap (λ v. v.1) c.self.view_is in
+    let old = c.args.self.now.1 in
+    let names : map string_bytes c.self.inside.managed.keys ≡ old.managed = ap (λ v. v.1.managed) c.self.view_is in
     let there = had_is c.self.inside.managed.keys _ c.args.name.now true c.if-contains.ensures names in
-    let put : c.args.self.now.1 ≡ registered c.args.self.now.1 c.args.name.now = rw c.requires.undotted (sym (insert_present c.args.self.now.1 c.args.name.now there (subst AreManaged names c.self.invariant).ordered)) in
-    let on : Covers ((g.D.Directory.view c.args.self.now.0).reads list_name) c.args.self.now.1 → IsOnList ((g.D.Directory.view c.args.self.now.0).reads list_name) c.args.name.now = λ was. (was.0, was.1, was.2 c.args.name.now there) in
+    let put : old ≡ registering old c.args.name.now =
+    ap (with_names old) (sym (insert_present old.managed c.args.name.now there (subst AreManaged names c.self.invariant).ordered)) ∙ puts old c.args.name.now c.requires.undotted in
+    let on : Covers ((g.D.Directory.view c.args.self.now.0).reads list_name) old → has (done_names old.collections) c.args.name.now ≡ false → IsOnList ((g.D.Directory.view c.args.self.now.0).reads list_name) c.args.name.now =
+    λ was free. (was.0, was.1, was.2 c.args.name.now there free) in
     search rules
 
 pub returns-in-Ok-clause-list : goal.returns-in-Ok-clause-list
+unfolding with_names
 returns-in-Ok-clause-list g c =
-    let names = c.save.new.self.1 in
+    let old = c.args.self.now.1 in
+    let new = c.save.new.self.1 in
     let lists = c.in-Ok.ensures.lists in
-    let put = c.in-Ok.ensures.only.frame.names ∙ c.in_ok-add.ensures.names in
-    let all : c.save.new.self.1 ≡ registered c.args.self.now.1 c.args.name.now = rw c.requires.undotted put in
-    let covers : g.D.Directory.told.content → Covers ((g.D.Directory.view c.save.new.self.0).reads list_name) c.save.new.self.1 = λ tells. (names, lists tells, λ n h. h) in
-    let on : g.D.Directory.told.content → IsOnList ((g.D.Directory.view c.save.new.self.0).reads list_name) c.args.name.now = λ tells. (names, lists tells, rw put (has_inserted c.args.self.now.1 c.args.name.now)) in
+    let put : new ≡ registering old c.args.name.now = c.in-Ok.ensures.only.frame.names ∙ c.in_ok-add.ensures.names ∙ puts old c.args.name.now c.requires.undotted in
+    let managed : new.managed ≡ insert_key byte_cmp old.managed c.args.name.now = ap (λ v. v.managed) (c.in-Ok.ensures.only.frame.names ∙ c.in_ok-add.ensures.names) in
+    let covers : g.D.Directory.told.content → Covers ((g.D.Directory.view c.save.new.self.0).reads list_name) new = λ tells. (new.managed, lists tells, λ n h free. h) in
+    let on : g.D.Directory.told.content → IsOnList ((g.D.Directory.view c.save.new.self.0).reads list_name) c.args.name.now = λ tells. (new.managed, lists tells, rw managed (has_inserted old.managed c.args.name.now)) in
     search rules
 
 pub returns-in-Err-clause-list : goal.returns-in-Err-clause-list
+unfolding with_names
 returns-in-Err-clause-list g c =
-    let names : map string_bytes c.self.inside.managed.keys ≡ c.args.self.now.1 = ap (λ v. v.1) c.self.view_is in
-    let none = had_is c.self.inside.managed.keys _ c.args.name.now false c.if-contains.ensures names in
+    let old = c.args.self.now.1 in
     let only = c.in-Err.ensures.only in
-    let put = only.frame.names ∙ c.in_ok-add.ensures.names in
-    let same = without_inserted c.args.self.now.1 _ _ c.args.name.now (subst AreManaged names c.self.invariant) none put c.forget.ensures.names in
-    let covers : g.D.Directory.told.content → Covers ((g.D.Directory.view c.args.self.now.0).reads list_name) c.args.self.now.1 → Covers ((g.D.Directory.view c.forget.new.self.0).reads list_name) c.forget.new.self.1 = λ tells was.
-    rw (c.forget.ensures.directory, same) (covers_put _ _ c.args.self.now.1 c.save.new.self.1 (λ n h. rw put (has_kept c.args.self.now.1 c.args.name.now n h)) (only.either tells) (rw c.in_ok-add.ensures.directory was)) in
+    let names : map string_bytes c.self.inside.managed.keys ≡ c.args.self.now.1.managed = ap (λ v. v.1.managed) c.self.view_is in
+    let none = had_is c.self.inside.managed.keys _ c.args.name.now false c.if-contains.ensures names in
+    let put = c.in-Err.ensures.only.frame.names ∙ c.in_ok-add.ensures.names in
+    let same : c.forget.new.self.1 ≡ c.args.self.now.1 =
+    c.forget.ensures.names ∙ ap (λ v. with_names v (without (c.args.name.now ∷ []) v.managed)) put ∙ ap (with_names c.args.self.now.1) (without_inserted c.args.self.now.1.managed _ _ c.args.name.now (subst AreManaged names c.self.invariant) none refl refl) in
+    let covers : g.D.Directory.told.content → Covers ((g.D.Directory.view c.args.self.now.0).reads list_name) old → Covers ((g.D.Directory.view c.forget.new.self.0).reads list_name) c.forget.new.self.1 = λ tells was.
+    rw (c.forget.ensures.directory, same) (covers_put _ _ old c.save.new.self.1.managed (λ n h free. rw (ap (λ v. v.managed) (only.frame.names ∙ c.in_ok-add.ensures.names)) (has_kept old.managed c.args.name.now n h)) (only.either tells) (rw c.in_ok-add.ensures.directory was)) in
     search rules
 
 pub returns-then-contains-clause-images : goal.returns-then-contains-clause-images
-returns-then-contains-clause-images g c = λ tells. tracks_same g.D.Directory {old = c.args.self.now} {new = c.args.self.now} refl refl
+returns-then-contains-clause-images g c = λ tells. lists_same g.D.Directory c.args.name.now {old = c.args.self.now} {new = c.args.self.now} refl refl
 
 pub returns-in_err-add-clause-images : goal.returns-in_err-add-clause-images
-returns-in_err-add-clause-images g c = λ tells. tracks_same g.D.Directory c.in_err-add.ensures.directory c.in_err-add.ensures.kept
+returns-in_err-add-clause-images g c = λ tells. lists_same g.D.Directory c.args.name.now c.in_err-add.ensures.directory c.in_err-add.ensures.kept
 
 pub returns-in-Ok-clause-images : goal.returns-in-Ok-clause-images
+unfolding with_names
 returns-in-Ok-clause-images g c = λ tells.
-    tracks_saved g.D.Directory {old = c.args.self.now} {mid = c.add.new.self} {new = c.save.new.self} _ c.in_ok-add.ensures.directory (c.in-Ok.ensures.images tells)
-    (λ n h. rw c.in_ok-add.ensures.names (has_kept c.args.self.now.1 c.args.name.now n h)) c.in-Ok.ensures.only.frame.names
+    lists_saved g.D.Directory c.args.name.now {old = c.args.self.now} {mid = c.add.new.self} {new = c.save.new.self} _ c.in_ok-add.ensures.directory (c.in-Ok.ensures.images tells)
+    (c.in_ok-add.ensures.names ∙ puts c.args.self.now.1 c.args.name.now c.requires.undotted) (keeps_put c.args.self.now.1 c.args.name.now c.requires.undotted) c.in-Ok.ensures.only.frame.names
 
 pub returns-in-Err-clause-images : goal.returns-in-Err-clause-images
+unfolding with_names
 returns-in-Err-clause-images g c = λ tells.
-    let names : map string_bytes c.self.inside.managed.keys ≡ c.args.self.now.1 = ap (λ v. v.1) c.self.view_is in
+    let names : map string_bytes c.self.inside.managed.keys ≡ c.args.self.now.1.managed = ap (λ v. v.1.managed) c.self.view_is in
     let none = had_is c.self.inside.managed.keys _ c.args.name.now false c.if-contains.ensures names in
     let put = c.in-Err.ensures.only.frame.names ∙ c.in_ok-add.ensures.names in
-    let same = without_inserted c.args.self.now.1 _ _ c.args.name.now (subst AreManaged names c.self.invariant) none put c.forget.ensures.names in
-    tracks_refused g.D.Directory {old = c.args.self.now} {mid = c.add.new.self} {last = c.save.new.self} {new = c.forget.new.self} c.in_ok-add.ensures.directory (c.in-Err.ensures.images tells)
-    (λ n h. rw c.in_ok-add.ensures.names (has_kept c.args.self.now.1 c.args.name.now n h)) c.forget.ensures.directory same
+    let same : c.forget.new.self.1 ≡ c.args.self.now.1 =
+    c.forget.ensures.names ∙ ap (λ v. with_names v (without (c.args.name.now ∷ []) v.managed)) put ∙ ap (with_names c.args.self.now.1) (without_inserted c.args.self.now.1.managed _ _ c.args.name.now (subst AreManaged names c.self.invariant) none refl refl) in
+    lists_refused g.D.Directory c.args.name.now {old = c.args.self.now} {mid = c.add.new.self} {last = c.save.new.self} {new = c.forget.new.self} c.in_ok-add.ensures.directory (c.in-Err.ensures.images tells)
+    (c.in_ok-add.ensures.names ∙ puts c.args.self.now.1 c.args.name.now c.requires.undotted) (keeps_put c.args.self.now.1 c.args.name.now c.requires.undotted) c.forget.ensures.directory same

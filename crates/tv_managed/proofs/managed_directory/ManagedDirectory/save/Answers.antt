@@ -21,7 +21,7 @@ returns-clause-only g c = record {
 }
 
 pub returns-clause-images : goal.returns-clause-images
-returns-clause-images g c = λ tells. subst (λ v. SavesManaged g.D.Directory v (c.save_managed_paths.new.directory, map string_bytes c.self.inside.managed.keys) c.save_managed_paths.result) c.self.view_is (record {
+returns-clause-images g c = λ tells. subst (λ v. SavesManaged g.D.Directory v (c.save_managed_paths.new.directory, record { managed = map string_bytes c.self.inside.managed.keys; collections = c.self.inside.collections }) c.save_managed_paths.result) c.self.view_is (record {
   saves = c.save_managed_paths.ensures.images tells;
   listed = list_of c.self.inside.managed.keys _ refl c.self.invariant;
 })

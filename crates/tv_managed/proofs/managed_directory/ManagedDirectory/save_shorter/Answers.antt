@@ -1,49 +1,61 @@
-use Rattle.std.proofs.Common.{rules, ◌≡◌, true, refl, sym, ap, subst, ◌∙◌, map, string_bytes}
-use Rattle.tv_model.specs.Disk.{Within, possible_now}
-use Rattle.tv_model.specs.Listing.{list_text}
+use Rattle.std.proofs.Common.{rules, List, ℕ, ◌≡◌, true, refl, sym, ap, subst, ◌∙◌, map, string_bytes}
+use Rattle.tv_model.specs.Listing.{IsListOf, list_text}
 use Rattle.tv_model.specs.Names.{has}
 use Rattle.tv_managed.specs.Collecting.{names_of}
-use Rattle.tv_managed.specs.Crashes.{CutsList, SavesText}
-use Rattle.tv_managed.specs.Managed.{AreManaged}
-use Rattle.tv_managed.proofs.Cutting.{cuts, cuts_wanted}
+use Rattle.tv_managed.specs.Crashes.{CutsList, LeavesSafely, SavesText, ShortensStates}
+use Rattle.tv_managed.specs.Names.{AreManaged, ManagedNames}
+use Rattle.tv_managed.proofs.Cutting.{cuts, cuts_refused, may_cut}
 use Rattle.tv_managed.proofs.Removals.{still_managed}
 use Rattle.tv_managed.proofs.SetsOfTexts.{list_of}
-use Rattle.tv_managed.proofs.Shortening.{IsntMemory, shortens, was_there}
+use Rattle.tv_managed.proofs.Shortening.{saves_from, shortens}
 use Rattle.tv_managed.proofs.managed_directory.ManagedDirectory.save_shorter.Goals as goal
-use Rattle.tv_managed.proofs.managed_directory.ManagedDirectory.save_shorter.Goals.{in-Err-Memory, in_default, in_default-2}
 
-pub invariant_of-self-2 : goal.invariant_of-self-2
-invariant_of-self-2 g c =
-    subst AreManaged (sym c.requires.1) (still_managed _ c.requires.0 (subst AreManaged (ap (λ v. v.1) c.self.view_is ∙ c.in_ok-sync_directory.ensures.frame.names) c.self.invariant))
+with_managed : List (List ℕ) → ManagedNames → ManagedNames
+with_managed left names = record names { managed = left }
 
-pub returns-clause-shortens : goal.returns-clause-shortens
-returns-clause-shortens g c =
-    let other : IsntMemory c.save_managed_paths-saved.result = elim c.match-matches.branch [ in-Err-Memory w ↦ search rules | in_default w ↦ search rules | in_default-2 w ↦ search rules ] in
+pub invariant_of-self : goal.invariant_of-self
+invariant_of-self g c =
+    subst AreManaged (sym c.requires.1) (still_managed _ c.requires.0 (subst AreManaged (ap (λ v. v.1.managed) c.self.view_is ∙ ap (λ v. v.managed) c.in_ok-sync_directory.ensures.frame.names) c.self.invariant))
+
+pub returns-in_err-sync_directory-clause-safe : goal.returns-in_err-sync_directory-clause-safe
+returns-in_err-sync_directory-clause-safe g c = λ tells. cuts_refused g.D.Directory (names_of c.args.left.keys) c.args.self.now c.sync_directory.new.self c.in_err-sync_directory.ensures.frame.names (c.in_err-sync_directory.ensures.safe tells).states
+
+pub returns-in-Ok-clause-shortens : goal.returns-in-Ok-clause-shortens
+unfolding with_managed
+returns-in-Ok-clause-shortens g c =
     let sync = c.in_ok-sync_directory.ensures in
-    let managed : AreManaged (names_of c.args.left.keys) =
-    subst AreManaged (sym c.requires.1) (still_managed _ c.requires.0 (subst AreManaged (ap (λ v. v.1) c.self.view_is ∙ sync.frame.names) c.self.invariant)) in
-    shortens g.D.Directory (names_of c.args.left.keys) c.requires.0 c.args.self.now c.sync_directory.new.self (c.save_managed_paths-saved.new.directory, names_of c.args.left.keys) c.self.inside.directory c.save_managed_paths-saved.result sync.frame sync.faults.quiet
-    (ap (λ v. v.0) c.self.view_is) c.save_managed_paths-saved.ensures.saves other c.requires.1 (list_of c.args.left.keys _ refl managed) refl
+    let names = ap (λ v. v.1) c.self.view_is ∙ sync.frame.names in
+    let managed : AreManaged (names_of c.args.left.keys) = subst AreManaged (sym c.requires.1) (still_managed _ c.requires.0 (subst AreManaged (ap (λ v. v.managed) names) c.self.invariant)) in
+    shortens g.D.Directory (names_of c.args.left.keys) c.args.self.now c.sync_directory.new.self (c.save_managed_paths.new.directory, record { managed = names_of c.args.left.keys; collections = c.self.inside.collections }) c.self.inside.directory _ sync.frame sync.faults.quiet
+    (ap (λ v. v.0) c.self.view_is) c.in-Ok.ensures.saves (list_of c.args.left.keys _ refl managed) (ap (with_managed (names_of c.args.left.keys)) names) tt
 
-pub returns-then-matches-clause-images : goal.returns-then-matches-clause-images
-returns-then-matches-clause-images g c = λ tells.
+pub returns-in-Err-clause-shortens : goal.returns-in-Err-clause-shortens
+returns-in-Err-clause-shortens g c =
+    let sync = c.in_ok-sync_directory.ensures in
+    let names = ap (λ v. v.1) c.self.view_is ∙ sync.frame.names in
+    let managed : AreManaged (names_of c.args.left.keys) = subst AreManaged (sym c.requires.1) (still_managed _ c.requires.0 (subst AreManaged (ap (λ v. v.managed) names) c.self.invariant)) in
+    shortens g.D.Directory (names_of c.args.left.keys) c.args.self.now c.sync_directory.new.self (c.save_managed_paths.new.directory, record { managed = map string_bytes c.self.inside.managed.keys; collections = c.self.inside.collections }) c.self.inside.directory _ sync.frame sync.faults.quiet
+    (ap (λ v. v.0) c.self.view_is) c.in-Err.ensures.saves (list_of c.args.left.keys _ refl managed) tt names
+
+pub returns-in-Ok-clause-safe : goal.returns-in-Ok-clause-safe
+unfolding with_managed
+returns-in-Ok-clause-safe g c = λ tells lacks.
     let D = g.D.Directory in
     let left = names_of c.args.left.keys in
-    let names : map string_bytes c.self.inside.managed.keys ≡ c.args.self.now.1 = ap (λ v. v.1) c.self.view_is ∙ c.in_ok-sync_directory.ensures.frame.names in
-    let managed : AreManaged left = subst AreManaged (sym c.requires.1) (still_managed _ c.requires.0 (subst AreManaged names c.self.invariant)) in
-    let saves = subst (λ v. SavesText (D.disk v.0) (D.disk c.save_managed_paths-saved.new.directory) (list_text left) c.save_managed_paths-saved.result) c.self.view_is (c.save_managed_paths-saved.ensures.images tells) in
-    let quiet : Within (possible_now (D.disk c.sync_directory.new.self.0)) (possible_now (D.disk c.save_managed_paths-saved.new.directory)) = elim c.match-matches.branch [ in-Err-Memory w ↦ search rules | in_default w ↦ search rules | in_default-2 w ↦ search rules ] in
-    subst (λ l. CutsList D left c.args.self.now (c.save_managed_paths-saved.new.directory, l)) (sym names)
-    (cuts_wanted D c.args.self.now c.sync_directory.new.self.0 c.save_managed_paths-saved.new.directory left _ _ (c.in_ok-sync_directory.ensures.images tells) saves quiet (list_of c.args.left.keys _ refl managed)
-    (λ n h. was_there c.requires.0 _ n (subst (λ l. has l n ≡ true) c.requires.1 h)))
-
-pub returns-clause-images : goal.returns-clause-images
-returns-clause-images g c = λ tells.
-    let D = g.D.Directory in
-    let left = names_of c.args.left.keys in
-    let names : map string_bytes c.self.inside.managed.keys ≡ c.args.self.now.1 = ap (λ v. v.1) c.self.view_is ∙ c.in_ok-sync_directory.ensures.frame.names in
-    let was = subst AreManaged names c.self.invariant in
+    let names = ap (λ v. v.1) c.self.view_is ∙ c.in_ok-sync_directory.ensures.frame.names in
+    let was = subst AreManaged (ap (λ v. v.managed) names) c.self.invariant in
     let managed : AreManaged left = subst AreManaged (sym c.requires.1) (still_managed _ c.requires.0 was) in
-    let saves = subst (λ v. SavesText (D.disk v.0) (D.disk c.save_managed_paths-saved.new.directory) (list_text left) c.save_managed_paths-saved.result) c.self.view_is (c.save_managed_paths-saved.ensures.images tells) in
-    cuts D c.args.self.now c.sync_directory.new.self.0 c.save_managed_paths-saved.new.directory left _ _ (c.in_ok-sync_directory.ensures.images tells) saves (list_of c.args.left.keys _ refl managed)
-    (λ n h. was_there c.requires.0 _ n (subst (λ l. has l n ≡ true) c.requires.1 h)) was.plain
+    let saves = saves_from D _ c.self.view_is (c.in-Ok.ensures.images tells) in
+    subst (λ v. LeavesSafely D (ShortensStates D left c.args.self.now (c.save_managed_paths.new.directory, v)) c.args.self.now (c.save_managed_paths.new.directory, v)) (sym (ap (with_managed left) names))
+    (cuts D c.args.self.now c.sync_directory.new.self.0 c.save_managed_paths.new.directory left _ _ (c.in_ok-sync_directory.ensures.safe tells).states saves (list_of c.args.left.keys _ refl managed) lacks was.plain saves.ok)
+
+pub returns-in-Err-clause-safe : goal.returns-in-Err-clause-safe
+returns-in-Err-clause-safe g c = λ tells lacks.
+    let D = g.D.Directory in
+    let left = names_of c.args.left.keys in
+    let names = ap (λ v. v.1) c.self.view_is ∙ c.in_ok-sync_directory.ensures.frame.names in
+    let was = subst AreManaged (ap (λ v. v.managed) names) c.self.invariant in
+    let managed : AreManaged left = subst AreManaged (sym c.requires.1) (still_managed _ c.requires.0 was) in
+    let saves = saves_from D _ c.self.view_is (c.in-Err.ensures.images tells) in
+    subst (λ v. LeavesSafely D (ShortensStates D left c.args.self.now (c.save_managed_paths.new.directory, v)) c.args.self.now (c.save_managed_paths.new.directory, v)) (sym names)
+    (may_cut D c.args.self.now c.sync_directory.new.self.0 c.save_managed_paths.new.directory left _ _ (c.in_ok-sync_directory.ensures.safe tells).states saves (list_of c.args.left.keys _ refl managed) lacks was.plain)

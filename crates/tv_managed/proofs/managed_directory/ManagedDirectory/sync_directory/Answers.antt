@@ -1,8 +1,11 @@
-use Rattle.std.proofs.Common.{refl}
+use Rattle.std.proofs.Common.{rules, refl}
 use Rattle.tv_managed.proofs.Tracking.{track_from, track_within}
 use Rattle.tv_managed.proofs.managed_directory.ManagedDirectory.sync_directory.Goals as goal
 
-pub returns-clause-crash : goal.returns-clause-crash
-returns-clause-crash g c = λ tells.
+pub returns-clause-safe : goal.returns-clause-safe
+returns-clause-safe g c = λ tells.
     let sync = c.sync_directory.ensures.images tells in
-    track_from g.D.Directory c.self.view_is (track_within g.D.Directory refl sync.time sync.no_more)
+    record {
+      tracks = track_from g.D.Directory c.self.view_is (track_within g.D.Directory refl sync.time sync.no_more sync.now);
+      states = search rules;
+    }

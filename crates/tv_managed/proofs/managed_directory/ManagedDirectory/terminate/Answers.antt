@@ -6,8 +6,11 @@ use Rattle.tv_model.specs.Footer.{sealed}
 use Rattle.tv_model.proofs.Bodies.{sealed_has_body}
 use Rattle.tv_managed.specs.Writers.{IsSummed}
 use Rattle.tv_managed.proofs.Endings.{sealed_sets}
+use Rattle.tv_model.specs.Disk.{Sealed}
+use Rattle.tv_managed.specs.Crashes.{SealsStates}
+use Rattle.tv_managed.specs.Names.{ManagedNames}
 use Rattle.tv_managed.proofs.Tracking.{track_from, track_read, track_same, track_then}
-use Rattle.tv_managed.proofs.Touching.{touches_from, touches_more, touches_none, touches_then, touches_written, track_written}
+use Rattle.tv_managed.proofs.Touching.{added_written, adds_run, gained_more, gained_none, gained_one, gained_same, gained_then, keeps_same, reads_then, time_written, touches_more, touches_none, touches_same, touches_then, touches_written, track_written}
 use Rattle.tv_managed.proofs.managed_directory.ManagedDirectory.terminate.Goals as goal
 
 pub returns-clause-seals : goal.returns-clause-seals
@@ -32,20 +35,49 @@ returns-clause-seals g c =
       gone = search rules;
     }
 
-pub returns-in_err-footer-clause-crash : goal.returns-in_err-footer-clause-crash
-returns-in_err-footer-clause-crash g c = λ tells other. track_same g.D.Directory
+pub returns-in_err-footer-clause-safe : goal.returns-in_err-footer-clause-safe
+returns-in_err-footer-clause-safe g c = λ tells other. record {
+  tracks = track_same g.D.Directory;
+  states = record {
+    touches = touches_same _ _;
+    moments = λ summed. adds_run (gained_same _ _);
+    stands = λ lives summed. search rules;
+    gone = λ lives. keeps_same _;
+  };
+}
 
-pub returns-in_err-write-clause-crash : goal.returns-in_err-write-clause-crash
-returns-in_err-write-clause-crash g c = λ tells other. track_from g.D.Directory c.self.view_is (track_read g.D.Directory refl (c.in_err-write.ensures.images tells))
+pub returns-in_err-write-clause-safe : goal.returns-in_err-write-clause-safe
+returns-in_err-write-clause-safe g c = λ tells other.
+    let keeps = c.in_err-write.ensures.images tells in
+    record {
+      tracks = track_from g.D.Directory c.self.view_is (track_read g.D.Directory refl keeps);
+      states = subst (λ v. SealsStates g.D.Directory v.0 c.write.new.self c.args.writer c.from_residual-in_err-write.result) c.self.view_is (record {
+        touches = touches_none _ keeps;
+        moments = λ summed. adds_run (gained_none _ keeps);
+        stands = λ lives summed. search rules;
+        gone = λ lives. keeps;
+      });
+    }
 
-pub returns-clause-crash : goal.returns-clause-crash
-returns-clause-crash g c = λ tells other.
-    let names = map string_bytes c.self.inside.managed.keys in
-    track_from g.D.Directory {new = (c.terminate.new.self, names)} c.self.view_is (λ was.
-    let first = track_read g.D.Directory {new = (c.write.new.self, names)} refl (c.in_ok-write.ensures.images tells) was in
-    track_then g.D.Directory first (track_written g.D.Directory _ (c.terminate.ensures.images tells) (g.met.D.Directory.stands c.write.new.self tells).possible (λ e. other (sym c.in_ok-write.ensures.appends.name ∙ e)) first.tracked))
-
-pub returns-clause-images : goal.returns-clause-images
-returns-clause-images g c = λ tells.
-    touches_from g.D.Directory c.self.view_is
-    (touches_then (touches_none _ (c.in_ok-write.ensures.images tells)) (touches_more (λ n it. it ∙ c.in_ok-write.ensures.appends.name) (touches_written _ (c.terminate.ensures.images tells))))
+pub returns-clause-safe : goal.returns-clause-safe
+returns-clause-safe g c = λ tells other.
+    let D = g.D.Directory in
+    let w = c.args.writer in
+    let body = (D.state_of w.writer).written in
+    let names : ManagedNames = record { managed = map string_bytes c.self.inside.managed.keys; collections = c.self.inside.collections } in
+    let keeps = c.in_ok-write.ensures.images tells in
+    let seals = c.terminate.ensures.images tells in
+    let content = g.met.D.Directory.tells_more tells in
+    let same = c.in_ok-write.ensures.appends.name in
+    let text : IsSummed D.state_of w → (D.state_of c.write.new.writer).written ≡ sealed body = λ summed. c.in_ok-write.ensures.appends.ok ∙ ap (λ (l : List ℕ). body ++ l) (c.as_slice.ensures.value ∙ c.in_ok-footer.ensures body summed) in
+    record {
+      tracks = track_from D {new = (c.terminate.new.self, names)} c.self.view_is (λ was.
+          let first = track_read D {new = (c.write.new.self, names)} refl keeps was in
+          track_then D first (track_written D _ seals (g.met.D.Directory.stands c.write.new.self tells).possible (λ e. other (sym same ∙ e)) first.tracked));
+      states = subst (λ v. SealsStates D v.0 c.terminate.new.self w c.terminate.result) c.self.view_is (record {
+        touches = touches_then (touches_none _ keeps) (touches_more (λ n it. it ∙ same) (touches_written _ seals));
+        moments = λ summed. adds_run (gained_then (gained_none _ keeps) (gained_more (λ n s it. (it.0 ∙ same, it.1 ∙ ap Sealed (text summed))) (gained_one (time_written _ seals) (added_written _ seals))));
+        stands = λ lives summed. on_ok_weaker c.terminate.result (λ sets. ap (D.disk c.terminate.new.self).now (sym same) ∙ sets.now ∙ ap Sealed (text summed)) (seals.gives (c.in_ok-write.ensures.hands_back.lives content ∙ lives)).ok;
+        gone = λ lives. reads_then keeps (seals.gone (c.in_ok-write.ensures.hands_back.lives content ∙ lives));
+      });
+    }

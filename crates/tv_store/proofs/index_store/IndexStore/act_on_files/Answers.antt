@@ -8,7 +8,7 @@ use Rattle.tv_store.specs.StoreCauses.{IsBusy}
 use Rattle.tv_store.specs.ReadCauses.{TakesMetaLock}
 use Rattle.tv_store.specs.Applying.{GoneAt, RefusedAt, UnloadedAt}
 use Rattle.tv_store.proofs.Steps.{at_most, read_cause_in}
-use Rattle.tv_store.proofs.Acting.{acts_anew, acts_beginning, faults_alone, faults_collecting, acts_on_files, acts_reading, acts_deleting, acts_committing}
+use Rattle.tv_store.proofs.Acting.{acts_anew, acts_beginning, faults_alone, faults_collecting, acts_on_files, acts_on_whole, acts_reading, acts_deleting, acts_committing}
 use Rattle.tv_store.proofs.index_store.IndexStore.act_on_files.Goals as goal
 
 pub returns-in-ReleaseSegment : goal.returns-in-ReleaseSegment
@@ -38,7 +38,7 @@ returns-in-Reopen g c =
 pub returns-in-Open : goal.returns-in-Open
 returns-in-Open g c =
     let did = c.open_file.ensures in
-    acts_on_files g.O.Directory c.args.self.now c.open_file.new.self c.args.event.now _ c.in-Open.is c.open_file.result (λ o n same. same) _ (λ o n h. h) ⊥ (λ never. absurd never) (λ s. tt) (λ takes. takes)
+    acts_on_whole g.O.Directory c.args.self.now c.open_file.new.self c.args.event.now _ c.in-Open.is c.open_file.result (λ o n same. same) (λ s. tt) (λ takes. takes)
     did.step (λ bound h. at_most bound 0 c.open_file.new.self.kept (did.lens bound h)) did.does
 
 pub returns-in-Seal : goal.returns-in-Seal

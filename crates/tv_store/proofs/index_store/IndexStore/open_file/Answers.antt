@@ -13,26 +13,26 @@ returns-in_err-open-clause-does g c = record {
 }
 
 pub returns-then-not-branch-clause-step : goal.returns-then-not-branch-clause-step
-returns-then-not-branch-clause-step g c tells s h =
+returns-then-not-branch-clause-step g c tells s h whole =
     let D = g.O.Directory in
     let inside = c.self-3.inside in
     let found = live_found c.self.inside.catalog s c.args.id (ap (λ v. v.kept.catalog) c.self.view_is ∙ h.catalog) c.live_segment.ensures c.in-Some.is in
     let once = asked_holds D c.args.self.now c.refuse-2.new.self s tells c.refuse-2.ensures.asks.frame h in
     let twice = asked_holds D c.refuse-2.new.self c.ready.new.self s tells c.ready.ensures.asks.frame once in
-    open_exists D inside.catalog inside.files c.open.new.self s c.args.id c.in_ok-name.name c.args.component c.in-Some.segment c.in_ok-exists.exists
-    tells found (sym c.lacks_deletes.ensures ∙ c.if-lacks_deletes.false) c.in_ok-name.ensures.name c.in_ok-name.ensures.file c.open.ensures.frame.form c.open.ensures.frame.collections
-    (c.in_ok-open.ensures.found c.if-not-branch.true) c.in_ok-exists.ensures.answer (inside_holds (λ d. (D.view d).reads) _ c.ready.new.self s c.self-3.view_is twice)
+    let did = open_exists D inside.catalog inside.files c.open.new.self s c.args.id c.in_ok-name.name c.args.component c.in-Some.segment c.in_ok-exists.exists
+    tells whole found (sym c.lacks_deletes.ensures ∙ c.if-lacks_deletes.false) c.in_ok-name.ensures.name c.in_ok-name.ensures.file c.open.ensures.frame.form c.open.ensures.frame.collections
+    (c.in_ok-open.ensures.found c.if-not-branch.true) c.in_ok-exists.ensures.answer (inside_holds (λ d. (D.view d).reads) _ c.ready.new.self s c.self-3.view_is twice) in (did.0, did.1, tt)
 
 pub returns-clause-step : goal.returns-clause-step
-returns-clause-step g c tells s h =
+returns-clause-step g c tells s h whole =
     let D = g.O.Directory in
     let inside = c.self-3.inside in
     let found = live_found c.self.inside.catalog s c.args.id (ap (λ v. v.kept.catalog) c.self.view_is ∙ h.catalog) c.live_segment.ensures c.in-Some.is in
     let once = asked_holds D c.args.self.now c.refuse-2.new.self s tells c.refuse-2.ensures.asks.frame h in
     let twice = asked_holds D c.refuse-2.new.self c.ready.new.self s tells c.ready.ensures.asks.frame once in
-    open_made D inside.catalog inside.files c.open.new.self s c.args.id c.in_ok-name.name c.args.component c.in-Some.segment c.in_ok-opened-2.opened
+    let did = open_made D inside.catalog inside.files c.open.new.self s c.args.id c.in_ok-name.name c.args.component c.in-Some.segment c.in_ok-opened-2.opened
     tells found (sym c.lacks_deletes.ensures ∙ c.if-lacks_deletes.false) c.in_ok-name.ensures.name c.in_ok-name.ensures.file c.open.ensures.frame.form c.open.ensures.frame.collections
-    (c.in_ok-open.ensures.opened c.if-not-branch.false) (c.in_ok-opened-2.ensures.answer ∙ c.in_ok-opened.ensures) (inside_holds (λ d. (D.view d).reads) _ c.ready.new.self s c.self-3.view_is twice)
+    (c.in_ok-open.ensures.opened c.if-not-branch.false) (c.in_ok-opened-2.ensures.answer ∙ c.in_ok-opened.ensures) (inside_holds (λ d. (D.view d).reads) _ c.ready.new.self s c.self-3.view_is twice) in (did.0, did.1, tt)
 
 pub returns-clause-lens : goal.returns-clause-lens
 returns-clause-lens g c bound h =

@@ -1,0 +1,110 @@
+-- How the calls that make, write, seal and delete a file keep track.
+use Rattle.std.proofs.Common.{◌≡◌, ◌≢◌, ⊎_elim, inl, inr, ℕ, Bool, true, false, true≢false, List, refl, sym, ap, subst, ◌∙◌, Result, Ok, Err}
+use borrow.Table.Steps.{cases}
+use Rattle.tv_model.specs.Disk.{DiskState, Absent, Unsealed, Sealed, IsThere, Possible, Disk, possible_now, Within, MayAdd, Elapses, IsSettled, Throughout, OnlyMoves}
+use Rattle.tv_model.proofs.DiskLaws.{HoldsOfFewer, started, goes_on, goes_on_run}
+use Rattle.std.specs.Prelude.{OnOk}
+use Rattle.tv_model.specs.Names.{has, is, is_undotted, list_name}
+use Rattle.tv_model.proofs.Entries.{is_itself, is_text}
+use Rattle.tv_base.specs.declared.open_errors.DeleteError.{DeleteError}
+use Rattle.tv_base.specs.declared.open_errors.DeleteError.TheVariants as delete
+use Rattle.tv_directory.specs.Images.{DeletesState, KeepsDisk, KeepsOtherStates, KeepsStates, Settles}
+use Rattle.tv_directory.specs.declared.directory.Directory.{Ghosts}
+use Rattle.tv_managed.specs.Crashes.{IsCovered, IsTracked, KeepsTrack, SettlesStates, LeavesSafely, ListsName, MayAddBoth, OrList}
+use Rattle.tv_managed.specs.Names.{ManagedNames, done_names}
+use Rattle.tv_managed.proofs.Touching.{gained_more, gained_none, gained_one, gained_run, gained_then, keeps_same}
+use Rattle.tv_managed.proofs.Tracking.{at_end, covered_within, fewer, safe_read, track_file, track_from, weaker}
+
+-- a call that only reads, and begins with the struct taken apart
+pub read_from : {D W C : Type 0} (g : Ghosts D W C) {old inside new : D × ManagedNames} → inside ≡ old → LeavesSafely g (KeepsDisk (g.disk inside.0) (g.disk new.0)) inside new → LeavesSafely g (KeepsDisk (g.disk old.0) (g.disk new.0)) old new
+read_from g {new = new} same safe = subst (λ v. LeavesSafely g (KeepsDisk (g.disk v.0) (g.disk new.0)) v new) same safe
+
+-- a file that is managed and not done is made, or given its bytes
+pub track_given : {D W C : Type 0} (g : Ghosts D W C) {old : D × ManagedNames} {new : D} {name : List ℕ} {state : DiskState} → Elapses (g.disk old.0) (g.disk new) → MayAdd (possible_now (g.disk old.0)) (possible_now (g.disk new)) name state → KeepsOtherStates (g.disk old.0) (g.disk new) name
+    → name ≢ list_name → (is_undotted name ≡ true → (has old.1.managed name ≡ true) × (has (done_names old.1.collections) name ≡ false)) → IsTracked g old → KeepsTrack g old (new, old.1)
+track_given g {old} time adds others other on was =
+    track_file g time adds other (λ undotted there. on undotted)
+    (λ n undotted h. others n (λ same. true≢false (sym h ∙ ap (has (done_names old.1.collections)) same ∙ (on (ap is_undotted (sym same) ∙ undotted)).1)) ∙ was.gone n undotted h)
+    was
+
+-- ---- deletes
+
+-- what is absent stays so
+pub deleted_stays : {A : Type 0} (result : Result A DeleteError) (old new : Disk) (name : List ℕ) → DeletesState old new name result → (n : List ℕ) → old.now n ≡ Absent → new.now n ≡ Absent
+deleted_stays (Ok x) old new name deletes n absent = cases (is n name)
+    (λ e. ap new.now (is_text n name e) ∙ deletes.ok.1.now)
+    (λ e. deletes.ok.1.others n (λ same. true≢false (sym (subst (λ m. is n m ≡ true) same (is_itself n)) ∙ e)) ∙ absent)
+deleted_stays (Err (delete.FileDoesNotExist path)) old new name deletes n absent = deletes.err.1.1.now n ∙ absent
+deleted_stays (Err (delete.IoError fault path)) old new name deletes n absent = deletes.err.2.now n ∙ absent
+deleted_stays (Err delete.Memory) old new name deletes n absent = deletes.err.now n ∙ absent
+
+-- a delete keeps track
+pub track_deleted : {D W C : Type 0} (g : Ghosts D W C) {old : D × ManagedNames} {new : D} {name : List ℕ} → Elapses (g.disk old.0) (g.disk new) → MayAdd (possible_now (g.disk old.0)) (possible_now (g.disk new)) name Absent
+    → ((n : List ℕ) → (g.disk old.0).now n ≡ Absent → (g.disk new).now n ≡ Absent) → name ≢ list_name → IsTracked g old → KeepsTrack g old (new, old.1)
+track_deleted g time adds stays other was = track_file g time adds other (λ undotted there. absurd there) (λ n undotted h. stays n (was.gone n undotted h)) was
+
+-- ---- states of a file and of the list
+
+-- the list may have its name, and then it is made
+pub both_states : {old asked mid new : Disk} {name : List ℕ} {state list : DiskState} → KeepsDisk old asked → Throughout (λ possible. MayAdd (possible_now asked) possible list_name list) asked mid → Elapses mid new → MayAdd (possible_now mid) (possible_now new) name state
+    → Throughout (λ possible. MayAddBoth (possible_now old) possible name state list) old new
+both_states asks listed time adds =
+    weaker (gained_then (gained_then (gained_none _ asks) (gained_more (λ n s it. inr it) (gained_run listed))) (gained_more (λ n s it. inl it) (gained_one time adds)))
+    (λ p gains. record { each = λ n s is. gains.each n s is })
+
+-- the list alone may have it
+pub list_states : {old asked mid : Disk} (name : List ℕ) (state : DiskState) {list : DiskState} → KeepsDisk old asked → Throughout (λ possible. MayAdd (possible_now asked) possible list_name list) asked mid → Throughout (λ possible. MayAddBoth (possible_now old) possible name state list) old mid
+list_states name state asks listed = weaker (gained_then (gained_none _ asks) (gained_more (λ n s it. inr it) (gained_run listed))) (λ p gains. record { each = λ n s is. gains.each n s is })
+
+-- or neither
+pub no_states : {old asked : Disk} (name : List ℕ) (state list : DiskState) → KeepsDisk old asked → Throughout (λ possible. MayAddBoth (possible_now old) possible name state list) old asked
+no_states name state list asks = weaker (gained_none _ asks) (λ p gains. record { each = λ n s is. gains.each n s is })
+
+-- what both may be, where the call begins with the struct taken apart
+pub both_from : {D W C : Type 0} (g : Ghosts D W C) (old : D × ManagedNames) {mid inside : D × ManagedNames} {new : D} {name : List ℕ} {state list : DiskState} → inside ≡ mid → Throughout (λ possible. MayAdd (possible_now (g.disk old.0)) possible list_name list) (g.disk old.0) (g.disk mid.0)
+    → Elapses (g.disk inside.0) (g.disk new) → MayAdd (possible_now (g.disk inside.0)) (possible_now (g.disk new)) name state → Throughout (λ possible. MayAddBoth (possible_now (g.disk old.0)) possible name state list) (g.disk old.0) (g.disk new)
+both_from g old {mid} {inside} {new} {name} {state} same listed time adds =
+    both_states (keeps_same (g.disk old.0)) listed (subst (λ v. Elapses (g.disk v.0) (g.disk new)) same time) (subst (λ v. MayAdd (possible_now (g.disk v.0)) (possible_now (g.disk new)) name state) same adds)
+
+-- the same after a call that only read
+pub asked_from : {D W C : Type 0} (g : Ghosts D W C) (old asked : D × ManagedNames) {mid inside : D × ManagedNames} {new : D} {name : List ℕ} {state list : DiskState} → inside ≡ mid → KeepsDisk (g.disk old.0) (g.disk asked.0)
+    → Throughout (λ possible. MayAdd (possible_now (g.disk asked.0)) possible list_name list) (g.disk asked.0) (g.disk mid.0)
+    → Elapses (g.disk inside.0) (g.disk new) → MayAdd (possible_now (g.disk inside.0)) (possible_now (g.disk new)) name state → Throughout (λ possible. MayAddBoth (possible_now (g.disk old.0)) possible name state list) (g.disk old.0) (g.disk new)
+asked_from g old asked {new = new} {name} {state} same asks listed time adds =
+    both_states asks listed (subst (λ v. Elapses (g.disk v.0) (g.disk new)) same time) (subst (λ v. MayAdd (possible_now (g.disk v.0)) (possible_now (g.disk new)) name state) same adds)
+
+-- ---- states of which there are no more
+
+fewer_within : (possible : Possible) → HoldsOfFewer (Within possible)
+fewer_within possible old new within was = record { each = λ n s is. was.each n s (within.each n s is) }
+
+within_same : (disk : Disk) → Throughout (Within (possible_now disk)) disk disk
+within_same disk = started _ (fewer_within (possible_now disk)) disk (record { each = λ n s is. is })
+
+within_step : {old new : Disk} → Elapses old new → Within (possible_now old) (possible_now new) → Throughout (Within (possible_now old)) old new
+within_step {old} time within = goes_on _ (fewer_within (possible_now old)) (within_same old) time within
+
+within_then : {old mid new : Disk} → Throughout (Within (possible_now old)) old mid → Throughout (Within (possible_now mid)) mid new → Throughout (Within (possible_now old)) old new
+within_then {old} first second = goes_on_run _ (fewer_within (possible_now old)) first (weaker second (λ p within. record { each = λ n s is. (at_end first).each n s (within.each n s is) }))
+
+-- nothing was done, and the answer is an error
+pub settles_same : {A E : Type 0} (disk : Disk) (e : E) → SettlesStates {A = A} disk disk (Err e)
+settles_same disk e = record { moments = within_same disk; now = λ n. refl; ok = tt }
+
+-- a sync, and then nothing
+pub settles_once : {A E B F : Type 0} {old new : Disk} {result : Result A E} (after : Result B F) → Settles old new result → (OnOk after (IsSettled new)) → SettlesStates old new after
+settles_once after sync ok = record { moments = within_step sync.time sync.no_more; now = sync.now; ok = ok }
+
+-- behind a call that only read
+pub settles_asked : {A E : Type 0} {old asked new : Disk} {result : Result A E} → KeepsDisk old asked → SettlesStates asked new result → SettlesStates old new result
+settles_asked asks settles = record { moments = within_then (within_step asks.time asks.states.possible.no_more) settles.moments; now = λ n. settles.now n ∙ asks.states.now n; ok = settles.ok }
+
+pub settles_none : {A E : Type 0} {old asked : Disk} {result : Result A E} → KeepsDisk old asked → OnOk result (IsSettled asked) → SettlesStates old asked result
+settles_none asks ok = record { moments = within_step asks.time asks.states.possible.no_more; now = asks.states.now; ok = ok }
+
+-- and track is kept
+pub track_settles : {A E D W C : Type 0} (g : Ghosts D W C) {old new : D × ManagedNames} {result : Result A E} → SettlesStates (g.disk old.0) (g.disk new.0) result → IsCovered (possible_now (g.disk new.0)) (g.disk new.0).now new.1 → IsTracked g old → KeepsTrack g old new
+track_settles g settles now was = record { tracked = now; moments = weaker settles.moments (λ p within. fewer _ p within was.forgets_none) }
+
+pub covered_settles : {A E D W C : Type 0} (g : Ghosts D W C) {old : D × ManagedNames} (new : D × ManagedNames) {result : Result A E} → SettlesStates (g.disk old.0) (g.disk new.0) result → IsTracked g old → IsCovered (possible_now (g.disk new.0)) (g.disk new.0).now old.1
+covered_settles g new settles was = covered_within (at_end settles.moments) (λ n undotted h. settles.now n ∙ was.gone n undotted h) was

@@ -1,0 +1,44 @@
+use Rattle.std.proofs.Common.{rules, arith, ◌≡◌, refl}
+use Rattle.tv_model.specs.Collections.{begun}
+use Rattle.tv_managed.specs.Collecting.{OnlyDeletes}
+use Rattle.tv_managed.proofs.Touching.{touches_same}
+use Rattle.tv_managed.proofs.Tracking.{track_same}
+use Rattle.tv_managed.proofs.Trying.{fewer_left, safe_next, some_next, some_none}
+use Rattle.tv_managed.proofs.managed_directory.ManagedDirectory.try_each.Goals as goal
+
+pub loop-self-init : goal.loop-self-init
+loop-self-init g c = record {
+  some = λ before names is number. some_none g.D.Directory before names c.args.self.now is (search rules);
+  only = search rules;
+  safe = λ tells before names is number. record { tracks = track_same g.D.Directory; states = touches_same _ _ };
+}
+
+pub loop-self-smaller-in_ok-collect_delete : goal.loop-self-smaller-in_ok-collect_delete
+loop-self-smaller-in_ok-collect_delete g c = fewer_left g.D.Directory c.args.number c.loop-self.self c.collect_delete.new.self c.in_ok-collect_delete.field-0 (c.has_left.ensures.left c.loop-self-test.true) c.in_ok-collect_delete.ensures.steps.ok
+
+pub loop-self-preserved-in_ok-collect_delete : goal.loop-self-preserved-in_ok-collect_delete
+loop-self-preserved-in_ok-collect_delete g c =
+    let only = c.in_ok-collect_delete.ensures.only in
+    let left = c.has_left.ensures.left c.loop-self-test.true in
+    record {
+      some = λ before names is number. some_next g.D.Directory before names c.args.number c.in_ok-collect_delete.field-0 number left c.in_ok-collect_delete.ensures.steps.ok only (c.loop-self.invariant.some before names is number);
+      only = search rules;
+      safe = λ tells before names is number. safe_next g.D.Directory before names c.args.number number left (c.in_ok-collect_delete.ensures.safe tells) (c.loop-self.invariant.some before names is number) (c.loop-self.invariant.safe tells before names is number);
+    }
+
+pub loop-self-smaller : goal.loop-self-smaller
+loop-self-smaller g c = fewer_left g.D.Directory c.args.number c.loop-self.self c.collect_delete.new.self c.in_ok-collect_delete.field-0 (c.has_left.ensures.left c.loop-self-test.true) c.in_ok-collect_delete.ensures.steps.ok
+
+pub loop-self-preserved : goal.loop-self-preserved
+loop-self-preserved g c =
+    let only = c.in_ok-collect_delete.ensures.only in
+    let left = c.has_left.ensures.left c.loop-self-test.true in
+    record {
+      some = λ before names is number. some_next g.D.Directory before names c.args.number c.in_ok-collect_delete.field-0 number left c.in_ok-collect_delete.ensures.steps.ok only (c.loop-self.invariant.some before names is number);
+      only = search rules;
+      safe = λ tells before names is number. safe_next g.D.Directory before names c.args.number number left (c.in_ok-collect_delete.ensures.safe tells) (c.loop-self.invariant.some before names is number) (c.loop-self.invariant.safe tells before names is number);
+    }
+
+pub returns-in_err-collect_delete-clause-safe : goal.returns-in_err-collect_delete-clause-safe
+returns-in_err-collect_delete-clause-safe g c = λ tells before names is number.
+    safe_next g.D.Directory before names c.args.number number (c.has_left.ensures.left c.loop-self-test.true) (c.in_err-collect_delete.ensures.safe tells) (c.loop-self.invariant.some before names is number) (c.loop-self.invariant.safe tells before names is number)

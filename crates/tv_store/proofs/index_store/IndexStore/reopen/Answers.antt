@@ -1,0 +1,28 @@
+use Rattle.std.proofs.Common.{sym, ap, subst, ◌∙◌}
+use Rattle.tv_model.specs.Commits.{Commit}
+use Rattle.tv_model.specs.Lines.{opening_of}
+use Rattle.tv_model.specs.ReopenEvents.{reopened}
+use Rattle.tv_model.specs.State.{Catalog}
+use Rattle.tv_store.specs.Kept.{AtMost, Holds, kept_of}
+use Rattle.tv_store.proofs.Holding.{same_holds}
+use Rattle.tv_store.proofs.ReopenEvents.{reopened_holds}
+use Rattle.tv_store.proofs.index_store.IndexStore.reopen.Goals as goal
+
+pub returns-in_err-reopen-clause-lens : goal.returns-in_err-reopen-clause-lens
+returns-in_err-reopen-clause-lens g c bound h = c.reopen.ensures.lens bound (subst (λ v. AtMost bound v.kept) (sym c.self-2.view_is) (subst (AtMost bound) (sym c.ready.ensures.asks.frame.kept) h))
+
+pub returns-clause-step : goal.returns-clause-step
+returns-clause-step g c tells s held =
+    let D = g.O.Directory in
+    let old = c.args.self.now in
+    let mid = c.ready.new.self in
+    let inside = c.self-2.inside in
+    let new = c.reopen.new.self in
+    let asked = c.ready.ensures.asks.frame in
+    let done = c.in_ok-reopen.ensures in
+    let now = subst (λ v. Holds (D.view v.outside).reads v.kept s) (sym c.self-2.view_is)
+    (same_holds (D.view old.outside).reads (D.view mid.outside).reads old.kept mid.kept s (asked.below.content tells) asked.kept held) in (
+      c.in_ok-answer.ensures.answer ∙ c.in_ok-line.ensures
+          ∙ ap (λ (k : Commit). opening_of k) (c.commit.ensures ∙ ap (λ v. v.kept.catalog.commit) c.self.view_is ∙ ap (λ (k : Catalog). k.commit) held.catalog),
+      subst (λ (k : Catalog). Holds (D.view new.outside).reads (kept_of k new) (reopened s)) (sym c.reopen-2.ensures) (reopened_holds D inside.catalog inside.files new s now done.others done.reopened),
+    )
