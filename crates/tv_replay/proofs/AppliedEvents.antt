@@ -33,6 +33,7 @@ use Rattle.tv_model.proofs.OpenedStates.{opens_sound}
 use Rattle.tv_model.specs.Script.{line_limit, lines_of, Fits}
 use Rattle.tv_model.specs.SoundStates.{IsWhole, IsSoundState}
 use Rattle.tv_model.proofs.SoundStates.{step_sound, holds_sound}
+use Rattle.tv_model.proofs.HeldStates.{nothing_held}
 use Rattle.tv_model.proofs.WholeStates.{after_whole}
 use Rattle.tv_model.proofs.Serving.{serves, serves_as_sealed}
 use Rattle.tv_model.proofs.Collects.{collects_in}
@@ -57,7 +58,7 @@ use Rattle.tv_replay.specs.ScriptCauses.{IsRefused, ScriptCause}
 use Rattle.tv_store.specs.StoreCauses.{WriteFault, IsRefusal}
 use Rattle.tv_replay.specs.Replays.{Replays, ReplayCause, StopsAtLine, LineRefusal, IsTooMany, TakesNoLock, line_refusal, long_refusal}
 use Rattle.tv_store.specs.Applying.{Stepped, written_by}
-use Rattle.tv_store.specs.Exhausted.{IsExhausted, PassesEnd, length_after, number_after}
+use Rattle.tv_store.specs.Exhausted.{IsExhausted, PassesEnd, collection_after, length_after, number_after}
 use Rattle.tv_replay.specs.AppliedEvents.{Applies, Runs, RunFaults, Causes, RunCause, run_causes, FailsRun, EndCause, IsErrorOf}
 use Rattle.tv_replay.proofs.LineLemmas.{pending_some}
 use Rattle.tv_replay.proofs.Progress.{after-last, answers-last, events-last, readable-last, refused-last, AreLines-length, ReadSoFar, HasRead, nothing_read, one_more_read, all_read}
@@ -130,7 +131,7 @@ then_there : {A B : Type 0} (f : A → Option B) (o : Option A) (b : B) → opti
 then_there f None b e = absurd cc
 then_there f (Some x) b e = (x, e)
 
-few_numbers : (kept : Kept) (event : Event) (bound : ℕ) → bound + 1 < 2 ^ 64 → FewNumbers bound kept.catalog.reading → PassesEnd (number_after kept.catalog event) → ⊥
+few_numbers : (kept : Kept) (event : Event) (bound : ℕ) → bound + 1 < 2 ^ 64 → FewNumbers bound kept.catalog.reading kept.collections → PassesEnd (number_after kept.catalog event) → ⊥
 few_numbers kept (events.Reader policy) bound few numbers (n, is, much) =
     let same : kept.catalog.reading.next_reader + 1 ≡ n = cc in omega (arith, numbers.next_reader, same)
 few_numbers kept (events.Searcher number) bound few numbers (n, is, much) =
@@ -142,6 +143,13 @@ few_numbers kept (events.Reload number) bound few numbers (n, is, much) =
     omega (arith, small, same, much)
 few_numbers kept other bound few numbers (n, is, much) = absurd cc
 
+few_collections : (kept : Kept) (event : Event) (bound : ℕ) → bound + 1 < 2 ^ 64 → FewNumbers bound kept.catalog.reading kept.collections → PassesEnd (collection_after kept.collections event) → ⊥
+few_collections kept events.Gc bound few numbers (n, is, much) =
+    let same : kept.collections.next + 1 ≡ n = cc in omega (arith, numbers.next_collection, same)
+few_collections kept events.GcBegin bound few numbers (n, is, much) =
+    let same : kept.collections.next + 1 ≡ n = cc in omega (arith, numbers.next_collection, same)
+few_collections kept other bound few numbers (n, is, much) = absurd cc
+
 short_files : (kept : Kept) (event : Event) (bound more : ℕ) → bound + more < 2 ^ 64 → written_by event ≤ more → AtMost bound kept → PassesEnd (length_after kept event) → ⊥
 short_files kept (events.Write id component bytes) bound more few small all (n, is, much) =
     let segment = then_there (λ (segment : LiveSegment). option_map (λ (body : List ℕ). length (body ++ bytes)) (at kept.open_files (name_of id segment.deletes component))) (live_at kept.catalog id) n is in
@@ -152,9 +160,10 @@ short_files kept (events.Write id component bytes) bound more few small all (n, 
 short_files kept other bound more few small all (n, is, much) = absurd cc
 
 -- files stay far shorter than 64 bits of bytes, and numbers far below
-pub never_spent : (kept : Kept) (event : Event) (count : ℕ) → count < 2 ^ 32 → written_by event ≤ line_limit → AtMost (count * line_limit) kept → FewNumbers (count * line_limit) kept.catalog.reading → IsExhausted kept event → ⊥
+pub never_spent : (kept : Kept) (event : Event) (count : ℕ) → count < 2 ^ 32 → written_by event ≤ line_limit → AtMost (count * line_limit) kept → FewNumbers (count * line_limit) kept.catalog.reading kept.collections → IsExhausted kept event → ⊥
 never_spent kept event count few small all numbers (inl spent) = few_numbers kept event (count * line_limit) (omega arith) numbers spent
-never_spent kept event count few small all numbers (inr spent) = short_files kept event (count * line_limit) line_limit (omega arith) small all spent
+never_spent kept event count few small all numbers (inr (inl spent)) = few_collections kept event (count * line_limit) (omega arith) numbers spent
+never_spent kept event count few small all numbers (inr (inr spent)) = short_files kept event (count * line_limit) line_limit (omega arith) small all spent
 
 -- ---- how far a run has come
 
@@ -401,9 +410,12 @@ directory_holds form reads kept s is h = record {
 
 -- ---- the whole replay
 
--- what can be read is sealed
-pub reads_whole : (s : State) → CanRead s → IsWhole s
-reads_whole s h = record { each = λ n required. ap is_sealed (h.each n required).1 }
+-- what can be read is sealed, and where an index was just opened no collection takes any of it
+pub reads_whole : {schema : List ℕ} {reads : Reads} (index : OpenedIndex schema reads) → CanRead index.state → IsWhole index.state
+reads_whole {reads = reads} index h = record {
+  each = λ n required. ap is_sealed (h.each n required).1;
+  collecting = nothing_held index.state index.opens.collections (opens_managed_sorted index.form.settings index.form.schema reads index.state index.opens);
+}
 
 pub replays : {O W C : Type 0} (g : Ghosts O W C) (before : O) (schema : List ℕ) (mid new : StoreState O) (now : O) (text left : Option (List ℕ)) (tally : Tally)
     → Opens g before schema mid
@@ -415,7 +427,7 @@ pub replays : {O W C : Type 0} (g : Ghosts O W C) (before : O) (schema : List �
     → Runs g mid new text left tally → Replays g before now schema text tally
 replays g before schema mid new now text left tally opened said refusals holds heard later refusals_now locked r =
     let old_reads = (g.view before).reads in
-    let whole : g.told.content → (index : OpenedIndex schema old_reads) → IsWhole index.state = λ t index. reads_whole index.state (opened.holds t index).2 in
+    let whole : g.told.content → (index : OpenedIndex schema old_reads) → IsWhole index.state = λ t index. reads_whole index (opened.holds t index).2 in
     let stands : g.told.content → (index : OpenedIndex schema old_reads) → DirectoryHolds index.form.settings index.form.schema (g.view now).reads (after index.state r.turns) =
     λ t index.
     let h = opened.holds t index in

@@ -1,5 +1,5 @@
 -- The run of a replay over a directory without files.
-use Rattle.std.proofs.Common.{◌≡◌, ◌⊎◌, true≢false, inl, inr, ℕ, ◌+◌, ◌≤◌, List, [], ◌∷◌, ◌++◌, length, map, Option, Some, None, refl, sym, ap, subst, ◌∙◌, arith}
+use Rattle.std.proofs.Common.{◌≡◌, true≢false, inl, inr, ℕ, List, [], ◌∷◌, ◌++◌, length, map, Option, Some, None, refl, sym, ap, subst, ◌∙◌, arith}
 use Rattle.std.specs.Prelude.{option_map}
 use Rattle.std.specs.List.{flat_map}
 use Rattle.std.proofs.lemmas.List.Folds.{flat_map-map}
@@ -28,6 +28,7 @@ opens_first schema reads none = record {
   live = refl;
   next = refl;
   reading = refl;
+  collections = refl;
   names = λ n is. absurd (true≢false (sym is));
   files = λ n is. ap (λ (r : Option (List ℕ)). option_map Sealed r) (sym (none n));
 }

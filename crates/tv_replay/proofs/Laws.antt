@@ -17,14 +17,14 @@ use Rattle.hex.specs.declared.error.FromHexError.{FromHexError}
 use Rattle.hex.proofs.HexLemmas.{decode_sized-encode_lower, decode_sized-ok, decode_sized-twice, decode_of-ok}
 use Rattle.tv_model.specs.Ids.{IsId, are_distinct}
 use Rattle.tv_model.specs.Names.{is}
-use Rattle.tv_replay.specs.Fields.{id_at, printed_id, component_at, named_components, bytes_at, some_bytes, number_at, payload_at, signed_text_at, some_text, text_at}
+use Rattle.tv_replay.specs.Fields.{id_at, printed_id, component_at, bytes_at, some_bytes, number_at, payload_at, signed_text_at, some_text, text_at}
 use Rattle.tv_replay.proofs.Numbers.{isnt, chosen, both, number_found, number_again}
 use Rattle.std.proofs.lemmas.List.Elements.{recursion_from_All}
 use Rattle.tv_model.specs.declared.segment.SegmentComponent.{SegmentComponent}
-use Rattle.tv_model.specs.declared.segment.SegmentComponent.TheVariants.{Postings, Delete}
-use Rattle.tv_model.specs.Segments.{extension}
-use Rattle.tv_model.specs.Script.{IsNamed, line_limit, Fits, IsLine, SpellsPayload, keyword, AreArguments}
-use Rattle.tv_replay.specs.EventWords.{◌>>=◌, ids_in, segment_in, open_in, write_in, seal_in, docs_in, commit_of, commit_in, alone_in, reader_in, reload_in, searcher_in, show_in, bytes_in, release_in, event_in}
+use Rattle.tv_model.specs.declared.segment.SegmentComponent.TheVariants.{Postings}
+use Rattle.tv_model.specs.Segments.{components, extension}
+use Rattle.tv_model.specs.Script.{line_limit, Fits, IsLine, SpellsPayload, keyword, AreArguments}
+use Rattle.tv_replay.specs.EventWords.{◌>>=◌, ids_in, segment_in, open_in, write_in, seal_in, docs_in, deletes_in, commit_of, commit_in, alone_in, gc_step_in, gc_end_in, reader_in, reload_in, searcher_in, show_in, bytes_in, release_in, event_in}
 use Rattle.std.proofs.lemmas.List.Splits.{join_with_byte-slice_split}
 use Rattle.tv_model.specs.declared.event.Event.{Event}
 use Rattle.tv_model.specs.declared.event.Event.TheVariants as events
@@ -130,23 +130,23 @@ pub passing : {P : Type 0} (b : Bool) (first : SegmentComponent) (rest : Option 
 passing true first rest c e here later = here refl (some_is first c e)
 passing false first rest c e here later = later e
 
-pub found_among : (all : List SegmentComponent) (word : List ℕ) (c : SegmentComponent) → find (λ component. is (extension component) word) all ≡ Some c → AllByRecursion IsNamed all → (word ≡ extension c) × IsNamed c
-found_among [] word c e named = absurd cc
-found_among (first ∷ others) word c e named =
+pub found_among : (all : List SegmentComponent) (word : List ℕ) (c : SegmentComponent) → find (λ component. is (extension component) word) all ≡ Some c → word ≡ extension c
+found_among [] word c e = absurd cc
+found_among (first ∷ others) word c e =
     passing (is (extension first) word) first (find (λ component. is (extension component) word) others) c e
     (λ t same.
     let spelled : extension first ≡ word = (bytes_decides (extension first) word).0 t in
-    (sym spelled ∙ ap extension same, subst IsNamed same named.0))
-    (λ later. found_among others word c later named.1)
+    sym spelled ∙ ap extension same)
+    (λ later. found_among others word c later)
 
 -- a word that names a component is its extension
-pub component_found : (word : List ℕ) (c : SegmentComponent) → component_at word ≡ Some c → (word ≡ extension c) × IsNamed c
-component_found word c e = found_among named_components word c e (refl, (refl, (refl, (refl, (refl, (refl, tt))))))
+pub component_found : (word : List ℕ) (c : SegmentComponent) → component_at word ≡ Some c → word ≡ extension c
+component_found word c e = found_among components word c e
 
 -- its extension names it
-pub component_again : (c : SegmentComponent) → IsNamed c → component_at (extension c) ≡ Some c
-component_again Delete named = absurd cc
-component_again other named = refl
+pub component_again : (c : SegmentComponent) → component_at (extension c) ≡ Some c
+component_again Postings = refl
+component_again other = refl
 
 pub extension_has_no_space : (c : SegmentComponent) → NoSpace (extension c)
 extension_has_no_space Postings = refl
@@ -249,11 +249,10 @@ module _ {P : Type 0} {e : Event} where
       let found = number_found limit b.0 word b.1 in
       k b.0 found.0 found.1 b.2
 
-  with_component : (word : List ℕ) (f : SegmentComponent → Option Event) → (component_at word >>= f) ≡ Some e → ((c : SegmentComponent) → word ≡ extension c → IsNamed c → f c ≡ Some e → P) → P
+  with_component : (word : List ℕ) (f : SegmentComponent → Option Event) → (component_at word >>= f) ≡ Some e → ((c : SegmentComponent) → word ≡ extension c → f c ≡ Some e → P) → P
   with_component word f h k =
       let b = bind_some (component_at word) f e h in
-      let found = component_found word b.0 b.1 in
-      k b.0 found.0 found.1 b.2
+      k b.0 (component_found word b.0 b.1) b.2
 
   -- one test of a chain
   either : (b : Bool) (x y : Option Event) → cond b x y ≡ Some e → (b ≡ true → x ≡ Some e → P) → (y ≡ Some e → P) → P
@@ -269,22 +268,22 @@ segment_found other e h = absurd cc
 open_found : (args : List (List ℕ)) (e : Event) → open_in args ≡ Some e → IsReadAs (codes "open") args e
 open_found (word ∷ part ∷ []) e h =
     with_id word (λ id. component_at part >>= λ c. Some (events.Open id c)) h (λ id is fits h.
-    with_component part (λ c. Some (events.Open id c)) h (λ c named some h. read_as h (fits, some) refl (rw (is, named) refl)))
+    with_component part (λ c. Some (events.Open id c)) h (λ c named h. read_as h fits refl (rw (is, named) refl)))
 open_found other e h = absurd cc
 
 write_found : (args : List (List ℕ)) (e : Event) → write_in args ≡ Some e → IsReadAs (codes "write") args e
 write_found (word ∷ part ∷ digits ∷ []) e h =
     with_id word (λ id. component_at part >>= λ c. bytes_at digits >>= λ bytes. Some (events.Write id c bytes)) h (λ id is fits h.
-    with_component part (λ c. bytes_at digits >>= λ bytes. Some (events.Write id c bytes)) h (λ c named some h.
+    with_component part (λ c. bytes_at digits >>= λ bytes. Some (events.Write id c bytes)) h (λ c named h.
     let bytes = bind_some (bytes_at digits) (λ bytes. Some (events.Write id c bytes)) e h in
     let k = bytes_found (decode_of digits) bytes.0 bytes.1 in
-    read_as bytes.2 (fits, some, k.1) refl (digits, k.0, rw (is, named) refl)))
+    read_as bytes.2 (fits, k.1) refl (digits, k.0, rw (is, named) refl)))
 write_found other e h = absurd cc
 
 seal_found : (args : List (List ℕ)) (e : Event) → seal_in args ≡ Some e → IsReadAs (codes "seal") args e
 seal_found (word ∷ part ∷ []) e h =
     with_id word (λ id. component_at part >>= λ c. Some (events.Seal id c)) h (λ id is fits h.
-    with_component part (λ c. Some (events.Seal id c)) h (λ c named some h. read_as h (fits, some) refl (rw (is, named) refl)))
+    with_component part (λ c. Some (events.Seal id c)) h (λ c named h. read_as h fits refl (rw (is, named) refl)))
 seal_found other e h = absurd cc
 
 docs_found : (args : List (List ℕ)) (e : Event) → docs_in args ≡ Some e → IsReadAs (codes "docs") args e
@@ -292,6 +291,12 @@ docs_found (word ∷ digits ∷ []) e h =
     with_id word (λ id. number_at (2 ^ 32) digits >>= λ n. Some (events.Docs id n)) h (λ id is fits h.
     with_number (2 ^ 32) digits (λ n. Some (events.Docs id n)) h (λ n spelled lt h. read_as h (fits, lt) refl (rw (is, spelled) refl)))
 docs_found other e h = absurd cc
+
+deletes_found : (args : List (List ℕ)) (e : Event) → deletes_in args ≡ Some e → IsReadAs (codes "deletes") args e
+deletes_found (word ∷ digits ∷ []) e h =
+    with_id word (λ id. number_at (2 ^ 32) digits >>= λ n. Some (events.Deletes id n)) h (λ id is fits h.
+    with_number (2 ^ 32) digits (λ n. Some (events.Deletes id n)) h (λ n spelled lt h. read_as h (fits, lt) refl (rw (is, spelled) refl)))
+deletes_found other e h = absurd cc
 
 commit_found : (args : List (List ℕ)) (e : Event) → commit_in args ≡ Some e → IsReadAs (codes "commit") args e
 commit_found [] e h = absurd cc
@@ -306,6 +311,14 @@ commit_found (word ∷ words) e h =
 alone_found : (event : Event) (args : List (List ℕ)) (e : Event) → Fits event → AreArguments event [] → alone_in event args ≡ Some e → IsReadAs (keyword event) args e
 alone_found event [] e fits are h = read_as h fits refl are
 alone_found event (x ∷ args) e fits are h = absurd cc
+
+gc_step_found : (args : List (List ℕ)) (e : Event) → gc_step_in args ≡ Some e → IsReadAs (codes "gc-step") args e
+gc_step_found (word ∷ []) e h = with_number (2 ^ 64) word (λ n. Some (events.GcStep n)) h (λ n spelled lt h. read_as h lt refl (rw spelled refl))
+gc_step_found other e h = absurd cc
+
+gc_end_found : (args : List (List ℕ)) (e : Event) → gc_end_in args ≡ Some e → IsReadAs (codes "gc-end") args e
+gc_end_found (word ∷ []) e h = with_number (2 ^ 64) word (λ n. Some (events.GcEnd n)) h (λ n spelled lt h. read_as h lt refl (rw spelled refl))
+gc_end_found other e h = absurd cc
 
 reader_found : (args : List (List ℕ)) (e : Event) → reader_in args ≡ Some e → IsReadAs (codes "reader") args e
 reader_found (policy ∷ []) e h =
@@ -330,7 +343,7 @@ bytes_event_found : (args : List (List ℕ)) (e : Event) → bytes_in args ≡ S
 bytes_event_found (word ∷ place ∷ part ∷ []) e h =
     with_number (2 ^ 64) word (λ n. number_at (2 ^ 32) place >>= λ ord. component_at part >>= λ c. Some (events.Bytes n ord c)) h (λ n spelled lt h.
     with_number (2 ^ 32) place (λ ord. component_at part >>= λ c. Some (events.Bytes n ord c)) h (λ ord placed few h.
-    with_component part (λ c. Some (events.Bytes n ord c)) h (λ c named some h. read_as h (lt, few, some) refl (rw (spelled, placed, named) refl))))
+    with_component part (λ c. Some (events.Bytes n ord c)) h (λ c named h. read_as h (lt, few) refl (rw (spelled, placed, named) refl))))
 bytes_event_found other e h = absurd cc
 
 release_found : (args : List (List ℕ)) (e : Event) → release_in args ≡ Some e → IsReadAs (codes "release") args e
@@ -352,30 +365,38 @@ event_found word args e h =
     either _ _ _ h (λ t h. named (codes "write") t (write_found args e h)) (λ h.
     either _ _ _ h (λ t h. named (codes "seal") t (seal_found args e h)) (λ h.
     either _ _ _ h (λ t h. named (codes "docs") t (docs_found args e h)) (λ h.
+    either _ _ _ h (λ t h. named (codes "deletes") t (deletes_found args e h)) (λ h.
     either _ _ _ h (λ t h. named (codes "commit") t (commit_found args e h)) (λ h.
-    either _ _ _ h (λ t h. named (codes "gc") t (alone_found events.Gc args e tt refl h)) (λ h.
     either _ _ _ h (λ t h. named (codes "managed") t (alone_found events.Managed args e tt refl h)) (λ h.
     either _ _ _ h (λ t h. named (codes "validate") t (alone_found events.Validate args e tt refl h)) (λ h.
+    either _ _ _ h (λ t h. named (codes "reopen") t (alone_found events.Reopen args e tt refl h)) (λ h.
+    either _ _ _ h (λ t h. named (codes "gc") t (alone_found events.Gc args e tt refl h)) (λ h.
+    either _ _ _ h (λ t h. named (codes "gc-begin") t (alone_found events.GcBegin args e tt refl h)) (λ h.
+    either _ _ _ h (λ t h. named (codes "gc-step") t (gc_step_found args e h)) (λ h.
+    either _ _ _ h (λ t h. named (codes "gc-end") t (gc_end_found args e h)) (λ h.
     either _ _ _ h (λ t h. named (codes "reader") t (reader_found args e h)) (λ h.
     either _ _ _ h (λ t h. named (codes "reload") t (reload_found args e h)) (λ h.
     either _ _ _ h (λ t h. named (codes "searcher") t (searcher_found args e h)) (λ h.
     either _ _ _ h (λ t h. named (codes "show") t (show_found args e h)) (λ h.
     either _ _ _ h (λ t h. named (codes "bytes") t (bytes_event_found args e h)) (λ h.
     either _ _ _ h (λ t h. named (codes "release") t (release_found args e h)) (λ h.
-    absurd cc)))))))))))))))
+    absurd cc))))))))))))))))))))
 
 event_again : (e : Event) (args : List (List ℕ)) → Fits e → AreArguments e args → event_in (keyword e ∷ args) ≡ Some e
 event_again (events.Segment id) args fits are = rw (are, id_again id fits) refl
-event_again (events.Open id c) args fits are = rw (are, id_again id fits.0, component_again c fits.1) refl
-event_again (events.Write id c bytes) args fits are = rw (are.2, id_again id fits.0, component_again c fits.1, bytes_again are.0 bytes are.1 fits.2) refl
-event_again (events.Seal id c) args fits are = rw (are, id_again id fits.0, component_again c fits.1) refl
+event_again (events.Open id c) args fits are = rw (are, id_again id fits, component_again c) refl
+event_again (events.Write id c bytes) args fits are = rw (are.2, id_again id fits.0, component_again c, bytes_again are.0 bytes are.1 fits.1) refl
+event_again (events.Seal id c) args fits are = rw (are, id_again id fits, component_again c) refl
 event_again (events.Docs id n) args fits are = rw (are, id_again id fits.0, number_again (2 ^ 32) n fits.1 (omega arith)) refl
+event_again (events.Deletes id n) args fits are = rw (are, id_again id fits.0, number_again (2 ^ 32) n fits.1 (omega arith)) refl
 event_again (events.Commit payload ids) args fits are = rw (are.2, payload_again payload are.0 are.1 fits.0, ids_again ids fits.1, fits.2) refl
+event_again (events.GcStep n) args fits are = rw (are, number_again (2 ^ 64) n fits fits) refl
+event_again (events.GcEnd n) args fits are = rw (are, number_again (2 ^ 64) n fits fits) refl
 event_again (events.Reader policy) args fits are = rw (are, fits) refl
 event_again (events.Reload n) args fits are = rw (are, number_again (2 ^ 64) n fits fits) refl
 event_again (events.Searcher n) args fits are = rw (are, number_again (2 ^ 64) n fits fits) refl
 event_again (events.Show n) args fits are = rw (are, number_again (2 ^ 64) n fits fits) refl
-event_again (events.Bytes n ord c) args fits are = rw (are, number_again (2 ^ 64) n fits.0 fits.0, number_again (2 ^ 32) ord fits.1 (omega arith), component_again c fits.2) refl
+event_again (events.Bytes n ord c) args fits are = rw (are, number_again (2 ^ 64) n fits.0 fits.0, number_again (2 ^ 32) ord fits.1 (omega arith), component_again c) refl
 event_again (events.ReleaseSegment id) args fits are = rw (are, id_again id fits) refl
 event_again (events.ReleaseReader n) args fits are = rw (are, number_again (2 ^ 64) n fits fits) refl
 event_again (events.ReleaseSearcher n) args fits are = rw (are, number_again (2 ^ 64) n fits fits) refl
@@ -387,7 +408,10 @@ words_have_no_space (events.Open id c) args fits are = rw are (refl, (id_has_no_
 words_have_no_space (events.Write id c bytes) args fits are = rw are.2 (refl, (id_has_no_space id, (extension_has_no_space c, (bytes_have_no_space are.0 bytes are.1, tt))))
 words_have_no_space (events.Seal id c) args fits are = rw are (refl, (id_has_no_space id, (extension_has_no_space c, tt)))
 words_have_no_space (events.Docs id n) args fits are = rw are (refl, (id_has_no_space id, (number_has_no_space n (omega arith), tt)))
+words_have_no_space (events.Deletes id n) args fits are = rw are (refl, (id_has_no_space id, (number_has_no_space n (omega arith), tt)))
 words_have_no_space (events.Commit payload ids) args fits are = rw are.2 (refl, (payload_has_no_space payload are.0 are.1, ids_have_no_space ids))
+words_have_no_space (events.GcStep n) args fits are = rw are (refl, (number_has_no_space n fits, tt))
+words_have_no_space (events.GcEnd n) args fits are = rw are (refl, (number_has_no_space n fits, tt))
 words_have_no_space (events.Reader policy) args fits are = rw are (refl, (refl, tt))
 words_have_no_space (events.Reload n) args fits are = rw are (refl, (number_has_no_space n fits, tt))
 words_have_no_space (events.Searcher n) args fits are = rw are (refl, (number_has_no_space n fits, tt))

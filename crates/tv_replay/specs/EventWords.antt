@@ -47,6 +47,13 @@ docs_in (id ∷ n ∷ []) = do
   Some (events.Docs id n)
 docs_in args = None
 
+abbrev pub deletes_in : List (List ℕ) → Option Event
+deletes_in (id ∷ n ∷ []) = do
+  id ← id_at id
+  n ← number_at (2 ^ 32) n
+  Some (events.Deletes id n)
+deletes_in args = None
+
 -- the ids that the words spell, where each of them spells one
 abbrev pub ids_in : List (List ℕ) → Option (List (List ℕ))
 ids_in [] = Some []
@@ -131,6 +138,27 @@ reader_event_in word args =
     else if is word (codes "release") then release_in args
     else None
 
+abbrev pub gc_step_in : List (List ℕ) → Option Event
+gc_step_in (number ∷ []) = do
+  number ← number_at (2 ^ 64) number
+  Some (events.GcStep number)
+gc_step_in args = None
+
+abbrev pub gc_end_in : List (List ℕ) → Option Event
+gc_end_in (number ∷ []) = do
+  number ← number_at (2 ^ 64) number
+  Some (events.GcEnd number)
+gc_end_in args = None
+
+-- the event about a collection, about a reader or a searcher, or the release, that these words stand for
+abbrev pub collection_event_in : List ℕ → List (List ℕ) → Option Event
+collection_event_in word args =
+    if is word (codes "gc") then alone_in events.Gc args
+    else if is word (codes "gc-begin") then alone_in events.GcBegin args
+    else if is word (codes "gc-step") then gc_step_in args
+    else if is word (codes "gc-end") then gc_end_in args
+    else reader_event_in word args
+
 -- the event that these words stand for
 abbrev pub event_in : List (List ℕ) → Option Event
 event_in [] = None
@@ -140,8 +168,9 @@ event_in (word ∷ args) =
     else if is word (codes "write") then write_in args
     else if is word (codes "seal") then seal_in args
     else if is word (codes "docs") then docs_in args
+    else if is word (codes "deletes") then deletes_in args
     else if is word (codes "commit") then commit_in args
-    else if is word (codes "gc") then alone_in events.Gc args
     else if is word (codes "managed") then alone_in events.Managed args
     else if is word (codes "validate") then alone_in events.Validate args
-    else reader_event_in word args
+    else if is word (codes "reopen") then alone_in events.Reopen args
+    else collection_event_in word args

@@ -6,9 +6,8 @@ use Rattle.std.specs.Str.Parse.{digits_value}
 use Rattle.hex.specs.Hex.{encode_lower, decode_of, decode_sized}
 use Rattle.hex.specs.declared.error.FromHexError.{FromHexError}
 use Rattle.tv_model.specs.declared.segment.SegmentComponent.{SegmentComponent}
-use Rattle.tv_model.specs.declared.segment.SegmentComponent.TheVariants.{Postings, Positions, FastFields, FieldNorms, Terms, Store}
 use Rattle.tv_model.specs.Names.{is}
-use Rattle.tv_model.specs.Segments.{extension}
+use Rattle.tv_model.specs.Segments.{components, extension}
 
 -- the bytes, where the word is how they are printed
 abbrev pub printed_id : List ℕ → Result (List ℕ) FromHexError → Option (List ℕ)
@@ -25,13 +24,9 @@ number_at limit word =
     let n = digits_value 10 word in
     if is (decimal n) word && nat_lt n limit then Some n else None
 
--- the components that scripts may name (so far not the delete files)
-abbrev pub named_components : List SegmentComponent
-named_components = Postings ∷ Positions ∷ FastFields ∷ FieldNorms ∷ Terms ∷ Store ∷ []
-
 -- the component that a word names
 abbrev pub component_at : List ℕ → Option SegmentComponent
-component_at word = find (λ component. is (extension component) word) named_components
+component_at word = find (λ component. is (extension component) word) components
 
 -- the bytes that a word spells, at least one, in digits of either case
 abbrev pub some_bytes : Result (List ℕ) FromHexError → Option (List ℕ)

@@ -2,9 +2,18 @@
 ghost use Rattle.std.specs.Prelude.{◌≡◌, ◌++◌, IfOk, OnOk, codes, string_bytes};
 ghost use Rattle.tv_replay.specs.Generated.{numbered_id, numbered_byte, file_text, segment_text, commit_text, generated};
 
-use crate::words::NAMED_COMPONENTS;
 use std::alloc::Global;
-use tv_model::{Memory, SegmentId};
+use tv_model::{Memory, SegmentComponent, SegmentId};
+
+// The files of a segment that is generated, which has no deletes.
+const GENERATED_COMPONENTS: [SegmentComponent; 6] = [
+    SegmentComponent::Postings,
+    SegmentComponent::Positions,
+    SegmentComponent::FastFields,
+    SegmentComponent::FieldNorms,
+    SegmentComponent::Terms,
+    SegmentComponent::Store,
+];
 
 /// A script of `n` commits. Each is of a new segment, which has one document and six files of one
 /// byte each, and of the segment before it, which is then released; after each commit the files are
@@ -43,7 +52,7 @@ fn push_segment(alloc: Global, script: &mut String, id: &str, byte: &str) -> Res
         (string_bytes script.new ≡ string_bytes script.old ++ segment_text id.now byte.now) }
 {
     script.push_str(format!(in alloc; "segment {id}\n")?.as_str())?;
-    for component in NAMED_COMPONENTS {
+    for component in GENERATED_COMPONENTS {
         let file = file_words(alloc, id, component.extension())?;
         script.push_str(file_text(alloc, file.as_str(), byte)?.as_str())?;
     }

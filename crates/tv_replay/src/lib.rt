@@ -3,6 +3,7 @@
 #![tactic(auto)]
 
 mod bench_place;
+mod collection_lines;
 mod command;
 mod error_line;
 mod folder_place;

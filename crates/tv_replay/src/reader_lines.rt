@@ -2,7 +2,7 @@
 ghost use Rattle.std.specs.Prelude.{◌≡◌, map};
 ghost use Rattle.tv_replay.specs.EventWords.{reader_in, reload_in, searcher_in, show_in, bytes_in, released_in, release_in, reader_event_in};
 
-use crate::words::{component_of, id_of, number_of};
+use crate::words::{component_of, id_of, number_of, small_number_of};
 use tv_model::{Event, ReloadPolicy};
 
 fn reader_of(args: &[&[u8]]) -> Option<Event>
@@ -47,7 +47,7 @@ fn body_of(args: &[&[u8]]) -> Option<Event>
     match args {
         [number, ord, component] => {
             let number = number_of(number)?;
-            let ord = u32::try_from(number_of(ord)?).ok()?;
+            let ord = small_number_of(ord)?;
             Some(Event::Bytes(number, ord, component_of(component)?))
         }
         _ => None,

@@ -90,7 +90,7 @@ fn apply_all<O: Outside, R: Source>(
 ) -> Result<Tally, TantivyError>
     requires open { store.old.is_open ≡ true }
     requires short { AtMost 0 store.old.kept }
-    requires few { FewNumbers 0 store.old.kept.catalog.reading }
+    requires few { FewNumbers 0 store.old.kept.catalog.reading store.old.kept.collections }
     ensures done { IfOk result
         (Runs O.Directory store.old store.new (R.view script.old).left (R.view script.new).left) }
     ensures stops { IfErr result

@@ -3,10 +3,10 @@ ghost use Rattle.std.specs.Prelude.{◌≡◌, ◌==◌, IfOk, IfSome, map, opti
 ghost use Rattle.std.specs.List.{slice_split};
 ghost use Rattle.tv_model.specs.declared.event.Event.{Event};
 ghost use Rattle.tv_model.specs.Script.{IsLine};
-ghost use Rattle.tv_replay.specs.EventWords.{event_in, segment_in, open_in, write_in, seal_in, docs_in, ids_in, commit_in, alone_in};
+ghost use Rattle.tv_replay.specs.EventWords.{event_in, segment_in, open_in, write_in, seal_in, docs_in, deletes_in, ids_in, commit_in, alone_in};
 
-use crate::reader_lines::reader_event_of;
-use crate::words::{bytes_of, component_of, id_of, number_of, payload_of};
+use crate::collection_lines::collection_event_of;
+use crate::words::{bytes_of, component_of, id_of, payload_of, small_number_of};
 use std::alloc::{AllocError, Global};
 use tv_model::{Event, IdList, Memory, SegmentId};
 
@@ -70,11 +70,16 @@ fn docs_of(args: &[&[u8]]) -> Option<Event>
     ensures { result ≡ docs_in (map (λ w. w.now) args.now) }
 {
     match args {
-        [id, n] => {
-            let id = id_of(id)?;
-            let n = u32::try_from(number_of(n)?).ok()?;
-            Some(Event::Docs(id, n))
-        }
+        [id, n] => Some(Event::Docs(id_of(id)?, small_number_of(n)?)),
+        _ => None,
+    }
+}
+
+fn deletes_of(args: &[&[u8]]) -> Option<Event>
+    ensures { result ≡ deletes_in (map (λ w. w.now) args.now) }
+{
+    match args {
+        [id, n] => Some(Event::Deletes(id_of(id)?, small_number_of(n)?)),
         _ => None,
     }
 }
@@ -113,7 +118,7 @@ fn commit_of(alloc: Global, args: &[&[u8]]) -> Result<Option<Event>, Memory>
 }
 
 // An event without arguments.
-fn alone(event: Event, args: &[&[u8]]) -> Option<Event>
+pub(crate) fn alone(event: Event, args: &[&[u8]]) -> Option<Event>
     ensures { result ≡ alone_in event (map (λ w. w.now) args.now) }
 {
     match args {
@@ -140,17 +145,19 @@ fn event_of(alloc: Global, words: &[&[u8]]) -> Result<Option<Event>, Memory>
         Ok(seal_of(args))
     } else if *word == b"docs".as_slice() {
         Ok(docs_of(args))
+    } else if *word == b"deletes".as_slice() {
+        Ok(deletes_of(args))
     } else if *word == b"commit".as_slice() {
         let found = commit_of(alloc, args)?;
         Ok(found)
-    } else if *word == b"gc".as_slice() {
-        Ok(alone(Event::Gc, args))
     } else if *word == b"managed".as_slice() {
         Ok(alone(Event::Managed, args))
     } else if *word == b"validate".as_slice() {
         Ok(alone(Event::Validate, args))
+    } else if *word == b"reopen".as_slice() {
+        Ok(alone(Event::Reopen, args))
     } else {
-        Ok(reader_event_of(word, args))
+        Ok(collection_event_of(word, args))
     }
 }
 

@@ -140,7 +140,7 @@ fn look_into<D: Directory>(
     directory: &mut ManagedDirectory<D>,
 ) -> Result<Standing, TantivyError>
     ensures { D.told.content → IfOk result (λ standing. (settings : Settings) (schema : List ℕ)
-        (s : State) → s.managed ≡ directory.old.1
+        (s : State) → s.managed ≡ directory.old.1.managed
         → DirectoryHolds settings schema (D.view directory.old.0).reads s
         → IsStanding s standing.opstamp standing.files) }
 {
@@ -159,8 +159,9 @@ fn managed_names<D: Directory>(
     alloc: Global,
     directory: &ManagedDirectory<D>,
 ) -> Result<Vec<String>, Memory>
-    ensures names { IfOk result (λ names. map string_bytes names.items ≡ directory.now.1) }
-    ensures plain { list_all is_plain directory.now.1 ≡ true }
+    ensures names { IfOk result (λ names.
+        map string_bytes names.items ≡ directory.now.1.managed) }
+    ensures plain { list_all is_plain directory.now.1.managed ≡ true }
 {
     let mut names = Vec::new(alloc);
     for name in directory.list_managed_files() {

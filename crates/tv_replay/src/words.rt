@@ -6,16 +6,6 @@ use hex::FromHexError;
 use std::alloc::Global;
 use tv_model::{Blob, Memory, SegmentComponent, SegmentId, Text};
 
-// The components that scripts may name (so far not the delete files).
-pub(crate) const NAMED_COMPONENTS: [SegmentComponent; 6] = [
-    SegmentComponent::Postings,
-    SegmentComponent::Positions,
-    SegmentComponent::FastFields,
-    SegmentComponent::FieldNorms,
-    SegmentComponent::Terms,
-    SegmentComponent::Store,
-];
-
 // The id that a word spells.
 pub(crate) fn id_of(word: &[u8]) -> Option<SegmentId>
     ensures { result ≡ id_at word.now }
@@ -52,12 +42,18 @@ pub(crate) fn number_of(word: &[u8]) -> Option<u64>
     }
 }
 
+// The number of 32 bits that a word spells.
+pub(crate) fn small_number_of(word: &[u8]) -> Option<u32>
+    ensures { result ≡ number_at (2 ^ 32) word.now }
+{
+    u32::try_from(number_of(word)?).ok()
+}
+
 // The component that a word names.
 pub(crate) fn component_of(word: &[u8]) -> Option<SegmentComponent>
     ensures { result ≡ component_at word.now }
 {
-    NAMED_COMPONENTS
-        .iter()
+    SegmentComponent::iterator()
         .copied()
         .find(|component| component.extension().as_bytes() == word)
 }

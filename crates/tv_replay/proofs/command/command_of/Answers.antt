@@ -1,4 +1,4 @@
-use Rattle.std.proofs.Common.{◌≡◌, List, ℕ, [], ◌∷◌, codes, string_bytes, sym, ap, ◌∙◌, arith}
+use Rattle.std.proofs.Common.{List, ℕ, [], ◌∷◌, codes, string_bytes, sym, ap, ◌∙◌, arith}
 use Rattle.tv_replay.proofs.CommandWords.{are_generate, are_replay, no_command}
 use Rattle.tv_replay.proofs.Numbers.{number_found}
 use Rattle.tv_replay.proofs.command.command_of.Goals as goal

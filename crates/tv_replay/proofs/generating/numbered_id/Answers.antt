@@ -1,4 +1,3 @@
-use Rattle.std.proofs.Common.{◌≡◌}
 use Rattle.tv_replay.proofs.generating.numbered_id.Goals as goal
 
 pub returns : goal.returns

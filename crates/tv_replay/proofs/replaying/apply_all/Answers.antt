@@ -43,7 +43,7 @@ loop-events-preserved g c =
       held = c.in-Ok-Some.ensures.held;
       is_open = applied.frame.is_open;
       short = subst (λ (bound : ℕ). AtMost bound c.apply.new.self.kept) (one_more_line c.loop-events.events) (applied.grows.lens (c.loop-events.events * line_limit) line_limit line.small before.short);
-      few = subst (λ (bound : ℕ). FewNumbers bound c.apply.new.self.kept.catalog.reading) (one_more_line c.loop-events.events) (applied.grows.numbers (c.loop-events.events * line_limit) line_limit line.small before.few);
+      few = subst (λ (bound : ℕ). FewNumbers bound c.apply.new.self.kept.catalog.reading c.apply.new.self.kept.collections) (one_more_line c.loop-events.events) (applied.grows.numbers (c.loop-events.events * line_limit) line_limit line.small before.few);
       quiet = (applied.faults.quiet ∙ before.quiet.0, c.in-Ok-Some.ensures.faults.quiet ∙ before.quiet.1);
       frame = frame_then before.frame (record { dotted = applied.frame.dotted; goes_on = applied.frame.goes_on; locks = applied.frame.locks; watched = may_note c.in-Ok-Some.event _ _ applied.frame.watched });
     }

@@ -16,7 +16,7 @@ invariant-loop-events g l =
       held : length l.buffer ≤ line_limit + 1;
       is_open : l.store.is_open ≡ true;
       short : AtMost (l.events * line_limit) l.store.kept;
-      few : FewNumbers (l.events * line_limit) l.store.kept.catalog.reading;
+      few : FewNumbers (l.events * line_limit) l.store.kept.catalog.reading l.store.kept.collections;
       quiet : IsQuietAt (view l.fn.store.outside) (view l.store.outside) (source l.fn.script) (source l.script);
       frame : ReplayFrame g.O.Directory.told (view l.fn.store.outside) (view l.store.outside);
     }

@@ -83,7 +83,7 @@ returns-clause-faults g c =
           (busy_since_opening D.told.locks before.locks mid.locks before.faults mid.faults new.faults opened.locks.ok opened.faults.quiet)
           (either_rose before.faults mid.faults new.faults more opened.faults.quiet)
           (λ quiet. (quiet.0 ∙ opened.faults.quiet, quiet.1))
-          (λ tells index none. let held = opened.opens.holds tells index in none tells index.state held.1 (reads_whole index.state held.2))))
+          (λ tells index none. let held = opened.opens.holds tells index in none tells index.state held.1 (reads_whole index held.2))))
           c.apply_all-outcome.ensures.faults.cause;
     }
 
@@ -130,7 +130,7 @@ returns-clause-stops g c =
           stops_report D.told store.kept.form index.form script script_now index.state before mid new now error
           held.0 (λ th. subst (λ (commit : Commit). TellsLine before.heard mid.heard before.moment mid.moment (opening_of commit)) (ap (λ (catalog : Catalog). catalog.commit) held.1.catalog) (opened.tells.ok th))
           opened.locks.ok opened.faults.quiet freed.frees.faults
-          freed.frees.frame.tells_none.heard freed.frees.frame.tells_none.deletes_none.goes_on.clock (freed.frees.frame.content tells meta_name) (stopped tells index.state held.1 (reads_whole index.state held.2));
+          freed.frees.frame.tells_none.heard freed.frees.frame.tells_none.deletes_none.goes_on.clock (freed.frees.frame.content tells meta_name) (stopped tells index.state held.1 (reads_whole index held.2));
     }))
     c.apply_all-outcome.ensures.stops
 

@@ -2,6 +2,7 @@ use Rattle.std.proofs.Common.{List, ℕ, Some, filter, length, map, string_bytes
 use Rattle.std.specs.Prelude.{is_some}
 use Rattle.std.specs.List.{list_all}
 use Rattle.tv_model.specs.Names.{is_plain}
+use Rattle.tv_managed.specs.Names.{ManagedNames}
 use Rattle.tv_index.specs.Metas.{commit_of, settings_of}
 use Rattle.tv_replay.proofs.StandingIndexes.{stands}
 use Rattle.tv_replay.proofs.summary.look_into.Goals as goal
@@ -12,8 +13,8 @@ returns g c t settings schema s managed holds =
     let asked = c.in_ok-text.ensures in
     let meta = c.in_ok-meta.meta in
     let now = (D.view c.atomic_read.new.self.0).reads in
-    let names = ap (map string_bytes) c.as_slice-2.ensures.value ∙ c.in_ok-names.ensures.names ∙ asked.frame.names in
-    stands settings (settings_of meta) schema meta.schema c.as_slice.result.now (commit_of meta) (D.view c.args.directory.now.0).reads now c.args.directory.now.1 meta.opstamp c.in_ok-files.files s
+    let names = ap (map string_bytes) c.as_slice-2.ensures.value ∙ c.in_ok-names.ensures.names ∙ ap (λ (kept : ManagedNames). kept.managed) asked.frame.names in
+    stands settings (settings_of meta) schema meta.schema c.as_slice.result.now (commit_of meta) (D.view c.args.directory.now.0).reads now c.args.directory.now.1.managed meta.opstamp c.in_ok-files.files s
     holds managed (asked.bytes t ∙ ap Some (sym c.as_slice.ensures.value)) c.in_ok-meta.ensures.ok refl (asked.frame.below.content t)
-    (sym (ap (list_all is_plain) asked.frame.names) ∙ c.in_ok-names.ensures.plain)
+    (sym (ap (λ (kept : ManagedNames). list_all is_plain kept.managed) asked.frame.names) ∙ c.in_ok-names.ensures.plain)
     (c.in_ok-files.ensures t ∙ ap (λ (l : List (List ℕ)). length (filter (λ name. is_some (now name)) l)) names)

@@ -15,8 +15,8 @@ returns g c t =
     let wrapped = c.in-Ok.directory in
     let wraps = c.in-Ok.ensures.wraps in
     IfOk-weaker c.look_into-standing.result
-    (λ standing. (settings : Settings) (schema : List ℕ) (s : State) → s.managed ≡ wrapped.1 → DirectoryHolds settings schema (D.view wrapped.0).reads s → IsStanding s standing.opstamp standing.files)
+    (λ standing. (settings : Settings) (schema : List ℕ) (s : State) → s.managed ≡ wrapped.1.managed → DirectoryHolds settings schema (D.view wrapped.0).reads s → IsStanding s standing.opstamp standing.files)
     (λ standing. (settings : Settings) (schema : List ℕ) (s : State) → DirectoryHolds settings schema before s → IsStanding s standing.opstamp standing.files)
     (λ standing h settings schema s holds.
-    h settings schema s (managed_are (before list_name) wrapped.1 s.managed (wraps.names t) holds.listing) (same_holds settings schema before (D.view wrapped.0).reads s (wraps.frame.content t) holds))
+    h settings schema s (managed_are (before list_name) wrapped.1.managed s.managed (wraps.names t) holds.listing) (same_holds settings schema before (D.view wrapped.0).reads s (wraps.frame.content t) holds))
     (c.look_into-standing.ensures t)
