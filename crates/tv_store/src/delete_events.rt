@@ -72,7 +72,7 @@ impl Catalog {
     }
 
     // Whether the name is managed, or that of the segment's delete file in the current commit.
-    fn is_taken(
+    fn is_name_in_use(
         &self,
         managed: &BTreeSet<String>,
         id: SegmentId,
@@ -122,7 +122,7 @@ impl<O: Outside> IndexStore<O> {
         if self.files.is_held(&name) {
             return self.refuse("leaving");
         }
-        if self.catalog.is_taken(self.files.managed(), id, &name)? {
+        if self.catalog.is_name_in_use(self.files.managed(), id, &name)? {
             return self.refuse("name-in-use");
         }
         self.delete_docs(id, segment, n)

@@ -1,7 +1,7 @@
 use Rattle.std.proofs.Common.{◌≡◌, true, false, map, string_bytes, refl}
 use Rattle.tv_model.specs.Names.{has}
 use Rattle.tv_managed.proofs.SetsOfTexts.{had_is}
-use Rattle.tv_store.proofs.catalog.Catalog.is_taken.Goals as goal
+use Rattle.tv_store.proofs.catalog.Catalog.is_name_in_use.Goals as goal
 
 pub returns-then-contains : goal.returns-then-contains
 returns-then-contains c =
