@@ -219,6 +219,7 @@ pub record CollectFaults {A D W C : Type 0} (g : Ghosts D W C) (old new : D × M
 pub record EndFaults {A D W C : Type 0} (g : Ghosts D W C) (old new : D × ManagedNames) (result : Result A TantivyError) : Type 0 where
   pub quiet : OnOk result ((g.view new.0).faults ≡ (g.view old.0).faults)
   pub cause : IfErr result (CollectCause ⊥ ⊥ (Rose (g.view old.0).faults (g.view new.0).faults) ((g.view new.0).faults ≡ (g.view old.0).faults))
+  pub unlocked : IfErr result (λ e. is_unbegun e ≡ false)
 
 -- What follows is cited by private functions alone.
 
