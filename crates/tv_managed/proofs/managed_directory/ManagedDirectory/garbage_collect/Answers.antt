@@ -15,24 +15,30 @@ use Rattle.tv_managed.proofs.managed_directory.ManagedDirectory.garbage_collect.
 pub returns-in_err-living-clause-collects : goal.returns-in_err-living-clause-collects
 returns-in_err-living-clause-collects g c =
     let D = g.D.Directory in
-    let asks = c.in_err-living.ensures.asks in
-    ([], collects_none D c.from_residual.result c.from_residual.ensures.0 (tried_quiet D _ _ asks.frame) asks.frame.names (λ tells. asks.frame.below.content tells _)
-    (λ tells. record { tracks = track_read D asks.frame.names (asks.images tells); states = touches_none _ (asks.images tells) }), inl refl)
+    let asks = c.in_err-living.ensures.asks in (
+      [],
+      collects_none D c.from_residual.result c.from_residual.ensures.0 (tried_quiet D _ _ asks.frame) asks.frame.names (λ tells. asks.frame.below.content tells _)
+          (λ tells. record { tracks = track_read D asks.frame.names (asks.images tells); states = touches_none _ (asks.images tells) }),
+      inl refl,
+    )
 
 pub returns-in_err-number-clause-collects : goal.returns-in_err-number-clause-collects
 returns-in_err-number-clause-collects g c =
     let D = g.D.Directory in
     let asks = c.in_ok-living.ensures.asks in
-    let begin = c.in_err-number.ensures in
-    ([], collects_none D c.from_residual-in_err-number.result c.from_residual-in_err-number.ensures.0
-    (tried_then D [] [] c.args.self.now c.under_meta_lock.new.self c.begin.new.self [] [] [] [] (tried_quiet D _ _ asks.frame) (tried_none D c.under_meta_lock.new.self c.begin.new.self begin.frame.kept (λ tell n other. begin.frame.content tell n)))
-    (begin.err ∙ asks.frame.names) (λ tells. begin.frame.content tells _ ∙ asks.frame.below.content tells _)
-    (λ tells. record {
-      tracks = λ was.
-          let first = track_read D asks.frame.names (asks.images tells) was in
-          track_then D first ((begun_safely D [] {old = c.under_meta_lock.new.self} {new = c.begin.new.self} _ (begin.images tells) tt begin.err).tracks first.tracked);
-      states = touches_then (touches_none _ (asks.images tells)) (settles_touch _ (begin.images tells));
-    }), inl refl)
+    let begin = c.in_err-number.ensures in (
+      [],
+      collects_none D c.from_residual-in_err-number.result c.from_residual-in_err-number.ensures.0
+          (tried_then D [] [] c.args.self.now c.under_meta_lock.new.self c.begin.new.self [] [] [] [] (tried_quiet D _ _ asks.frame) (tried_none D c.under_meta_lock.new.self c.begin.new.self begin.frame.kept (λ tell n other. begin.frame.content tell n)))
+          (begin.err ∙ asks.frame.names) (λ tells. begin.frame.content tells _ ∙ asks.frame.below.content tells _)
+          (λ tells. record {
+            tracks = λ was.
+                let first = track_read D asks.frame.names (asks.images tells) was in
+                track_then D first ((begun_safely D [] {old = c.under_meta_lock.new.self} {new = c.begin.new.self} _ (begin.images tells) tt begin.err).tracks first.tracked);
+            states = touches_then (touches_none _ (asks.images tells)) (settles_touch _ (begin.images tells));
+          }),
+      inl refl,
+    )
 
 pub returns-in_err-try_each-clause-collects : goal.returns-in_err-try_each-clause-collects
 returns-in_err-try_each-clause-collects g c =
@@ -42,7 +48,7 @@ returns-in_err-try_each-clause-collects g c =
     let begins : Begins taken c.args.self.now.1 c.begin.new.self.1 c.in_ok-number.number = rw asks.frame.names at c.in_ok-number.ensures.begins in
     let tried = c.try_each.ensures in
     let f : Far D taken c.args.self.now c.try_each.new.self = far D taken c.in_ok-number.number asks.frame asks.images begins c.in_ok-number.ensures.frame asks.faults.quiet c.in_ok-number.ensures.faults.quiet c.in_ok-number.ensures.images
-        (tried.leaves c.args.self.now.1 taken begins.names begins.numbered) tried.only (λ tells. tried.safe tells c.args.self.now.1 taken begins.names begins.numbered) in
+    (tried.leaves c.args.self.now.1 taken begins.names begins.numbered) tried.only (λ tells. tried.safe tells c.args.self.now.1 taken begins.names begins.numbered) in
     (taken, collects_far D taken c.from_residual-in_err-try_each.result c.from_residual-in_err-try_each.ensures.0 f, inr (c.in_ok-living.living, c.in_ok-living.ensures.answer, refl))
 
 pub collect_end-requires : goal.collect_end-requires
@@ -53,7 +59,7 @@ collect_end-requires g c =
     let begins : Begins taken c.args.self.now.1 c.begin.new.self.1 c.in_ok-number.number = rw asks.frame.names at c.in_ok-number.ensures.begins in
     let tried = c.try_each.ensures in
     let f : Far D taken c.args.self.now c.try_each.new.self = far D taken c.in_ok-number.number asks.frame asks.images begins c.in_ok-number.ensures.frame asks.faults.quiet c.in_ok-number.ensures.faults.quiet c.in_ok-number.ensures.images
-        (tried.leaves c.args.self.now.1 taken begins.names begins.numbered) tried.only (λ tells. tried.safe tells c.args.self.now.1 taken begins.names begins.numbered) in
+    (tried.leaves c.args.self.now.1 taken begins.names begins.numbered) tried.only (λ tells. tried.safe tells c.args.self.now.1 taken begins.names begins.numbered) in
     ap is_some (at_far D c.in_ok-number.number begins.numbered f)
 
 pub returns-in_err-result-clause-collects : goal.returns-in_err-result-clause-collects
@@ -64,7 +70,7 @@ returns-in_err-result-clause-collects g c =
     let begins : Begins taken c.args.self.now.1 c.begin.new.self.1 c.in_ok-number.number = rw asks.frame.names at c.in_ok-number.ensures.begins in
     let tried = c.try_each.ensures in
     let f : Far D taken c.args.self.now c.try_each.new.self = far D taken c.in_ok-number.number asks.frame asks.images begins c.in_ok-number.ensures.frame asks.faults.quiet c.in_ok-number.ensures.faults.quiet c.in_ok-number.ensures.images
-        (tried.leaves c.args.self.now.1 taken begins.names begins.numbered) tried.only (λ tells. tried.safe tells c.args.self.now.1 taken begins.names begins.numbered) in
+    (tried.leaves c.args.self.now.1 taken begins.names begins.numbered) tried.only (λ tells. tried.safe tells c.args.self.now.1 taken begins.names begins.numbered) in
     let end = c.in_err-result.ensures in
     (taken, collects_unended D taken c.in_ok-number.number {new = c.collect_end.new.self} _ c.from_residual-in_err-result.result c.from_residual-in_err-result.ensures.0 begins.numbered f end.ends end.frame end.safe, inr (c.in_ok-living.living, c.in_ok-living.ensures.answer, refl))
 
@@ -76,7 +82,7 @@ give_back-requires-clause-above g c =
     let begins : Begins taken c.args.self.now.1 c.begin.new.self.1 c.in_ok-number.number = rw asks.frame.names at c.in_ok-number.ensures.begins in
     let tried = c.try_each.ensures in
     let f : Far D taken c.args.self.now c.try_each.new.self = far D taken c.in_ok-number.number asks.frame asks.images begins c.in_ok-number.ensures.frame asks.faults.quiet c.in_ok-number.ensures.faults.quiet c.in_ok-number.ensures.images
-        (tried.leaves c.args.self.now.1 taken begins.names begins.numbered) tried.only (λ tells. tried.safe tells c.args.self.now.1 taken begins.names begins.numbered) in
+    (tried.leaves c.args.self.now.1 taken begins.names begins.numbered) tried.only (λ tells. tried.safe tells c.args.self.now.1 taken begins.names begins.numbered) in
     let at = at_far D c.in_ok-number.number begins.numbered f in
     let ended = c.in_ok-result.ensures.ends.ok (last_of D f) at in
     let now = ended_far D taken c.in_ok-number.number begins.numbered f ended in
@@ -91,7 +97,7 @@ give_back-requires-clause-free g c =
     let begins : Begins taken c.args.self.now.1 c.begin.new.self.1 c.in_ok-number.number = rw asks.frame.names at c.in_ok-number.ensures.begins in
     let tried = c.try_each.ensures in
     let f : Far D taken c.args.self.now c.try_each.new.self = far D taken c.in_ok-number.number asks.frame asks.images begins c.in_ok-number.ensures.frame asks.faults.quiet c.in_ok-number.ensures.faults.quiet c.in_ok-number.ensures.images
-        (tried.leaves c.args.self.now.1 taken begins.names begins.numbered) tried.only (λ tells. tried.safe tells c.args.self.now.1 taken begins.names begins.numbered) in
+    (tried.leaves c.args.self.now.1 taken begins.names begins.numbered) tried.only (λ tells. tried.safe tells c.args.self.now.1 taken begins.names begins.numbered) in
     let at = at_far D c.in_ok-number.number begins.numbered f in
     let ended = c.in_ok-result.ensures.ends.ok (last_of D f) at in
     let now = ended_far D taken c.in_ok-number.number begins.numbered f ended in
@@ -109,7 +115,7 @@ returns-clause-tries g c =
     let begins : Begins taken c.args.self.now.1 c.begin.new.self.1 c.in_ok-number.number = rw asks.frame.names at c.in_ok-number.ensures.begins in
     let tried = c.try_each.ensures in
     let f : Far D taken c.args.self.now c.try_each.new.self = far D taken c.in_ok-number.number asks.frame asks.images begins c.in_ok-number.ensures.frame asks.faults.quiet c.in_ok-number.ensures.faults.quiet c.in_ok-number.ensures.images
-        (tried.leaves c.args.self.now.1 taken begins.names begins.numbered) tried.only (λ tells. tried.safe tells c.args.self.now.1 taken begins.names begins.numbered) in
+    (tried.leaves c.args.self.now.1 taken begins.names begins.numbered) tried.only (λ tells. tried.safe tells c.args.self.now.1 taken begins.names begins.numbered) in
     let at = at_far D c.in_ok-number.number begins.numbered f in
     let ended = c.in_ok-result.ensures.ends.ok (last_of D f) at in
     let now = ended_far D taken c.in_ok-number.number begins.numbered f ended in
@@ -119,7 +125,7 @@ returns-clause-tries g c =
     let last = last_names c.args.self.now.1 c.collect_end.new.self.1 (With c.give_back.new.self) f.deleted now back in
     let tried_last = tried_all D taken f none (tried_none D c.try_each.new.self (c.collect_end.new.self.0, With c.give_back.new.self) c.in_ok-result.ensures.frame c.in_ok-result.ensures.ends.others) in
     let tries : Tries D taken c.args.self.now (c.collect_end.new.self.0, With c.give_back.new.self) c.in_ok-result.result =
-        tries_of D taken c.args.self.now (c.collect_end.new.self.0, With c.give_back.new.self) c.in_ok-result.result (rw (ended.deleted) last) (rw (ended.deleted, ended.failed) tried_last) in
+    tries_of D taken c.args.self.now (c.collect_end.new.self.0, With c.give_back.new.self) c.in_ok-result.result (rw (ended.deleted) last) (rw (ended.deleted, ended.failed) tried_last) in
     (c.in_ok-living.living, c.in_ok-living.ensures.answer, subst (λ d. Tries D taken c.args.self.now (d, With c.give_back.new.self) c.in_ok-result.result) (sym (ap (λ v. v.0) c.self.view_is)) tries)
 
 pub returns-clause-collects : goal.returns-clause-collects
@@ -130,7 +136,7 @@ returns-clause-collects g c =
     let begins : Begins taken c.args.self.now.1 c.begin.new.self.1 c.in_ok-number.number = rw asks.frame.names at c.in_ok-number.ensures.begins in
     let tried = c.try_each.ensures in
     let f : Far D taken c.args.self.now c.try_each.new.self = far D taken c.in_ok-number.number asks.frame asks.images begins c.in_ok-number.ensures.frame asks.faults.quiet c.in_ok-number.ensures.faults.quiet c.in_ok-number.ensures.images
-        (tried.leaves c.args.self.now.1 taken begins.names begins.numbered) tried.only (λ tells. tried.safe tells c.args.self.now.1 taken begins.names begins.numbered) in
+    (tried.leaves c.args.self.now.1 taken begins.names begins.numbered) tried.only (λ tells. tried.safe tells c.args.self.now.1 taken begins.names begins.numbered) in
     let at = at_far D c.in_ok-number.number begins.numbered f in
     let ended = c.in_ok-result.ensures.ends.ok (last_of D f) at in
     let now = ended_far D taken c.in_ok-number.number begins.numbered f ended in
@@ -140,5 +146,5 @@ returns-clause-collects g c =
     let last = last_names c.args.self.now.1 c.collect_end.new.self.1 (With c.give_back.new.self) f.deleted now back in
     let end = c.in_ok-result.ensures in
     let all : CollectsNames {E = TantivyError} D taken c.args.self.now (c.collect_end.new.self.0, With c.give_back.new.self) (Ok c.in_ok-result.result) =
-        collects_all D taken c.in_ok-number.number c.in_ok-result.result begins.numbered f none end.ends now last ended.deleted end.frame end.safe in
+    collects_all D taken c.in_ok-number.number c.in_ok-result.result begins.numbered f none end.ends now last ended.deleted end.frame end.safe in
     (taken, subst (λ d. CollectsNames {E = TantivyError} D taken c.args.self.now (d, With c.give_back.new.self) (Ok c.in_ok-result.result)) (sym (ap (λ v. v.0) c.self.view_is)) all, inr (c.in_ok-living.living, c.in_ok-living.ensures.answer, refl))
