@@ -225,7 +225,6 @@ pub record EndFaults {A D W C : Type 0} (g : Ghosts D W C) (old new : D × Manag
   pub quiet : OnOk result ((g.view new.0).faults ≡ (g.view old.0).faults)
   pub unlocked : IfErr result TakesNoLock
   pub cause : IfErr result (CollectCause ⊥ ⊥ (Rose (g.view old.0).faults (g.view new.0).faults) ((g.view new.0).faults ≡ (g.view old.0).faults))
-  pub unlocked : IfErr result (λ e. is_unbegun e ≡ false)
 
 -- What follows is cited by private functions alone.
 
