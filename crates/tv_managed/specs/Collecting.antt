@@ -215,10 +215,17 @@ pub record CollectFaults {A D W C : Type 0} (g : Ghosts D W C) (old new : D × M
       ((g.view new.0).faults ≡ (g.view old.0).faults))
   pub unchanged : IfErr result (λ e. is_unbegun e ≡ true → KeepsNames (OnlyReads g.told) g.view old new)
 
+-- it isn't the error of a lock
+abbrev pub TakesNoLock : TantivyError → Type 0
+TakesNoLock (errors.LockFailure why text) = ⊥
+TakesNoLock other = Unit {0}
+
 -- The end of a collection, which takes no lock, fails where the device refused a call other than a delete, or where memory was wanted.
 pub record EndFaults {A D W C : Type 0} (g : Ghosts D W C) (old new : D × ManagedNames) (result : Result A TantivyError) : Type 0 where
   pub quiet : OnOk result ((g.view new.0).faults ≡ (g.view old.0).faults)
+  pub unlocked : IfErr result TakesNoLock
   pub cause : IfErr result (CollectCause ⊥ ⊥ (Rose (g.view old.0).faults (g.view new.0).faults) ((g.view new.0).faults ≡ (g.view old.0).faults))
+  pub unlocked : IfErr result (λ e. is_unbegun e ≡ false)
 
 -- What follows is cited by private functions alone.
 

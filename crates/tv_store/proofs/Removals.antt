@@ -1,20 +1,21 @@
 -- Entries and names that are taken out: of maps, of sets, and of the open files.
-use Rattle.std.proofs.Common.{◌≡◌, ◌≢◌, true≢false, nat_le, codes, ℕ, suc, ◌+◌, ◌≤◌, ◌<◌, inl, inr, Bool, true, false, cond, not, ◌&&◌, ◌||◌, List, [], ◌∷◌, map, length, get_or, drop, drop-cons, Option, Some, None, option_map, is_some, Result, Ok, Err, refl, sym, ap, subst, ◌∙◌, arith}
+use Rattle.std.proofs.Common.{◌≡◌, ◌≢◌, true≢false, nat_le, codes, ℕ, suc, ◌+◌, ◌≤◌, ◌<◌, inl, inr, Bool, true, false, cond, not, ◌&&◌, ◌||◌, List, [], ◌∷◌, ◌++◌, map, length, get_or, drop, drop-cons, Option, Some, None, option_map, is_some, Result, Ok, Err, refl, sym, ap, subst, ◌∙◌, arith}
 use Rattle.std.specs.Prelude.{Contains, OnOk}
 use Rattle.std.specs.List.{AllByRecursion, list_all, list_any}
 use Rattle.std.specs.Map.{remove_entry}
 use Rattle.std.specs.BTreeMap.{is_at}
 use Rattle.std.specs.BTreeSet.{insert_key}
 use Rattle.tv_model.specs.Names.{byte_cmp, is, has, is_name_byte, is_plain, is_undotted, list_name}
-use Rattle.tv_model.specs.Collections.{Collections, done_of, failed_of, collectable}
+use Rattle.tv_model.specs.Collections.{Collections, done_of, failed_of, held}
 use Rattle.tv_model.specs.State.{at}
 use Rattle.tv_model.proofs.Entries.{same_at, text_at, at_itself, is_text, is_by_order, has_put}
 use Rattle.tv_model.proofs.PlainNames.{both}
-use Rattle.tv_model.proofs.CollectionStates.{has_without}
+use Rattle.tv_model.proofs.CollectionStates.{has_append, has_without}
 use Rattle.tv_directory.specs.View.{GoesOn}
 use Rattle.tv_directory.specs.declared.directory.Directory.{Ghosts}
-use Rattle.tv_managed.specs.Collecting.{Among, Leaves, Tries, SparesWriters, names_of}
-use Rattle.tv_managed.specs.declared.collecting.GarbageCollectionResult.{GarbageCollectionResult}
+use Rattle.tv_managed.specs.Collecting.{Among, Leaves, Tries, SparesWriters, names_of, taken_by}
+use Rattle.tv_managed.specs.Names.{ManagedNames}
+use Rattle.tv_managed.specs.declared.collection.GarbageCollectionResult.{GarbageCollectionResult}
 use Rattle.tv_managed.proofs.Removals.{all_filtered}
 use Rattle.tv_model.specs.Commits.{IndexForm}
 use Rattle.tv_store.specs.Kept.{FilesState}
@@ -204,45 +205,52 @@ failed_plain test (n ∷ names) (true ∷ outcomes) h = failed_plain test names 
 failed_plain test (n ∷ names) (false ∷ outcomes) h = let t = both (test n) (list_all test names) h in rw t.0 (failed_plain test names outcomes t.1)
 
 -- so are those that a collection told
-pub told_plain : {D W C : Type 0} (g : Ghosts D W C) (needed : List (List ℕ)) (old new : D × List (List ℕ)) (result : GarbageCollectionResult) → Tries g (collectable needed old.1) old new result → list_all is_plain old.1 ≡ true
+pub told_plain : {D W C : Type 0} (g : Ghosts D W C) (living : List (List ℕ)) (old new : D × ManagedNames) (result : GarbageCollectionResult) → Tries g (taken_by living old.1) old new result → list_all is_plain old.1.managed ≡ true
     → (list_all is_plain (names_of result.deleted_files.items) ≡ true) × (list_all is_plain (names_of result.failed_to_delete_files.items) ≡ true)
-told_plain g needed old new result told h =
-    let tried : list_all is_plain (collectable needed old.1) ≡ true = all_filtered (λ name. not (has needed name)) is_plain old.1 h in
-    (ap (list_all is_plain) told.deleted ∙ done_plain is_plain (collectable needed old.1) told.outcomes tried, ap (list_all is_plain) told.failed ∙ failed_plain is_plain (collectable needed old.1) told.outcomes tried)
+told_plain g living old new result told h =
+    let tried : list_all is_plain (taken_by living old.1) ≡ true = all_filtered (λ name. not (has (living ++ held old.1.collections) name)) is_plain old.1.managed h in
+    (ap (list_all is_plain) told.deleted ∙ done_plain is_plain (taken_by living old.1) told.outcomes tried, ap (list_all is_plain) told.failed ∙ failed_plain is_plain (taken_by living old.1) told.outcomes tried)
 
 -- what a collection told, of the names that it gave
-pub tried_as : {D W C : Type 0} (g : Ghosts D W C) (needed others : List (List ℕ)) (old new first : D × List (List ℕ)) (result : GarbageCollectionResult) (deleted failed : List (List ℕ))
-    → old ≡ first → needed ≡ others → deleted ≡ names_of result.deleted_files.items → failed ≡ names_of result.failed_to_delete_files.items
-    → Tries g (collectable needed old.1) old new result → Tried (collectable others first.1) first.1 new.1 deleted failed g.told.content (g.view first.0).reads (g.view new.0).reads
-tried_as g needed others old new first result deleted failed same living done not_done told =
-    subst (λ (ns : List (List ℕ)). Tried (collectable ns first.1) first.1 new.1 deleted failed g.told.content (g.view first.0).reads (g.view new.0).reads) living
-    (subst (λ (ns : List (List ℕ)). Tried (collectable needed first.1) first.1 new.1 ns failed g.told.content (g.view first.0).reads (g.view new.0).reads) (sym done)
-    (subst (λ (ns : List (List ℕ)). Tried (collectable needed first.1) first.1 new.1 (names_of result.deleted_files.items) ns g.told.content (g.view first.0).reads (g.view new.0).reads) (sym not_done)
-    (subst (λ f. Tried (collectable needed f.1) f.1 new.1 (names_of result.deleted_files.items) (names_of result.failed_to_delete_files.items) g.told.content (g.view f.0).reads (g.view new.0).reads) same
+pub tried_as : {D W C : Type 0} (g : Ghosts D W C) (living others : List (List ℕ)) (old new first : D × ManagedNames) (result : GarbageCollectionResult) (deleted failed : List (List ℕ))
+    → old ≡ first → living ≡ others → deleted ≡ names_of result.deleted_files.items → failed ≡ names_of result.failed_to_delete_files.items
+    → Tries g (taken_by living old.1) old new result → Tried (taken_by others first.1) first.1.managed new.1.managed deleted failed g.told.content (g.view first.0).reads (g.view new.0).reads
+tried_as g living others old new first result deleted failed same answered done not_done told =
+    subst (λ (ns : List (List ℕ)). Tried (taken_by ns first.1) first.1.managed new.1.managed deleted failed g.told.content (g.view first.0).reads (g.view new.0).reads) answered
+    (subst (λ (ns : List (List ℕ)). Tried (taken_by living first.1) first.1.managed new.1.managed ns failed g.told.content (g.view first.0).reads (g.view new.0).reads) (sym done)
+    (subst (λ (ns : List (List ℕ)). Tried (taken_by living first.1) first.1.managed new.1.managed (names_of result.deleted_files.items) ns g.told.content (g.view first.0).reads (g.view new.0).reads) (sym not_done)
+    (subst (λ f. Tried (taken_by living f.1) f.1.managed new.1.managed (names_of result.deleted_files.items) (names_of result.failed_to_delete_files.items) g.told.content (g.view f.0).reads (g.view new.0).reads) same
     (record {
       outcomes = told.outcomes;
       each = told.each;
       deleted_is = told.deleted;
       failed_is = told.failed;
-      managed = told.managed;
+      managed = ap (λ names. names.managed) told.managed;
       gone = told.gone;
       others = told.others;
     }))))
 
+-- a collection takes no living name
+pub living_spared : (living : List (List ℕ)) (names : ManagedNames) (n : List ℕ) → has living n ≡ true → has (taken_by living names) n ≡ false
+living_spared living names n h =
+    has_without (living ++ held names.collections) names.managed n
+    ∙ ap (λ (b : Bool). not b && has names.managed n) (has_append living (held names.collections) n)
+    ∙ ap (λ (b : Bool). not (b || has (held names.collections) n) && has names.managed n) h
+
 -- what is living isn't taken, whichever names were tried
-pub living_stands : {S D W C : Type 0} (g : Ghosts D W C) (answered : S → Type 0) (sets : S → List (List ℕ)) (living names : List (List ℕ)) (old new : D × List (List ℕ)) (n : List ℕ)
-    → ((set : S) → answered set → sets set ≡ living) → Among answered sets old.1 names → Leaves g names old new
+pub living_stands : {S A E D W C : Type 0} (g : Ghosts D W C) (answered : S → Type 0) (sets : S → List (List ℕ)) (living names : List (List ℕ)) (old new : D × ManagedNames) (result : Result A E) (n : List ℕ)
+    → ((set : S) → answered set → sets set ≡ living) → Among answered sets old.1 names → Leaves g names old new result
     → g.told.content → has living n ≡ true → n ≢ list_name → (g.view new.0).reads n ≡ (g.view old.0).reads n
-living_stands g answered sets living names old new n is (inl none) l t h other = l.spared t n (ap (λ (ns : List (List ℕ)). has ns n) none) other
-living_stands g answered sets living names old new n is (inr set) l t h other =
+living_stands g answered sets living names old new result n is (inl none) l t h other = l.spared t n (ap (λ (ns : List (List ℕ)). has ns n) none) other
+living_stands g answered sets living names old new result n is (inr set) l t h other =
     l.spared t n
-    (ap (λ (ns : List (List ℕ)). has ns n) (set.2 ∙ ap (λ (ns : List (List ℕ)). collectable ns old.1) (is set.0 set.1))
-    ∙ has_without living old.1 n ∙ ap (λ (b : Bool). not b && has old.1 n) h) other
+    (ap (λ (ns : List (List ℕ)). has ns n) (set.2 ∙ ap (λ (ns : List (List ℕ)). taken_by ns old.1) (is set.0 set.1))
+    ∙ living_spared living old.1 n h) other
 
 plain_undotted : (a b c d e : Bool) → (a && b && c && d && e) ≡ true → d ≡ true
 plain_undotted a b c d e h = (both (a && b && c) d (both (a && b && c && d) e h).0).1
 
-isnt_plain : (x n : List ℕ) → is_plain x ≡ true → is_undotted n ≡ false → is x n ≡ false
+pub isnt_plain : (x n : List ℕ) → is_plain x ≡ true → is_undotted n ≡ false → is x n ≡ false
 isnt_plain x n plain dot =
     elim (is x n) as (λ b. is x n ≡ b → b ≡ false) [
       | true ↦ λ e.
@@ -260,13 +268,13 @@ plain_hasnt (x ∷ names) n h dot =
     rw (isnt_plain x n t.0 dot) (plain_hasnt names n t.1 dot)
 
 -- nor is a name with a dot in front, since managed names have none
-pub dotted_stands : {S D W C : Type 0} (g : Ghosts D W C) (answered : S → Type 0) (sets : S → List (List ℕ)) (names : List (List ℕ)) (old new : D × List (List ℕ)) (n : List ℕ)
-    → list_all is_plain old.1 ≡ true → Among answered sets old.1 names → Leaves g names old new
+pub dotted_stands : {S A E D W C : Type 0} (g : Ghosts D W C) (answered : S → Type 0) (sets : S → List (List ℕ)) (names : List (List ℕ)) (old new : D × ManagedNames) (result : Result A E) (n : List ℕ)
+    → list_all is_plain old.1.managed ≡ true → Among answered sets old.1 names → Leaves g names old new result
     → g.told.content → is_undotted n ≡ false → n ≢ list_name → (g.view new.0).reads n ≡ (g.view old.0).reads n
-dotted_stands g answered sets names old new n plain (inl none) l t dot other = l.spared t n (ap (λ (ns : List (List ℕ)). has ns n) none) other
-dotted_stands g answered sets names old new n plain (inr set) l t dot other =
-    let taken : list_all is_plain (collectable (sets set.0) old.1) ≡ true = all_filtered (λ name. not (has (sets set.0) name)) is_plain old.1 plain in
-    l.spared t n (ap (λ (ns : List (List ℕ)). has ns n) set.2 ∙ plain_hasnt (collectable (sets set.0) old.1) n taken dot) other
+dotted_stands g answered sets names old new result n plain (inl none) l t dot other = l.spared t n (ap (λ (ns : List (List ℕ)). has ns n) none) other
+dotted_stands g answered sets names old new result n plain (inr set) l t dot other =
+    let taken : list_all is_plain (taken_by (sets set.0) old.1) ≡ true = all_filtered (λ name. not (has (sets set.0 ++ held old.1.collections) name)) is_plain old.1.managed plain in
+    l.spared t n (ap (λ (ns : List (List ℕ)). has ns n) set.2 ∙ plain_hasnt (taken_by (sets set.0) old.1) n taken dot) other
 
 -- ---- open files that are left
 
