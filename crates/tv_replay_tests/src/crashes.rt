@@ -65,10 +65,10 @@ fn replayed<R: Abort>(rt: &R, alloc: Global) -> TestBench {
 
 // Whether each file that a crash left is on the list that it left.
 fn lists_each<R: Abort>(rt: &R, alloc: Global, left: TestBench) -> TestBench {
-    let Ok(managed) = ManagedDirectory::wrap(alloc, left) else {
-        panic!(rt; "the list is one")
+    let mut managed = match ManagedDirectory::wrap(alloc, left) {
+        Ok(managed) => managed,
+        Err(_) => panic!(rt; "the list is one"),
     };
-    let mut managed = managed;
     for name in NAMES {
         let found = managed.exists(name).expect(rt, "asked");
         let listed = managed.list_managed_files().contains(*name);
@@ -79,8 +79,9 @@ fn lists_each<R: Abort>(rt: &R, alloc: Global, left: TestBench) -> TestBench {
 
 // Opens what a crash left, which has one of the commits.
 fn opens<R: Abort>(rt: &R, alloc: Global, left: TestBench) {
-    let Ok(store) = IndexStore::open(alloc, left, b"[]") else {
-        panic!(rt; "it is opened")
+    let store = match IndexStore::open(alloc, left, b"[]") {
+        Ok(store) => store,
+        Err(_) => panic!(rt; "it is opened"),
     };
     let heard = store.into_outside().heard_lines().expect(rt, "memory");
     let told = OPENINGS.iter().any(|line| line.as_bytes() == heard.as_slice());
@@ -101,7 +102,7 @@ fn crash_at<R: Abort>(rt: &R, alloc: Global, bench: &TestBench, moment: u64) {
 fn a_crash_leaves_a_sound_start(rt: HostRuntime) {
     let bench = replayed(&rt, rt.alloc());
     let last = bench.moment();
-    assert!(rt; last > 90, "the calls were recorded");
+    assert!(rt; last > 50, "the calls were recorded");
     for moment in 0..=last {
         crash_at(&rt, rt.alloc(), &bench, moment);
     }
