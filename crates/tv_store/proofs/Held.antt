@@ -62,9 +62,9 @@ module _ (n : List ℕ) where
   -- the names of a collection are the same after one was tried
   taken_tried : (c : Collection) (name : List ℕ) (left : List (List ℕ)) (done : Bool) → c.untried ≡ name ∷ left → has (taken (having_tried c name left done)) n ≡ has (taken c) n
   taken_tried c name left true is =
-      grind (arith, has_append (c.done ++ name ∷ []) (c.failed ++ left) n, has_append c.done (name ∷ []) n, has_append c.failed left n, has_append c.done (c.failed ++ c.untried) n, has_append c.failed c.untried n, ap (λ (names : List (List ℕ)). has names n) is)
+      grind (arith, has_append ((c.done ++ name ∷ []) ++ c.failed) left n, has_append (c.done ++ name ∷ []) c.failed n, has_append c.done (name ∷ []) n, has_append (c.done ++ c.failed) c.untried n, has_append c.done c.failed n, ap (λ (names : List (List ℕ)). has names n) is)
   taken_tried c name left false is =
-      grind (arith, has_append c.done ((c.failed ++ name ∷ []) ++ left) n, has_append (c.failed ++ name ∷ []) left n, has_append c.failed (name ∷ []) n, has_append c.done (c.failed ++ c.untried) n, has_append c.failed c.untried n, ap (λ (names : List (List ℕ)). has names n) is)
+      grind (arith, has_append (c.done ++ (c.failed ++ name ∷ [])) left n, has_append c.done (c.failed ++ name ∷ []) n, has_append c.failed (name ∷ []) n, has_append (c.done ++ c.failed) c.untried n, has_append c.done c.failed n, ap (λ (names : List (List ℕ)). has names n) is)
 
   pub held_tried : (collections : Collections) (number : ℕ) (c : Collection) (name : List ℕ) (left : List (List ℕ)) (done : Bool) → collection_at collections number ≡ Some c → c.untried ≡ name ∷ left
       → has (held (with_collection collections number (having_tried c name left done))) n ≡ true → has (held collections) n ≡ true

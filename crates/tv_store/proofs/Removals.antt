@@ -73,6 +73,10 @@ at_removed {X} (e ∷ es) k q other =
 test_is : (x n : List ℕ) → is_at (byte_cmp x) n ≡ is x n
 test_is x n = same_at x n ∙ sym (is_by_order n x)
 
+-- the test of a name alone
+pub one_is : (x n : List ℕ) → is_at (byte_cmp x) n ≡ has (x ∷ []) n
+one_is x n = test_is x n ∙ elim (is x n) as (λ b. b ≡ (b || false)) [ true ↦ refl | false ↦ refl ]
+
 -- what stands at a name after one was taken out
 pub at_closed : {X : Type 0} (es new : List (List ℕ × X)) (x n : List ℕ) → new ≡ remove_entry (is_at (byte_cmp x)) es → at new x ≡ None → at new n ≡ cond (is x n) None (at es n)
 at_closed {X} es new x n cut closed =
