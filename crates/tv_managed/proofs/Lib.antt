@@ -11,6 +11,7 @@ pub mod Touching
 pub mod Saves
 pub mod Listing
 pub mod Giving
+pub mod AtOnce
 pub mod Beginning
 pub mod Stepping
 pub mod PlainManaged

@@ -1,5 +1,5 @@
 -- The entries of open files, and what of them stays true.
-use Rattle.std.proofs.Common.{◌≡◌, inl, inr, ℕ, Bool, true, false, true≢false, cond, ◌&&◌, nat_le, List, [], ◌∷◌, map, Option, Some, None, option_map, is_some, length, ◌++◌, ◌+◌, ◌<◌, length-append, refl, sym, ap, subst, ◌∙◌, Ok, Err}
+use Rattle.std.proofs.Common.{◌≡◌, ◌⊎◌, inl, inr, ℕ, Bool, true, false, true≢false, cond, ◌&&◌, nat_le, List, [], ◌∷◌, map, Option, Some, None, option_map, is_some, length, ◌++◌, ◌+◌, ◌<◌, length-append, refl, sym, ap, subst, ◌∙◌, Ok, Err}
 use Rattle.std.specs.Prelude.{IsSome, OnErr, Result}
 use Rattle.std.specs.Ordering.{is_eq, match_ordering}
 use Rattle.std.specs.declared.cmp.Ordering.{Ordering}
@@ -8,16 +8,17 @@ use Rattle.std.specs.List.{AllByRecursion, list_all}
 use Rattle.std.specs.Map.{remove_entry}
 use Rattle.std.specs.BTreeMap.{is_at, insert_entry}
 use Rattle.std.specs.BTreeSet.{insert_key}
-use Rattle.tv_model.specs.Names.{byte_cmp, is_name_byte, is_undotted, is_plain}
+use Rattle.tv_model.specs.Names.{byte_cmp, has, is_name_byte, is_undotted, is_plain, meta_name}
 use Rattle.tv_model.specs.State.{at}
-use Rattle.tv_model.specs.Collections.{Collections}
+use Rattle.tv_model.specs.Collections.{Collections, held}
 use Rattle.tv_model.specs.Files.{Reads, KeepsOthers, Sets}
 use Rattle.tv_model.specs.Footer.{sealed}
 use Rattle.tv_model.proofs.Entries.{text_at}
 use Rattle.tv_model.proofs.PlainNames.{both}
 use Rattle.tv_directory.specs.View.{DeletesNone, WriterState}
 use Rattle.tv_directory.specs.declared.directory.Directory.{Ghosts}
-use Rattle.tv_managed.specs.Managed.{registered}
+use Rattle.tv_managed.specs.Managed.{ManagesFile, registered, registering}
+use Rattle.tv_managed.specs.Names.{ManagedNames}
 use Rattle.tv_managed.specs.Writers.{IsNewManaged, IsSummed}
 use Rattle.tv_managed.specs.declared.writer.ManagedWriter.{ManagedWriter}
 use Rattle.tv_model.specs.Commits.{IndexForm}
@@ -117,6 +118,33 @@ left_open g directory es new test cut h = subst (λ fs. AreOpen g directory fs) 
 -- a file that is found is open
 pub found_open : {D W C : Type 0} (g : Ghosts D W C) (directory : D) (es : List (List ℕ × OpenFile D W C)) (n : List ℕ) (file : OpenFile D W C) → Some file ≡ at es n → AreOpen g directory es → IsOpenFile g directory n file.writer file.len
 found_open g directory es n file it h = all_found (λ e. IsOpenFile g directory e.0 e.1.writer e.1.len) es n file h (sym it)
+
+-- these files are open, and no unfinished collection has `meta.json`
+abbrev pub AreFiles : {D W C : Type 0} (g : Ghosts D W C) (directory : D × ManagedNames) → List (List ℕ × OpenFile D W C) → Type 0
+AreFiles g directory es = AreOpen g directory.0 es × (has (held directory.1.collections) meta_name ≡ false)
+
+-- that goes on where no file is deleted, and the collections stay
+pub still_files : {D W C : Type 0} (g : Ghosts D W C) (old new : D × ManagedNames) (es : List (List ℕ × OpenFile D W C)) → DeletesNone g.told (g.view old.0) (g.view new.0) → new.1.collections ≡ old.1.collections
+    → AreFiles g old es → AreFiles g new es
+still_files g old new es frame same h = (still_open g old.0 new.0 es frame h.0, ap (λ (cs : Collections). has (held cs) meta_name) same ∙ h.1)
+
+pub put_files : {D W C : Type 0} (g : Ghosts D W C) (directory : D × ManagedNames) (es new : List (List ℕ × OpenFile D W C)) (n : List ℕ) (file : OpenFile D W C) → new ≡ insert_entry byte_cmp es n file
+    → IsOpenFile g directory.0 n file.writer file.len → AreFiles g directory es → AreFiles g directory new
+put_files g directory es new n file put here h = (put_open g directory.0 es new n file put here h.0, h.1)
+
+pub left_files : {D W C : Type 0} (g : Ghosts D W C) (directory : D × ManagedNames) (es new : List (List ℕ × OpenFile D W C)) (test : List ℕ → Bool) → new ≡ remove_entry test es → AreFiles g directory es → AreFiles g directory new
+left_files g directory es new test cut h = (left_open g directory.0 es new test cut h.0, h.1)
+
+pub same_files : {D W C : Type 0} (g : Ghosts D W C) (directory : D × ManagedNames) (es new : List (List ℕ × OpenFile D W C)) → new ≡ es → AreFiles g directory es → AreFiles g directory new
+same_files g directory es new same h = subst (λ fs. AreFiles g directory fs) (sym same) h
+
+-- the collections stay where a file is made, or given its bytes
+pub kept_collections : {A E D W C : Type 0} (g : Ghosts D W C) (old new : D × ManagedNames) (name : List ℕ) (r : Result A E) → ManagesFile g old new name r → new.1.collections ≡ old.1.collections
+kept_collections g old new name (Ok x) h = ap (λ (names : ManagedNames). names.collections) h.ok
+kept_collections g old new name (Err e) h = either_way old.1 new.1 name h.err where
+  either_way : (before after : ManagedNames) (name : List ℕ) → (after ≡ before) ⊎ (after ≡ registering before name) → after.collections ≡ before.collections
+  either_way before after name (inl e) = ap (λ (names : ManagedNames). names.collections) e
+  either_way before after name (inr e) = ap (λ (names : ManagedNames). names.collections) e
 
 -- what was written to open files
 abbrev pub bodies : {D W C : Type 0} → (W → List ℕ) → List (List ℕ × OpenFile D W C) → List (List ℕ × List ℕ)

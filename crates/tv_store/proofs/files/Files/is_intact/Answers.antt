@@ -3,7 +3,7 @@ use Rattle.tv_base.specs.declared.open_errors.OpenReadError.{OpenReadError}
 use Rattle.tv_managed.specs.Reading.{HasNoFooter, OpenBodyCause, ReadsSuch}
 use Rattle.tv_model.specs.Names.{has}
 use Rattle.tv_model.specs.State.{at}
-use Rattle.tv_store.proofs.OpenFiles.{is_open, still_open, AreOpen}
+use Rattle.tv_store.proofs.OpenFiles.{is_open, still_files, AreFiles}
 use Rattle.tv_store.proofs.Removals.{had}
 use Rattle.tv_store.proofs.ReportEvents.{fault_intact, intact_answer, left_intact, open_intact, tells_intact}
 use Rattle.tv_store.proofs.files.Files.is_intact.Goals as goal
@@ -22,16 +22,16 @@ returns-then-contains_key-clause-answer g c tells =
     ]
 
 pub invariant_of-self : goal.invariant_of-self
-invariant_of-self g c = still_open g.O.Directory c.directory_mut.result.now.0 c.validate_checksum.new.self.0 c.self.inside.files.entries c.validate_checksum.ensures.frame.below.kept.frame.tells_none.deletes_none (subst (λ d. AreOpen g.O.Directory d.0 c.self.inside.files.entries) (sym c.directory_mut.ensures.value) c.self.invariant)
+invariant_of-self g c = still_files g.O.Directory c.directory_mut.result.now c.validate_checksum.new.self c.self.inside.files.entries c.validate_checksum.ensures.frame.below.kept.frame.tells_none.deletes_none (ap (λ n. n.collections) c.validate_checksum.ensures.frame.names) (subst (λ d. AreFiles g.O.Directory d c.self.inside.files.entries) (sym c.directory_mut.ensures.value) c.self.invariant)
 
 pub invariant_of-self-in-Err-FileDoesNotExist : goal.invariant_of-self-in-Err-FileDoesNotExist
-invariant_of-self-in-Err-FileDoesNotExist g c = still_open g.O.Directory c.directory_mut.result.now.0 c.validate_checksum.new.self.0 c.self.inside.files.entries c.validate_checksum.ensures.frame.below.kept.frame.tells_none.deletes_none (subst (λ d. AreOpen g.O.Directory d.0 c.self.inside.files.entries) (sym c.directory_mut.ensures.value) c.self.invariant)
+invariant_of-self-in-Err-FileDoesNotExist g c = still_files g.O.Directory c.directory_mut.result.now c.validate_checksum.new.self c.self.inside.files.entries c.validate_checksum.ensures.frame.below.kept.frame.tells_none.deletes_none (ap (λ n. n.collections) c.validate_checksum.ensures.frame.names) (subst (λ d. AreFiles g.O.Directory d c.self.inside.files.entries) (sym c.directory_mut.ensures.value) c.self.invariant)
 
 pub invariant_of-self-in-Err-IoError : goal.invariant_of-self-in-Err-IoError
-invariant_of-self-in-Err-IoError g c = still_open g.O.Directory c.directory_mut.result.now.0 c.validate_checksum.new.self.0 c.self.inside.files.entries c.validate_checksum.ensures.frame.below.kept.frame.tells_none.deletes_none (subst (λ d. AreOpen g.O.Directory d.0 c.self.inside.files.entries) (sym c.directory_mut.ensures.value) c.self.invariant)
+invariant_of-self-in-Err-IoError g c = still_files g.O.Directory c.directory_mut.result.now c.validate_checksum.new.self c.self.inside.files.entries c.validate_checksum.ensures.frame.below.kept.frame.tells_none.deletes_none (ap (λ n. n.collections) c.validate_checksum.ensures.frame.names) (subst (λ d. AreFiles g.O.Directory d c.self.inside.files.entries) (sym c.directory_mut.ensures.value) c.self.invariant)
 
 pub invariant_of-self-in-Err-Memory : goal.invariant_of-self-in-Err-Memory
-invariant_of-self-in-Err-Memory g c = still_open g.O.Directory c.directory_mut.result.now.0 c.validate_checksum.new.self.0 c.self.inside.files.entries c.validate_checksum.ensures.frame.below.kept.frame.tells_none.deletes_none (subst (λ d. AreOpen g.O.Directory d.0 c.self.inside.files.entries) (sym c.directory_mut.ensures.value) c.self.invariant)
+invariant_of-self-in-Err-Memory g c = still_files g.O.Directory c.directory_mut.result.now c.validate_checksum.new.self c.self.inside.files.entries c.validate_checksum.ensures.frame.below.kept.frame.tells_none.deletes_none (ap (λ n. n.collections) c.validate_checksum.ensures.frame.names) (subst (λ d. AreFiles g.O.Directory d c.self.inside.files.entries) (sym c.directory_mut.ensures.value) c.self.invariant)
 
 pub returns-in-Ok-clause-answer : goal.returns-in-Ok-clause-answer
 returns-in-Ok-clause-answer g c tells =

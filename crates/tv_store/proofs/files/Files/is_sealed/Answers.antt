@@ -1,6 +1,6 @@
 use Rattle.std.proofs.Common.{sym, ap, ◌∙◌, subst}
 use Rattle.tv_model.specs.Names.{has}
-use Rattle.tv_store.proofs.OpenFiles.{still_open, is_open, open_answer, left_answer, sealed_answer, AreOpen}
+use Rattle.tv_store.proofs.OpenFiles.{still_files, is_open, open_answer, left_answer, sealed_answer, AreFiles}
 use Rattle.tv_store.proofs.Removals.{had}
 use Rattle.tv_store.proofs.files.Files.is_sealed.Goals as goal
 use Rattle.tv_store.proofs.files.Files.is_sealed.Goals.{then-contains_key-via-then-contains_key, then-contains_key-via-else-contains_key+then-contains}
@@ -16,7 +16,7 @@ returns-then-contains_key-clause-answer g c tells =
     ]
 
 pub invariant_of-self : goal.invariant_of-self
-invariant_of-self g c = still_open g.O.Directory c.directory_mut.result.now.0 c.exists.new.self.0 c.self.inside.files.entries c.exists.ensures.frame.below.kept.frame.tells_none.deletes_none (subst (λ d. AreOpen g.O.Directory d.0 c.self.inside.files.entries) (sym c.directory_mut.ensures.value) c.self.invariant)
+invariant_of-self g c = still_files g.O.Directory c.directory_mut.result.now c.exists.new.self c.self.inside.files.entries c.exists.ensures.frame.below.kept.frame.tells_none.deletes_none (ap (λ n. n.collections) c.exists.ensures.frame.names) (subst (λ d. AreFiles g.O.Directory d c.self.inside.files.entries) (sym c.directory_mut.ensures.value) c.self.invariant)
 
 pub returns-in-Ok-clause-answer : goal.returns-in-Ok-clause-answer
 returns-in-Ok-clause-answer g c tells =
@@ -27,7 +27,7 @@ returns-in-Ok-clause-answer g c tells =
     (sym (ap (λ v. has v.left name) c.self.view_is) ∙ sym (had c.self.inside.left.keys name) ∙ sym c.contains.ensures ∙ c.if-contains.false)
 
 pub invariant_of-self-in-Err-Memory : goal.invariant_of-self-in-Err-Memory
-invariant_of-self-in-Err-Memory g c = still_open g.O.Directory c.directory_mut.result.now.0 c.exists.new.self.0 c.self.inside.files.entries c.exists.ensures.frame.below.kept.frame.tells_none.deletes_none (subst (λ d. AreOpen g.O.Directory d.0 c.self.inside.files.entries) (sym c.directory_mut.ensures.value) c.self.invariant)
+invariant_of-self-in-Err-Memory g c = still_files g.O.Directory c.directory_mut.result.now c.exists.new.self c.self.inside.files.entries c.exists.ensures.frame.below.kept.frame.tells_none.deletes_none (ap (λ n. n.collections) c.exists.ensures.frame.names) (subst (λ d. AreFiles g.O.Directory d c.self.inside.files.entries) (sym c.directory_mut.ensures.value) c.self.invariant)
 
 pub invariant_of-self-in-Err-IoError : goal.invariant_of-self-in-Err-IoError
-invariant_of-self-in-Err-IoError g c = still_open g.O.Directory c.directory_mut.result.now.0 c.exists.new.self.0 c.self.inside.files.entries c.exists.ensures.frame.below.kept.frame.tells_none.deletes_none (subst (λ d. AreOpen g.O.Directory d.0 c.self.inside.files.entries) (sym c.directory_mut.ensures.value) c.self.invariant)
+invariant_of-self-in-Err-IoError g c = still_files g.O.Directory c.directory_mut.result.now c.exists.new.self c.self.inside.files.entries c.exists.ensures.frame.below.kept.frame.tells_none.deletes_none (ap (λ n. n.collections) c.exists.ensures.frame.names) (subst (λ d. AreFiles g.O.Directory d c.self.inside.files.entries) (sym c.directory_mut.ensures.value) c.self.invariant)

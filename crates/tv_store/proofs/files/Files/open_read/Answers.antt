@@ -3,7 +3,7 @@ use Rattle.tv_base.specs.Errors.{of_open_read}
 use Rattle.tv_model.specs.Files.{Rose}
 use Rattle.tv_store.specs.Bodies.{RefusesAt}
 use Rattle.tv_store.specs.ReadCauses.{ApplyCause}
-use Rattle.tv_store.proofs.OpenFiles.{still_open, AreOpen}
+use Rattle.tv_store.proofs.OpenFiles.{still_files, AreFiles}
 use Rattle.tv_store.specs.StoreCauses.{MakesNoFile}
 use Rattle.tv_store.proofs.ReaderEvents.{body_fails, failed_as, reads_make_none}
 use Rattle.tv_store.proofs.files.Files.open_read.Goals as goal
@@ -26,4 +26,4 @@ returns-in_err-body-clause-faults g c =
     }
 
 pub invariant_of-self-2 : goal.invariant_of-self-2
-invariant_of-self-2 g c = still_open g.O.Directory c.directory_mut.result.now.0 c.open_read.new.self.0 c.self.inside.files.entries c.open_read.ensures.frame.below.kept.frame.tells_none.deletes_none (subst (λ d. AreOpen g.O.Directory d.0 c.self.inside.files.entries) (sym c.directory_mut.ensures.value) c.self.invariant)
+invariant_of-self-2 g c = still_files g.O.Directory c.directory_mut.result.now c.open_read.new.self c.self.inside.files.entries c.open_read.ensures.frame.below.kept.frame.tells_none.deletes_none (ap (λ n. n.collections) c.open_read.ensures.frame.names) (subst (λ d. AreFiles g.O.Directory d c.self.inside.files.entries) (sym c.directory_mut.ensures.value) c.self.invariant)

@@ -15,5 +15,5 @@ returns-clause-reopened g c =
           ∙ ap (λ b. has c.args.self.now.left n || b)
           (sym (is_open (λ w. (g.O.Directory.state_of w).written) c.replace-files.result.entries c.args.self.now.open_files n _
           (ap (λ m. bodies (λ w. (g.O.Directory.state_of w).written) m.entries) c.replace-files.ensures.value ∙ ap (λ v. v.open_files) c.self.view_is) refl));
-      collections = ap (λ names. names.collections) c.forget_collections.ensures.forgets;
+      collections = ap (λ n. n.collections) c.forget_collections.ensures.forgets;
     }) c.leave_all.ensures

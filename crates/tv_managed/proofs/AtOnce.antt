@@ -1,0 +1,313 @@
+-- What a collection at once did, from its beginning to its end.
+use Rattle.std.proofs.Common.{rules, ◌≡◌, ◌≢◌, ◌+◌, ◌-◌, ◌||◌, ◌++◌, ℕ, Bool, true, false, true≢false, List, [], None, Some, Option, Result, Ok, Err, inl, inr, ⊎_elim, ◌⊎◌, refl, sym, ap, subst, ◌∙◌, arith, append-nil}
+use Rattle.std.specs.Prelude.{IfErr, IfOk, OnErr, OnOk}
+use Rattle.std.specs.Result.{IsErr}
+use Rattle.std.specs.BTreeMap.{is_at, insert_entry}
+use Rattle.std.specs.List.{flat_map}
+use Rattle.std.specs.Ordering.{nat_cmp}
+use Rattle.std.proofs.lemmas.Bool.{false_from_ne_true, or_left}
+use Rattle.tv_model.specs.Collections.{Collection, Collections, begun, collection_at, done_of, without}
+use Rattle.tv_model.specs.Disk.{Disk, DiskState, Absent, possible_now}
+use Rattle.tv_model.specs.Files.{Same}
+use Rattle.tv_model.specs.Listing.{Lists}
+use Rattle.tv_model.specs.Names.{is, has, list_name}
+use Rattle.tv_model.proofs.CollectionStates.{done_within}
+use Rattle.tv_model.proofs.Entries.{is_itself, is_text}
+use Rattle.tv_directory.specs.Images.{KeepsDisk, TouchesOnly}
+use Rattle.tv_directory.specs.View.{Kept, OnlyReads}
+use Rattle.tv_directory.specs.declared.directory.Directory.{Ghosts}
+use Rattle.tv_managed.specs.Collecting.{Begins, Ended, EndsCollection, Leaves, LeftUnfinished, OnlyDeletes, Tried, Tries, TriesSome, beginning, ending, names_of, standing}
+use Rattle.tv_managed.specs.Crashes.{AnyOrList, CollectsNames, CollectsStates, EndsSafely, Forgets, IsCovered, IsTracked, KeepsTrack, LeavesSafely, SettlesStates, ShortensStates}
+use Rattle.tv_managed.specs.Frames.{KeepsNames}
+use Rattle.tv_managed.specs.Managed.{Covers}
+use Rattle.tv_managed.specs.Names.{ManagedNames, done_names}
+use Rattle.tv_managed.specs.declared.collection.GarbageCollectionResult.{GarbageCollectionResult}
+use Rattle.tv_managed.proofs.Beginning.{begun_safely}
+use Rattle.tv_managed.proofs.Collections.{at_put, more_done, none_done, put_and_out, put_twice}
+use Rattle.tv_managed.proofs.Removals.{has_or}
+use Rattle.tv_managed.proofs.Touching.{touches_more, touches_none, touches_then}
+use Rattle.tv_managed.proofs.Tracking.{covered_done, track_names, track_read, track_then, weaker}
+use Rattle.tv_managed.proofs.Tried.{tried_none, tried_quiet, tried_then}
+
+-- ---- answers
+
+pub no_ok : {A E : Type 0} (P : Type 0) (result : Result A E) → IsErr result → OnOk result P
+no_ok P (Ok x) h = absurd (true≢false (sym h))
+no_ok P (Err e) h = tt
+
+no_if_ok : {A E : Type 0} (P : A → Type 0) (result : Result A E) → IsErr result → IfOk result P
+no_if_ok P (Ok x) h = absurd (true≢false (sym h))
+no_if_ok P (Err e) h = tt
+
+on_err : {A E : Type 0} (P : Type 0) (result : Result A E) → P → OnErr result P
+on_err P (Ok x) p = tt
+on_err P (Err e) p = p
+
+err_or : {A E : Type 0} (P Q : Type 0) (result : Result A E) → OnErr result P → OnErr result (Q ⊎ P)
+err_or P Q (Ok x) p = tt
+err_or P Q (Err e) p = inr p
+
+-- ---- the names
+
+-- what is done once a collection stands under the next number
+standing_done : (names : ManagedNames) (d : Collection) (n : List ℕ) → collection_at names.collections names.collections.next ≡ None → has (done_names (standing names d).collections) n ≡ (has (done_names names.collections) n || has d.done n)
+standing_done names d n free =
+    let es = names.collections.unfinished in
+    let k = names.collections.next in
+    ap (λ (l : List (ℕ × Collection)). has (flat_map (λ e. e.1.done) l) n) (sym (put_twice es k (begun []) d))
+    ∙ more_done (insert_entry nat_cmp es k (begun [])) k (begun []) d n (has d.done n) (at_put es k (begun [])) refl
+    ∙ ap (λ b. b || has d.done n) (none_done es k (begun []) n free refl)
+
+neither : (a b : Bool) → (a || b) ≡ false → a ≡ false
+neither true b e = e
+neither false b e = refl
+
+-- the list that reads has the names that it need have
+covers_standing : (names : ManagedNames) (d : Collection) (read : Option (List ℕ)) → collection_at names.collections names.collections.next ≡ None → Covers read names → Covers read (standing names d)
+covers_standing names d read free was = (was.0, was.1, λ n h none. was.2 n h (neither _ _ (sym (standing_done names d n free) ∙ none)))
+
+-- all that is kept in memory, without these names, and with this number as the next
+abbrev pub left_with : ManagedNames → List (List ℕ) → ℕ → ManagedNames
+left_with names deleted k = record { managed = without deleted names.managed; collections = record { unfinished = names.collections.unfinished; next = k } }
+
+-- the end of a collection that stood under the next number
+pub ended_names : (names now : ManagedNames) (number : ℕ) (d : Collection) → number ≡ names.collections.next → collection_at names.collections names.collections.next ≡ None → now ≡ ending (standing names d) number d → now ≡ left_with names d.done (names.collections.next + 1)
+ended_names names now number d same free is =
+    let With : List (ℕ × Collection) → ManagedNames = λ es. record { managed = without d.done names.managed; collections = record { unfinished = es; next = names.collections.next + 1 } } in
+    is ∙ ap (λ k. ending (standing names d) k d) same ∙ ap With (put_and_out names.collections.unfinished names.collections.next d free)
+
+-- ---- what was tried
+
+-- a call after them that deletes nothing
+pub tried_on : {D W C : Type 0} (g : Ghosts D W C) {front deleted failed : List (List ℕ)} {old mid new : D × ManagedNames} → Tried g front old mid deleted failed → Tried g [] mid new [] [] → Tried g front old new deleted failed
+tried_on g {front} {deleted} {failed} {old} {mid} {new} a b = rw (← append-nil front, ← append-nil deleted, ← append-nil failed) (tried_then g front [] old mid new deleted failed [] [] a b)
+
+-- a name that isn't among those that were to be tried isn't deleted
+untried : (taken front rest : List (List ℕ)) (outcomes : List Bool) (n : List ℕ) → taken ≡ front ++ rest → has taken n ≡ false → has (done_of front outcomes) n ≡ false
+untried taken front rest outcomes n split none =
+    false_from_ne_true _ (λ h. true≢false (sym (ap (λ l. has l n) split ∙ has_or front rest n ∙ or_left (has front n) (has rest n) (done_within front outcomes n h)) ∙ none))
+
+pub leaves_of : {A E D W C : Type 0} (g : Ghosts D W C) (taken front rest deleted failed : List (List ℕ)) {old new : D × ManagedNames} (result : Result A E) → taken ≡ front ++ rest → Tried g front old new deleted failed
+    → OnOk result (new.1 ≡ record old.1 { managed = without deleted old.1.managed }) → OnErr result (new.1 ≡ standing old.1 (record { untried = rest; done = deleted; failed = failed })) → Leaves g taken old new result
+leaves_of g taken front rest deleted failed {old} {new} result split t ok err =
+    let had : (n : List ℕ) (b : Bool) → has (done_of front t.outcomes) n ≡ b → has deleted n ≡ b = λ n b h. ap (λ l. has l n) t.deleted_is ∙ h in
+    let missed : (n : List ℕ) → has taken n ≡ false → has deleted n ≡ false = λ n h. had n false (untried taken front rest t.outcomes n split h) in
+    record {
+      front = front;
+      rest = rest;
+      outcomes = t.outcomes;
+      split = split;
+      each = t.each;
+      ok = subst (λ l. OnOk result (new.1 ≡ record old.1 { managed = without l old.1.managed })) t.deleted_is ok;
+      err = err_or _ _ result (subst (λ l. OnErr result (new.1 ≡ standing old.1 (record { untried = rest; done = done_of front t.outcomes; failed = l }))) t.failed_is (subst (λ l. OnErr result (new.1 ≡ standing old.1 (record { untried = rest; done = l; failed = failed }))) t.deleted_is err));
+      gone = λ tell n h. t.gone tell n (had n true h);
+      others = λ tell n h other. t.others tell n (had n false h) other;
+      spared = λ tell n h other. t.others tell n (missed n h) other;
+      alive = λ tell w h l. t.alive tell w (missed (g.state_of w).name h) l;
+      ended = λ tell w o h some. t.ended tell w o (had (g.state_of w).name true h) some;
+      fits = t.fits;
+    }
+
+pub tries_of : {D W C : Type 0} (g : Ghosts D W C) (taken : List (List ℕ)) (old new : D × ManagedNames) (result : GarbageCollectionResult)
+    → new.1 ≡ record old.1 { managed = without (names_of result.deleted_files.items) old.1.managed } → Tried g taken old new (names_of result.deleted_files.items) (names_of result.failed_to_delete_files.items) → Tries g taken old new result
+tries_of g taken old new result left t = record {
+  outcomes = t.outcomes;
+  each = t.each;
+  deleted = t.deleted_is;
+  failed = t.failed_is;
+  managed = left;
+  gone = t.gone;
+  others = t.others;
+  alive = t.alive;
+  ended = t.ended;
+  counted = t.counted;
+  calm = t.calm;
+}
+
+-- where nothing was deleted, each name reads what it read
+same_where_none : {D W C : Type 0} (g : Ghosts D W C) {front deleted failed : List (List ℕ)} {old new : D × ManagedNames} → Tried g front old new deleted failed → g.told.content → (g.view new.0).reads list_name ≡ (g.view old.0).reads list_name → deleted ≡ []
+    → Same (g.view old.0).reads (g.view new.0).reads
+same_where_none g {old = old} {new = new} t tells list none n =
+    elim (is n list_name) as (λ b. is n list_name ≡ b → (g.view new.0).reads n ≡ (g.view old.0).reads n) [
+      | true ↦ λ e. subst (λ m. (g.view new.0).reads m ≡ (g.view old.0).reads m) (sym (is_text n list_name e)) list
+      | false ↦ λ e. t.others tells n (ap (λ l. has l n) none) (λ same. true≢false (sym (subst (λ m. is n m ≡ true) same (is_itself n)) ∙ e))
+    ] refl
+
+-- ---- the way to the end
+
+-- what was done before the end of a collection that took these names
+pub record Far {D W C : Type 0} (g : Ghosts D W C) (taken : List (List ℕ)) (old new : D × ManagedNames) : Type 0 where
+  pub front : List (List ℕ)
+  pub rest : List (List ℕ)
+  pub deleted : List (List ℕ)
+  pub failed : List (List ℕ)
+  pub free : collection_at old.1.collections old.1.collections.next ≡ None
+  pub split : taken ≡ front ++ rest
+  pub tried : Tried g front old new deleted failed
+  pub names : new.1 ≡ standing old.1 (record { untried = rest; done = deleted; failed = failed })
+  pub list : g.told.content → (g.view new.0).reads list_name ≡ (g.view old.0).reads list_name
+  pub quiet : (g.view new.0).faults ≡ (g.view old.0).faults
+  pub safe : g.tells_images → LeavesSafely g (TouchesOnly (AnyOrList taken) (g.disk old.0) (g.disk new.0)) old new
+
+-- a collection that takes its place settles names, and touches none
+pub settles_touch : {A E : Type 0} {old new : Disk} {result : Result A E} (touched : List ℕ → Type 0) → SettlesStates old new result → TouchesOnly touched old new
+settles_touch touched settles = record { moments = weaker settles.moments (λ p within. record { each = λ n other s is. within.each n s is }); now = record { each = λ n other. settles.now n } }
+
+pub far : {E D W C : Type 0} (g : Ghosts D W C) (taken : List (List ℕ)) {old asked began new : D × ManagedNames} (number : ℕ) → KeepsNames (OnlyReads g.told) g.view old asked → (g.tells_images → KeepsDisk (g.disk old.0) (g.disk asked.0))
+    → Begins taken old.1 began.1 number → OnlyReads g.told (g.view asked.0) (g.view began.0) → (g.view asked.0).faults ≡ (g.view old.0).faults → (g.view began.0).faults ≡ (g.view asked.0).faults → (g.tells_images → SettlesStates {E = E} (g.disk asked.0) (g.disk began.0) (Ok number))
+    → TriesSome g old.1 taken began new → OnlyDeletes g began new → (g.tells_images → LeavesSafely g (TouchesOnly (AnyOrList taken) (g.disk began.0) (g.disk new.0)) began new) → Far g taken old new
+far g taken {old} {asked} {began} {new} number asks disk begins reads quiet calm settles some only safe = record {
+  front = some.front;
+  rest = some.rest;
+  deleted = some.deleted;
+  failed = some.failed;
+  free = subst (λ k. collection_at old.1.collections k ≡ None) begins.numbered begins.free;
+  split = some.split;
+  tried = tried_then g [] _ old asked new [] [] _ _ (tried_quiet g old asked asks) (tried_then g [] _ asked began new [] [] _ _ (tried_none g asked began reads.kept (λ tell n other. reads.content tell n)) some.tried);
+  names = some.names;
+  list = λ tell. only.list tell ∙ reads.content tell list_name ∙ asks.below.content tell list_name;
+  quiet = only.faults ∙ calm ∙ quiet;
+  safe = λ tells.
+      let began_safely = begun_safely g taken {old = (asked.0, old.1)} {new = began} (Ok number) (settles tells) begins tt in
+      record {
+        tracks = λ was.
+            let first : KeepsTrack g old (asked.0, old.1) = track_read g refl (disk tells) was in
+            let second = track_then g first (began_safely.tracks first.tracked) in
+            track_then g second ((safe tells).tracks second.tracked);
+        states = touches_then (touches_none _ (disk tells)) (touches_then (settles_touch _ (settles tells)) (safe tells).states);
+      };
+}
+
+-- the collection that stands then
+abbrev pub last_of : {D W C : Type 0} (g : Ghosts D W C) {taken : List (List ℕ)} {old new : D × ManagedNames} → Far g taken old new → Collection
+last_of g f = record { untried = f.rest; done = f.deleted; failed = f.failed }
+
+pub at_far : {D W C : Type 0} (g : Ghosts D W C) {taken : List (List ℕ)} {old new : D × ManagedNames} (number : ℕ) → number ≡ old.1.collections.next → (f : Far g taken old new) → collection_at new.1.collections number ≡ Some (last_of g f)
+at_far g {old = old} {new = new} number same f =
+    ap (λ k. collection_at new.1.collections k) same
+    ∙ ap (λ v. collection_at v.collections old.1.collections.next) f.names
+    ∙ at_put old.1.collections.unfinished old.1.collections.next _
+
+covers_far : {D W C : Type 0} (g : Ghosts D W C) {taken : List (List ℕ)} {old new : D × ManagedNames} → Far g taken old new → g.told.content → Covers ((g.view old.0).reads list_name) old.1 → Covers ((g.view new.0).reads list_name) new.1
+covers_far g {old = old} {new = new} f tells was =
+    subst (Covers ((g.view new.0).reads list_name)) (sym f.names) (covers_standing old.1 _ _ f.free (subst (λ r. Covers r old.1) (sym (f.list tells)) was))
+
+-- where the managed names stay, none is forgotten
+forgets_none : {D W C : Type 0} (g : Ghosts D W C) (old new : D × ManagedNames) → new.1.managed ≡ old.1.managed → Forgets g old new
+forgets_none g old new same n h lost s of_name = absurd (true≢false (sym h ∙ ap (λ l. has l n) (sym same) ∙ lost))
+
+-- ---- a collection that was given up
+
+-- it wasn't begun
+pub collects_none : {E D W C : Type 0} (g : Ghosts D W C) {old new : D × ManagedNames} (result : Result GarbageCollectionResult E) → IsErr result → Tried g [] old new [] [] → new.1 ≡ old.1 → (g.told.content → (g.view new.0).reads list_name ≡ (g.view old.0).reads list_name)
+    → (g.tells_images → LeavesSafely g (TouchesOnly (AnyOrList []) (g.disk old.0) (g.disk new.0)) old new) → CollectsNames g [] old new result
+collects_none g {old} {new} result is t same list safe = record {
+  leaves = record {
+    front = [];
+    rest = [];
+    outcomes = [];
+    split = refl;
+    each = refl;
+    ok = no_ok _ result is;
+    err = on_err _ result (inl same);
+    gone = λ tell n h. absurd (true≢false (sym h));
+    others = λ tell n h other. t.others tell n refl other;
+    spared = λ tell n h other. t.others tell n refl other;
+    alive = λ tell w h l. t.alive tell w refl l;
+    ended = λ tell w o h some. absurd (true≢false (sym h));
+    fits = t.fits;
+  };
+  saves = record {
+    list = λ tells was. no_ok _ result is;
+    covers = λ tells was. subst (Covers ((g.view new.0).reads list_name)) (sym same) (subst (λ r. Covers r old.1) (sym (list tells)) was);
+  };
+  saves_none = λ tells. no_if_ok _ result is;
+  safe = λ tells. record { tracks = (safe tells).tracks; states = record { touches = (safe tells).states; forgets = λ was. forgets_none g old new (ap (λ v. v.managed) same) } };
+}
+
+-- its names weren't all tried
+pub collects_far : {E D W C : Type 0} (g : Ghosts D W C) (taken : List (List ℕ)) {old new : D × ManagedNames} (result : Result GarbageCollectionResult E) → IsErr result → Far g taken old new → CollectsNames g taken old new result
+collects_far g taken {old} {new} result is f = record {
+  leaves = leaves_of g taken f.front f.rest f.deleted f.failed result f.split f.tried (no_ok _ result is) (on_err _ result f.names);
+  saves = record { list = λ tells was. no_ok _ result is; covers = λ tells was. covers_far g f tells was };
+  saves_none = λ tells. no_if_ok _ result is;
+  safe = λ tells. record { tracks = (f.safe tells).tracks; states = record { touches = (f.safe tells).states; forgets = λ was. forgets_none g old new (ap (λ v. v.managed) f.names) } };
+}
+
+-- the list alone was touched
+list_touched : {D W C : Type 0} (g : Ghosts D W C) (taken : List (List ℕ)) {left : List (List ℕ)} {old new : D × ManagedNames} → ShortensStates g left old new → TouchesOnly (AnyOrList taken) (g.disk old.0) (g.disk new.0)
+list_touched g taken states = record {
+  moments = weaker states.moments (λ p adds. record { each = λ n other s is. ⊎_elim (λ before. before) (λ q. absurd (other (inr q.0))) (adds.each n s is) });
+  now = record { each = λ n other. states.now.each n (λ it. other (inr it)) };
+}
+
+-- it wasn't ended
+pub collects_unended : {E F D W C : Type 0} (g : Ghosts D W C) (taken : List (List ℕ)) (number : ℕ) {old mid new : D × ManagedNames} (e : F) (result : Result GarbageCollectionResult E) → IsErr result → number ≡ old.1.collections.next → Far g taken old mid
+    → EndsCollection {E = F} g number mid new (Err e) → Kept g.told (g.view mid.0) (g.view new.0) → (g.tells_images → EndsSafely g number mid new) → CollectsNames g taken old new result
+collects_unended g taken number {old} {mid} {new} e result is same f ends kept ended =
+    let tried = tried_on g f.tried (tried_none g mid new kept ends.others) in
+    record {
+      leaves = leaves_of g taken f.front f.rest f.deleted f.failed result f.split tried (no_ok _ result is) (on_err _ result (ends.err ∙ f.names));
+      saves = record { list = λ tells was. no_ok _ result is; covers = λ tells was. ends.saves.covers tells (covers_far g f tells was) };
+      saves_none = λ tells. no_if_ok _ result is;
+      safe = λ tells.
+          let last = ended tells (last_of g f) (at_far g number same f) in
+          record {
+            tracks = λ was. let first = (f.safe tells).tracks was in track_then g first (last.tracks first.tracked);
+            states = record { touches = touches_then (f.safe tells).states (list_touched g taken last.states); forgets = λ was. forgets_none g old new (ap (λ v. v.managed) (ends.err ∙ f.names)) };
+          };
+    }
+
+-- ---- a collection that came to its end
+
+-- the names with the number given back
+abbrev pub given_back : ManagedNames → ManagedNames
+given_back names = record names { collections = record names.collections { next = names.collections.next - 1 } }
+
+pub ended_far : {D W C : Type 0} (g : Ghosts D W C) (taken : List (List ℕ)) (number : ℕ) {old mid : D × ManagedNames} {now : ManagedNames} {result : GarbageCollectionResult} → number ≡ old.1.collections.next → (f : Far g taken old mid) → Ended number (last_of g f) mid.1 now result
+    → now ≡ left_with old.1 f.deleted (old.1.collections.next + 1)
+ended_far g taken number {old} {mid} {now} same f ended = ended_names old.1 now number (last_of g f) same f.free (ended.names ∙ ap (λ v. ending v number (last_of g f)) f.names)
+
+pub last_names : (names now last : ManagedNames) (deleted : List (List ℕ)) → now ≡ left_with names deleted (names.collections.next + 1) → last ≡ given_back now → last ≡ record names { managed = without deleted names.managed }
+last_names names now last deleted is back =
+    let With : ℕ → ManagedNames = λ k. record { managed = without deleted names.managed; collections = record { unfinished = names.collections.unfinished; next = k } } in
+    let once : names.collections.next + 1 - 1 ≡ names.collections.next = omega arith in
+    back ∙ ap given_back is ∙ ap With once
+
+-- all names were tried
+pub tried_all : {D W C : Type 0} (g : Ghosts D W C) (taken : List (List ℕ)) {old mid new : D × ManagedNames} (f : Far g taken old mid) → f.rest ≡ [] → Tried g [] mid new [] [] → Tried g taken old new f.deleted f.failed
+tried_all g taken {old} {mid} {new} f none more =
+    subst (λ names. Tried g names old new f.deleted f.failed) (sym (f.split ∙ ap (λ r. f.front ++ r) none ∙ append-nil f.front)) (tried_on g f.tried more)
+
+pub collects_all : {E F D W C : Type 0} (g : Ghosts D W C) (taken : List (List ℕ)) (number : ℕ) {old mid : D × ManagedNames} {new : D} {now last : ManagedNames} (result : GarbageCollectionResult) → number ≡ old.1.collections.next → (f : Far g taken old mid) → f.rest ≡ []
+    → EndsCollection {E = F} g number mid (new, now) (Ok result) → now ≡ left_with old.1 f.deleted (old.1.collections.next + 1) → last ≡ record old.1 { managed = without f.deleted old.1.managed } → names_of result.deleted_files.items ≡ f.deleted
+    → Kept g.told (g.view mid.0) (g.view new) → (g.tells_images → EndsSafely g number mid (new, now)) → CollectsNames {E = E} g taken old (new, last) (Ok result)
+collects_all g taken number {old} {mid} {new} {now} {last} result same f none ends is last_is told kept ended =
+    let tried : Tried g taken old (new, last) f.deleted f.failed = tried_all g taken f none (tried_none g mid (new, last) kept ends.others) in
+    let managed : last.managed ≡ now.managed = ap (λ v. v.managed) last_is ∙ sym (ap (λ v. v.managed) is) in
+    record {
+      leaves = leaves_of g taken taken [] f.deleted f.failed (Ok result) (sym (append-nil taken)) tried last_is tt;
+      saves = record {
+        list = λ tells was. subst (Lists ((g.view new).reads list_name)) (sym managed) (ends.saves.list tells (subst (Lists ((g.view mid.0).reads list_name)) (sym (ap (λ v. v.managed) f.names)) (subst (λ r. Lists r old.1.managed) (sym (f.list tells)) was)));
+        covers = λ tells was.
+            let there : Covers ((g.view new).reads list_name) (left_with old.1 f.deleted (old.1.collections.next + 1)) = subst (Covers ((g.view new).reads list_name)) is (ends.saves.covers tells (covers_far g f tells was)) in
+            subst (Covers ((g.view new).reads list_name)) (sym last_is) there;
+      };
+      saves_none = λ tells quiet n.
+          ends.saves_none tells quiet n ∙ same_where_none g f.tried tells (f.list tells) (sym told ∙ ap names_of quiet) n;
+      safe = λ tells.
+          let end = ended tells (last_of g f) (at_far g number same f) in
+          record {
+            tracks = λ was.
+                let first = (f.safe tells).tracks was in
+                let second = track_then g first (end.tracks first.tracked) in
+                let there : IsCovered (possible_now (g.disk new)) (g.disk new).now (left_with old.1 f.deleted (old.1.collections.next + 1)) = subst (IsCovered (possible_now (g.disk new)) (g.disk new).now) is second.tracked in
+                let back : IsCovered (possible_now (g.disk new)) (g.disk new).now (record (left_with old.1 f.deleted (old.1.collections.next + 1)) { collections = old.1.collections }) = covered_done (λ n h free. free) there.gone there in
+                track_then g second (track_names g (subst (IsCovered (possible_now (g.disk new)) (g.disk new).now) (sym last_is) back) second.tracked);
+            states = record {
+              touches = touches_then (f.safe tells).states (list_touched g taken end.states);
+              forgets = λ was n h lost.
+                  end.states.forgets ((f.safe tells).tracks was).tracked n (ap (λ v. has v.managed n) f.names ∙ h) (ap (λ l. has l n) (sym managed) ∙ lost);
+            };
+          };
+    }
