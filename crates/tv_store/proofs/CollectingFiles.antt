@@ -1,30 +1,30 @@
 -- What the steps of a collection leave of the files of a store.
-use Rattle.std.proofs.Common.{◌≡◌, ◌≢◌, ℕ, ◌<◌, ◌≤◌, inl, inr, Bool, true, false, true≢false, cond, not, ◌&&◌, ◌||◌, List, [], ◌∷◌, ◌++◌, length, Option, Some, None, Result, Ok, Err, refl, sym, ap, subst, ◌∙◌, arith}
+use Rattle.std.proofs.Common.{◌≡◌, ◌≢◌, ℕ, ◌+◌, ◌<◌, ◌≤◌, inl, inr, Bool, true, false, true≢false, cond, not, ◌&&◌, ◌||◌, List, [], ◌∷◌, ◌++◌, length, Option, Some, None, Result, Ok, Err, refl, sym, ap, subst, ◌∙◌, arith}
 use Rattle.std.specs.Prelude.{IfErr, IfOk, OnErr, IsSome}
 use Rattle.std.specs.BTreeMap.{is_at}
 use Rattle.std.specs.Option.{IsSomeAnd}
-use Rattle.std.proofs.lemmas.Bool.{false_from_ne_true}
+use Rattle.std.proofs.lemmas.Bool.{false_from_ne_true, or_right}
 use Rattle.tv_base.specs.declared.error.TantivyError.{TantivyError}
 use Rattle.tv_base.specs.declared.error.TantivyError.TheVariants as errors
-use Rattle.tv_model.specs.Collections.{Collection, Collections, collection_at, having_tried, held, taken, with_begun, with_collection, without, without_collection}
+use Rattle.tv_model.specs.Collections.{Collection, Collections, collection_at, done_of, failed_of, having_tried, held, taken, with_begun, with_collection, without, without_collection}
 use Rattle.tv_model.specs.Files.{Reads, Rose, RoseBy}
 use Rattle.tv_model.specs.Machine.{refused_in}
 use Rattle.tv_model.specs.Names.{byte_cmp, has, is, is_plain, is_undotted, list_name, meta_name}
 use Rattle.tv_model.specs.State.{at}
-use Rattle.tv_model.proofs.CollectionStates.{has_append}
+use Rattle.tv_model.proofs.CollectionStates.{done_within, has_append}
 use Rattle.tv_model.proofs.Entries.{is_itself, is_text}
 use Rattle.tv_directory.specs.View.{GoesOn, WriterState}
 use Rattle.tv_directory.specs.declared.directory.Directory.{Ghosts}
 use Rattle.tv_managed.specs.Collecting.{EndsCollection as EndsManaged}
-use Rattle.tv_managed.specs.Collecting.{Begins, CollectCause, SparesWriters, Steps, TakesNoLock, TriesName, is_done, taken_by, tried_name}
+use Rattle.tv_managed.specs.Collecting.{Among, Begins, CollectCause, Leaves, SparesWriters, Steps, TakesNoLock, TriesName, is_done, taken_by, tried_name}
 use Rattle.tv_managed.specs.Names.{ManagedNames}
 use Rattle.tv_managed.specs.declared.collection.CollectStep.{CollectStep}
 use Rattle.tv_managed.specs.declared.collection.GarbageCollectionResult.{GarbageCollectionResult}
 use Rattle.tv_store.specs.CollectingCalls.{EndsCollection, HasUntried, TriesNext, gone_of}
 use Rattle.tv_store.specs.Kept.{FilesState}
 use Rattle.tv_store.specs.StoreCauses.{EventCause}
-use Rattle.tv_store.proofs.Held.{held_begun, held_ended, held_taken, held_tried}
-use Rattle.tv_store.proofs.Removals.{isnt_plain, living_spared}
+use Rattle.tv_store.proofs.Held.{held_begun, held_ended, held_standing, held_taken, held_tried}
+use Rattle.tv_store.proofs.Removals.{among_spares, isnt_plain, living_spared}
 
 -- a directory beside what is kept of its names, as the files of a store have them
 abbrev pub names_below : {O : Type 0} → FilesState O → O × ManagedNames
@@ -43,6 +43,40 @@ begun_spares living old new (Ok number) begins err lives spared =
     ∙ never _ (has (taken_by living old) meta_name || has (held old.collections) meta_name) (held_begun meta_name old.collections (taken_by living old))
     (ap (λ b. b || has (held old.collections) meta_name) (living_spared living old meta_name lives) ∙ spared)
 begun_spares living old new (Err e) begins err lives spared = ap (λ names. has (held names.collections) meta_name) err ∙ spared
+
+failed_within : (names : List (List ℕ)) (outcomes : List Bool) (n : List ℕ) → has (failed_of names outcomes) n ≡ true → has names n ≡ true
+failed_within [] outcomes n h = h
+failed_within (name ∷ names) [] n h = absurd cc
+failed_within (name ∷ names) (true ∷ outcomes) n h = or_right (is name n) _ (failed_within names outcomes n h)
+failed_within (name ∷ names) (false ∷ outcomes) n h = grind (arith, failed_within names outcomes n)
+
+-- what an unfinished collection took of some names that don't have this one isn't it
+partly_spared : (names front rest : List (List ℕ)) (outcomes : List Bool) (n : List ℕ) → names ≡ front ++ rest → has names n ≡ false → has (taken (record { untried = rest; done = done_of front outcomes; failed = failed_of front outcomes })) n ≡ false
+partly_spared names front rest outcomes n split spared =
+    grind (
+      arith,
+      has_append (done_of front outcomes ++ failed_of front outcomes) rest n,
+      has_append (done_of front outcomes) (failed_of front outcomes) n,
+      done_within front outcomes n,
+      failed_within front outcomes n,
+      has_append front rest n,
+      ap (λ (ns : List (List ℕ)). has ns n) split,
+      spared,
+    )
+
+-- a collection at once, whatever it answers, leaves no `meta.json` held, which is living
+pub collected_spares : {S A E D W C : Type 0} (g : Ghosts D W C) (answered : S → Type 0) (sets : S → List (List ℕ)) (living names : List (List ℕ)) (old new : D × ManagedNames) (result : Result A E)
+    → ((set : S) → answered set → sets set ≡ living) → Among answered sets old.1 names → Leaves g names old new result → has living meta_name ≡ true → has (held old.1.collections) meta_name ≡ false → has (held new.1.collections) meta_name ≡ false
+collected_spares g answered sets living names old new (Ok a) is among l lives spared = ap (λ names. has (held names.collections) meta_name) l.ok ∙ spared
+collected_spares g answered sets living names old new (Err e) is among l lives spared =
+    elim l.err [
+      | inl same ↦ ap (λ names. has (held names.collections) meta_name) same ∙ spared
+      | inr begun ↦
+          let c : Collection = record { untried = l.rest; done = done_of l.front l.outcomes; failed = failed_of l.front l.outcomes } in
+          ap (λ names. has (held names.collections) meta_name) begun
+          ∙ never _ (has (taken c) meta_name || has (held old.1.collections) meta_name) (held_standing meta_name old.1.collections c (old.1.collections.next + 1))
+          (ap (λ b. b || has (held old.1.collections) meta_name) (partly_spared names l.front l.rest l.outcomes meta_name l.split (among_spares answered sets living names old.1 meta_name is among lives)) ∙ spared)
+    ]
 
 -- the end of a collection fails as an event does
 pub end_cause : (refused quiet : Type 0) (e : TantivyError) → CollectCause ⊥ ⊥ refused quiet e → TakesNoLock e → EventCause refused quiet ⊥ e

@@ -33,6 +33,10 @@ module _ (n : List ℕ) where
   put [] number c h = sym (first_taken (number, c) []) ∙ h
   put (e ∷ es) number c h = placed (nat_cmp number e.0) number c e es (insert_entry nat_cmp es number c) (put es number c) h
 
+  -- a name that is held beside a collection that stands under the next number was held, or that one took it
+  pub held_standing : (collections : Collections) (c : Collection) (next : ℕ) → has (held (record { unfinished = insert_entry nat_cmp collections.unfinished collections.next c; next = next })) n ≡ true → (has (taken c) n || has (held collections) n) ≡ true
+  held_standing collections c next h = put collections.unfinished collections.next c h
+
   left : (b : Bool) (e : ℕ × Collection) (es rest : List (ℕ × Collection)) → (has (all_taken rest) n ≡ true → has (all_taken es) n ≡ true) → has (all_taken (cond b es (e ∷ rest))) n ≡ true → has (all_taken (e ∷ es)) n ≡ true
   left true e es rest h k = grind (arith, first_taken e es, k)
   left false e es rest h k = grind (arith, first_taken e rest, first_taken e es, h, k)
