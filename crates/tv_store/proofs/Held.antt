@@ -33,6 +33,10 @@ module _ (n : List ℕ) where
   put [] number c h = sym (first_taken (number, c) []) ∙ h
   put (e ∷ es) number c h = placed (nat_cmp number e.0) number c e es (insert_entry nat_cmp es number c) (put es number c) h
 
+  -- a name that is held beside a collection that stands under the next number was held, or that one took it
+  pub held_standing : (collections : Collections) (c : Collection) (next : ℕ) → has (held (record { unfinished = insert_entry nat_cmp collections.unfinished collections.next c; next = next })) n ≡ true → (has (taken c) n || has (held collections) n) ≡ true
+  held_standing collections c next h = put collections.unfinished collections.next c h
+
   left : (b : Bool) (e : ℕ × Collection) (es rest : List (ℕ × Collection)) → (has (all_taken rest) n ≡ true → has (all_taken es) n ≡ true) → has (all_taken (cond b es (e ∷ rest))) n ≡ true → has (all_taken (e ∷ es)) n ≡ true
   left true e es rest h k = grind (arith, first_taken e es, k)
   left false e es rest h k = grind (arith, first_taken e rest, first_taken e es, h, k)
@@ -62,9 +66,9 @@ module _ (n : List ℕ) where
   -- the names of a collection are the same after one was tried
   taken_tried : (c : Collection) (name : List ℕ) (left : List (List ℕ)) (done : Bool) → c.untried ≡ name ∷ left → has (taken (having_tried c name left done)) n ≡ has (taken c) n
   taken_tried c name left true is =
-      grind (arith, has_append (c.done ++ name ∷ []) (c.failed ++ left) n, has_append c.done (name ∷ []) n, has_append c.failed left n, has_append c.done (c.failed ++ c.untried) n, has_append c.failed c.untried n, ap (λ (names : List (List ℕ)). has names n) is)
+      grind (arith, has_append ((c.done ++ name ∷ []) ++ c.failed) left n, has_append (c.done ++ name ∷ []) c.failed n, has_append c.done (name ∷ []) n, has_append (c.done ++ c.failed) c.untried n, has_append c.done c.failed n, ap (λ (names : List (List ℕ)). has names n) is)
   taken_tried c name left false is =
-      grind (arith, has_append c.done ((c.failed ++ name ∷ []) ++ left) n, has_append (c.failed ++ name ∷ []) left n, has_append c.failed (name ∷ []) n, has_append c.done (c.failed ++ c.untried) n, has_append c.failed c.untried n, ap (λ (names : List (List ℕ)). has names n) is)
+      grind (arith, has_append (c.done ++ (c.failed ++ name ∷ [])) left n, has_append c.done (c.failed ++ name ∷ []) n, has_append c.failed (name ∷ []) n, has_append (c.done ++ c.failed) c.untried n, has_append c.done c.failed n, ap (λ (names : List (List ℕ)). has names n) is)
 
   pub held_tried : (collections : Collections) (number : ℕ) (c : Collection) (name : List ℕ) (left : List (List ℕ)) (done : Bool) → collection_at collections number ≡ Some c → c.untried ≡ name ∷ left
       → has (held (with_collection collections number (having_tried c name left done))) n ≡ true → has (held collections) n ≡ true

@@ -13,6 +13,7 @@ pub mod CommitEvents
 pub mod Lifting
 pub mod LoadedCommits
 pub mod CollectingEvents
+pub mod CollectingFiles
 pub mod DeleteEvents
 pub mod ReopenEvents
 pub mod Steps

@@ -73,6 +73,10 @@ at_removed {X} (e ∷ es) k q other =
 test_is : (x n : List ℕ) → is_at (byte_cmp x) n ≡ is x n
 test_is x n = same_at x n ∙ sym (is_by_order n x)
 
+-- the test of a name alone
+pub one_is : (x n : List ℕ) → is_at (byte_cmp x) n ≡ has (x ∷ []) n
+one_is x n = test_is x n ∙ elim (is x n) as (λ b. b ≡ (b || false)) [ true ↦ refl | false ↦ refl ]
+
 -- what stands at a name after one was taken out
 pub at_closed : {X : Type 0} (es new : List (List ℕ × X)) (x n : List ℕ) → new ≡ remove_entry (is_at (byte_cmp x)) es → at new x ≡ None → at new n ≡ cond (is x n) None (at es n)
 at_closed {X} es new x n cut closed =
@@ -237,15 +241,17 @@ living_spared living names n h =
     ∙ ap (λ (b : Bool). not b && has names.managed n) (has_append living (held names.collections) n)
     ∙ ap (λ (b : Bool). not (b || has (held names.collections) n) && has names.managed n) h
 
--- what is living isn't taken, whichever names were tried
+-- what is living isn't taken, whichever names are tried
+pub among_spares : {S : Type 0} (answered : S → Type 0) (sets : S → List (List ℕ)) (living names : List (List ℕ)) (managed : ManagedNames) (n : List ℕ)
+    → ((set : S) → answered set → sets set ≡ living) → Among answered sets managed names → has living n ≡ true → has names n ≡ false
+among_spares answered sets living names managed n is (inl none) h = ap (λ (ns : List (List ℕ)). has ns n) none
+among_spares answered sets living names managed n is (inr set) h = ap (λ (ns : List (List ℕ)). has ns n) (set.2 ∙ ap (λ (ns : List (List ℕ)). taken_by ns managed) (is set.0 set.1)) ∙ living_spared living managed n h
+
+-- so it reads what it read
 pub living_stands : {S A E D W C : Type 0} (g : Ghosts D W C) (answered : S → Type 0) (sets : S → List (List ℕ)) (living names : List (List ℕ)) (old new : D × ManagedNames) (result : Result A E) (n : List ℕ)
     → ((set : S) → answered set → sets set ≡ living) → Among answered sets old.1 names → Leaves g names old new result
     → g.told.content → has living n ≡ true → n ≢ list_name → (g.view new.0).reads n ≡ (g.view old.0).reads n
-living_stands g answered sets living names old new result n is (inl none) l t h other = l.spared t n (ap (λ (ns : List (List ℕ)). has ns n) none) other
-living_stands g answered sets living names old new result n is (inr set) l t h other =
-    l.spared t n
-    (ap (λ (ns : List (List ℕ)). has ns n) (set.2 ∙ ap (λ (ns : List (List ℕ)). taken_by ns old.1) (is set.0 set.1))
-    ∙ living_spared living old.1 n h) other
+living_stands g answered sets living names old new result n is among l t h other = l.spared t n (among_spares answered sets living names old.1 n is among h) other
 
 plain_undotted : (a b c d e : Bool) → (a && b && c && d && e) ≡ true → d ≡ true
 plain_undotted a b c d e h = (both (a && b && c) d (both (a && b && c && d) e h).0).1

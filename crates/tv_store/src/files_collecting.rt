@@ -1,5 +1,5 @@
 //! Collections of files, and the end of open ones.
-ghost use Rattle.std.specs.Prelude.{◌≡◌, ◌≢◌, ◌&&◌, ◌||◌, not, ◌≤◌, List, ℕ, true, length, None, Some, IsSome, is_some, cond, option_map, Contains, IfOk, OnOk, OnErr, map, string_bytes};
+ghost use Rattle.std.specs.Prelude.{◌≡◌, ◌≢◌, ◌&&◌, ◌||◌, not, ◌≤◌, [], ◌∷◌, List, ℕ, true, length, None, Some, IsSome, is_some, cond, option_map, Contains, IfOk, OnOk, OnErr, map, string_bytes};
 ghost use Rattle.std.specs.List.{list_all, AllByRecursion};
 ghost use Rattle.std.specs.List.Sorted.{IsStrictlySortedBy};
 ghost use Rattle.tv_model.specs.Names.{byte_cmp, has, is_plain, list_name, meta_name};
@@ -70,6 +70,15 @@ fn remove_all<V: Drop>(map: &mut BTreeMap<FileName, V>, names: &[FileName])
     for name in names {
         let _entry = map.remove(name);
     }
+}
+
+// Takes the entry of a name out of a map.
+fn remove_one<V: Drop>(map: &mut BTreeMap<FileName, V>, name: &FileName)
+    ensures name { (n : List ℕ) → at map.new.entries n ≡ cond (has (name.now ∷ []) n) None
+        (at map.old.entries n) }
+    ensures left { AllByRecursion (Contains map.old.entries) map.new.entries }
+{
+    let _entry = map.remove(name);
 }
 
 // Takes these names out of a set.
@@ -158,7 +167,7 @@ impl<O: Outside> Files<O> {
         match self.index.directory_mut().collect_delete(number)? {
             CollectStep::Done(text) => {
                 let name = FileName::new(text);
-                let _file = self.files.remove(&name);
+                remove_one(&mut self.files, &name);
                 let _left = self.left.remove(&name);
                 Ok(TriedName {
                     name,
