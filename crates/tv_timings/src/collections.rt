@@ -1,5 +1,5 @@
 //! Times collections, at once and in steps: how long one takes for each name that it deletes.
-use crate::segments::{FILES, SCHEMA, Store, each, open, percent, with_files};
+use crate::segments::{FILES, Store, each, open, percent, with_files};
 use std::alloc::Global;
 use std::process::ExitCode;
 use std::time::{Clock, Instant};
@@ -47,7 +47,24 @@ fn in_steps(store: &mut Store, names: u32) -> anyhow::Result<()> {
     Ok(())
 }
 
-// How many nanoseconds a collection of the files of so many segments takes for a name.
+// How many nanoseconds a collection of so many names takes.
+fn time(
+    rt: &impl Clock,
+    store: &mut Store,
+    names: u32,
+    is_stepped: bool,
+) -> anyhow::Result<u128> {
+    let start = Instant::now(rt)?;
+    if is_stepped {
+        in_steps(store, names)?;
+    } else {
+        at_once(store, names)?;
+    }
+    let took = start.elapsed(rt)?;
+    Ok(took.as_nanos())
+}
+
+// How many it takes for a name, of the files of so many segments.
 fn nanos(
     rt: &impl Clock,
     alloc: Global,
@@ -56,16 +73,9 @@ fn nanos(
 ) -> anyhow::Result<u64> {
     let names = segments.saturating_mul(FILES);
     let mut store = open(alloc, with_files(alloc, segments)?)?;
-    let start = Instant::now(rt)?;
-    let collected = if is_stepped {
-        in_steps(&mut store, names)
-    } else {
-        at_once(&mut store, names)
-    };
-    let took = start.elapsed(rt);
+    let took = time(rt, &mut store, names, is_stepped);
     let _bench = store.into_outside();
-    collected?;
-    Ok(each(took?.as_nanos(), names))
+    Ok(each(took?, names))
 }
 
 /// Prints how long collections of each size take for a name, and how the last compares with the first.
