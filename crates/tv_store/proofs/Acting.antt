@@ -1,5 +1,5 @@
 -- What the calls of the events do, put together.
-use Rattle.std.proofs.Common.{ℕ, ◌≡◌, ◌≤◌, ◌<◌, ◌+◌, true, false, List, [], length, Result, Ok, Err, Some, refl, sym, ap, subst, ◌∙◌, inl, arith}
+use Rattle.std.proofs.Common.{ℕ, ◌≡◌, ◌<◌, ◌+◌, true, false, List, [], length, Result, Ok, Err, Some, refl, sym, ap, subst, ◌∙◌, inl, arith}
 use Rattle.std.specs.Prelude.{IfOk, OnOk, OnErr}
 use Rattle.std.proofs.lemmas.Result.{on_err_weaker}
 use Rattle.tv_base.specs.declared.error.TantivyError.{TantivyError}
@@ -11,7 +11,7 @@ use Rattle.tv_managed.specs.Collecting.{meta_lock_name}
 use Rattle.tv_model.specs.Names.{meta_name}
 use Rattle.tv_model.proofs.Changes.{lifted}
 use Rattle.tv_model.specs.Files.{Rose}
-use Rattle.tv_model.specs.Collections.{Collections, no_collections}
+use Rattle.tv_model.specs.Collections.{no_collections}
 use Rattle.tv_model.specs.State.{Catalog, State, StepResult, no_readers, on_catalog}
 use Rattle.tv_model.specs.Machine.{catalog_step, step}
 use Rattle.tv_model.specs.Readable.{ReadsGood}

@@ -1,13 +1,10 @@
 -- What is held after an index was opened again, where it stands.
-use Rattle.std.proofs.Common.{◌≡◌, ℕ, Bool, ◌||◌, List, [], ◌∷◌, map, Option, Some, None, option_map, is_some, refl, sym, ap, subst, ◌∙◌}
-use Rattle.std.specs.List.{AllByRecursion}
-use Rattle.tv_model.specs.Names.{has}
-use Rattle.tv_model.specs.Files.{Reads}
-use Rattle.tv_model.specs.Commits.{Commit, IndexForm, IsSegment}
+use Rattle.std.proofs.Common.{◌≡◌, ℕ, Bool, ◌||◌, List, Option, Some, None, option_map, is_some, refl, sym, ap, subst, ◌∙◌}
+use Rattle.tv_model.specs.Commits.{IndexForm}
 use Rattle.tv_model.specs.Meaning.{Means}
 use Rattle.tv_model.specs.Index.{opened_catalog}
 use Rattle.tv_model.specs.CollectionEvents.{left}
-use Rattle.tv_model.specs.ReopenEvents.{all_left, reopened}
+use Rattle.tv_model.specs.ReopenEvents.{reopened}
 use Rattle.tv_model.specs.State.{Catalog, State, FileState, Sealed, Open, Left, at, file_at}
 use Rattle.tv_directory.specs.declared.directory.Directory.{Ghosts}
 use Rattle.tv_store.specs.Kept.{FilesState, FileHolds, Holds, is_left, kept_of}

@@ -2,7 +2,7 @@ use Rattle.std.proofs.Common.{◌≡◌, true, refl, inl, inr}
 use Rattle.tv_managed.specs.Collecting.{meta_lock_name}
 use Rattle.tv_model.specs.Files.{Rose}
 use Rattle.tv_model.specs.declared.event.Event.{Event}
-use Rattle.tv_model.specs.declared.event.Event.TheVariants.{Gc, GcBegin, GcEnd, GcStep, Reader, Reload}
+use Rattle.tv_model.specs.declared.event.Event.TheVariants.{Gc, GcBegin, GcStep, Reader, Reload}
 use Rattle.tv_store.specs.Exhausted.{IsExhausted, PassesEnd, number_after}
 use Rattle.tv_store.specs.StoreCauses.{IsBusy}
 use Rattle.tv_store.specs.ReadCauses.{TakesMetaLock}

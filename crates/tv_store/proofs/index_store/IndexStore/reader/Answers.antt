@@ -1,7 +1,6 @@
 use Rattle.std.proofs.Common.{◌≡◌, true, false, Some, refl, sym, ap, subst, ◌∙◌, rules}
 use Rattle.tv_model.specs.Files.{Rose}
 use Rattle.tv_model.specs.declared.event.Event.TheVariants as events
-use Rattle.tv_model.specs.State.{Catalog}
 use Rattle.tv_index.specs.Standing.{MetaCause}
 use Rattle.tv_model.specs.Names.{meta_name}
 use Rattle.tv_managed.specs.Collecting.{meta_lock_name}
