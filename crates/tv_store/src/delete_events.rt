@@ -122,7 +122,10 @@ impl<O: Outside> IndexStore<O> {
         if self.files.is_held(&name) {
             return self.refuse("leaving");
         }
-        if self.catalog.is_name_in_use(self.files.managed(), id, &name)? {
+        if self
+            .catalog
+            .is_name_in_use(self.files.managed(), id, &name)?
+        {
             return self.refuse("name-in-use");
         }
         self.delete_docs(id, segment, n)

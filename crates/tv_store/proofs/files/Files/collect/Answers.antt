@@ -24,13 +24,12 @@ pub invariant_of-self-2 : goal.invariant_of-self-2
 invariant_of-self-2 g c =
     let D = g.O.Directory in
     let old = c.directory_mut.result.now.0 in
-    let deleted : c.as_slice.result.now ≡ map string_bytes c.in_ok-result.result.deleted_files.items = c.as_slice.ensures.value ∙ c.in_ok-deleted.ensures in
-    (
+    let deleted : c.as_slice.result.now ≡ map string_bytes c.in_ok-result.result.deleted_files.items = c.as_slice.ensures.value ∙ c.in_ok-deleted.ensures in (
       collected_open D old c.garbage_collect.new.self.0 c.as_slice.result.now c.replace-files.result.entries c.remove_all.new.map.entries
-      c.garbage_collect.ensures.frame.goes_on
-      (λ tells. subst (λ (ns : List (List ℕ)). SparesWriters ns D.state_of (D.view old).lives (D.view c.garbage_collect.new.self.0).lives) (sym deleted) (c.in_ok-result.ensures.tries.2.alive tells))
-      c.remove_all.ensures.names c.remove_all.ensures.left
-      (subst (λ m. AreOpen D old m.entries) (sym c.replace-files.ensures.value) (subst (λ d. AreOpen g.O.Directory d.0 c.self.inside.files.entries) (sym c.directory_mut.ensures.value) c.self.invariant.0)),
+          c.garbage_collect.ensures.frame.goes_on
+          (λ tells. subst (λ (ns : List (List ℕ)). SparesWriters ns D.state_of (D.view old).lives (D.view c.garbage_collect.new.self.0).lives) (sym deleted) (c.in_ok-result.ensures.tries.2.alive tells))
+          c.remove_all.ensures.names c.remove_all.ensures.left
+          (subst (λ m. AreOpen D old m.entries) (sym c.replace-files.ensures.value) (subst (λ d. AreOpen g.O.Directory d.0 c.self.inside.files.entries) (sym c.directory_mut.ensures.value) c.self.invariant.0)),
       (let left = c.garbage_collect.ensures.collects in collected_spares D _ _ (map string_bytes c.args.living.keys) left.0 c.directory_mut.result.now c.garbage_collect.new.self _ (λ set answer. search) left.2 left.1.leaves c.requires (ap (λ d. has (held d.1.collections) meta_name) c.directory_mut.ensures.value ∙ c.self.invariant.1)),
     )
 

@@ -26,11 +26,10 @@ invariant_of-self-in-Done g c =
     let D = g.O.Directory in
     let old = c.directory_mut.result.now in
     let name = c.new-name.result in
-    let next = tried_next g.O.Directory c.args.number _ (steps.Done c.in-Done.text) name c.directory_mut.result.now c.collect_delete.new.self c.directory_mut.result.now refl c.in-Done.is c.new-name.ensures (subst (λ d. HasUntried d.1.collections c.args.number) (sym (c.directory_mut.ensures.value ∙ ap names_below c.self.view_is)) c.requires) c.in_ok-text.ensures.steps in
-    (
+    let next = tried_next g.O.Directory c.args.number _ (steps.Done c.in-Done.text) name c.directory_mut.result.now c.collect_delete.new.self c.directory_mut.result.now refl c.in-Done.is c.new-name.ensures (subst (λ d. HasUntried d.1.collections c.args.number) (sym (c.directory_mut.ensures.value ∙ ap names_below c.self.view_is)) c.requires) c.in_ok-text.ensures.steps in (
       collected_open D old.0 c.collect_delete.new.self.0 (name ∷ []) c.self.inside.files.entries c.remove_one.new.map.entries c.collect_delete.ensures.only.frame.goes_on
-      (next_writers D c.args.number name true old c.collect_delete.new.self next) c.remove_one.ensures.name c.remove_one.ensures.left
-      (subst (λ d. AreOpen D d.0 c.self.inside.files.entries) (sym c.directory_mut.ensures.value) c.self.invariant.0),
+          (next_writers D c.args.number name true old c.collect_delete.new.self next) c.remove_one.ensures.name c.remove_one.ensures.left
+          (subst (λ d. AreOpen D d.0 c.self.inside.files.entries) (sym c.directory_mut.ensures.value) c.self.invariant.0),
       next_spares D c.args.number name true old c.collect_delete.new.self next (ap (λ d. has (held d.1.collections) meta_name) c.directory_mut.ensures.value ∙ c.self.invariant.1),
     )
 
@@ -38,11 +37,10 @@ pub invariant_of-self-in-Failed : goal.invariant_of-self-in-Failed
 invariant_of-self-in-Failed g c =
     let D = g.O.Directory in
     let old = c.directory_mut.result.now in
-    let next = tried_next g.O.Directory c.args.number _ (steps.Failed c.in-Failed.text) (tried_name (steps.Failed c.in-Failed.text)) c.directory_mut.result.now c.collect_delete.new.self c.directory_mut.result.now refl c.in-Failed.is refl (subst (λ d. HasUntried d.1.collections c.args.number) (sym (c.directory_mut.ensures.value ∙ ap names_below c.self.view_is)) c.requires) c.in_ok-text.ensures.steps in
-    (
+    let next = tried_next g.O.Directory c.args.number _ (steps.Failed c.in-Failed.text) (tried_name (steps.Failed c.in-Failed.text)) c.directory_mut.result.now c.collect_delete.new.self c.directory_mut.result.now refl c.in-Failed.is refl (subst (λ d. HasUntried d.1.collections c.args.number) (sym (c.directory_mut.ensures.value ∙ ap names_below c.self.view_is)) c.requires) c.in_ok-text.ensures.steps in (
       collected_open D old.0 c.collect_delete.new.self.0 [] c.self.inside.files.entries c.self.inside.files.entries c.collect_delete.ensures.only.frame.goes_on
-      (next_writers D c.args.number _ false old c.collect_delete.new.self next) (λ n. refl) (contains_itself c.self.inside.files.entries)
-      (subst (λ d. AreOpen D d.0 c.self.inside.files.entries) (sym c.directory_mut.ensures.value) c.self.invariant.0),
+          (next_writers D c.args.number _ false old c.collect_delete.new.self next) (λ n. refl) (contains_itself c.self.inside.files.entries)
+          (subst (λ d. AreOpen D d.0 c.self.inside.files.entries) (sym c.directory_mut.ensures.value) c.self.invariant.0),
       next_spares D c.args.number _ false old c.collect_delete.new.self next (ap (λ d. has (held d.1.collections) meta_name) c.directory_mut.ensures.value ∙ c.self.invariant.1),
     )
 
