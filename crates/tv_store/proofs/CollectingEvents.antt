@@ -1,5 +1,5 @@
 -- What is held after the steps of a collection.
-use Rattle.std.proofs.Common.{◌≡◌, ◌≢◌, ℕ, inl, length, option_map, Result, Ok, Err, arith, Bool, true, false, true≢false, cond, filter, not, ◌&&◌, ◌||◌, List, [], ◌∷◌, ◌++◌, Option, Some, None, codes, refl, sym, ap, subst, ◌∙◌}
+use Rattle.std.proofs.Common.{◌≡◌, ℕ, inl, length, option_map, Result, Ok, Err, arith, Bool, true, false, true≢false, cond, filter, not, List, [], ◌∷◌, ◌++◌, Option, Some, None, codes, refl, sym, ap, subst, ◌∙◌}
 use Rattle.std.specs.Prelude.{IfOk}
 use Rattle.tv_base.specs.declared.error.TantivyError.{TantivyError}
 use Rattle.std.specs.List.Sorted.{IsStrictlySortedBy}
@@ -10,7 +10,7 @@ use Rattle.tv_model.specs.Lines.{line, refuse}
 use Rattle.tv_model.specs.Listing.{Lists}
 use Rattle.tv_model.specs.Living.{living}
 use Rattle.tv_model.specs.Collections.{Collection, Collections, begun, collectable, collection_at, having_tried, held, taken, with_begun, with_collection, without, without_collection}
-use Rattle.tv_model.specs.CollectionEvents.{ended, garbage, gc_begin_step, gc_end_step, gc_step_step, having_deleted}
+use Rattle.tv_model.specs.CollectionEvents.{ended, garbage, gc_begin_step, gc_step_step, having_deleted}
 use Rattle.tv_model.specs.State.{Catalog, State, StepResult, FileState, at}
 use Rattle.tv_model.proofs.CollectionStates.{has_without}
 use Rattle.tv_model.proofs.Numbered.{put_found}

@@ -1,19 +1,17 @@
 -- What the steps of a collection leave of the files of a store.
-use Rattle.std.proofs.Common.{◌≡◌, ◌≢◌, ℕ, ◌+◌, ◌<◌, ◌≤◌, inl, inr, Bool, true, false, true≢false, cond, not, ◌&&◌, ◌||◌, List, [], ◌∷◌, ◌++◌, length, Option, Some, None, Result, Ok, Err, refl, sym, ap, subst, ◌∙◌, arith}
-use Rattle.std.specs.Prelude.{IfErr, IfOk, OnErr, IsSome}
-use Rattle.std.specs.BTreeMap.{is_at}
+use Rattle.std.proofs.Common.{◌≡◌, ◌≢◌, ℕ, ◌+◌, ◌<◌, inl, inr, Bool, true, false, true≢false, cond, not, ◌&&◌, ◌||◌, List, [], ◌∷◌, ◌++◌, length, Option, Some, None, Result, Ok, Err, refl, sym, ap, subst, ◌∙◌, arith}
+use Rattle.std.specs.Prelude.{IfOk, OnErr, IsSome}
 use Rattle.std.specs.Option.{IsSomeAnd}
 use Rattle.std.proofs.lemmas.Bool.{false_from_ne_true, or_right}
 use Rattle.tv_base.specs.declared.error.TantivyError.{TantivyError}
 use Rattle.tv_base.specs.declared.error.TantivyError.TheVariants as errors
-use Rattle.tv_model.specs.Collections.{Collection, Collections, collection_at, done_of, failed_of, having_tried, held, taken, with_begun, with_collection, without, without_collection}
-use Rattle.tv_model.specs.Files.{Reads, Rose, RoseBy}
+use Rattle.tv_model.specs.Collections.{Collection, Collections, collection_at, done_of, failed_of, having_tried, held, taken, with_collection}
+use Rattle.tv_model.specs.Files.{RoseBy}
 use Rattle.tv_model.specs.Machine.{refused_in}
-use Rattle.tv_model.specs.Names.{byte_cmp, has, is, is_plain, is_undotted, list_name, meta_name}
+use Rattle.tv_model.specs.Names.{has, is, is_plain, is_undotted, list_name, meta_name}
 use Rattle.tv_model.specs.State.{at}
 use Rattle.tv_model.proofs.CollectionStates.{done_within, has_append}
 use Rattle.tv_model.proofs.Entries.{is_itself, is_text}
-use Rattle.tv_directory.specs.View.{GoesOn, WriterState}
 use Rattle.tv_directory.specs.declared.directory.Directory.{Ghosts}
 use Rattle.tv_managed.specs.Collecting.{EndsCollection as EndsManaged}
 use Rattle.tv_managed.specs.Collecting.{Among, Begins, CollectCause, Leaves, SparesWriters, Steps, TakesNoLock, TriesName, is_done, taken_by, tried_name}

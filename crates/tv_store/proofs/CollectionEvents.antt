@@ -7,16 +7,14 @@ use Rattle.tv_model.specs.declared.segment.LiveSegment.{LiveSegment}
 use Rattle.tv_model.specs.Names.{byte_cmp, is, has, meta_name, list_name}
 use Rattle.tv_model.specs.Files.{Reads, RoseBy}
 use Rattle.tv_model.specs.Listing.{Lists}
-use Rattle.tv_model.specs.Segments.{components}
 use Rattle.tv_model.specs.Collections.{Collections, done_of, failed_of, collectable, held, without}
 use Rattle.tv_model.specs.Living.{living, segment_names}
-use Rattle.tv_model.specs.State.{Catalog, State, FileState, Sealed, Open, Left, at, live_at, file_at}
+use Rattle.tv_model.specs.State.{Catalog, State, FileState, Sealed, Open, Left, at, file_at}
 use Rattle.tv_model.specs.CollectionEvents.{garbage, without_files, without_live, collected_line, gc_step, left, released, with_left}
 use Rattle.tv_model.specs.Machine.{refused_in}
 use Rattle.tv_model.specs.CommitEvents.{is_sealed}
 use Rattle.tv_model.specs.Meaning.{Means}
 use Rattle.tv_model.specs.Commits.{Commit, IsSegment, IndexForm}
-use Rattle.tv_model.specs.Index.{IsFileOf}
 use Rattle.tv_model.proofs.Entries.{is_text}
 use Rattle.tv_model.proofs.CollectionStates.{has_append, has_without, at_without, living_spared, meta_living, at_left}
 use Rattle.tv_directory.specs.declared.directory.Directory.{Ghosts}
@@ -24,8 +22,7 @@ use Rattle.tv_managed.specs.Collecting.{FailsAtMost}
 use Rattle.tv_store.specs.FileCalls.{Asked, Tried, Collects, LeavesFiles}
 use Rattle.tv_store.specs.Kept.{FilesState, Holds, FileHolds, is_left, kept_of}
 use Rattle.tv_store.proofs.OpenFiles.{all_left}
-use Rattle.tv_store.proofs.Named.{found_segment}
-use Rattle.tv_store.proofs.CommitEvents.{undotted_isnt_list, files_named}
+use Rattle.tv_store.proofs.CommitEvents.{undotted_isnt_list}
 
 -- ---- a collection
 

@@ -1,6 +1,5 @@
 -- What is held after documents of a segment were deleted.
-use Rattle.std.proofs.Common.{◌≡◌, ◌≤◌, ◌<◌, ◌^◌, ◌+◌, ℕ, List, [], ◌∷◌, Some, refl, sym, ap, subst, ◌∙◌, arith}
-use Rattle.std.specs.List.{AllByRecursion}
+use Rattle.std.proofs.Common.{◌≡◌, ◌≤◌, ◌<◌, ℕ, List, [], ◌∷◌, Some, refl, sym, subst, arith}
 use Rattle.tv_model.specs.declared.segment.LiveSegment.{LiveSegment}
 use Rattle.tv_model.specs.Commits.{IsSegment}
 use Rattle.tv_model.specs.CommitEvents.{last_stamp}

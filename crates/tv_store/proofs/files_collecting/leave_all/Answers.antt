@@ -1,4 +1,4 @@
-use Rattle.std.proofs.Common.{rules, ◌≡◌, ◌||◌, ◌∷◌, [], ◌++◌, ℕ, List, map, arith, sym, ap, ◌∙◌}
+use Rattle.std.proofs.Common.{rules, ◌≡◌, ◌||◌, ◌∷◌, [], ℕ, List, map, arith, sym, ap, ◌∙◌}
 use Rattle.std.proofs.lemmas.List.{map-append}
 use Rattle.std.proofs.lemmas.Map.Iter.{iter_end}
 use Rattle.tv_model.specs.Names.{has}

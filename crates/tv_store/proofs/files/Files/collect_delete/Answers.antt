@@ -1,4 +1,4 @@
-use Rattle.std.proofs.Common.{[], ◌∷◌, cond, not, ◌&&◌, None, rules, refl, sym, ap, subst, ◌∙◌, true, false}
+use Rattle.std.proofs.Common.{[], ◌∷◌, not, ◌&&◌, refl, sym, ap, subst, ◌∙◌, true, false}
 use Rattle.tv_model.specs.Collections.{held}
 use Rattle.tv_model.specs.Names.{has, meta_name}
 use Rattle.tv_model.specs.State.{at}
@@ -7,7 +7,7 @@ use Rattle.tv_managed.specs.Collecting.{tried_name}
 use Rattle.tv_managed.specs.declared.collection.CollectStep.TheVariants as steps
 use Rattle.tv_store.specs.CollectingCalls.{HasUntried}
 use Rattle.tv_store.proofs.CollectingFiles.{names_below, next_keeps_dotted, next_others, next_spares, next_writers, tried_next, tries_so}
-use Rattle.tv_store.proofs.OpenFiles.{AreOpen, bodies}
+use Rattle.tv_store.proofs.OpenFiles.{AreOpen}
 use Rattle.tv_store.proofs.Removals.{bodies_gone, collected_open, contains_itself, lens_left, one_out}
 use Rattle.tv_store.proofs.files.Files.collect_delete.Goals as goal
 

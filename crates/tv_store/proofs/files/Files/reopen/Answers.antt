@@ -1,4 +1,4 @@
-use Rattle.std.proofs.Common.{◌≡◌, ◌||◌, ℕ, List, Result, is_some, refl, sym, ap, ◌∙◌}
+use Rattle.std.proofs.Common.{◌||◌, is_some, refl, sym, ap, ◌∙◌}
 use Rattle.tv_model.specs.Names.{has}
 use Rattle.tv_model.specs.State.{at}
 use Rattle.tv_store.proofs.OpenFiles.{bodies, is_open}

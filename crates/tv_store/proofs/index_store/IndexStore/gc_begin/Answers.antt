@@ -6,7 +6,7 @@ use Rattle.tv_model.specs.Lines.{line}
 use Rattle.tv_model.specs.Living.{living}
 use Rattle.tv_model.specs.Names.{has}
 use Rattle.tv_model.specs.State.{Catalog}
-use Rattle.tv_store.specs.Kept.{AtMost, Holds, Kept}
+use Rattle.tv_store.specs.Kept.{Holds, Kept}
 use Rattle.tv_store.proofs.CollectingEvents.{begun_holds, begun_told}
 use Rattle.tv_store.proofs.Holding.{same_holds}
 use Rattle.tv_store.proofs.index_store.IndexStore.gc_begin.Goals as goal

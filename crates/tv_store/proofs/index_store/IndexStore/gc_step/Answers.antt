@@ -1,5 +1,5 @@
 use Rattle.std.proofs.Common.{◌≡◌, ◌∷◌, [], ℕ, Some, codes, sym, ap, subst, ◌∙◌}
-use Rattle.tv_model.specs.CollectionEvents.{gc_step_step, having_deleted}
+use Rattle.tv_model.specs.CollectionEvents.{gc_step_step}
 use Rattle.tv_model.specs.Files.{RoseBy}
 use Rattle.tv_model.specs.Machine.{refused_in}
 use Rattle.tv_model.specs.State.{State, StepResult}
