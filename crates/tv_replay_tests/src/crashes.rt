@@ -84,7 +84,9 @@ fn opens<R: Abort>(rt: &R, alloc: Global, left: TestBench) {
         Err(_) => panic!(rt; "it is opened"),
     };
     let heard = store.into_outside().heard_lines().expect(rt, "memory");
-    let told = OPENINGS.iter().any(|line| line.as_bytes() == heard.as_slice());
+    let told = OPENINGS
+        .iter()
+        .any(|line| line.as_bytes() == heard.as_slice());
     assert!(rt; told, "a commit of the script");
 }
 

@@ -219,5 +219,8 @@ const REFUSED_STEPS: &[Step] = &[
 
 #[test]
 fn a_refused_end_holds_its_names(rt: HostRuntime) {
-    assert_eq!(rt; faults_of(&rt, rt.alloc(), &[16, 20], FOUR, REFUSED_STEPS), 1);
+    assert_eq!(rt;
+        faults_of(&rt, rt.alloc(), &[16, 20], FOUR, REFUSED_STEPS),
+        1
+    );
 }

@@ -48,12 +48,7 @@ fn in_steps(store: &mut Store, names: u32) -> anyhow::Result<()> {
 }
 
 // How many nanoseconds a collection of so many names takes.
-fn time(
-    rt: &impl Clock,
-    store: &mut Store,
-    names: u32,
-    is_stepped: bool,
-) -> anyhow::Result<u128> {
+fn time(rt: &impl Clock, store: &mut Store, names: u32, is_stepped: bool) -> anyhow::Result<u128> {
     let start = Instant::now(rt)?;
     if is_stepped {
         in_steps(store, names)?;
@@ -65,12 +60,7 @@ fn time(
 }
 
 // How many it takes for a name, of the files of so many segments.
-fn nanos(
-    rt: &impl Clock,
-    alloc: Global,
-    segments: u32,
-    is_stepped: bool,
-) -> anyhow::Result<u64> {
+fn nanos(rt: &impl Clock, alloc: Global, segments: u32, is_stepped: bool) -> anyhow::Result<u64> {
     let names = segments.saturating_mul(FILES);
     let mut store = open(alloc, with_files(alloc, segments)?)?;
     let took = time(rt, &mut store, names, is_stepped);
