@@ -37,6 +37,7 @@ use Rattle.tv_model.proofs.HeldStates.{nothing_held}
 use Rattle.tv_model.proofs.WholeStates.{after_whole}
 use Rattle.tv_model.proofs.Serving.{serves, serves_as_sealed}
 use Rattle.tv_model.proofs.Collects.{collects_in}
+use Rattle.tv_model.proofs.CollectsInSteps.{collects_in_steps_in}
 use Rattle.tv_model.proofs.Validating.{validates}
 use Rattle.tv_replay.specs.declared.next_event.ScriptError.{ScriptError}
 use Rattle.tv_replay.specs.declared.next_event.ScriptError.TheVariants as failed
@@ -458,6 +459,9 @@ replays g before schema mid new now text left tally opened said refusals holds h
       as_sealed = λ t text spelled sound index.
           let as_text : IsSoundImage index.form.schema old_reads = subst (λ (x : List ℕ). IsSoundImage x old_reads) (spelled.text_is ∙ sym index.spelled.text_is) sound in
           serves_as_sealed index.state r.turns (opens_sound index.form.settings index.form.schema old_reads index.state as_text index.opens) r.applied.fits;
+      in_steps = λ t text spelled sound index.
+          let as_text : IsSoundImage index.form.schema old_reads = subst (λ (x : List ℕ). IsSoundImage x old_reads) (spelled.text_is ∙ sym index.spelled.text_is) sound in
+          collects_in_steps_in index.state r.turns (opens_sound index.form.settings index.form.schema old_reads index.state as_text index.opens) r.applied.fits;
       sound = λ t text spelled sound.
           let index = sound_index schema text old_reads spelled sound in
           let same : text ≡ index.form.schema = spelled.text_is ∙ sym index.spelled.text_is in

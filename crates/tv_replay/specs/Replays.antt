@@ -12,7 +12,7 @@ use Rattle.tv_model.specs.State.{State}
 use Rattle.tv_model.specs.Machine.{Turn, step, after, report, events_of, all_refused}
 use Rattle.tv_model.specs.Readable.{AllReadGood}
 use Rattle.tv_model.specs.Serving.{Serves, ServesAsSealed}
-use Rattle.tv_model.specs.Collecting.{CollectsIn}
+use Rattle.tv_model.specs.Collecting.{CollectsIn, CollectsInStepsIn}
 use Rattle.tv_model.specs.Validating.{Validates}
 use Rattle.tv_model.specs.Script.{lines_of, AreLines}
 use Rattle.tv_model.specs.Index.{DirectoryHolds, FoundIndex, HasFiles, IsSoundImage, OpenedIndex}
@@ -50,7 +50,8 @@ ValidatesIn s turns = (front rest : List Turn) (outcomes : List Bool) → turns 
 -- A replay that answered Ok: an index stood there, or was made, whose files can be read; the script is the lines of some events; from the state of each index to which the directory opened, the report of the machine's run
 -- on these events was told, line by line, and the directory holds the run's last state; each event that reads a commit's files found that it could, and where the
 -- meta lock was held none takes it; no more deletes were refused than their count rose; and from a sound start what it reads is sound. The run's readers and
--- searchers serve as `Serves` says, and from a sound start they show each file as it was sealed; its collections take what nothing needs, as `CollectsIn` says; its validations name the damaged files.
+-- searchers serve as `Serves` says, and from a sound start they show each file as it was sealed; its collections take what nothing needs, as `CollectsIn` says, and from a
+-- sound start those in steps as `CollectsInStepsIn` says; its validations name the damaged files.
 pub record Replays {O W C : Type 0} (g : Ghosts O W C) (before now : O) (schema : List ℕ) (script : Option (List ℕ)) (tally : Tally) : Type 0 where
   pub turns : List Turn
   pub counted : tally.events ≡ length turns
@@ -67,6 +68,7 @@ pub record Replays {O W C : Type 0} (g : Ghosts O W C) (before now : O) (schema 
   pub refused : RoseBy (all_refused turns) (g.view before).refusals (g.view now).refusals
   pub opens : g.told.content → (text : List ℕ) → IsSchema schema text → IsSoundImage text (g.view before).reads → OpenedIndex schema (g.view before).reads
   pub as_sealed : g.told.content → (text : List ℕ) → IsSchema schema text → IsSoundImage text (g.view before).reads → (index : OpenedIndex schema (g.view before).reads) → ServesAsSealed index.state turns
+  pub in_steps : g.told.content → (text : List ℕ) → IsSchema schema text → IsSoundImage text (g.view before).reads → (index : OpenedIndex schema (g.view before).reads) → CollectsInStepsIn index.state turns
   pub sound : g.told.content → (text : List ℕ) → IsSchema schema text → IsSoundImage text (g.view before).reads → IsSoundImage text (g.view now).reads
 
 -- what was told of a script was read to its end
