@@ -170,6 +170,7 @@ fn read_back<R: Abort, D: Directory>(
     managed: &mut ManagedDirectory<D>,
     bytes: &[u8],
 ) -> FileSlice {
+    assert!(rt; !managed.is_held("a.idx"));
     managed.atomic_write("a.idx", bytes).expect(rt, "written");
     managed.open_read("a.idx").expect(rt, "a footer")
 }
