@@ -96,7 +96,7 @@ kept_sound s c files names managed fewer gone sorted h = record {
   sorted = sorted;
 }
 
-unnamed : (live committed named : Bool) → (live || committed || named) ≡ false → named ≡ false
+pub unnamed : (live committed named : Bool) → (live || committed || named) ≡ false → named ≡ false
 unnamed live committed named e = grind (arith, e)
 
 -- no name of a segment that comes is held, and one that gets its documents keeps its names
@@ -330,6 +330,6 @@ collecting_changes s event h = record {
   deletes = λ id n segment may. deleted_collecting s id n segment may h;
   begins = begun_collecting s h;
   tries = λ number c name left is_done there e. tried_collecting s number c name left is_done there e h;
-  finishes = λ number c there. ended_collecting s number c there h;
+  finishes = λ number c e there. ended_collecting s number c there h;
   reopens = λ e. nothing_held (reopened s) refl h.sorted;
 }

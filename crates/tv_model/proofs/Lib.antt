@@ -25,11 +25,13 @@ pub mod SpelledCommits
 pub mod OneMeaning
 pub mod StrippedTexts
 pub mod ListTexts
+pub mod NewDeletes
 pub mod NoFeeds
 pub mod Numbered
 pub mod PlainNames
 pub mod OpenedStates
 pub mod ManagedStates
+pub mod Reopenings
 pub mod Required
 pub mod Samples
 pub mod SegmentNames

@@ -1,4 +1,5 @@
 use Rattle.std.proofs.Common.{refl}
+use Rattle.tv_model.proofs.NewDeletes.{new_delete}
 use Rattle.tv_model.proofs.SegmentNames.{one_segment}
 use Rattle.tv_model.proofs.laws.names_tell_their_segment.Goals as goal
 
@@ -6,4 +7,5 @@ pub returns : goal.returns
 returns c = record {
   segment = λ id other deletes others component second h k e. one_segment id other deletes others component second h k e;
   no_deletes = λ id n. refl;
+  new_name = new_delete;
 }
