@@ -102,7 +102,7 @@ pub record OfEachChange (P : State → Type 0) (s : State) (event : Event) : Typ
   -- the index is opened again
   pub reopens : event ≡ events.Reopen → P (reopened s)
 
-other : (a b : ℕ) → (a == b) ≡ false → a ≢ b
+pub other : (a b : ℕ) → (a == b) ≡ false → a ≢ b
 other a b e = grind (arith, nat_tests)
 
 not_less : (a b : ℕ) → nat_lt a b ≡ false → b ≤ a

@@ -14,7 +14,7 @@ use Rattle.tv_model.specs.Living.{living}
 use Rattle.tv_model.specs.Lines.{given}
 use Rattle.tv_model.specs.State.{State, StepResult, FileState, file_at}
 use Rattle.tv_model.specs.CollectionEvents.{garbage, gc_begin_step, gc_end_step, gc_step_step, having_deleted, ended, is_done, tried_first}
-use Rattle.tv_model.specs.Machine.{Turn, NeverReopens, isnt_reopening, step, after, events_of, refused_in}
+use Rattle.tv_model.specs.Machine.{Turn, NeverReopens, isnt_reopening, after, events_of, refused_in}
 use Rattle.tv_model.specs.Script.{Fits}
 use Rattle.tv_model.specs.Collecting.{LeavesOthers, Begins, Tries, Ends, NeverEnds, isnt_ending, IsAtOnce, in_steps, CollectsInSteps, CollectsInStepsIn, CollectsAllElse}
 use Rattle.tv_model.specs.SoundStates.{CollectsSoundly, IsSoundState}

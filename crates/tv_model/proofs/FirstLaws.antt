@@ -1,5 +1,5 @@
 -- The state of an index that was just made meets the premises of the laws, and so do others.
-use Rattle.std.proofs.Common.{◌≡◌, ◌≢◌, inl, ℕ, ◌<◌, Bool, true, false, true≢false, cond, List, [], ◌∷◌, ◌++◌, Option, Some, None, codes, refl, sym, ap, subst, ◌∙◌, arith}
+use Rattle.std.proofs.Common.{◌≡◌, ◌≢◌, inl, ℕ, ◌<◌, Bool, true, false, true≢false, cond, List, [], ◌∷◌, ◌++◌, Some, None, codes, refl, sym, ap, subst, ◌∙◌, arith}
 use Rattle.std.specs.Prelude.{is_some, nat_lt}
 use Rattle.std.specs.Fmt.{digits}
 use Rattle.std.proofs.lemmas.Bool.{false_from_ne_true}
@@ -31,7 +31,7 @@ use Rattle.tv_model.specs.Commits.{default_settings, first_commit, printed}
 use Rattle.tv_model.specs.Index.{DirectoryHolds, IsFileOf, IsSoundImage, OpensTo, first_state}
 use Rattle.tv_model.specs.State.{State, Sealed, file_at}
 use Rattle.tv_model.specs.SoundStates.{IsSoundState}
-use Rattle.tv_model.proofs.Entries.{is_itself, is_text, text_at}
+use Rattle.tv_model.proofs.Entries.{is_text, text_at}
 use Rattle.tv_model.proofs.HeldStates.{nothing_held}
 use Rattle.tv_model.proofs.SoundStates.{first_sound, step_sound}
 use Rattle.tv_model.proofs.Serving.{serves, serves_as_sealed}

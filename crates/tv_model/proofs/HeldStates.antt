@@ -35,7 +35,7 @@ use Rattle.tv_model.proofs.HeldNames.{times, some_times, no_times, has_times, on
 -- ---- what is living
 
 -- the names that are needed beside `meta.json`
-living_parts : (c : Catalog) (n : List ℕ) → has (living c) n ≡ (is meta_name n || (has (flat_map segment_names c.commit.segments) n || has (flat_map segment_names c.live) n))
+pub living_parts : (c : Catalog) (n : List ℕ) → has (living c) n ≡ (is meta_name n || (has (flat_map segment_names c.commit.segments) n || has (flat_map segment_names c.live) n))
 living_parts c n = ap (λ (b : Bool). is meta_name n || b) (names_both segment_names c.commit.segments c.live n)
 
 -- where each name of the live segments was needed, nothing more is needed

@@ -4,6 +4,7 @@ pub mod Changes
 pub mod ChecksumFits
 pub mod ComputedValues
 pub mod CollectionStates
+pub mod DeleteNames
 pub mod HeldNames
 pub mod HeldStates
 pub mod Collects

@@ -63,7 +63,7 @@ pub after_append : (s : State) (front rest : List Turn) → after s (front ++ re
 after_append s [] rest = refl
 after_append s (turn ∷ front) rest = after_append (step s turn.0 turn.1).1 front rest
 
-all_weaker : {X : Type 0} (P Q : X → Type 0) (xs : List X) → ((x : X) → P x → Q x) → AllByRecursion P xs → AllByRecursion Q xs
+pub all_weaker : {X : Type 0} (P Q : X → Type 0) (xs : List X) → ((x : X) → P x → Q x) → AllByRecursion P xs → AllByRecursion Q xs
 all_weaker P Q [] f h = tt
 all_weaker P Q (x ∷ xs) f h = (f x h.0, all_weaker P Q xs f h.1)
 

@@ -19,13 +19,13 @@ ghost use Rattle.tv_model.specs.Footer.{HasBody, IsFramed, body_of, sealed};
 ghost use Rattle.tv_model.specs.FooterForm.{FooterNumbers};
 ghost use Rattle.tv_model.specs.Framing.{footer_of};
 ghost use Rattle.tv_model.specs.Ids.{IsId};
-ghost use Rattle.tv_model.specs.Index.{DirectoryHolds, IsSoundImage, OpensTo};
+ghost use Rattle.tv_model.specs.Index.{DirectoryHolds, IsSoundImage, OpensTo, first_catalog};
 ghost use Rattle.tv_model.specs.Listing.{IsListed, IsListOf, list_text};
 ghost use Rattle.tv_model.specs.Machine.{Turn, events_of, step};
 ghost use Rattle.tv_model.specs.Meaning.{Means};
 ghost use Rattle.tv_model.specs.MetaJson.{SpellsMeta};
 ghost use Rattle.tv_model.specs.Names.{byte_cmp};
-ghost use Rattle.tv_model.specs.NewNames.{IsNewDelete};
+ghost use Rattle.tv_model.specs.NewNames.{DrawsInOrder, IsNewDelete};
 ghost use Rattle.tv_model.specs.Readable.{CanRead};
 ghost use Rattle.tv_model.specs.ReopenEvents.{reopened};
 ghost use Rattle.tv_model.specs.Reopening.{found_in};
@@ -107,6 +107,8 @@ pub fn validations_name_damaged_files()
 /// The files of different segments have different names. Where no documents are deleted, a delete
 /// file has the name of the one with the number 0. From a sound state an event of deletes that
 /// isn't refused, as it changes the state, gives its segment a new name for its delete file.
+/// Numbers of deletes are drawn in order in an index that was just made, and stay so with each
+/// event.
 pub fn names_tell_their_segment()
     ensures segment { (id other : List ℕ) (deletes others : Option DeleteMeta)
         (component second : SegmentComponent) → IsId id → IsId other
@@ -116,6 +118,9 @@ pub fn names_tell_their_segment()
     ensures new_name { (s : State) (id : List ℕ) (n : ℕ) → IsSoundState s
         → (deletes_step s id n).1 ≢ s
         → IsNewDelete s id (delete_name id (Some (next_deletes s.catalog n))) }
+    ensures first_drawn { DrawsInOrder first_catalog }
+    ensures drawn { (s : State) (event : Event) (outcomes : List Bool) → IsSoundState s
+        → DrawsInOrder s.catalog → DrawsInOrder (step s event outcomes).1.catalog }
 {}
 
 /// Ids are ordered by their bytes, and two are the same exactly where their bytes are.

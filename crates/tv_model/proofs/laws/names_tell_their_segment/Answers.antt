@@ -1,5 +1,5 @@
 use Rattle.std.proofs.Common.{refl}
-use Rattle.tv_model.proofs.NewDeletes.{new_delete}
+use Rattle.tv_model.proofs.NewDeletes.{first_in_order, new_delete, step_in_order}
 use Rattle.tv_model.proofs.SegmentNames.{one_segment}
 use Rattle.tv_model.proofs.laws.names_tell_their_segment.Goals as goal
 
@@ -8,4 +8,6 @@ returns c = record {
   segment = λ id other deletes others component second h k e. one_segment id other deletes others component second h k e;
   no_deletes = λ id n. refl;
   new_name = new_delete;
+  first_drawn = first_in_order;
+  drawn = step_in_order;
 }
