@@ -19,6 +19,7 @@ use Rattle.tv_model.specs.Schemas.{IsSchemaText}
 use Rattle.tv_model.specs.Collections.{begun}
 use Rattle.tv_model.specs.CollectionEvents.{garbage, gc_begin_step, gc_step}
 use Rattle.tv_model.specs.DeleteEvents.{delete_name, deletes_step, next_deletes}
+use Rattle.tv_model.specs.Living.{living}
 use Rattle.tv_model.specs.NewNames.{IsNewDelete}
 use Rattle.tv_model.specs.ReopenEvents.{reopened}
 use Rattle.tv_model.specs.Reopening.{found_in}
@@ -38,7 +39,7 @@ use Rattle.tv_model.proofs.Serving.{serves, serves_as_sealed}
 use Rattle.tv_model.proofs.Collects.{collects_in}
 use Rattle.tv_model.proofs.CollectsInSteps.{collects_in_steps, collects_in_steps_in, collects_at_once, collects_all_else}
 use Rattle.tv_model.proofs.ListTexts.{written_is_list}
-use Rattle.tv_model.proofs.NewDeletes.{new_delete}
+use Rattle.tv_model.proofs.NewDeletes.{first_in_order, new_delete, step_in_order}
 use Rattle.tv_model.proofs.PlainNames.{all_at}
 use Rattle.tv_model.proofs.ReadPrinted.{printed_means}
 use Rattle.tv_model.proofs.Reopenings.{reopens}
@@ -161,6 +162,11 @@ deletes_change = λ same. absurd (omega (arith, ap (λ (s : State). s.catalog.ne
 
 pub counted_new : IsNewDelete counted id_b (delete_name id_b (Some (next_deletes counted.catalog 1)))
 counted_new = new_delete counted id_b 1 counted_sound deletes_change
+
+pub counted_unneeded : has (living counted.catalog) (delete_name id_b (Some (next_deletes counted.catalog 1))) ≡ false
+counted_unneeded =
+    let made = step_in_order first_state (events.Segment id_b) [] first_sound first_in_order in
+    counted_new.unneeded (step_in_order (step first_state (events.Segment id_b) []).1 (events.Docs id_b 3) [] (step_sound first_state (events.Segment id_b) [] is_id first_sound) made)
 
 -- what a directory reads that has this index alone, which was just made
 abbrev first_reads : List ℕ → Reads

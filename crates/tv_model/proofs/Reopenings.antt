@@ -1,17 +1,20 @@
--- A directory that holds a state opens to what a reopening leaves of it.
-use Rattle.std.proofs.Common.{◌≡◌, ℕ, true, false, cond, List, [], ◌∷◌, Option, Some, None, refl, sym, ap, subst, ◌∙◌}
+-- A directory that holds a state opens to what a reopening leaves of it, and to nothing else.
+use Rattle.std.proofs.Common.{◌≡◌, ◌⊎◌, inl, inr, ℕ, Bool, true, true≢false, false, cond, List, [], ◌∷◌, Option, Some, None, refl, sym, ap, subst, ◌∙◌}
 use Rattle.std.specs.Prelude.{is_some, option_map}
 use Rattle.std.specs.BTreeMap.{is_at}
-use Rattle.tv_model.specs.Names.{byte_cmp}
+use Rattle.tv_model.specs.Names.{byte_cmp, is, is_undotted, list_name, meta_name}
 use Rattle.tv_model.specs.Files.{Reads}
-use Rattle.tv_model.specs.Commits.{Settings}
+use Rattle.tv_model.specs.Commits.{Commit, Settings}
 use Rattle.tv_model.specs.CollectionEvents.{left}
 use Rattle.tv_model.specs.State.{State, FileState, Sealed, Open, Left, at, file_at}
-use Rattle.tv_model.specs.Index.{FileReads, DirectoryHolds, FindsCommit, OpensTo, managed_with}
+use Rattle.tv_model.specs.Index.{FileReads, DirectoryHolds, FindsCommit, IsFileOf, OpensTo, managed_with, opened_catalog}
 use Rattle.tv_model.specs.ReopenEvents.{all_left, reopened}
-use Rattle.tv_model.specs.Reopening.{found_file, found_in}
+use Rattle.tv_model.specs.Reopening.{AreAlike, found_file, found_in}
 use Rattle.tv_model.specs.SoundStates.{IsSoundState}
-use Rattle.tv_model.proofs.Entries.{text_at}
+use Rattle.tv_model.proofs.Entries.{is_itself, is_text, text_at}
+use Rattle.tv_model.proofs.ListTexts.{lists_one}
+use Rattle.tv_model.proofs.OneMeaning.{means_one}
+use Rattle.tv_model.proofs.SoundOpenings.{opens_catalog}
 
 -- what stands at a name after the files were left, and found by what their names read
 found_at : (reads : Reads) (s : State) (files : List (List ℕ × FileState)) (n : List ℕ)
@@ -50,3 +53,36 @@ reopens settings schema reads s h d = record {
   names = λ n there. d.names n (there_before (reads n) (file_at s n) (sym (ap is_some (found_at reads s s.files n)) ∙ there));
   files = λ n file. found_at reads s s.files n ∙ as_read (file_at s n) (reads n) (d.files n file);
 }
+
+-- ---- a directory opens to one state
+
+one_commit : (schema : List ℕ) (read : Option (List ℕ)) (settings others : Settings) (commit other : Commit) → FindsCommit schema read settings commit → FindsCommit schema read others other → commit ≡ other
+one_commit schema None settings others commit other h k = h.1 ∙ sym k.1
+one_commit schema (Some text) settings others commit other h k = (means_one settings others schema text commit other h k).1
+
+-- a name is that of a file or not
+file_name : (n : List ℕ) → IsFileOf n ⊎ (IsFileOf n → ⊥)
+file_name n = by_dot (is_undotted n) refl (is n meta_name) refl where
+  by_dot : (b : Bool) → is_undotted n ≡ b → (c : Bool) → is n meta_name ≡ c → IsFileOf n ⊎ (IsFileOf n → ⊥)
+  by_dot false e c k = inr (λ file. true≢false (sym file.0 ∙ e))
+  by_dot true e true k = inr (λ file. file.1 (is_text n meta_name k))
+  by_dot true e false k = inl (e, λ same. true≢false (sym (is_itself n) ∙ ap (λ (m : List ℕ). is n m) same ∙ k))
+
+no_file : (file : Option FileState) → (is_some file ≡ true → ⊥) → file ≡ None
+no_file None never = refl
+no_file (Some file) never = absurd (never refl)
+
+pub opens_one : (settings others : Settings) (schema : List ℕ) (reads : Reads) (s t : State) → OpensTo settings schema reads s → OpensTo others schema reads t → AreAlike s t
+opens_one settings others schema reads s t o k =
+    let commit : s.catalog.commit ≡ t.catalog.commit = one_commit schema (reads meta_name) settings others s.catalog.commit t.catalog.commit o.found k.found in
+    let listed : o.listed ≡ k.listed = lists_one (reads list_name) o.listed k.listed o.listing k.listing in
+    record {
+      catalog = opens_catalog settings schema reads s o ∙ ap opened_catalog commit ∙ sym (opens_catalog others schema reads t k);
+      files = λ n. by_name n (file_name n);
+      managed = o.managed ∙ ap (managed_with (reads meta_name)) listed ∙ sym k.managed;
+      collections = o.collections ∙ sym k.collections;
+    }
+  where
+    by_name : (n : List ℕ) → (IsFileOf n ⊎ (IsFileOf n → ⊥)) → file_at s n ≡ file_at t n
+    by_name n (inl file) = o.files n file ∙ sym (k.files n file)
+    by_name n (inr never) = no_file (file_at s n) (λ there. never (o.names n there)) ∙ sym (no_file (file_at t n) (λ there. never (k.names n there)))

@@ -28,7 +28,7 @@ ghost use Rattle.tv_model.specs.Names.{byte_cmp};
 ghost use Rattle.tv_model.specs.NewNames.{DrawsInOrder, IsNewDelete};
 ghost use Rattle.tv_model.specs.Readable.{CanRead};
 ghost use Rattle.tv_model.specs.ReopenEvents.{reopened};
-ghost use Rattle.tv_model.specs.Reopening.{found_in};
+ghost use Rattle.tv_model.specs.Reopening.{AreAlike, found_in};
 ghost use Rattle.tv_model.specs.Schemas.{IsSchemaText, IsSchemaTree, stripped};
 ghost use Rattle.tv_model.specs.Script.{Fits};
 ghost use Rattle.tv_model.specs.Segments.{name_of};
@@ -52,7 +52,8 @@ pub fn searchers_keep_their_commit()
 /// A sound start opens to a state, and to sound states alone. Each event of a script leaves a sound
 /// state sound. The files that the commit of such a state requires can be read. A directory that
 /// holds such a state opens to what a reopening leaves of it, but that a file which was left has
-/// the bytes that its name reads.
+/// the bytes that its name reads. What reads opens to one state at most, but for the order in which
+/// its files are listed.
 pub fn sound_starts_open_to_sound_states()
     ensures exists { (schema : List ℕ) (reads : Reads) → IsSoundImage schema reads
         → (settings : Settings) × (s : State) × OpensTo settings schema reads s }
@@ -64,6 +65,8 @@ pub fn sound_starts_open_to_sound_states()
     ensures reopens { (settings : Settings) (schema : List ℕ) (reads : Reads) (s : State)
         → IsSoundState s → DirectoryHolds settings schema reads s
         → OpensTo settings schema reads (found_in reads (reopened s)) }
+    ensures one { (settings others : Settings) (schema : List ℕ) (reads : Reads) (s t : State)
+        → OpensTo settings schema reads s → OpensTo others schema reads t → AreAlike s t }
 {}
 
 /// A collection at once takes exactly the managed names that nothing needs and no other collection
