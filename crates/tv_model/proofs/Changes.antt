@@ -96,7 +96,7 @@ pub record OfEachChange (P : State → Type 0) (s : State) (event : Event) : Typ
   -- a collection begins
   pub begins : P (gc_begin_step s).1
   -- it tries a name
-  pub tries : (number : ℕ) (c : Collection) (name : List ℕ) (left : List (List ℕ)) (is_done : Bool) → collection_at s.collections number ≡ Some c → c.untried ≡ name ∷ left → P (having_deleted s number c name left is_done).1
+  pub tries : (number : ℕ) (c : Collection) (name : List ℕ) (left : List (List ℕ)) (is_done : Bool) → event ≡ events.GcStep number → collection_at s.collections number ≡ Some c → c.untried ≡ name ∷ left → P (having_deleted s number c name left is_done).1
   -- it is finished
   pub finishes : (number : ℕ) (c : Collection) → event ≡ events.GcEnd number → collection_at s.collections number ≡ Some c → P (ended s number c).1
   -- the index is opened again
@@ -108,7 +108,7 @@ other a b e = grind (arith, nat_tests)
 not_less : (a b : ℕ) → nat_lt a b ≡ false → b ≤ a
 not_less a b e = grind (arith, nat_tests)
 
-none_is : {X : Type 0} (x : Option X) → is_some x ≡ false → x ≡ None
+pub none_is : {X : Type 0} (x : Option X) → is_some x ≡ false → x ≡ None
 none_is None e = refl
 none_is (Some x) e = absurd cc
 
@@ -174,10 +174,10 @@ abbrev After : (State → Type 0) → StepResult State → Type 0
 After P result = P result.1
 
 -- a step of a collection, which has these names left
-tried : (P : State → Type 0) (s : State) (event : Event) (number : ℕ) (c : Collection) (untried : List (List ℕ)) (outcomes : List Bool) → OfEachChange P s event
+tried : (P : State → Type 0) (s : State) (event : Event) (number : ℕ) (c : Collection) (untried : List (List ℕ)) (outcomes : List Bool) → OfEachChange P s event → event ≡ events.GcStep number
     → collection_at s.collections number ≡ Some c → c.untried ≡ untried → P (tried_first s number c untried outcomes).1
-tried P s event number c [] outcomes of there e = of.same
-tried P s event number c (name ∷ left) outcomes of there e = of.tries number c name left (is_done outcomes) there e
+tried P s event number c [] outcomes of step there e = of.same
+tried P s event number c (name ∷ left) outcomes of step there e = of.tries number c name left (is_done outcomes) step there e
 
 file_changes : (P : State → Type 0) (s : State) (event : Event) (outcomes : List Bool) → catalog_step s.catalog s.managed event ≡ None → OfEachChange P s event → P (step s event outcomes).1
 file_changes P s (events.Open id component) outcomes e of =
@@ -220,7 +220,7 @@ file_changes P s (events.Deletes id n) outcomes e of =
 file_changes P s events.Gc outcomes e of = of.collects outcomes
 file_changes P s events.GcBegin outcomes e of = of.begins
 file_changes P s (events.GcStep number) outcomes e of =
-    given_all (After P) s (collection_at s.collections number) _ _ of.same (λ c there. tried P s (events.GcStep number) number c c.untried outcomes of there refl)
+    given_all (After P) s (collection_at s.collections number) _ _ of.same (λ c there. tried P s (events.GcStep number) number c c.untried outcomes of refl there refl)
 file_changes P s (events.GcEnd number) outcomes e of = given_all (After P) s (collection_at s.collections number) _ _ of.same (λ c there. of.finishes number c refl there)
 file_changes P s events.Reopen outcomes e of = of.reopens refl
 file_changes P s (events.Reader policy) outcomes e of = of.reads _ (Comes policy refl)

@@ -14,9 +14,9 @@ use Rattle.tv_model.specs.Living.{living}
 use Rattle.tv_model.specs.Lines.{given}
 use Rattle.tv_model.specs.State.{State, StepResult, FileState, file_at}
 use Rattle.tv_model.specs.CollectionEvents.{garbage, gc_begin_step, gc_end_step, gc_step_step, having_deleted, ended, is_done, tried_first}
-use Rattle.tv_model.specs.Machine.{Turn, NeverReopens, isnt_reopening, after, events_of, refused_in}
+use Rattle.tv_model.specs.Machine.{Turn, NeverReopens, isnt_reopening, step, after, events_of, refused_in}
 use Rattle.tv_model.specs.Script.{Fits}
-use Rattle.tv_model.specs.Collecting.{LeavesOthers, Begins, Tries, Ends, NeverEnds, isnt_ending, IsAtOnce, in_steps, CollectsInSteps, CollectsInStepsIn, CollectsAllElse}
+use Rattle.tv_model.specs.Collecting.{LeavesOthers, Begins, Tries, Ends, NeverEnds, isnt_ending, isnt_of, IsAtOnce, in_steps, CollectsInSteps, CollectsInStepsIn, CollectsAllElse}
 use Rattle.tv_model.specs.SoundStates.{CollectsSoundly, IsSoundState}
 use Rattle.tv_model.proofs.Changes.{OfEachChange, after_between, step_changes}
 use Rattle.tv_model.proofs.CollectionStates.{at_without, garbage_is, has_without}
@@ -59,7 +59,7 @@ keeps_changes s event number first never h = record {
     given = omega (arith, h.given);
     each = put_all (HasNames number first) s.collections.unfinished s.collections.next (begun (garbage s)) h.each (λ same. absurd (omega (arith, same, h.given)));
   };
-  tries = λ k c name left is_done there e. record {
+  tries = λ k c name left is_done step there e. record {
     given = h.given;
     each = put_all (HasNames number first) s.collections.unfinished k (having_tried c name left is_done) h.each
         (λ same n. tried_times c name left is_done n e ∙ found (HasNames number first) s.collections.unfinished k c h.each there same n);
@@ -108,7 +108,7 @@ stays_changes s event number never h = record {
   releases = λ id segment. h;
   deletes = λ id n segment may. h;
   begins = put_stays s.collections.unfinished s.collections.next number (begun (garbage s)) h;
-  tries = λ k c name left is_done there e. put_stays s.collections.unfinished k number (having_tried c name left is_done) h;
+  tries = λ k c name left is_done step there e. put_stays s.collections.unfinished k number (having_tried c name left is_done) h;
   finishes = λ k c e there. ap is_some (gone_other s.collections.unfinished k number (ends_other event number k never e)) ∙ h;
   reopens = λ e. absurd (true≢false (sym never ∙ ap (isnt_ending number) e));
 }
@@ -116,6 +116,36 @@ stays_changes s event number never h = record {
 stays : (s : State) (turns : List Turn) (number : ℕ) → NeverEnds number turns → IsUnfinished s number → IsUnfinished (after s turns) number
 stays s turns number never h =
     after_between (isnt_ending number) (λ t. IsUnfinished t number) (λ t event outcomes once k. step_changes (λ u. IsUnfinished u number) t event outcomes (stays_changes t event number once k)) s turns never h
+
+-- it isn't the event's own
+steps_other : (event : Event) (number k : ℕ) → isnt_of number event ≡ true → event ≡ events.GcStep k → number ≢ k
+steps_other event number k never e = different k number (sym (ap (isnt_of number) e) ∙ never)
+
+finishes_other : (event : Event) (number k : ℕ) → isnt_of number event ≡ true → event ≡ events.GcEnd k → number ≢ k
+finishes_other event number k never e = different k number (sym (ap (isnt_of number) e) ∙ never)
+
+alone_changes : (s : State) (event : Event) (number : ℕ) (c : Collection) → number < s.collections.next → isnt_of number event ≡ true → collection_at s.collections number ≡ Some c
+    → OfEachChange (λ t. collection_at t.collections number ≡ Some c) s event
+alone_changes s event number c given never h = record {
+  same = h;
+  lives = λ id segment move. h;
+  reads = λ now move. h;
+  opens = λ id segment component e there absent. h;
+  puts = λ name body file e good. h;
+  commits = λ payload ids last e. h;
+  collects = λ outcomes. h;
+  releases = λ id segment. h;
+  deletes = λ id n segment may. h;
+  begins = put_other s.collections.unfinished s.collections.next number (begun (garbage s)) (λ same. absurd (omega (arith, same, given))) ∙ h;
+  tries = λ k d name left is_done step there e. put_other s.collections.unfinished k number (having_tried d name left is_done) (steps_other event number k never step) ∙ h;
+  finishes = λ k d e there. gone_other s.collections.unfinished k number (finishes_other event number k never e) ∙ h;
+  reopens = λ e. absurd (true≢false (sym never ∙ ap (isnt_of number) e));
+}
+
+alone : (s : State) (event : Event) (outcomes : List Bool) (number : ℕ) (c : Collection) → CollectsSoundly s → isnt_of number event ≡ true → collection_at s.collections number ≡ Some c
+    → collection_at (step s event outcomes).1.collections number ≡ Some c
+alone s event outcomes number c h never there =
+    step_changes (λ t. collection_at t.collections number ≡ Some c) s event outcomes (alone_changes s event number c (given_at s h number c there) never there)
 
 -- a number was given, and no collection has it
 record IsOver (s : State) (number : ℕ) : Type 0 where
@@ -143,7 +173,7 @@ over_changes s event number never h = record {
     given = omega (arith, h.given);
     none = put_other s.collections.unfinished s.collections.next number (begun (garbage s)) (λ same. absurd (omega (arith, same, h.given))) ∙ h.none;
   };
-  tries = λ k c name left is_done there e. record { given = h.given; none = put_other s.collections.unfinished k number (having_tried c name left is_done) (over_other s number k c h there) ∙ h.none };
+  tries = λ k c name left is_done step there e. record { given = h.given; none = put_other s.collections.unfinished k number (having_tried c name left is_done) (over_other s number k c h there) ∙ h.none };
   finishes = λ k c e there. record { given = h.given; none = gone_other s.collections.unfinished k number (over_other s number k c h there) ∙ h.none };
   reopens = λ e. absurd (true≢false (sym never ∙ ap isnt_reopening e));
 }
@@ -158,6 +188,7 @@ begins s = record {
   takes = takes s;
   told = refl;
   starts = put_found s.collections.unfinished s.collections.next (begun (garbage s));
+  next = refl;
   files = refl;
   managed = refl;
   others = record { catalog = refl; others = λ other differs. put_other s.collections.unfinished s.collections.next other (begun (garbage s)) differs };
@@ -187,6 +218,7 @@ tries s number c name left outcomes there e =
       moved = ap (λ (r : StepResult State). collection_at r.1.collections number) now ∙ put_found s.collections.unfinished number (having_tried c name left (is_done outcomes));
       gone = λ n. ap (λ (r : StepResult State). file_at r.1 n) now ∙ tried_file s number c name left (is_done outcomes) n;
       managed = ap (λ (r : StepResult State). r.1.managed) now;
+      next = ap (λ (r : StepResult State). r.1.collections.next) now;
       others = subst (λ (r : StepResult State). LeavesOthers s r.1 number) (sym now) (record {
         catalog = refl;
         others = λ other differs. put_other s.collections.unfinished number other (having_tried c name left (is_done outcomes)) differs;
@@ -226,6 +258,7 @@ ends s number c h there =
       spared = λ n undone. ended_managed s number c n there ∙ (rw undone refl);
       finished = ap (λ (r : StepResult State). collection_at r.1.collections number) now ∙ gone_none s.collections.unfinished number h.ordered;
       files = ap (λ (r : StepResult State). r.1.files) now;
+      next = ap (λ (r : StepResult State). r.1.collections.next) now;
       others = subst (λ (r : StepResult State). LeavesOthers s r.1 number) (sym now) (record { catalog = refl; others = λ other differs. gone_other s.collections.unfinished number other differs });
     }
 
@@ -300,6 +333,7 @@ collects_in_steps s sound = let h = sound.whole.collecting in record {
   begins = begins s;
   stays = stays s;
   keeps = λ turns number first later never there then n. keeps s turns number first later h never there then n;
+  alone = λ event outcomes number c never there. alone s event outcomes number c h never there;
   once = λ turns number never given none. (once s turns number never (record { given = given; none = none })).none;
   tries = λ number c name left outcomes there e. tries s number c name left outcomes there e;
   spent = λ number c outcomes there e. step_of s number c [] outcomes there e;

@@ -329,7 +329,7 @@ collecting_changes s event h = record {
   releases = λ id segment. released_collecting s id segment h;
   deletes = λ id n segment may. deleted_collecting s id n segment may h;
   begins = begun_collecting s h;
-  tries = λ number c name left is_done there e. tried_collecting s number c name left is_done there e h;
+  tries = λ number c name left is_done step there e. tried_collecting s number c name left is_done there e h;
   finishes = λ number c e there. ended_collecting s number c there h;
   reopens = λ e. nothing_held (reopened s) refl h.sorted;
 }

@@ -1,7 +1,7 @@
 -- An event of deletes draws a new name.
-use Rattle.std.proofs.Common.{◌≡◌, ◌≢◌, ◌⊎◌, inl, inr, ℕ, ◌+◌, ◌^◌, ◌≤◌, ◌<◌, ◌==◌, Bool, true, false, true≢false, cond, List, [], ◌∷◌, ◌++◌, map, codes, Option, Some, None, refl, sym, ap, subst, ◌∙◌, arith}
+use Rattle.std.proofs.Common.{◌≡◌, ◌≢◌, ◌⊎◌, inl, inr, ℕ, ◌+◌, ◌^◌, ◌≤◌, ◌<◌, ◌==◌, Bool, true, false, true≢false, cond, List, [], ◌∷◌, map, codes, Option, Some, refl, sym, ap, subst, ◌∙◌, arith}
 use Rattle.std.proofs.Math.Nat.{lt_of_not-le}
-use Rattle.std.specs.Prelude.{is_some, nat_lt}
+use Rattle.std.specs.Prelude.{nat_lt}
 use Rattle.std.specs.Fmt.{decimal}
 use Rattle.std.specs.List.{flat_map, AllByRecursion}
 use Rattle.std.specs.BTreeMap.{is_at}
@@ -20,9 +20,9 @@ use Rattle.tv_model.specs.Index.{first_catalog, next_after, opened_catalog}
 use Rattle.tv_model.specs.Living.{living, segment_names}
 use Rattle.tv_model.specs.Machine.{step}
 use Rattle.tv_model.specs.NewNames.{DrawsInOrder, IsNewDelete}
-use Rattle.tv_model.specs.State.{Catalog, State, StepResult, FileState, at, live_at, file_at}
+use Rattle.tv_model.specs.State.{State, StepResult, at, live_at, file_at}
 use Rattle.tv_model.specs.SoundStates.{IsSoundState}
-use Rattle.tv_model.proofs.Changes.{SegmentMove, IsNew, HasDocs, OfEachChange, given_all, other, step_changes, unless_all}
+use Rattle.tv_model.proofs.Changes.{SegmentMove, IsNew, HasDocs, OfEachChange, given_all, none_is, other, step_changes, unless_all}
 use Rattle.tv_model.proofs.CollectionStates.{has_append}
 use Rattle.tv_model.proofs.DeleteNames.{delete_number, meta_no_delete}
 use Rattle.tv_model.proofs.Entries.{is_itself, is_text}
@@ -107,7 +107,7 @@ order_changes s event sound h = record {
     next = one_more s.catalog.next last_stamp may.last h.next;
   };
   begins = h;
-  tries = λ number c name left is_done there e. h;
+  tries = λ number c name left is_done step there e. h;
   finishes = λ number c e there. h;
   reopens = λ e. opened_in_order s.catalog.commit (commit_fits s sound h.next) h.committed;
 }
@@ -120,10 +120,6 @@ pub step_in_order : (s : State) (event : Event) (outcomes : List Bool) → IsSou
 step_in_order s event outcomes sound h = step_changes (λ t. DrawsInOrder t.catalog) s event outcomes (order_changes s event sound h)
 
 -- ---- the new name
-
-no_file : (file : Option FileState) → (is_some file ≡ true → ⊥) → file ≡ None
-no_file None never = refl
-no_file (Some file) never = absurd (never refl)
 
 -- the delete file of the commit's segment has another name
 another : (committed : Option LiveSegment) (id name : List ℕ) (segment : LiveSegment) → is_committed_delete committed id name ≡ false → committed ≡ Some segment → delete_name id segment.deletes ≢ name
@@ -173,7 +169,7 @@ new_delete s id n h =
     ∷ []
     ) (having_deleted_docs s id n segment) (λ words changed. absurd (changed refl)) (λ none changed.
     let free = or_parts (has s.managed name) (is_committed_delete (at s.catalog.commit.segments id) id name) none.1.1.1.0 in record {
-      absent = no_file (file_at s name) (λ there. true≢false (sym (h.listed name there) ∙ free.0));
+      absent = none_is (file_at s name) (false_from_ne_true _ (λ there. true≢false (sym (h.listed name there) ∙ free.0)));
       fresh = free.0;
       spared = none.1.1.0;
       other = λ segment there. another (at s.catalog.commit.segments id) id name segment free.1 there;

@@ -2,6 +2,7 @@
 use Rattle.std.proofs.Common.{◌≡◌, ◌⊎◌, inl, inr, ℕ, Bool, true, true≢false, false, cond, List, [], ◌∷◌, Option, Some, None, refl, sym, ap, subst, ◌∙◌}
 use Rattle.std.specs.Prelude.{is_some, option_map}
 use Rattle.std.specs.BTreeMap.{is_at}
+use Rattle.std.proofs.lemmas.Bool.{false_from_ne_true}
 use Rattle.tv_model.specs.Names.{byte_cmp, is, is_undotted, list_name, meta_name}
 use Rattle.tv_model.specs.Files.{Reads}
 use Rattle.tv_model.specs.Commits.{Commit, Settings}
@@ -11,6 +12,7 @@ use Rattle.tv_model.specs.Index.{FileReads, DirectoryHolds, FindsCommit, IsFileO
 use Rattle.tv_model.specs.ReopenEvents.{all_left, reopened}
 use Rattle.tv_model.specs.Reopening.{AreAlike, found_file, found_in}
 use Rattle.tv_model.specs.SoundStates.{IsSoundState}
+use Rattle.tv_model.proofs.Changes.{none_is}
 use Rattle.tv_model.proofs.Entries.{is_itself, is_text, text_at}
 use Rattle.tv_model.proofs.ListTexts.{lists_one}
 use Rattle.tv_model.proofs.OneMeaning.{means_one}
@@ -68,10 +70,6 @@ file_name n = by_dot (is_undotted n) refl (is n meta_name) refl where
   by_dot true e true k = inr (λ file. file.1 (is_text n meta_name k))
   by_dot true e false k = inl (e, λ same. true≢false (sym (is_itself n) ∙ ap (λ (m : List ℕ). is n m) same ∙ k))
 
-no_file : (file : Option FileState) → (is_some file ≡ true → ⊥) → file ≡ None
-no_file None never = refl
-no_file (Some file) never = absurd (never refl)
-
 pub opens_one : (settings others : Settings) (schema : List ℕ) (reads : Reads) (s t : State) → OpensTo settings schema reads s → OpensTo others schema reads t → AreAlike s t
 opens_one settings others schema reads s t o k =
     let commit : s.catalog.commit ≡ t.catalog.commit = one_commit schema (reads meta_name) settings others s.catalog.commit t.catalog.commit o.found k.found in
@@ -85,4 +83,4 @@ opens_one settings others schema reads s t o k =
   where
     by_name : (n : List ℕ) → (IsFileOf n ⊎ (IsFileOf n → ⊥)) → file_at s n ≡ file_at t n
     by_name n (inl file) = o.files n file ∙ sym (k.files n file)
-    by_name n (inr never) = no_file (file_at s n) (λ there. never (o.names n there)) ∙ sym (no_file (file_at t n) (λ there. never (k.names n there)))
+    by_name n (inr never) = none_is (file_at s n) (false_from_ne_true _ (λ there. never (o.names n there))) ∙ sym (none_is (file_at t n) (false_from_ne_true _ (λ there. never (k.names n there))))

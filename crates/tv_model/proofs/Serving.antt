@@ -46,7 +46,7 @@ step_moves s event outcomes never = step_changes (Moves s) s event outcomes (rec
   releases = λ id segment. Stays refl refl refl;
   deletes = λ id n segment may. Draws refl refl may.last refl;
   begins = Stays refl refl refl;
-  tries = λ number c name left is_done there e. Stays refl refl refl;
+  tries = λ number c name left is_done step there e. Stays refl refl refl;
   finishes = λ number c e there. Stays refl refl refl;
   reopens = λ e. absurd (reopens_again event never e);
 })

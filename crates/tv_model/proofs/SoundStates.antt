@@ -347,7 +347,7 @@ sound_changes s event fits h = let w = whole_changes s event h.whole in record {
   releases = λ id segment. released_sound s id segment (w.releases id segment) h;
   deletes = λ id m segment may. deleted_sound s id m segment may (w.deletes id m segment may) h;
   begins = other_collections s (gc_begin_step s).1.collections w.begins h;
-  tries = λ number c name left is_done there e. tried_sound s number c name left is_done (w.tries number c name left is_done there e) h;
+  tries = λ number c name left is_done step there e. tried_sound s number c name left is_done (w.tries number c name left is_done step there e) h;
   finishes = λ number c e there. ended_sound s number c there (w.finishes number c e there) h;
   reopens = λ e. reopened_sound s (w.reopens e) h;
 }

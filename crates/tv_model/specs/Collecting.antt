@@ -1,5 +1,5 @@
 -- What a collection takes, what it tells, and what stays.
-use Rattle.std.specs.Prelude.{ℕ, ◌≡◌, ◌≢◌, ◌≤◌, ◌<◌, ◌==◌, Bool, true, false, not, ◌&&◌, ◌||◌, List, [], ◌∷◌, ◌++◌, length, codes, None, Some, IsSome, is_some, if◌then◌else◌}
+use Rattle.std.specs.Prelude.{ℕ, ◌≡◌, ◌≢◌, ◌+◌, ◌≤◌, ◌<◌, ◌==◌, Bool, true, false, not, ◌&&◌, ◌||◌, List, [], ◌∷◌, ◌++◌, length, codes, None, Some, IsSome, is_some, if◌then◌else◌}
 use Rattle.std.specs.Fmt.{decimal}
 use Rattle.std.specs.List.{list_all}
 use Rattle.tv_model.specs.declared.event.Event.{Event}
@@ -10,7 +10,7 @@ use Rattle.tv_model.specs.Living.{living}
 use Rattle.tv_model.specs.State.{State, file_at}
 use Rattle.tv_model.specs.CollectionEvents.{garbage, collected_line, gc_begin_step, gc_end_step, gc_step, gc_step_step, is_done}
 use Rattle.tv_model.specs.Lines.{line, refuse}
-use Rattle.tv_model.specs.Machine.{Turn, NeverReopens, after, refused_in}
+use Rattle.tv_model.specs.Machine.{Turn, NeverReopens, step, after, refused_in}
 
 -- these are exactly the managed names that are neither living nor held
 abbrev pub Takes : State → List (List ℕ) → Type 0
@@ -62,6 +62,8 @@ pub record Begins (s : State) : Type 0 where
   pub told : (gc_begin_step s).0 ≡ line (codes "gc") (decimal s.collections.next ∷ garbage s)
   -- it is unfinished from now on, and has tried none of them
   pub starts : collection_at (gc_begin_step s).1.collections s.collections.next ≡ Some (begun (garbage s))
+  -- the next one gets the number after it
+  pub next : (gc_begin_step s).1.collections.next ≡ s.collections.next + 1
   -- the files and the managed names stay, and so do the catalog and the other collections
   pub files : (gc_begin_step s).1.files ≡ s.files
   pub managed : (gc_begin_step s).1.managed ≡ s.managed
@@ -77,7 +79,8 @@ pub record Tries (s : State) (number : ℕ) (c : Collection) (name : List ℕ) (
   pub gone : (n : List ℕ) → file_at (gc_step_step s number outcomes).1 n ≡ (if is_done outcomes && is name n then None else file_at s n)
   -- it stays managed up to the end
   pub managed : (gc_step_step s number outcomes).1.managed ≡ s.managed
-  -- the catalog and the other collections stay
+  -- the catalog and the other collections stay, and so does the number that the next one gets
+  pub next : (gc_step_step s number outcomes).1.collections.next ≡ s.collections.next
   pub others : LeavesOthers s (gc_step_step s number outcomes).1 number
 
 -- The end of an unfinished collection.
@@ -94,8 +97,9 @@ pub record Ends (s : State) (number : ℕ) (c : Collection) : Type 0 where
   pub spared : (n : List ℕ) → has c.done n ≡ false → has (gc_end_step s number).1.managed n ≡ has s.managed n
   -- no collection has the number any more
   pub finished : collection_at (gc_end_step s number).1.collections number ≡ None
-  -- the files stay, and so do the catalog and the other collections
+  -- the files stay, and so do the catalog, the other collections, and the number that the next one gets
   pub files : (gc_end_step s number).1.files ≡ s.files
+  pub next : (gc_end_step s number).1.collections.next ≡ s.collections.next
   pub others : LeavesOthers s (gc_end_step s number).1 number
 
 -- the event doesn't end the collection of this number: it neither finishes it nor opens the index again
@@ -108,6 +112,13 @@ isnt_ending number other = true
 abbrev pub NeverEnds : (number : ℕ) → List Turn → Type 0
 NeverEnds number turns = list_all (λ turn. isnt_ending number turn.0) turns ≡ true
 
+-- the event is none of the collection of this number, and doesn't open the index again
+abbrev pub isnt_of : (number : ℕ) → Event → Bool
+isnt_of number (events.GcStep other) = not (other == number)
+isnt_of number (events.GcEnd other) = not (other == number)
+isnt_of number events.Reopen = false
+isnt_of number other = true
+
 -- Collections in steps.
 pub record CollectsInSteps (s : State) : Type 0 where
   -- one that begins takes what nothing needs and no other one holds
@@ -119,6 +130,9 @@ pub record CollectsInSteps (s : State) : Type 0 where
   pub keeps : (turns : List Turn) (number : ℕ) (first later : Collection) → NeverReopens turns
       → collection_at s.collections number ≡ Some first → collection_at (after s turns).collections number ≡ Some later
       → (n : List ℕ) → has (taken later) n ≡ has (taken first) n
+  -- an event that is none of its own leaves it as it is
+  pub alone : (event : Event) (outcomes : List Bool) (number : ℕ) (c : Collection) → isnt_of number event ≡ true
+      → collection_at s.collections number ≡ Some c → collection_at (step s event outcomes).1.collections number ≡ Some c
   -- once it is finished no other one gets its number, until the index is opened again
   pub once : (turns : List Turn) (number : ℕ) → NeverReopens turns → number < s.collections.next
       → collection_at s.collections number ≡ None → collection_at (after s turns).collections number ≡ None

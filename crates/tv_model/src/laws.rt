@@ -74,10 +74,10 @@ pub fn sound_starts_open_to_sound_states()
 /// more; all else stays. So does each collection of a run. From a sound state on, one in steps
 /// takes the same names, and is unfinished and has these names until its end or a reopening. Its
 /// step tells the name that it tries, and changes no other file; its end takes those names out of
-/// the managed ones that are done; no event of it changes the catalog or another collection. One at
-/// once does to the files, the managed names and the catalog what one in steps does with the same
-/// outcomes. From a sound state one at once of which no delete is refused leaves exactly the files
-/// that are needed or held.
+/// the managed ones that are done. Its events change neither the catalog nor another collection,
+/// and no other events change it. One at once does to the files, the managed names and the catalog
+/// what one in steps does with the same outcomes. From a sound state one at once of which no delete
+/// is refused leaves exactly the files that are needed or held.
 pub fn collections_take_what_nothing_needs()
     ensures collects { (s : State) (outcomes : List Bool)
         → IsStrictlySortedBy byte_cmp s.managed → Collects s outcomes }
