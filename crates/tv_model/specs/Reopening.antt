@@ -14,7 +14,7 @@ found_file Left (Some bytes) = Sealed bytes
 abbrev pub found_in : Reads → State → State
 found_in reads s = record s { files = map (λ e. (e.0, found_file e.1 (reads e.0))) s.files }
 
--- Two states are one, but for the order in which their files are listed.
+-- Two states are one, but for how their files are listed.
 pub record AreAlike (s t : State) : Type 0 where
   pub catalog : s.catalog ≡ t.catalog
   pub files : (n : List ℕ) → file_at s n ≡ file_at t n

@@ -52,8 +52,8 @@ pub fn searchers_keep_their_commit()
 /// A sound start opens to a state, and to sound states alone. Each event of a script leaves a sound
 /// state sound. The files that the commit of such a state requires can be read. A directory that
 /// holds such a state opens to what a reopening leaves of it, but that a file which was left has
-/// the bytes that its name reads. What reads opens to one state at most, but for the order in which
-/// its files are listed.
+/// the bytes that its name reads. What reads opens to one state at most, but for how its files are
+/// listed.
 pub fn sound_starts_open_to_sound_states()
     ensures exists { (schema : List ℕ) (reads : Reads) → IsSoundImage schema reads
         → (settings : Settings) × (s : State) × OpensTo settings schema reads s }
@@ -110,8 +110,8 @@ pub fn validations_name_damaged_files()
 /// The files of different segments have different names. Where no documents are deleted, a delete
 /// file has the name of the one with the number 0. From a sound state an event of deletes that
 /// isn't refused, as it changes the state, gives its segment a new name for its delete file.
-/// Numbers of deletes are drawn in order in an index that was just made, and stay so with each
-/// event.
+/// Numbers of deletes are drawn in order in an index that was just made, and from a sound state
+/// each event leaves them so.
 pub fn names_tell_their_segment()
     ensures segment { (id other : List ℕ) (deletes others : Option DeleteMeta)
         (component second : SegmentComponent) → IsId id → IsId other
