@@ -25,7 +25,7 @@ use Rattle.tv_model.specs.ReopenEvents.{reopened}
 use Rattle.tv_model.specs.ReaderEvents.{snapshot_in, with_new_reader, with_reloaded, without_reader}
 use Rattle.tv_model.specs.SearcherEvents.{with_searcher, without_searcher, body_at}
 use Rattle.tv_model.specs.ReportEvents.{committed_names, first_unreadable, damaged_files}
-use Rattle.tv_model.specs.Machine.{Turn, NeverReopens, catalog_step, isnt_reopening, step, after}
+use Rattle.tv_model.specs.Machine.{Turn, catalog_step, isnt_reopening, step, after}
 use Rattle.tv_model.proofs.Bodies.{sealed_is_good}
 use Rattle.std.specs.List.{AllByRecursion, list_all}
 
@@ -96,19 +96,19 @@ pub record OfEachChange (P : State → Type 0) (s : State) (event : Event) : Typ
   -- a collection begins
   pub begins : P (gc_begin_step s).1
   -- it tries a name
-  pub tries : (number : ℕ) (c : Collection) (name : List ℕ) (left : List (List ℕ)) (is_done : Bool) → collection_at s.collections number ≡ Some c → c.untried ≡ name ∷ left → P (having_deleted s number c name left is_done).1
+  pub tries : (number : ℕ) (c : Collection) (name : List ℕ) (left : List (List ℕ)) (is_done : Bool) → event ≡ events.GcStep number → collection_at s.collections number ≡ Some c → c.untried ≡ name ∷ left → P (having_deleted s number c name left is_done).1
   -- it is finished
-  pub finishes : (number : ℕ) (c : Collection) → collection_at s.collections number ≡ Some c → P (ended s number c).1
+  pub finishes : (number : ℕ) (c : Collection) → event ≡ events.GcEnd number → collection_at s.collections number ≡ Some c → P (ended s number c).1
   -- the index is opened again
   pub reopens : event ≡ events.Reopen → P (reopened s)
 
-other : (a b : ℕ) → (a == b) ≡ false → a ≢ b
+pub other : (a b : ℕ) → (a == b) ≡ false → a ≢ b
 other a b e = grind (arith, nat_tests)
 
 not_less : (a b : ℕ) → nat_lt a b ≡ false → b ≤ a
 not_less a b e = grind (arith, nat_tests)
 
-none_is : {X : Type 0} (x : Option X) → is_some x ≡ false → x ≡ None
+pub none_is : {X : Type 0} (x : Option X) → is_some x ≡ false → x ≡ None
 none_is None e = refl
 none_is (Some x) e = absurd cc
 
@@ -174,10 +174,10 @@ abbrev After : (State → Type 0) → StepResult State → Type 0
 After P result = P result.1
 
 -- a step of a collection, which has these names left
-tried : (P : State → Type 0) (s : State) (event : Event) (number : ℕ) (c : Collection) (untried : List (List ℕ)) (outcomes : List Bool) → OfEachChange P s event
+tried : (P : State → Type 0) (s : State) (event : Event) (number : ℕ) (c : Collection) (untried : List (List ℕ)) (outcomes : List Bool) → OfEachChange P s event → event ≡ events.GcStep number
     → collection_at s.collections number ≡ Some c → c.untried ≡ untried → P (tried_first s number c untried outcomes).1
-tried P s event number c [] outcomes of there e = of.same
-tried P s event number c (name ∷ left) outcomes of there e = of.tries number c name left (is_done outcomes) there e
+tried P s event number c [] outcomes of step there e = of.same
+tried P s event number c (name ∷ left) outcomes of step there e = of.tries number c name left (is_done outcomes) step there e
 
 file_changes : (P : State → Type 0) (s : State) (event : Event) (outcomes : List Bool) → catalog_step s.catalog s.managed event ≡ None → OfEachChange P s event → P (step s event outcomes).1
 file_changes P s (events.Open id component) outcomes e of =
@@ -220,8 +220,8 @@ file_changes P s (events.Deletes id n) outcomes e of =
 file_changes P s events.Gc outcomes e of = of.collects outcomes
 file_changes P s events.GcBegin outcomes e of = of.begins
 file_changes P s (events.GcStep number) outcomes e of =
-    given_all (After P) s (collection_at s.collections number) _ _ of.same (λ c there. tried P s (events.GcStep number) number c c.untried outcomes of there refl)
-file_changes P s (events.GcEnd number) outcomes e of = given_all (After P) s (collection_at s.collections number) _ _ of.same (λ c there. of.finishes number c there)
+    given_all (After P) s (collection_at s.collections number) _ _ of.same (λ c there. tried P s (events.GcStep number) number c c.untried outcomes of refl there refl)
+file_changes P s (events.GcEnd number) outcomes e of = given_all (After P) s (collection_at s.collections number) _ _ of.same (λ c there. of.finishes number c refl there)
 file_changes P s events.Reopen outcomes e of = of.reopens refl
 file_changes P s (events.Reader policy) outcomes e of = of.reads _ (Comes policy refl)
 file_changes P s (events.Reload number) outcomes e of =
@@ -253,12 +253,13 @@ pub reopening : (event : Event) → (isnt_reopening event ≡ true) ⊎ (event �
 reopening events.Reopen = inr refl
 reopening other = inl refl
 
--- what each event but that keeps holds after a run without it
-pub after_between : (P : State → Type 0) → ((s : State) (event : Event) (outcomes : List Bool) → isnt_reopening event ≡ true → P s → P (step s event outcomes).1) → (s : State) (turns : List Turn) → NeverReopens turns → P s → P (after s turns)
-after_between P kept s [] never h = h
-after_between P kept s (turn ∷ turns) never h =
-    let t = and_parts (isnt_reopening turn.0) (list_all (λ turn. isnt_reopening turn.0) turns) never in
-    after_between P kept (step s turn.0 turn.1).1 turns t.1 (kept s turn.0 turn.1 t.0 h)
+-- what each event that passes a test keeps holds after a run of such events
+pub after_between : (test : Event → Bool) (P : State → Type 0) → ((s : State) (event : Event) (outcomes : List Bool) → test event ≡ true → P s → P (step s event outcomes).1) → (s : State) (turns : List Turn)
+    → list_all (λ (turn : Turn). test turn.0) turns ≡ true → P s → P (after s turns)
+after_between test P kept s [] passes h = h
+after_between test P kept s (turn ∷ turns) passes h =
+    let t = and_parts (test turn.0) (list_all (λ (turn : Turn). test turn.0) turns) passes in
+    after_between test P kept (step s turn.0 turn.1).1 turns t.1 (kept s turn.0 turn.1 t.0 h)
 
 -- what each step keeps holds after a run
 pub after_kept : (P : State → Type 0) → ((s : State) (event : Event) (outcomes : List Bool) → P s → P (step s event outcomes).1) → (s : State) (turns : List Turn) → P s → P (after s turns)

@@ -1,18 +1,18 @@
 -- A collection takes what nothing needs, and what failed stays.
-use Rattle.std.proofs.Common.{◌≡◌, ℕ, ◌≤◌, Bool, true, false, true≢false, not, ◌&&◌, ◌||◌, List, [], ◌∷◌, ◌++◌, length, refl, sym, ◌∙◌, arith}
+use Rattle.std.proofs.Common.{◌≡◌, ℕ, ◌≤◌, Bool, true, false, true≢false, not, ◌&&◌, ◌||◌, cond, List, [], ◌∷◌, ◌++◌, length, Option, None, refl, sym, ◌∙◌, arith}
 use Rattle.std.specs.List.Sorted.{IsStrictlySortedBy}
 use Rattle.std.proofs.lemmas.Bool.{false_from_ne_true, or_right}
 use Rattle.std.proofs.lemmas.List.Kept.{IsStrictlySortedBy-filter}
 use Rattle.tv_model.specs.Names.{byte_cmp, is, has}
 use Rattle.tv_model.specs.Collections.{AreOnce, done_of, failed_of, held}
 use Rattle.tv_model.specs.Living.{living}
-use Rattle.tv_model.specs.State.{State}
+use Rattle.tv_model.specs.State.{State, FileState, file_at}
 use Rattle.tv_model.specs.CollectionEvents.{garbage}
 use Rattle.tv_model.specs.Machine.{Turn, after, refused_in}
 use Rattle.tv_model.specs.Collecting.{Takes, Collects, CollectsIn}
 use Rattle.tv_model.proofs.Entries.{is_text}
 use Rattle.tv_model.proofs.ManagedStates.{sorted_after}
-use Rattle.tv_model.proofs.CollectionStates.{has_without, done_within, garbage_is}
+use Rattle.tv_model.proofs.CollectionStates.{at_without, has_without, done_within, garbage_is}
 use Rattle.tv_model.proofs.HeldNames.{once_sorted}
 
 -- what is managed, and neither living nor held
@@ -60,17 +60,26 @@ few_failed (name ∷ names) [] = omega arith
 few_failed (name ∷ names) (true ∷ outcomes) = few_failed names outcomes
 few_failed (name ∷ names) (false ∷ outcomes) = omega (arith, few_failed names outcomes)
 
+gone_file : (gone : Bool) (file : Option FileState) → cond (not gone) file None ≡ cond gone None file
+gone_file true file = refl
+gone_file false file = refl
+
 -- what a collection takes, tells and leaves
 pub collects : (s : State) (outcomes : List Bool) → IsStrictlySortedBy byte_cmp s.managed → Collects s outcomes
 collects s outcomes sorted = record {
   takes = takes s;
   each = told (garbage s) outcomes;
   apart = λ n h. one_way (garbage s) outcomes n once h;
+  told = refl;
+  files = λ n. at_without (done_of (garbage s) outcomes) s.files n ∙ gone_file (has (done_of (garbage s) outcomes) n) (file_at s n);
   gone = λ n h. rw (has_without (done_of (garbage s) outcomes) s.managed n, h) refl;
   stay = λ n h.
       let managed : has s.managed n ≡ true = managed_of (has (living s.catalog) n) (has (held s.collections) n) (has s.managed n) (sym (takes s n) ∙ failed_within (garbage s) outcomes n h) in
       let spared : has (done_of (garbage s) outcomes) n ≡ false = false_from_ne_true _ (λ d. true≢false (sym h ∙ one_way (garbage s) outcomes n once d)) in
       rw (has_without (done_of (garbage s) outcomes) s.managed n, spared) managed;
+  spared = λ n undone. rw (has_without (done_of (garbage s) outcomes) s.managed n, undone) refl;
+  catalog = refl;
+  collections = refl;
   counted = few_failed (garbage s) outcomes;
 }
   where

@@ -1,27 +1,29 @@
 -- Collections in steps, and what a collection leaves of an index that was opened again.
-use Rattle.std.proofs.Common.{◌≡◌, ℕ, ◌+◌, ◌≤◌, ◌<◌, Bool, true, false, true≢false, not, ◌&&◌, ◌||◌, cond, List, [], ◌∷◌, ◌++◌, codes, Option, Some, None, refl, sym, ap, subst, ◌∙◌, arith, append_assoc, append-nil}
-use Rattle.std.specs.Prelude.{is_some}
+use Rattle.std.proofs.Common.{◌≡◌, ◌≢◌, ℕ, ◌+◌, ◌==◌, ◌≤◌, ◌<◌, Bool, true, false, true≢false, not, ◌&&◌, ◌||◌, cond, List, [], ◌∷◌, ◌++◌, codes, Option, Some, None, refl, sym, ap, subst, ◌∙◌, arith, append_assoc, append-nil}
+use Rattle.std.specs.Prelude.{IsSome, is_some}
 use Rattle.std.specs.Ordering.{nat_cmp}
 use Rattle.std.specs.List.{AllByRecursion}
 use Rattle.std.specs.BTreeMap.{is_at}
 use Rattle.std.proofs.lemmas.Bool.{false_from_ne_true}
+use Rattle.std.proofs.lemmas.Bool.Decides.{nat_tests}
 use Rattle.tv_model.specs.declared.event.Event.{Event}
+use Rattle.tv_model.specs.declared.event.Event.TheVariants as events
 use Rattle.tv_model.specs.Names.{is, has}
 use Rattle.tv_model.specs.Collections.{Collection, AreOnce, begun, collection_at, done_of, having_tried, held, taken, without}
 use Rattle.tv_model.specs.Living.{living}
 use Rattle.tv_model.specs.Lines.{given}
 use Rattle.tv_model.specs.State.{State, StepResult, FileState, file_at}
 use Rattle.tv_model.specs.CollectionEvents.{garbage, gc_begin_step, gc_end_step, gc_step_step, having_deleted, ended, is_done, tried_first}
-use Rattle.tv_model.specs.Machine.{Turn, NeverReopens, isnt_reopening, after, events_of, refused_in}
+use Rattle.tv_model.specs.Machine.{Turn, NeverReopens, isnt_reopening, step, after, events_of, refused_in}
 use Rattle.tv_model.specs.Script.{Fits}
-use Rattle.tv_model.specs.Collecting.{Tries, Ends, IsAtOnce, in_steps, CollectsInSteps, CollectsInStepsIn, CollectsAllElse}
+use Rattle.tv_model.specs.Collecting.{LeavesOthers, Begins, Tries, Ends, NeverEnds, isnt_ending, isnt_of, IsAtOnce, in_steps, CollectsInSteps, CollectsInStepsIn, CollectsAllElse}
 use Rattle.tv_model.specs.SoundStates.{CollectsSoundly, IsSoundState}
 use Rattle.tv_model.proofs.Changes.{OfEachChange, after_between, step_changes}
 use Rattle.tv_model.proofs.CollectionStates.{at_without, garbage_is, has_without}
 use Rattle.tv_model.proofs.Collects.{takes}
 use Rattle.tv_model.proofs.HeldNames.{times, times_append, some_times, no_times, has_times, once_times, times_once, taken_held, taken_times, tried_times}
 use Rattle.tv_model.proofs.HeldStates.{given_at}
-use Rattle.tv_model.proofs.Numbered.{found, gone_all, only, put_all, put_found}
+use Rattle.tv_model.proofs.Numbered.{found, gone_all, gone_none, gone_other, only, put_all, put_found, put_other, put_stays}
 use Rattle.tv_model.proofs.Serving.{front_fits, sound_after}
 
 -- ---- what a collection keeps
@@ -57,14 +59,18 @@ keeps_changes s event number first never h = record {
     given = omega (arith, h.given);
     each = put_all (HasNames number first) s.collections.unfinished s.collections.next (begun (garbage s)) h.each (λ same. absurd (omega (arith, same, h.given)));
   };
-  tries = λ k c name left is_done there e. record {
+  tries = λ k c name left is_done step there e. record {
     given = h.given;
     each = put_all (HasNames number first) s.collections.unfinished k (having_tried c name left is_done) h.each
         (λ same n. tried_times c name left is_done n e ∙ found (HasNames number first) s.collections.unfinished k c h.each there same n);
   };
-  finishes = λ k c there. record { given = h.given; each = gone_all (HasNames number first) (is_at (nat_cmp k)) s.collections.unfinished h.each };
+  finishes = λ k c e there. record { given = h.given; each = gone_all (HasNames number first) (is_at (nat_cmp k)) s.collections.unfinished h.each };
   reopens = λ e. absurd (true≢false (sym never ∙ ap isnt_reopening e));
 }
+
+-- what each event but a reopening keeps holds after a run without one
+until_reopened : (P : State → Type 0) → ((t : State) (event : Event) → isnt_reopening event ≡ true → P t → OfEachChange P t event) → (s : State) (turns : List Turn) → NeverReopens turns → P s → P (after s turns)
+until_reopened P changes s turns never h = after_between isnt_reopening P (λ t event outcomes once k. step_changes P t event outcomes (changes t event once k)) s turns never h
 
 same_names : (first : Collection) (es : List (ℕ × Collection)) (number : ℕ) → AllByRecursion (λ e. e.0 ≡ number → e.1 ≡ first) es → AllByRecursion (HasNames number first) es
 same_names first [] number h = tt
@@ -74,8 +80,119 @@ keeps : (s : State) (turns : List Turn) (number : ℕ) (first later : Collection
     → collection_at (after s turns).collections number ≡ Some later → (n : List ℕ) → has (taken later) n ≡ has (taken first) n
 keeps s turns number first later h never there then n =
     let start : Keeps s number first = record { given = given_at s h number first there; each = same_names first s.collections.unfinished number (only s.collections.unfinished number first h.ordered there) } in
-    let end = after_between (λ t. Keeps t number first) (λ t event outcomes once k. step_changes (λ u. Keeps u number first) t event outcomes (keeps_changes t event number first once k)) s turns never start in
+    let end = until_reopened (λ t. Keeps t number first) (λ t event once k. keeps_changes t event number first once k) s turns never start in
     same_has (taken later) (taken first) n (found (HasNames number first) (after s turns).collections.unfinished number later end.each then refl n)
+
+-- ---- how long a collection is unfinished
+
+-- a collection of this number is unfinished
+abbrev IsUnfinished : State → ℕ → Type 0
+IsUnfinished s number = IsSome (collection_at s.collections number)
+
+different : (k number : ℕ) → not (k == number) ≡ true → number ≢ k
+different k number e = grind (arith, nat_tests)
+
+-- it isn't this one that the event finishes
+ends_other : (event : Event) (number k : ℕ) → isnt_ending number event ≡ true → event ≡ events.GcEnd k → number ≢ k
+ends_other event number k never e = different k number (sym (ap (isnt_ending number) e) ∙ never)
+
+stays_changes : (s : State) (event : Event) (number : ℕ) → isnt_ending number event ≡ true → IsUnfinished s number → OfEachChange (λ t. IsUnfinished t number) s event
+stays_changes s event number never h = record {
+  same = h;
+  lives = λ id segment move. h;
+  reads = λ now move. h;
+  opens = λ id segment component e there absent. h;
+  puts = λ name body file e good. h;
+  commits = λ payload ids last e. h;
+  collects = λ outcomes. h;
+  releases = λ id segment. h;
+  deletes = λ id n segment may. h;
+  begins = put_stays s.collections.unfinished s.collections.next number (begun (garbage s)) h;
+  tries = λ k c name left is_done step there e. put_stays s.collections.unfinished k number (having_tried c name left is_done) h;
+  finishes = λ k c e there. ap is_some (gone_other s.collections.unfinished k number (ends_other event number k never e)) ∙ h;
+  reopens = λ e. absurd (true≢false (sym never ∙ ap (isnt_ending number) e));
+}
+
+stays : (s : State) (turns : List Turn) (number : ℕ) → NeverEnds number turns → IsUnfinished s number → IsUnfinished (after s turns) number
+stays s turns number never h =
+    after_between (isnt_ending number) (λ t. IsUnfinished t number) (λ t event outcomes once k. step_changes (λ u. IsUnfinished u number) t event outcomes (stays_changes t event number once k)) s turns never h
+
+-- it isn't the event's own
+steps_other : (event : Event) (number k : ℕ) → isnt_of number event ≡ true → event ≡ events.GcStep k → number ≢ k
+steps_other event number k never e = different k number (sym (ap (isnt_of number) e) ∙ never)
+
+finishes_other : (event : Event) (number k : ℕ) → isnt_of number event ≡ true → event ≡ events.GcEnd k → number ≢ k
+finishes_other event number k never e = different k number (sym (ap (isnt_of number) e) ∙ never)
+
+alone_changes : (s : State) (event : Event) (number : ℕ) (c : Collection) → number < s.collections.next → isnt_of number event ≡ true → collection_at s.collections number ≡ Some c
+    → OfEachChange (λ t. collection_at t.collections number ≡ Some c) s event
+alone_changes s event number c given never h = record {
+  same = h;
+  lives = λ id segment move. h;
+  reads = λ now move. h;
+  opens = λ id segment component e there absent. h;
+  puts = λ name body file e good. h;
+  commits = λ payload ids last e. h;
+  collects = λ outcomes. h;
+  releases = λ id segment. h;
+  deletes = λ id n segment may. h;
+  begins = put_other s.collections.unfinished s.collections.next number (begun (garbage s)) (λ same. absurd (omega (arith, same, given))) ∙ h;
+  tries = λ k d name left is_done step there e. put_other s.collections.unfinished k number (having_tried d name left is_done) (steps_other event number k never step) ∙ h;
+  finishes = λ k d e there. gone_other s.collections.unfinished k number (finishes_other event number k never e) ∙ h;
+  reopens = λ e. absurd (true≢false (sym never ∙ ap (isnt_of number) e));
+}
+
+alone : (s : State) (event : Event) (outcomes : List Bool) (number : ℕ) (c : Collection) → CollectsSoundly s → isnt_of number event ≡ true → collection_at s.collections number ≡ Some c
+    → collection_at (step s event outcomes).1.collections number ≡ Some c
+alone s event outcomes number c h never there =
+    step_changes (λ t. collection_at t.collections number ≡ Some c) s event outcomes (alone_changes s event number c (given_at s h number c there) never there)
+
+-- a number was given, and no collection has it
+record IsOver (s : State) (number : ℕ) : Type 0 where
+  given : number < s.collections.next
+  none : collection_at s.collections number ≡ None
+
+-- it isn't that of an unfinished one
+over_other : (s : State) (number k : ℕ) (c : Collection) → IsOver s number → collection_at s.collections k ≡ Some c → number ≢ k
+over_other s number k c h there =
+    let none : collection_at s.collections number ≡ None = h.none in
+    λ same. let some : collection_at s.collections number ≡ Some c = subst (λ (m : ℕ). collection_at s.collections m ≡ Some c) (sym same) there in absurd cc
+
+over_changes : (s : State) (event : Event) (number : ℕ) → isnt_reopening event ≡ true → IsOver s number → OfEachChange (λ t. IsOver t number) s event
+over_changes s event number never h = record {
+  same = h;
+  lives = λ id segment move. record { given = h.given; none = h.none };
+  reads = λ now move. record { given = h.given; none = h.none };
+  opens = λ id segment component e there absent. record { given = h.given; none = h.none };
+  puts = λ name body file e good. record { given = h.given; none = h.none };
+  commits = λ payload ids last e. record { given = h.given; none = h.none };
+  collects = λ outcomes. record { given = h.given; none = h.none };
+  releases = λ id segment. record { given = h.given; none = h.none };
+  deletes = λ id n segment may. record { given = h.given; none = h.none };
+  begins = record {
+    given = omega (arith, h.given);
+    none = put_other s.collections.unfinished s.collections.next number (begun (garbage s)) (λ same. absurd (omega (arith, same, h.given))) ∙ h.none;
+  };
+  tries = λ k c name left is_done step there e. record { given = h.given; none = put_other s.collections.unfinished k number (having_tried c name left is_done) (over_other s number k c h there) ∙ h.none };
+  finishes = λ k c e there. record { given = h.given; none = gone_other s.collections.unfinished k number (over_other s number k c h there) ∙ h.none };
+  reopens = λ e. absurd (true≢false (sym never ∙ ap isnt_reopening e));
+}
+
+once : (s : State) (turns : List Turn) (number : ℕ) → NeverReopens turns → IsOver s number → IsOver (after s turns) number
+once s turns number never h = until_reopened (λ t. IsOver t number) (λ t event never_now k. over_changes t event number never_now k) s turns never h
+
+-- ---- the beginning of a collection
+
+begins : (s : State) → Begins s
+begins s = record {
+  takes = takes s;
+  told = refl;
+  starts = put_found s.collections.unfinished s.collections.next (begun (garbage s));
+  next = refl;
+  files = refl;
+  managed = refl;
+  others = record { catalog = refl; others = λ other differs. put_other s.collections.unfinished s.collections.next other (begun (garbage s)) differs };
+}
 
 -- ---- a step of a collection
 
@@ -101,17 +218,25 @@ tries s number c name left outcomes there e =
       moved = ap (λ (r : StepResult State). collection_at r.1.collections number) now ∙ put_found s.collections.unfinished number (having_tried c name left (is_done outcomes));
       gone = λ n. ap (λ (r : StepResult State). file_at r.1 n) now ∙ tried_file s number c name left (is_done outcomes) n;
       managed = ap (λ (r : StepResult State). r.1.managed) now;
+      next = ap (λ (r : StepResult State). r.1.collections.next) now;
+      others = subst (λ (r : StepResult State). LeavesOthers s r.1 number) (sym now) (record {
+        catalog = refl;
+        others = λ other differs. put_other s.collections.unfinished number other (having_tried c name left (is_done outcomes)) differs;
+      });
     }
 
 -- ---- the end of a collection
+
+-- the end of a collection that is there
+end_of : (s : State) (number : ℕ) (c : Collection) → collection_at s.collections number ≡ Some c → gc_end_step s number ≡ ended s number c
+end_of s number c there = ap (λ (x : Option Collection). given s x (codes "unknown-collection") (ended s number)) there
 
 taken_once : (s : State) (number : ℕ) (c : Collection) → CollectsSoundly s → collection_at s.collections number ≡ Some c → AreOnce (taken c)
 taken_once s number c h there = times_once (taken c) (λ n. omega (arith, taken_held s.collections.unfinished number c n there, once_times (held s.collections) n h.once))
 
 -- the managed names after it
 ended_managed : (s : State) (number : ℕ) (c : Collection) (n : List ℕ) → collection_at s.collections number ≡ Some c → has (gc_end_step s number).1.managed n ≡ (not (has c.done n) && has s.managed n)
-ended_managed s number c n there =
-    ap (λ (x : Option Collection). has (given s x (codes "unknown-collection") (ended s number)).1.managed n) there ∙ has_without c.done s.managed n
+ended_managed s number c n there = ap (λ (r : StepResult State). has r.1.managed n) (end_of s number c there) ∙ has_without c.done s.managed n
 
 -- what failed or wasn't tried isn't done, and is held
 rest_stays : (s : State) (number : ℕ) (c : Collection) (n : List ℕ) → CollectsSoundly s → collection_at s.collections number ≡ Some c → has (c.failed ++ c.untried) n ≡ true
@@ -124,12 +249,18 @@ rest_stays s number c n h there rest =
     )
 
 ends : (s : State) (number : ℕ) (c : Collection) → CollectsSoundly s → collection_at s.collections number ≡ Some c → Ends s number c
-ends s number c h there = record {
-  apart = taken_once s number c h there;
-  done = λ n is. (h.gone number c n there is, ended_managed s number c n there ∙ (rw is refl));
-  stay = λ n rest. let t = rest_stays s number c n h there rest in ended_managed s number c n there ∙ (rw t.0 t.1);
-  others = λ n undone. ended_managed s number c n there ∙ (rw undone refl);
-}
+ends s number c h there =
+    let now = end_of s number c there in record {
+      told = ap (λ (r : StepResult State). r.0) now;
+      apart = taken_once s number c h there;
+      done = λ n is. (h.gone number c n there is, ended_managed s number c n there ∙ (rw is refl));
+      stay = λ n rest. let t = rest_stays s number c n h there rest in ended_managed s number c n there ∙ (rw t.0 t.1);
+      spared = λ n undone. ended_managed s number c n there ∙ (rw undone refl);
+      finished = ap (λ (r : StepResult State). collection_at r.1.collections number) now ∙ gone_none s.collections.unfinished number h.ordered;
+      files = ap (λ (r : StepResult State). r.1.files) now;
+      next = ap (λ (r : StepResult State). r.1.collections.next) now;
+      others = subst (λ (r : StepResult State). LeavesOthers s r.1 number) (sym now) (record { catalog = refl; others = λ other differs. gone_other s.collections.unfinished number other differs });
+    }
 
 -- ---- all steps of a collection
 
@@ -177,7 +308,7 @@ tried_at s number c name left is_done = put_found s.collections.unfinished numbe
 steps_end : (s : State) (number : ℕ) (c : Collection) (names : List (List ℕ)) (outcomes : List Bool) → collection_at s.collections number ≡ Some c → c.untried ≡ names
     → IsEnd s c (done_of names outcomes) (after s (in_steps number names outcomes))
 steps_end s number c [] outcomes there e =
-    subst (λ (x : Option Collection). IsEnd s c [] (given s x (codes "unknown-collection") (ended s number)).1) (sym there)
+    subst (λ (r : StepResult State). IsEnd s c [] r.1) (sym (end_of s number c there))
     (record { files = λ n. refl; managed = ap (λ (l : List (List ℕ)). without l s.managed) (sym (append-nil c.done)); catalog = refl })
 steps_end s number c (name ∷ names) [] there e =
     subst (λ (l : List (List ℕ)). IsEnd s c (name ∷ l) (after s (in_steps number (name ∷ names) []))) (all_done names [] refl)
@@ -199,8 +330,11 @@ few (false ∷ outcomes) h = omega arith
 
 pub collects_in_steps : (s : State) → IsSoundState s → CollectsInSteps s
 collects_in_steps s sound = let h = sound.whole.collecting in record {
-  begins = (put_found s.collections.unfinished s.collections.next (begun (garbage s)), takes s);
+  begins = begins s;
+  stays = stays s;
   keeps = λ turns number first later never there then n. keeps s turns number first later h never there then n;
+  alone = λ event outcomes number c never there. alone s event outcomes number c h never there;
+  once = λ turns number never given none. (once s turns number never (record { given = given; none = none })).none;
   tries = λ number c name left outcomes there e. tries s number c name left outcomes there e;
   spent = λ number c outcomes there e. step_of s number c [] outcomes there e;
   counted = few;

@@ -1,12 +1,13 @@
 -- What runs tell and refuse, computed.
-use Rattle.std.proofs.Common.{◌≡◌, [], ◌∷◌, refl, codes, List, None, false, ◌++◌}
+use Rattle.std.proofs.Common.{◌≡◌, [], ◌∷◌, refl, codes, ℕ, List, Some, None, false, ◌++◌}
 use Rattle.std.specs.Fmt.{digits}
 use Rattle.tv_model.specs.Machine.{report, answers, after, Turn}
-use Rattle.tv_model.specs.Index.{first_state, first_catalog, next_after}
+use Rattle.tv_model.specs.Index.{first_state, first_catalog, next_after, opened_catalog}
 use Rattle.hex.specs.Hex.{encode_with}
 use Rattle.tv_model.proofs.Samples.{first_script, id_a, id_b, unrefused, id_c}
 use Rattle.tv_model.specs.declared.event.Event.TheVariants as events
 use Rattle.tv_model.specs.declared.segment.SegmentComponent.TheVariants.{Postings, Delete, Positions, FastFields, FieldNorms}
+use Rattle.tv_model.specs.declared.segment.LiveSegment.{LiveSegment}
 use Rattle.tv_model.specs.Names.{meta_name}
 use Rattle.tv_model.specs.Collections.{no_collections}
 use Rattle.tv_model.specs.State.{State, no_readers}
@@ -336,3 +337,14 @@ pub deletes_refused : answers (after first_state first_script) (unrefused (event
     ∷ []
 unfolding encode_with digits
 deletes_refused = refl
+
+-- deletes of a foreign commit may have a number that isn't drawn yet, and it is drawn again once the commit doesn't have it any more
+abbrev foreign : List (List ℕ × LiveSegment)
+foreign = (id_b, record { max_doc = 3; deletes = Some (record { num_deleted_docs = 0; opstamp = 3 }) }) ∷ []
+
+pub foreign_told : answers (record first_state { catalog = opened_catalog (record { opstamp = 1; payload = None; segments = foreign }) }) (unrefused (events.Commit None [] ∷ events.Deletes id_b 1 ∷ [])) ≡
+    codes "commit 2 0"
+    ∷ codes "deletes 00000000000000000000000000000001 1 3"
+    ∷ []
+unfolding encode_with digits
+foreign_told = refl

@@ -35,7 +35,7 @@ use Rattle.tv_model.proofs.HeldNames.{times, some_times, no_times, has_times, on
 -- ---- what is living
 
 -- the names that are needed beside `meta.json`
-living_parts : (c : Catalog) (n : List ℕ) → has (living c) n ≡ (is meta_name n || (has (flat_map segment_names c.commit.segments) n || has (flat_map segment_names c.live) n))
+pub living_parts : (c : Catalog) (n : List ℕ) → has (living c) n ≡ (is meta_name n || (has (flat_map segment_names c.commit.segments) n || has (flat_map segment_names c.live) n))
 living_parts c n = ap (λ (b : Bool). is meta_name n || b) (names_both segment_names c.commit.segments c.live n)
 
 -- where each name of the live segments was needed, nothing more is needed
@@ -96,7 +96,7 @@ kept_sound s c files names managed fewer gone sorted h = record {
   sorted = sorted;
 }
 
-unnamed : (live committed named : Bool) → (live || committed || named) ≡ false → named ≡ false
+pub unnamed : (live committed named : Bool) → (live || committed || named) ≡ false → named ≡ false
 unnamed live committed named e = grind (arith, e)
 
 -- no name of a segment that comes is held, and one that gets its documents keeps its names
@@ -329,7 +329,7 @@ collecting_changes s event h = record {
   releases = λ id segment. released_collecting s id segment h;
   deletes = λ id n segment may. deleted_collecting s id n segment may h;
   begins = begun_collecting s h;
-  tries = λ number c name left is_done there e. tried_collecting s number c name left is_done there e h;
-  finishes = λ number c there. ended_collecting s number c there h;
+  tries = λ number c name left is_done step there e. tried_collecting s number c name left is_done there e h;
+  finishes = λ number c e there. ended_collecting s number c there h;
   reopens = λ e. nothing_held (reopened s) refl h.sorted;
 }

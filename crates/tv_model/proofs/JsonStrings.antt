@@ -72,9 +72,6 @@ hexes a b c d u e xs =
     found true n e = refl
     found false n e = none_some u e
 
-abbrev Within_plain : List ℕ → List ℕ → Type 0
-Within_plain xs v = Closes (length xs) (λ r. lex in_string (xs ++ r)) (λ r. content plain (xs ++ r)) v
-
 abbrev Plainly : List ℕ → Type 0
 Plainly xs = (v : List ℕ) → content plain xs ≡ Some v → Closes (length xs) (λ r. lex in_string (xs ++ r)) (λ r. content plain (xs ++ r)) v
 

@@ -4,6 +4,7 @@ pub mod Changes
 pub mod ChecksumFits
 pub mod ComputedValues
 pub mod CollectionStates
+pub mod DeleteNames
 pub mod HeldNames
 pub mod HeldStates
 pub mod Collects
@@ -25,11 +26,13 @@ pub mod SpelledCommits
 pub mod OneMeaning
 pub mod StrippedTexts
 pub mod ListTexts
+pub mod NewDeletes
 pub mod NoFeeds
 pub mod Numbered
 pub mod PlainNames
 pub mod OpenedStates
 pub mod ManagedStates
+pub mod Reopenings
 pub mod Required
 pub mod Samples
 pub mod SegmentNames

@@ -56,8 +56,8 @@ step_kept P s event outcomes keeps h = step_changes (λ u. P u.managed) s event 
   releases = λ id segment. h;
   deletes = λ id n segment may. h;
   begins = h;
-  tries = λ number c name left is_done there e. h;
-  finishes = λ number c there. keeps.fewer (λ name. not (has c.done name)) s.managed h;
+  tries = λ number c name left is_done step there e. h;
+  finishes = λ number c e there. keeps.fewer (λ name. not (has c.done name)) s.managed h;
   reopens = λ e. h;
 })
 

@@ -1,5 +1,6 @@
 -- Entries under numbers, in the order of the numbers.
-use Rattle.std.proofs.Common.{◌≡◌, ℕ, ◌<◌, ◌≤◌, Bool, true, false, true≢false, cond, List, [], ◌∷◌, Option, Some, None, refl, sym, ap, subst, ◌∙◌, arith}
+use Rattle.std.proofs.Common.{◌≡◌, ◌≢◌, ℕ, ◌<◌, ◌≤◌, Bool, true, false, true≢false, cond, List, [], ◌∷◌, Option, Some, None, refl, sym, ap, subst, ◌∙◌, arith}
+use Rattle.std.specs.Prelude.{is_some}
 use Rattle.std.specs.declared.cmp.Ordering.{Ordering}
 use Rattle.std.specs.declared.cmp.Ordering.TheVariants.{Less, Equal, Greater}
 use Rattle.std.specs.Cmp.{eq_by_cmp_equiv, nat_cmp_total}
@@ -114,4 +115,50 @@ put_found {X} (e ∷ es) k v =
       | Less ↦ λ r. rw (itself k) refl
       | Equal ↦ λ r. ap (λ (b : Bool). cond b (Some v) (lookup (is_at (nat_cmp k)) es)) (ap is_eq r)
       | Greater ↦ λ r. ap (λ (b : Bool). cond b (Some e.1) (lookup (is_at (nat_cmp k)) (insert_entry nat_cmp es k v))) (ap is_eq r) ∙ put_found es k v
+    ] refl
+
+different : (n k : ℕ) → n ≢ k → is_at (nat_cmp n) k ≡ false
+different n k other = false_from_ne_true (is_at (nat_cmp n) k) (λ e. other (same_number n k e))
+
+-- and what stands at another number stays
+pub put_other : {X : Type 0} (es : List (ℕ × X)) (k n : ℕ) (v : X) → n ≢ k → lookup (is_at (nat_cmp n)) (insert_entry nat_cmp es k v) ≡ lookup (is_at (nat_cmp n)) es
+put_other [] k n v other = rw (different n k other) refl
+put_other {X} (e ∷ es) k n v other =
+    elim (nat_cmp k e.0) as (λ r. nat_cmp k e.0 ≡ r → lookup (is_at (nat_cmp n)) (match_ordering r ((k, v) ∷ e ∷ es) ((e.0, v) ∷ es) (e ∷ insert_entry nat_cmp es k v)) ≡ lookup (is_at (nat_cmp n)) (e ∷ es)) [
+      | Less ↦ λ r. rw (different n k other) refl
+      | Equal ↦ λ r.
+          let key : k ≡ e.0 = ranked k e.0 Equal (sym r) in
+          rw (different n e.0 (λ same. other (same ∙ sym key))) refl
+      | Greater ↦ λ r. ap (λ (o : Option X). cond (is_at (nat_cmp n) e.0) (Some e.1) o) (put_other es k n v other)
+    ] refl
+
+-- an entry stays where one is put
+pub put_stays : {X : Type 0} (es : List (ℕ × X)) (k n : ℕ) (v : X) → is_some (lookup (is_at (nat_cmp n)) es) ≡ true → is_some (lookup (is_at (nat_cmp n)) (insert_entry nat_cmp es k v)) ≡ true
+put_stays {X} es k n v there = either (is_at (nat_cmp n) k) refl where
+  either : (b : Bool) → is_at (nat_cmp n) k ≡ b → is_some (lookup (is_at (nat_cmp n)) (insert_entry nat_cmp es k v)) ≡ true
+  either true e = subst (λ (m : ℕ). is_some (lookup (is_at (nat_cmp m)) (insert_entry nat_cmp es k v)) ≡ true) (sym (same_number n k e)) (ap is_some (put_found es k v))
+  either false e = ap is_some (put_other es k n v (λ same. true≢false (sym (itself n) ∙ ap (λ (m : ℕ). is_at (nat_cmp n) m) same ∙ e))) ∙ there
+
+-- where one is taken away, those at other numbers stay
+pub gone_other : {X : Type 0} (es : List (ℕ × X)) (k n : ℕ) → n ≢ k → lookup (is_at (nat_cmp n)) (remove_entry (is_at (nat_cmp k)) es) ≡ lookup (is_at (nat_cmp n)) es
+gone_other [] k n other = refl
+gone_other {X} (e ∷ es) k n other =
+    elim (is_at (nat_cmp k) e.0) as (λ b. is_at (nat_cmp k) e.0 ≡ b → lookup (is_at (nat_cmp n)) (cond b es (e ∷ remove_entry (is_at (nat_cmp k)) es)) ≡ lookup (is_at (nat_cmp n)) (e ∷ es)) [
+      | true ↦ λ at. rw (different n e.0 (λ same. other (same ∙ sym (same_number k e.0 at)))) refl
+      | false ↦ λ at. ap (λ (o : Option X). cond (is_at (nat_cmp n) e.0) (Some e.1) o) (gone_other es k n other)
+    ] refl
+
+none_below : {X : Type 0} (es : List (ℕ × X)) (m k : ℕ) → AllByRecursion (λ f. m < f.0) es → k ≤ m → lookup (is_at (nat_cmp k)) es ≡ None
+none_below {X} es m k h le = either (lookup (is_at (nat_cmp k)) es) refl where
+  either : (there : Option X) → lookup (is_at (nat_cmp k)) es ≡ there → lookup (is_at (nat_cmp k)) es ≡ None
+  either None e = e
+  either (Some v) e = absurd (omega (arith, found (λ f. m < f.0) es k v h e, le))
+
+-- and where numbers rise, nothing stands at its own
+pub gone_none : {X : Type 0} (es : List (ℕ × X)) (k : ℕ) → Rises es → lookup (is_at (nat_cmp k)) (remove_entry (is_at (nat_cmp k)) es) ≡ None
+gone_none [] k h = refl
+gone_none {X} (e ∷ es) k h =
+    elim (is_at (nat_cmp k) e.0) as (λ b. is_at (nat_cmp k) e.0 ≡ b → lookup (is_at (nat_cmp k)) (cond b es (e ∷ remove_entry (is_at (nat_cmp k)) es)) ≡ None) [
+      | true ↦ λ at. none_below es e.0 k h.0 (omega (arith, same_number k e.0 at))
+      | false ↦ λ at. rw at (gone_none es k h.1)
     ] refl

@@ -46,8 +46,8 @@ step_moves s event outcomes never = step_changes (Moves s) s event outcomes (rec
   releases = λ id segment. Stays refl refl refl;
   deletes = λ id n segment may. Draws refl refl may.last refl;
   begins = Stays refl refl refl;
-  tries = λ number c name left is_done there e. Stays refl refl refl;
-  finishes = λ number c there. Stays refl refl refl;
+  tries = λ number c name left is_done step there e. Stays refl refl refl;
+  finishes = λ number c e there. Stays refl refl refl;
   reopens = λ e. absurd (reopens_again event never e);
 })
 
@@ -63,7 +63,7 @@ pub after_append : (s : State) (front rest : List Turn) → after s (front ++ re
 after_append s [] rest = refl
 after_append s (turn ∷ front) rest = after_append (step s turn.0 turn.1).1 front rest
 
-all_weaker : {X : Type 0} (P Q : X → Type 0) (xs : List X) → ((x : X) → P x → Q x) → AllByRecursion P xs → AllByRecursion Q xs
+pub all_weaker : {X : Type 0} (P Q : X → Type 0) (xs : List X) → ((x : X) → P x → Q x) → AllByRecursion P xs → AllByRecursion Q xs
 all_weaker P Q [] f h = tt
 all_weaker P Q (x ∷ xs) f h = (f x h.0, all_weaker P Q xs f h.1)
 
@@ -274,7 +274,7 @@ stays_searcher t u n first move h = record {
 }
 
 searcher_after : (t : State) (turns : List Turn) (n : ℕ) (first : Snapshot) → NeverReopens turns → Searcher t n first → Searcher (after t turns) n first
-searcher_after t turns n first never h = after_between (λ u. Searcher u n first) (λ u event outcomes once k. stays_searcher u (step u event outcomes).1 n first (step_moves u event outcomes once) k) t turns never h
+searcher_after t turns n first never h = after_between isnt_reopening (λ u. Searcher u n first) (λ u event outcomes once k. stays_searcher u (step u event outcomes).1 n first (step_moves u event outcomes once) k) t turns never h
 
 nothing : {X : Type 0} (es : List X) → AllByRecursion (λ e. Unit {0}) es
 nothing [] = tt
@@ -308,7 +308,7 @@ reading_step t u n opstamp move h = record {
 }
 
 reading_after : (t : State) (turns : List Turn) (n opstamp : ℕ) → NeverReopens turns → Reading t n opstamp → Reading (after t turns) n opstamp
-reading_after t turns n opstamp never h = after_between (λ u. Reading u n opstamp) (λ u event outcomes once k. reading_step u (step u event outcomes).1 n opstamp (step_moves u event outcomes once) k) t turns never h
+reading_after t turns n opstamp never h = after_between isnt_reopening (λ u. Reading u n opstamp) (λ u event outcomes once k. reading_step u (step u event outcomes).1 n opstamp (step_moves u event outcomes once) k) t turns never h
 
 goes_on : (t : State) (turns : List Turn) (n : ℕ) (first later : Reader) → NeverReopens turns → Orderly t → reader_at t.catalog n ≡ Some first → reader_at (after t turns).catalog n ≡ Some later
     → first.shown.commit.opstamp ≤ later.shown.commit.opstamp

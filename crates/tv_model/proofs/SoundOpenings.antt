@@ -12,7 +12,7 @@ use Rattle.tv_model.specs.Commits.{Commit, Settings, default_settings, first_com
 use Rattle.tv_model.specs.Schemas.{IsSchema}
 use Rattle.tv_model.specs.Collections.{no_collections}
 use Rattle.tv_model.specs.State.{Catalog, State, FileState, Sealed, no_readers}
-use Rattle.tv_model.specs.Index.{IsFileOf, IsSoundMeta, IsSoundImage, FindsCommit, managed_with, OpensTo, OpenedIndex, FoundIndex, next_after, opened_catalog}
+use Rattle.tv_model.specs.Index.{IsFileOf, IsSoundMeta, IsSoundImage, FindsCommit, managed_with, OpensTo, OpenedIndex, next_after, opened_catalog}
 use Rattle.tv_model.proofs.Entries.{is_text, is_itself, is_by_order, sorted_put}
 
 -- ---- the files of the state
@@ -128,17 +128,6 @@ pub sound_index : (bytes text : List ℕ) (reads : Reads) → IsSchema bytes tex
 sound_index bytes text reads spelled sound =
     let o = sound_opens text reads sound in
     record { form = record { settings = o.0; schema = text }; state = o.1; spelled = spelled; opens = o.2 }
-
--- an index to which a directory opens stands there
-pub found_of : (bytes : List ℕ) (reads : Reads) → OpenedIndex bytes reads → FoundIndex bytes reads
-found_of bytes reads o = record {
-  form = o.form;
-  commit = o.state.catalog.commit;
-  listed = o.opens.listed;
-  spelled = o.spelled;
-  listing = o.opens.listing;
-  found = o.opens.found;
-}
 
 -- ---- what a directory opens to
 

@@ -34,7 +34,7 @@ use Rattle.tv_model.proofs.Changes.{SegmentMove, IsNew, HasDocs, MayDelete, OfEa
 use Rattle.tv_model.proofs.Entries.{is_itself, is_text, text_at, lookup_put, has_inserted, has_kept}
 use Rattle.tv_model.proofs.Required.{by_one, Begins, required_begins, name_is_file, begins_named, required_put, required_deleted, required_found, required_some, required_left, each_put, each_some, each_left}
 use Rattle.tv_model.proofs.CollectionStates.{has_without, at_without, at_left, meta_living, living_spared}
-use Rattle.tv_model.proofs.HeldStates.{done_held, nothing_held}
+use Rattle.tv_model.proofs.HeldStates.{done_held, nothing_held, unnamed}
 use Rattle.tv_model.proofs.WholeStates.{at_all_left, whole_changes, put_since, kept_since, left_since}
 
 -- the state of an index that was just made
@@ -121,9 +121,6 @@ read_sound s now whole h = record {
 }
 
 -- ---- segments that come or get their documents
-
-unnamed : (live committed named : Bool) → (live || committed || named) ≡ false → named ≡ false
-unnamed live committed named e = grind (arith, e)
 
 -- no file has the name of a segment that comes
 no_file : (s : State) (id n : List ℕ) → is_in_use s.catalog s.managed id ≡ false → Begins id n → IsSoundState s → is_some (file_at s n) ≡ true → ⊥
@@ -350,8 +347,8 @@ sound_changes s event fits h = let w = whole_changes s event h.whole in record {
   releases = λ id segment. released_sound s id segment (w.releases id segment) h;
   deletes = λ id m segment may. deleted_sound s id m segment may (w.deletes id m segment may) h;
   begins = other_collections s (gc_begin_step s).1.collections w.begins h;
-  tries = λ number c name left is_done there e. tried_sound s number c name left is_done (w.tries number c name left is_done there e) h;
-  finishes = λ number c there. ended_sound s number c there (w.finishes number c there) h;
+  tries = λ number c name left is_done step there e. tried_sound s number c name left is_done (w.tries number c name left is_done step there e) h;
+  finishes = λ number c e there. ended_sound s number c there (w.finishes number c e there) h;
   reopens = λ e. reopened_sound s (w.reopens e) h;
 }
 

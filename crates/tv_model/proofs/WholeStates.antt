@@ -115,8 +115,8 @@ whole_changes s event h = let k = collecting_changes s event h.collecting in rec
   releases = λ id segment. record { each = λ n is. left_whole s (segment_names (id, segment)) n (h.each n is); collecting = k.releases id segment };
   deletes = λ id m segment may. record { each = λ n is. left_whole s (delete_name id segment.deletes ∷ []) n (h.each n is); collecting = k.deletes id m segment may };
   begins = record { each = h.each; collecting = k.begins };
-  tries = λ number c name left is_done there e. record { each = tried_whole s number c name left is_done there e h.collecting h.each; collecting = k.tries number c name left is_done there e };
-  finishes = λ number c there. record { each = h.each; collecting = k.finishes number c there };
+  tries = λ number c name left is_done step there e. record { each = tried_whole s number c name left is_done there e h.collecting h.each; collecting = k.tries number c name left is_done step there e };
+  finishes = λ number c e there. record { each = h.each; collecting = k.finishes number c e there };
   reopens = λ e. record { each = λ n is. rw (at_all_left s.files n, left_sealed true (file_at s n)) (h.each n is); collecting = k.reopens e };
 }
 

@@ -23,7 +23,9 @@ pub mod SoundStates
 pub mod Living
 pub mod CollectionEvents
 pub mod DeleteEvents
+pub mod NewNames
 pub mod ReopenEvents
+pub mod Reopening
 pub mod ReaderEvents
 pub mod SearcherEvents
 pub mod Readable

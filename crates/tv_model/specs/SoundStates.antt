@@ -12,7 +12,7 @@ use Rattle.tv_model.specs.Living.{living}
 use Rattle.tv_model.specs.State.{State, Sealed, file_at}
 use Rattle.tv_model.specs.Index.{IsFileOf}
 
--- What holds of the names that unfinished collections took.
+-- What holds of unfinished collections and of the names that they took.
 pub record CollectsSoundly (s : State) : Type 0 where
   -- they are managed
   pub managed : (n : List ℕ) → has (held s.collections) n ≡ true → has s.managed n ≡ true
@@ -28,10 +28,12 @@ pub record CollectsSoundly (s : State) : Type 0 where
   pub ordered : Rises s.collections.unfinished
   pub sorted : IsStrictlySortedBy byte_cmp s.managed
 
--- The files that the commit requires are sealed, and no collection takes one of them.
+-- The files that the commit requires are sealed, and unfinished collections are sound, so that none of them takes one of these files.
 pub record IsWhole (s : State) : Type 0 where
+  -- each of these files is sealed
   pub each : (n : List ℕ) → has (all_required s.catalog.commit.segments) n ≡ true
       → is_sealed (file_at s n) ≡ true
+  -- collections took managed names alone that nothing needs, each name once, and what is done has no file
   pub collecting : CollectsSoundly s
 
 -- what is sealed of the files that these segments require has a body and a footer
@@ -50,11 +52,11 @@ pub record IsSoundState (s : State) : Type 0 where
   pub names : (n : List ℕ) → is_some (file_at s n) ≡ true → IsFileOf n
   -- a file is managed
   pub listed : (n : List ℕ) → is_some (file_at s n) ≡ true → has s.managed n ≡ true
-  -- the files that the commit requires are sealed, and no collection takes one of them
+  -- the files that the commit requires are sealed, and unfinished collections are sound
   pub whole : IsWhole s
-  -- and have a body and a footer
+  -- these files have a body and a footer
   pub good : AreGood s s.catalog.commit.segments
-  -- so has what is sealed of the files of the live segments
+  -- so has what is sealed of the files that the live segments require
   pub live : AreGood s s.catalog.live
   -- the next commit gets a higher number than the current one has, or both numbers are the end of 64 bits
   pub stamps : (s.catalog.commit.opstamp < s.catalog.next) ⊎ ((s.catalog.commit.opstamp ≡ last_stamp) × (s.catalog.next ≡ last_stamp))

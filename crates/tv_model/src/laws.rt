@@ -1,5 +1,5 @@
 //! Laws of the machine. Each function does nothing: its contract is the law.
-ghost use Rattle.std.specs.Prelude.{◌≡◌, ◌<◌, ◌^◌, ◌∷◌, ◌++◌, ◌↔◌, Bool, IsSome, IsUtf8};
+ghost use Rattle.std.specs.Prelude.{◌≡◌, ◌≢◌, ◌<◌, ◌^◌, ◌∷◌, ◌++◌, ◌↔◌, Bool, IsSome, IsUtf8};
 ghost use Rattle.std.specs.Prelude.{List, [], None, Option, Some, true, ℕ};
 ghost use Rattle.std.specs.List.{AllByRecursion};
 ghost use Rattle.std.specs.List.Sorted.{IsStrictlySortedBy};
@@ -13,18 +13,22 @@ ghost use Rattle.tv_model.specs.Collecting.{Collects, CollectsIn, CollectsInStep
 ghost use Rattle.tv_model.specs.Collecting.{CollectsAllElse, IsAtOnce};
 ghost use Rattle.tv_model.specs.Collections.{Collection};
 ghost use Rattle.tv_model.specs.Commits.{Commit, IsCommit, Settings, printed};
+ghost use Rattle.tv_model.specs.DeleteEvents.{delete_name, deletes_step, next_deletes};
 ghost use Rattle.tv_model.specs.Files.{Reads};
 ghost use Rattle.tv_model.specs.Footer.{HasBody, IsFramed, body_of, sealed};
 ghost use Rattle.tv_model.specs.FooterForm.{FooterNumbers};
 ghost use Rattle.tv_model.specs.Framing.{footer_of};
 ghost use Rattle.tv_model.specs.Ids.{IsId};
-ghost use Rattle.tv_model.specs.Index.{IsSoundImage, OpensTo};
+ghost use Rattle.tv_model.specs.Index.{DirectoryHolds, IsSoundImage, OpensTo, first_catalog};
 ghost use Rattle.tv_model.specs.Listing.{IsListed, IsListOf, list_text};
 ghost use Rattle.tv_model.specs.Machine.{Turn, events_of, step};
 ghost use Rattle.tv_model.specs.Meaning.{Means};
 ghost use Rattle.tv_model.specs.MetaJson.{SpellsMeta};
 ghost use Rattle.tv_model.specs.Names.{byte_cmp};
+ghost use Rattle.tv_model.specs.NewNames.{DrawsInOrder, IsNewDelete};
 ghost use Rattle.tv_model.specs.Readable.{CanRead};
+ghost use Rattle.tv_model.specs.ReopenEvents.{reopened};
+ghost use Rattle.tv_model.specs.Reopening.{AreAlike, found_in};
 ghost use Rattle.tv_model.specs.Schemas.{IsSchemaText, IsSchemaTree, stripped};
 ghost use Rattle.tv_model.specs.Script.{Fits};
 ghost use Rattle.tv_model.specs.Segments.{name_of};
@@ -46,7 +50,10 @@ pub fn searchers_keep_their_commit()
 {}
 
 /// A sound start opens to a state, and to sound states alone. Each event of a script leaves a sound
-/// state sound. The files that the commit of such a state requires can be read.
+/// state sound. The files that the commit of such a state requires can be read. A directory that
+/// holds such a state opens to what a reopening leaves of it, but that a file which was left has
+/// the bytes that its name reads. What reads opens to one state at most, but for how its files are
+/// listed.
 pub fn sound_starts_open_to_sound_states()
     ensures exists { (schema : List ℕ) (reads : Reads) → IsSoundImage schema reads
         → (settings : Settings) × (s : State) × OpensTo settings schema reads s }
@@ -55,14 +62,22 @@ pub fn sound_starts_open_to_sound_states()
     ensures steps { (s : State) (event : Event) (outcomes : List Bool) → Fits event
         → IsSoundState s → IsSoundState (step s event outcomes).1 }
     ensures reads { (s : State) → IsSoundState s → CanRead s }
+    ensures reopens { (settings : Settings) (schema : List ℕ) (reads : Reads) (s : State)
+        → IsSoundState s → DirectoryHolds settings schema reads s
+        → OpensTo settings schema reads (found_in reads (reopened s)) }
+    ensures one { (settings others : Settings) (schema : List ℕ) (reads : Reads) (s t : State)
+        → OpensTo settings schema reads s → OpensTo others schema reads t → AreAlike s t }
 {}
 
-/// A collection takes exactly the managed names that nothing needs and no other collection holds. Each
-/// of them is told as done or as failed, and those that failed stay managed. So does each collection of
-/// a run. A collection in steps takes the same names and keeps them until it ends, tells each that it
-/// tries, and takes out those alone that are done; one at once does to files and names what one in steps
-/// does with the same outcomes. From a sound state on, a collection at once of which no delete is refused
-/// leaves exactly the files that are needed or held.
+/// A collection at once takes exactly the managed names that nothing needs and no other collection
+/// holds, and tells each of them as done or as failed. What is done has no file and is managed no
+/// more; all else stays. So does each collection of a run. From a sound state on, one in steps
+/// takes the same names, and is unfinished and has these names until its end or a reopening. Its
+/// step tells the name that it tries, and changes no other file; its end takes those names out of
+/// the managed ones that are done. Its events change neither the catalog nor another collection,
+/// and no other events change it. One at once does to the files, the managed names and the catalog
+/// what one in steps does with the same outcomes. From a sound state one at once of which no delete
+/// is refused leaves exactly the files that are needed or held.
 pub fn collections_take_what_nothing_needs()
     ensures collects { (s : State) (outcomes : List Bool)
         → IsStrictlySortedBy byte_cmp s.managed → Collects s outcomes }
@@ -92,14 +107,23 @@ pub fn validations_name_damaged_files()
     ensures validates { (s : State) → Validates s }
 {}
 
-/// The files of different segments have different names. Where no documents are deleted, a delete file
-/// has the name of the one with the number 0.
+/// The files of different segments have different names. Where no documents are deleted, a delete
+/// file has the name of the one with the number 0. From a sound state an event of deletes that
+/// isn't refused, as it changes the state, gives its segment a new name for its delete file.
+/// Numbers of deletes are drawn in order in an index that was just made, and from a sound state
+/// each event leaves them so.
 pub fn names_tell_their_segment()
     ensures segment { (id other : List ℕ) (deletes others : Option DeleteMeta)
         (component second : SegmentComponent) → IsId id → IsId other
         → name_of id deletes component ≡ name_of other others second → id ≡ other }
     ensures no_deletes { (id : List ℕ) (n : ℕ) → name_of id None Delete
         ≡ name_of id (Some (record { num_deleted_docs = n; opstamp = 0 })) Delete }
+    ensures new_name { (s : State) (id : List ℕ) (n : ℕ) → IsSoundState s
+        → (deletes_step s id n).1 ≢ s
+        → IsNewDelete s id (delete_name id (Some (next_deletes s.catalog n))) }
+    ensures first_drawn { DrawsInOrder first_catalog }
+    ensures drawn { (s : State) (event : Event) (outcomes : List Bool) → IsSoundState s
+        → DrawsInOrder s.catalog → DrawsInOrder (step s event outcomes).1.catalog }
 {}
 
 /// Ids are ordered by their bytes, and two are the same exactly where their bytes are.

@@ -1,4 +1,5 @@
 use Rattle.std.proofs.Common.{refl}
+use Rattle.tv_model.proofs.NewDeletes.{first_in_order, new_delete, step_in_order}
 use Rattle.tv_model.proofs.SegmentNames.{one_segment}
 use Rattle.tv_model.proofs.laws.names_tell_their_segment.Goals as goal
 
@@ -6,4 +7,7 @@ pub returns : goal.returns
 returns c = record {
   segment = λ id other deletes others component second h k e. one_segment id other deletes others component second h k e;
   no_deletes = λ id n. refl;
+  new_name = new_delete;
+  first_drawn = first_in_order;
+  drawn = step_in_order;
 }

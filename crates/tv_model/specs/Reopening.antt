@@ -1,0 +1,22 @@
+-- What an opening finds of the files that were left, and that it finds one state.
+use Rattle.std.specs.Prelude.{ℕ, ◌≡◌, List, map, Option, Some, None}
+use Rattle.tv_model.specs.Files.{Reads}
+use Rattle.tv_model.specs.State.{State, FileState, Sealed, Open, Left, file_at}
+
+-- a file that was left is found with the bytes that its name reads, and a sealed one as it is
+abbrev pub found_file : FileState → (read : Option (List ℕ)) → FileState
+found_file (Sealed bytes) read = Sealed bytes
+found_file (Open body) read = Open body
+found_file Left None = Left
+found_file Left (Some bytes) = Sealed bytes
+
+-- the state with its files as such a directory reads them
+abbrev pub found_in : Reads → State → State
+found_in reads s = record s { files = map (λ e. (e.0, found_file e.1 (reads e.0))) s.files }
+
+-- Two states are one, but for how their files are listed.
+pub record AreAlike (s t : State) : Type 0 where
+  pub catalog : s.catalog ≡ t.catalog
+  pub files : (n : List ℕ) → file_at s n ≡ file_at t n
+  pub managed : s.managed ≡ t.managed
+  pub collections : s.collections ≡ t.collections
