@@ -96,7 +96,7 @@ impl<T> Inventory<T> {
 
 impl<T: Drop> Inventory<T> {
     /// Takes a value in, and answers its first ticket, with a number that no entry has. Where memory is
-    /// wanted, the value is dropped.
+    /// wanted, or no number is left, nothing changes and the value is dropped.
     pub fn track(&mut self, value: T) -> Result<Ticket, Memory>
         ensures fresh { IfOk result (λ ticket. find (is_at ticket) self.old ≡ None) }
         ensures ok { IfOk result (λ ticket. self.new ≡ tracked ticket value self.old) }
@@ -115,8 +115,8 @@ impl<T: Drop> Inventory<T> {
         Ok(Ticket { number })
     }
 
-    /// One more ticket of the same number. A ticket of no entry has a further one without effect. Takes
-    /// no memory.
+    /// One more ticket of the same number, unless as many are out as can be counted. A ticket of no
+    /// entry has a further one without effect. Takes no memory.
     pub fn share(&mut self, t: &Ticket) -> Result<Ticket, Exhausted>
         ensures number { IfOk result (λ other. other ≡ t.now) }
         ensures ok { IfOk result (λ _. self.new ≡ change_at (is_at t.now) one_more self.old) }

@@ -12,7 +12,8 @@ pub trait Source {
     /// What is told of the source.
     ghost view: { Self → SourceView };
 
-    /// Reads into the front of `into`, and answers how many bytes came. None come only at the end.
+    /// Reads into the front of `into`, and answers how many bytes came. None come only at the end, or
+    /// where `into` is empty.
     fn read(&mut self, into: &mut [u8]) -> Result<usize, IoFault>
         ensures count { IfOk result (λ n. n ≤ length into.old) }
         ensures bytes { IfOk result

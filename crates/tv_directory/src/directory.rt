@@ -138,7 +138,8 @@ pub trait Directory {
         ensures frame { OnlyReads told (view self.old) (view self.new) }
         ensures images { tells_images → KeepsDisk (disk self.old) (disk self.new) };
 
-    /// Gives the name these bytes in one step.
+    /// Gives the name these bytes in one step. After `meta.json` was written, a notice stands for those
+    /// who watch.
     fn atomic_write(&mut self, name: &str, bytes: &[u8]) -> Result<(), IoError>
         requires { is_file_name name.now ≡ true }
         ensures gives { Gives told (view self.old) (view self.new) name.now bytes.now result }

@@ -16,7 +16,7 @@ use std::alloc::Global;
 use std::collections::BTreeMap;
 use tv_model::{FileName, Memory};
 
-/// A directory in memory, whose calls never fail but for want of memory. `C` is who may watch it.
+/// A directory in memory, whose calls no device refuses. `C` is who may watch it.
 #[derive(Drop)]
 pub struct RamDirectory<C> {
     pub(crate) alloc: Global,

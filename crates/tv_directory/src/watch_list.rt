@@ -142,8 +142,8 @@ impl<C: Drop> CallbackList<C> {
         Ok(WatchHandle::new(ticket.number()))
     }
 
-    /// One more handle of the same callback. A handle that names nobody has a further one without
-    /// effect. Takes no memory.
+    /// One more handle of the same callback, unless as many are out as can be counted. A handle that
+    /// names nobody has a further one without effect. Takes no memory.
     pub fn share(&mut self, handle: &WatchHandle) -> Result<WatchHandle, Exhausted>
         ensures number { IfOk result (λ other. other ≡ handle.now) }
         ensures ok { IfOk result (λ _. self.new ≡ shared_by handle.now self.old) }

@@ -68,7 +68,8 @@ impl<R: Files + Drop, C: WatchCall> FileWatcher<R, C> {
     /// Looks at the file. At the first look that reads it, and whenever the checksum of its lines
     /// is another one than at the last, each registered callback is called once, in the order of
     /// subscription, and the answer is true. A file that isn't there, or isn't UTF-8, changes
-    /// nothing. The ends of lines don't count.
+    /// nothing. The ends of lines don't count. A look that fails changes nothing but the count of
+    /// those that the operating system refused.
     pub fn look(&mut self) -> Result<bool, IoError>
         ensures looks { IfOk result (Looks C.calls self.old self.new) }
         ensures faults { IfErr result

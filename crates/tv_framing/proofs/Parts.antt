@@ -44,10 +44,6 @@ pub fill_further : (end more : ℕ) (ss : List Start) → ss ≢ [] → Fill ss 
 fill_further end more [] some h le = absurd (some refl)
 fill_further end more (s ∷ ss) some h le = (h.0, ascend_further 0 end more ss h.1 le)
 
-pub fill_ascend : (end : ℕ) (ss : List Start) → Fill ss end → Ascend 0 ss end
-fill_ascend end [] h = omega (arith, h)
-fill_ascend end (s ∷ ss) h = (omega arith, subst (λ n. Ascend n ss end) (sym h.0) h.1)
-
 -- ---- the bodies
 
 two_cuts : (o p : ℕ) (bytes : List ℕ) → o ≤ p → take (p - o) (drop o bytes) ++ drop p bytes ≡ drop o bytes

@@ -28,7 +28,7 @@ impl ColumnSpaceUsage {
         self.column
     }
 
-    /// The size of the dictionary.
+    /// The size of the dictionary, if there is one.
     pub fn dictionary_num_bytes(&self) -> Option<ByteCount>
         ensures dictionary { result ≡ self.now.dictionary }
     {
@@ -42,7 +42,7 @@ impl ColumnSpaceUsage {
         self.column.plus(size_of(self.dictionary))
     }
 
-    /// The sums of both parts, each by itself.
+    /// The sums of both parts, each by itself. They stay at `u64::MAX`.
     pub fn merge(&self, other: &ColumnSpaceUsage) -> ColumnSpaceUsage
         ensures merged { result ≡ merged_columns self.now other.now }
     {

@@ -134,7 +134,7 @@ impl FieldUsage {
         }
     }
 
-    /// The sizes of the column and its dictionary.
+    /// The sizes of the column and its dictionary, if there is a column.
     pub fn column_space_usage(&self) -> Option<&ColumnSpaceUsage>
         ensures column { option_copied result ≡ self.now.column }
     {
