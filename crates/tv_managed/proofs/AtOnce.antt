@@ -1,13 +1,13 @@
 -- What a collection at once did, from its beginning to its end.
-use Rattle.std.proofs.Common.{rules, ◌≡◌, ◌≢◌, ◌+◌, ◌-◌, ◌||◌, ◌++◌, ℕ, Bool, true, false, true≢false, List, [], None, Some, Option, Result, Ok, Err, inl, inr, ⊎_elim, ◌⊎◌, refl, sym, ap, subst, ◌∙◌, arith, append-nil}
-use Rattle.std.specs.Prelude.{IfErr, IfOk, OnErr, OnOk}
+use Rattle.std.proofs.Common.{◌≡◌, ◌+◌, ◌-◌, ◌||◌, ◌++◌, ℕ, Bool, true, false, true≢false, List, [], None, Some, Option, Result, Ok, Err, inl, inr, ⊎_elim, ◌⊎◌, refl, sym, ap, subst, ◌∙◌, arith, append-nil}
+use Rattle.std.specs.Prelude.{IfOk, OnErr, OnOk}
 use Rattle.std.specs.Result.{IsErr}
-use Rattle.std.specs.BTreeMap.{is_at, insert_entry}
+use Rattle.std.specs.BTreeMap.{insert_entry}
 use Rattle.std.specs.List.{flat_map}
 use Rattle.std.specs.Ordering.{nat_cmp}
 use Rattle.std.proofs.lemmas.Bool.{false_from_ne_true, or_left}
-use Rattle.tv_model.specs.Collections.{Collection, Collections, begun, collection_at, done_of, without}
-use Rattle.tv_model.specs.Disk.{Disk, DiskState, Absent, Throughout, possible_now}
+use Rattle.tv_model.specs.Collections.{Collection, begun, collection_at, done_of, without}
+use Rattle.tv_model.specs.Disk.{Throughout, possible_now}
 use Rattle.tv_model.specs.Files.{Same}
 use Rattle.tv_model.specs.Listing.{Lists, list_text}
 use Rattle.tv_model.specs.Names.{is, has, list_name}
@@ -16,8 +16,8 @@ use Rattle.tv_model.proofs.Entries.{is_itself, is_text}
 use Rattle.tv_directory.specs.Images.{KeepsDisk, TouchesOnly}
 use Rattle.tv_directory.specs.View.{Kept, OnlyReads}
 use Rattle.tv_directory.specs.declared.directory.Directory.{Ghosts}
-use Rattle.tv_managed.specs.Collecting.{Begins, Ended, EndsCollection, Leaves, LeftUnfinished, OnlyDeletes, Tried, Tries, TriesSome, beginning, ending, names_of, standing}
-use Rattle.tv_managed.specs.Crashes.{AnyOrList, CollectsNames, EndsSafely, Forgets, IsCovered, IsTracked, KeepsTrack, LeavesSafely, LosesNames, SettlesStates, ShortensStates}
+use Rattle.tv_managed.specs.Collecting.{Begins, Ended, EndsCollection, Leaves, OnlyDeletes, Tried, Tries, TriesSome, ending, names_of, standing}
+use Rattle.tv_managed.specs.Crashes.{AnyOrList, CollectsNames, EndsSafely, Forgets, IsCovered, KeepsTrack, LeavesSafely, LosesNames, SettlesStates, ShortensStates}
 use Rattle.tv_managed.specs.Frames.{KeepsNames}
 use Rattle.tv_managed.specs.Managed.{Covers}
 use Rattle.tv_managed.specs.Names.{ManagedNames, done_names}

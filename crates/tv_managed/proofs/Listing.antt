@@ -1,5 +1,5 @@
 -- How a save of the list keeps track.
-use Rattle.std.proofs.Common.{◌≡◌, ℕ, true, false, true≢false, List, [], refl, sym, ap, subst, ◌∙◌, Option, None, Some, Result, Ok}
+use Rattle.std.proofs.Common.{◌≡◌, ℕ, true, true≢false, List, [], refl, sym, ap, subst, ◌∙◌, Option, None, Some, Result, Ok}
 use Rattle.json.proofs.OnLiterals.{json_on_literals}
 use Rattle.serde_json.specs.Data.{array}
 use Rattle.tv_model.specs.Disk.{DiskState, Absent, Unsealed, Sealed, IsThere, MayRead, Possible, Disk, possible_now, IsSettledAt, Throughout}

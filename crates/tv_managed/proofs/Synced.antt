@@ -1,6 +1,6 @@
 -- What a crash may leave of a collection at once, which tries its names behind a sync.
 use Rattle.std.proofs.Common.{◌≡◌, ⊎_elim, ◌⊎◌, inl, inr, ℕ, true, List, refl, ap, ◌∙◌, Result, Ok}
-use Rattle.tv_model.specs.Disk.{DiskState, Sealed, Possible, Disk, possible_now, Within, MayAdd, IsSettled, Throughout}
+use Rattle.tv_model.specs.Disk.{Sealed, Possible, Disk, possible_now, Within, MayAdd, Throughout}
 use Rattle.tv_model.specs.Names.{has, list_name}
 use Rattle.tv_model.proofs.DiskLaws.{HoldsOfFewer, goes_on_run}
 use Rattle.tv_directory.specs.Images.{TouchesOnly}

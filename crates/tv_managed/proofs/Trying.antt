@@ -1,12 +1,10 @@
 -- How a collection tries its names one after another.
-use Rattle.std.proofs.Common.{rules, ◌≡◌, ◌<◌, ◌≤◌, ◌+◌, suc, inl, ⊎_elim, Result, ℕ, Bool, true, false, cond, List, [], ◌∷◌, ◌++◌, length, Option, None, Some, refl, sym, ap, subst, ◌∙◌, arith, append-nil, append_assoc}
+use Rattle.std.proofs.Common.{◌≡◌, ◌<◌, ◌≤◌, ◌+◌, suc, Result, ℕ, Bool, true, false, cond, List, [], ◌∷◌, ◌++◌, length, Option, None, Some, refl, sym, ap, subst, ◌∙◌, arith, append-nil, append_assoc}
 use Rattle.std.specs.Option.{IsSomeAnd}
-use Rattle.std.specs.BTreeMap.{insert_entry}
-use Rattle.std.specs.Ordering.{nat_cmp}
 use Rattle.std.proofs.lemmas.Bool.{or_left, or_right}
-use Rattle.tv_model.specs.Names.{has, is, is_plain}
+use Rattle.tv_model.specs.Names.{has, is}
 use Rattle.tv_model.proofs.Entries.{is_itself}
-use Rattle.tv_model.specs.Collections.{Collection, Collections, begun, collection_at, having_tried, with_collection}
+use Rattle.tv_model.specs.Collections.{Collection, begun, collection_at, having_tried, with_collection}
 use Rattle.tv_directory.specs.View.{Kept}
 use Rattle.tv_directory.specs.declared.directory.Directory.{Ghosts}
 use Rattle.tv_managed.specs.Collecting.{HasLeft, OnlyDeletes, TriesFirst, TriesSome, is_done, standing}

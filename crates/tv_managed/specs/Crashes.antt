@@ -1,7 +1,7 @@
 -- What a crash may leave of a managed directory at each moment of its calls.
 use Rattle.std.specs.Prelude.{ℕ, ◌≡◌, ◌⊎◌, Bool, true, false, List, ◌∷◌, Some, Result, IfErr, IfOk, OnOk}
-use Rattle.tv_model.specs.Disk.{DiskState, Absent, Sealed, IsThere, Possible, Disk, possible_now, Within, MayAdd, IsSettled, IsSettledAt, Elapses, Throughout, OnlyTouches, OnlyMoves}
-use Rattle.tv_model.specs.Listed.{IsAList, IsOnEach, ListsEachFile}
+use Rattle.tv_model.specs.Disk.{DiskState, Absent, Sealed, IsThere, Possible, Disk, possible_now, Within, MayAdd, IsSettled, IsSettledAt, Elapses, Throughout, OnlyMoves}
+use Rattle.tv_model.specs.Listed.{IsOnEach, ListsEachFile}
 use Rattle.tv_model.specs.Listing.{IsListOf, list_text}
 use Rattle.tv_model.specs.Names.{has, is_undotted, list_name}
 use Rattle.tv_model.specs.Footer.{sealed}

@@ -1,6 +1,4 @@
-use Rattle.std.proofs.Common.{rules, arith, ◌≡◌, refl}
-use Rattle.tv_model.specs.Collections.{begun}
-use Rattle.tv_managed.specs.Collecting.{OnlyDeletes}
+use Rattle.std.proofs.Common.{rules}
 use Rattle.tv_managed.proofs.Synced.{loses_none}
 use Rattle.tv_managed.proofs.Tracking.{track_same}
 use Rattle.tv_managed.proofs.Trying.{fewer_left, safe_next, some_next, some_none}
