@@ -1,23 +1,23 @@
 -- What a collection at once did, from its beginning to its end.
-use Rattle.std.proofs.Common.{rules, ◌≡◌, ◌≢◌, ◌+◌, ◌-◌, ◌||◌, ◌++◌, ℕ, Bool, true, false, true≢false, List, [], None, Some, Option, Result, Ok, Err, inl, inr, ⊎_elim, ◌⊎◌, refl, sym, ap, subst, ◌∙◌, arith, append-nil}
-use Rattle.std.specs.Prelude.{IfErr, IfOk, OnErr, OnOk}
+use Rattle.std.proofs.Common.{◌≡◌, ◌+◌, ◌-◌, ◌||◌, ◌++◌, ℕ, Bool, true, false, true≢false, List, [], None, Some, Option, Result, Ok, Err, inl, inr, ⊎_elim, ◌⊎◌, refl, sym, ap, subst, ◌∙◌, arith, append-nil}
+use Rattle.std.specs.Prelude.{IfOk, OnErr, OnOk}
 use Rattle.std.specs.Result.{IsErr}
-use Rattle.std.specs.BTreeMap.{is_at, insert_entry}
+use Rattle.std.specs.BTreeMap.{insert_entry}
 use Rattle.std.specs.List.{flat_map}
 use Rattle.std.specs.Ordering.{nat_cmp}
 use Rattle.std.proofs.lemmas.Bool.{false_from_ne_true, or_left}
-use Rattle.tv_model.specs.Collections.{Collection, Collections, begun, collection_at, done_of, without}
-use Rattle.tv_model.specs.Disk.{Disk, DiskState, Absent, possible_now}
+use Rattle.tv_model.specs.Collections.{Collection, begun, collection_at, done_of, without}
+use Rattle.tv_model.specs.Disk.{Throughout, possible_now}
 use Rattle.tv_model.specs.Files.{Same}
-use Rattle.tv_model.specs.Listing.{Lists}
+use Rattle.tv_model.specs.Listing.{Lists, list_text}
 use Rattle.tv_model.specs.Names.{is, has, list_name}
 use Rattle.tv_model.proofs.CollectionStates.{done_within}
 use Rattle.tv_model.proofs.Entries.{is_itself, is_text}
 use Rattle.tv_directory.specs.Images.{KeepsDisk, TouchesOnly}
 use Rattle.tv_directory.specs.View.{Kept, OnlyReads}
 use Rattle.tv_directory.specs.declared.directory.Directory.{Ghosts}
-use Rattle.tv_managed.specs.Collecting.{Begins, Ended, EndsCollection, Leaves, LeftUnfinished, OnlyDeletes, Tried, Tries, TriesSome, beginning, ending, names_of, standing}
-use Rattle.tv_managed.specs.Crashes.{AnyOrList, CollectsNames, CollectsStates, EndsSafely, Forgets, IsCovered, IsTracked, KeepsTrack, LeavesSafely, SettlesStates, ShortensStates}
+use Rattle.tv_managed.specs.Collecting.{Begins, Ended, EndsCollection, Leaves, OnlyDeletes, Tried, Tries, TriesSome, ending, names_of, standing}
+use Rattle.tv_managed.specs.Crashes.{AnyOrList, CollectsNames, EndsSafely, Forgets, IsCovered, KeepsTrack, LeavesSafely, LosesNames, SettlesStates, ShortensStates}
 use Rattle.tv_managed.specs.Frames.{KeepsNames}
 use Rattle.tv_managed.specs.Managed.{Covers}
 use Rattle.tv_managed.specs.Names.{ManagedNames, done_names}
@@ -25,7 +25,9 @@ use Rattle.tv_managed.specs.declared.collection.GarbageCollectionResult.{Garbage
 use Rattle.tv_managed.proofs.Beginning.{begun_safely}
 use Rattle.tv_managed.proofs.Collections.{at_put, more_done, none_done, put_and_out, put_twice}
 use Rattle.tv_managed.proofs.Removals.{has_or}
-use Rattle.tv_managed.proofs.Touching.{touches_more, touches_none, touches_then}
+use Rattle.tv_managed.proofs.Giving.{settles_asked}
+use Rattle.tv_managed.proofs.Synced.{IsSynced, TriesSynced, lists_synced, settles_synced, settles_touch, tries_synced}
+use Rattle.tv_managed.proofs.Touching.{touches_then}
 use Rattle.tv_managed.proofs.Tracking.{covered_done, track_names, track_read, track_then, weaker}
 use Rattle.tv_managed.proofs.Tried.{tried_none, tried_quiet, tried_then}
 
@@ -87,7 +89,7 @@ untried : (taken front rest : List (List ℕ)) (outcomes : List Bool) (n : List 
 untried taken front rest outcomes n split none =
     false_from_ne_true _ (λ h. true≢false (sym (ap (λ l. has l n) split ∙ has_or front rest n ∙ or_left (has front n) (has rest n) (done_within front outcomes n h)) ∙ none))
 
-pub leaves_of : {A E D W C : Type 0} (g : Ghosts D W C) (taken front rest deleted failed : List (List ℕ)) {old new : D × ManagedNames} (result : Result A E) → taken ≡ front ++ rest → Tried g front old new deleted failed
+leaves_of : {A E D W C : Type 0} (g : Ghosts D W C) (taken front rest deleted failed : List (List ℕ)) {old new : D × ManagedNames} (result : Result A E) → taken ≡ front ++ rest → Tried g front old new deleted failed
     → OnOk result (new.1 ≡ record old.1 { managed = without deleted old.1.managed }) → OnErr result (new.1 ≡ standing old.1 (record { untried = rest; done = deleted; failed = failed })) → Leaves g taken old new result
 leaves_of g taken front rest deleted failed {old} {new} result split t ok err =
     let had : (n : List ℕ) (b : Bool) → has (done_of front t.outcomes) n ≡ b → has deleted n ≡ b = λ n b h. ap (λ l. has l n) t.deleted_is ∙ h in
@@ -103,12 +105,12 @@ leaves_of g taken front rest deleted failed {old} {new} result split t ok err =
       gone = λ tell n h. t.gone tell n (had n true h);
       others = λ tell n h other. t.others tell n (had n false h) other;
       spared = λ tell n h other. t.others tell n (missed n h) other;
-      alive = λ tell w h l. t.alive tell w (missed (g.state_of w).name h) l;
+      alive = λ tell w h l. t.alive tell w (had (g.state_of w).name false h) l;
       ended = λ tell w o h some. t.ended tell w o (had (g.state_of w).name true h) some;
       fits = t.fits;
     }
 
-pub tries_of : {D W C : Type 0} (g : Ghosts D W C) (taken : List (List ℕ)) (old new : D × ManagedNames) (result : GarbageCollectionResult)
+tries_of : {D W C : Type 0} (g : Ghosts D W C) (taken : List (List ℕ)) (old new : D × ManagedNames) (result : GarbageCollectionResult)
     → new.1 ≡ record old.1 { managed = without (names_of result.deleted_files.items) old.1.managed } → Tried g taken old new (names_of result.deleted_files.items) (names_of result.failed_to_delete_files.items) → Tries g taken old new result
 tries_of g taken old new result left t = record {
   outcomes = t.outcomes;
@@ -147,15 +149,11 @@ pub record Far {D W C : Type 0} (g : Ghosts D W C) (taken : List (List ℕ)) (ol
   pub names : new.1 ≡ standing old.1 (record { untried = rest; done = deleted; failed = failed })
   pub list : g.told.content → (g.view new.0).reads list_name ≡ (g.view old.0).reads list_name
   pub quiet : (g.view new.0).faults ≡ (g.view old.0).faults
-  pub safe : g.tells_images → LeavesSafely g (TouchesOnly (AnyOrList taken) (g.disk old.0) (g.disk new.0)) old new
-
--- a collection that takes its place settles names, and touches none
-pub settles_touch : {A E : Type 0} {old new : Disk} {result : Result A E} (touched : List ℕ → Type 0) → SettlesStates old new result → TouchesOnly touched old new
-settles_touch touched settles = record { moments = weaker settles.moments (λ p within. record { each = λ n other s is. within.each n s is }); now = record { each = λ n other. settles.now n } }
+  pub safe : g.tells_images → LeavesSafely g (TriesSynced taken (g.disk old.0) (g.disk new.0)) old new
 
 pub far : {E D W C : Type 0} (g : Ghosts D W C) (taken : List (List ℕ)) {old asked began new : D × ManagedNames} (number : ℕ) → KeepsNames (OnlyReads g.told) g.view old asked → (g.tells_images → KeepsDisk (g.disk old.0) (g.disk asked.0))
     → Begins taken old.1 began.1 number → OnlyReads g.told (g.view asked.0) (g.view began.0) → (g.view asked.0).faults ≡ (g.view old.0).faults → (g.view began.0).faults ≡ (g.view asked.0).faults → (g.tells_images → SettlesStates {E = E} (g.disk asked.0) (g.disk began.0) (Ok number))
-    → TriesSome g old.1 taken began new → OnlyDeletes g began new → (g.tells_images → LeavesSafely g (TouchesOnly (AnyOrList taken) (g.disk began.0) (g.disk new.0)) began new) → Far g taken old new
+    → TriesSome g old.1 taken began new → OnlyDeletes g began new → (g.tells_images → LeavesSafely g (LosesNames taken (g.disk began.0) (g.disk new.0)) began new) → Far g taken old new
 far g taken {old} {asked} {began} {new} number asks disk begins reads quiet calm settles some only safe = record {
   front = some.front;
   rest = some.rest;
@@ -174,7 +172,7 @@ far g taken {old} {asked} {began} {new} number asks disk begins reads quiet calm
             let first : KeepsTrack g old (asked.0, old.1) = track_read g refl (disk tells) was in
             let second = track_then g first (began_safely.tracks first.tracked) in
             track_then g second ((safe tells).tracks second.tracked);
-        states = touches_then (touches_none _ (disk tells)) (touches_then (settles_touch _ (settles tells)) (safe tells).states);
+        states = tries_synced taken (settles_asked (disk tells) (settles tells)) (safe tells).states;
       };
 }
 
@@ -199,8 +197,8 @@ forgets_none g old new same n h lost s of_name = absurd (true≢false (sym h ∙
 -- ---- a collection that was given up
 
 -- it wasn't begun
-pub collects_none : {E D W C : Type 0} (g : Ghosts D W C) {old new : D × ManagedNames} (result : Result GarbageCollectionResult E) → IsErr result → Tried g [] old new [] [] → new.1 ≡ old.1 → (g.told.content → (g.view new.0).reads list_name ≡ (g.view old.0).reads list_name)
-    → (g.tells_images → LeavesSafely g (TouchesOnly (AnyOrList []) (g.disk old.0) (g.disk new.0)) old new) → CollectsNames g [] old new result
+pub collects_none : {A E F D W C : Type 0} (g : Ghosts D W C) {old new : D × ManagedNames} {began : Result A F} (result : Result GarbageCollectionResult E) → IsErr result → Tried g [] old new [] [] → new.1 ≡ old.1 → (g.told.content → (g.view new.0).reads list_name ≡ (g.view old.0).reads list_name)
+    → (g.tells_images → LeavesSafely g (SettlesStates (g.disk old.0) (g.disk new.0) began) old new) → CollectsNames g [] old new result
 collects_none g {old} {new} result is t same list safe = record {
   leaves = record {
     front = [];
@@ -209,7 +207,7 @@ collects_none g {old} {new} result is t same list safe = record {
     split = refl;
     each = refl;
     ok = no_ok _ result is;
-    err = on_err _ result (inl same);
+    err = on_err _ result (inl (same, refl));
     gone = λ tell n h. absurd (true≢false (sym h));
     others = λ tell n h other. t.others tell n refl other;
     spared = λ tell n h other. t.others tell n refl other;
@@ -217,21 +215,31 @@ collects_none g {old} {new} result is t same list safe = record {
     ended = λ tell w o h some. absurd (true≢false (sym h));
     fits = t.fits;
   };
+  tries = no_if_ok _ result is;
   saves = record {
     list = λ tells was. no_ok _ result is;
     covers = λ tells was. subst (Covers ((g.view new.0).reads list_name)) (sym same) (subst (λ r. Covers r old.1) (sym (list tells)) was);
   };
   saves_none = λ tells. no_if_ok _ result is;
-  safe = λ tells. record { tracks = (safe tells).tracks; states = record { touches = (safe tells).states; forgets = λ was. forgets_none g old new (ap (λ v. v.managed) same) } };
+  safe = λ tells.
+      let settles = (safe tells).states in
+      record {
+        tracks = (safe tells).tracks;
+        states = record { touches = settles_touch _ settles; synced = settles_synced [] _ settles; forgets = λ was. forgets_none g old new (ap (λ v. v.managed) same) };
+      };
 }
 
 -- its names weren't all tried
 pub collects_far : {E D W C : Type 0} (g : Ghosts D W C) (taken : List (List ℕ)) {old new : D × ManagedNames} (result : Result GarbageCollectionResult E) → IsErr result → Far g taken old new → CollectsNames g taken old new result
+unfolding leaves_of
 collects_far g taken {old} {new} result is f = record {
   leaves = leaves_of g taken f.front f.rest f.deleted f.failed result f.split f.tried (no_ok _ result is) (on_err _ result f.names);
+  tries = no_if_ok _ result is;
   saves = record { list = λ tells was. no_ok _ result is; covers = λ tells was. covers_far g f tells was };
   saves_none = λ tells. no_if_ok _ result is;
-  safe = λ tells. record { tracks = (f.safe tells).tracks; states = record { touches = (f.safe tells).states; forgets = λ was. forgets_none g old new (ap (λ v. v.managed) f.names) } };
+  safe = λ tells.
+      let tries = (f.safe tells).states in
+      record { tracks = (f.safe tells).tracks; states = record { touches = tries.touches; synced = tries.synced _; forgets = λ was. forgets_none g old new (ap (λ v. v.managed) f.names) } };
 }
 
 -- the list alone was touched
@@ -241,20 +249,33 @@ list_touched g taken states = record {
   now = record { each = λ n other. states.now.each n (λ it. other (inr it)) };
 }
 
+-- the list was cut to the names that are left, or may have been
+cut_synced : {D W C : Type 0} (g : Ghosts D W C) {taken done : List (List ℕ)} {old mid new : D × ManagedNames} (f : Far g taken old mid) → TriesSynced taken (g.disk old.0) (g.disk mid.0) → ShortensStates g (without f.deleted mid.1.managed) mid new → f.deleted ≡ done
+    → Throughout (IsSynced (g.disk old.0) taken (list_text (without done old.1.managed))) (g.disk old.0) (g.disk new.0)
+cut_synced g {taken} {old = old} {new = new} f tries cut same =
+    subst (λ left. Throughout (IsSynced (g.disk old.0) taken (list_text left)) (g.disk old.0) (g.disk new.0)) (ap (λ v. without f.deleted v.managed) f.names ∙ ap (λ l. without l old.1.managed) same) (lists_synced tries cut.moments)
+
 -- it wasn't ended
 pub collects_unended : {E F D W C : Type 0} (g : Ghosts D W C) (taken : List (List ℕ)) (number : ℕ) {old mid new : D × ManagedNames} (e : F) (result : Result GarbageCollectionResult E) → IsErr result → number ≡ old.1.collections.next → Far g taken old mid
     → EndsCollection {E = F} g number mid new (Err e) → Kept g.told (g.view mid.0) (g.view new.0) → (g.tells_images → EndsSafely g number mid new) → CollectsNames g taken old new result
+unfolding leaves_of
 collects_unended g taken number {old} {mid} {new} e result is same f ends kept ended =
     let tried = tried_on g f.tried (tried_none g mid new kept ends.others) in
     record {
       leaves = leaves_of g taken f.front f.rest f.deleted f.failed result f.split tried (no_ok _ result is) (on_err _ result (ends.err ∙ f.names));
+      tries = no_if_ok _ result is;
       saves = record { list = λ tells was. no_ok _ result is; covers = λ tells was. ends.saves.covers tells (covers_far g f tells was) };
       saves_none = λ tells. no_if_ok _ result is;
       safe = λ tells.
           let last = ended tells (last_of g f) (at_far g number same f) in
+          let tries = (f.safe tells).states in
           record {
             tracks = λ was. let first = (f.safe tells).tracks was in track_then g first (last.tracks first.tracked);
-            states = record { touches = touches_then (f.safe tells).states (list_touched g taken last.states); forgets = λ was. forgets_none g old new (ap (λ v. v.managed) (ends.err ∙ f.names)) };
+            states = record {
+              touches = touches_then tries.touches (list_touched g taken last.states);
+              synced = cut_synced g f tries last.states tried.deleted_is;
+              forgets = λ was. forgets_none g old new (ap (λ v. v.managed) (ends.err ∙ f.names));
+            };
           };
     }
 
@@ -280,13 +301,15 @@ tried_all g taken {old} {mid} {new} f none more =
     subst (λ names. Tried g names old new f.deleted f.failed) (sym (f.split ∙ ap (λ r. f.front ++ r) none ∙ append-nil f.front)) (tried_on g f.tried more)
 
 pub collects_all : {E F D W C : Type 0} (g : Ghosts D W C) (taken : List (List ℕ)) (number : ℕ) {old mid : D × ManagedNames} {new : D} {now last : ManagedNames} (result : GarbageCollectionResult) → number ≡ old.1.collections.next → (f : Far g taken old mid) → f.rest ≡ []
-    → EndsCollection {E = F} g number mid (new, now) (Ok result) → now ≡ left_with old.1 f.deleted (old.1.collections.next + 1) → last ≡ record old.1 { managed = without f.deleted old.1.managed } → names_of result.deleted_files.items ≡ f.deleted
+    → EndsCollection {E = F} g number mid (new, now) (Ok result) → now ≡ left_with old.1 f.deleted (old.1.collections.next + 1) → last ≡ record old.1 { managed = without f.deleted old.1.managed } → names_of result.deleted_files.items ≡ f.deleted → names_of result.failed_to_delete_files.items ≡ f.failed
     → Kept g.told (g.view mid.0) (g.view new) → (g.tells_images → EndsSafely g number mid (new, now)) → CollectsNames {E = E} g taken old (new, last) (Ok result)
-collects_all g taken number {old} {mid} {new} {now} {last} result same f none ends is last_is told kept ended =
+unfolding leaves_of
+collects_all g taken number {old} {mid} {new} {now} {last} result same f none ends is last_is told missed kept ended =
     let tried : Tried g taken old (new, last) f.deleted f.failed = tried_all g taken f none (tried_none g mid (new, last) kept ends.others) in
     let managed : last.managed ≡ now.managed = ap (λ v. v.managed) last_is ∙ sym (ap (λ v. v.managed) is) in
     record {
       leaves = leaves_of g taken taken [] f.deleted f.failed (Ok result) (sym (append-nil taken)) tried last_is tt;
+      tries = tries_of g taken old (new, last) result (rw told last_is) (rw (told, missed) tried);
       saves = record {
         list = λ tells was. subst (Lists ((g.view new).reads list_name)) (sym managed) (ends.saves.list tells (subst (Lists ((g.view mid.0).reads list_name)) (sym (ap (λ v. v.managed) f.names)) (subst (λ r. Lists r old.1.managed) (sym (f.list tells)) was)));
         covers = λ tells was.
@@ -297,6 +320,7 @@ collects_all g taken number {old} {mid} {new} {now} {last} result same f none en
           ends.saves_none tells quiet n ∙ same_where_none g f.tried tells (f.list tells) (sym told ∙ ap names_of quiet) n;
       safe = λ tells.
           let end = ended tells (last_of g f) (at_far g number same f) in
+          let tries = (f.safe tells).states in
           record {
             tracks = λ was.
                 let first = (f.safe tells).tracks was in
@@ -305,7 +329,8 @@ collects_all g taken number {old} {mid} {new} {now} {last} result same f none en
                 let back : IsCovered (possible_now (g.disk new)) (g.disk new).now (record (left_with old.1 f.deleted (old.1.collections.next + 1)) { collections = old.1.collections }) = covered_done (λ n h free. free) there.gone there in
                 track_then g second (track_names g (subst (IsCovered (possible_now (g.disk new)) (g.disk new).now) (sym last_is) back) second.tracked);
             states = record {
-              touches = touches_then (f.safe tells).states (list_touched g taken end.states);
+              touches = touches_then tries.touches (list_touched g taken end.states);
+              synced = cut_synced g f tries end.states tried.deleted_is;
               forgets = λ was n h lost.
                   end.states.forgets ((f.safe tells).tracks was).tracked n (ap (λ v. has v.managed n) f.names ∙ h) (ap (λ l. has l n) (sym managed) ∙ lost);
             };

@@ -1,12 +1,12 @@
 -- How the beginning of a collection keeps track.
-use Rattle.std.proofs.Common.{◌≡◌, ℕ, Bool, true, false, List, [], refl, sym, ap, subst, ◌∙◌, Option, None, Result, Ok, Err}
+use Rattle.std.proofs.Common.{◌≡◌, ℕ, List, [], refl, sym, subst, ◌∙◌, None, Result, Ok, Err}
 use Rattle.std.specs.Prelude.{IfOk, OnErr}
 use Rattle.tv_model.specs.Disk.{possible_now}
 use Rattle.tv_model.specs.Names.{has}
-use Rattle.tv_model.specs.Collections.{Collections, begun, collection_at, with_begun}
+use Rattle.tv_model.specs.Collections.{begun, collection_at, with_begun}
 use Rattle.tv_directory.specs.declared.directory.Directory.{Ghosts}
 use Rattle.tv_managed.specs.Collecting.{Begins, beginning}
-use Rattle.tv_managed.specs.Crashes.{IsCovered, IsTracked, LeavesSafely, SettlesStates}
+use Rattle.tv_managed.specs.Crashes.{IsCovered, LeavesSafely, SettlesStates}
 use Rattle.tv_managed.specs.Names.{ManagedNames, done_names}
 use Rattle.tv_managed.proofs.Collections.{none_done}
 use Rattle.tv_managed.proofs.Giving.{covered_settles, track_settles}

@@ -1,5 +1,5 @@
 -- What unfinished collections have done, after one began, tried a name or ended.
-use Rattle.std.proofs.Common.{◌≡◌, ℕ, Bool, true, false, cond, ◌||◌, true≢false, List, [], ◌∷◌, ◌++◌, Option, None, Some, refl, sym, ap, ◌∙◌, arith}
+use Rattle.std.proofs.Common.{◌≡◌, ℕ, Bool, true, false, cond, ◌||◌, List, [], ◌∷◌, ◌++◌, None, Some, refl, sym, ap, ◌∙◌, arith}
 use Rattle.std.specs.BTreeMap.{is_at, insert_entry}
 use Rattle.std.specs.List.{AllByRecursion, flat_map, list_any}
 use Rattle.std.specs.List.Sorted.{IsStrictlySortedBy}
@@ -10,8 +10,7 @@ use Rattle.std.specs.Ordering.{is_eq, match_ordering, nat_cmp}
 use Rattle.std.specs.declared.cmp.Ordering.{Ordering}
 use Rattle.std.specs.declared.cmp.Ordering.TheVariants.{Less, Equal, Greater}
 use Rattle.tv_model.specs.Names.{has}
-use Rattle.tv_model.specs.Collections.{Collection, Collections, collection_at, taken}
-use Rattle.tv_managed.specs.Names.{done_names}
+use Rattle.tv_model.specs.Collections.{Collection, taken}
 use Rattle.tv_managed.proofs.Removals.{has_or}
 
 -- a number is the same as itself

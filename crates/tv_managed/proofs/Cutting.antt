@@ -1,8 +1,8 @@
 -- How the end of a collection keeps track: the list is cut behind a sync.
-use Rattle.std.proofs.Common.{◌≡◌, ⊎_elim, ℕ, true, false, true≢false, List, refl, sym, ap, subst, ◌∙◌, Result, Ok, Err}
+use Rattle.std.proofs.Common.{◌≡◌, ⊎_elim, ℕ, true, false, true≢false, List, refl, sym, ap, subst, ◌∙◌, Result, Ok}
 use borrow.Table.Steps.{cases}
 use Rattle.std.specs.List.{list_all}
-use Rattle.tv_model.specs.Disk.{DiskState, Absent, Sealed, IsThere, Possible, Disk, possible_now, Within, MayAdd, IsSettled, Elapses, Throughout}
+use Rattle.tv_model.specs.Disk.{DiskState, Absent, Sealed, IsThere, Possible, possible_now, MayAdd, Throughout}
 use Rattle.tv_model.specs.Listed.{ListsEachFile}
 use Rattle.tv_model.specs.Listing.{IsListOf, list_text}
 use Rattle.tv_model.specs.Names.{has, is_plain, is_undotted, list_name}
@@ -10,7 +10,7 @@ use Rattle.tv_model.proofs.DiskLaws.{started, goes_on, goes_on_run}
 use Rattle.tv_base.specs.declared.io.IoError.{IoError}
 use Rattle.tv_directory.specs.Images.{Settles}
 use Rattle.tv_directory.specs.declared.directory.Directory.{Ghosts}
-use Rattle.tv_managed.specs.Crashes.{CutsList, Forgets, IsCovered, IsTracked, KeepsTrack, LacksDone, LeavesSafely, SavesText, ShortensStates}
+use Rattle.tv_managed.specs.Crashes.{CutsList, Forgets, IsCovered, IsTracked, LacksDone, LeavesSafely, SavesText, ShortensStates}
 use Rattle.tv_managed.specs.Names.{ManagedNames, done_names}
 use Rattle.tv_managed.proofs.Listing.{gone_saved}
 use Rattle.tv_managed.proofs.PlainManaged.{plain_undotted}

@@ -1,15 +1,15 @@
 -- How the end of a collection keeps track, and what it saves.
-use Rattle.std.proofs.Common.{◌≡◌, ℕ, Bool, true, false, true≢false, not, ◌&&◌, ◌||◌, ⊎_elim, ◌⊎◌, List, Option, None, Some, refl, sym, ap, subst, ◌∙◌}
+use Rattle.std.proofs.Common.{◌≡◌, ℕ, Bool, true, false, true≢false, not, ◌||◌, ⊎_elim, ◌⊎◌, List, Option, None, Some, refl, sym, ap, subst, ◌∙◌}
 use Rattle.std.specs.Prelude.{IsSome}
 use Rattle.std.proofs.lemmas.Bool.{or_left, or_right}
-use Rattle.tv_model.specs.Names.{has, list_name}
+use Rattle.tv_model.specs.Names.{has}
 use Rattle.tv_model.specs.Listing.{Lists}
-use Rattle.tv_model.specs.Collections.{Collection, Collections, collection_at, without, without_collection}
+use Rattle.tv_model.specs.Collections.{Collection, collection_at, without, without_collection}
 use Rattle.tv_model.proofs.CollectionStates.{has_without}
 use Rattle.tv_model.proofs.PlainNames.{both}
 use Rattle.tv_directory.specs.declared.directory.Directory.{Ghosts}
 use Rattle.tv_managed.specs.Collecting.{ending}
-use Rattle.tv_managed.specs.Crashes.{IsCovered, IsTracked, KeepsTrack, LacksDone, LeavesSafely, ShortensStates}
+use Rattle.tv_managed.specs.Crashes.{IsCovered, LacksDone, LeavesSafely, ShortensStates}
 use Rattle.tv_managed.specs.Managed.{Covers}
 use Rattle.tv_managed.specs.Names.{ManagedNames, done_names}
 use Rattle.tv_managed.proofs.Collections.{among_done, fewer_done}

@@ -1,19 +1,19 @@
 -- How the calls that make, write, seal and delete a file keep track.
-use Rattle.std.proofs.Common.{◌≡◌, ◌≢◌, ⊎_elim, inl, inr, ℕ, Bool, true, false, true≢false, List, refl, sym, ap, subst, ◌∙◌, Result, Ok, Err}
+use Rattle.std.proofs.Common.{◌≡◌, ◌≢◌, inl, inr, ℕ, true, false, true≢false, List, refl, sym, ap, subst, ◌∙◌, Result, Ok, Err}
 use borrow.Table.Steps.{cases}
-use Rattle.tv_model.specs.Disk.{DiskState, Absent, Unsealed, Sealed, IsThere, Possible, Disk, possible_now, Within, MayAdd, Elapses, IsSettled, Throughout, OnlyMoves}
+use Rattle.tv_model.specs.Disk.{DiskState, Absent, Possible, Disk, possible_now, Within, MayAdd, Elapses, IsSettled, Throughout}
 use Rattle.tv_model.proofs.DiskLaws.{HoldsOfFewer, started, goes_on, goes_on_run}
 use Rattle.std.specs.Prelude.{OnOk}
 use Rattle.tv_model.specs.Names.{has, is, is_undotted, list_name}
 use Rattle.tv_model.proofs.Entries.{is_itself, is_text}
 use Rattle.tv_base.specs.declared.open_errors.DeleteError.{DeleteError}
 use Rattle.tv_base.specs.declared.open_errors.DeleteError.TheVariants as delete
-use Rattle.tv_directory.specs.Images.{DeletesState, KeepsDisk, KeepsOtherStates, KeepsStates, Settles}
+use Rattle.tv_directory.specs.Images.{DeletesState, KeepsDisk, KeepsOtherStates, Settles}
 use Rattle.tv_directory.specs.declared.directory.Directory.{Ghosts}
-use Rattle.tv_managed.specs.Crashes.{IsCovered, IsTracked, KeepsTrack, SettlesStates, LeavesSafely, ListsName, MayAddBoth, OrList}
+use Rattle.tv_managed.specs.Crashes.{IsCovered, IsTracked, KeepsTrack, SettlesStates, LeavesSafely, MayAddBoth}
 use Rattle.tv_managed.specs.Names.{ManagedNames, done_names}
 use Rattle.tv_managed.proofs.Touching.{gained_more, gained_none, gained_one, gained_run, gained_then, keeps_same}
-use Rattle.tv_managed.proofs.Tracking.{at_end, covered_within, fewer, safe_read, track_file, track_from, weaker}
+use Rattle.tv_managed.proofs.Tracking.{at_end, covered_within, fewer, track_file, weaker}
 
 -- a call that only reads, and begins with the struct taken apart
 pub read_from : {D W C : Type 0} (g : Ghosts D W C) {old inside new : D × ManagedNames} → inside ≡ old → LeavesSafely g (KeepsDisk (g.disk inside.0) (g.disk new.0)) inside new → LeavesSafely g (KeepsDisk (g.disk old.0) (g.disk new.0)) old new

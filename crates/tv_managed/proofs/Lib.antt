@@ -8,6 +8,7 @@ pub mod Collections
 pub mod TriedSo
 pub mod Images
 pub mod Touching
+pub mod Synced
 pub mod Saves
 pub mod Listing
 pub mod Giving

@@ -1,5 +1,5 @@
 -- How a save of the list keeps track.
-use Rattle.std.proofs.Common.{◌≡◌, ℕ, true, false, true≢false, List, [], refl, sym, ap, subst, ◌∙◌, Option, None, Some, Result, Ok}
+use Rattle.std.proofs.Common.{◌≡◌, ℕ, true, true≢false, List, [], refl, sym, ap, subst, ◌∙◌, Option, None, Some, Result, Ok}
 use Rattle.json.proofs.OnLiterals.{json_on_literals}
 use Rattle.serde_json.specs.Data.{array}
 use Rattle.tv_model.specs.Disk.{DiskState, Absent, Unsealed, Sealed, IsThere, MayRead, Possible, Disk, possible_now, IsSettledAt, Throughout}
@@ -13,11 +13,11 @@ use Rattle.tv_base.specs.declared.io.IoError.{IoError}
 use Rattle.tv_directory.specs.Images.{KeepsOtherStates, StandsNow}
 use Rattle.tv_directory.specs.View.{View}
 use Rattle.tv_directory.specs.declared.directory.Directory.{Ghosts}
-use Rattle.tv_managed.specs.Crashes.{IsCovered, IsTracked, KeepsTrack, ListsName, SavesManaged, SavesText}
+use Rattle.tv_managed.specs.Crashes.{Gains, IsCovered, IsTracked, KeepsTrack, ListsName, SavesManaged, SavesText}
 use Rattle.tv_managed.specs.Managed.{registered, registering}
 use Rattle.tv_managed.specs.Names.{ManagedNames, done_names}
 use Rattle.tv_managed.proofs.Tracking.{AreGone, at_end, covered_list, covered_saved, isnt_the_list, track_same, weaker}
-use Rattle.tv_managed.proofs.Touching.{Gains, OneState, adds_run, gained_same}
+use Rattle.tv_managed.proofs.Touching.{OneState, adds_run, gained_same}
 
 -- nothing was done
 pub lists_same : {D W C : Type 0} (g : Ghosts D W C) (name : List ℕ) {old new : D × ManagedNames} → new.0 ≡ old.0 → new.1 ≡ old.1 → ListsName g old new name

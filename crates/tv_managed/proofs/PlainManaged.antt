@@ -1,8 +1,8 @@
 -- Names that are plain have no dot in front.
-use Rattle.std.proofs.Common.{◌≡◌, ◌&&◌, ℕ, Bool, true, false, true≢false, List, [], ◌∷◌, ◌||◌, sym, ap, subst, ◌∙◌, ⊎_elim, refl}
+use Rattle.std.proofs.Common.{◌≡◌, ℕ, true, true≢false, List, [], ◌∷◌, sym, subst, ⊎_elim}
 use Rattle.std.specs.List.{list_all}
 use Rattle.std.proofs.lemmas.Bool.{or_cases}
-use Rattle.tv_model.specs.Names.{begins_with_dot, has, is, is_plain, is_undotted}
+use Rattle.tv_model.specs.Names.{has, is, is_plain, is_undotted}
 use Rattle.tv_model.proofs.Entries.{is_text}
 use Rattle.tv_model.proofs.PlainNames.{both}
 

@@ -1,7 +1,7 @@
 -- The end of a collection, which saves a shorter list.
-use Rattle.std.proofs.Common.{rules, ◌≡◌, ℕ, true, false, true≢false, not, List, [], ◌∷◌, map, refl, sym, ap, subst, ◌∙◌, ⊎_elim, inl, inr, Option, Result, Ok, Err, String, Global, string_bytes}
+use Rattle.std.proofs.Common.{rules, ◌≡◌, ℕ, true, false, true≢false, not, List, [], ◌∷◌, map, refl, sym, ap, subst, ◌∙◌, ⊎_elim, inl, inr, Result, Ok, String, Global, string_bytes}
 use borrow.Table.Steps.{cases}
-use Rattle.std.specs.Prelude.{IfErr, IfOk, OnOk, OnErr}
+use Rattle.std.specs.Prelude.{OnOk, OnErr}
 use Rattle.std.specs.List.{AllZip}
 use Rattle.std.proofs.lemmas.Result.{on_ok_weaker}
 use Rattle.tv_model.specs.Names.{has, list_name}

@@ -1,16 +1,16 @@
 -- How a step of a collection keeps track.
-use Rattle.std.proofs.Common.{◌≡◌, ◌≢◌, ⊎_elim, ℕ, Bool, true, false, true≢false, ◌&&◌, ◌||◌, List, [], ◌∷◌, ◌++◌, refl, sym, ap, subst, ◌∙◌, Some, Result, Ok, Err}
+use Rattle.std.proofs.Common.{◌≡◌, ◌≢◌, ⊎_elim, ℕ, Bool, true, false, true≢false, ◌&&◌, ◌||◌, List, [], ◌∷◌, refl, sym, ap, subst, ◌∙◌, Some, Result, Ok, Err}
 use Rattle.std.specs.Prelude.{IfOk}
 use Rattle.std.proofs.lemmas.Result.{IfOk-weaker}
 use Rattle.std.proofs.Math.Bool.{or-false}
-use Rattle.std.proofs.lemmas.Bool.{or_cases, or_left}
-use Rattle.tv_model.specs.Disk.{Absent, possible_now}
+use Rattle.std.proofs.lemmas.Bool.{or_cases}
+use Rattle.tv_model.specs.Disk.{Absent}
 use Rattle.tv_model.specs.Names.{has, is, is_plain, list_name}
 use Rattle.tv_model.specs.Collections.{Collection, Collections, collection_at, having_tried, with_collection}
 use Rattle.tv_model.proofs.Entries.{is_text}
 use Rattle.tv_directory.specs.declared.directory.Directory.{Ghosts}
 use Rattle.tv_managed.specs.Collecting.{TriesName, is_done}
-use Rattle.tv_managed.specs.Crashes.{IsTracked, KeepsTrack, LeavesSafely, TriesState, TriesStates}
+use Rattle.tv_managed.specs.Crashes.{KeepsTrack, LeavesSafely, TriesState, TriesStates}
 use Rattle.tv_managed.specs.Names.{ManagedNames, done_names}
 use Rattle.tv_managed.specs.declared.collection.CollectStep.{CollectStep}
 use Rattle.tv_managed.proofs.Collections.{more_done}

@@ -1,5 +1,5 @@
 -- What each step leaves alone of the files on a disk.
-use Rattle.std.proofs.Common.{◌≡◌, ◌≢◌, ◌≤◌, ◌<◌, ⊎_elim, ℕ, Bool, true, false, List, refl, sym, ap, subst, ◌⊎◌, ◌∙◌, inl, inr, arith, Result, Ok, Err}
+use Rattle.std.proofs.Common.{◌≡◌, ◌≢◌, ◌≤◌, ◌<◌, ⊎_elim, ℕ, Bool, true, false, List, refl, sym, ap, subst, ◌∙◌, inl, inr, arith, Result, Ok, Err}
 use Rattle.std.proofs.lemmas.Bool.{cases_lt}
 use Rattle.tv_model.specs.Disk.{DiskState, Absent, Unsealed, Sealed, IsThere, Possible, Disk, possible_now, Within, MayAdd, Elapses, Throughout, OnlyTouches, OnlyMoves}
 use Rattle.tv_model.specs.Names.{list_name}
@@ -10,14 +10,11 @@ use Rattle.tv_base.specs.declared.open_errors.OpenWriteError.TheVariants as writ
 use Rattle.tv_base.specs.declared.open_errors.OpenWriteError.{OpenWriteError}
 use Rattle.tv_directory.specs.Images.{KeepsDisk, SameStates, KeepsOtherStates, GivesState, OpensState, MayOpen, WritesState, TouchesOnly}
 use Rattle.tv_directory.specs.declared.directory.Directory.{Ghosts}
-use Rattle.tv_managed.specs.Crashes.{IsCovered, IsTracked, KeepsTrack, SavesText}
+use Rattle.tv_managed.specs.Crashes.{Gains, IsCovered, IsTracked, KeepsTrack}
 use Rattle.tv_managed.specs.Names.{ManagedNames}
 use Rattle.tv_managed.proofs.Tracking.{at_end, covered_file, covered_within, not_done, track_step, weaker}
 
-pub fewer_added : (possible : Possible) (name : List ℕ) (state : DiskState) → HoldsOfFewer (λ now. MayAdd possible now name state)
-fewer_added possible name state old new within was = record { each = λ n s is. was.each n s (within.each n s is) }
-
-pub fewer_touched : (possible : Possible) (touched : List ℕ → Type 0) → HoldsOfFewer (OnlyTouches touched possible)
+fewer_touched : (possible : Possible) (touched : List ℕ → Type 0) → HoldsOfFewer (OnlyTouches touched possible)
 fewer_touched possible touched old new within was = record { each = λ n other s is. was.each n other s (within.each n s is) }
 
 -- nothing is touched yet
@@ -54,13 +51,6 @@ pub touches_more : {old new : Disk} {touched more : List ℕ → Type 0} → ((n
 touches_more among touches = record {
   moments = weaker touches.moments (λ p states. record { each = λ n other. states.each n (λ it. other (among n it)) });
   now = record { each = λ n other. touches.now.each n (λ it. other (among n it)) };
-}
-
--- the list was saved
-pub touches_list : {A : Type 0} {old new : Disk} {text : List ℕ} {result : Result A IoError} → SavesText old new text result → TouchesOnly (λ n. n ≡ list_name) old new
-touches_list saves = record {
-  moments = weaker saves.moments (λ p adds. record { each = λ n other s is. ⊎_elim (λ before. before) (λ q. absurd (other q.0)) (adds.each n s is) });
-  now = record { each = saves.others };
 }
 
 -- nothing was done
@@ -136,15 +126,7 @@ pub track_written : {A D W C : Type 0} (g : Ghosts D W C) (lives : Bool) {old : 
     → ((n : List ℕ) → possible_now (g.disk old.0) n ((g.disk old.0).now n)) → name ≢ list_name → IsTracked g old → KeepsTrack g old (new, old.1)
 track_written g lives writes stands other was = track_step g (time_written lives writes) was (covered_written lives writes stands other was)
 
--- what a call touches that begins with the struct taken apart
-pub touches_from : {D W C : Type 0} (g : Ghosts D W C) {old inside : D × ManagedNames} {new : D} {touched : List ℕ → Type 0} → inside ≡ old → TouchesOnly touched (g.disk inside.0) (g.disk new) → TouchesOnly touched (g.disk old.0) (g.disk new)
-touches_from g {new = new} {touched = touched} same touches = subst (λ v. TouchesOnly touched (g.disk v.0) (g.disk new)) same touches
-
 -- ---- states that are possible besides
-
--- at most these states are possible besides
-pub record Gains (extra : List ℕ → DiskState → Type 0) (old new : Possible) : Type 0 where
-  pub each : (n : List ℕ) (s : DiskState) → new n s → old n s ⊎ extra n s
 
 fewer_gained : (extra : List ℕ → DiskState → Type 0) (possible : Possible) → HoldsOfFewer (Gains extra possible)
 fewer_gained extra possible old new within was = record { each = λ n s is. was.each n s (within.each n s is) }

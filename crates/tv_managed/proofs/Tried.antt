@@ -1,5 +1,5 @@
 -- Names that are tried one after another.
-use Rattle.std.proofs.Common.{rules, ◌≡◌, ◌≢◌, ◌≤◌, ◌+◌, ◌⊎◌, ℕ, Bool, true, false, cond, ◌||◌, inl, inr, ⊎_elim, List, [], ◌∷◌, ◌++◌, length, None, refl, sym, ap, subst, ◌∙◌, arith, true≢false, length-append}
+use Rattle.std.proofs.Common.{rules, ◌≡◌, ◌≢◌, ◌≤◌, ◌+◌, ℕ, Bool, true, false, cond, ◌||◌, inl, inr, ⊎_elim, List, [], ◌∷◌, ◌++◌, length, None, refl, sym, ap, subst, ◌∙◌, arith, true≢false, length-append}
 use borrow.Table.Steps.{cases}
 use Rattle.std.specs.Prelude.{IsSome}
 use Rattle.std.proofs.Math.Bool.{or-false}
@@ -130,7 +130,3 @@ tried_then g names more old mid new deleted failed deleted2 failed2 a b =
       fits = λ h. b.fits (a.fits h);
       frame = search rules;
     }
-
--- what was tried, seen from before a call that changed nothing
-pub tried_from : {D W C : Type 0} (g : Ghosts D W C) {names deleted failed : List (List ℕ)} {first old new : D × ManagedNames} → KeepsNames (OnlyReads g.told) g.view first old → Tried g names old new deleted failed → Tried g names first new deleted failed
-tried_from g k t = tried_then g [] _ _ _ _ [] [] _ _ (tried_quiet g _ _ k) t

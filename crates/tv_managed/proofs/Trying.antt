@@ -1,22 +1,18 @@
 -- How a collection tries its names one after another.
-use Rattle.std.proofs.Common.{rules, ◌≡◌, ◌<◌, ◌≤◌, ◌+◌, suc, inl, ⊎_elim, Result, ℕ, Bool, true, false, cond, List, [], ◌∷◌, ◌++◌, length, Option, None, Some, refl, sym, ap, subst, ◌∙◌, arith, append-nil, append_assoc}
+use Rattle.std.proofs.Common.{◌≡◌, ◌<◌, ◌≤◌, ◌+◌, suc, Result, ℕ, Bool, true, false, cond, List, [], ◌∷◌, ◌++◌, length, Option, None, Some, refl, sym, ap, subst, ◌∙◌, arith, append-nil, append_assoc}
 use Rattle.std.specs.Option.{IsSomeAnd}
-use Rattle.std.specs.BTreeMap.{insert_entry}
-use Rattle.std.specs.Ordering.{nat_cmp}
 use Rattle.std.proofs.lemmas.Bool.{or_left, or_right}
-use Rattle.tv_model.specs.Disk.{Disk}
-use Rattle.tv_model.specs.Names.{has, is, is_plain}
+use Rattle.tv_model.specs.Names.{has, is}
 use Rattle.tv_model.proofs.Entries.{is_itself}
-use Rattle.tv_model.specs.Collections.{Collection, Collections, begun, collection_at, having_tried, with_collection}
+use Rattle.tv_model.specs.Collections.{Collection, begun, collection_at, having_tried, with_collection}
 use Rattle.tv_directory.specs.View.{Kept}
 use Rattle.tv_directory.specs.declared.directory.Directory.{Ghosts}
-use Rattle.tv_directory.specs.Images.{TouchesOnly}
 use Rattle.tv_managed.specs.Collecting.{HasLeft, OnlyDeletes, TriesFirst, TriesSome, is_done, standing}
-use Rattle.tv_managed.specs.Crashes.{AnyOrList, LeavesSafely, StepsSafely, TriesStates}
+use Rattle.tv_managed.specs.Crashes.{LeavesSafely, LosesNames, StepsSafely}
 use Rattle.tv_managed.specs.Names.{ManagedNames}
 use Rattle.tv_managed.proofs.Removals.{has_or}
-use Rattle.tv_managed.proofs.Touching.{touches_then}
-use Rattle.tv_managed.proofs.Tracking.{track_then, weaker}
+use Rattle.tv_managed.proofs.Synced.{loses_one, loses_then}
+use Rattle.tv_managed.proofs.Tracking.{track_then}
 use Rattle.tv_managed.specs.declared.collection.CollectStep.{CollectStep}
 use Rattle.tv_managed.proofs.Collections.{at_put, put_twice}
 use Rattle.tv_managed.proofs.Tried.{tried_name, tried_none, tried_then}
@@ -108,15 +104,9 @@ among : (names front rest left : List (List ℕ)) (name : List ℕ) → names �
 among names front rest left name split next =
     ap (λ l. has l name) (split ∙ ap (λ r. front ++ r) next) ∙ has_or front (name ∷ left) name ∙ or_right (has front name) _ (or_left (is name name) _ (is_itself name))
 
-step_touches : {E : Type 0} {old new : Disk} {name : List ℕ} {result : Result CollectStep E} (names : List (List ℕ)) → has names name ≡ true → TriesStates old new name result → TouchesOnly (AnyOrList names) old new
-step_touches names one tries = record {
-  moments = weaker tries.moments (λ p adds. record { each = λ n other s is. ⊎_elim (λ before. before) (λ q. absurd (other (inl (ap (has names) q.0 ∙ one)))) (adds.each n s is) });
-  now = record { each = λ n other. tries.now.each n (λ same. other (inl (ap (has names) same ∙ one))) };
-}
-
 -- track is kept by one step more
 pub safe_next : {E D W C : Type 0} (g : Ghosts D W C) (before : ManagedNames) (names : List (List ℕ)) (number : ℕ) {first old new : D × ManagedNames} {result : Result CollectStep E} → number ≡ before.collections.next → HasLeft old.1.collections number → StepsSafely g number old new result
-    → TriesSome g before names first old → LeavesSafely g (TouchesOnly (AnyOrList names) (g.disk first.0) (g.disk old.0)) first old → LeavesSafely g (TouchesOnly (AnyOrList names) (g.disk first.0) (g.disk new.0)) first new
+    → TriesSome g before names first old → LeavesSafely g (LosesNames names (g.disk first.0) (g.disk old.0)) first old → LeavesSafely g (LosesNames names (g.disk first.0) (g.disk new.0)) first new
 safe_next g before names number {first} {old} {new} same has safe s so_far = by s.rest refl where
   at : collection_at old.1.collections number ≡ Some (record { untried = s.rest; done = s.deleted; failed = s.failed })
   at = ap (λ n. collection_at old.1.collections n) same ∙ ap (λ v. collection_at v.collections before.collections.next) s.names ∙ at_standing before (record { untried = s.rest; done = s.deleted; failed = s.failed })
@@ -124,11 +114,11 @@ safe_next g before names number {first} {old} {new} same has safe s so_far = by 
   some : IsSomeAnd (collection_at old.1.collections number) (λ d. 0 < length d.untried) → 0 < length s.rest
   some h = subst (λ o. IsSomeAnd o (λ d. 0 < length d.untried)) at h
 
-  by : (r : List (List ℕ)) → s.rest ≡ r → LeavesSafely g (TouchesOnly (AnyOrList names) (g.disk first.0) (g.disk new.0)) first new
+  by : (r : List (List ℕ)) → s.rest ≡ r → LeavesSafely g (LosesNames names (g.disk first.0) (g.disk new.0)) first new
   by [] none = absurd (omega (arith, some has, ap length none))
   by (name ∷ left) next =
       let one = safe (record { untried = s.rest; done = s.deleted; failed = s.failed }) name left at next in
       record {
         tracks = λ was. let before = so_far.tracks was in track_then g before (one.tracks before.tracked);
-        states = touches_then so_far.states (step_touches names (among names s.front s.rest left name s.split next) one.states);
+        states = loses_then so_far.states (loses_one names (among names s.front s.rest left name s.split next) one.states);
       }

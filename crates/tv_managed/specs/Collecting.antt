@@ -1,6 +1,7 @@
 -- What a collection does to a directory and its list.
 use Rattle.std.specs.Prelude.{ℕ, ◌≡◌, ◌≢◌, ◌<◌, ◌≤◌, ◌+◌, ◌^◌, ◌⊎◌, Bool, true, false, List, [], ◌∷◌, ◌++◌, String, Some, None, IsSome, codes, length, map, string_bytes, Result, IfErr, IfOk, OnOk, OnErr}
 use Rattle.std.specs.Option.{IsSomeAnd}
+use Rattle.std.specs.Result.{IsErr}
 use Rattle.std.specs.BTreeMap.{insert_entry}
 use Rattle.std.specs.Ordering.{nat_cmp}
 use Rattle.tv_model.specs.Names.{has, is_plain, list_name}
@@ -30,7 +31,7 @@ names_of texts = map string_bytes texts
 abbrev pub FailsAtMost : (failed before now : ℕ) → Type 0
 FailsAtMost failed before now = (failed + before ≤ now) ⊎ (now ≡ 18446744073709551615)
 
--- every writer of a name that wasn't tried lives as it did
+-- every writer of a name that isn't one of these lives as it did
 abbrev pub SparesWriters : {W : Type 0} → (names : List (List ℕ)) → (state_of : W → WriterState) → (before after : W → Bool) → Type 0
 SparesWriters {W} names state_of before after = (w : W) → has names (state_of w).name ≡ false → before w ≡ true → after w ≡ true
 
@@ -47,7 +48,7 @@ abbrev pub LeftUnfinished : (front rest : List (List ℕ)) → (outcomes : List 
 LeftUnfinished front rest outcomes old new = new ≡ standing old (record { untried = rest; done = done_of front outcomes; failed = failed_of front outcomes })
 
 -- What trying these names left, whatever was answered: some first ones were tried, and some of these are done, which don't read. All else is as it was, but that at Ok
--- the managed names are without those that are done. After an error they are as they were, and unless nothing was begun the collection isn't finished.
+-- the managed names are without those that are done. After an error they are as they were, and unless no name was tried the collection isn't finished.
 pub record Leaves {A E D W C : Type 0} (g : Ghosts D W C) (names : List (List ℕ)) (old new : D × ManagedNames) (result : Result A E) : Type 0 where
   pub front : List (List ℕ)
   pub rest : List (List ℕ)
@@ -55,15 +56,15 @@ pub record Leaves {A E D W C : Type 0} (g : Ghosts D W C) (names : List (List �
   pub split : names ≡ front ++ rest
   pub each : length outcomes ≡ length front
   pub ok : OnOk result (new.1 ≡ record old.1 { managed = without (done_of front outcomes) old.1.managed })
-  pub err : OnErr result ((new.1 ≡ old.1) ⊎ LeftUnfinished front rest outcomes old.1 new.1)
+  pub err : OnErr result (((new.1 ≡ old.1) × (front ≡ [])) ⊎ LeftUnfinished front rest outcomes old.1 new.1)
   -- a name that is done doesn't read
   pub gone : g.told.content → (n : List ℕ) → has (done_of front outcomes) n ≡ true → (g.view new.0).reads n ≡ None
   -- every other name but that of the list reads what it read
   pub others : g.told.content → (n : List ℕ) → has (done_of front outcomes) n ≡ false → n ≢ list_name → (g.view new.0).reads n ≡ (g.view old.0).reads n
   -- a name that isn't among them reads what it read
   pub spared : g.told.content → (n : List ℕ) → has names n ≡ false → n ≢ list_name → (g.view new.0).reads n ≡ (g.view old.0).reads n
-  -- its writers live on
-  pub alive : g.told.content → SparesWriters names g.state_of (g.view old.0).lives (g.view new.0).lives
+  -- a writer of a name that isn't done lives on
+  pub alive : g.told.content → SparesWriters (done_of front outcomes) g.state_of (g.view old.0).lives (g.view new.0).lives
   -- and no writer that was open lives of a file that was deleted
   pub ended : g.told.content → EndsTheirWriters (done_of front outcomes) g.state_of (g.view old.0) (g.view new.0)
   -- the count of refused deletes is one of 64 bits
@@ -178,9 +179,9 @@ pub record EndsCollection {E D W C : Type 0} (g : Ghosts D W C) (number : ℕ) (
 abbrev pub meta_lock_name : List ℕ
 meta_lock_name = codes ".tantivy-meta.lock"
 
--- names that may be tried: none, or those that a collection takes where a set was answered as living
-abbrev pub Among : {S : Type 0} → (answered : S → Type 0) → (living : S → List (List ℕ)) → ManagedNames → (names : List (List ℕ)) → Type 0
-Among {S} answered living managed names = (names ≡ []) ⊎ ((set : S) × answered set × (names ≡ taken_by (living set) managed))
+-- names that are tried: those that a collection takes where a set was answered as living, or, where it failed, perhaps none
+abbrev pub Among : {S A E : Type 0} → (answered : S → Type 0) → (living : S → List (List ℕ)) → ManagedNames → (names : List (List ℕ)) → Result A E → Type 0
+Among {S} answered living managed names result = (IsErr result × (names ≡ [])) ⊎ ((set : S) × answered set × (names ≡ taken_by (living set) managed))
 
 -- Why a collection was given up: `busy` where the lock isn't given, `spent` where it has no number, `refused` where the device refused a call other than a delete,
 -- `quiet` where memory was wanted.
@@ -197,17 +198,25 @@ is_unbegun (errors.LockFailure why text) = true
 is_unbegun errors.Exhausted = true
 is_unbegun _ = false
 
+-- whether the error comes behind the lock: there is no number, or the device refused a call on files
+abbrev pub is_behind_lock : TantivyError → Bool
+is_behind_lock (errors.IoError fault) = true
+is_behind_lock errors.Exhausted = true
+is_behind_lock _ = false
+
 -- a number after which there is none
 abbrev pub IsLast : ℕ → Type 0
 IsLast number = 2 ^ 64 ≤ number + 1
 
 -- A collection fails where the meta lock is held, where its number would be the last, where the device refused a call other than a delete, or where memory was wanted.
--- The lock is asked for first. Where the lock isn't given, or the number would be the last, nothing changed; at Ok the lock was free, and the number wasn't the last.
+-- Where the lock isn't given, or the number would be the last, nothing changed; at Ok the lock was free, and the number wasn't the last.
 pub record CollectFaults {A D W C : Type 0} (g : Ghosts D W C) (old new : D × ManagedNames) (result : Result A TantivyError) : Type 0 where
   pub quiet : OnOk result ((g.view new.0).faults ≡ (g.view old.0).faults)
   pub free : g.told.locks → OnOk result ((g.view old.0).locks meta_lock_name ≡ false)
   pub numbered : OnOk result (IsLast old.1.collections.next → ⊥)
-  pub busy : g.told.locks → IfErr result (CollectCause ((g.view old.0).locks meta_lock_name ≡ true) ((g.view old.0).locks meta_lock_name ≡ false) (Unit {0}) (Unit {0}))
+  pub busy : g.told.locks → IfErr result (CollectCause ((g.view old.0).locks meta_lock_name ≡ true) (Unit {0}) (Unit {0}) (Unit {0}))
+  -- the lock is asked for first
+  pub given : g.told.locks → IfErr result (λ e. is_behind_lock e ≡ true → (g.view old.0).locks meta_lock_name ≡ false)
   pub cause : IfErr result (CollectCause
       ((g.told.locks × ((g.view new.0).faults ≡ (g.view old.0).faults)) ⊎ Rose (g.view old.0).faults (g.view new.0).faults)
       (IsLast old.1.collections.next × ((g.view new.0).faults ≡ (g.view old.0).faults))
@@ -233,6 +242,7 @@ pub record LockedFaults {A D W C : Type 0} (g : Ghosts D W C) (old new : D × Ma
   pub quiet : OnOk result ((g.view new.0).faults ≡ (g.view old.0).faults)
   pub free : g.told.locks → OnOk result ((g.view old.0).locks meta_lock_name ≡ false)
   pub busy : g.told.locks → IfErr result (CollectCause ((g.view old.0).locks meta_lock_name ≡ true) ⊥ (Unit {0}) (Unit {0}))
+  pub given : IfErr result (λ e. is_behind_lock e ≡ false)
   pub cause : IfErr result (CollectCause ((g.told.locks × ((g.view new.0).faults ≡ (g.view old.0).faults)) ⊎ Rose (g.view old.0).faults (g.view new.0).faults) ⊥ (Rose (g.view old.0).faults (g.view new.0).faults) ((g.view new.0).faults ≡ (g.view old.0).faults))
 
 -- A step that begins a collection, which takes no lock, fails where its number would be the last, and then nothing changed, where the device refused a call, or where

@@ -1,16 +1,16 @@
 -- What a crash may leave of a managed directory at each moment of its calls.
 use Rattle.std.specs.Prelude.{ℕ, ◌≡◌, ◌⊎◌, Bool, true, false, List, ◌∷◌, Some, Result, IfErr, IfOk, OnOk}
-use Rattle.tv_model.specs.Disk.{DiskState, Absent, Sealed, IsThere, Possible, Disk, possible_now, Within, MayAdd, IsSettled, IsSettledAt, Elapses, Throughout, OnlyTouches, OnlyMoves}
-use Rattle.tv_model.specs.Listed.{IsAList, IsOnEach, ListsEachFile}
+use Rattle.tv_model.specs.Disk.{DiskState, Absent, Sealed, IsThere, Possible, Disk, possible_now, Within, MayAdd, IsSettled, IsSettledAt, Elapses, Throughout, OnlyMoves}
+use Rattle.tv_model.specs.Listed.{IsOnEach, ListsEachFile}
 use Rattle.tv_model.specs.Listing.{IsListOf, list_text}
 use Rattle.tv_model.specs.Names.{has, is_undotted, list_name}
 use Rattle.tv_model.specs.Footer.{sealed}
-use Rattle.tv_model.specs.Collections.{Collection, collection_at, without}
+use Rattle.tv_model.specs.Collections.{Collection, collection_at, done_of, without}
 use Rattle.tv_base.specs.Causes.{IoCause}
 use Rattle.tv_base.specs.declared.io.IoError.{IoError}
 use Rattle.tv_directory.specs.Images.{KeepsDisk, KeepsOtherStates, SameStates, TouchesOnly}
 use Rattle.tv_directory.specs.declared.directory.Directory.{Ghosts}
-use Rattle.tv_managed.specs.Collecting.{is_done, Leaves, SavesNone}
+use Rattle.tv_managed.specs.Collecting.{is_done, Leaves, SavesNone, Tries}
 use Rattle.tv_managed.specs.Managed.{SavesList, registered}
 use Rattle.tv_managed.specs.Names.{ManagedNames, done_names}
 use Rattle.tv_managed.specs.Writers.{IsSummed}
@@ -119,17 +119,28 @@ abbrev pub EndsSafely : {D W C : Type 0} → Ghosts D W C → (number : ℕ) →
 EndsSafely g number old new =
     (c : Collection) → collection_at old.1.collections number ≡ Some c → LeavesSafely g (ShortensStates g (without c.done old.1.managed) old new) old new
 
--- A collection that tries these names touches them and the list alone. A name that is managed no more has no file after any crash.
-pub record CollectsStates {D W C : Type 0} (g : Ghosts D W C) (names : List (List ℕ)) (old new : D × ManagedNames) : Type 0 where
+-- this is one of these names, and it is absent
+abbrev pub IsLost : List (List ℕ) → List ℕ → DiskState → Type 0
+IsLost names n s = (has names n ≡ true) × (s ≡ Absent)
+
+-- each name has one possible state, that in which it stood, but that one of these names may be absent besides, and the list have this text
+pub record IsSettledBut (stood : List ℕ → DiskState) (names : List (List ℕ)) (text : List ℕ) (possible : Possible) : Type 0 where
+  pub each : (n : List ℕ) (s : DiskState) → possible n s → (s ≡ stood n) ⊎ (IsLost names n s ⊎ ((n ≡ list_name) × (s ≡ Sealed text)))
+
+-- A collection that tries these names, of which some are done, touches them and the list alone. A name that is managed no more has no file after any crash.
+pub record CollectsStates {D W C : Type 0} (g : Ghosts D W C) (names done : List (List ℕ)) (old new : D × ManagedNames) : Type 0 where
   pub touches : TouchesOnly (AnyOrList names) (g.disk old.0) (g.disk new.0)
+  -- no state is possible besides, until the device has kept what was written before; from then on all is settled but these names, and the list, which may lack what is done
+  pub synced : Throughout (λ possible. Within (possible_now (g.disk old.0)) possible ⊎ IsSettledBut (g.disk old.0).now names (list_text (without done old.1.managed)) possible) (g.disk old.0) (g.disk new.0)
   pub forgets : IsTracked g old → Forgets g old new
 
--- What a collection of these names did, whatever it answered: what it left, of the names, the files, the list, and of what a crash may leave.
+-- What a collection of these names did, whatever it answered: what it left, of the names, the files, the list, and of what a crash may leave. At Ok it tried them all.
 pub record CollectsNames {E D W C : Type 0} (g : Ghosts D W C) (names : List (List ℕ)) (old new : D × ManagedNames) (result : Result GarbageCollectionResult E) : Type 0 where
   pub leaves : Leaves g names old new result
+  pub tries : IfOk result (Tries g names old new)
   pub saves : SavesList g old new result
   pub saves_none : SavesNone g old new result
-  pub safe : g.tells_images → LeavesSafely g (CollectsStates g names old new) old new
+  pub safe : g.tells_images → LeavesSafely g (CollectsStates g names (done_of leaves.front leaves.outcomes) old new) old new
 
 -- What follows is cited by private functions alone.
 
@@ -151,6 +162,15 @@ pub record SavesText {A : Type 0} (old new : Disk) (text : List ℕ) (result : R
 pub record SavesManaged {A D W C : Type 0} (g : Ghosts D W C) (old new : D × ManagedNames) (result : Result A IoError) : Type 0 where
   pub saves : SavesText (g.disk old.0) (g.disk new.0) (list_text old.1.managed) result
   pub listed : IsListOf (list_text old.1.managed) old.1.managed
+
+-- at most these states are possible besides
+pub record Gains (extra : List ℕ → DiskState → Type 0) (old new : Possible) : Type 0 where
+  pub each : (n : List ℕ) (s : DiskState) → new n s → old n s ⊎ extra n s
+
+-- Some of these names are tried: at each moment any of them may be absent besides, and no other name is touched.
+pub record LosesNames (names : List (List ℕ)) (old new : Disk) : Type 0 where
+  pub moments : Throughout (Gains (IsLost names) (possible_now old)) old new
+  pub now : OnlyMoves (λ n. has names n ≡ true) old new
 
 -- A name is tried: it may be absent besides, and is where it is told as gone; what is absent stays so.
 pub record TriesState {E : Type 0} (old new : Disk) (name : List ℕ) (result : Result Bool E) : Type 0 where

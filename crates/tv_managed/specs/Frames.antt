@@ -2,9 +2,11 @@
 use Rattle.std.specs.Prelude.{◌≡◌, ℕ, List, Result, IfErr, OnOk}
 use Rattle.tv_model.specs.Files.{Rose}
 use Rattle.tv_base.specs.Causes.{OpenWriteCause}
+use Rattle.tv_base.specs.declared.io.IoError.{IoError}
 use Rattle.tv_base.specs.declared.open_errors.OpenWriteError.{OpenWriteError}
+use Rattle.tv_directory.specs.Calls.{Notes}
 use Rattle.tv_directory.specs.Images.{KeepsDisk}
-use Rattle.tv_directory.specs.View.{View, OnlyReads}
+use Rattle.tv_directory.specs.View.{View, Told, Frame, OnlyReads}
 use Rattle.tv_directory.specs.declared.directory.Directory.{Ghosts}
 use Rattle.tv_managed.specs.Names.{ManagedNames}
 
@@ -12,6 +14,11 @@ use Rattle.tv_managed.specs.Names.{ManagedNames}
 pub record KeepsNames {D W : Type 0} (keeps : View W → View W → Type 0) (view : D → View W) (old new : D × ManagedNames) : Type 0 where
   pub names : new.1 ≡ old.1
   pub below : keeps (view old.0) (view new.0)
+
+-- nothing was told, no lock was taken or freed, and nobody was registered or called; of `meta.json` a notice stands
+pub record KeptButNotes {A W : Type 0} (told : Told) (old new : View W) (name : List ℕ) (result : Result A IoError) : Type 0 where
+  pub frame : Frame told old new
+  pub notes : Notes old new name result
 
 -- A step that only asks: the managed names and the unfinished collections stay, and of the directory below what a read keeps; where it fails, it is for these causes.
 pub record OnlyAsks {D W C : Type 0} (g : Ghosts D W C) (old new : D × ManagedNames) (causes : Type 0) : Type 0 where

@@ -99,8 +99,8 @@ CreateCause name there held refused quiet (write.Leaving path) = (string_bytes p
 CreateCause name there held refused quiet (write.IoError fault path) = (string_bytes path ≡ name) × IsDevice fault × refused
 CreateCause name there held refused quiet write.Memory = quiet
 
--- It is refused, in this order, where the file is there, where an unfinished collection has the name, where memory was wanted, and where the device refused a call. At
--- Ok no unfinished collection has the name.
+-- It is refused where the file is there; where it isn't, and an unfinished collection has the name; where the device refused a call; or where memory was wanted. At Ok
+-- no unfinished collection has the name.
 pub record CreateFaults {A D W C : Type 0} (g : Ghosts D W C) (old new : D × ManagedNames) (name : List ℕ) (result : Result A OpenWriteError) : Type 0 where
   pub quiet : OnOk result ((g.view new.0).faults ≡ (g.view old.0).faults)
   pub free : OnOk result (has (held old.1.collections) name ≡ false)

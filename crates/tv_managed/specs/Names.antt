@@ -1,5 +1,5 @@
 -- What a managed directory keeps in memory, beside the directory itself.
-use Rattle.std.specs.Prelude.{ℕ, ◌≡◌, ◌≤◌, true, false, Bool, List, [], ◌∷◌, ◌++◌, Option, None, length, take, if◌then◌else◌}
+use Rattle.std.specs.Prelude.{ℕ, ◌≡◌, ◌≤◌, true, Bool, List, [], ◌∷◌, None, length, if◌then◌else◌}
 use Rattle.std.specs.List.{flat_map, list_all}
 use Rattle.std.specs.List.Sorted.{IsStrictlySortedBy}
 use Rattle.tv_model.specs.Names.{byte_cmp, is_plain}

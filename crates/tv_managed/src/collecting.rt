@@ -4,13 +4,13 @@ ghost use Rattle.std.specs.List.{list_all};
 ghost use Rattle.std.specs.Option.{IfSome};
 ghost use Rattle.tv_model.specs.Names.{has, is_file_name, is_plain, list_name};
 ghost use Rattle.tv_model.specs.Collections.{Collection as CollectionState, begun, collectable, collection_at, held, no_collections, taken, without};
-ghost use Rattle.tv_directory.specs.Images.{DeletesState, TouchesOnly};
+ghost use Rattle.tv_directory.specs.Images.{DeletesState};
 ghost use Rattle.tv_directory.specs.View.{Kept, MayDelete, OnlyReads};
 ghost use Rattle.tv_directory.specs.Calls.{DeleteFaults, Deletes, EndsWriters};
-ghost use Rattle.tv_managed.specs.Crashes.{AreListed, CollectsNames, EndsSafely, IsTracked, LeavesSafely, CutsList, SettlesStates, StepsSafely, AnyOrList, TriesState};
+ghost use Rattle.tv_managed.specs.Crashes.{AreListed, CollectsNames, EndsSafely, IsTracked, LeavesSafely, LosesNames, CutsList, SettlesStates, StepsSafely, TriesState};
 ghost use Rattle.tv_managed.specs.Frames.{KeepsNames, OnlyAsks};
 ghost use Rattle.tv_managed.specs.Names.{AreManaged, ManagedNames};
-ghost use Rattle.tv_managed.specs.Collecting.{Among, BeginFaults, Begins, ChangesNothing, CollectFaults, EndFaults, EndsCollection, HasLeft, LockedFaults, OnlyDeletes, Shortens, Steps, Tries, TriesAll, TriesName, TriesSome, names_of, standing, taken_by};
+ghost use Rattle.tv_managed.specs.Collecting.{Among, BeginFaults, Begins, ChangesNothing, CollectFaults, EndFaults, EndsCollection, HasLeft, LockedFaults, OnlyDeletes, Shortens, Steps, TriesAll, TriesName, TriesSome, names_of, standing, taken_by};
 
 use crate::collection::{CollectStep, Collections, GarbageCollectionResult};
 use crate::list::save_managed_paths;
@@ -40,20 +40,21 @@ impl<D: Directory> ManagedDirectory<D> {
     }
 
     /// Deletes each managed file whose name isn't living, in the order of the names: begins a collection, tries
-    /// each of its names, and ends it. The living names are
-    /// asked for while the meta lock is held, and the lock is free while files are deleted. A file that is
-    /// absent counts as deleted. One whose delete is refused has failed: it stays managed, a writer of
-    /// it lives on, and the others are still tried. Names that an unfinished collection has are left to it.
-    /// Where something was deleted, the shorter list is
-    /// saved; where nothing was, each file reads what it read, and the list too. The managed names change
-    /// at the end alone, and then the collection's number is given back; after an error they are as they
-    /// were, and the collection stays unfinished where it was begun. `LockFailure` comes where the lock isn't
-    /// given, `Exhausted` where the collection's number would be the last; then nothing changed.
+    /// each of its names, and ends it. A file that is absent counts as deleted. One whose delete is refused has
+    /// failed: it stays managed, a writer of it lives on, and the others are still tried. Names that an unfinished
+    /// collection has are left to it. At Ok the shorter list was saved where something was deleted; where nothing
+    /// was, each file reads what it read, and the list too. The managed names change at Ok alone, and then the
+    /// collection's number is given back; after an error they are as they were, and where a name was tried the
+    /// collection stays unfinished. `LockFailure` comes where the lock isn't given, `Exhausted` where the
+    /// collection's number would be the last; then nothing changed.
     ///
-    /// The device has kept what was deleted before the shorter list is saved: no crash leaves a file whose name
-    /// isn't managed any more.
+    /// Before the first delete the device has kept what was written: from then on a crash leaves each name as it
+    /// stood, but for these names and the list. It has kept what was deleted before the shorter list is saved: where
+    /// track is kept, no crash leaves a file whose name isn't managed any more.
     ///
-    /// The lock is for readers. Without it, where several work on one directory,
+    /// The meta lock is taken first, and given back. By the code, and by no clause, the living names are asked for
+    /// while it is held, and it is free while files are deleted. It is for readers: without it, where several work
+    /// on one directory,
     ///
     /// 1. a reader loads the commit that stands in `meta.json`;
     /// 2. a writer commits, and the files of the commit before are no longer living;
@@ -68,11 +69,9 @@ impl<D: Directory> ManagedDirectory<D> {
         living: L,
     ) -> Result<GarbageCollectionResult, TantivyError>
         requires { L.IsAlwaysCallable living }
-        ensures tries { IfOk result (λ r. (set : _) × L.post living set
-            × Tries D.Directory (taken_by (names_of set.keys) self.old.1) self.old self.new r) }
         ensures collects { (names : List (List ℕ))
             × CollectsNames D.Directory names self.old self.new result
-            × Among (L.post living) (λ set. names_of set.keys) self.old.1 names }
+            × Among (L.post living) (λ set. names_of set.keys) self.old.1 names result }
         ensures faults { CollectFaults D.Directory self.old self.new result }
         ensures frame { MayDelete D.told (D.view self.old.0) (D.view self.new.0) }
     {
@@ -84,10 +83,10 @@ impl<D: Directory> ManagedDirectory<D> {
         Ok(result)
     }
 
-    /// Begins a collection, and answers its number. It takes the managed names that are neither living nor of
-    /// an unfinished collection, and keeps them until it ends. The meta lock is taken, and freed, and the device
-    /// has kept what was written before. `LockFailure` comes where the lock isn't given, `Exhausted` where the
-    /// number would be the last.
+    /// Begins a collection of the managed names that are neither living nor of an unfinished collection, and
+    /// answers its number. At Ok the meta lock was free, as it is again, and the device has kept what was written
+    /// before. `LockFailure` comes where the lock isn't given, `Exhausted` where the number would be the last; then
+    /// nothing changed. After any error none was begun.
     pub fn collect_begin(&mut self, living: &BTreeSet<String>) -> Result<u64, TantivyError>
         ensures begins { IfOk result (Begins (taken_by (names_of living.now.keys) self.old.1)
             self.old.1 self.new.1) }
@@ -128,9 +127,9 @@ impl<D: Directory> ManagedDirectory<D> {
         self.collections.holds(name)
     }
 
-    /// Deletes the first name that a collection has yet to try. A file that is absent counts as done. One whose
-    /// delete is refused has failed, and a writer of it lives on. The name stays managed. It fails where memory
-    /// was wanted alone, and then nothing changed.
+    /// Deletes the first name that a collection has yet to try, and tells it. A file that is absent counts as done.
+    /// One whose delete is refused has failed, and a writer of it lives on. The name stays managed. It fails where
+    /// memory was wanted alone, and then nothing changed.
     pub fn collect_delete(&mut self, id: u64) -> Result<CollectStep, TantivyError>
         requires { HasLeft self.old.1.collections id }
         ensures steps { Steps D.Directory id self.old self.new result }
@@ -144,11 +143,12 @@ impl<D: Directory> ManagedDirectory<D> {
         Ok(CollectStep::new(name, is_done))
     }
 
-    /// Ends a collection: what is done is managed no more, and what failed or wasn't tried stays managed. Where
-    /// something is done, the shorter list is saved; where nothing is, each file reads what it read, and the
-    /// list too. After an error the collection isn't finished, and the managed names are as they were.
+    /// Ends a collection: what is done is managed no more, and what failed or wasn't tried stays managed. At Ok the
+    /// shorter list was saved where something is done; where nothing is, each file reads what it read, and the list
+    /// too. After an error the collection isn't finished, and the managed names are as they were.
     ///
-    /// The device has kept what was deleted before the shorter list is saved.
+    /// The device has kept what was deleted before the shorter list is saved: where track is kept, no crash leaves a
+    /// file whose name isn't managed any more.
     pub fn collect_end(&mut self, id: u64) -> Result<GarbageCollectionResult, TantivyError>
         requires { IsSome (collection_at self.old.1.collections id) }
         ensures ends { EndsCollection D.Directory id self.old self.new result }
@@ -162,7 +162,7 @@ impl<D: Directory> ManagedDirectory<D> {
         Ok(result)
     }
 
-    /// No collection is unfinished from now on, and numbers begin at 0, as after a new wrap. What is done of one
+    /// No collection is unfinished from now on, and numbers begin at 0, as after a new wrap. What was done of one
     /// stays managed. Where each managed name is on every list that a crash may leave, track is kept.
     /// Takes no memory.
     pub fn forget_collections(&mut self)
@@ -215,8 +215,8 @@ impl<D: Directory> ManagedDirectory<D> {
         ensures only { OnlyDeletes D.Directory self.old self.new }
         ensures safe { D.tells_images → (before : ManagedNames) (names : List (List ℕ))
             → self.old.1 ≡ standing before (begun names) → number ≡ before.collections.next
-            → LeavesSafely D.Directory (TouchesOnly (AnyOrList names)
-            (D.disk self.old.0) (D.disk self.new.0)) self.old self.new }
+            → LeavesSafely D.Directory (LosesNames names (D.disk self.old.0) (D.disk self.new.0))
+            self.old self.new }
     {
         while self.has_left(number) {
             self.collect_delete(number)?;

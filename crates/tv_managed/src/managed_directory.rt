@@ -10,14 +10,14 @@ ghost use Rattle.tv_model.specs.Collections.{held, without};
 ghost use Rattle.tv_model.specs.Checksum.{crc32};
 ghost use Rattle.tv_model.specs.Footer.{footer, sealed};
 ghost use Rattle.tv_checksum.specs.Crc32.{HasTaken};
-ghost use Rattle.tv_directory.specs.View.{Frame, Kept, OnlyReads};
-ghost use Rattle.tv_directory.specs.Calls.{AskFaults, ReadFaults, IoFaults, DeviceFaults, Appends, HandsBack, Touches, Flushes, Notes};
+ghost use Rattle.tv_directory.specs.View.{Kept, OnlyReads};
+ghost use Rattle.tv_directory.specs.Calls.{AskFaults, ReadFaults, IoFaults, DeviceFaults, Appends, HandsBack, Touches, Flushes};
 ghost use Rattle.tv_directory.specs.Device.{IsSilent};
 ghost use Rattle.tv_directory.specs.Images.{KeepsDisk, Settles, WritesState};
 ghost use Rattle.tv_managed.specs.Writers.{HandsOn, IsNewManaged, IsSummed, KeepsWritten};
 ghost use Rattle.tv_managed.specs.Managed.{HasListed, OnlySaves, ManagesFile, CreateFaults, Creates, GivesFile, SealsBody};
 ghost use Rattle.tv_managed.specs.Crashes.{GivesSafely, LeavesSafely, ListsName, ReadsSafely, SavesManaged, SealsStates, WrapsDisk};
-ghost use Rattle.tv_managed.specs.Frames.{KeepsNames, MakeFaults, OnlyAsks};
+ghost use Rattle.tv_managed.specs.Frames.{KeepsNames, KeptButNotes, MakeFaults, OnlyAsks};
 ghost use Rattle.tv_managed.specs.Names.{ManagedNames};
 ghost use Rattle.tv_managed.specs.Wrapping.{NotWrapped, Wraps};
 
@@ -228,9 +228,9 @@ impl<D: Directory> ManagedDirectory<D> {
         self.directory.exists(name)
     }
 
-    /// Makes an empty file. A name without a dot in front is on the list by then.
-    /// `FileAlreadyExists` comes where the name reads, and `Leaving` where an unfinished collection has it;
-    /// then nothing changes.
+    /// Makes an empty file. A name without a dot in front is managed by then, and on the list, where that had each
+    /// managed name. `FileAlreadyExists` comes where the name reads, and `Leaving` where it doesn't and an
+    /// unfinished collection has it; then nothing changes.
     pub fn open_write(&mut self, name: &str) -> Result<ManagedWriter<D>, OpenWriteError>
         requires name { is_file_name name.now ≡ true }
         requires other { name.now ≢ list_name }
@@ -340,8 +340,8 @@ impl<D: Directory> ManagedDirectory<D> {
         self.directory.flush(&mut writer.writer)
     }
 
-    /// Adds the footer, and seals the file. From then on the body is read back, unless the name was
-    /// deleted since the file was made.
+    /// Adds the footer, and seals the file. At Ok the body is read back, where the writer's checksum is that of what
+    /// was written, unless the name was deleted since the file was made.
     pub fn terminate(&mut self, writer: ManagedWriter<D>) -> Result<(), IoError>
         requires { (D.view self.old.0).opened writer.writer ≡ true }
         ensures seals { SealsBody D.Directory self.old.0 self.new.0 writer result }
@@ -373,8 +373,8 @@ impl<D: Directory> ManagedDirectory<D> {
         self.directory.atomic_read(name)
     }
 
-    /// Gives the name these bytes in one step. A name without a dot in front is on the list by then; no unfinished
-    /// collection has it.
+    /// Gives the name these bytes in one step. A name without a dot in front is managed by then, and on the list,
+    /// where that had each managed name; no unfinished collection may have it.
     pub fn atomic_write(&mut self, name: &str, bytes: &[u8]) -> Result<(), IoError>
         requires name { is_file_name name.now ≡ true }
         requires other { name.now ≢ list_name }
@@ -382,9 +382,9 @@ impl<D: Directory> ManagedDirectory<D> {
             → has (held self.old.1.collections) name.now ≡ false }
         ensures gives { GivesFile D.Directory self.old.0 self.new.0 name.now bytes.now result }
         ensures manages { ManagesFile D.Directory self.old self.new name.now result }
-        ensures notes { Notes (D.view self.old.0) (D.view self.new.0) name.now result }
         ensures faults { IoFaults (D.view self.old.0) (D.view self.new.0) result }
-        ensures frame { Frame D.told (D.view self.old.0) (D.view self.new.0) }
+        ensures frame { KeptButNotes D.told (D.view self.old.0) (D.view self.new.0)
+            name.now result }
         ensures safe { D.tells_images
             → GivesSafely D.Directory name.now (Sealed bytes.now) self.old self.new result }
     {

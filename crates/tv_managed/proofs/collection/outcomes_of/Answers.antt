@@ -1,4 +1,4 @@
-use Rattle.std.proofs.Common.{List, ℕ, arith, sym, ap, ◌∙◌, ◌≡◌, refl, get_or, drop, suc, take, false, string_bytes, length}
+use Rattle.std.proofs.Common.{arith, sym, ap, ◌∙◌, ◌≡◌, get_or, drop, suc, take, false, string_bytes}
 use Rattle.std.proofs.lemmas.List.{length-map, get_or-map}
 use Rattle.tv_managed.specs.Collecting.{names_of}
 use Rattle.tv_managed.specs.Names.{tried_so}

@@ -1,4 +1,4 @@
-use Rattle.std.proofs.Common.{arith, sym, ap, length, map, string_bytes}
+use Rattle.std.proofs.Common.{arith, ap, length, map, string_bytes}
 use Rattle.std.proofs.lemmas.List.{length-map}
 use Rattle.tv_managed.proofs.TriedSo.{left_count}
 use Rattle.tv_managed.proofs.collection.Collection.left.Goals as goal

@@ -1,6 +1,6 @@
-use Rattle.std.proofs.Common.{arith, rules, ◌<◌, sym, ap, ◌∙◌, length, map, string_bytes}
+use Rattle.std.proofs.Common.{arith, ap, ◌∙◌, length, map, string_bytes}
 use Rattle.tv_model.specs.Collections.{having_tried}
-use Rattle.std.proofs.lemmas.List.{length-map, length-set}
+use Rattle.std.proofs.lemmas.List.{length-set}
 use Rattle.tv_managed.proofs.TriedSo.{left_count, marked}
 use Rattle.tv_managed.proofs.collection.Collection.mark.Goals as goal
 

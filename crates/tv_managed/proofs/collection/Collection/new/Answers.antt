@@ -1,4 +1,4 @@
-use Rattle.std.proofs.Common.{arith, map, string_bytes}
+use Rattle.std.proofs.Common.{arith, string_bytes}
 use Rattle.std.proofs.lemmas.List.{length-map}
 use Rattle.tv_managed.proofs.collection.Collection.new.Goals as goal
 

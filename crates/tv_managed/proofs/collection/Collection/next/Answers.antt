@@ -1,4 +1,4 @@
-use Rattle.std.proofs.Common.{◌≡◌, ◌<◌, true, subst, List, ℕ, arith, sym, ap, ◌∙◌, ◌∷◌, drop, suc, map, length, string_bytes, take, get_or}
+use Rattle.std.proofs.Common.{◌≡◌, ◌<◌, true, subst, List, ℕ, arith, sym, ap, ◌∙◌, ◌∷◌, drop, suc, map, length, string_bytes, get_or}
 use Rattle.std.proofs.lemmas.List.{length-map, get_or-map}
 use Rattle.tv_managed.proofs.TriedSo.{left_count, next_is, plain_at}
 use Rattle.tv_model.specs.Names.{is_plain}

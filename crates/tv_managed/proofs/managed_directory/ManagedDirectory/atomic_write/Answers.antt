@@ -1,9 +1,6 @@
 use Rattle.std.proofs.Common.{rules, refl, ap, ◌∙◌, ◌≡◌, inl, inr, map, string_bytes, true, false}
 use Rattle.tv_model.specs.Disk.{Sealed}
-use Rattle.tv_model.specs.Listing.{list_text}
 use Rattle.tv_model.specs.Names.{has, is_undotted}
-use Rattle.tv_managed.specs.Crashes.{GivesStates}
-use Rattle.tv_managed.specs.Managed.{registered}
 use Rattle.tv_managed.specs.Names.{ManagedNames, done_names}
 use Rattle.tv_managed.proofs.Collections.{done_held}
 use Rattle.tv_managed.proofs.Saves.{lists_new, manages_new, others_written}

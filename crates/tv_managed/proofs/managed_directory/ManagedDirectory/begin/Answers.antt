@@ -1,8 +1,7 @@
-use Rattle.std.proofs.Common.{map, string_bytes, ◌++◌, ap, subst, sym}
+use Rattle.std.proofs.Common.{◌++◌, subst, sym}
 use Rattle.tv_model.specs.Collections.{held}
 use Rattle.tv_managed.specs.Collecting.{names_of}
 use Rattle.tv_managed.specs.Names.{AreManaged}
-use Rattle.tv_managed.proofs.Giving.{settles_once, settles_same}
 use Rattle.tv_managed.proofs.Removals.{still_managed}
 use Rattle.tv_managed.proofs.managed_directory.ManagedDirectory.begin.Goals as goal
 

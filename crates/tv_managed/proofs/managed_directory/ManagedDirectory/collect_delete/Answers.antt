@@ -1,4 +1,4 @@
-use Rattle.std.proofs.Common.{rules, ◌≡◌, Bool, List, ℕ, Some, true, sym, ap, subst, ◌∙◌, map, string_bytes, Result, Ok, Err}
+use Rattle.std.proofs.Common.{rules, ◌≡◌, Bool, List, ℕ, true, sym, ap, subst, ◌∙◌, map, string_bytes, Ok, Err}
 use Rattle.tv_model.specs.Names.{is_plain}
 use Rattle.tv_model.specs.Collections.{Collection, Collections, collection_at, having_tried, with_collection}
 use Rattle.tv_model.specs.declared.memory.Memory.{Memory}

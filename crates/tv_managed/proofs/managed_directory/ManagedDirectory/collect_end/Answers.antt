@@ -1,4 +1,4 @@
-use Rattle.std.proofs.Common.{rules, ◌≡◌, List, ℕ, Some, Ok, refl, ap, sym, subst, ◌∙◌, map, string_bytes}
+use Rattle.std.proofs.Common.{rules, ◌≡◌, ℕ, Some, Ok, refl, ap, sym, subst, ◌∙◌, map, string_bytes}
 use Rattle.tv_model.specs.Names.{list_name}
 use Rattle.tv_model.specs.Collections.{Collection, Collections, collection_at, without, without_collection}
 use Rattle.tv_model.specs.Files.{Same}

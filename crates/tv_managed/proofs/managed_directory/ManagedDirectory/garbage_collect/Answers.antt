@@ -1,13 +1,13 @@
-use Rattle.std.proofs.Common.{rules, ◌≡◌, ◌+◌, ◌-◌, ℕ, List, [], Some, Ok, refl, inl, inr, ap, sym, subst, ◌∙◌, arith, map, string_bytes}
+use Rattle.std.proofs.Common.{◌≡◌, ◌+◌, ◌-◌, [], Ok, refl, inl, inr, ap, sym, subst, ◌∙◌, arith, map, string_bytes}
 use Rattle.std.specs.Prelude.{is_some}
 use Rattle.tv_base.specs.declared.error.TantivyError.{TantivyError}
-use Rattle.tv_model.specs.Collections.{Collections, collection_at, without}
-use Rattle.tv_managed.specs.Collecting.{Tries, Begins, names_of, taken_by}
+use Rattle.tv_model.specs.Collections.{Collections, collection_at}
+use Rattle.tv_managed.specs.Collecting.{Begins, names_of, taken_by}
 use Rattle.tv_managed.specs.Crashes.{CollectsNames}
 use Rattle.tv_managed.specs.Names.{ManagedNames}
-use Rattle.tv_managed.proofs.AtOnce.{Far, at_far, collects_all, collects_far, collects_none, collects_unended, ended_far, far, settles_touch, given_back, last_names, last_of, left_with, tried_all, tries_of}
+use Rattle.tv_managed.proofs.AtOnce.{Far, at_far, collects_all, collects_far, collects_none, collects_unended, ended_far, far, given_back, last_names, last_of, no_ok}
 use Rattle.tv_managed.proofs.Beginning.{begun_safely}
-use Rattle.tv_managed.proofs.Touching.{touches_none, touches_then}
+use Rattle.tv_managed.proofs.Giving.{settles_asked, settles_none}
 use Rattle.tv_managed.proofs.Tracking.{track_read, track_then}
 use Rattle.tv_managed.proofs.Tried.{tried_none, tried_quiet, tried_then}
 use Rattle.tv_managed.proofs.managed_directory.ManagedDirectory.garbage_collect.Goals as goal
@@ -18,8 +18,8 @@ returns-in_err-living-clause-collects g c =
     let asks = c.in_err-living.ensures.asks in (
       [],
       collects_none D c.from_residual.result c.from_residual.ensures.0 (tried_quiet D _ _ asks.frame) asks.frame.names (λ tells. asks.frame.below.content tells _)
-          (λ tells. record { tracks = track_read D asks.frame.names (asks.images tells); states = touches_none _ (asks.images tells) }),
-      inl refl,
+          (λ tells. record { tracks = track_read D asks.frame.names (asks.images tells); states = settles_none (asks.images tells) (no_ok _ c.from_residual.result c.from_residual.ensures.0) }),
+      inl (c.from_residual.ensures.0, refl),
     )
 
 pub returns-in_err-number-clause-collects : goal.returns-in_err-number-clause-collects
@@ -35,9 +35,9 @@ returns-in_err-number-clause-collects g c =
             tracks = λ was.
                 let first = track_read D asks.frame.names (asks.images tells) was in
                 track_then D first ((begun_safely D [] {old = c.under_meta_lock.new.self} {new = c.begin.new.self} _ (begin.images tells) tt begin.err).tracks first.tracked);
-            states = touches_then (touches_none _ (asks.images tells)) (settles_touch _ (begin.images tells));
+            states = settles_asked (asks.images tells) (begin.images tells);
           }),
-      inl refl,
+      inl (c.from_residual-in_err-number.ensures.0, refl),
     )
 
 pub returns-in_err-try_each-clause-collects : goal.returns-in_err-try_each-clause-collects
@@ -107,27 +107,6 @@ give_back-requires-clause-free g c =
     ∙ ap (λ v. collection_at v.collections (v.collections.next - 1)) now
     ∙ ap (λ k. collection_at c.args.self.now.1.collections k) next ∙ f.free
 
-pub returns-clause-tries : goal.returns-clause-tries
-returns-clause-tries g c =
-    let D = g.D.Directory in
-    let asks = c.in_ok-living.ensures.asks in
-    let taken = taken_by (names_of c.in_ok-living.living.keys) c.args.self.now.1 in
-    let begins : Begins taken c.args.self.now.1 c.begin.new.self.1 c.in_ok-number.number = rw asks.frame.names at c.in_ok-number.ensures.begins in
-    let tried = c.try_each.ensures in
-    let f : Far D taken c.args.self.now c.try_each.new.self = far D taken c.in_ok-number.number asks.frame asks.images begins c.in_ok-number.ensures.frame asks.faults.quiet c.in_ok-number.ensures.faults.quiet c.in_ok-number.ensures.images
-    (tried.leaves c.args.self.now.1 taken begins.names begins.numbered) tried.only (λ tells. tried.safe tells c.args.self.now.1 taken begins.names begins.numbered) in
-    let at = at_far D c.in_ok-number.number begins.numbered f in
-    let ended = c.in_ok-result.ensures.ends.ok (last_of D f) at in
-    let now = ended_far D taken c.in_ok-number.number begins.numbered f ended in
-    let none : f.rest ≡ [] = c.in_ok-try_each.ensures.all (last_of D f) at in
-    let With : Collections → ManagedNames = λ cs. record { managed = map string_bytes c.self.inside.managed.keys; collections = cs } in
-    let back : With c.give_back.new.self ≡ given_back c.collect_end.new.self.1 = ap With c.give_back.ensures ∙ ap given_back (ap (λ v. v.1) c.self.view_is) in
-    let last = last_names c.args.self.now.1 c.collect_end.new.self.1 (With c.give_back.new.self) f.deleted now back in
-    let tried_last = tried_all D taken f none (tried_none D c.try_each.new.self (c.collect_end.new.self.0, With c.give_back.new.self) c.in_ok-result.ensures.frame c.in_ok-result.ensures.ends.others) in
-    let tries : Tries D taken c.args.self.now (c.collect_end.new.self.0, With c.give_back.new.self) c.in_ok-result.result =
-    tries_of D taken c.args.self.now (c.collect_end.new.self.0, With c.give_back.new.self) c.in_ok-result.result (rw (ended.deleted) last) (rw (ended.deleted, ended.failed) tried_last) in
-    (c.in_ok-living.living, c.in_ok-living.ensures.answer, subst (λ d. Tries D taken c.args.self.now (d, With c.give_back.new.self) c.in_ok-result.result) (sym (ap (λ v. v.0) c.self.view_is)) tries)
-
 pub returns-clause-collects : goal.returns-clause-collects
 returns-clause-collects g c =
     let D = g.D.Directory in
@@ -146,5 +125,5 @@ returns-clause-collects g c =
     let last = last_names c.args.self.now.1 c.collect_end.new.self.1 (With c.give_back.new.self) f.deleted now back in
     let end = c.in_ok-result.ensures in
     let all : CollectsNames {E = TantivyError} D taken c.args.self.now (c.collect_end.new.self.0, With c.give_back.new.self) (Ok c.in_ok-result.result) =
-    collects_all D taken c.in_ok-number.number c.in_ok-result.result begins.numbered f none end.ends now last ended.deleted end.frame end.safe in
+    collects_all D taken c.in_ok-number.number c.in_ok-result.result begins.numbered f none end.ends now last ended.deleted ended.failed end.frame end.safe in
     (taken, subst (λ d. CollectsNames {E = TantivyError} D taken c.args.self.now (d, With c.give_back.new.self) (Ok c.in_ok-result.result)) (sym (ap (λ v. v.0) c.self.view_is)) all, inr (c.in_ok-living.living, c.in_ok-living.ensures.answer, refl))

@@ -1,8 +1,7 @@
 use Rattle.std.proofs.Common.{rules, ap, ◌∙◌, ◌≡◌, inl, inr, map, string_bytes, true, false}
-use Rattle.tv_model.specs.Disk.{Sealed, Unsealed}
-use Rattle.tv_model.specs.Listing.{list_text}
-use Rattle.tv_model.specs.Names.{has, is_undotted, list_name}
-use Rattle.tv_managed.specs.Managed.{registered, registering}
+use Rattle.tv_model.specs.Disk.{Unsealed}
+use Rattle.tv_model.specs.Names.{has, is_undotted}
+use Rattle.tv_managed.specs.Managed.{registering}
 use Rattle.tv_managed.specs.Names.{ManagedNames, done_names}
 use Rattle.tv_managed.proofs.Collections.{done_held}
 use Rattle.tv_managed.proofs.Saves.{lists_new, manages_new, others_of_refused, still_covers}

@@ -1,8 +1,6 @@
-use Rattle.std.proofs.Common.{rules, List, ℕ, ◌≡◌, true, refl, sym, ap, subst, ◌∙◌, map, string_bytes}
-use Rattle.tv_model.specs.Listing.{IsListOf, list_text}
-use Rattle.tv_model.specs.Names.{has}
+use Rattle.std.proofs.Common.{List, ℕ, refl, sym, ap, subst, ◌∙◌, map, string_bytes}
 use Rattle.tv_managed.specs.Collecting.{names_of}
-use Rattle.tv_managed.specs.Crashes.{CutsList, LeavesSafely, SavesText, ShortensStates}
+use Rattle.tv_managed.specs.Crashes.{LeavesSafely, ShortensStates}
 use Rattle.tv_managed.specs.Names.{AreManaged, ManagedNames}
 use Rattle.tv_managed.proofs.Cutting.{cuts, cuts_refused, may_cut}
 use Rattle.tv_managed.proofs.Removals.{still_managed}

@@ -1,4 +1,4 @@
-use Rattle.std.proofs.Common.{rules, ◌≡◌, List, ℕ, refl, ap, sym, subst, ◌∙◌, length}
+use Rattle.std.proofs.Common.{rules, ◌≡◌, ap, sym, subst, ◌∙◌, length}
 use Rattle.std.proofs.lemmas.List.{nil_from_length}
 use Rattle.tv_model.specs.Collections.{without}
 use Rattle.tv_managed.specs.Collecting.{names_of}

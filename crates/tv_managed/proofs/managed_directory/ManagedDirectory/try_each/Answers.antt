@@ -1,7 +1,5 @@
-use Rattle.std.proofs.Common.{rules, arith, ◌≡◌, refl}
-use Rattle.tv_model.specs.Collections.{begun}
-use Rattle.tv_managed.specs.Collecting.{OnlyDeletes}
-use Rattle.tv_managed.proofs.Touching.{touches_same}
+use Rattle.std.proofs.Common.{rules}
+use Rattle.tv_managed.proofs.Synced.{loses_none}
 use Rattle.tv_managed.proofs.Tracking.{track_same}
 use Rattle.tv_managed.proofs.Trying.{fewer_left, safe_next, some_next, some_none}
 use Rattle.tv_managed.proofs.managed_directory.ManagedDirectory.try_each.Goals as goal
@@ -10,7 +8,7 @@ pub loop-self-init : goal.loop-self-init
 loop-self-init g c = record {
   some = λ before names is number. some_none g.D.Directory before names c.args.self.now is (search rules);
   only = search rules;
-  safe = λ tells before names is number. record { tracks = track_same g.D.Directory; states = touches_same _ _ };
+  safe = λ tells before names is number. record { tracks = track_same g.D.Directory; states = loses_none names _ };
 }
 
 pub loop-self-smaller-in_ok-collect_delete : goal.loop-self-smaller-in_ok-collect_delete

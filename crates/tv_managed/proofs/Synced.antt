@@ -1,0 +1,73 @@
+-- What a crash may leave of a collection at once, which tries its names behind a sync.
+use Rattle.std.proofs.Common.{◌≡◌, ⊎_elim, ◌⊎◌, inl, inr, ℕ, true, List, refl, ap, ◌∙◌, Result, Ok}
+use Rattle.tv_model.specs.Disk.{Sealed, Possible, Disk, possible_now, Within, MayAdd, Throughout}
+use Rattle.tv_model.specs.Names.{has, list_name}
+use Rattle.tv_model.proofs.DiskLaws.{HoldsOfFewer, goes_on_run}
+use Rattle.tv_directory.specs.Images.{TouchesOnly}
+use Rattle.tv_managed.specs.Crashes.{AnyOrList, Gains, IsLost, IsSettledBut, LosesNames, SettlesStates, TriesStates}
+use Rattle.tv_managed.specs.declared.collection.CollectStep.{CollectStep}
+use Rattle.tv_managed.proofs.Touching.{gained_same, gained_then, touches_then}
+use Rattle.tv_managed.proofs.Tracking.{at_end, weaker}
+
+-- ---- names that are tried
+
+-- none was
+pub loses_none : (names : List (List ℕ)) (disk : Disk) → LosesNames names disk disk
+loses_none names disk = record { moments = gained_same (IsLost names) disk; now = record { each = λ n other. refl } }
+
+-- one of them was
+pub loses_one : {E : Type 0} {old new : Disk} {name : List ℕ} {result : Result CollectStep E} (names : List (List ℕ)) → has names name ≡ true → TriesStates old new name result → LosesNames names old new
+loses_one names one tries = record {
+  moments = weaker tries.moments (λ p adds. record { each = λ n s is. ⊎_elim (λ before. inl before) (λ it. inr (ap (has names) it.0 ∙ one, it.1)) (adds.each n s is) });
+  now = record { each = λ n other. tries.now.each n (λ same. other (ap (has names) same ∙ one)) };
+}
+
+-- some were, and then others
+pub loses_then : {names : List (List ℕ)} {old mid new : Disk} → LosesNames names old mid → LosesNames names mid new → LosesNames names old new
+loses_then first second = record { moments = gained_then first.moments second.moments; now = record { each = λ n other. second.now.each n other ∙ first.now.each n other } }
+
+loses_touch : {names : List (List ℕ)} {old new : Disk} → LosesNames names old new → TouchesOnly (AnyOrList names) old new
+loses_touch loses = record {
+  moments = weaker loses.moments (λ p gains. record { each = λ n other s is. ⊎_elim (λ before. before) (λ it. absurd (other (inl it.0))) (gains.each n s is) });
+  now = record { each = λ n other. loses.now.each n (λ h. other (inl h)) };
+}
+
+-- ---- the sync before them
+
+-- no state is possible besides those before, or all is settled but these names and the list
+abbrev pub IsSynced : (old : Disk) → (names : List (List ℕ)) → (text : List ℕ) → Possible → Type 0
+IsSynced old names text possible = Within (possible_now old) possible ⊎ IsSettledBut old.now names text possible
+
+fewer_synced : (old : Disk) (names : List (List ℕ)) (text : List ℕ) → HoldsOfFewer (IsSynced old names text)
+fewer_synced old names text before after within was =
+    ⊎_elim (λ more. inl (record { each = λ n s is. more.each n s (within.each n s is) })) (λ settled. inr (record { each = λ n s is. settled.each n s (within.each n s is) })) was
+
+-- a sync touches no name
+pub settles_touch : {A E : Type 0} {old new : Disk} {result : Result A E} (touched : List ℕ → Type 0) → SettlesStates old new result → TouchesOnly touched old new
+settles_touch touched settles = record { moments = weaker settles.moments (λ p within. record { each = λ n other s is. within.each n s is }); now = record { each = λ n other. settles.now n } }
+
+-- and no state is possible besides
+pub settles_synced : {A E : Type 0} {old new : Disk} {result : Result A E} (names : List (List ℕ)) (text : List ℕ) → SettlesStates old new result → Throughout (IsSynced old names text) old new
+settles_synced names text settles = weaker settles.moments (λ p within. inl within)
+
+-- what names were tried for, behind a sync
+pub record TriesSynced (names : List (List ℕ)) (old new : Disk) : Type 0 where
+  pub touches : TouchesOnly (AnyOrList names) old new
+  pub synced : (text : List ℕ) → Throughout (IsSynced old names text) old new
+  pub settled : (text : List ℕ) → IsSettledBut old.now names text (possible_now new)
+
+lost_or_stood : {A E : Type 0} {old mid : Disk} {names : List (List ℕ)} {x : A} (text : List ℕ) {possible : Possible} → SettlesStates {E = E} old mid (Ok x) → Gains (IsLost names) (possible_now mid) possible → IsSettledBut old.now names text possible
+lost_or_stood text settles gains = record { each = λ n s is. ⊎_elim (λ before. inl (settles.ok.each n s before ∙ settles.now n)) (λ it. inr (inl it)) (gains.each n s is) }
+
+pub tries_synced : {A E : Type 0} {old mid new : Disk} {x : A} (names : List (List ℕ)) → SettlesStates {E = E} old mid (Ok x) → LosesNames names mid new → TriesSynced names old new
+tries_synced {old = old} names settles loses = record {
+  touches = touches_then (settles_touch _ settles) (loses_touch loses);
+  synced = λ text. goes_on_run _ (fewer_synced old names text) (settles_synced names text settles) (weaker loses.moments (λ p gains. inr (lost_or_stood text settles gains)));
+  settled = λ text. lost_or_stood text settles (at_end loses.moments);
+}
+
+-- and then the list was given this text, or may have been
+pub lists_synced : {old mid new : Disk} {names : List (List ℕ)} {text : List ℕ} → TriesSynced names old mid → Throughout (λ possible. MayAdd (possible_now mid) possible list_name (Sealed text)) mid new → Throughout (IsSynced old names text) old new
+lists_synced {old} {names = names} {text = text} tries listed =
+    goes_on_run _ (fewer_synced old names text) (tries.synced text)
+    (weaker listed (λ p adds. inr (record { each = λ n s is. ⊎_elim (λ before. (tries.settled text).each n s before) (λ it. inr (inr it)) (adds.each n s is) })))
