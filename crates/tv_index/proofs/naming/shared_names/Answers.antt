@@ -5,7 +5,7 @@ use Rattle.std.proofs.lemmas.Simd.{map-map}
 use Rattle.tv_model.specs.Names.{has}
 use Rattle.tv_index.proofs.Damages.{shared_last}
 use Rattle.tv_index.proofs.PlainFiles.{plain_head}
-use Rattle.tv_index.proofs.validating.shared_names.Goals as goal
+use Rattle.tv_index.proofs.naming.shared_names.Goals as goal
 
 pub push_shared-requires : goal.push_shared-requires
 push_shared-requires c = (plain_head c.loop-name.name-iterator c.next.new.self c.in-Some.name.now c.in-Some.ensures.steps c.loop-name.invariant.plain).0

@@ -1,6 +1,6 @@
 use Rattle.std.specs.Vec.Iter.{into_iter_items}
 use Rattle.tv_index.proofs.NameSets.{one_put}
-use Rattle.tv_index.proofs.tracked.set_of.Goals as goal
+use Rattle.tv_index.proofs.naming.set_of.Goals as goal
 
 pub loop-name-preserved : goal.loop-name-preserved
 loop-name-preserved c = record {
