@@ -1,6 +1,6 @@
 -- What an event does that only asked its directory, as far as it came.
-use Rattle.std.proofs.Common.{◌≡◌, ◌<◌, ◌≤◌, ℕ, List, length, Result, Ok, Err, refl, ap, ◌∙◌, arith}
-use Rattle.std.specs.Prelude.{IfErr, IfOk, IsErrAnd, OnErr, OnOk}
+use Rattle.std.proofs.Common.{◌≡◌, ◌<◌, ℕ, List, length, Result, Ok, Err, refl, ap}
+use Rattle.std.specs.Prelude.{IfErr, IfOk, IsErrAnd, OnErr}
 use Rattle.tv_base.specs.declared.error.TantivyError.{TantivyError}
 use Rattle.tv_base.specs.declared.error.TantivyError.TheVariants as errors
 use Rattle.tv_directory.specs.View.{OnlyReads, View}
@@ -10,11 +10,8 @@ use Rattle.tv_store.specs.Acting.{OnFiles}
 use Rattle.tv_store.specs.Kept.{Kept, StoreState}
 use Rattle.tv_store.specs.Stays.{Asks, AsksOrFails}
 use Rattle.tv_store.specs.StoreCauses.{EventCause}
+use Rattle.tv_store.proofs.FewNumbers.{none_given}
 use Rattle.tv_store.proofs.KeptFiles.{asked_nothing, fails_after}
-
-on_ok : {A E : Type 0} (result : Result A E) (P : Type 0) → P → OnOk result P
-on_ok (Ok a) P h = h
-on_ok (Err e) P h = tt
 
 on_err : {A E : Type 0} (result : Result A E) (P : Type 0) → P → OnErr result P
 on_err (Ok a) P h = tt
@@ -36,14 +33,12 @@ module _ {O W C : Type 0} (g : Ghosts O W C) (keeps : View W → View W → Type
   pub only_asked : IfOk result (λ answer. length answer < (g.view new.outside).room) → AsksOrFails g old new result → OnFiles g keeps spent old new result
   only_asked room asks =
       let kept : new.kept ≡ old.kept = asks.frame.kept in
-      let next : new.kept.collections.next ≡ old.kept.collections.next = ap (λ (k : Kept). k.collections.next) kept in
-      let none : new.kept.collections.next ≤ old.kept.collections.next = omega (arith, next) in
       record {
         room = room;
         faults = record { quiet = asks.faults.quiet; cause = spends_none_in _ _ spent result asks.faults.cause };
         meta = λ tells. on_err result _ (asks.frame.below.content tells meta_name);
         dotted = λ tells n dot other. asks.frame.below.content tells n;
-        numbers = on_ok result _ none;
+        numbers = none_given result (ap (λ (k : Kept). k.collections) kept);
         frame = record {
           stays = record { form = ap (λ (k : Kept). k.form) kept; is_open = asks.frame.is_open; below = weaker (g.view old.outside) (g.view new.outside) asks.frame.below };
           reading = ap (λ (k : Kept). k.catalog.reading) kept;

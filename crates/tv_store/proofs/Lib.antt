@@ -35,3 +35,4 @@ pub mod Starting
 pub mod Unfound
 pub mod KeptFiles
 pub mod AskedEvents
+pub mod AskedReads
