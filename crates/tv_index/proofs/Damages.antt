@@ -19,7 +19,6 @@ use Rattle.tv_managed.specs.Names.{ManagedNames}
 use Rattle.tv_model.specs.Files.{Reads, Rose, Same}
 use Rattle.tv_model.specs.Meaning.{Means}
 use Rattle.tv_model.specs.Names.{byte_cmp, has, is, meta_name}
-use Rattle.tv_managed.proofs.SetsOfTexts.{had_is, texts_inserted}
 use Rattle.tv_model.proofs.Entries.{has_put, is_text}
 use Rattle.tv_model.proofs.Required.{by_one}
 use Rattle.tv_index.specs.Checksums.{AreDamaged, TellsFile, UnreadCause, UnreadFaults, UnreadFile, ValidateCause, ValidateFaults, looked_at}
@@ -27,6 +26,7 @@ use Rattle.tv_index.specs.Indexes.{MeansSuch}
 use Rattle.tv_index.specs.Metas.{commit_of, settings_of}
 use Rattle.tv_index.specs.Standing.{LoadsMeta}
 use Rattle.tv_index.specs.declared.index_meta.UntrackedIndexMeta.{UntrackedIndexMeta}
+use Rattle.tv_index.proofs.NameSets.{texts_inserted}
 
 -- ---- names
 
@@ -216,9 +216,8 @@ module _ {D W C : Type 0} (g : Ghosts D W C) (directory : D × ManagedNames) (sc
 pub shared_last : (others names : List (List ℕ)) (name : List ℕ) → filter (has others) (names ++ name ∷ []) ≡ filter (has others) names ++ filter (has others) (name ∷ [])
 shared_last others names name = filter-append (has others) names (name ∷ [])
 
-pub is_shared : (keys : List (String Global)) (name text : List ℕ) (b : Bool) → b ≡ list_any (is_at (λ k. byte_cmp text (string_bytes k))) keys → text ≡ name
-    → cond b (name ∷ []) [] ≡ filter (has (map string_bytes keys)) (name ∷ [])
-is_shared keys name text b e t = ap (λ (c : Bool). cond c (name ∷ []) []) (sym (had_is keys (map string_bytes keys) name b (e ∙ ap (λ (n : List ℕ). list_any (is_at (λ k. byte_cmp n (string_bytes k))) keys) t) refl))
+pub is_shared : (others : List (List ℕ)) (name text : List ℕ) (b : Bool) → b ≡ has others text → text ≡ name → cond b (name ∷ []) [] ≡ filter (has others) (name ∷ [])
+is_shared others name text b e t = ap (λ (c : Bool). cond c (name ∷ []) []) (e ∙ ap (has others) t)
 
 -- at Ok one fact from another
 pub ok_as : {A E : Type 0} (result : Result A E) (P Q : Type 0) → (P → Q) → OnOk result P → OnOk result Q

@@ -17,6 +17,7 @@ pub mod JoinedTexts
 pub mod Openings
 pub mod Untracked
 pub mod NameSets
+pub mod Lists
 pub mod Saves
 pub mod Managing
 pub mod Standings

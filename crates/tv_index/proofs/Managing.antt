@@ -1,6 +1,6 @@
 -- What a call that saves `meta.json` does to the managed names and to their list, put together from its calls.
 use Rattle.std.proofs.Common.{◌≡◌, ◌⊎◌, inl, inr, ℕ, List, Option, Some, None, Result, Ok, Err, sym, ap, subst, ◌∙◌, true, true≢false}
-use Rattle.std.specs.Prelude.{IsErrAnd, IsSome, OnErr, OnOk}
+use Rattle.std.specs.Prelude.{IsErr, IsSome, OnErr, OnOk}
 use Rattle.tv_directory.specs.declared.directory.Directory.{Ghosts}
 use Rattle.tv_managed.specs.Managed.{Covers, ManagesFile, registering}
 use Rattle.tv_managed.specs.Names.{ManagedNames}
@@ -27,9 +27,9 @@ or_one_more g old new (Err e) h = h.err
 
 module _ {A B E F D W C : Type 0} (g : Ghosts D W C) (old new : D × ManagedNames) where
   -- what was done before an error is no more than what is done at Ok
-  pub manages_err : (P : F → Type 0) (inner : Result A E) (result : Result B F) → IsErrAnd result P → ManagesFile g old new meta_name inner → ManagesFile g old new meta_name result
-  manages_err P inner (Ok b) failed h = absurd failed
-  manages_err P inner (Err f) failed h = record {
+  pub manages_err : (inner : Result A E) (result : Result B F) → IsErr result → ManagesFile g old new meta_name inner → ManagesFile g old new meta_name result
+  manages_err inner (Ok b) failed h = absurd cc
+  manages_err inner (Err f) failed h = record {
     ok = tt;
     err = or_one_more g old new inner h;
     saves = record { list = λ t lists. tt; covers = h.saves.covers };
@@ -88,9 +88,9 @@ module _ {D W C : Type 0} (g : Ghosts D W C) (old mid now new : D × ManagedName
   }
 
   -- nothing was done between them
-  pub manages_none : {A E : Type 0} (P : E → Type 0) (result : Result A E) → IsErrAnd result P → now ≡ mid → ManagesFile g old new meta_name result
-  manages_none P (Ok a) failed is = absurd failed
-  manages_none P (Err e) failed is = manages_between (Err e) (record {
+  pub manages_none : {A E : Type 0} (result : Result A E) → IsErr result → now ≡ mid → ManagesFile g old new meta_name result
+  manages_none (Ok a) failed is = absurd cc
+  manages_none (Err e) failed is = manages_between (Err e) (record {
     ok = tt;
     err = inl (ap (λ (d : D × ManagedNames). d.1) is);
     saves = record { list = λ t lists. tt; covers = λ t covers. subst (λ (d : D × ManagedNames). Covers ((g.view d.0).reads list_name) d.1) (sym is) covers };

@@ -1,12 +1,15 @@
--- The names of files, gathered in a set.
+-- Sets of texts, seen as their bytes, and names that are gathered in one.
 use Rattle.std.proofs.Common.{◌≡◌, ℕ, Bool, true, false, ◌||◌, List, [], ◌∷◌, map, refl, sym, ap, ◌∙◌, string_bytes, String, Global}
 use Rattle.std.specs.declared.cmp.Ordering.TheVariants.{Less, Equal, Greater}
 use Rattle.std.specs.Ordering.{match_ordering}
 use Rattle.std.specs.String.{string_cmp}
+use Rattle.std.specs.BTreeMap.{is_at}
 use Rattle.std.specs.BTreeSet.{insert_key}
+use Rattle.std.specs.List.{list_any}
 use Rattle.tv_model.specs.Names.{byte_cmp, has, is}
-use Rattle.tv_model.proofs.Entries.{has_put}
+use Rattle.tv_model.proofs.Entries.{has_put, is_by_order}
 
+-- a set has one more text
 bytes_inserted : (keys : List (String Global)) (k : String Global)
     → map string_bytes (insert_key string_cmp keys k) ≡ insert_key byte_cmp (map string_bytes keys) (string_bytes k)
 bytes_inserted [] k = refl
@@ -19,6 +22,15 @@ bytes_inserted (x ∷ keys) k =
       | Greater ↦ ap (λ (t : List (List ℕ)). string_bytes x ∷ t) (bytes_inserted keys k)
     ]
 
+pub texts_inserted : (keys new : List (String Global)) (copy : String Global) (name : List ℕ) → new ≡ insert_key string_cmp keys copy → string_bytes copy ≡ name
+    → map string_bytes new ≡ insert_key byte_cmp (map string_bytes keys) name
+texts_inserted keys new copy name put is = rw (put, ← is) (bytes_inserted keys copy)
+
+-- whether it has a text
+pub bytes_had : (keys : List (String Global)) (name : List ℕ) → list_any (is_at (λ k. byte_cmp name (string_bytes k))) keys ≡ has (map string_bytes keys) name
+bytes_had [] name = refl
+bytes_had (x ∷ keys) name = rw (is_by_order name (string_bytes x), bytes_had keys name) refl
+
 grouped : (a b c : Bool) → ((a || b) || c) ≡ (b || (a || c))
 grouped true true c = refl
 grouped true false c = refl
@@ -30,8 +42,6 @@ pub one_put : (keys new : List (String Global)) (key : String Global) (x : List 
     → (has (map string_bytes keys) n || has names n) ≡ all → (has (map string_bytes new) n || has rest n) ≡ all
 one_put keys new key x names rest n all split put text h =
     let now : has (map string_bytes new) n ≡ (is x n || has (map string_bytes keys) n) =
-    ap (λ (ks : List (String Global)). has (map string_bytes ks) n) put
-    ∙ ap (λ (ns : List (List ℕ)). has ns n) (bytes_inserted keys key ∙ ap (λ (t : List ℕ). insert_key byte_cmp (map string_bytes keys) t) text)
-    ∙ has_put (map string_bytes keys) x n in
+    ap (λ (ns : List (List ℕ)). has ns n) (texts_inserted keys new key x put text) ∙ has_put (map string_bytes keys) x n in
     ap (λ (b : Bool). b || has rest n) now ∙ grouped (is x n) (has (map string_bytes keys) n) (has rest n)
     ∙ ap (λ (ns : List (List ℕ)). has (map string_bytes keys) n || has ns n) (sym split) ∙ h

@@ -25,7 +25,6 @@ use Rattle.tv_model.proofs.SpelledCommits.{spells_commit}
 use Rattle.tv_index.specs.Metas.{commit_of, settings_of}
 use Rattle.tv_index.specs.NewForms.{FindsOrMakes, IsFirst, LeavesUnmade, NotLoaded, NotOpenedForm, OpensForm, new_text}
 use Rattle.tv_index.specs.Opening.{HasCommit, IsRefusedBytes, ListsSome, LoadCause, LoadFaults, Loads, NotOpened, OfBytes, OpenCause, OpensIndex}
-use Rattle.tv_index.specs.Parsing.{ParseCause}
 use Rattle.tv_index.specs.Saving.{FrameNotes, LeavesText}
 use Rattle.tv_index.specs.declared.index_meta.UntrackedIndexMeta.{UntrackedIndexMeta}
 
@@ -57,22 +56,6 @@ means_has schema bytes meta means is =
 pub failed_as : {A E : Type 0} (result : Result A E) (given : E) (P : E → Type 0) → IsErrAnd result (λ e. e ≡ given) → P given → IfErr result P
 failed_as (Ok a) given P h p = tt
 failed_as (Err e) given P h p = subst P (sym h) p
-
-parse_cause : (tells : Type 0) (schema : List ℕ) (read : Option (List ℕ)) (bytes : List ℕ) (refused quiet : Type 0) (error : TantivyError) → quiet → (tells → read ≡ Some bytes)
-    → ParseCause (Some schema) bytes error → LoadCause tells schema read refused quiet error
-parse_cause tells schema read bytes refused quiet (errors.DataCorruption why) q is h = (q, h.0, λ t. subst (OfBytes MeansNothing) (sym (is t)) h.1)
-parse_cause tells schema read bytes refused quiet (errors.SchemaError text) q is h = (q, h.0, λ t. subst (OfBytes (MeansOther schema)) (sym (is t)) h.1)
-parse_cause tells schema read bytes refused quiet errors.Memory q is h = q
-parse_cause tells schema read bytes refused quiet other q is h = absurd h
-
-pub load_fails : {A D W C : Type 0} (g : Ghosts D W C) (old new : D) (schema bytes : List ℕ) (result : Result A TantivyError) (error : TantivyError) → IsErrAnd result (λ e. e ≡ error)
-    → (g.view new).faults ≡ (g.view old).faults → (g.told.content → (g.view old).reads meta_name ≡ Some bytes) → ParseCause (Some schema) bytes error → LoadFaults g old new schema result
-load_fails g old new schema bytes (Ok a) error h quiet is cause = absurd h
-load_fails g old new schema bytes (Err e) error h quiet is cause = record {
-  quiet = tt;
-  cause = subst (LoadCause g.told.content schema ((g.view old).reads meta_name) (Rose (g.view old).faults (g.view new).faults) ((g.view new).faults ≡ (g.view old).faults)) (sym h)
-      (parse_cause g.told.content schema ((g.view old).reads meta_name) bytes _ _ error quiet is cause);
-}
 
 -- ---- what calls keep, one after the other
 

@@ -1,5 +1,5 @@
 -- How an index is opened, or made where there is none.
-use Rattle.std.specs.Prelude.{◌≡◌, ◌⊎◌, ◌<◌, ◌^◌, ◌++◌, ◌∷◌, [], ℕ, List, codes, Option, Some, None, IsSome, option_map, string_bytes, Result, IfErr, OnOk}
+use Rattle.std.specs.Prelude.{◌≡◌, ◌⊎◌, ◌<◌, ◌^◌, ◌++◌, ◌∷◌, [], ℕ, List, codes, Option, Some, None, IsSome, option_map, string_bytes, Result, Ok, Err, IfErr, OnOk}
 use Rattle.tv_base.specs.Causes.{IsDevice}
 use Rattle.tv_base.specs.declared.error.TantivyError.{TantivyError}
 use Rattle.tv_base.specs.declared.error.TantivyError.TheVariants as errors
@@ -57,6 +57,11 @@ LoadCause tells schema read refused quiet other = ⊥
 pub record LoadFaults {A D W C : Type 0} (g : Ghosts D W C) (old new : D) (schema : List ℕ) (result : Result A TantivyError) : Type 0 where
   pub quiet : OnOk result ((g.view new).faults ≡ (g.view old).faults)
   pub cause : IfErr result (LoadCause g.told.content schema ((g.view old).reads meta_name) (Rose (g.view old).faults (g.view new).faults) ((g.view new).faults ≡ (g.view old).faults))
+
+-- what a load tells where `meta.json` need not be there: nothing where it isn't, and else the same error
+abbrev pub NoneIfAbsent : TantivyError → Result (Option UntrackedIndexMeta) TantivyError → Type 0
+NoneIfAbsent (errors.OpenReadError why) result = result ≡ Ok None
+NoneIfAbsent error result = result ≡ Err error
 
 -- the list is one of some names
 abbrev pub ListsSome : Option (List ℕ) → Type 0

@@ -350,8 +350,8 @@ impl<D: Directory> Index<D> {
 
     /// A new segment, which has no documents yet and no deletes.
     ///
-    /// `IdInUse` with the digits of the id comes exactly where a segment of the inventory has the
-    /// id, or a managed name begins with it.
+    /// `IdInUse` with the digits of the id comes where a segment of the inventory has the id, or a
+    /// managed name begins with it, and only there. `Memory` comes where memory is wanted, there too.
     pub fn new_segment(
         &mut self,
         alloc: Global,

@@ -10,7 +10,7 @@ ghost use Rattle.tv_managed.specs.Managed.{KeepsOtherFiles};
 ghost use Rattle.tv_managed.specs.Wrapping.{NotWrapped, Wraps};
 ghost use Rattle.tv_index.specs.Metas.{commit_of};
 ghost use Rattle.tv_index.specs.NewForms.{IsFirst, LoadsOrCreates, NotLoaded, NotOpenedForm, OpensForm, form_with, new_text};
-ghost use Rattle.tv_index.specs.Opening.{HasCommit, LoadFaults, Loads, NotOpened, OpensIndex};
+ghost use Rattle.tv_index.specs.Opening.{HasCommit, LoadFaults, Loads, NoneIfAbsent, NotOpened, OpensIndex};
 ghost use Rattle.tv_index.specs.Saving.{FrameNotes, LeavesText, SavesMeta};
 ghost use Rattle.tv_index.specs.Standing.{LoadsMeta, MetaFaults, UnreadAs};
 
@@ -24,29 +24,6 @@ use tv_base::{IoError, META_FILEPATH, OpenReadError, TantivyError};
 use tv_directory::Directory;
 use tv_managed::{ManagedDirectory, Refused};
 use tv_model::Memory;
-
-// The commit that `meta.json` means under this schema, where it reads.
-pub(crate) fn load<D: Directory>(
-    alloc: Global,
-    directory: &mut ManagedDirectory<D>,
-    schema: &Schema,
-) -> Result<Option<UntrackedIndexMeta>, TantivyError>
-    ensures found { D.told.content → IfOk result
-        (Loads schema.now ((D.view directory.old.0).reads meta_name)) }
-    ensures commit { IfOk result (λ found. IfSome found (HasCommit schema.now)) }
-    ensures faults { LoadFaults D.Directory directory.old.0 directory.new.0 schema.now result }
-    ensures frame { KeepsNames (OnlyReads D.told) D.view directory.old directory.new }
-{
-    let bytes = match directory.atomic_read(META_FILEPATH) {
-        Ok(bytes) => bytes,
-        Err(OpenReadError::FileDoesNotExist(_)) => return Ok(None),
-        Err(OpenReadError::IoError { io_error, .. }) => return Err(TantivyError::IoError(io_error)),
-        Err(OpenReadError::Memory) => return Err(TantivyError::Memory),
-        Err(OpenReadError::IncompatibleIndex(_)) => unreachable!(),
-    };
-    let meta = UntrackedIndexMeta::parse(alloc, bytes.as_slice(), Some(schema))?;
-    Ok(Some(meta))
-}
 
 // What a read of `meta.json` that failed tells of it.
 fn unread(error: OpenReadError) -> TantivyError
@@ -80,6 +57,34 @@ pub(crate) fn load_meta<D: Directory>(
     match directory.atomic_read(META_FILEPATH) {
         Ok(bytes) => UntrackedIndexMeta::parse(alloc, bytes.as_slice(), expected),
         Err(error) => Err(unread(error)),
+    }
+}
+
+// No commit, where there is no `meta.json`: a load answers no other error of that kind.
+fn none_if_absent(error: TantivyError) -> Result<Option<UntrackedIndexMeta>, TantivyError>
+    ensures { NoneIfAbsent error result }
+{
+    match error {
+        TantivyError::OpenReadError(_) => Ok(None),
+        error => Err(error),
+    }
+}
+
+// The commit that `meta.json` means under this schema, where it reads.
+pub(crate) fn load<D: Directory>(
+    alloc: Global,
+    directory: &mut ManagedDirectory<D>,
+    schema: &Schema,
+) -> Result<Option<UntrackedIndexMeta>, TantivyError>
+    ensures found { D.told.content → IfOk result
+        (Loads schema.now ((D.view directory.old.0).reads meta_name)) }
+    ensures commit { IfOk result (λ found. IfSome found (HasCommit schema.now)) }
+    ensures faults { LoadFaults D.Directory directory.old.0 directory.new.0 schema.now result }
+    ensures frame { KeepsNames (OnlyReads D.told) D.view directory.old directory.new }
+{
+    match load_meta(alloc, directory, Some(schema)) {
+        Ok(meta) => Ok(Some(meta)),
+        Err(error) => none_if_absent(error),
     }
 }
 

@@ -86,8 +86,8 @@ fn segments_in(alloc: Global, list: &[Value]) -> Result<BTreeMap<SegmentId, Live
     Ok(found)
 }
 
-/// The segments in the order of their ids.
-pub(crate) fn in_order(
+/// Segments as `meta.json` has them, in the order of their ids.
+pub fn metas_of(
     alloc: Global,
     found: &BTreeMap<SegmentId, LiveSegment>,
 ) -> Result<Vec<InnerSegmentMeta>, Memory>
@@ -122,5 +122,5 @@ pub(crate) fn segments_at(alloc: Global, tree: &Value) -> Result<Vec<InnerSegmen
     let value = tree.get("segments").ok_or(ReadError::Corrupt)?;
     let list = value.as_array().ok_or(ReadError::Corrupt)?;
     let found = segments_in(alloc, list.as_slice())?;
-    Ok(in_order(alloc, &found)?)
+    Ok(metas_of(alloc, &found)?)
 }

@@ -10,6 +10,7 @@ ghost use Rattle.tv_model.specs.Segments.{delete_opstamp, name_of, num_deleted, 
 ghost use Rattle.tv_index.specs.Segments.{entry_of};
 ghost use Rattle.tv_index.specs.Tracked.{IsWithin, Retracks, ShareAllCause, Shares, Tracks, file_of, has_id, share_of};
 
+use crate::naming::{push_names, set_of};
 use crate::segment_meta::InnerSegmentMeta;
 use std::alloc::Global;
 use std::collections::BTreeSet;
@@ -200,49 +201,6 @@ fn opstamp_of(deletes: Option<DeleteMeta>) -> Opstamp
         Some(meta) => meta.opstamp,
         None => 0,
     }
-}
-
-// Adds the name of one file of a segment.
-fn push_name(
-    alloc: Global,
-    names: &mut Vec<FileName>,
-    id: SegmentId,
-    segment: LiveSegment,
-    component: SegmentComponent,
-) -> Result<(), Memory>
-    ensures { OnOk result (names.new.items ≡ names.old.items
-        ++ name_of id segment.deletes component ∷ []) }
-{
-    let name = segment_file_name(alloc, id, segment.deletes, component)?;
-    names.push(name)?;
-    Ok(())
-}
-
-// Adds the names that a segment has.
-pub(crate) fn push_names(
-    alloc: Global,
-    names: &mut Vec<FileName>,
-    id: SegmentId,
-    segment: LiveSegment,
-) -> Result<(), Memory>
-    ensures { OnOk result (names.new.items ≡ names.old.items ++ segment_names (id, segment)) }
-{
-    for component in SegmentComponent::iterator() {
-        push_name(alloc, names, id, segment, *component)?;
-    }
-    Ok(())
-}
-
-// The names as a set of texts.
-pub(crate) fn set_of(alloc: Global, names: Vec<FileName>) -> Result<BTreeSet<String>, Memory>
-    ensures { IfOk result (λ set. (n : List ℕ)
-        → has (map string_bytes set.keys) n ≡ has names.items n) }
-{
-    let mut set = BTreeSet::new(alloc);
-    for name in names {
-        set.insert(name.into_string())?;
-    }
-    Ok(set)
 }
 
 /// Segments in the order in which they were tracked. To a contract it is the list of its entries.

@@ -10,7 +10,7 @@ use crate::index_meta::UntrackedIndexMeta;
 use crate::index_settings::IndexSettings;
 use crate::meta_text::print_meta;
 use crate::schema::Schema;
-use crate::segments::in_order;
+use crate::segments::metas_of;
 use crate::tracked::{SegmentMeta, SegmentMetaInventory};
 use crate::tracking::track_all;
 use std::alloc::Global;
@@ -56,7 +56,7 @@ impl IndexMeta {
             → text.items ≡ printed (tracked_settings self.now) self.now.schema commit) }
     {
         let found = by_id(alloc, self.segments.as_slice())?;
-        let segments = in_order(alloc, &found)?;
+        let segments = metas_of(alloc, &found)?;
         print_meta(
             alloc,
             &self.index_settings,

@@ -10,9 +10,9 @@ ghost use Rattle.tv_index.specs.Indexes.{KeepsIndex, MeansSuch};
 ghost use Rattle.tv_index.specs.Segments.{entry_of};
 
 use crate::index::Index;
+use crate::naming::{push_names, set_of, shared_names};
 use crate::opening::load_meta;
 use crate::segment_meta::InnerSegmentMeta;
-use crate::tracked::{push_names, set_of};
 use std::alloc::Global;
 use std::collections::BTreeSet;
 use tv_base::TantivyError;
@@ -65,51 +65,6 @@ fn names_among(alloc: Global, segments: &[InnerSegmentMeta]) -> Result<BTreeSet<
     let mut names = Vec::new(alloc);
     push_all(alloc, &mut names, segments)?;
     set_of(alloc, names)
-}
-
-// Adds a name that is a text in a set.
-fn push_text(alloc: Global, names: &mut Vec<FileName>, text: &String) -> Result<(), Memory>
-    requires { is_plain (string_bytes text.now) ≡ true }
-    ensures { OnOk result (names.new.items ≡ names.old.items ++ string_bytes text.now ∷ []) }
-{
-    let text = String::from_str(alloc, text.as_str())?;
-    names.push(FileName::new(text))?;
-    Ok(())
-}
-
-// Adds a name that is a text in a set, where it is among others.
-fn push_shared(
-    alloc: Global,
-    names: &mut Vec<FileName>,
-    text: &String,
-    others: &BTreeSet<String>,
-) -> Result<(), Memory>
-    requires { is_plain (string_bytes text.now) ≡ true }
-    ensures { OnOk result (names.new.items ≡ names.old.items
-        ++ filter (has (map string_bytes others.now.keys)) (string_bytes text.now ∷ [])) }
-{
-    if others.contains(text.as_str()) {
-        return push_text(alloc, names, text);
-    }
-    Ok(())
-}
-
-// Those of some names that are among others, in their order.
-fn shared_names(
-    alloc: Global,
-    names: &BTreeSet<String>,
-    others: &BTreeSet<String>,
-) -> Result<Vec<FileName>, Memory>
-    requires { list_all is_plain (map string_bytes names.now.keys) ≡ true }
-    ensures { IfOk result (λ shared. shared.items
-        ≡ filter (λ name. has (map string_bytes others.now.keys) name)
-        (map string_bytes names.now.keys)) }
-{
-    let mut shared = Vec::new(alloc);
-    for name in names {
-        push_shared(alloc, &mut shared, name, others)?;
-    }
-    Ok(shared)
 }
 
 // The managed names among those that some segments have.

@@ -1,16 +1,16 @@
 -- What one call after the other keeps.
-use Rattle.std.proofs.Common.{◌≡◌, inl, inr, refl, sym, ap, subst, ◌∙◌, arith}
-use Rattle.tv_model.specs.Names.{meta_name}
+use Rattle.std.proofs.Common.{◌≡◌, ◌≢◌, ℕ, List, true, false, true≢false, inl, inr, refl, sym, ap, subst, ◌∙◌, arith}
+use Rattle.tv_model.specs.Names.{is, meta_name}
 use Rattle.tv_model.specs.declared.event.Event.{Event}
 use Rattle.tv_model.specs.declared.event.Event.TheVariants as events
+use Rattle.tv_model.proofs.Entries.{is_itself, is_text}
 use Rattle.tv_directory.specs.Calls.{Frees}
-use Rattle.tv_directory.specs.Locks.{TakesLock}
+use Rattle.tv_directory.specs.Locks.{FreesLock, Locks, SameLocks, TakesLock}
 use Rattle.tv_directory.specs.View.{View, Told, GoesOn}
 use Rattle.tv_directory.specs.Watch.{WatchState, MayNote, noted}
 use Rattle.tv_store.specs.Applying.{MayNoteAt}
 use Rattle.tv_store.specs.Stays.{MayNotify}
 use Rattle.tv_store.specs.StoreCauses.{writer_lock_name}
-use Rattle.tv_store.proofs.StoreLocks.{freed_again}
 use Rattle.tv_replay.specs.Replays.{ReplayFrame}
 
 pub goes_then : {W : Type 0} {told : Told} {first next last : View W} → GoesOn told first next → GoesOn told next last → GoesOn told first last
@@ -50,13 +50,25 @@ no_time told view = record {
   watched = inl refl;
 }
 
+-- a lock that was taken and freed
+freed_again : (start taken back : Locks) (name : List ℕ) → TakesLock start taken name → FreesLock taken back name → SameLocks start back
+freed_again start taken back name took freed n =
+    elim (is name n) as (λ b. is name n ≡ b → back n ≡ start n) [
+      | true ↦ λ e.
+          let same : name ≡ n = is_text name n e in
+          ap back (sym same) ∙ freed.is_free ∙ sym took.was_free ∙ ap start same
+      | false ↦ λ e.
+          let other : n ≢ name = λ k. true≢false (sym (is_itself name) ∙ ap (is name) (sym k) ∙ e) in
+          freed.others n other ∙ took.others n other
+    ] refl
+
 -- an opening, a run, and the lock freed again
 pub run_frame : {W : Type 0} {told : Told} {before mid new now : View W} → MayNotify told before mid → (told.locks → TakesLock before.locks mid.locks writer_lock_name) → ReplayFrame told mid new → Frees told writer_lock_name new now → ReplayFrame told before now
 run_frame {W} {told} {before} {mid} {new} {now} opened took ran freed = record {
   dotted = λ tells n dot other. freed.frame.content tells n ∙ ran.dotted tells n dot other ∙ opened.dotted tells n dot other;
   goes_on = goes_then opened.deletes_none.goes_on (goes_then ran.goes_on freed.frame.tells_none.deletes_none.goes_on);
   locks = λ tells.
-      freed_again before.locks before.locks mid.locks now.locks writer_lock_name (λ n. refl) (took tells)
+      freed_again before.locks mid.locks now.locks writer_lock_name (took tells)
       (record { is_free = (freed.freed tells).is_free; others = λ n other. (freed.freed tells).others n other ∙ ran.locks tells n });
   watched = subst (λ (w : WatchState). MayNote meta_name before.watched w) (sym freed.frame.watched) (notes_then opened.watched ran.watched);
 }

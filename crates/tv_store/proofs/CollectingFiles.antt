@@ -19,14 +19,10 @@ use Rattle.tv_managed.specs.Names.{ManagedNames}
 use Rattle.tv_managed.specs.declared.collection.CollectStep.{CollectStep}
 use Rattle.tv_managed.specs.declared.collection.GarbageCollectionResult.{GarbageCollectionResult}
 use Rattle.tv_store.specs.CollectingCalls.{EndsCollection, HasUntried, TriesNext, gone_of}
-use Rattle.tv_store.specs.Kept.{FilesState}
+use Rattle.tv_store.specs.Kept.{FilesState, names_below}
 use Rattle.tv_store.specs.StoreCauses.{EventCause}
 use Rattle.tv_store.proofs.Held.{held_begun, held_ended, held_standing, held_taken, held_tried}
 use Rattle.tv_store.proofs.Removals.{among_spares, isnt_plain, living_spared}
-
--- a directory beside what is kept of its names, as the files of a store have them
-abbrev pub names_below : {O : Type 0} → FilesState O → O × ManagedNames
-names_below files = (files.outside, record { managed = files.managed; collections = files.collections })
 
 never : (a b : Bool) → (a ≡ true → b ≡ true) → b ≡ false → a ≡ false
 never a b h e = false_from_ne_true a (λ t. true≢false (sym (h t) ∙ e))

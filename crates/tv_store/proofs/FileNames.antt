@@ -1,9 +1,7 @@
 -- The names of the files of segments, gathered one after the other.
-use Rattle.std.proofs.Common.{◌≡◌, ℕ, Bool, true, false, cond, not, ◌&&◌, ◌||◌, nat_lt, List, [], ◌∷◌, ◌++◌, map, length, length-append, append_assoc, codes, Option, refl, sym, ap, subst, ◌∙◌, arith, string_bytes, String, Global}
+use Rattle.std.proofs.Common.{◌≡◌, ℕ, Bool, true, false, cond, not, ◌&&◌, nat_lt, List, [], ◌∷◌, ◌++◌, map, length, length-append, append_assoc, codes, Option, refl, sym, ap, subst, ◌∙◌, arith}
 use Rattle.std.specs.Fmt.{decimal}
 use Rattle.std.specs.List.{filter, flat_map}
-use Rattle.std.specs.BTreeSet.{insert_key}
-use Rattle.std.specs.String.{string_cmp}
 use Rattle.std.proofs.lemmas.List.Folds.{flat_map-map}
 use Rattle.hex.specs.Hex.{encode_lower, lower_digits}
 use Rattle.hex.proofs.HexLemmas.{length-encode_with}
@@ -12,13 +10,11 @@ use Rattle.tv_model.specs.declared.segment.LiveSegment.{LiveSegment}
 use Rattle.tv_model.specs.declared.segment.SegmentComponent.{SegmentComponent}
 use Rattle.tv_model.specs.declared.segment.SegmentComponent.TheVariants.{Postings, Positions, FastFields, FieldNorms, Terms, Store, Delete}
 use Rattle.tv_model.specs.FileEvents.{lacks_deletes}
-use Rattle.tv_model.specs.Names.{byte_cmp, is, has}
+use Rattle.tv_model.specs.Names.{is, has}
 use Rattle.tv_model.specs.Ids.{IsId}
 use Rattle.tv_model.specs.Index.{IsFileOf}
 use Rattle.tv_model.specs.Segments.{all_required, components, delete_opstamp, extension, is_delete, name_of, num_deleted, required_names}
-use Rattle.tv_model.proofs.Entries.{has_put}
 use Rattle.tv_model.proofs.PlainNames.{undotted}
-use Rattle.tv_managed.proofs.SetsOfTexts.{bytes_inserted}
 
 -- ---- the name of a file
 
@@ -64,25 +60,3 @@ pub all_gathered : {A : Type 0} (names : List (List ℕ)) (id_of : A → List �
     → names ≡ flat_map (λ e. required_names (id_of e) (segment_of e)) xs → map (λ e. (id_of e, segment_of e)) xs ≡ segments → names ≡ all_required segments
 all_gathered names id_of segment_of xs segments so_far all =
     so_far ∙ sym (flat_map-map (λ e. required_names e.0 e.1) (λ e. (id_of e, segment_of e)) xs) ∙ ap all_required all
-
--- ---- names as a set of texts
-
-grouped : (a s r : Bool) → ((a || s) || r) ≡ (s || (a || r))
-grouped true true r = refl
-grouped true false r = refl
-grouped false s r = refl
-
--- one more name was put into a set of texts
-pub one_put : (keys new : List (String Global)) (key : String Global) (x : List ℕ) (names rest : List (List ℕ)) (n : List ℕ) (all : Bool) → names ≡ x ∷ rest → new ≡ insert_key string_cmp keys key → string_bytes key ≡ x
-    → (has (map string_bytes keys) n || has names n) ≡ all → (has (map string_bytes new) n || has rest n) ≡ all
-one_put keys new key x names rest n all split put text h =
-    let now : has (map string_bytes new) n ≡ (is x n || has (map string_bytes keys) n) =
-    ap (λ (ks : List (String Global)). has (map string_bytes ks) n) put ∙ ap (λ (ns : List (List ℕ)). has ns n) (bytes_inserted keys key ∙ ap (λ (t : List ℕ). insert_key byte_cmp (map string_bytes keys) t) text) ∙ has_put (map string_bytes keys) x n in
-    ap (λ (b : Bool). b || has rest n) now ∙ grouped (is x n) (has (map string_bytes keys) n) (has rest n) ∙ ap (λ (ns : List (List ℕ)). has (map string_bytes keys) n || has ns n) (sym split) ∙ h
-
--- all names were put
-pub all_put : (keys : List (String Global)) (names : List (List ℕ)) (n : List ℕ) (all : Bool) → names ≡ [] → (has (map string_bytes keys) n || has names n) ≡ all → has (map string_bytes keys) n ≡ all
-all_put keys names n all none h = none_more (has (map string_bytes keys) n) ∙ ap (λ (ns : List (List ℕ)). has (map string_bytes keys) n || has ns n) (sym none) ∙ h where
-  none_more : (a : Bool) → a ≡ (a || false)
-  none_more true = refl
-  none_more false = refl

@@ -33,3 +33,6 @@ pub mod OpenedCatalogs
 pub mod CheckedFiles
 pub mod Starting
 pub mod Unfound
+pub mod KeptFiles
+pub mod AskedEvents
+pub mod AskedReads

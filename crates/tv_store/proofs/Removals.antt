@@ -1,7 +1,9 @@
 -- Entries and names that are taken out: of maps, of sets, and of the open files.
 use Rattle.std.proofs.Common.{◌≡◌, ◌≢◌, true≢false, nat_le, codes, ℕ, suc, ◌+◌, ◌≤◌, ◌<◌, inl, inr, Bool, true, false, cond, not, ◌&&◌, ◌||◌, List, [], ◌∷◌, ◌++◌, map, length, get_or, drop, drop-cons, Option, Some, None, option_map, is_some, Result, Ok, Err, refl, sym, ap, subst, ◌∙◌, arith}
 use Rattle.std.specs.Prelude.{Contains, OnOk}
-use Rattle.std.specs.List.{AllByRecursion, list_all, list_any}
+use Rattle.std.specs.List.{AllByRecursion, filter, list_all, list_any}
+use Rattle.std.proofs.lemmas.List.Elements.{All-filter}
+use Rattle.std.proofs.lemmas.List.Sums.{AllPass-from_list_all, list_all-from_AllPass}
 use Rattle.std.specs.Map.{remove_entry}
 use Rattle.std.specs.BTreeMap.{is_at}
 use Rattle.std.specs.BTreeSet.{insert_key}
@@ -16,7 +18,6 @@ use Rattle.tv_directory.specs.declared.directory.Directory.{Ghosts}
 use Rattle.tv_managed.specs.Collecting.{Among, Leaves, Tries, SparesWriters, names_of, taken_by}
 use Rattle.tv_managed.specs.Names.{ManagedNames}
 use Rattle.tv_managed.specs.declared.collection.GarbageCollectionResult.{GarbageCollectionResult}
-use Rattle.tv_managed.proofs.Removals.{all_filtered}
 use Rattle.tv_model.specs.Commits.{IndexForm}
 use Rattle.tv_store.specs.Kept.{FilesState}
 use Rattle.tv_store.specs.FileCalls.{Tried}
@@ -207,6 +208,10 @@ failed_plain test [] outcomes h = refl
 failed_plain test (n ∷ names) [] h = refl
 failed_plain test (n ∷ names) (true ∷ outcomes) h = failed_plain test names outcomes (both (test n) (list_all test names) h).1
 failed_plain test (n ∷ names) (false ∷ outcomes) h = let t = both (test n) (list_all test names) h in rw t.0 (failed_plain test names outcomes t.1)
+
+-- and those of some that are taken
+all_filtered : (p test : List ℕ → Bool) (names : List (List ℕ)) → list_all test names ≡ true → list_all test (filter p names) ≡ true
+all_filtered p test names h = list_all-from_AllPass test (filter p names) (All-filter p (λ name. test name ≡ true) names (AllPass-from_list_all test names h))
 
 -- so are those that a collection told
 pub told_plain : {D W C : Type 0} (g : Ghosts D W C) (living : List (List ℕ)) (old new : D × ManagedNames) (result : GarbageCollectionResult) → Tries g (taken_by living old.1) old new result → list_all is_plain old.1.managed ≡ true

@@ -24,11 +24,8 @@ use Rattle.tv_model.specs.State.{State, FileState, Sealed, Open, Left, at, file_
 use Rattle.tv_model.proofs.Entries.{is_text}
 use Rattle.tv_model.proofs.Framing.{intact_again, intact_none}
 use Rattle.tv_model.proofs.Required.{by_one}
-use Rattle.tv_store.specs.Acting.{OnFiles}
 use Rattle.tv_store.specs.FileCalls.{intact_in}
-use Rattle.tv_store.proofs.FewNumbers.{none_given}
 use Rattle.tv_store.specs.Kept.{Kept, StoreState, FileHolds, Holds, is_left}
-use Rattle.tv_store.specs.Stays.{AsksOrFails}
 use Rattle.tv_store.proofs.CommitEvents.{all_joined, files_named}
 use Rattle.tv_store.proofs.FoundStates.{means_commit}
 
@@ -162,25 +159,3 @@ validated_same s names = by_found (find (unread s) names) refl where
   by_found : (found : Option (List ℕ)) → find (unread s) names ≡ found → (validated s names).1 ≡ s
   by_found None e = rw e refl
   by_found (Some name) e = rw e refl
-
--- ---- an event that only asks
-
-on_err : {A E : Type 0} (result : Result A E) (P : Type 0) → P → OnErr result P
-on_err (Ok a) P h = tt
-on_err (Err e) P h = h
-
--- what it does beside its step
-pub asks_on_files : {O W C : Type 0} (g : Ghosts O W C) (old new : StoreState O) (result : Result (List ℕ) TantivyError) → AsksOrFails g old new result → IfOk result (λ answer. length answer < (g.view new.outside).room) → OnFiles g (OnlyReads g.told) ⊥ old new result
-asks_on_files g old new result asks room =
-    let below = asks.frame.below in
-    record {
-      room = room;
-      faults = asks.faults;
-      meta = λ tells. on_err result ((g.view new.outside).reads meta_name ≡ (g.view old.outside).reads meta_name) (below.content tells meta_name);
-      dotted = λ tells n dot other. below.content tells n;
-      numbers = none_given result (ap (λ (k : Kept). k.collections) asks.frame.kept);
-      frame = record {
-        stays = record { form = ap (λ (k : Kept). k.form) asks.frame.kept; is_open = asks.frame.is_open; below = below };
-        reading = ap (λ (k : Kept). k.catalog.reading) asks.frame.kept;
-      };
-    }

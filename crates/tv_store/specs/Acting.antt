@@ -3,7 +3,7 @@ use Rattle.std.specs.Prelude.{ℕ, ◌≡◌, ◌≤◌, ◌<◌, ◌+◌, Bool,
 use Rattle.tv_base.specs.declared.error.TantivyError.{TantivyError}
 use Rattle.tv_base.specs.declared.error.TantivyError.TheVariants as errors
 use Rattle.tv_directory.specs.Locks.{SameLocks}
-use Rattle.tv_directory.specs.View.{View, Told as ToldParts, GoesOn}
+use Rattle.tv_directory.specs.View.{View, Told as ToldParts, GoesOn, OnlyReads}
 use Rattle.tv_directory.specs.declared.directory.Directory.{Ghosts}
 use Rattle.tv_model.specs.Names.{meta_name}
 use Rattle.tv_model.specs.Files.{Rose, RoseBy}
@@ -13,6 +13,7 @@ use Rattle.tv_model.specs.SoundStates.{IsWhole}
 use Rattle.tv_model.specs.State.{State, StepResult, on_catalog}
 use Rattle.tv_model.specs.declared.event.Event.{Event}
 use Rattle.tv_model.specs.declared.reload_policy.ReloadPolicy.{ReloadPolicy}
+use Rattle.tv_store.specs.FileCalls.{GcFaults}
 use Rattle.tv_store.specs.Kept.{StoreState, Holds, AtMost}
 use Rattle.tv_store.specs.ReaderNumbers.{FewNumbers}
 use Rattle.tv_store.specs.Applying.{Stepped, ApplyFaults, LeavesOldOrNew, MayNoteAt, written_by}
@@ -46,12 +47,13 @@ reload_event number s = on_catalog s (reload_step s.catalog number (bodies_in s 
 abbrev pub KeepsMeta : {O W C : Type 0} (g : Ghosts O W C) (old new : StoreState O) (result : Result (List ℕ) TantivyError) → Type 0
 KeepsMeta g old new result = g.told.content → OnErr result ((g.view new.outside).reads meta_name ≡ (g.view old.outside).reads meta_name)
 
--- no number of a collection is given
+-- at Ok the number that the next collection gets is no higher than it was
 abbrev pub GivesNone : {A E O : Type 0} → (old new : StoreState O) → Result A E → Type 0
 GivesNone old new result = OnOk result (new.kept.collections.next ≤ old.kept.collections.next)
 
--- What an event on files does beside its step, if a number is spent or not: there is room for its answer; an error has its cause, and leaves `meta.json` as it was; no
--- number of a collection is given, and of the directory below what such a call keeps.
+-- What an event on files does beside its step. At Ok there is room for its answer, and the number that the next collection gets is no higher than it was. An error has
+-- its cause, where `spent` says that a number or the length of a file would pass 64 bits, and leaves `meta.json` as it was. No file with a dot in front was changed but
+-- the list; who reads stays, what they are shown, and of the directory below what such a call keeps.
 pub record OnFiles {O W C : Type 0} (g : Ghosts O W C) (keeps : View W → View W → Type 0) (spent : Type 0) (old new : StoreState O) (result : Result (List ℕ) TantivyError) : Type 0 where
   pub room : IfOk result (λ answer. length answer < (g.view new.outside).room)
   pub faults : EventFaults spent (g.view old.outside) (g.view new.outside) result
@@ -59,6 +61,23 @@ pub record OnFiles {O W C : Type 0} (g : Ghosts O W C) (keeps : View W → View 
   pub dotted : g.told.content → KeepsDotted (g.view old.outside).reads (g.view new.outside).reads
   pub numbers : GivesNone old new result
   pub frame : KeepsReaders keeps g.view old new
+
+-- What an event does beside its step that begins a collection. At Ok there is room for its answer. An error has its cause, where `spent` says that the collection's number
+-- would pass 64 bits, and leaves `meta.json` as it was. No file with a dot in front was changed but the list; who reads stays, what they are shown, and of the directory
+-- below what such a call keeps.
+pub record OnCollecting {O W C : Type 0} (g : Ghosts O W C) (keeps : View W → View W → Type 0) (spent : Type 0) (old new : StoreState O) (result : Result (List ℕ) TantivyError) : Type 0 where
+  pub room : IfOk result (λ answer. length answer < (g.view new.outside).room)
+  pub faults : GcFaults g spent old.outside new.outside result
+  pub meta : KeepsMeta g old new result
+  pub dotted : g.told.content → KeepsDotted (g.view old.outside).reads (g.view new.outside).reads
+  pub frame : KeepsReaders keeps g.view old new
+
+-- What an event does beside its step that changes no file. At Ok there is room for its answer. No open file is longer than it was; the settings and the schema stay, and
+-- whether the store is open; and the directory was only read from.
+pub record OnReading {O W C : Type 0} (g : Ghosts O W C) (old new : StoreState O) (result : Result (List ℕ) TantivyError) : Type 0 where
+  pub room : IfOk result (λ answer. length answer < (g.view new.outside).room)
+  pub lens : (bound : ℕ) → AtMost bound old.kept → AtMost bound new.kept
+  pub frame : Stays (OnlyReads g.told) g.view old new
 
 -- What each event keeps of the directory: nothing was told, no lock was taken or freed, and nobody was registered or called.
 pub record Passes {W : Type 0} (told : ToldParts) (event : Event) (old new : View W) : Type 0 where

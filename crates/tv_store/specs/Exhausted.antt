@@ -1,5 +1,5 @@
 -- What would pass 64 bits: the number of a reader, of a snapshot, of a searcher or of a collection, or the length of an open file.
-use Rattle.std.specs.Prelude.{ℕ, ◌≡◌, ◌≤◌, ◌+◌, ◌^◌, ◌⊎◌, ◌++◌, length, Option, Some, None, option_map, option_and_then}
+use Rattle.std.specs.Prelude.{ℕ, ◌≡◌, ◌≤◌, ◌+◌, ◌^◌, ◌⊎◌, ◌++◌, Bool, true, false, if◌then◌else◌, length, Option, Some, None, option_map, option_and_then}
 use Rattle.tv_model.specs.Collections.{Collections}
 use Rattle.tv_model.specs.Segments.{name_of}
 use Rattle.tv_model.specs.State.{Catalog, at, live_at, reader_at}
@@ -14,11 +14,15 @@ number_after c (events.Reload number) = option_map (λ reader. reader.next + 1) 
 number_after c (events.Searcher number) = Some (c.reading.next_searcher + 1)
 number_after c other = None
 
--- the number after that of a collection
+-- whether an event begins a collection, in steps or at once
+abbrev pub begins_collection : Event → Bool
+begins_collection events.Gc = true
+begins_collection events.GcBegin = true
+begins_collection other = false
+
+-- the number after that of the collection which an event begins
 abbrev pub collection_after : Collections → Event → Option ℕ
-collection_after collections events.Gc = Some (collections.next + 1)
-collection_after collections events.GcBegin = Some (collections.next + 1)
-collection_after collections other = None
+collection_after collections event = if begins_collection event then Some (collections.next + 1) else None
 
 -- how long the open file is after an event that writes to it
 abbrev pub length_after : Kept → Event → Option ℕ

@@ -83,12 +83,6 @@ pub record GcFaults {A O W C : Type 0} (g : Ghosts O W C) (spent : Type 0) (old 
   pub free : g.told.locks → OnOk result ((g.view old).locks meta_lock_name ≡ false)
   pub cause : IfErr result (LockingCause (IsBusy g.told.locks ((g.view old).locks meta_lock_name ≡ true) (Rose (g.view old).faults (g.view new).faults)) (Rose (g.view old).faults (g.view new).faults) ((g.view new).faults ≡ (g.view old).faults) spent)
 
--- The text is that of `meta.json`, which is managed.
-pub record SavesMeta {O W C : Type 0} (g : Ghosts O W C) (old new : FilesState O) (text : List ℕ) : Type 0 where
-  pub names : new.managed ≡ insert_key byte_cmp old.managed meta_name
-  pub saved : g.told.content → (g.view new.outside).reads meta_name ≡ Some text
-  pub list : g.told.content → Lists ((g.view old.outside).reads list_name) old.managed → Lists ((g.view new.outside).reads list_name) new.managed
-
 -- After an error `meta.json` has this text, or what it had; after want of memory what it had.
 pub record LeavesText {A O W C : Type 0} (g : Ghosts O W C) (old new : O) (text : List ℕ) (result : Result A TantivyError) : Type 0 where
   pub either : g.told.content → OnErr result (((g.view new).reads meta_name ≡ Some text) ⊎ ((g.view new).reads meta_name ≡ (g.view old).reads meta_name))

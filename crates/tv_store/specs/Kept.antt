@@ -9,6 +9,7 @@ use Rattle.tv_model.specs.Meaning.{Means}
 use Rattle.tv_model.specs.Collections.{Collections}
 use Rattle.tv_model.specs.State.{Catalog, State, FileState, Sealed, Open, Left, at, file_at}
 use Rattle.tv_model.specs.Index.{IsFileOf}
+use Rattle.tv_managed.specs.Names.{ManagedNames}
 
 -- what a store keeps in memory: its index's settings and schema, the catalog, the managed names, the unfinished collections, what was written to each open file, and
 -- the files that were left
@@ -35,6 +36,10 @@ pub record FilesState (O : Type 0) : Type 0 where
   pub collections : Collections
   pub open_files : List (List ℕ × List ℕ)
   pub left : List (List ℕ)
+
+-- the directory, with what is kept of its names
+abbrev pub names_below : {O : Type 0} → FilesState O → O × ManagedNames
+names_below files = (files.outside, record { managed = files.managed; collections = files.collections })
 
 -- what a store keeps of an index, with this catalog and these files
 abbrev pub kept_of : {O : Type 0} → Catalog → FilesState O → Kept

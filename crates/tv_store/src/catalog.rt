@@ -11,12 +11,13 @@ ghost use Rattle.tv_model.specs.State.{Reader as ReaderState, live_at, no_reader
 
 use crate::chosen::choose;
 use crate::commit::{Commit, listed};
-use crate::names::{names_among, needed_names, shared_names};
+use crate::names::{names_among, needed_names};
 use crate::readers::Readers;
 use crate::snapshot::Snapshot;
 use std::alloc::Global;
 use std::collections::{BTreeMap, BTreeSet};
 use std::marker::Model;
+use tv_index::naming::shared_names;
 use tv_model::{FileName, LiveSegment, Memory, Opstamp, ReloadPolicy, SegmentId};
 
 /// The live segments, the number that the next commit gets, the current commit, and who reads.

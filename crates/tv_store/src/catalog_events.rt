@@ -10,7 +10,7 @@ ghost use Rattle.tv_model.specs.Machine.{catalog_step};
 ghost use Rattle.tv_model.specs.ReaderEvents.{release_reader_step};
 ghost use Rattle.tv_model.specs.ReportEvents.{managed_step};
 ghost use Rattle.tv_model.specs.SearcherEvents.{bytes_step, release_searcher_step, searcher_step, show_step};
-ghost use Rattle.tv_model.specs.SegmentEvents.{docs_step, is_in_use, is_named, segment_step};
+ghost use Rattle.tv_model.specs.SegmentEvents.{docs_step, is_in_use, segment_step};
 ghost use Rattle.tv_store.specs.Catalogs.{CatalogCause, FitsCatalog};
 ghost use Rattle.tv_model.specs.declared.event.Event.TheVariants as events;
 ghost use Rattle.tv_store.specs.Exhausted.{PassesEnd, number_after};
@@ -21,20 +21,8 @@ use crate::readers::BodyAnswer;
 use std::alloc::Global;
 use std::collections::BTreeSet;
 use tv_base::TantivyError;
+use tv_index::naming::is_named;
 use tv_model::{Answer, Event, LiveSegment, Memory, SegmentComponent, SegmentId};
-
-// Whether a name begins with the digits of an id: the first name from them on tells.
-fn is_named(names: &BTreeSet<String>, id: SegmentId, digits: String) -> bool
-    requires { string_bytes digits ≡ encode_lower id }
-    ensures { result ≡ is_named (map string_bytes names.now.keys) id }
-{
-    let mut spelled = [0; 32];
-    id.write_digits(&mut spelled);
-    match names.range(digits..).next() {
-        Some(name) => name.as_bytes().starts_with(&spelled),
-        None => false,
-    }
-}
 
 // The line of a new live segment.
 fn segment_line(alloc: Global, id: SegmentId) -> Result<Answer, Memory>

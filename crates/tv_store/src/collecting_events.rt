@@ -1,15 +1,14 @@
 //! The events of a collection in steps.
-ghost use Rattle.std.specs.Prelude.{◌≡◌, ◌<◌, ◌+◌, [], ◌∷◌, ℕ, length, codes, cond, IfOk, OnOk};
+ghost use Rattle.std.specs.Prelude.{◌≡◌, ◌+◌, [], ◌∷◌, ℕ, codes, cond, IfOk, OnOk};
 ghost use Rattle.std.specs.Fmt.{decimal};
 ghost use Rattle.tv_model.specs.CollectionEvents.{gc_begin_step, gc_end_step, gc_step_step};
 ghost use Rattle.tv_model.specs.Lines.{line};
 ghost use Rattle.tv_directory.specs.View.{Kept, MayDelete, OnlyReads};
 ghost use Rattle.tv_model.specs.declared.event.Event.TheVariants as events;
-ghost use Rattle.tv_store.specs.Acting.{OnFiles, StepsDeleting, StepsTo};
+ghost use Rattle.tv_store.specs.Acting.{OnCollecting, OnFiles, StepsDeleting, StepsTo};
 ghost use Rattle.tv_store.specs.Exhausted.{PassesEnd, collection_after};
-ghost use Rattle.tv_store.specs.FileCalls.{GcFaults};
 ghost use Rattle.tv_store.specs.Kept.{AtMost};
-ghost use Rattle.tv_store.specs.Stays.{AsksQuietly, KeepsReaders};
+ghost use Rattle.tv_store.specs.Stays.{AsksQuietly};
 
 use crate::collection_events::with_names;
 use crate::files_collecting::TriedName;
@@ -54,14 +53,12 @@ impl<O: Outside> IndexStore<O> {
     // A collection begins, which takes the files that nothing needs.
     pub(crate) fn gc_begin(&mut self) -> Result<Answer, TantivyError>
         ensures step { StepsTo O.Directory self.old self.new gc_begin_step result }
-        ensures room { IfOk result (λ answer. length answer < (O.view self.new.outside).room) }
         ensures lens { (bound : ℕ) → AtMost bound self.old.kept → AtMost bound self.new.kept }
         ensures numbers { OnOk result (self.new.kept.collections.next
             ≡ self.old.kept.collections.next + 1) }
-        ensures faults { GcFaults O.Directory
+        ensures does { OnCollecting O.Directory (OnlyReads O.told)
             (PassesEnd (collection_after self.old.kept.collections events.GcBegin))
-            self.old.outside self.new.outside result }
-        ensures frame { KeepsReaders (OnlyReads O.told) O.view self.old self.new }
+            self.old self.new result }
     {
         let living = self.catalog.living()?;
         self.ready_for_all()?;

@@ -1,14 +1,13 @@
 //! The event that collects files, and the one that ends a segment.
-ghost use Rattle.std.specs.Prelude.{◌≡◌, ◌<◌, ℕ, length, IfOk};
+ghost use Rattle.std.specs.Prelude.{◌≡◌, ℕ, IfOk};
 ghost use Rattle.tv_model.specs.CollectionEvents.{gc_step, collected_line, release_segment_step};
 ghost use Rattle.tv_model.specs.Lines.{line};
 ghost use Rattle.tv_directory.specs.View.{OnlyReads, MayDelete};
 ghost use Rattle.tv_store.specs.Kept.{AtMost};
-ghost use Rattle.tv_store.specs.Acting.{GivesNone, StepsTo, StepsDeleting, KeepsMeta, OnFiles};
+ghost use Rattle.tv_store.specs.Acting.{GivesNone, OnCollecting, OnFiles, StepsDeleting, StepsTo};
 ghost use Rattle.tv_model.specs.declared.event.Event.TheVariants as events;
 ghost use Rattle.tv_store.specs.Exhausted.{PassesEnd, collection_after};
-ghost use Rattle.tv_store.specs.FileCalls.{GcFaults};
-ghost use Rattle.tv_store.specs.Stays.{AsksQuietly, KeepsDotted, KeepsReaders};
+ghost use Rattle.tv_store.specs.Stays.{AsksQuietly};
 
 use crate::files_collecting::Collected;
 use crate::index_store::IndexStore;
@@ -57,16 +56,11 @@ impl<O: Outside> IndexStore<O> {
     // The files that nothing needs are tried, and those that are done are gone.
     pub(crate) fn gc(&mut self) -> Result<Answer, TantivyError>
         ensures step { IfOk result (StepsDeleting O.Directory self.old self.new gc_step) }
-        ensures room { IfOk result (λ answer. length answer < (O.view self.new.outside).room) }
         ensures lens { (bound : ℕ) → AtMost bound self.old.kept → AtMost bound self.new.kept }
         ensures numbers { GivesNone self.old self.new result }
-        ensures faults { GcFaults O.Directory
+        ensures does { OnCollecting O.Directory (MayDelete O.told)
             (PassesEnd (collection_after self.old.kept.collections events.Gc))
-            self.old.outside self.new.outside result }
-        ensures meta { KeepsMeta O.Directory self.old self.new result }
-        ensures dotted { O.told.content → KeepsDotted (O.view self.old.outside).reads
-            (O.view self.new.outside).reads }
-        ensures frame { KeepsReaders (MayDelete O.told) O.view self.old self.new }
+            self.old self.new result }
     {
         let living = self.catalog.living()?;
         self.ready_for_all()?;

@@ -1,15 +1,14 @@
 //! The current commit, and how it is printed.
-ghost use Rattle.std.specs.Prelude.{◌≡◌, ◌++◌, [], ◌∷◌, IfOk, is_some, length, map, option_map, string_bytes};
+ghost use Rattle.std.specs.Prelude.{◌≡◌, ◌++◌, [], ◌∷◌, IfOk, is_some, length, option_map, string_bytes};
 ghost use Rattle.std.specs.Option.{option_copied};
 ghost use Rattle.tv_model.specs.Commits.{printed};
 ghost use Rattle.tv_model.specs.State.{at};
-ghost use Rattle.tv_index.specs.Segments.{entry_of};
 ghost use Rattle.tv_index.specs.Settings.{settings_view};
 
 use std::alloc::Global;
 use std::collections::BTreeMap;
 use std::marker::Model;
-use tv_index::{IndexSettings, InnerSegmentMeta, Schema, print_meta};
+use tv_index::{IndexSettings, Schema, metas_of, print_meta};
 use tv_model::{LiveSegment, Memory, Opstamp, SegmentId, Text};
 
 /// A payload, as a commit has it. Takes no memory.
@@ -104,21 +103,6 @@ impl Commit {
         self.segments.get(&id).copied()
     }
 
-    // Its segments, as `meta.json` has them.
-    fn metas(&self, alloc: Global) -> Result<Vec<InnerSegmentMeta>, Memory>
-        ensures { IfOk result (λ metas. map entry_of metas.items ≡ self.now.segments) }
-    {
-        let mut metas = Vec::new(alloc);
-        for (id, segment) in &self.segments {
-            metas.push(InnerSegmentMeta {
-                segment_id: *id,
-                max_doc: segment.max_doc,
-                deletes: segment.deletes,
-            })?;
-        }
-        Ok(metas)
-    }
-
     // The text of its payload.
     fn payload_text(&self) -> Option<&str>
         ensures { option_copied result ≡ self.now.payload }
@@ -139,7 +123,7 @@ impl Commit {
         ensures { IfOk result (λ text. text.items
             ≡ printed (settings_view settings.now) schema.now self.now ++ 10 ∷ []) }
     {
-        let metas = self.metas(alloc)?;
+        let metas = metas_of(alloc, &self.segments)?;
         let payload = self.payload_text();
         let segments = metas.as_slice();
         let mut text = print_meta(alloc, settings, schema, segments, self.opstamp, payload)?;

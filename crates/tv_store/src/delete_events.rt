@@ -18,6 +18,7 @@ use std::alloc::Global;
 use std::collections::BTreeSet;
 use tv_base::TantivyError;
 use tv_directory::Outside;
+use tv_index::naming::has_name;
 use tv_model::{
     Answer, DeleteMeta, FileName, LiveSegment, Memory, Opstamp, SegmentComponent, SegmentId,
 };
@@ -81,7 +82,7 @@ impl Catalog {
         ensures { IfOk result (λ taken. taken ≡ (has (map string_bytes managed.now.keys) name.now
             || is_committed_delete (at self.now.commit.segments id) id name.now)) }
     {
-        if managed.contains(name.as_str()) {
+        if has_name(managed, name.as_str()) {
             return Ok(true);
         }
         self.is_committed_delete(id, name)

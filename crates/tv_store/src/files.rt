@@ -16,10 +16,12 @@ ghost use Rattle.tv_directory.specs.Calls.{DeviceFaults, Frees, LockFaults, Acqu
 ghost use Rattle.tv_directory.specs.View.{Kept, OnlyReads, OnlyLocks, OnlyTells, MayDelete};
 ghost use Rattle.tv_managed.specs.Managed.{KeepsOtherFiles};
 ghost use Rattle.tv_managed.specs.Reading.{ReadsBody};
-ghost use Rattle.tv_store.specs.FileCalls.{Asked, intact_in, LeavesFiles, OpensFile, FindsFile, ReadBodyFaults, Collects, GcFaults, SavesMeta, LeavesText, KeepsOpenFiles};
+ghost use Rattle.tv_store.specs.FileCalls.{Asked, intact_in, LeavesFiles, OpensFile, FindsFile, ReadBodyFaults, Collects, GcFaults, LeavesText, KeepsOpenFiles};
 ghost use Rattle.tv_index.specs.NewForms.{form_with};
+ghost use Rattle.tv_index.specs.Saving.{SavesMeta};
 ghost use Rattle.tv_index.specs.Settings.{settings_view};
 ghost use Rattle.tv_index.specs.Standing.{LoadsMeta, MetaFaults};
+ghost use Rattle.tv_store.specs.Kept.{names_below};
 ghost use Rattle.tv_store.specs.Stays.{KeepsDotted, KeepsFiles, KeepsMade, OnlyWrites, EventFaults, Faults};
 
 use std::alloc::Global;
@@ -364,7 +366,8 @@ impl<O: Outside> Files<O> {
 
     /// Makes these bytes the text of `meta.json`. The directory is synced before and afterwards.
     pub(crate) fn save_meta(&mut self, text: &[u8]) -> Result<(), TantivyError>
-        ensures saves { OnOk result (SavesMeta O.Directory self.old self.new text.now) }
+        ensures saves { OnOk result (SavesMeta O.Directory
+            (names_below self.old) (names_below self.new) text.now) }
         ensures others { O.told.content → KeepsOtherFiles (O.view self.old.outside).reads
             (O.view self.new.outside).reads meta_name }
         ensures leaves { LeavesText O.Directory self.old.outside self.new.outside text.now result }

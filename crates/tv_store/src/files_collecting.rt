@@ -16,12 +16,12 @@ ghost use Rattle.tv_store.specs.Reopening.{Reopens};
 ghost use Rattle.tv_store.specs.Stays.{EventFaults, KeepsDotted, KeepsForm};
 
 use crate::files::Files;
-use crate::names::push_text;
 use std::alloc::Global;
 use std::collections::{BTreeMap, BTreeSet};
 use std::mem;
 use tv_base::TantivyError;
 use tv_directory::Outside;
+use tv_index::naming::push_text;
 use tv_managed::CollectStep;
 use tv_model::{FileName, Memory};
 
@@ -122,9 +122,12 @@ impl<O: Outside> Files<O> {
         self.index.directory().collect_left(number)
     }
 
-    /// The names that an unfinished collection took, in their order.
+    /// The names that an unfinished collection took, in their order; none where no such collection is
+    /// unfinished.
     pub(crate) fn collect_names(&self, alloc: Global, number: u64) -> Result<Vec<FileName>, Memory>
-        ensures { (c : Collection) → collection_at self.now.collections number ≡ Some c
+        ensures absent { collection_at self.now.collections number ≡ None
+            → IfOk result (λ names. names.items ≡ []) }
+        ensures names { (c : Collection) → collection_at self.now.collections number ≡ Some c
             → IfOk result (λ names. IsStrictlySortedBy byte_cmp names.items
             × ((n : List ℕ) → has names.items n ≡ has (taken c) n)) }
     {
@@ -194,8 +197,8 @@ impl<O: Outside> Files<O> {
         Ok(())
     }
 
-    /// Deletes the managed files that aren't among these. One that was deleted is neither open nor
-    /// left any more.
+    /// Tries to delete the managed files that aren't among these, and that no unfinished collection
+    /// holds. At Ok one that was deleted is neither open nor left any more.
     pub(crate) fn collect(
         &mut self,
         alloc: Global,

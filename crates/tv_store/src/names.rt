@@ -1,6 +1,6 @@
 //! The names of the files of segments.
-ghost use Rattle.std.specs.Prelude.{◌≡◌, ◌++◌, [], ◌∷◌, List, ℕ, IfOk, OnOk, filter, map, not, string_bytes, true};
-ghost use Rattle.std.specs.List.{flat_map, list_all};
+ghost use Rattle.std.specs.Prelude.{◌≡◌, ◌++◌, ◌∷◌, List, ℕ, IfOk, OnOk, map, not, string_bytes, true};
+ghost use Rattle.std.specs.List.{flat_map};
 ghost use Rattle.tv_model.specs.FileEvents.{lacks_deletes};
 ghost use Rattle.tv_model.specs.Index.{IsFileOf};
 ghost use Rattle.tv_model.specs.Living.{segment_names};
@@ -10,6 +10,7 @@ ghost use Rattle.tv_model.specs.Segments.{all_required, name_of, required_names}
 use std::alloc::Global;
 use std::collections::{BTreeMap, BTreeSet};
 use tv_base::META_FILEPATH;
+use tv_index::naming::{push_name, push_names, set_of};
 use tv_model::{
     DeleteMeta, FileName, LiveSegment, Memory, SegmentComponent, SegmentId, segment_file_name,
 };
@@ -26,37 +27,6 @@ pub(crate) fn file_of(
     ensures file { IfOk result (λ name. IsFileOf name) }
 {
     segment_file_name(alloc, id, deletes, component)
-}
-
-// Adds the name of one file of a segment.
-fn push_name(
-    alloc: Global,
-    names: &mut Vec<FileName>,
-    id: SegmentId,
-    segment: LiveSegment,
-    component: SegmentComponent,
-) -> Result<(), Memory>
-    ensures { OnOk result (names.new.items ≡ names.old.items
-        ++ name_of id segment.deletes component ∷ []) }
-{
-    let name = segment_file_name(alloc, id, segment.deletes, component)?;
-    names.push(name)?;
-    Ok(())
-}
-
-// Adds the names that a segment has.
-fn push_names(
-    alloc: Global,
-    names: &mut Vec<FileName>,
-    id: SegmentId,
-    segment: LiveSegment,
-) -> Result<(), Memory>
-    ensures { OnOk result (names.new.items ≡ names.old.items ++ segment_names (id, segment)) }
-{
-    for component in SegmentComponent::iterator() {
-        push_name(alloc, names, id, segment, *component)?;
-    }
-    Ok(())
 }
 
 /// The names that a segment has, whether there are such files or not.
@@ -88,18 +58,6 @@ fn push_all(
     Ok(())
 }
 
-// The names as a set of texts.
-fn set_of(alloc: Global, names: Vec<FileName>) -> Result<BTreeSet<String>, Memory>
-    ensures { IfOk result (λ set. (n : List ℕ)
-        → has (map string_bytes set.keys) n ≡ has names.items n) }
-{
-    let mut set = BTreeSet::new(alloc);
-    for name in names {
-        set.insert(name.into_string())?;
-    }
-    Ok(set)
-}
-
 /// The names that are needed: `meta.json`, and those of these segments.
 pub(crate) fn needed_names(
     alloc: Global,
@@ -128,40 +86,6 @@ pub(crate) fn names_among(
     let mut names = Vec::new(alloc);
     push_all(alloc, &mut names, segments)?;
     set_of(alloc, names)
-}
-
-/// Adds a name that is a text.
-pub(crate) fn push_text(
-    alloc: Global,
-    names: &mut Vec<FileName>,
-    text: &String,
-) -> Result<(), Memory>
-    requires { is_plain (string_bytes text.now) ≡ true }
-    ensures { OnOk result (names.new.items ≡ names.old.items ++ string_bytes text.now ∷ []) }
-{
-    let text = String::from_str(alloc, text.as_str())?;
-    names.push(FileName::new(text))?;
-    Ok(())
-}
-
-/// Those of some names that are among others, in their order.
-pub(crate) fn shared_names(
-    alloc: Global,
-    names: &BTreeSet<String>,
-    others: &BTreeSet<String>,
-) -> Result<Vec<FileName>, Memory>
-    requires { list_all is_plain (map string_bytes names.now.keys) ≡ true }
-    ensures { IfOk result (λ shared. shared.items
-        ≡ filter (λ name. has (map string_bytes others.now.keys) name)
-        (map string_bytes names.now.keys)) }
-{
-    let mut shared = Vec::new(alloc);
-    for name in names {
-        if others.contains(name.as_str()) {
-            push_text(alloc, &mut shared, name)?;
-        }
-    }
-    Ok(shared)
 }
 
 // Whether a segment has to have such a file sealed: each but the delete file where none is deleted.

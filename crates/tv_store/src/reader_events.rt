@@ -10,16 +10,16 @@ ghost use Rattle.tv_model.specs.Readable.{CanRead, ReadsGood};
 ghost use Rattle.tv_model.specs.ReaderEvents.{snapshot_in};
 ghost use Rattle.tv_directory.specs.View.{OnlyReads};
 ghost use Rattle.tv_managed.specs.Reading.{ReadsBody};
-ghost use Rattle.tv_store.specs.Acting.{StepsReading, reader_event, reload_event};
+ghost use Rattle.tv_store.specs.Acting.{OnReading, StepsReading, reader_event, reload_event};
 ghost use Rattle.tv_store.specs.Bodies.{AreBodies, AreGood, AreSealed, ReadsSegment, ReadsSegments};
 ghost use Rattle.tv_store.specs.FileCalls.{ReadBodyFaults};
-ghost use Rattle.tv_store.specs.Kept.{Holds, AtMost};
+ghost use Rattle.tv_store.specs.Kept.{Holds};
 ghost use Rattle.tv_store.specs.Exhausted.{PassesEnd, number_after};
 ghost use Rattle.tv_store.specs.ReaderNumbers.{FewNumbers};
 ghost use Rattle.tv_store.specs.SnapshotCalls.{BodiesFaults, CommitFaults, ReadingFaults, ShowsMeta, SnapshotFaults};
 ghost use Rattle.tv_index.specs.Standing.{LoadsMeta, MetaFaults};
 ghost use Rattle.tv_index.specs.Segments.{entry_of};
-ghost use Rattle.tv_store.specs.Stays.{Asks, Stays};
+ghost use Rattle.tv_store.specs.Stays.{Asks};
 
 use crate::commit::text_of;
 use crate::index_store::IndexStore;
@@ -179,8 +179,6 @@ impl<O: Outside> IndexStore<O> {
     pub(crate) fn reader(&mut self, policy: ReloadPolicy) -> Result<Answer, TantivyError>
         ensures step { StepsReading O.Directory self.old self.new
             (reader_event policy) CanRead result }
-        ensures room { IfOk result (λ answer. length answer < (O.view self.new.outside).room) }
-        ensures lens { (bound : ℕ) → AtMost bound self.old.kept → AtMost bound self.new.kept }
         ensures numbers { (bound : ℕ)
             → FewNumbers bound self.old.kept.catalog.reading self.old.kept.collections
             → OnOk result (FewNumbers (bound + 1) self.new.kept.catalog.reading
@@ -188,7 +186,7 @@ impl<O: Outside> IndexStore<O> {
         ensures faults { ReadingFaults O.Directory (Unit {0})
             (PassesEnd (number_after self.old.kept.catalog (events.Reader policy)))
             self.old self.new (events.Reader policy) result }
-        ensures frame { Stays (OnlyReads O.told) O.view self.old self.new }
+        ensures does { OnReading O.Directory self.old self.new result }
     {
         let number = self.catalog.next_reader();
         if number == u64::MAX {
@@ -211,8 +209,6 @@ impl<O: Outside> IndexStore<O> {
     pub(crate) fn reload(&mut self, number: u64) -> Result<Answer, TantivyError>
         ensures step { StepsReading O.Directory self.old self.new (reload_event number)
             (λ s. ReadsGood s (events.Reload number)) result }
-        ensures room { IfOk result (λ answer. length answer < (O.view self.new.outside).room) }
-        ensures lens { (bound : ℕ) → AtMost bound self.old.kept → AtMost bound self.new.kept }
         ensures numbers { (bound : ℕ)
             → FewNumbers bound self.old.kept.catalog.reading self.old.kept.collections
             → OnOk result (FewNumbers (bound + 1) self.new.kept.catalog.reading
@@ -221,7 +217,7 @@ impl<O: Outside> IndexStore<O> {
             (IsSome (reader_at self.old.kept.catalog number))
             (PassesEnd (number_after self.old.kept.catalog (events.Reload number)))
             self.old self.new (events.Reload number) result }
-        ensures frame { Stays (OnlyReads O.told) O.view self.old self.new }
+        ensures does { OnReading O.Directory self.old self.new result }
     {
         let Some(generation) = self.catalog.next_generation(number) else {
             return self.refuse("unknown-reader");

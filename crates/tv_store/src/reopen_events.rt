@@ -1,13 +1,11 @@
 //! The event that opens an index again, where it stands.
-ghost use Rattle.std.specs.Prelude.{◌≡◌, ◌<◌, ℕ, length, IfOk, OnOk};
+ghost use Rattle.std.specs.Prelude.{◌≡◌, IfOk, OnOk};
 ghost use Rattle.tv_model.specs.Collections.{no_collections};
 ghost use Rattle.tv_model.specs.Index.{opened_catalog};
 ghost use Rattle.tv_model.specs.ReopenEvents.{reopen_step};
 ghost use Rattle.tv_model.specs.State.{no_readers};
-ghost use Rattle.tv_directory.specs.View.{OnlyReads};
-ghost use Rattle.tv_store.specs.Acting.{StepsTo};
-ghost use Rattle.tv_store.specs.Kept.{AtMost};
-ghost use Rattle.tv_store.specs.Stays.{EventFaults, Stays};
+ghost use Rattle.tv_store.specs.Acting.{OnReading, StepsTo};
+ghost use Rattle.tv_store.specs.Stays.{EventFaults};
 
 use crate::catalog::Catalog;
 use crate::index_store::IndexStore;
@@ -44,12 +42,10 @@ impl<O: Outside> IndexStore<O> {
     // The index is opened again: open files are left, nobody reads, and no collection is unfinished.
     pub(crate) fn reopen(&mut self) -> Result<Answer, TantivyError>
         ensures step { StepsTo O.Directory self.old self.new reopen_step result }
-        ensures room { IfOk result (λ answer. length answer < (O.view self.new.outside).room) }
-        ensures lens { (bound : ℕ) → AtMost bound self.old.kept → AtMost bound self.new.kept }
         ensures anew { OnOk result ((self.new.kept.collections ≡ no_collections)
             × (self.new.kept.catalog.reading ≡ no_readers)) }
         ensures faults { EventFaults ⊥ (O.view self.old.outside) (O.view self.new.outside) result }
-        ensures frame { Stays (OnlyReads O.told) O.view self.old self.new }
+        ensures does { OnReading O.Directory self.old self.new result }
     {
         let segments = self.catalog.committed()?;
         let line = opening_line(self.alloc, self.catalog.commit())?;

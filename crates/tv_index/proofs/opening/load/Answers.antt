@@ -1,11 +1,18 @@
-use Rattle.std.proofs.Common.{◌∙◌, ap, sym, Some}
-use Rattle.tv_index.proofs.Openings.{load_fails, means_has}
+use Rattle.tv_index.proofs.Standings.{has_found, loads_found, unless_found}
 use Rattle.tv_index.proofs.opening.load.Goals as goal
 
-pub returns-in_err-meta-clause-faults : goal.returns-in_err-meta-clause-faults
-returns-in_err-meta-clause-faults g c =
-    load_fails g.D.Directory c.args.directory.now.0 c.atomic_read.new.self.0 c.args.schema.now c.as_slice.result.now c.from_residual.result c.in_err-meta.field-0.0 c.from_residual.ensures.1
-    c.in-Ok.ensures.faults.quiet (λ t. c.in-Ok.ensures.bytes t ∙ ap Some (sym c.as_slice.ensures.value)) c.in_err-meta.ensures.err
+pub returns-in-Ok : goal.returns-in-Ok
+returns-in-Ok g c =
+    let loaded = c.in-Ok.ensures in
+    record {
+      found = loads_found g.D.Directory c.args.directory.now.0 c.args.schema.now c.in-Ok.meta loaded.meta;
+      commit = has_found g.D.Directory c.args.directory.now.0 c.args.schema.now c.in-Ok.meta loaded.meta;
+      faults = record { quiet = loaded.faults.quiet; cause = tt };
+      frame = loaded.frame;
+    }
 
-pub returns-clause-commit : goal.returns-clause-commit
-returns-clause-commit g c = means_has c.args.schema.now c.as_slice.result.now c.in_ok-meta.meta c.in_ok-meta.ensures.ok c.in_ok-meta.ensures.schema
+pub returns-in-Err : goal.returns-in-Err
+returns-in-Err g c =
+    let failed = c.in-Err.ensures in
+    let told = unless_found g.D.Directory c.args.directory.now.0 c.load_meta.new.directory.0 c.args.schema.now c.in-Err.error c.none_if_absent.result failed.faults.cause c.none_if_absent.ensures in
+    record { found = told.0; commit = told.1; faults = told.2; frame = failed.frame }

@@ -1,4 +1,4 @@
-use Rattle.std.proofs.Common.{refl}
+use Rattle.std.proofs.Common.{Ok, refl}
 use Rattle.tv_index.proofs.Managing.{manages_between, manages_err, manages_none}
 use Rattle.tv_index.proofs.saving.save_meta_text.Goals as goal
 
@@ -6,7 +6,7 @@ pub returns-in_err-sync_directory-clause-manages : goal.returns-in_err-sync_dire
 returns-in_err-sync_directory-clause-manages g c =
     let old = c.args.directory.now in
     let synced = c.in_err-sync_directory.ensures.frame in
-    manages_none g.D.Directory old old old c.sync_directory.new.self (λ t n. refl) refl synced.below.content synced.names _ c.from_residual.result c.from_residual.ensures.1 refl
+    manages_none g.D.Directory old old old c.sync_directory.new.self (λ t n. refl) refl synced.below.content synced.names c.from_residual.result c.from_residual.ensures.0 refl
 
 pub returns-in_err-atomic_write-clause-manages : goal.returns-in_err-atomic_write-clause-manages
 returns-in_err-atomic_write-clause-manages g c =
@@ -14,7 +14,7 @@ returns-in_err-atomic_write-clause-manages g c =
     let now = c.atomic_write.new.self in
     let synced = c.in_ok-sync_directory.ensures.frame in
     let wrote = c.in_err-atomic_write.ensures in
-    manages_err g.D.Directory old now _ c.atomic_write.result c.from_residual-in_err-atomic_write.result c.from_residual-in_err-atomic_write.ensures.1
+    manages_err g.D.Directory old now c.atomic_write.result c.from_residual-in_err-atomic_write.result c.from_residual-in_err-atomic_write.ensures.0
     (manages_between g.D.Directory old c.sync_directory.new.self now now synced.below.content synced.names (λ t n. refl) refl c.atomic_write.result c.atomic_write.ensures.manages)
 
 pub returns-in_err-sync_directory-2-clause-manages : goal.returns-in_err-sync_directory-2-clause-manages
@@ -23,7 +23,7 @@ returns-in_err-sync_directory-2-clause-manages g c =
     let new = c.sync_directory-2.new.self in
     let synced = c.in_ok-sync_directory.ensures.frame in
     let later = c.in_err-sync_directory-2.ensures.frame in
-    manages_err g.D.Directory old new _ c.atomic_write.result c.from_residual-in_err-sync_directory-2.result c.from_residual-in_err-sync_directory-2.ensures.1
+    manages_err g.D.Directory old new c.atomic_write.result c.from_residual-in_err-sync_directory-2.result c.from_residual-in_err-sync_directory-2.ensures.0
     (manages_between g.D.Directory old c.sync_directory.new.self c.atomic_write.new.self new synced.below.content synced.names later.below.content later.names c.atomic_write.result c.atomic_write.ensures.manages)
 
 pub returns-clause-manages : goal.returns-clause-manages
@@ -32,4 +32,4 @@ returns-clause-manages g c =
     let new = c.sync_directory-2.new.self in
     let synced = c.in_ok-sync_directory.ensures.frame in
     let later = c.in_ok-sync_directory-2.ensures.frame in
-    manages_between g.D.Directory old c.sync_directory.new.self c.atomic_write.new.self new synced.below.content synced.names later.below.content later.names _ c.in_ok-atomic_write.ensures.manages
+    manages_between g.D.Directory old c.sync_directory.new.self c.atomic_write.new.self new synced.below.content synced.names later.below.content later.names (Ok c.in_ok-atomic_write.field-0) c.in_ok-atomic_write.ensures.manages

@@ -28,12 +28,12 @@ returns-clause-saves g c commit order =
 pub returns-in_err-text-clause-manages : goal.returns-in_err-text-clause-manages
 returns-in_err-text-clause-manages g c =
     let old = c.args.directory.now in
-    manages_none g.D.Directory old old old old (λ t n. refl) refl (λ t n. refl) refl _ c.from_residual.result c.from_residual.ensures.1 refl
+    manages_none g.D.Directory old old old old (λ t n. refl) refl (λ t n. refl) refl c.from_residual.result c.from_residual.ensures.0 refl
 
 pub returns-in_err-save_meta_text-clause-manages : goal.returns-in_err-save_meta_text-clause-manages
 returns-in_err-save_meta_text-clause-manages g c =
     let saving = c.from_residual-in_err-save_meta_text in
-    manages_err g.D.Directory c.args.directory.now c.save_meta_text.new.directory _ c.save_meta_text.result saving.result saving.ensures.1 c.save_meta_text.ensures.manages
+    manages_err g.D.Directory c.args.directory.now c.save_meta_text.new.directory c.save_meta_text.result saving.result saving.ensures.0 c.save_meta_text.ensures.manages
 
 pub returns-clause-manages : goal.returns-clause-manages
 returns-clause-manages g c =

@@ -5,7 +5,8 @@ use Rattle.tv_model.specs.Names.{has, is_plain, meta_name}
 use Rattle.tv_model.specs.State.{at}
 use Rattle.tv_managed.specs.Collecting.{SparesWriters}
 use Rattle.tv_store.proofs.Removals.{told_plain, tried_as, collected_open, bodies_gone, lens_left, living_stands, dotted_stands}
-use Rattle.tv_store.proofs.CollectingFiles.{collected_spares, names_below}
+use Rattle.tv_store.specs.Kept.{names_below}
+use Rattle.tv_store.proofs.CollectingFiles.{collected_spares}
 use Rattle.tv_store.proofs.OpenFiles.{AreOpen, bodies, same_open}
 use Rattle.tv_store.proofs.files.Files.collect.Goals as goal
 

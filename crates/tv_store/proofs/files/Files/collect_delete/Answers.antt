@@ -6,7 +6,8 @@ use Rattle.tv_model.proofs.PlainNames.{plain_is_file_name}
 use Rattle.tv_managed.specs.Collecting.{tried_name}
 use Rattle.tv_managed.specs.declared.collection.CollectStep.TheVariants as steps
 use Rattle.tv_store.specs.CollectingCalls.{HasUntried}
-use Rattle.tv_store.proofs.CollectingFiles.{names_below, next_keeps_dotted, next_others, next_spares, next_writers, tried_next, tries_so}
+use Rattle.tv_store.specs.Kept.{names_below}
+use Rattle.tv_store.proofs.CollectingFiles.{next_keeps_dotted, next_others, next_spares, next_writers, tried_next, tries_so}
 use Rattle.tv_store.proofs.OpenFiles.{AreOpen}
 use Rattle.tv_store.proofs.Removals.{bodies_gone, collected_open, contains_itself, lens_left, one_out}
 use Rattle.tv_store.proofs.files.Files.collect_delete.Goals as goal

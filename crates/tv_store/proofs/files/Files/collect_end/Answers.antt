@@ -3,7 +3,8 @@ use Rattle.tv_model.specs.Collections.{held}
 use Rattle.tv_model.specs.Files.{Rose}
 use Rattle.tv_model.specs.Names.{has, meta_name}
 use Rattle.tv_store.specs.StoreCauses.{EventCause}
-use Rattle.tv_store.proofs.CollectingFiles.{end_cause, end_spares, ends_so, names_below}
+use Rattle.tv_store.specs.Kept.{names_below}
+use Rattle.tv_store.proofs.CollectingFiles.{end_cause, end_spares, ends_so}
 use Rattle.tv_store.proofs.OpenFiles.{still_open, AreOpen}
 use Rattle.tv_store.proofs.ReaderEvents.{failed_as}
 use Rattle.tv_store.proofs.files.Files.collect_end.Goals as goal

@@ -6,6 +6,8 @@ use Rattle.tv_model.specs.State.{at}
 use Rattle.tv_store.proofs.OpenFiles.{is_open, still_files, AreFiles}
 use Rattle.tv_store.proofs.Removals.{had}
 use Rattle.tv_store.proofs.ReportEvents.{fault_intact, intact_answer, left_intact, open_intact, tells_intact}
+use Rattle.tv_directory.specs.View.{OnlyReads}
+use Rattle.tv_store.proofs.KeptFiles.{kept_files}
 use Rattle.tv_store.proofs.files.Files.is_intact.Goals as goal
 use Rattle.tv_store.proofs.files.Files.is_intact.Goals.{then-contains_key-via-then-contains_key, then-contains_key-via-else-contains_key+then-contains}
 
@@ -52,3 +54,15 @@ returns-in-Err-IoError-clause-answer g c tells =
     c.unless_device.ensures.none c.unless_device.ensures.bytes (ap (λ d. d.0) c.directory_mut.ensures.value ∙ ap (λ v. v.outside) c.self.view_is) c.as_str.ensures.text why
     (is_open (λ w. (g.O.Directory.state_of w).written) c.self.inside.files.entries old.open_files name _ (ap (λ v. v.open_files) c.self.view_is) c.if-contains_key.ensures)
     (sym (ap (λ v. has v.left name) c.self.view_is) ∙ sym (had c.self.inside.left.keys name) ∙ sym c.contains.ensures ∙ c.if-contains.false)
+
+pub returns-in-Ok-clause-frame : goal.returns-in-Ok-clause-frame
+returns-in-Ok-clause-frame g c = kept_files (OnlyReads g.O.Directory.told) g.O.Directory.view _ _ _ _ _ _ _ c.directory_mut.ensures.value c.self.view_is c.validate_checksum.ensures.frame
+
+pub returns-in-Err-FileDoesNotExist-clause-frame : goal.returns-in-Err-FileDoesNotExist-clause-frame
+returns-in-Err-FileDoesNotExist-clause-frame g c = kept_files (OnlyReads g.O.Directory.told) g.O.Directory.view _ _ _ _ _ _ _ c.directory_mut.ensures.value c.self.view_is c.validate_checksum.ensures.frame
+
+pub returns-in-Err-IoError-clause-frame : goal.returns-in-Err-IoError-clause-frame
+returns-in-Err-IoError-clause-frame g c = kept_files (OnlyReads g.O.Directory.told) g.O.Directory.view _ _ _ _ _ _ _ c.directory_mut.ensures.value c.self.view_is c.validate_checksum.ensures.frame
+
+pub returns-in-Err-Memory-clause-frame : goal.returns-in-Err-Memory-clause-frame
+returns-in-Err-Memory-clause-frame g c = kept_files (OnlyReads g.O.Directory.told) g.O.Directory.view _ _ _ _ _ _ _ c.directory_mut.ensures.value c.self.view_is c.validate_checksum.ensures.frame

@@ -2,6 +2,8 @@ use Rattle.std.proofs.Common.{sym, ap, ◌∙◌, subst}
 use Rattle.tv_model.specs.Names.{has}
 use Rattle.tv_store.proofs.OpenFiles.{still_files, is_open, open_answer, left_answer, sealed_answer, AreFiles}
 use Rattle.tv_store.proofs.Removals.{had}
+use Rattle.tv_directory.specs.View.{OnlyReads}
+use Rattle.tv_store.proofs.KeptFiles.{kept_files}
 use Rattle.tv_store.proofs.files.Files.is_sealed.Goals as goal
 use Rattle.tv_store.proofs.files.Files.is_sealed.Goals.{then-contains_key-via-then-contains_key, then-contains_key-via-else-contains_key+then-contains}
 
@@ -31,3 +33,12 @@ invariant_of-self-in-Err-Memory g c = still_files g.O.Directory c.directory_mut.
 
 pub invariant_of-self-in-Err-IoError : goal.invariant_of-self-in-Err-IoError
 invariant_of-self-in-Err-IoError g c = still_files g.O.Directory c.directory_mut.result.now c.exists.new.self c.self.inside.files.entries c.exists.ensures.frame.below.kept.frame.tells_none.deletes_none (ap (λ n. n.collections) c.exists.ensures.frame.names) (subst (λ d. AreFiles g.O.Directory d c.self.inside.files.entries) (sym c.directory_mut.ensures.value) c.self.invariant)
+
+pub returns-in-Ok-clause-frame : goal.returns-in-Ok-clause-frame
+returns-in-Ok-clause-frame g c = kept_files (OnlyReads g.O.Directory.told) g.O.Directory.view _ _ _ _ _ _ _ c.directory_mut.ensures.value c.self.view_is c.exists.ensures.frame
+
+pub returns-in-Err-IoError-clause-frame : goal.returns-in-Err-IoError-clause-frame
+returns-in-Err-IoError-clause-frame g c = kept_files (OnlyReads g.O.Directory.told) g.O.Directory.view _ _ _ _ _ _ _ c.directory_mut.ensures.value c.self.view_is c.exists.ensures.frame
+
+pub returns-in-Err-Memory-clause-frame : goal.returns-in-Err-Memory-clause-frame
+returns-in-Err-Memory-clause-frame g c = kept_files (OnlyReads g.O.Directory.told) g.O.Directory.view _ _ _ _ _ _ _ c.directory_mut.ensures.value c.self.view_is c.exists.ensures.frame

@@ -6,6 +6,8 @@ use Rattle.tv_store.specs.ReadCauses.{ApplyCause}
 use Rattle.tv_store.proofs.OpenFiles.{still_files, AreFiles}
 use Rattle.tv_store.specs.StoreCauses.{MakesNoFile}
 use Rattle.tv_store.proofs.ReaderEvents.{body_fails, failed_as, reads_make_none}
+use Rattle.tv_directory.specs.View.{OnlyReads}
+use Rattle.tv_store.proofs.KeptFiles.{kept_files}
 use Rattle.tv_store.proofs.files.Files.open_read.Goals as goal
 
 pub returns-in_err-body-clause-faults : goal.returns-in_err-body-clause-faults
@@ -27,3 +29,9 @@ returns-in_err-body-clause-faults g c =
 
 pub invariant_of-self-2 : goal.invariant_of-self-2
 invariant_of-self-2 g c = still_files g.O.Directory c.directory_mut.result.now c.open_read.new.self c.self.inside.files.entries c.open_read.ensures.frame.below.kept.frame.tells_none.deletes_none (ap (λ n. n.collections) c.open_read.ensures.frame.names) (subst (λ d. AreFiles g.O.Directory d c.self.inside.files.entries) (sym c.directory_mut.ensures.value) c.self.invariant)
+
+pub returns-in_err-body-clause-frame : goal.returns-in_err-body-clause-frame
+returns-in_err-body-clause-frame g c = kept_files (OnlyReads g.O.Directory.told) g.O.Directory.view _ _ _ _ _ _ _ c.directory_mut.ensures.value c.self.view_is c.open_read.ensures.frame
+
+pub returns-clause-frame : goal.returns-clause-frame
+returns-clause-frame g c = kept_files (OnlyReads g.O.Directory.told) g.O.Directory.view _ _ _ _ _ _ _ c.directory_mut.ensures.value c.self.view_is c.open_read.ensures.frame

@@ -33,7 +33,7 @@ pub returns-in-Reopen : goal.returns-in-Reopen
 returns-in-Reopen g c =
     let did = c.reopen.ensures in
     acts_anew g.O.Directory c.args.self.now c.reopen.new.self c.args.event.now _ c.in-Reopen.is c.reopen.result (λ o n same. same) (λ s. tt) (λ takes. takes)
-    did.step did.room (λ bound h. at_most bound 0 c.reopen.new.self.kept (did.lens bound h)) did.anew did.faults did.frame
+    did.step did.does.room (λ bound h. at_most bound 0 c.reopen.new.self.kept (did.does.lens bound h)) did.anew did.faults did.does.frame
 
 pub returns-in-Open : goal.returns-in-Open
 returns-in-Open g c =
@@ -62,8 +62,8 @@ returns-in-Gc g c =
     let old = c.args.self.now in
     let new = c.gc.new.self in
     acts_deleting g.O.Directory old new c.args.event.now Gc c.in-Gc.is c.gc.result (λ o n same. same) (λ s. tt)
-    did.step did.room (λ bound h. at_most bound 0 new.kept (did.lens bound h)) did.numbers
-    (faults_collecting g.O.Directory old new c.args.event.now Gc c.in-Gc.is c.gc.result _ (λ spent. inr (inl spent)) tt did.faults) did.meta did.dotted did.frame
+    did.step did.does.room (λ bound h. at_most bound 0 new.kept (did.lens bound h)) did.numbers
+    (faults_collecting g.O.Directory old new c.args.event.now Gc c.in-Gc.is c.gc.result _ (λ spent. inr (inl spent)) tt did.does.faults) did.does.meta did.does.dotted did.does.frame
 
 pub returns-in-GcBegin : goal.returns-in-GcBegin
 returns-in-GcBegin g c =
@@ -71,8 +71,8 @@ returns-in-GcBegin g c =
     let old = c.args.self.now in
     let new = c.gc_begin.new.self in
     acts_beginning g.O.Directory old new c.args.event.now GcBegin c.in-GcBegin.is c.gc_begin.result (λ o n same. same) (λ s. tt) refl
-    did.step did.room (λ bound h. at_most bound 1 new.kept (did.lens bound h)) did.numbers
-    (faults_collecting g.O.Directory old new c.args.event.now GcBegin c.in-GcBegin.is c.gc_begin.result _ (λ spent. inr (inl spent)) tt did.faults) did.frame
+    did.step did.does.room (λ bound h. at_most bound 1 new.kept (did.lens bound h)) did.numbers
+    (faults_collecting g.O.Directory old new c.args.event.now GcBegin c.in-GcBegin.is c.gc_begin.result _ (λ spent. inr (inl spent)) tt did.does.faults) did.does.frame
 
 pub returns-in-GcStep : goal.returns-in-GcStep
 returns-in-GcStep g c =
@@ -101,7 +101,7 @@ returns-in-Reader g c =
     let quiet : Type 0 = (d.view new.outside).faults ≡ (d.view old.outside).faults in
     let busy : Type 0 = IsBusy d.told.locks ((d.view old.outside).locks meta_lock_name ≡ true) refused in
     acts_reading d old new c.args.event.now event c.in-Reader.is c.reader.result (λ o n same. same) _ (λ s good. good)
-    did.step did.room (λ bound h. at_most bound 1 new.kept (did.lens bound h)) did.numbers
+    did.step did.does.room (λ bound h. at_most bound 1 new.kept (did.does.lens bound h)) did.numbers
     (record {
       quiet = did.faults.quiet;
       free = did.faults.free;
@@ -110,7 +110,7 @@ returns-in-Reader g c =
           read_cause_in _ (TakesMetaLock old.kept.catalog event × busy) refused quiet (PassesEnd (number_after old.kept.catalog event)) (IsExhausted old.kept event) (UnloadedAt d old new event)
           (RefusedAt d old event) (λ path. GoneAt d old event) c.reader.result did.faults.cause inl;
     })
-    did.frame
+    did.does.frame
 
 pub returns-in-Reload : goal.returns-in-Reload
 returns-in-Reload g c =
@@ -123,7 +123,7 @@ returns-in-Reload g c =
     let quiet : Type 0 = (d.view new.outside).faults ≡ (d.view old.outside).faults in
     let busy : Type 0 = IsBusy d.told.locks ((d.view old.outside).locks meta_lock_name ≡ true) refused in
     acts_reading d old new c.args.event.now event c.in-Reload.is c.reload.result (λ o n same. same) _ (λ s good. good)
-    did.step did.room (λ bound h. at_most bound 1 new.kept (did.lens bound h)) did.numbers
+    did.step did.does.room (λ bound h. at_most bound 1 new.kept (did.does.lens bound h)) did.numbers
     (record {
       quiet = did.faults.quiet;
       free = did.faults.free;
@@ -132,4 +132,4 @@ returns-in-Reload g c =
           read_cause_in _ (TakesMetaLock old.kept.catalog event × busy) refused quiet (PassesEnd (number_after old.kept.catalog event)) (IsExhausted old.kept event) (UnloadedAt d old new event)
           (RefusedAt d old event) (λ path. GoneAt d old event) c.reload.result did.faults.cause inl;
     })
-    did.frame
+    did.does.frame

@@ -5,6 +5,9 @@ use Rattle.tv_model.specs.Index.{IsFileOf}
 use Rattle.tv_store.proofs.Holding.{same_holds}
 use Rattle.tv_store.proofs.Asking.{asks_later}
 use Rattle.tv_store.proofs.CommitEvents.{find_further, find_here, all_at}
+use Rattle.std.specs.Prelude.{find}
+use Rattle.std.proofs.lemmas.List.{take_all}
+use Rattle.tv_store.proofs.KeptFiles.{fails_after}
 use Rattle.tv_store.proofs.index_store.IndexStore.first_unsealed.Goals as goal
 
 pub returns-then-not-branch-clause-found : goal.returns-then-not-branch-clause-found
@@ -32,3 +35,25 @@ loop-name-preserved g c =
       asks = asks_later so_far.asks asked.asks.frame;
       quiet = asked.asks.faults.quiet ∙ so_far.quiet;
     }
+
+pub returns-in_err-is_sealed-clause-asks : goal.returns-in_err-is_sealed-clause-asks
+returns-in_err-is_sealed-clause-asks g c =
+    let so_far = c.loop-name.invariant in
+    let asked = c.in_err-is_sealed.ensures.asks in
+    record {
+      faults = fails_after g.O.Directory c.args.self.now.outside c.loop-name.self.outside c.is_sealed.new.self.outside c.from_residual.result c.in_err-is_sealed.field-0.0 c.from_residual.ensures.1 so_far.quiet asked.faults.cause;
+      frame = asks_later so_far.asks asked.frame;
+    }
+
+pub returns-then-not-branch-clause-asks : goal.returns-then-not-branch-clause-asks
+returns-then-not-branch-clause-asks g c =
+    let so_far = c.loop-name.invariant in
+    let asked = c.in_ok-is_sealed.ensures.asks in
+    record { faults = record { quiet = asked.faults.quiet ∙ so_far.quiet; cause = tt }; frame = asks_later so_far.asks asked.frame }
+
+pub returns-clause-found : goal.returns-clause-found
+returns-clause-found g c tells s held files =
+    sym (c.loop-name.invariant.found tells s held files) ∙ ap (find (λ name. not (is_sealed (file_at s name)))) (take_all c.loop-name.name-index c.args.names.now c.loop-name-test.false)
+
+pub returns-clause-asks : goal.returns-clause-asks
+returns-clause-asks g c = record { faults = record { quiet = c.loop-name.invariant.quiet; cause = tt }; frame = c.loop-name.invariant.asks }

@@ -1,5 +1,6 @@
 use Rattle.std.proofs.Common.{rules, sym, ap, subst, ◌∙◌}
 use Rattle.tv_store.proofs.FileEvents.{open_exists, open_made, live_found, inside_holds, asked_holds, Short, short_opened}
+use Rattle.tv_store.proofs.AskedEvents.{only_asked, wants_first}
 use Rattle.tv_store.proofs.index_store.IndexStore.open_file.Goals as goal
 
 pub returns-in_err-open-clause-does : goal.returns-in_err-open-clause-does
@@ -38,3 +39,12 @@ pub returns-clause-lens : goal.returns-clause-lens
 returns-clause-lens g c bound h =
     let now = ap (λ v. v.kept.open_files) c.self-3.view_is ∙ ap (λ k. k.open_files) (c.ready.ensures.asks.frame.kept ∙ c.refuse-2.ensures.asks.frame.kept) in
     short_opened bound c.self-3.inside.files.open_files c.open.new.self.open_files c.in_ok-name.name (c.in_ok-open.ensures.opened c.if-not-branch.false).open_files (subst (Short bound) (sym now) h)
+
+pub returns-in_default-clause-does : goal.returns-in_default-clause-does
+returns-in_default-clause-does g c = only_asked g.O.Directory _ (λ old new h. h.kept) _ c.args.self.now c.refuse.new.self c.refuse.result c.refuse.ensures.room c.refuse.ensures.asks
+
+pub returns-then-lacks_deletes-clause-does : goal.returns-then-lacks_deletes-clause-does
+returns-then-lacks_deletes-clause-does g c = only_asked g.O.Directory _ (λ old new h. h.kept) _ c.args.self.now c.refuse-then-lacks_deletes.new.self c.refuse-then-lacks_deletes.result c.refuse-then-lacks_deletes.ensures.room c.refuse-then-lacks_deletes.ensures.asks
+
+pub returns-in_err-name-clause-does : goal.returns-in_err-name-clause-does
+returns-in_err-name-clause-does g c = wants_first g.O.Directory _ (λ old new h. h.kept) _ c.args.self.now c.from_residual.result c.from_residual.ensures.1

@@ -1,7 +1,7 @@
 use Rattle.std.proofs.Common.{◌≡◌, ◌<◌, length, sym, subst, ◌∙◌, arith, rules}
 use Rattle.std.proofs.lemmas.List.{take_all}
 use Rattle.tv_model.specs.Files.{Rose}
-use Rattle.tv_store.specs.Bodies.{AreGood, FailsAt}
+use Rattle.tv_store.specs.Bodies.{AreBodies, AreGood, FailsAt}
 use Rattle.tv_store.proofs.Asking.{asks_later}
 use Rattle.tv_store.proofs.Holding.{same_holds}
 use Rattle.tv_store.proofs.ReaderEvents.{failed_as, fails_here, bodies_more, good_more}
@@ -46,3 +46,16 @@ loop-name-preserved g c =
 pub returns-clause-good : goal.returns-clause-good
 returns-clause-good g c tells =
     subst (AreGood (g.O.Directory.view c.args.self.now.outside).reads) (take_all c.loop-name.name-index c.args.names.now (omega arith)) (c.loop-name.invariant.good tells)
+
+pub returns-in_err-body-clause-frame : goal.returns-in_err-body-clause-frame
+returns-in_err-body-clause-frame g c = asks_later c.loop-name.invariant.asks c.in_err-body.ensures.frame
+
+pub returns-in_err-push-clause-frame : goal.returns-in_err-push-clause-frame
+returns-in_err-push-clause-frame g c = asks_later c.loop-name.invariant.asks c.in_ok-body.ensures.frame
+
+pub returns-clause-bodies : goal.returns-clause-bodies
+returns-clause-bodies g c tells s held sealed =
+    subst (λ names. AreBodies s names c.loop-name.bodies.items) (take_all c.loop-name.name-index c.args.names.now c.loop-name-test.false) (c.loop-name.invariant.read tells s held sealed)
+
+pub returns-clause-frame : goal.returns-clause-frame
+returns-clause-frame g c = c.loop-name.invariant.asks

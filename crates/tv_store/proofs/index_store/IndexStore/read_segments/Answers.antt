@@ -4,7 +4,7 @@ use Rattle.tv_index.specs.Segments.{entry_of}
 use Rattle.tv_model.specs.Files.{Rose}
 use Rattle.tv_model.specs.Segments.{all_required, required_names}
 use Rattle.tv_model.specs.declared.segment.LiveSegment.{LiveSegment}
-use Rattle.tv_store.specs.Bodies.{AreGood, AreSealed, FailsAt, ReadsSegment}
+use Rattle.tv_store.specs.Bodies.{AreGood, AreSealed, FailsAt, ReadsSegment, ReadsSegments}
 use Rattle.tv_store.specs.declared.snapshot.SegmentReader.{SegmentReader}
 use Rattle.tv_store.proofs.Asking.{asks_later}
 use Rattle.tv_store.proofs.Holding.{same_holds}
@@ -79,3 +79,18 @@ pub returns-clause-segments : goal.returns-clause-segments
 returns-clause-segments g c =
     let items = c.args.segments.now in
     c.loop-segment.invariant.are ∙ take_all c.loop-segment.segment-index (map entry_of items) (omega (arith, length-map items entry_of))
+
+pub returns-in_err-reader-clause-frame : goal.returns-in_err-reader-clause-frame
+returns-in_err-reader-clause-frame g c = asks_later c.loop-segment.invariant.asks c.in_err-reader.ensures.frame
+
+pub returns-in_err-push-clause-frame : goal.returns-in_err-push-clause-frame
+returns-in_err-push-clause-frame g c = asks_later c.loop-segment.invariant.asks c.in_ok-reader.ensures.frame
+
+pub returns-clause-readers : goal.returns-clause-readers
+returns-clause-readers g c tells s held all =
+    let items = c.args.segments.now in
+    subst (λ (es : List (List ℕ × LiveSegment)). ReadsSegments s es (map (λ (r : SegmentReader). (r.id, r.segment)) c.loop-segment.readers.items) (map (λ (r : SegmentReader). r.bodies.items) c.loop-segment.readers.items))
+    (take_all c.loop-segment.segment-index (map entry_of items) (omega (arith, length-map items entry_of))) (c.loop-segment.invariant.read tells s held all)
+
+pub returns-clause-frame : goal.returns-clause-frame
+returns-clause-frame g c = c.loop-segment.invariant.asks

@@ -5,6 +5,7 @@ use Rattle.tv_store.specs.FileCalls.{LeavesFiles}
 use Rattle.tv_store.specs.Kept.{AtMost, Holds, kept_of}
 use Rattle.tv_store.proofs.Holding.{same_holds}
 use Rattle.tv_store.proofs.CollectionEvents.{released_holds}
+use Rattle.tv_store.proofs.AskedEvents.{only_asked, wants, wants_first}
 use Rattle.tv_store.proofs.index_store.IndexStore.release_segment.Goals as goal
 
 pub returns-in_err-leave-clause-lens : goal.returns-in_err-leave-clause-lens
@@ -36,3 +37,17 @@ returns-clause-step g c tells s held =
       subst (λ (t : StepResult State). Holds (D.view new.outside).reads (kept_of c.remove.new.self new) t.1) (sym step)
           (subst (λ (k : Catalog). Holds (D.view new.outside).reads (kept_of k new) (released s id segment).1) (sym c.remove.ensures) holds),
     )
+
+pub returns-in_default-clause-does : goal.returns-in_default-clause-does
+returns-in_default-clause-does g c = only_asked g.O.Directory _ (λ old new h. h) _ c.args.self.now c.refuse.new.self c.refuse.result c.refuse.ensures.room c.refuse.ensures.asks
+
+pub returns-in_err-names-clause-does : goal.returns-in_err-names-clause-does
+returns-in_err-names-clause-does g c = wants_first g.O.Directory _ (λ old new h. h) _ c.args.self.now c.from_residual.result c.from_residual.ensures.1
+
+pub returns-in_err-answer-clause-does : goal.returns-in_err-answer-clause-does
+returns-in_err-answer-clause-does g c = wants_first g.O.Directory _ (λ old new h. h) _ c.args.self.now c.from_residual-in_err-answer.result c.from_residual-in_err-answer.ensures.1
+
+pub returns-in_err-answer-2-clause-does : goal.returns-in_err-answer-2-clause-does
+returns-in_err-answer-2-clause-does g c =
+    let asks = c.in_err-answer-2.ensures.asks in
+    wants g.O.Directory _ (λ old new h. h) _ c.args.self.now c.ready.new.self c.from_residual-in_err-answer-2.result c.from_residual-in_err-answer-2.ensures.1 asks.faults asks.frame

@@ -13,6 +13,9 @@ use Rattle.tv_store.specs.Applying.{BadIn, HoldsNone}
 use Rattle.tv_store.specs.StoreCauses.{IsBusy}
 use Rattle.tv_store.specs.ReadCauses.{IsReadError, LoadingCause}
 use Rattle.tv_store.proofs.ReaderEvents.{busy_before, failed_as, few_with_reloaded, later_fails, mapped, reload_reads, reload_passes}
+use Rattle.tv_store.proofs.Asking.{asks_later}
+use Rattle.tv_store.proofs.AskedReads.{no_answer, only_reads, wants_memory}
+use Rattle.tv_store.proofs.KeptFiles.{asked_nothing}
 use Rattle.tv_store.proofs.index_store.IndexStore.reload.Goals as goal
 
 pub returns-then-generation-clause-faults : goal.returns-then-generation-clause-faults
@@ -65,3 +68,30 @@ returns-clause-numbers g c bound few =
     let there : reader_at c.self-2.inside.catalog c.args.number ≡ Some found.0 = ap (λ (k : Catalog). reader_at k c.args.number) (same ∙ sym (ap (λ v. v.kept.catalog) c.self.view_is)) ∙ found.1 in
     few_with_reloaded bound c.self-2.inside.files.collections c.self-2.inside.catalog c.publish.new.self c.args.number found.0 c.in_ok-shown.shown there (c.in_ok-publish.ensures found.0 there)
     (subst (λ (k : Kept). FewNumbers bound k.catalog.reading k.collections) (sym (ap (λ v. v.kept) c.self-2.view_is ∙ c.in_ok-shown.ensures.frame.kept ∙ c.in_ok-answer-2.ensures.asks.frame.kept)) few)
+
+pub returns-then-generation-clause-does : goal.returns-then-generation-clause-does
+returns-then-generation-clause-does g c = let store = c.args.self.now in only_reads g.O.Directory store store _ tt (asked_nothing g.O.Directory.told g.O.Directory.view store)
+
+pub returns-in_err-answer-clause-does : goal.returns-in_err-answer-clause-does
+returns-in_err-answer-clause-does g c =
+    let store = c.args.self.now in
+    let failed = c.from_residual in
+    only_reads g.O.Directory store store failed.result (no_answer failed.result _ failed.ensures.0) (asked_nothing g.O.Directory.told g.O.Directory.view store)
+
+pub returns-in_err-answer-clause-faults : goal.returns-in_err-answer-clause-faults
+returns-in_err-answer-clause-faults g c = wants_memory g.O.Directory _ _ c.args.self.now c.args.self.now _ c.from_residual.result c.from_residual.ensures.1 refl
+
+pub returns-in_err-answer-2-clause-does : goal.returns-in_err-answer-2-clause-does
+returns-in_err-answer-2-clause-does g c =
+    let failed = c.from_residual-in_err-answer-2 in
+    only_reads g.O.Directory c.args.self.now c.ready.new.self failed.result (no_answer failed.result _ failed.ensures.0) c.in_err-answer-2.ensures.asks.frame
+
+pub returns-in_err-answer-2-clause-faults : goal.returns-in_err-answer-2-clause-faults
+returns-in_err-answer-2-clause-faults g c =
+    let failed = c.from_residual-in_err-answer-2 in
+    wants_memory g.O.Directory _ _ c.args.self.now c.ready.new.self _ failed.result failed.ensures.1 c.in_err-answer-2.ensures.asks.faults
+
+pub returns-in_err-shown-clause-does : goal.returns-in_err-shown-clause-does
+returns-in_err-shown-clause-does g c =
+    let failed = c.from_residual-in_err-shown in
+    only_reads g.O.Directory c.args.self.now c.snapshot.new.self failed.result (no_answer failed.result _ failed.ensures.0) (asks_later c.in_ok-answer-2.ensures.asks.frame c.in_err-shown.ensures.frame)

@@ -1,4 +1,4 @@
-use Rattle.std.proofs.Common.{sym, ap, subst, ◌∙◌}
+use Rattle.std.proofs.Common.{rules, sym, ap, subst, ◌∙◌}
 use Rattle.tv_model.specs.Commits.{Commit}
 use Rattle.tv_model.specs.Lines.{opening_of}
 use Rattle.tv_model.specs.ReopenEvents.{reopened}
@@ -8,8 +8,12 @@ use Rattle.tv_store.proofs.Holding.{same_holds}
 use Rattle.tv_store.proofs.ReopenEvents.{reopened_holds}
 use Rattle.tv_store.proofs.index_store.IndexStore.reopen.Goals as goal
 
-pub returns-in_err-reopen-clause-lens : goal.returns-in_err-reopen-clause-lens
-returns-in_err-reopen-clause-lens g c bound h = c.reopen.ensures.lens bound (subst (λ v. AtMost bound v.kept) (sym c.self-2.view_is) (subst (AtMost bound) (sym c.ready.ensures.asks.frame.kept) h))
+pub returns-in_err-reopen-clause-does : goal.returns-in_err-reopen-clause-does
+returns-in_err-reopen-clause-does g c = record {
+  room = search rules;
+  lens = λ bound h. c.reopen.ensures.lens bound (subst (λ v. AtMost bound v.kept) (sym c.self-2.view_is) (subst (AtMost bound) (sym c.ready.ensures.asks.frame.kept) h));
+  frame = search rules;
+}
 
 pub returns-clause-step : goal.returns-clause-step
 returns-clause-step g c tells s held =

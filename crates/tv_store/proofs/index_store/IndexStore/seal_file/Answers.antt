@@ -1,6 +1,7 @@
 use Rattle.std.proofs.Common.{length, option_map, sym, ap, subst, ◌∙◌}
 use Rattle.tv_model.specs.State.{at}
 use Rattle.tv_store.proofs.FileEvents.{live_found, inside_holds, asked_holds, sealed_file, Short, short_closed}
+use Rattle.tv_store.proofs.AskedEvents.{only_asked, wants, wants_first}
 use Rattle.tv_store.proofs.index_store.IndexStore.seal_file.Goals as goal
 
 pub returns-in_err-seal-clause-lens : goal.returns-in_err-seal-clause-lens
@@ -25,3 +26,20 @@ pub returns-clause-lens : goal.returns-clause-lens
 returns-clause-lens g c bound h =
     let now = ap (λ v. v.kept.open_files) c.self-2.view_is ∙ ap (λ k. k.open_files) c.ready.ensures.asks.frame.kept in
     short_closed bound c.self-2.inside.files.open_files c.seal.new.self.open_files c.in_ok-name.name c.in_ok-seal.ensures.open_files (subst (Short bound) (sym now) h)
+
+pub returns-in_default-clause-does : goal.returns-in_default-clause-does
+returns-in_default-clause-does g c = only_asked g.O.Directory _ (λ old new h. h.kept) _ c.args.self.now c.refuse.new.self c.refuse.result c.refuse.ensures.room c.refuse.ensures.asks
+
+pub returns-in_err-name-clause-does : goal.returns-in_err-name-clause-does
+returns-in_err-name-clause-does g c = wants_first g.O.Directory _ (λ old new h. h.kept) _ c.args.self.now c.from_residual.result c.from_residual.ensures.1
+
+pub returns-in_default-body_len-clause-does : goal.returns-in_default-body_len-clause-does
+returns-in_default-body_len-clause-does g c = only_asked g.O.Directory _ (λ old new h. h.kept) _ c.args.self.now c.refuse-in_default-body_len.new.self c.refuse-in_default-body_len.result c.refuse-in_default-body_len.ensures.room c.refuse-in_default-body_len.ensures.asks
+
+pub returns-in_err-answer-clause-does : goal.returns-in_err-answer-clause-does
+returns-in_err-answer-clause-does g c = wants_first g.O.Directory _ (λ old new h. h.kept) _ c.args.self.now c.from_residual-in_err-answer.result c.from_residual-in_err-answer.ensures.1
+
+pub returns-in_err-answer-2-clause-does : goal.returns-in_err-answer-2-clause-does
+returns-in_err-answer-2-clause-does g c =
+    let asks = c.in_err-answer-2.ensures.asks in
+    wants g.O.Directory _ (λ old new h. h.kept) _ c.args.self.now c.ready.new.self c.from_residual-in_err-answer-2.result c.from_residual-in_err-answer-2.ensures.1 asks.faults asks.frame

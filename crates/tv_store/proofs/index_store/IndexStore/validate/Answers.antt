@@ -6,7 +6,8 @@ use Rattle.tv_model.specs.ReportEvents.{committed_names, validated}
 use Rattle.tv_model.specs.State.{Catalog, State}
 use Rattle.tv_store.specs.Kept.{AtMost, Holds}
 use Rattle.tv_store.proofs.Holding.{same_holds}
-use Rattle.tv_store.proofs.ReportEvents.{asks_on_files, committed_are_files, validated_same}
+use Rattle.tv_store.proofs.ReportEvents.{committed_are_files, validated_same}
+use Rattle.tv_store.proofs.AskedEvents.{only_asked, wants_first}
 use Rattle.tv_store.proofs.index_store.IndexStore.validate.Goals as goal
 
 pub returns-clause-step : goal.returns-clause-step
@@ -30,5 +31,8 @@ returns-clause-step g c tells s held =
 pub returns-clause-lens : goal.returns-clause-lens
 returns-clause-lens g c bound h = subst (AtMost bound) (sym c.validate_files.ensures.asks.frame.kept) h
 
+pub returns-in_err-names-clause-does : goal.returns-in_err-names-clause-does
+returns-in_err-names-clause-does g c = wants_first g.O.Directory _ (λ old new h. h) _ c.args.self.now c.from_residual.result c.from_residual.ensures.1
+
 pub returns-clause-does : goal.returns-clause-does
-returns-clause-does g c = asks_on_files g.O.Directory c.args.self.now c.validate_files.new.self c.validate_files.result c.validate_files.ensures.asks c.validate_files.ensures.room
+returns-clause-does g c = only_asked g.O.Directory _ (λ old new h. h) _ c.args.self.now c.validate_files.new.self c.validate_files.result c.validate_files.ensures.room c.validate_files.ensures.asks

@@ -9,6 +9,7 @@ use Rattle.tv_store.proofs.Asking.{asks_later}
 use Rattle.tv_store.proofs.CommitEvents.{all_at, find_further, find_here}
 use Rattle.tv_store.proofs.Holding.{same_holds}
 use Rattle.tv_store.proofs.ReportEvents.{damaged_more, unread, validated_none}
+use Rattle.tv_store.proofs.KeptFiles.{asks_after, fails_after}
 use Rattle.tv_store.proofs.index_store.IndexStore.validate_files.Goals as goal
 
 pub returns-in_default-clause-answer : goal.returns-in_default-clause-answer
@@ -44,3 +45,23 @@ loop-name-preserved g c =
       asks = asks_later so_far.asks asked.asks.frame;
       quiet = asked.asks.faults.quiet ∙ so_far.quiet;
     }
+
+pub returns-in_err-is_intact-clause-asks : goal.returns-in_err-is_intact-clause-asks
+returns-in_err-is_intact-clause-asks g c =
+    let so_far = c.loop-name.invariant in
+    let asked = c.in_err-is_intact.ensures.asks in
+    record {
+      faults = fails_after g.O.Directory c.args.self.now.outside c.loop-name.self.outside c.is_intact.new.self.outside c.from_residual-in_err-is_intact.result c.in_err-is_intact.field-0.0 c.from_residual-in_err-is_intact.ensures.1 so_far.quiet asked.faults.cause;
+      frame = asks_later so_far.asks asked.frame;
+    }
+
+pub returns-in_default-clause-asks : goal.returns-in_default-clause-asks
+returns-in_default-clause-asks g c =
+    let so_far = c.loop-name.invariant in
+    let asked = c.in_ok-is_intact.ensures.asks in
+    asks_after g.O.Directory c.args.self.now c.is_intact.new.self c.refuse_unreadable.new.self c.refuse_unreadable.result (asks_later so_far.asks asked.frame) (asked.faults.quiet ∙ so_far.quiet) c.refuse_unreadable.ensures.asks
+
+pub returns-clause-asks : goal.returns-clause-asks
+returns-clause-asks g c =
+    let so_far = c.loop-name.invariant in
+    asks_after g.O.Directory c.args.self.now c.loop-name.self c.told.new.self c.told.result so_far.asks so_far.quiet c.told.ensures.asks

@@ -6,6 +6,7 @@ use Rattle.tv_model.specs.Names.{byte_cmp}
 use Rattle.tv_model.specs.Lines.{line}
 use Rattle.tv_model.specs.State.{at, live_at}
 use Rattle.tv_store.proofs.FileEvents.{live_found, inside_holds, asked_holds, written, Short, short_same, short_closed, short_written, length_passes, sum_is, sum_isnt}
+use Rattle.tv_store.proofs.AskedEvents.{only_asked, wants, wants_first}
 use Rattle.tv_store.proofs.index_store.IndexStore.write_file.Goals as goal
 
 pub returns-in_default-checked_add-clause-does : goal.returns-in_default-checked_add-clause-does
@@ -65,3 +66,20 @@ returns-clause-lens g c bound h =
     let has_len = sym c.in-Some-body_len.is ∙ c.body_len.ensures ∙ ap (λ es. option_map length (at es c.in_ok-name.name)) (ap (λ v. v.kept.open_files) c.self.view_is ∙ sym now) in
     short_written bound c.in-Some-body_len.len c.args.bytes.now c.self-2.inside.files.open_files c.write.new.self.open_files c.in_ok-name.name has_len
     (λ body there. subst (λ bs. c.write.new.self.open_files ≡ insert_entry byte_cmp (remove_entry (is_at (byte_cmp c.in_ok-name.name)) c.self-2.inside.files.open_files) c.in_ok-name.name (body ++ bs)) c.as_slice-bytes.ensures (c.in_ok-write.ensures.written body there)) (subst (Short bound) (sym now) h)
+
+pub returns-in_default-clause-does : goal.returns-in_default-clause-does
+returns-in_default-clause-does g c = only_asked g.O.Directory _ (λ old new h. h.kept) _ c.args.self.now c.refuse.new.self c.refuse.result c.refuse.ensures.room c.refuse.ensures.asks
+
+pub returns-in_err-name-clause-does : goal.returns-in_err-name-clause-does
+returns-in_err-name-clause-does g c = wants_first g.O.Directory _ (λ old new h. h.kept) _ c.args.self.now c.from_residual.result c.from_residual.ensures.1
+
+pub returns-in_default-body_len-clause-does : goal.returns-in_default-body_len-clause-does
+returns-in_default-body_len-clause-does g c = only_asked g.O.Directory _ (λ old new h. h.kept) _ c.args.self.now c.refuse-in_default-body_len.new.self c.refuse-in_default-body_len.result c.refuse-in_default-body_len.ensures.room c.refuse-in_default-body_len.ensures.asks
+
+pub returns-in_err-answer-clause-does : goal.returns-in_err-answer-clause-does
+returns-in_err-answer-clause-does g c = wants_first g.O.Directory _ (λ old new h. h.kept) _ c.args.self.now c.from_residual-in_err-answer.result c.from_residual-in_err-answer.ensures.1
+
+pub returns-in_err-answer-2-clause-does : goal.returns-in_err-answer-2-clause-does
+returns-in_err-answer-2-clause-does g c =
+    let asks = c.in_err-answer-2.ensures.asks in
+    wants g.O.Directory _ (λ old new h. h.kept) _ c.args.self.now c.ready.new.self c.from_residual-in_err-answer-2.result c.from_residual-in_err-answer-2.ensures.1 asks.faults asks.frame
