@@ -1,20 +1,20 @@
 use Rattle.std.specs.List.{list_all}
-use Rattle.std.proofs.Common.{◌≡◌, ℕ, List, [], None, cond, not, ◌&&◌, sym, ap, subst, ◌∙◌, map, string_bytes, rules, true}
+use Rattle.std.proofs.Common.{◌≡◌, ℕ, List, [], None, refl, cond, not, ◌&&◌, sym, ap, subst, ◌∙◌, map, string_bytes, rules, true}
 use Rattle.tv_model.specs.Collections.{held}
 use Rattle.tv_model.specs.Names.{has, is_plain, meta_name}
 use Rattle.tv_model.specs.State.{at}
 use Rattle.tv_managed.specs.Collecting.{SparesWriters}
-use Rattle.tv_store.proofs.Removals.{told_plain, tried_as, collected_open, bodies_gone, lens_left, living_stands, dotted_stands}
 use Rattle.tv_store.specs.Kept.{names_below}
 use Rattle.tv_store.proofs.CollectingFiles.{collected_spares}
+use Rattle.tv_store.proofs.Removals.{told_plain, tried_as, tried_of, collected_open, bodies_gone, lens_left, living_stands, dotted_stands}
 use Rattle.tv_store.proofs.OpenFiles.{AreOpen, bodies, same_open}
 use Rattle.tv_store.proofs.files.Files.collect.Goals as goal
 
 pub file_names-requires : goal.file_names-requires
-file_names-requires g c = (told_plain g.O.Directory _ _ _ _ c.in_ok-result.ensures.tries.2 (subst (λ d. list_all is_plain d.1.managed ≡ true) (c.directory.ensures ∙ sym c.directory_mut.ensures.value) c.list_managed_files-names.ensures.plain)).0
+file_names-requires g c = let left = c.in_ok-result.ensures.collects in (told_plain g.O.Directory _ _ _ _ (tried_of g.O.Directory _ _ (map string_bytes c.args.living.keys) (λ set answer. search) left.1 left.2) (subst (λ d. list_all is_plain d.1.managed ≡ true) (c.directory.ensures ∙ sym c.directory_mut.ensures.value) c.list_managed_files-names.ensures.plain)).0
 
 pub file_names-requires-2 : goal.file_names-requires-2
-file_names-requires-2 g c = (told_plain g.O.Directory _ _ _ _ c.in_ok-result.ensures.tries.2 (subst (λ d. list_all is_plain d.1.managed ≡ true) (c.directory.ensures ∙ sym c.directory_mut.ensures.value) c.list_managed_files-names.ensures.plain)).1
+file_names-requires-2 g c = let left = c.in_ok-result.ensures.collects in (told_plain g.O.Directory _ _ _ _ (tried_of g.O.Directory _ _ (map string_bytes c.args.living.keys) (λ set answer. search) left.1 left.2) (subst (λ d. list_all is_plain d.1.managed ≡ true) (c.directory.ensures ∙ sym c.directory_mut.ensures.value) c.list_managed_files-names.ensures.plain)).1
 
 pub invariant_of-self : goal.invariant_of-self
 invariant_of-self g c =
@@ -28,7 +28,7 @@ invariant_of-self-2 g c =
     let deleted : c.as_slice.result.now ≡ map string_bytes c.in_ok-result.result.deleted_files.items = c.as_slice.ensures.value ∙ c.in_ok-deleted.ensures in (
       collected_open D old c.garbage_collect.new.self.0 c.as_slice.result.now c.replace-files.result.entries c.remove_all.new.map.entries
           c.garbage_collect.ensures.frame.goes_on
-          (λ tells. subst (λ (ns : List (List ℕ)). SparesWriters ns D.state_of (D.view old).lives (D.view c.garbage_collect.new.self.0).lives) (sym deleted) (c.in_ok-result.ensures.tries.2.alive tells))
+          (λ tells. subst (λ (ns : List (List ℕ)). SparesWriters ns D.state_of (D.view old).lives (D.view c.garbage_collect.new.self.0).lives) (sym deleted) (c.in_ok-result.ensures.collects.1.tries.alive tells))
           c.remove_all.ensures.names c.remove_all.ensures.left
           (subst (λ m. AreOpen D old m.entries) (sym c.replace-files.ensures.value) (subst (λ d. AreOpen g.O.Directory d.0 c.self.inside.files.entries) (sym c.directory_mut.ensures.value) c.self.invariant.0)),
       (let left = c.garbage_collect.ensures.collects in collected_spares D _ _ (map string_bytes c.args.living.keys) left.0 c.directory_mut.result.now c.garbage_collect.new.self _ (λ set answer. search) left.2 left.1.leaves c.requires (ap (λ d. has (held d.1.collections) meta_name) c.directory_mut.ensures.value ∙ c.self.invariant.1)),
@@ -37,10 +37,12 @@ invariant_of-self-2 g c =
 pub returns-clause-collects : goal.returns-clause-collects
 returns-clause-collects g c = record {
   tried =
+      let left = c.in_ok-result.ensures.collects in
+      let told = tried_of g.O.Directory _ _ (map string_bytes c.args.living.keys) (λ set answer. search) left.1 left.2 in
       tried_as g.O.Directory _ (map string_bytes c.args.living.keys) c.directory_mut.result.now c.garbage_collect.new.self (names_below c.args.self.now) c.in_ok-result.result _ _
-      (c.directory_mut.ensures.value ∙ ap names_below c.self.view_is) (let answer = c.in_ok-result.ensures.tries.1 in search) c.in_ok-deleted.ensures c.in_ok-failed.ensures c.in_ok-result.ensures.tries.2;
+      (c.directory_mut.ensures.value ∙ ap names_below c.self.view_is) refl c.in_ok-deleted.ensures c.in_ok-failed.ensures told;
   counted = search rules;
-  collections = ap (λ names. names.collections) c.in_ok-result.ensures.tries.2.managed ∙ ap (λ d. d.1.collections) c.directory_mut.ensures.value ∙ ap (λ v. v.collections) c.self.view_is;
+  collections = ap (λ names. names.collections) c.in_ok-result.ensures.collects.1.tries.managed ∙ ap (λ d. d.1.collections) c.directory_mut.ensures.value ∙ ap (λ v. v.collections) c.self.view_is;
   open_files = λ n.
       bodies_gone (λ w. (g.O.Directory.state_of w).written) c.replace-files.result.entries c.remove_all.new.map.entries c.args.self.now.open_files c.as_slice.result.now n (ap (λ m. bodies (λ w. (g.O.Directory.state_of w).written) m.entries) c.replace-files.ensures.value ∙ ap (λ v. v.open_files) c.self.view_is) (c.remove_all.ensures.names n)
       ∙ ap (λ (ns : List (List ℕ)). cond (has ns n) None (at c.args.self.now.open_files n)) c.as_slice.ensures.value;
