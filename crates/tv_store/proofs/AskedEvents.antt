@@ -3,7 +3,7 @@ use Rattle.std.proofs.Common.{◌≡◌, ◌<◌, ℕ, List, length, Result, Ok,
 use Rattle.std.specs.Prelude.{IfErr, IfOk, IsErrAnd, OnErr}
 use Rattle.tv_base.specs.declared.error.TantivyError.{TantivyError}
 use Rattle.tv_base.specs.declared.error.TantivyError.TheVariants as errors
-use Rattle.tv_directory.specs.View.{OnlyReads, View}
+use Rattle.tv_directory.specs.View.{MayDelete, OnlyReads, Told, View}
 use Rattle.tv_directory.specs.declared.directory.Directory.{Ghosts}
 use Rattle.tv_model.specs.Names.{meta_name}
 use Rattle.tv_store.specs.Acting.{OnFiles}
@@ -12,6 +12,16 @@ use Rattle.tv_store.specs.Stays.{Asks, AsksOrFails}
 use Rattle.tv_store.specs.StoreCauses.{EventCause}
 use Rattle.tv_store.proofs.FewNumbers.{none_given}
 use Rattle.tv_store.proofs.KeptFiles.{asked_nothing, fails_after}
+
+-- what only reads deletes nothing
+pub may_delete : {W : Type 0} {told : Told} {old new : View W} → OnlyReads told old new → MayDelete told old new
+may_delete h = record {
+  goes_on = h.kept.frame.tells_none.deletes_none.goes_on;
+  heard = h.kept.frame.tells_none.heard;
+  room = h.kept.frame.tells_none.room;
+  locks = h.kept.frame.locks;
+  watched = h.kept.watched;
+}
 
 on_err : {A E : Type 0} (result : Result A E) (P : Type 0) → P → OnErr result P
 on_err (Ok a) P h = tt

@@ -9,6 +9,7 @@ use Rattle.tv_store.specs.FileCalls.{LeavesFiles}
 use Rattle.tv_store.specs.Kept.{AtMost, Holds, Kept, kept_of}
 use Rattle.tv_store.proofs.Holding.{same_holds}
 use Rattle.tv_store.proofs.DeleteEvents.{deleted_holds}
+use Rattle.tv_store.proofs.AskedEvents.{wants, wants_first}
 use Rattle.tv_store.proofs.index_store.IndexStore.delete_docs.Goals as goal
 
 pub returns-in_err-leave-clause-lens : goal.returns-in_err-leave-clause-lens
@@ -41,3 +42,14 @@ returns-clause-step g c live tells s held =
       c.in_ok-answer-2.ensures.answer ∙ c.in_ok-answer.ensures ∙ ap (λ (stamp : ℕ). line (codes "deletes") (encode_lower id ∷ decimal c.args.n ∷ decimal stamp ∷ [])) (c.next_opstamp.ensures ∙ ap (λ v. v.kept.catalog.next) c.self.view_is ∙ ap (λ (k : Catalog). k.next) held.catalog),
       subst (λ (k : Catalog). Holds (D.view new.outside).reads (kept_of k new) (having_deleted_docs s id c.args.n segment).1) (sym c.in_ok-set_deletes.ensures.deletes) holds,
     )
+
+pub returns-in_err-names-clause-does : goal.returns-in_err-names-clause-does
+returns-in_err-names-clause-does g c = wants_first g.O.Directory _ (λ old new h. h) _ c.args.self.now c.from_residual.result c.from_residual.ensures.1
+
+pub returns-in_err-answer-clause-does : goal.returns-in_err-answer-clause-does
+returns-in_err-answer-clause-does g c = wants_first g.O.Directory _ (λ old new h. h) _ c.args.self.now c.from_residual-in_err-answer.result c.from_residual-in_err-answer.ensures.1
+
+pub returns-in_err-answer-2-clause-does : goal.returns-in_err-answer-2-clause-does
+returns-in_err-answer-2-clause-does g c =
+    let asks = c.in_err-answer-2.ensures.asks in
+    wants g.O.Directory _ (λ old new h. h) _ c.args.self.now c.ready.new.self c.from_residual-in_err-answer-2.result c.from_residual-in_err-answer-2.ensures.1 asks.faults asks.frame

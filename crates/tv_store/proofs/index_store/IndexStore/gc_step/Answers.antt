@@ -6,6 +6,7 @@ use Rattle.tv_model.specs.State.{State, StepResult}
 use Rattle.tv_store.specs.Kept.{AtMost, Holds, kept_of}
 use Rattle.tv_store.proofs.CollectingEvents.{found_there, nothing_step, refused_deleting, stepped_holds, tried_step, unknown_step}
 use Rattle.tv_store.proofs.Holding.{same_holds}
+use Rattle.tv_store.proofs.AskedEvents.{may_delete, only_asked, wants}
 use Rattle.tv_store.proofs.index_store.IndexStore.gc_step.Goals as goal
 
 pub returns-in_default-clause-step : goal.returns-in_default-clause-step
@@ -62,3 +63,14 @@ returns-clause-step g c =
                 (subst (λ (t : StepResult State). Holds (D.view new.outside).reads (kept_of inside.catalog new) t.1) (sym step) (stepped_holds D inside.catalog inside.files new form s now number name done tells told)),
           ),
     )
+
+pub returns-in_default-clause-does : goal.returns-in_default-clause-does
+returns-in_default-clause-does g c = only_asked g.O.Directory _ (λ old new. may_delete) _ c.args.self.now c.refuse.new.self c.refuse.result c.refuse.ensures.room c.refuse.ensures.asks
+
+pub returns-then-left-eq0-clause-does : goal.returns-then-left-eq0-clause-does
+returns-then-left-eq0-clause-does g c = only_asked g.O.Directory _ (λ old new. may_delete) _ c.args.self.now c.refuse-then-left-eq0.new.self c.refuse-then-left-eq0.result c.refuse-then-left-eq0.ensures.room c.refuse-then-left-eq0.ensures.asks
+
+pub returns-in_err-ready_for_step-clause-does : goal.returns-in_err-ready_for_step-clause-does
+returns-in_err-ready_for_step-clause-does g c =
+    let asks = c.in_err-ready_for_step.ensures.asks in
+    wants g.O.Directory _ (λ old new. may_delete) _ c.args.self.now c.ready_for_step.new.self c.from_residual.result c.from_residual.ensures.1 asks.faults asks.frame

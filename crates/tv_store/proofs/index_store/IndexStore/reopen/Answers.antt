@@ -6,6 +6,8 @@ use Rattle.tv_model.specs.State.{Catalog}
 use Rattle.tv_store.specs.Kept.{AtMost, Holds, kept_of}
 use Rattle.tv_store.proofs.Holding.{same_holds}
 use Rattle.tv_store.proofs.ReopenEvents.{reopened_holds}
+use Rattle.tv_store.proofs.AskedReads.{no_answer, only_reads}
+use Rattle.tv_store.proofs.KeptFiles.{asked_nothing}
 use Rattle.tv_store.proofs.index_store.IndexStore.reopen.Goals as goal
 
 pub returns-in_err-reopen-clause-does : goal.returns-in_err-reopen-clause-does
@@ -30,3 +32,20 @@ returns-clause-step g c tells s held =
           ∙ ap (λ (k : Commit). opening_of k) (c.commit.ensures ∙ ap (λ v. v.kept.catalog.commit) c.self.view_is ∙ ap (λ (k : Catalog). k.commit) held.catalog),
       subst (λ (k : Catalog). Holds (D.view new.outside).reads (kept_of k new) (reopened s)) (sym c.reopen-2.ensures) (reopened_holds D inside.catalog inside.files new s now done.others done.reopened),
     )
+
+pub returns-in_err-segments-clause-does : goal.returns-in_err-segments-clause-does
+returns-in_err-segments-clause-does g c =
+    let store = c.args.self.now in
+    let failed = c.from_residual in
+    only_reads g.O.Directory store store failed.result (no_answer failed.result _ failed.ensures.0) (asked_nothing g.O.Directory.told g.O.Directory.view store)
+
+pub returns-in_err-line-clause-does : goal.returns-in_err-line-clause-does
+returns-in_err-line-clause-does g c =
+    let store = c.args.self.now in
+    let failed = c.from_residual-in_err-line in
+    only_reads g.O.Directory store store failed.result (no_answer failed.result _ failed.ensures.0) (asked_nothing g.O.Directory.told g.O.Directory.view store)
+
+pub returns-in_err-answer-clause-does : goal.returns-in_err-answer-clause-does
+returns-in_err-answer-clause-does g c =
+    let failed = c.from_residual-in_err-answer in
+    only_reads g.O.Directory c.args.self.now c.ready.new.self failed.result (no_answer failed.result _ failed.ensures.0) c.in_err-answer.ensures.asks.frame
