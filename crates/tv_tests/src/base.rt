@@ -116,11 +116,20 @@ fn reads_pieces<R: Abort, S: Source>(rt: &R, source: &mut S) {
     }
 }
 
+// The text that is read.
+fn text<R: Abort>(rt: &R, alloc: Global) -> Vec<u8> {
+    b"abcdefg".to_vec(alloc).expect(rt, "memory")
+}
+
+// The reads that are refused.
+fn refused<R: Abort>(rt: &R, alloc: Global) -> Vec<u64> {
+    [2, 0, 2].to_vec(alloc).expect(rt, "memory")
+}
+
 #[test]
 fn a_text_in_pieces(rt: HostRuntime) {
-    let text = b"abcdefg".to_vec(rt.alloc()).expect(&rt, "memory");
-    let refused = [2, 0, 2].to_vec(rt.alloc()).expect(&rt, "memory");
-    reads_pieces(&rt, &mut TextSource::new(text, refused));
+    let a = rt.alloc();
+    reads_pieces(&rt, &mut TextSource::new(text(&rt, a), refused(&rt, a)));
 }
 
 // Whether this is a refusal of the device, with no text.
