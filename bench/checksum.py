@@ -43,7 +43,7 @@ def main():
     parser.add_argument("--built", action="store_true", help="take the program as it lies there")
     parser.add_argument("--rounds", type=int, default=5, help="how often both are run, in turn")
     arguments = parser.parse_args()
-    timings = common.program_of("tv_checksum_timings", arguments.built)
+    timings = common.program_of("tv_timings", arguments.built)
     ours, theirs = [], []
     with tempfile.TemporaryDirectory() as folder:
         bytes = random.Random(0).randbytes(BYTES)
@@ -51,7 +51,7 @@ def main():
         file.write_bytes(bytes)
         program = common.compiled("zlib_crc32.c", folder, "-lz")
         for _ in range(arguments.rounds):
-            sum, nanos = told_by([timings, "time"], file)
+            sum, nanos = told_by([timings, "checksum"], file)
             ours.append(nanos)
             want, nanos = told_by([program], file) if program else told_by_python(bytes)
             theirs.append(nanos)

@@ -20,30 +20,34 @@ fn assert_read(rt: &impl Abort, number: u64, spelling: &[u8]) {
     assert_eq!(rt; VInt::deserialize(spelling), want);
 }
 
+// A number, and its spelling.
+const SPELLINGS: &[(u64, &[u8])] = &[
+    (0, &[0x80]),
+    (127, &[0xff]),
+    (128, &[0x00, 0x81]),
+    (1_000_000, &[0x40, 0x04, 0xbd]),
+    (32_431_123, &[0x13, 0x38, 0x3b, 0x8f]),
+];
+
 #[test]
 fn spellings_of_numbers(rt: HostRuntime) {
-    let rows: [(u64, &[u8]); 5] = [
-        (0, &[0x80]),
-        (127, &[0xff]),
-        (128, &[0x00, 0x81]),
-        (1_000_000, &[0x40, 0x04, 0xbd]),
-        (32_431_123, &[0x13, 0x38, 0x3b, 0x8f]),
-    ];
-    for (number, spelling) in rows {
-        assert_written(&rt, rt.alloc(), number, spelling);
-        assert_read(&rt, number, spelling);
+    for (number, spelling) in SPELLINGS {
+        assert_written(&rt, rt.alloc(), *number, spelling);
+        assert_read(&rt, *number, spelling);
     }
 }
 
+// Bytes, and the number that their front spells, with the length of that.
+const FRONTS: &[(&[u8], Option<(VInt, usize)>)] = &[
+    (&[0x40, 0x04, 0xbd, 0x00], Some((VInt(1_000_000), 3))),
+    (&[0x00, 0x80], None),
+    (&[0x40], None),
+    (&[], None),
+];
+
 #[test]
 fn numbers_are_read_from_the_front(rt: HostRuntime) {
-    let rows: [(&[u8], Option<(VInt, usize)>); 4] = [
-        (&[0x40, 0x04, 0xbd, 0x00], Some((VInt(1_000_000), 3))),
-        (&[0x00, 0x80], None),
-        (&[0x40], None),
-        (&[], None),
-    ];
-    for (bytes, want) in &rows {
+    for (bytes, want) in FRONTS {
         assert_eq!(rt; VInt::deserialize(bytes), *want);
     }
 }
@@ -94,22 +98,38 @@ fn read<S: Source>(source: &mut S, into: &mut [u8; 4]) -> Result<usize, IoKind> 
     }
 }
 
+// What each read of a text answers, and what the buffer has then.
+const READS: &[(Result<usize, IoKind>, &[u8])] = &[
+    (Err(IoKind::Device), b"\0\0\0\0"),
+    (Ok(4), b"abcd"),
+    (Err(IoKind::Device), b"abcd"),
+    (Ok(3), b"efgd"),
+    (Ok(0), b"efgd"),
+];
+
+// Reads a text in pieces of four bytes.
+fn reads_pieces<R: Abort, S: Source>(rt: &R, source: &mut S) {
+    let mut piece = [0; 4];
+    for (want, held) in READS {
+        assert_eq!(rt; read(source, &mut piece), *want);
+        are_bytes(rt, piece.as_slice(), held);
+    }
+}
+
+// The text that is read.
+fn text<R: Abort>(rt: &R, alloc: Global) -> Vec<u8> {
+    b"abcdefg".to_vec(alloc).expect(rt, "memory")
+}
+
+// The reads that are refused.
+fn refused<R: Abort>(rt: &R, alloc: Global) -> Vec<u64> {
+    [2, 0, 2].to_vec(alloc).expect(rt, "memory")
+}
+
 #[test]
 fn a_text_in_pieces(rt: HostRuntime) {
-    let text = b"abcdefg".to_vec(rt.alloc()).expect(&rt, "memory");
-    let refused = [2, 0, 2].to_vec(rt.alloc()).expect(&rt, "memory");
-    let mut source = TextSource::new(text, refused);
-    let mut piece = [0; 4];
-    for (want, held) in [
-        (Err(IoKind::Device), b"\0\0\0\0"),
-        (Ok(4), b"abcd"),
-        (Err(IoKind::Device), b"abcd"),
-        (Ok(3), b"efgd"),
-        (Ok(0), b"efgd"),
-    ] {
-        assert_eq!(rt; read(&mut source, &mut piece), want);
-        assert_eq!(rt; piece, *held);
-    }
+    let a = rt.alloc();
+    reads_pieces(&rt, &mut TextSource::new(text(&rt, a), refused(&rt, a)));
 }
 
 // Whether this is a refusal of the device, with no text.
@@ -125,18 +145,20 @@ fn is_refused<S: Sink>(sink: &mut S, bytes: &[u8]) -> bool {
     }
 }
 
+// Bytes that are put, whether that is refused, and what was taken and how much refused by then.
+const PUTS: &[(&[u8], bool, &[u8], u64)] = &[
+    (b"abc", false, b"abc", 0),
+    (b"def", true, b"abc", 1),
+    (b"de", false, b"abcde", 1),
+    (b"", false, b"abcde", 1),
+    (b"f", true, b"abcde", 2),
+];
+
 fn assert_puts(rt: &impl Abort, sink: &mut VecSink) {
-    let rows: [(&[u8], bool, &[u8], u64); 5] = [
-        (b"abc", false, b"abc", 0),
-        (b"def", true, b"abc", 1),
-        (b"de", false, b"abcde", 1),
-        (b"", false, b"abcde", 1),
-        (b"f", true, b"abcde", 2),
-    ];
-    for (bytes, refused, taken, faults) in rows {
-        assert_eq!(rt; is_refused(sink, bytes), refused);
-        assert_eq!(rt; sink.as_slice(), taken);
-        assert_eq!(rt; sink.faults(), faults);
+    for (bytes, refused, taken, faults) in PUTS {
+        assert_eq!(rt; is_refused(sink, bytes), *refused);
+        are_bytes(rt, sink.as_slice(), taken);
+        assert_eq!(rt; sink.faults(), *faults);
     }
 }
 

@@ -29,13 +29,18 @@ fn tell<R: Abort, O: Outside>(rt: &R, outside: &mut O, line: &[u8], want: Want) 
     ends(outside.tell(line), "", want)
 }
 
-// Whether the device refuses a call where it is to.
-fn take_turn<R: Abort, O: Outside>(rt: &R, outside: &mut O, turn: Turn, is_refused: bool) -> bool {
-    let want = if is_refused {
+// What a call is to answer.
+fn wanted(is_refused: bool) -> Want {
+    if is_refused {
         Want::Refused
     } else {
         Want::Done
-    };
+    }
+}
+
+// Whether the device refuses a call where it is to.
+fn take_turn<R: Abort, O: Outside>(rt: &R, outside: &mut O, turn: Turn, is_refused: bool) -> bool {
+    let want = wanted(is_refused);
     match turn {
         On(call, name) => take(rt, outside, (call, name, "new", want)),
         Tell => tell(rt, outside, b"line", want),

@@ -10,14 +10,15 @@ fn checksum_of<C: Checksum>(pieces: &[&[u8]]) -> u32 {
     checksum.finish()
 }
 
+const KNOWN: &[(&str, u32)] = &[("", 0), ("123456789", 0xCBF4_3926), ("abc", 0x3524_41C2)];
+
 #[test]
 fn checksums_of_known_messages(rt: HostRuntime) {
-    let rows: [(&str, u32); 3] = [("", 0), ("123456789", 0xCBF4_3926), ("abc", 0x3524_41C2)];
-    for (text, want) in rows {
+    for (text, want) in KNOWN {
         let (front, back) = text.as_bytes().split_at(text.len() / 2);
         assert_eq!(rt;
             checksum_of::<Crc32>(&[front, b"", back]),
-            want,
+            *want,
             "of {text}"
         );
     }

@@ -95,15 +95,16 @@ pub(crate) fn write_no_fields<W: TerminatingWrite + Drop>(rt: &impl Abort, alloc
         .expect(rt, "closed");
 }
 
+const WRITTEN: &[(Content, &[u8])] = &[
+    (Content::TwoFields, TWO_FIELDS),
+    (Content::TwoBodiesOfOneField, TWO_BODIES_OF_ONE_FIELD),
+    (Content::NoFields, NO_FIELDS),
+];
+
 #[test]
 fn composite_files_are_written(rt: HostRuntime) {
-    let rows = [
-        (Content::TwoFields, TWO_FIELDS),
-        (Content::TwoBodiesOfOneField, TWO_BODIES_OF_ONE_FIELD),
-        (Content::NoFields, NO_FIELDS),
-    ];
-    for (content, want) in rows {
-        assert!(rt; is_written(&rt, rt.alloc(), content, want));
+    for (content, want) in WRITTEN {
+        assert!(rt; is_written(&rt, rt.alloc(), *content, want));
     }
 }
 
@@ -139,19 +140,20 @@ fn assert_read(rt: &impl Abort, alloc: Global, row: Row<'_>) {
     assert_body_at(rt, &file, id, idx, want);
 }
 
+const READ: &[Row<'static>] = &[
+    (TWO_FIELDS, 0, 0, Some(LARGE)),
+    (TWO_FIELDS, 4, 0, Some(TWO)),
+    (TWO_FIELDS, 1, 0, None),
+    (TWO_BODIES_OF_ONE_FIELD, 1, 0, Some(LARGE)),
+    (TWO_BODIES_OF_ONE_FIELD, 1, 1, Some(&[])),
+    (TWO_BODIES_OF_ONE_FIELD, 0, 0, Some(MILLION)),
+    (NO_FIELDS, 0, 0, None),
+];
+
 #[test]
 fn composite_files_are_read(rt: HostRuntime) {
-    let rows: [Row<'_>; 7] = [
-        (TWO_FIELDS, 0, 0, Some(LARGE)),
-        (TWO_FIELDS, 4, 0, Some(TWO)),
-        (TWO_FIELDS, 1, 0, None),
-        (TWO_BODIES_OF_ONE_FIELD, 1, 0, Some(LARGE)),
-        (TWO_BODIES_OF_ONE_FIELD, 1, 1, Some(&[])),
-        (TWO_BODIES_OF_ONE_FIELD, 0, 0, Some(MILLION)),
-        (NO_FIELDS, 0, 0, None),
-    ];
-    for row in rows {
-        assert_read(&rt, rt.alloc(), row);
+    for row in READ {
+        assert_read(&rt, rt.alloc(), *row);
     }
 }
 
@@ -174,25 +176,32 @@ fn is_refused(rt: &impl Abort, alloc: Global, bytes: &[u8]) -> bool {
     )
 }
 
-#[test]
-fn refused_composite_files(rt: HostRuntime) {
-    let twice: &[u8] = &[
+const REFUSED: &[&[u8]] = &[
+    // The first two bytes of `TWO_FIELDS` are gone, or its last one.
+    &[
+        0x3b, 0x8f, 0x82, 0x82, 0x80, 0, 0, 0, 0, 0x80, 0x84, 4, 0, 0, 0, 0x80, 13, 0, 0, 0,
+    ],
+    &[
+        0x13, 0x38, 0x3b, 0x8f, 0x82, 0x82, 0x80, 0, 0, 0, 0, 0x80, 0x84, 4, 0, 0, 0, 0x80, 13, 0,
+        0,
+    ],
+    // An address stands twice.
+    &[
         0x13, 0x38, 0x3b, 0x8f, 0x82, 0x82, 0x80, 0, 0, 0, 0, 0x80, 0x84, 0, 0, 0, 0, 0x80, 13, 0,
         0, 0,
-    ];
-    let longer: &[u8] = &[
+    ],
+    // The count is spelled with a byte too many.
+    &[
         0x13, 0x38, 0x3b, 0x8f, 0x82, 0x02, 0x80, 0x80, 0, 0, 0, 0, 0x80, 0x84, 4, 0, 0, 0, 0x80,
         14, 0, 0, 0,
-    ];
-    let rows: [&[u8]; 6] = [
-        &TWO_FIELDS[2..],
-        &TWO_FIELDS[..21],
-        twice,
-        longer,
-        &[1, 2, 3],
-        &[],
-    ];
-    for bytes in rows {
+    ],
+    &[1, 2, 3],
+    &[],
+];
+
+#[test]
+fn refused_composite_files(rt: HostRuntime) {
+    for bytes in REFUSED {
         assert!(rt; is_refused(&rt, rt.alloc(), bytes), "{bytes:?}");
     }
 }

@@ -18,6 +18,12 @@ pub(crate) enum Failure<'a> {
     Missing(&'a str),
     // This argument of a builder is missing.
     Unbuilt(&'a str),
+    // This id is in use.
+    InUse(&'a str),
+    // An index stands there already.
+    IndexExists,
+    // The folder isn't opened.
+    NoFolder,
     Other,
 }
 
@@ -42,6 +48,9 @@ pub(crate) fn failure_of(error: &TantivyError) -> Failure<'_> {
             Failure::Missing(path.as_str())
         }
         TantivyError::IndexBuilderMissingArgument(text) => Failure::Unbuilt(text.as_str()),
+        TantivyError::IdInUse(id) => Failure::InUse(id.as_str()),
+        TantivyError::IndexAlreadyExists => Failure::IndexExists,
+        TantivyError::OpenDirectoryError(_) => Failure::NoFolder,
         _ => Failure::Other,
     }
 }

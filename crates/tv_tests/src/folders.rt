@@ -2,49 +2,75 @@
 
 use crate::answers::{Want, ends};
 use crate::calls::{Call, Step, take_all};
-use crate::failures::{Failure, failure_of};
+use crate::failures::Failure;
+use crate::indexes::fails_as;
 use crate::ram::FILES;
 use crate::watches::{boxed, watch_both};
 use std::alloc::Global;
 use std::fs::File;
+use std::process::Abort;
 use std::rt::Files;
 use std::sync::Arc;
 use std::sync::atomic::{AtomicU64, Ordering};
 use std::{fs, io};
 use tv_base::{OpenDirectoryError, Sink, Source, TantivyError};
-use tv_directory::{Directory, NoWatch, index_writer_lock};
+use tv_directory::{Directory, NoWatch, WatchCall, WatchCallback, index_writer_lock};
 use tv_files::{FileWatcher, MmapDirectory, StdinSource, StdoutSink};
 use tv_index::{Index, Schema};
 
 // Makes a folder of this path without files. What an earlier run left there goes.
-fn make_folder<R: Files>(rt: &R, alloc: Global, path: &str) -> io::Result<()> {
+fn make_anew<R: Files>(rt: &R, alloc: Global, path: &str) -> io::Result<()> {
     if fs::exists(rt, path)? {
         rt.remove_dir_all(alloc, path)?;
     }
     fs::create_dir(rt, path)
 }
 
-// The directory of a folder, which nobody watches.
-fn opened<R: Files<File = File> + Clone + Drop>(
+fn make_folder<R: Files + Abort>(rt: &R, alloc: Global, path: &str) {
+    make_anew(rt, alloc, path).expect(rt, "a new folder");
+}
+
+fn remove_folder<R: Files + Alloc + Abort>(rt: &R, path: &str) {
+    fs::remove_dir_all(rt, path).expect(rt, "removed");
+}
+
+fn write_file<R: Files<File = File> + Abort>(rt: &R, path: &str, bytes: &[u8]) {
+    fs::write(rt, path, bytes).expect(rt, "written");
+}
+
+fn remove_file<R: Files + Abort>(rt: &R, path: &str) {
+    fs::remove_file(rt, path).expect(rt, "removed");
+}
+
+fn handle<R: Clone + Abort>(rt: &R) -> R {
+    rt.clone().expect(rt, "memory")
+}
+
+// The directory of a folder.
+fn folder<R: Files<File = File> + Clone + Drop + Abort, C: WatchCall>(
     rt: &R,
     alloc: Global,
     path: &str,
-) -> Result<MmapDirectory<R, NoWatch>, OpenDirectoryError> {
-    match rt.clone() {
-        Ok(handle) => MmapDirectory::open(handle, alloc, path),
-        Err(_) => Err(OpenDirectoryError::Memory),
-    }
+) -> MmapDirectory<R, C> {
+    MmapDirectory::open(handle(rt), alloc, path).expect(rt, "a folder")
+}
+
+// Takes the steps in the directory of a folder.
+fn take_all_in<R: Files<File = File> + Clone + Drop + Abort>(
+    rt: &R,
+    alloc: Global,
+    path: &str,
+    steps: &[Step],
+) {
+    let mut directory: MmapDirectory<R, NoWatch> = folder(rt, alloc, path);
+    take_all(rt, &mut directory, steps);
 }
 
 #[test]
 fn a_folder_does_what_a_directory_in_memory_does(rt: HostRuntime) {
-    make_folder(&rt, rt.alloc(), "calls").expect(&rt, "a new folder");
-    take_all(
-        &rt,
-        &mut opened(&rt, rt.alloc(), "calls").expect(&rt, "a folder"),
-        FILES,
-    );
-    fs::remove_dir_all(&rt, "calls").expect(&rt, "removed");
+    make_folder(&rt, rt.alloc(), "calls");
+    take_all_in(&rt, rt.alloc(), "calls", FILES);
+    remove_folder(&rt, "calls");
 }
 
 const WRITTEN: &[Step] = &[
@@ -64,28 +90,24 @@ const READ: &[Step] = &[
     (Call::Delete, "folder", "", Want::Refused),
 ];
 
+// Whether the temporary file of another run is as it was, and the next one is gone.
+fn keeps_temporary<R: Files<File = File> + Alloc + Abort>(rt: &R) -> bool {
+    let left = fs::read(rt, "left/.new-0").expect(rt, "read");
+    left.as_slice() == b"left".as_slice() && !fs::exists(rt, "left/.new-1").expect(rt, "asked")
+}
+
 // A run that was killed leaves a temporary file and a lock file, of which neither is in the way of
 // the next.
 #[test]
 fn what_was_left_in_a_folder_stays_and_is_in_nobodys_way(rt: HostRuntime) {
-    make_folder(&rt, rt.alloc(), "left").expect(&rt, "a new folder");
-    fs::create_dir(&rt, "left/folder").expect(&rt, "a new folder");
-    fs::write(&rt, "left/.new-0", "left".as_bytes()).expect(&rt, "written");
-    fs::write(&rt, "left/.tantivy-writer.lock", "".as_bytes()).expect(&rt, "written");
-    take_all(
-        &rt,
-        &mut opened(&rt, rt.alloc(), "left").expect(&rt, "a folder"),
-        WRITTEN,
-    );
-    take_all(
-        &rt,
-        &mut opened(&rt, rt.alloc(), "left").expect(&rt, "a folder"),
-        READ,
-    );
-    let left = fs::read(&rt, "left/.new-0").expect(&rt, "read");
-    assert!(rt; left.as_slice() == "left".as_bytes());
-    assert!(rt; !fs::exists(&rt, "left/.new-1").expect(&rt, "asked"));
-    fs::remove_dir_all(&rt, "left").expect(&rt, "removed");
+    make_folder(&rt, rt.alloc(), "left");
+    make_folder(&rt, rt.alloc(), "left/folder");
+    write_file(&rt, "left/.new-0", b"left");
+    write_file(&rt, "left/.tantivy-writer.lock", b"");
+    take_all_in(&rt, rt.alloc(), "left", WRITTEN);
+    take_all_in(&rt, rt.alloc(), "left", READ);
+    assert!(rt; keeps_temporary(&rt));
+    remove_folder(&rt, "left");
 }
 
 // Whether the lock of the writer is held by somebody else.
@@ -93,27 +115,43 @@ fn is_busy<D: Directory>(directory: &mut D) -> bool {
     ends(directory.acquire_lock(&index_writer_lock()), "", Want::Busy)
 }
 
+// Takes the lock of the writer for good.
+fn take_lock<R: Abort, D: Directory>(rt: &R, directory: &mut D) {
+    directory
+        .acquire_lock(&index_writer_lock())
+        .expect(rt, "free");
+}
+
+// Takes the lock in a directory that goes at once. Whether the other one found it busy meanwhile.
+fn is_busy_meanwhile<R: Abort, D: Directory + Drop>(rt: &R, first: D, second: &mut D) -> bool {
+    let mut first = first;
+    take_lock(rt, &mut first);
+    is_busy(second)
+}
+
 #[test]
 fn a_lock_is_free_once_its_directory_is_gone(rt: HostRuntime) {
-    make_folder(&rt, rt.alloc(), "locks").expect(&rt, "a new folder");
-    let mut first = opened(&rt, rt.alloc(), "locks").expect(&rt, "a folder");
-    let mut second = opened(&rt, rt.alloc(), "locks").expect(&rt, "a folder");
-    let token = first.acquire_lock(&index_writer_lock()).expect(&rt, "free");
-    assert!(rt; is_busy(&mut second));
-    drop(first);
+    make_folder(&rt, rt.alloc(), "locks");
+    let first: MmapDirectory<_, NoWatch> = folder(&rt, rt.alloc(), "locks");
+    let mut second = folder(&rt, rt.alloc(), "locks");
+    assert!(rt; is_busy_meanwhile(&rt, first, &mut second));
     assert!(rt; !is_busy(&mut second));
-    drop(token);
-    fs::remove_dir_all(&rt, "locks").expect(&rt, "removed");
+    remove_folder(&rt, "locks");
 }
 
 // Whether no folder is opened here, for this cause.
-fn is_refused<R: Files<File = File> + Clone + Drop>(
+fn is_refused<R: Files<File = File> + Clone + Drop + Abort>(
     rt: &R,
     alloc: Global,
     path: &str,
     is_there: bool,
 ) -> bool {
-    match opened(rt, alloc, path) {
+    let opened: Result<MmapDirectory<R, NoWatch>, OpenDirectoryError> = MmapDirectory::open(
+        handle(rt),
+        alloc,
+        path,
+    );
+    match opened {
         Err(OpenDirectoryError::DoesNotExist(text)) => !is_there && text.as_str() == path,
         Err(OpenDirectoryError::NotADirectory(text)) => is_there && text.as_str() == path,
         _ => false,
@@ -122,124 +160,170 @@ fn is_refused<R: Files<File = File> + Clone + Drop>(
 
 #[test]
 fn what_is_no_folder_is_not_opened(rt: HostRuntime) {
-    fs::write(&rt, "a_file", "".as_bytes()).expect(&rt, "written");
+    write_file(&rt, "a_file", b"");
     assert!(rt; is_refused(&rt, rt.alloc(), "./nowhere", false));
     assert!(rt; is_refused(&rt, rt.alloc(), "a_file", true));
     assert!(rt; is_refused(&rt, rt.alloc(), "a_file/nowhere", false));
-    fs::remove_file(&rt, "a_file").expect(&rt, "removed");
+    remove_file(&rt, "a_file");
+}
+
+// Makes a file, and flushes it without a write.
+fn open_and_flush<R: Abort, D: Directory>(rt: &R, directory: &mut D) {
+    let mut writer = directory.open_write("some_path").expect(rt, "a new file");
+    directory.flush(&mut writer).expect(rt, "flushed");
 }
 
 #[test]
 fn a_file_that_was_only_opened_and_flushed_is_empty(rt: HostRuntime) {
-    make_folder(&rt, rt.alloc(), "empty").expect(&rt, "a new folder");
-    let mut directory = opened(&rt, rt.alloc(), "empty").expect(&rt, "a folder");
-    let mut writer = directory.open_write("some_path").expect(&rt, "a new file");
-    directory.flush(&mut writer).expect(&rt, "flushed");
-    let file = directory.open_read("some_path").expect(&rt, "read");
-    assert_eq!(rt; file.len(), 0);
-    fs::remove_dir_all(&rt, "empty").expect(&rt, "removed");
+    make_folder(&rt, rt.alloc(), "empty");
+    let mut directory: MmapDirectory<_, NoWatch> = folder(&rt, rt.alloc(), "empty");
+    open_and_flush(&rt, &mut directory);
+    assert!(rt;
+        ends(
+            directory.open_read("some_path"),
+            "some_path",
+            Want::Text("")
+        )
+    );
+    remove_folder(&rt, "empty");
 }
 
 // What a watched file is given before a look, and what the look answers. Nothing: the file is
 // removed.
-const LOOKS: [(Option<&str>, bool); 7] = [
+const LOOKS: &[(Option<&[u8]>, bool)] = &[
     (None, false),
-    (Some("foo"), true),
-    (Some("foo"), false),
-    (Some("bar"), true),
-    (Some("ba\nr"), false),
-    (Some("baz\r\n"), true),
+    (Some(b"foo"), true),
+    (Some(b"foo"), false),
+    (Some(b"bar"), true),
+    (Some(b"ba\nr"), false),
+    (Some(b"baz\r\n"), true),
     (None, false),
+    // What isn't UTF-8 changes nothing.
+    (Some(b"\xFF"), false),
 ];
+
+// Gives the watched file these bytes, or removes it.
+fn change<R: Files<File = File> + Abort>(rt: &R, bytes: Option<&[u8]>) {
+    match bytes {
+        Some(bytes) => write_file(rt, "watched", bytes),
+        None => drop(fs::remove_file(rt, "watched")),
+    }
+}
+
+type Watcher<R> = FileWatcher<R, WatchCallback>;
+
+// Somebody watches the file, who adds one to the number at each call.
+fn watching<R: Files<File = File> + Clone + Drop + Abort>(
+    rt: &R,
+    alloc: Global,
+    number: &Arc<AtomicU64>,
+) -> Watcher<R> {
+    let mut watcher = FileWatcher::new(handle(rt), alloc, "watched").expect(rt, "memory");
+    add_watch(rt, &mut watcher, boxed(rt, alloc, number, 1, 1));
+    watcher
+}
+
+fn add_watch<R: Files<File = File> + Drop + Abort>(
+    rt: &R,
+    watcher: &mut Watcher<R>,
+    callback: WatchCallback,
+) {
+    watcher.watch(callback).expect(rt, "memory");
+}
+
+// Looks at the file each time that it was changed.
+fn look_at_all<R: Files<File = File> + Drop + Abort>(rt: &R, watcher: &mut Watcher<R>) {
+    for (at, (bytes, want)) in LOOKS.iter().enumerate() {
+        change(rt, *bytes);
+        let answer = watcher.look().expect(rt, "looked");
+        assert_eq!(rt; answer, *want, "look {at}");
+    }
+}
 
 #[test]
 fn a_watched_file_is_looked_at_line_by_line(rt: HostRuntime) {
     let number = Arc::new(rt.alloc(), AtomicU64::new(0)).expect(&rt, "memory");
-    let handle = rt.clone().expect(&rt, "memory");
-    let mut watcher = FileWatcher::new(handle, rt.alloc(), "watched").expect(&rt, "memory");
-    watcher
-        .watch(boxed(&rt, rt.alloc(), &number, 1, 1))
-        .expect(&rt, "memory");
-    for (at, (text, want)) in LOOKS.into_iter().enumerate() {
-        match text {
-            Some(text) => fs::write(&rt, "watched", text.as_bytes()).expect(&rt, "written"),
-            None => drop(fs::remove_file(&rt, "watched")),
-        }
-        assert_eq!(rt; watcher.look().expect(&rt, "looked"), want, "look {at}");
-    }
-    fs::write(&rt, "watched", b"\xFF".as_slice()).expect(&rt, "written");
-    assert!(rt; !watcher.look().expect(&rt, "looked"));
+    let mut watcher = watching(&rt, rt.alloc(), &number);
+    look_at_all(&rt, &mut watcher);
     assert_eq!(rt; number.load(Ordering::SeqCst), 3);
-    fs::remove_file(&rt, "watched").expect(&rt, "removed");
+    remove_file(&rt, "watched");
+}
+
+// Two watch the folder, of which each writes its digit behind the others.
+fn watch_folder<R: Files<File = File> + Clone + Drop + Abort>(
+    rt: &R,
+    alloc: Global,
+    number: &Arc<AtomicU64>,
+) {
+    let one = boxed(rt, alloc, number, 10, 2);
+    let other = boxed(rt, alloc, number, 10, 1);
+    let mut directory: MmapDirectory<R, WatchCallback> = folder(rt, alloc, "watchers");
+    watch_both(rt, &mut directory, one, other);
 }
 
 #[test]
 fn a_notice_reaches_those_who_watch_a_folder(rt: HostRuntime) {
-    make_folder(&rt, rt.alloc(), "watchers").expect(&rt, "a new folder");
+    make_folder(&rt, rt.alloc(), "watchers");
     let number = Arc::new(rt.alloc(), AtomicU64::new(0)).expect(&rt, "memory");
-    let one = boxed(&rt, rt.alloc(), &number, 10, 2);
-    let other = boxed(&rt, rt.alloc(), &number, 10, 1);
-    let handle = rt.clone().expect(&rt, "memory");
-    let mut directory = MmapDirectory::open(handle, rt.alloc(), "watchers").expect(&rt, "a folder");
-    watch_both(&rt, &mut directory, one, other);
+    watch_folder(&rt, rt.alloc(), &number);
     assert_eq!(rt; number.load(Ordering::SeqCst), 211);
-    fs::remove_dir_all(&rt, "watchers").expect(&rt, "removed");
+    remove_folder(&rt, "watchers");
+}
+
+// Puts nothing, of which no fault is counted.
+fn put_nothing<R: Abort + Print + Drop>(rt: &R, sink: &mut StdoutSink<R>) {
+    sink.put(b"").expect(rt, "taken");
+    assert_eq!(rt; sink.faults(), 0);
 }
 
 #[test]
 fn standard_input_and_output_answer(rt: HostRuntime) {
-    let handle = rt.clone().expect(&rt, "memory");
-    let mut sink = StdoutSink::new(handle, rt.alloc());
-    sink.put(b"").expect(&rt, "taken");
-    assert_eq!(rt; sink.faults(), 0);
+    put_nothing(&rt, &mut StdoutSink::new(handle(&rt), rt.alloc()));
     let mut source = StdinSource::new(&rt, rt.alloc());
     source.read(&mut []).expect(&rt, "read");
 }
 
-// Opens the index in a folder.
-fn opens<R: Files<File = File> + Clone + Drop>(
-    rt: &R,
-    alloc: Global,
-    path: &str,
+// What came of an index in a folder, which is closed again.
+fn close<R: Files<File = File> + Drop>(
+    outcome: Result<Index<MmapDirectory<R, NoWatch>>, TantivyError>,
 ) -> Result<(), TantivyError> {
-    let index: Index<MmapDirectory<R, NoWatch>> = Index::open_in_dir(rt.clone()?, alloc, path)?;
-    drop(index.into_directory());
-    Ok(())
+    match outcome {
+        Ok(index) => {
+            drop(index.into_directory());
+            Ok(())
+        }
+        Err(error) => Err(error),
+    }
 }
 
-// Makes an index without fields in a folder.
-fn makes<R: Files<File = File> + Clone + Drop>(
+// Opens the index in the folder, which fails as it is to.
+fn opens<R: Files<File = File> + Clone + Drop + Abort>(
     rt: &R,
     alloc: Global,
-    path: &str,
-) -> Result<(), TantivyError> {
-    let schema = Schema::from_bytes(alloc, b"[]")?;
-    let index: Index<MmapDirectory<R, NoWatch>> = Index::create_in_dir(
-        rt.clone()?,
-        alloc,
-        path,
-        schema,
-    )?;
-    drop(index.into_directory());
-    Ok(())
+    want: Option<Failure<'static>>,
+) {
+    let outcome = close(Index::open_in_dir(handle(rt), alloc, "index"));
+    fails_as(rt, &outcome, want);
+}
+
+// Makes an index without fields in the folder, which fails as it is to.
+fn makes<R: Files<File = File> + Clone + Drop + Abort>(
+    rt: &R,
+    alloc: Global,
+    want: Option<Failure<'static>>,
+) {
+    let schema = Schema::from_bytes(alloc, b"[]").expect(rt, "a schema");
+    let outcome = close(Index::create_in_dir(handle(rt), alloc, "index", schema));
+    fails_as(rt, &outcome, want);
 }
 
 #[test]
 fn an_index_is_made_in_a_folder_and_opened_again(rt: HostRuntime) {
-    make_folder(&rt, rt.alloc(), "index").expect(&rt, "a new folder");
-    match opens(&rt, rt.alloc(), "index") {
-        Err(error) => assert!(rt; matches!(failure_of(&error), Failure::Missing("meta.json"))),
-        Ok(()) => panic!(rt; "nothing stands there"),
-    }
-    makes(&rt, rt.alloc(), "index").expect(&rt, "an index");
-    match makes(&rt, rt.alloc(), "index") {
-        Err(error) => assert!(rt; matches!(error, TantivyError::IndexAlreadyExists)),
-        Ok(()) => panic!(rt; "an index stands there"),
-    }
-    opens(&rt, rt.alloc(), "index").expect(&rt, "the same index");
-    fs::remove_dir_all(&rt, "index").expect(&rt, "removed");
-    match makes(&rt, rt.alloc(), "index") {
-        Err(error) => assert!(rt; matches!(error, TantivyError::OpenDirectoryError(_))),
-        Ok(()) => panic!(rt; "no folder is there"),
-    }
+    make_folder(&rt, rt.alloc(), "index");
+    opens(&rt, rt.alloc(), Some(Failure::Missing("meta.json")));
+    makes(&rt, rt.alloc(), None);
+    makes(&rt, rt.alloc(), Some(Failure::IndexExists));
+    opens(&rt, rt.alloc(), None);
+    remove_folder(&rt, "index");
+    makes(&rt, rt.alloc(), Some(Failure::NoFolder));
 }

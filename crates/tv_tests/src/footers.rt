@@ -72,15 +72,16 @@ pub(crate) fn flush_four_bytes<W: TerminatingWrite + Drop>(
     proxy.flush().expect(rt, "flushed");
 }
 
+const WRITTEN: &[(Content, &[u8])] = &[
+    (Content::Footer, FOOTER_OF_123),
+    (Content::FourBytes, b"1234"),
+    (Content::NineBytes, NINE_BYTES),
+];
+
 #[test]
 fn footers_are_written(rt: HostRuntime) {
-    let rows = [
-        (Content::Footer, FOOTER_OF_123),
-        (Content::FourBytes, b"1234"),
-        (Content::NineBytes, NINE_BYTES),
-    ];
-    for (content, want) in rows {
-        assert!(rt; is_written(&rt, rt.alloc(), content, want));
+    for (content, want) in WRITTEN {
+        assert!(rt; is_written(&rt, rt.alloc(), *content, want));
     }
 }
 
@@ -105,15 +106,16 @@ fn assert_read(rt: &impl Abort, alloc: Global, row: Row<'_>) {
     is_file(rt, &body, want);
 }
 
+const READ: &[Row<'static>] = &[
+    (FOOTER_OF_123, b"", 123, true),
+    (NINE_BYTES, b"123456789", 3_421_780_262, true),
+    (OTHER_SPELLING, b"body", 5, false),
+];
+
 #[test]
 fn footers_are_read(rt: HostRuntime) {
-    let rows: [Row<'_>; 3] = [
-        (FOOTER_OF_123, b"", 123, true),
-        (NINE_BYTES, b"123456789", 3_421_780_262, true),
-        (OTHER_SPELLING, b"body", 5, false),
-    ];
-    for row in rows {
-        assert_read(&rt, rt.alloc(), row);
+    for row in READ {
+        assert_read(&rt, rt.alloc(), *row);
     }
 }
 
@@ -126,38 +128,40 @@ fn is_refused(rt: &impl Abort, alloc: Global, bytes: &[u8], want: Want) -> bool 
     )
 }
 
+// Bytes, and the kind and the text of the fault.
+const REFUSED: &[(&[u8], IoKind, &str)] = &[
+    (
+        &[0, 0, 0, 0, 0x39, 0x05, 0],
+        IoKind::UnexpectedEof,
+        "File corrupted. The file is smaller than 8 bytes (len=7).",
+    ),
+    (
+        &[0, 0, 0, 0, 0xb3, 0x15, 0, 0],
+        IoKind::InvalidData,
+        "Footer magic byte mismatch. File corrupted or index was created using old an tantivy version which is not supported anymore. Please use tantivy 0.15 or above to recreate the index.",
+    ),
+    (
+        &[0x64, 0, 0, 0, 0x39, 0x05, 0, 0],
+        IoKind::UnexpectedEof,
+        "File corrupted. The file is smaller than it's footer bytes (len=108).",
+    ),
+    (
+        &[0x51, 0xc3, 0, 0, 0x39, 0x05, 0, 0],
+        IoKind::InvalidData,
+        "Footer seems invalid as it suggests a footer len of 50001. File is corrupted, or the index was created with a different & old version of tantivy.",
+    ),
+    (
+        &[b'{', b'}', 2, 0, 0, 0, 0x39, 0x05, 0, 0],
+        IoKind::InvalidData,
+        "Footer is not of the stated form.",
+    ),
+];
+
 #[test]
 fn refused_footers(rt: HostRuntime) {
-    let rows: [(&[u8], IoKind, &'static str); 5] = [
-        (
-            &[0, 0, 0, 0, 0x39, 0x05, 0],
-            IoKind::UnexpectedEof,
-            "File corrupted. The file is smaller than 8 bytes (len=7).",
-        ),
-        (
-            &[0, 0, 0, 0, 0xb3, 0x15, 0, 0],
-            IoKind::InvalidData,
-            "Footer magic byte mismatch. File corrupted or index was created using old an tantivy version which is not supported anymore. Please use tantivy 0.15 or above to recreate the index.",
-        ),
-        (
-            &[0x64, 0, 0, 0, 0x39, 0x05, 0, 0],
-            IoKind::UnexpectedEof,
-            "File corrupted. The file is smaller than it's footer bytes (len=108).",
-        ),
-        (
-            &[0x51, 0xc3, 0, 0, 0x39, 0x05, 0, 0],
-            IoKind::InvalidData,
-            "Footer seems invalid as it suggests a footer len of 50001. File is corrupted, or the index was created with a different & old version of tantivy.",
-        ),
-        (
-            &[b'{', b'}', 2, 0, 0, 0, 0x39, 0x05, 0, 0],
-            IoKind::InvalidData,
-            "Footer is not of the stated form.",
-        ),
-    ];
-    for (bytes, kind, text) in rows {
+    for (bytes, kind, text) in REFUSED {
         assert!(rt;
-            is_refused(&rt, rt.alloc(), bytes, Want::Fault(kind, text)),
+            is_refused(&rt, rt.alloc(), bytes, Want::Fault(*kind, text)),
             "{text}"
         );
     }

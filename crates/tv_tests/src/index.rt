@@ -34,7 +34,7 @@ enum Becomes {
 }
 
 // Bytes, and what becomes of them where the schema without fields is expected.
-const METAS: [(&str, Becomes); 19] = [
+const METAS: &[(&str, Becomes)] = &[
     ("{", Becomes::Corrupt),
     (FIRST, Becomes::Other),
     // A segment twice, and one of whose three documents four are deleted.
@@ -174,7 +174,7 @@ fn metas_are_read_and_printed(rt: HostRuntime) {
     let a = rt.alloc();
     let none = schema(&rt, a, "[]");
     for (bytes, want) in METAS {
-        is_read_as(&rt, a, bytes.as_bytes(), Some(&none), want);
+        is_read_as(&rt, a, bytes.as_bytes(), Some(&none), *want);
     }
     is_read_as(&rt, a, b"{\"\xff\":1}", Some(&none), Becomes::Corrupt);
     let text = schema(&rt, a, T);
@@ -204,7 +204,7 @@ fn a_meta_without_expected_schema_has_its_own(rt: HostRuntime) {
 }
 
 // Bytes that spell no schema. The numbers of one become one where its blanks are left out.
-const NO_SCHEMAS: [&str; 9] = [
+const NO_SCHEMAS: &[&str] = &[
     "",
     "{}",
     "[1]",

@@ -74,6 +74,9 @@ fn many_ids_are_told_apart(rt: HostRuntime) {
 #[test]
 fn laws_are_called() {
     laws::searchers_keep_their_commit();
+    laws::sound_starts_open_to_sound_states();
+    laws::names_tell_their_segment();
+    laws::ids_are_ordered_by_their_bytes();
     laws::collections_take_what_nothing_needs();
     laws::lines_tell_outcomes();
     laws::reports_determine_runs();

@@ -1,49 +1,12 @@
 //! Times openings and commits: how long each takes for a segment of the commit.
-use crate::segments::{SCHEMA, Store, each, open, percent, segment, with_files};
+use crate::segments::{Store, each, open, percent, segment, start};
 use std::alloc::Global;
 use std::process::ExitCode;
 use std::time::{Clock, Instant};
-use tv_base::TantivyError;
-use tv_directory::{Bench, Directory, NoWatch};
-use tv_index::{IndexSettings, InnerSegmentMeta, Schema, UntrackedIndexMeta};
 use tv_model::{Event, IdList};
 
 // How many segments the commit has.
 const SIZES: [u32; 3] = [1_000, 10_000, 100_000];
-
-// A segment of one document.
-fn meta_of(number: u32) -> InnerSegmentMeta {
-    InnerSegmentMeta {
-        segment_id: segment(number),
-        max_doc: 1,
-        deletes: None,
-    }
-}
-
-// The bytes of `meta.json` with a commit of so many segments.
-fn meta_json(alloc: Global, count: u32) -> Result<Vec<u8>, TantivyError> {
-    let mut segments = Vec::new(alloc);
-    for number in 0..count {
-        segments.push(meta_of(number))?;
-    }
-    let meta = UntrackedIndexMeta {
-        index_settings: IndexSettings::new(),
-        segments,
-        schema: Schema::from_bytes(alloc, SCHEMA.as_bytes())?,
-        opstamp: 1,
-        payload: None,
-    };
-    let mut text = meta.print(alloc)?;
-    text.push(b'\n')?;
-    Ok(text)
-}
-
-// A directory in which an index stands with a commit of so many segments.
-fn start(alloc: Global, count: u32) -> Result<Bench<NoWatch>, TantivyError> {
-    let mut bench = with_files(alloc, count)?;
-    bench.atomic_write("meta.json", meta_json(alloc, count)?.as_slice())?;
-    Ok(bench)
-}
 
 // The commit of all these segments.
 fn commit_all(alloc: Global, count: u32) -> anyhow::Result<Event> {
@@ -70,7 +33,7 @@ fn time_commit(rt: &impl Clock, store: &mut Store, event: &Event) -> anyhow::Res
 
 // How many nanoseconds an opening takes for a segment, and the next commit of the same segments.
 fn nanos(rt: &impl Clock, alloc: Global, count: u32) -> anyhow::Result<(u64, u64)> {
-    let bench = start(alloc, count)?;
+    let bench = start(alloc, count, 1)?;
     let event = commit_all(alloc, count)?;
     let began = Instant::now(rt)?;
     let mut store = open(alloc, bench)?;

@@ -1,13 +1,14 @@
-//! The segments of the indexes that are timed, and their files.
+//! The indexes that are timed: their segments, the files of these, and their commit.
 use std::alloc::Global;
 use tv_base::TantivyError;
 use tv_directory::{Bench, Directory, NoWatch};
+use tv_index::{IndexSettings, InnerSegmentMeta, Schema, UntrackedIndexMeta};
 use tv_managed::Refused;
 use tv_model::{FileName, SegmentComponent, SegmentId, segment_file_name};
-use tv_replay::IndexStore;
+use tv_store::IndexStore;
 
-/// The schema without fields.
-pub(crate) const SCHEMA: &str = "[]";
+// The schema without fields.
+const SCHEMA: &str = "[]";
 
 /// How many files of a segment there are beside that of its deletes.
 pub(crate) const FILES: u32 = 6;
@@ -49,8 +50,8 @@ fn add_files(
     Ok(())
 }
 
-/// A directory with the files of so many segments, which are listed, as `meta.json` is.
-pub(crate) fn with_files(alloc: Global, segments: u32) -> Result<Bench<NoWatch>, TantivyError> {
+// A directory with the files of so many segments, which are listed, as `meta.json` is.
+fn with_files(alloc: Global, segments: u32) -> Result<Bench<NoWatch>, TantivyError> {
     let mut bench = Bench::new(alloc, Vec::new(alloc))?;
     let mut list = Vec::from_slice(alloc, b"[\"meta.json\"")?;
     for number in 0..segments {
@@ -58,6 +59,41 @@ pub(crate) fn with_files(alloc: Global, segments: u32) -> Result<Bench<NoWatch>,
     }
     list.push(b']')?;
     bench.atomic_write(".managed.json", list.as_slice())?;
+    Ok(bench)
+}
+
+// A segment of one document.
+fn meta_of(number: u32) -> InnerSegmentMeta {
+    InnerSegmentMeta {
+        segment_id: segment(number),
+        max_doc: 1,
+        deletes: None,
+    }
+}
+
+// The bytes of `meta.json` with a commit of so many segments, whose numbers are the multiples of `step`.
+fn meta_json(alloc: Global, count: u32, step: u32) -> Result<Vec<u8>, TantivyError> {
+    let mut segments = Vec::new(alloc);
+    for number in 0..count {
+        segments.push(meta_of(number.saturating_mul(step)))?;
+    }
+    let meta = UntrackedIndexMeta {
+        index_settings: IndexSettings::new(),
+        segments,
+        schema: Schema::from_bytes(alloc, SCHEMA.as_bytes())?,
+        opstamp: 1,
+        payload: None,
+    };
+    let mut text = meta.print(alloc)?;
+    text.push(b'\n')?;
+    Ok(text)
+}
+
+/// A directory in which an index stands with a commit of so many segments. Of `step` segments in a row whose files
+/// are there the first one is of the commit.
+pub(crate) fn start(alloc: Global, count: u32, step: u32) -> Result<Bench<NoWatch>, TantivyError> {
+    let mut bench = with_files(alloc, count.saturating_mul(step))?;
+    bench.atomic_write("meta.json", meta_json(alloc, count, step)?.as_slice())?;
     Ok(bench)
 }
 
