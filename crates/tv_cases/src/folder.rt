@@ -1,7 +1,7 @@
 //! The files of cases of a folder.
 use crate::case::Case;
 use crate::reading::cases_of;
-use crate::trying::case_differs;
+use crate::trying::{Trouble, check_case};
 use std::alloc::Global;
 use std::process::ExitCode;
 use std::rt::Files;
@@ -43,16 +43,16 @@ fn push_name(alloc: Global, names: &mut Vec<String>, name: &str) -> anyhow::Resu
 // Tries a case, and prints how it went. Whether it went well.
 fn try_case(rt: &HostRuntime, file: &str, case: &Case) -> anyhow::Result<bool> {
     let name = case.name.as_str();
-    match case_differs(rt.alloc(), case) {
-        Ok(None) => {
+    match check_case(rt.alloc(), case) {
+        Ok(()) => {
             println!(rt; "{file}: {name}: ok")?;
             Ok(true)
         }
-        Ok(Some(differs)) => {
+        Err(Trouble::Differs(differs)) => {
             println!(rt; "{file}:{}: {name}: {}", differs.at, differs.text)?;
             Ok(false)
         }
-        Err(error) => {
+        Err(Trouble::Untried(error)) => {
             println!(rt; "{file}:{}: {name}: not tried: {error}", case.at)?;
             Ok(false)
         }

@@ -1,7 +1,7 @@
 //! Cases that are tried, and what differs between what they say and what came.
 use crate::case::{Case, Form, Left, Locks, Piece, Run, Wanted, Wish};
 use crate::running::{CaseBench, Manner, Seen, empty, observe, read};
-use std::alloc::Global;
+use std::alloc::{AllocError, Global};
 
 // `refuse each` tries no more calls.
 const MOST_CALLS: u64 = 10_000;
@@ -10,126 +10,122 @@ const MOST_CALLS: u64 = 10_000;
 // much, and so on: the runs before it make fewer calls.
 const STEP: u64 = 1_000;
 
-// Where the numbers that came of a run differ.
-fn numbers_differ(
-    alloc: Global,
-    wanted: &Wanted,
-    seen: &Seen,
-) -> anyhow::Result<Option<Difference>> {
+/// The line of the file that wants something else, what it wants, and what was found.
+#[derive(Drop)]
+pub(crate) struct Difference {
+    pub(crate) at: usize,
+    pub(crate) text: String,
+}
+
+/// Why a case didn't go as it says.
+#[derive(Drop)]
+pub(crate) enum Trouble {
+    /// Something else came of it.
+    Differs(Difference),
+    /// It couldn't be tried.
+    Untried(anyhow::Error),
+}
+
+impl From<anyhow::Error> for Trouble {
+    fn from(error: anyhow::Error) -> Trouble {
+        Trouble::Untried(error)
+    }
+}
+
+impl From<AllocError> for Trouble {
+    fn from(error: AllocError) -> Trouble {
+        Trouble::Untried(anyhow::Error::from(error))
+    }
+}
+
+/// Whether all is as a case says.
+pub(crate) type Checked = Result<(), Trouble>;
+
+// Something differs, where there was memory to say what.
+fn differs(difference: anyhow::Result<Difference>) -> Checked {
+    Err(Trouble::Differs(difference?))
+}
+
+// The numbers that came of a run.
+fn check_numbers(alloc: Global, wanted: &Wanted, seen: &Seen) -> Checked {
     for (what, wish, found) in [
         ("status", wanted.status, u64::from(seen.status)),
         ("faults", wanted.faults, seen.faults),
         ("refusals", wanted.refusals, seen.refusals),
         ("asked", wanted.asked, seen.asked as u64),
     ] {
-        let differs = number_differs(alloc, what, wish, found)?;
-        if differs.is_some() {
-            return Ok(differs);
-        }
+        check_number(alloc, what, wish, found)?;
     }
-    Ok(None)
+    Ok(())
 }
 
-// Where what was told or said differs.
-fn talk_differs(
-    alloc: Global,
-    at: usize,
-    told: &[Piece],
-    wanted: &Wanted,
-    seen: &Seen,
-) -> anyhow::Result<Option<Difference>> {
-    let differs = pieces_differ(alloc, at, "told", told, seen.told.as_slice())?;
-    if differs.is_some() {
-        return Ok(differs);
-    }
+// What was told and said.
+fn check_talk(alloc: Global, at: usize, told: &[Piece], wanted: &Wanted, seen: &Seen) -> Checked {
+    check_pieces(alloc, at, "told", told, seen.told.as_slice())?;
     let said = wanted.said.as_slice();
-    pieces_differ(alloc, at, "said", said, seen.said.as_slice())
+    check_pieces(alloc, at, "said", said, seen.said.as_slice())
 }
 
-// Where a file that is left differs.
-fn file_differs(
-    alloc: Global,
-    left: &Left,
-    found: Option<&[u8]>,
-) -> anyhow::Result<Option<Difference>> {
-    let name = left.name.as_str();
+// What is under a name.
+fn check_file(alloc: Global, left: &Left, found: Option<&[u8]>) -> Checked {
     match (&left.form, found) {
-        (Form::Absent, None) => Ok(None),
-        (Form::Absent, Some(_)) => {
-            Ok(Some(file_unlike(alloc, left.at, name, "no file", found)?))
+        (Form::Absent, None) => Ok(()),
+        (Form::Absent, Some(_)) => is_unlike(alloc, left, "no file", found),
+        (Form::Reads(want), Some(found)) => check_bytes(alloc, left, want.as_slice(), found),
+        (Form::Like { text, parts }, Some(found)) => {
+            check_form(alloc, left, text.as_str(), parts.as_slice(), found)
         }
-        (Form::Reads(want), Some(found)) => {
-            reads_differ(alloc, left.at, name, want.as_slice(), found)
-        }
-        (Form::Like { parts, .. }, Some(found)) if is_like(parts.as_slice(), found) => Ok(None),
-        (Form::Like { text, .. }, Some(_)) => {
-            let want = format!(in alloc; "a file like {text}")?;
-            Ok(Some(file_unlike(alloc, left.at, name, want.as_str(), found)?))
-        }
-        (_, None) => Ok(Some(file_unlike(alloc, left.at, name, "a file", found)?)),
+        (_, None) => is_unlike(alloc, left, "a file", found),
     }
 }
 
-// Where the bytes of a file differ.
-fn reads_differ(
-    alloc: Global,
-    at: usize,
-    name: &str,
-    want: &[u8],
-    found: &[u8],
-) -> anyhow::Result<Option<Difference>> {
+// A file isn't as it should be, or isn't there, or mustn't be.
+fn is_unlike(alloc: Global, left: &Left, wanted: &str, found: Option<&[u8]>) -> Checked {
+    differs(file_unlike(alloc, left.at, left.name.as_str(), wanted, found))
+}
+
+// The bytes of a file.
+fn check_bytes(alloc: Global, left: &Left, want: &[u8], found: &[u8]) -> Checked {
     if want == found {
-        return Ok(None);
+        return Ok(());
     }
-    Ok(Some(unlike(alloc, at, name, want, found)?))
+    differs(unlike(alloc, left.at, left.name.as_str(), want, found))
 }
 
-// Where the files that are left differ.
-fn files_differ(
-    alloc: Global,
-    bench: &mut CaseBench,
-    left: &[Left],
-) -> anyhow::Result<Option<Difference>> {
+// The form of a file, which the case writes as this text.
+fn check_form(alloc: Global, left: &Left, text: &str, parts: &[Vec<u8>], found: &[u8]) -> Checked {
+    if is_like(parts, found) {
+        return Ok(());
+    }
+    let want = format!(in alloc; "a file like {text}")?;
+    is_unlike(alloc, left, want.as_str(), Some(found))
+}
+
+// What is under the name after a run.
+fn check_name(alloc: Global, bench: &mut CaseBench, left: &Left) -> Checked {
+    let found = read(bench, left.name.as_str())?;
+    check_file(alloc, left, found.as_deref())
+}
+
+// The files that are left.
+fn check_files(alloc: Global, bench: &mut CaseBench, left: &[Left]) -> Checked {
     for file in left {
-        let found = read(bench, file.name.as_str())?;
-        let differs = file_differs(alloc, file, found.as_deref())?;
-        if differs.is_some() {
-            return Ok(differs);
-        }
+        check_name(alloc, bench, file)?;
     }
-    Ok(None)
+    Ok(())
 }
 
-// Where what was answered, told and held after a run differs.
-fn answers_differ(alloc: Global, run: &Run, seen: &Seen) -> anyhow::Result<Option<Difference>> {
+// All that came of a run.
+fn check_run(alloc: Global, bench: &mut CaseBench, run: &Run, seen: &Seen) -> Checked {
     let wanted = &run.wanted;
-    let differs = talk_differs(alloc, run.at, wanted.told.as_slice(), wanted, seen)?;
-    if differs.is_some() {
-        return Ok(differs);
-    }
-    let differs = numbers_differ(alloc, wanted, seen)?;
-    if differs.is_some() {
-        return Ok(differs);
-    }
-    locks_differ(alloc, wanted.held_at, wanted.held, seen.held)
-}
-
-// Where a run differs.
-fn run_differs(
-    alloc: Global,
-    bench: &mut CaseBench,
-    run: &Run,
-    seen: &Seen,
-) -> anyhow::Result<Option<Difference>> {
-    let differs = answers_differ(alloc, run, seen)?;
-    if differs.is_some() {
-        return Ok(differs);
-    }
-    files_differ(alloc, bench, run.wanted.left.as_slice())
+    check_talk(alloc, run.at, wanted.told.as_slice(), wanted, seen)?;
+    check_numbers(alloc, wanted, seen)?;
+    check_locks(alloc, wanted.held_at, wanted.held, seen.held)?;
+    check_files(alloc, bench, wanted.left.as_slice())
 }
 
 // Makes the runs one after the other over one directory.
-fn runs_differ(alloc: Global, runs: &[Run], piece: usize) -> anyhow::Result<Option<Difference>> {
+fn check_runs(alloc: Global, runs: &[Run], piece: usize) -> Checked {
     let mut bench = empty(alloc)?;
     let mut mark = 0u64;
     for run in runs {
@@ -140,36 +136,22 @@ fn runs_differ(alloc: Global, runs: &[Run], piece: usize) -> anyhow::Result<Opti
             refuse,
             piece,
         };
-        let (differs, after) = try_run(alloc, bench, run, manner)?;
-        if differs.is_some() {
-            return Ok(differs);
-        }
-        bench = after;
+        bench = try_run(alloc, bench, run, manner)?;
     }
-    Ok(None)
+    Ok(())
 }
 
-// Makes a run over a directory, which is handed back. Where it differs.
+// Makes a run over a directory, which is handed back.
 fn try_run(
     alloc: Global,
     bench: CaseBench,
     run: &Run,
     manner: Manner,
-) -> anyhow::Result<(Option<Difference>, CaseBench)> {
+) -> Result<CaseBench, Trouble> {
     let (seen, bench) = observe(alloc, bench, &run.given, manner)?;
-    compare(alloc, bench, run, &seen)
-}
-
-// Where a run differs, and the directory.
-fn compare(
-    alloc: Global,
-    bench: CaseBench,
-    run: &Run,
-    seen: &Seen,
-) -> anyhow::Result<(Option<Difference>, CaseBench)> {
     let mut bench = bench;
-    let differs = run_differs(alloc, &mut bench, run, seen)?;
-    Ok((differs, bench))
+    check_run(alloc, &mut bench, run, &seen)?;
+    Ok(bench)
 }
 
 // All that these pieces tell.
@@ -192,109 +174,98 @@ fn is_cut_off(report: &[u8], seen: &Seen) -> bool {
     is_told && report.starts_with(begun)
 }
 
-// Where a run differs one of whose calls, which wasn't a delete, was refused: it ends the run.
-fn ended_differs(alloc: Global, run: &Run, seen: &Seen) -> anyhow::Result<Option<Difference>> {
+// A run one of whose calls, which wasn't a delete, was refused: it ends the run.
+fn check_ended(alloc: Global, run: &Run, seen: &Seen) -> Checked {
     let report = whole(alloc, run.wanted.told.as_slice())?;
     if seen.status == 1 && is_cut_off(report.as_slice(), seen) {
-        return locks_differ(alloc, run.wanted.held_at, run.wanted.held, seen.held);
+        return check_locks(alloc, run.wanted.held_at, run.wanted.held, seen.held);
     }
     let want = "a part of what is told, then error io, and status 1";
-    let at = run.at;
-    Ok(Some(file_unlike(alloc, at, "a run", want, Some(seen.told.as_slice()))?))
+    let told = Some(seen.told.as_slice());
+    differs(file_unlike(alloc, run.at, "a run", want, told))
 }
 
-// Where a run differs one of whose deletes was refused: that is told.
-fn refused_differs(alloc: Global, run: &Run, seen: &Seen) -> anyhow::Result<Option<Difference>> {
+// A run one of whose deletes was refused: that is told.
+fn check_refused(alloc: Global, run: &Run, seen: &Seen) -> Checked {
     let wanted = &run.wanted;
-    let differs = talk_differs(alloc, run.at, wanted.otherwise.as_slice(), wanted, seen)?;
-    if differs.is_some() {
-        return Ok(differs);
+    check_talk(alloc, run.at, wanted.otherwise.as_slice(), wanted, seen)?;
+    check_number(alloc, "status", wanted.status, u64::from(seen.status))?;
+    check_locks(alloc, wanted.held_at, wanted.held, seen.held)
+}
+
+// The same, with what was refused before the difference.
+fn where_refused(alloc: Global, refused: &str, checked: Checked) -> Checked {
+    match checked {
+        Err(Trouble::Differs(difference)) => differs(with_refused(alloc, refused, &difference)),
+        other => other,
     }
-    let differs = number_differs(alloc, "status", wanted.status, u64::from(seen.status))?;
-    if differs.is_some() {
-        return Ok(differs);
-    }
-    locks_differ(alloc, wanted.held_at, wanted.held, seen.held)
 }
 
 // The difference, with what was refused before it.
-fn where_refused(
+fn with_refused(
     alloc: Global,
     refused: &str,
-    differs: Option<Difference>,
-) -> anyhow::Result<Option<Difference>> {
-    let Some(difference) = differs else {
-        return Ok(None);
-    };
+    difference: &Difference,
+) -> anyhow::Result<Difference> {
     let text = format!(in alloc; "where a {refused} is refused: {}", difference.text)?;
     let at = difference.at;
-    Ok(Some(Difference { at, text }))
+    Ok(Difference { at, text })
 }
 
-// Where a run differs one of whose calls was refused.
-fn one_differs(alloc: Global, run: &Run, seen: &Seen) -> anyhow::Result<Option<Difference>> {
+// A run one of whose calls was refused.
+fn check_one(alloc: Global, run: &Run, seen: &Seen) -> Checked {
     if seen.faults == 0 {
-        let differs = refused_differs(alloc, run, seen)?;
-        where_refused(alloc, "delete", differs)
+        where_refused(alloc, "delete", check_refused(alloc, run, seen))
     } else {
-        let differs = ended_differs(alloc, run, seen)?;
-        where_refused(alloc, "call", differs)
+        where_refused(alloc, "call", check_ended(alloc, run, seen))
     }
+}
+
+// Makes a run one of whose calls is refused, where it makes as many. Whether it does.
+fn try_one(alloc: Global, run: &Run, piece: usize, call: u64) -> Result<bool, Trouble> {
+    let manner = Manner {
+        mark: STEP,
+        refuse: &[call],
+        piece,
+    };
+    let (seen, bench) = observe(alloc, empty(alloc)?, &run.given, manner)?;
+    if seen.faults == 0 && seen.refusals == 0 {
+        let mut bench = bench;
+        check_run(alloc, &mut bench, run, &seen)?;
+        return Ok(false);
+    }
+    check_one(alloc, run, &seen)?;
+    Ok(true)
 }
 
 // Makes a run once for each call that the device refuses, until none is.
-fn each_differs(alloc: Global, run: &Run, piece: usize) -> anyhow::Result<Option<Difference>> {
+fn check_each(alloc: Global, run: &Run, piece: usize) -> Checked {
     for call in 0..MOST_CALLS {
-        let manner = Manner {
-            mark: STEP,
-            refuse: &[call],
-            piece,
-        };
-        let (seen, bench) = observe(alloc, empty(alloc)?, &run.given, manner)?;
-        if seen.faults == 0 && seen.refusals == 0 {
-            let mut bench = bench;
-            return run_differs(alloc, &mut bench, run, &seen);
-        }
-        let differs = one_differs(alloc, run, &seen)?;
-        if differs.is_some() {
-            return Ok(differs);
+        if !try_one(alloc, run, piece, call)? {
+            return Ok(());
         }
     }
-    anyhow::bail!("a run has too many calls")
+    Err(Trouble::Untried(anyhow::anyhow!("a run has too many calls")))
 }
 
-// Where a case differs, whose script comes in pieces of this length.
-fn with_piece_differs(
-    alloc: Global,
-    case: &Case,
-    piece: usize,
-) -> anyhow::Result<Option<Difference>> {
+// A case whose script comes in pieces of this length.
+fn check_with(alloc: Global, case: &Case, piece: usize) -> Checked {
     match case.runs.first() {
-        Some(run) if case.refuses_each => each_differs(alloc, run, piece),
-        _ => runs_differ(alloc, case.runs.as_slice(), piece),
+        Some(run) if case.refuses_each => check_each(alloc, run, piece),
+        _ => check_runs(alloc, case.runs.as_slice(), piece),
     }
 }
 
-/// Where a case differs.
-pub(crate) fn case_differs(alloc: Global, case: &Case) -> anyhow::Result<Option<Difference>> {
+/// Tries a case.
+pub(crate) fn check_case(alloc: Global, case: &Case) -> Checked {
     if case.pieces.is_empty() {
-        return with_piece_differs(alloc, case, usize::MAX);
+        return check_with(alloc, case, usize::MAX);
     }
     for piece in case.pieces.iter() {
         let piece = usize::try_from(*piece).unwrap_or(usize::MAX);
-        let differs = with_piece_differs(alloc, case, piece)?;
-        if differs.is_some() {
-            return Ok(differs);
-        }
+        check_with(alloc, case, piece)?;
     }
-    Ok(None)
-}
-
-/// The line of the file that wants something else, what it wants, and what was found.
-#[derive(Drop)]
-pub(crate) struct Difference {
-    pub(crate) at: usize,
-    pub(crate) text: String,
+    Ok(())
 }
 
 // How many bytes of a text are shown.
@@ -368,43 +339,32 @@ fn unlike(
     Ok(Difference { at, text })
 }
 
-// Where what was told or said differs from these pieces.
-fn pieces_differ(
-    alloc: Global,
-    at: usize,
-    what: &str,
-    wanted: &[Piece],
-    found: &[u8],
-) -> anyhow::Result<Option<Difference>> {
+// What was told or said, which are to be these pieces.
+fn check_pieces(alloc: Global, at: usize, what: &str, wanted: &[Piece], found: &[u8]) -> Checked {
     let mut rest = found;
     let mut last = at;
     for piece in wanted {
         let text = piece.text.as_slice();
         let Some(after) = rest.strip_prefix(text) else {
-            return Ok(Some(unlike(alloc, piece.at, what, text, first_line(rest))?));
+            return differs(unlike(alloc, piece.at, what, text, first_line(rest)));
         };
         rest = after;
         last = piece.at;
     }
     if rest.is_empty() {
-        return Ok(None);
+        return Ok(());
     }
-    Ok(Some(unlike(alloc, last, what, b"", first_line(rest))?))
+    differs(unlike(alloc, last, what, b"", first_line(rest)))
 }
 
-// Where a number differs.
-fn number_differs(
-    alloc: Global,
-    what: &str,
-    wish: Wish,
-    found: u64,
-) -> anyhow::Result<Option<Difference>> {
+// A number that came of a run.
+fn check_number(alloc: Global, what: &str, wish: Wish, found: u64) -> Checked {
     let wanted = wish.number.unwrap_or(found);
     if wanted == found {
-        return Ok(None);
+        return Ok(());
     }
     let text = format!(in alloc; "{what}: wants {wanted}, found {found}")?;
-    Ok(Some(Difference { at: wish.at, text }))
+    Err(Trouble::Differs(Difference { at: wish.at, text }))
 }
 
 // These locks, in words.
@@ -417,20 +377,15 @@ fn locks_text(locks: Locks) -> &'static str {
     }
 }
 
-// Where the locks that are held differ.
-fn locks_differ(
-    alloc: Global,
-    at: usize,
-    wanted: Locks,
-    found: Locks,
-) -> anyhow::Result<Option<Difference>> {
+// The locks that are held.
+fn check_locks(alloc: Global, at: usize, wanted: Locks, found: Locks) -> Checked {
     if wanted == found {
-        return Ok(None);
+        return Ok(());
     }
     let wants = locks_text(wanted);
     let has = locks_text(found);
     let text = format!(in alloc; "held: wants {wants}, found {has}")?;
-    Ok(Some(Difference { at, text }))
+    Err(Trouble::Differs(Difference { at, text }))
 }
 
 // A file is like these parts, or isn't there, or mustn't be.

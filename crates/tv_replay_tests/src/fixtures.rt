@@ -2,12 +2,19 @@
 ghost use Rattle.std.specs.Prelude.{◌≡◌, None};
 
 use std::alloc::Global;
+use std::fs::File;
 use std::process::Abort;
-use tv_base::{Memory, TextSource};
-use tv_directory::{Bench, NoWatch, Outside};
+use std::rt::Files;
+use std::{fs, io};
+use tv_base::{Memory, TextSource, VecSink};
+use tv_directory::{Bench, Desk, NoWatch, Outside};
+use tv_files::MmapDirectory;
 use tv_replay::BenchPlace;
 
 pub(crate) type TestBench = Bench<NoWatch>;
+
+/// The directory of a folder, with a sink for its lines.
+pub(crate) type FolderDesk<R> = Desk<MmapDirectory<R, NoWatch>, VecSink>;
 
 /// A directory that shows what it was told.
 pub(crate) trait Shows: Outside + Drop {
@@ -45,9 +52,18 @@ pub(crate) fn source<R: Abort>(rt: &R, alloc: Global, text: &str) -> TextSource 
     TextSource::new(bytes_of(rt, alloc, text), Vec::new(alloc))
 }
 
-/// A copy of a text.
-pub(crate) fn owned<R: Abort>(rt: &R, alloc: Global, text: &str) -> String {
+// A copy of a text.
+fn owned<R: Abort>(rt: &R, alloc: Global, text: &str) -> String {
     String::from_str(alloc, text).expect(rt, "memory")
+}
+
+/// Copies of these texts.
+pub(crate) fn all_owned<R: Abort>(rt: &R, alloc: Global, texts: &[&str]) -> Vec<String> {
+    let mut all = Vec::new(alloc);
+    for text in texts {
+        all.push(owned(rt, alloc, text)).expect(rt, "memory");
+    }
+    all
 }
 
 // These texts, each under its path.
@@ -74,4 +90,49 @@ pub(crate) fn place<R: Abort, O: Outside + Drop>(
     let schemas = under_paths(rt, alloc, &schemas);
     let scripts = under_paths(rt, alloc, &[("a.json", "managed\n")]);
     BenchPlace::new(alloc, schemas, scripts, outside, room).expect(rt, "memory")
+}
+
+// Makes a folder of this path without files. What an earlier run left there goes.
+fn make_anew<R: Files>(rt: &R, alloc: Global, path: &str) -> io::Result<()> {
+    if fs::exists(rt, path)? {
+        rt.remove_dir_all(alloc, path)?;
+    }
+    fs::create_dir(rt, path)
+}
+
+/// Makes a folder of this path without files.
+pub(crate) fn make_folder<R: Files + Abort>(rt: &R, alloc: Global, path: &str) {
+    make_anew(rt, alloc, path).expect(rt, "a new folder");
+}
+
+pub(crate) fn remove_folder<R: Files + Alloc + Abort>(rt: &R, path: &str) {
+    fs::remove_dir_all(rt, path).expect(rt, "removed");
+}
+
+/// Another handle.
+pub(crate) fn handle<R: Clone + Abort>(rt: &R) -> R {
+    rt.clone().expect(rt, "memory")
+}
+
+// The directory of a folder, which nobody watches.
+fn folder<R: Files<File = File> + Clone + Drop + Abort>(
+    rt: &R,
+    alloc: Global,
+    path: &str,
+) -> MmapDirectory<R, NoWatch> {
+    MmapDirectory::open(handle(rt), alloc, path).expect(rt, "a folder")
+}
+
+// A sink for a few lines.
+fn sink<R: Abort>(rt: &R, alloc: Global) -> VecSink {
+    VecSink::new(alloc, 4096).expect(rt, "memory")
+}
+
+/// The directory of a folder, whose lines a sink takes.
+pub(crate) fn folder_desk<R: Files<File = File> + Clone + Drop + Abort>(
+    rt: &R,
+    alloc: Global,
+    path: &str,
+) -> FolderDesk<R> {
+    Desk::new(alloc, folder(rt, alloc, path), sink(rt, alloc))
 }

@@ -1,13 +1,14 @@
 //! The example, replayed over a folder of the file system.
+ghost use Rattle.std.specs.Prelude.{◌≡◌, None};
 
-use crate::fixtures::{are_bytes, owned, source};
+use crate::fixtures::{
+    all_owned, are_bytes, folder_desk, handle, make_folder, remove_folder, source,
+};
 use std::alloc::Global;
 use std::fs::{self, File};
 use std::process::Abort;
 use std::rt::Files;
-use tv_base::{Source, TantivyError, VecSink};
-use tv_directory::{Desk, Directory, NoWatch};
-use tv_files::MmapDirectory;
+use tv_base::Source;
 use tv_replay::{FolderPlace, Place, Replayed, replay, run};
 
 const SCHEMA: &str = "[{\"name\":\"text\",\"type\":\"text\"}]";
@@ -53,59 +54,73 @@ const MANAGED: &str = "open 1 1
 managed a5c4dfcbdfe645089129e308e26d5523.fast a5c4dfcbdfe645089129e308e26d5523.fieldnorm a5c4dfcbdfe645089129e308e26d5523.idx a5c4dfcbdfe645089129e308e26d5523.pos a5c4dfcbdfe645089129e308e26d5523.store a5c4dfcbdfe645089129e308e26d5523.term meta.json
 ";
 
-// Replays a script over the folder: what was told.
-fn told<R: Files<File = File> + Clone + Drop + Abort>(
+// Scripts, one after the other, and what is told of each.
+const SCRIPTS: &[(&str, &str)] = &[(SCRIPT, TOLD), ("managed\n", MANAGED)];
+
+// Replays a script over the folder, and looks at what was told.
+fn is_told<R: Files<File = File> + Clone + Drop + Abort>(
     rt: &R,
     alloc: Global,
     script: &str,
-) -> Result<VecSink, TantivyError> {
-    let directory: MmapDirectory<R, NoWatch> = MmapDirectory::open(rt.clone()?, alloc, "replayed")?;
-    let desk = Desk::new(alloc, directory, VecSink::new(alloc, 4096)?);
+    want: &str,
+) {
+    let desk = folder_desk(rt, alloc, "replayed");
     let mut script = source(rt, alloc, script);
     let Replayed { outside, outcome } = replay(alloc, desk, SCHEMA.as_bytes(), &mut script);
     let (_directory, sink) = outside.split();
-    let _tally = outcome?;
-    Ok(sink)
+    outcome.expect(rt, "replayed");
+    are_bytes(rt, sink.as_slice(), want);
 }
 
 // Runs the program over the folder, with a script of no lines, and the schema of a file.
 fn status<R: Files<File = File> + Print + Clone + Drop + Abort>(rt: &R, alloc: Global) -> u8 {
-    let mut words = Vec::new(alloc);
-    for word in ["replay", "replayed", "replayed.json"] {
-        words.push(owned(rt, alloc, word)).expect(rt, "memory");
-    }
-    let handle = rt.clone().expect(rt, "memory");
-    let mut place = FolderPlace::new(handle, alloc).expect(rt, "memory");
+    let words = all_owned(rt, alloc, &["replay", "replayed", "replayed.json"]);
+    let mut place = place(rt, alloc);
     let mut script = source(rt, alloc, "");
     run(alloc, words.as_slice(), &mut place, &mut script)
 }
 
-// Reads a script of the file system, and gives it back.
-fn reads_script<R: Files<File = File> + Print + Clone + Drop + Abort>(rt: &R, alloc: Global) {
-    let handle = rt.clone().expect(rt, "memory");
-    let mut place = FolderPlace::new(handle, alloc).expect(rt, "memory");
-    let mut script = place.script("replayed.json").expect(rt, "a script");
+// The folders of the file system.
+fn place<R: Files<File = File> + Print + Clone + Drop + Abort>(
+    rt: &R,
+    alloc: Global,
+) -> FolderPlace<R>
+    ensures { result.lent ≡ None }
+{
+    FolderPlace::new(handle(rt), alloc).expect(rt, "memory")
+}
+
+// Whether a script has the text of the schema.
+fn reads_schema<R: Abort, S: Source>(rt: &R, script: &mut S) -> bool {
     let mut bytes = [0; 64];
     let len = script.read(&mut bytes).expect(rt, "read");
-    assert!(rt; bytes.get(..len) == Some(SCHEMA.as_bytes()));
+    bytes.get(..len) == Some(SCHEMA.as_bytes())
+}
+
+// Reads a script of the file system, and gives it back.
+fn reads_script<R: Files<File = File> + Print + Clone + Drop + Abort>(rt: &R, alloc: Global) {
+    let mut place = place(rt, alloc);
+    let mut script = place.script("replayed.json").expect(rt, "a script");
+    assert!(rt; reads_schema(rt, &mut script));
     place.end_script(script);
+}
+
+// How long the first file of the segment is.
+fn length<R: Files<File = File> + Alloc + Abort>(rt: &R) -> usize {
+    let file = fs::read(rt, "replayed/a5c4dfcbdfe645089129e308e26d5523.idx").expect(rt, "read");
+    file.len()
 }
 
 #[test]
 fn the_example_is_replayed_over_a_folder(rt: HostRuntime) {
-    if fs::exists(&rt, "replayed").expect(&rt, "asked") {
-        fs::remove_dir_all(&rt, "replayed").expect(&rt, "removed");
-    }
-    fs::create_dir(&rt, "replayed").expect(&rt, "a new folder");
+    make_folder(&rt, rt.alloc(), "replayed");
     fs::write(&rt, "replayed.json", SCHEMA.as_bytes()).expect(&rt, "a schema");
-    for (script, want) in [(SCRIPT, TOLD), ("managed\n", MANAGED)] {
-        let sink = told(&rt, rt.alloc(), script).expect(&rt, "replayed");
-        are_bytes(&rt, sink.as_slice(), want);
+    for (script, want) in SCRIPTS {
+        is_told(&rt, rt.alloc(), script, want);
     }
-    assert!(&rt; status(&rt, rt.alloc()) == 0);
+    assert!(rt; status(&rt, rt.alloc()) == 0);
     reads_script(&rt, rt.alloc());
-    let file = fs::read(&rt, "replayed/a5c4dfcbdfe645089129e308e26d5523.idx").expect(&rt, "read");
-    assert!(&rt; file.len() == 103);
-    fs::remove_dir_all(&rt, "replayed").expect(&rt, "removed");
+    assert!(rt; length(&rt) == 103);
+    remove_folder(&rt, "replayed");
     fs::remove_file(&rt, "replayed.json").expect(&rt, "removed");
 }

@@ -20,7 +20,7 @@ use Call::{Lend, Say, Schema, Script};
 
 // Calls of a place to which ten bytes can be said, and what each gives: the bytes of a schema or of a script, all
 // that was told to what was lent, or nothing more. None stands for a refusal.
-const CALLS: [(Call, Option<&str>); 14] = [
+const CALLS: &[(Call, Option<&str>)] = &[
     (Schema("a.json"), Some("[]")),
     (Schema("b.json"), Some("{}")),
     (Schema("c.json"), None),
@@ -125,7 +125,7 @@ fn answer_all<R: Abort, O: Shows>(rt: &R, place: &mut BenchPlace<O>)
     ensures { place.new.lent ≡ None }
 {
     for (call, want) in CALLS {
-        assert!(rt; answer(rt, place, call, want), "at {call:?}");
+        assert!(rt; answer(rt, place, *call, *want), "at {call:?}");
     }
 }
 

@@ -19,21 +19,27 @@ fn assert_replay<R: Abort, O: Shows>(
     has_heard(rt, &outside, want);
 }
 
+// A script, how many events it has, and what is told of it.
+const SCRIPTS: &[(&str, u32, &str)] = &[
+    ("", 0, "open 0 0\n"),
+    (
+        "managed\ncommit -\n",
+        2,
+        "open 0 0\nmanaged meta.json\ncommit 1 0\n",
+    ),
+    // A refused event counts, and so does a line without a line feed.
+    (
+        "gc\nreload 0",
+        2,
+        "open 0 0\ngc deleted failed\nrefused unknown-reader\n",
+    ),
+];
+
 #[test]
 fn a_replay_counts_its_lines(rt: HostRuntime) {
-    for (text, want) in [
-        ("", (0, "open 0 0\n")),
-        (
-            "managed\ncommit -\n",
-            (2, "open 0 0\nmanaged meta.json\ncommit 1 0\n"),
-        ),
-        // A refused event counts, and so does a line without a line feed.
-        (
-            "gc\nreload 0",
-            (2, "open 0 0\ngc deleted failed\nrefused unknown-reader\n"),
-        ),
-    ] {
-        assert_replay(&rt, rt.alloc(), empty_bench(&rt, rt.alloc()), text, want);
+    let a = rt.alloc();
+    for (text, events, told) in SCRIPTS {
+        assert_replay(&rt, a, empty_bench(&rt, a), text, (*events, told));
     }
 }
 
@@ -85,10 +91,12 @@ release segment 00000000000000000000000000000000
 gc
 ";
 
+const GENERATED: &[(u32, &str)] = &[(0, ""), (2, TWO_COMMITS)];
+
 #[test]
 fn a_script_is_generated(rt: HostRuntime) {
-    for (n, want) in [(0, ""), (2, TWO_COMMITS)] {
-        let script = generate(rt.alloc(), n).expect(&rt, "memory");
+    for (n, want) in GENERATED {
+        let script = generate(rt.alloc(), *n).expect(&rt, "memory");
         are_bytes(&rt, script.as_slice(), want);
     }
 }

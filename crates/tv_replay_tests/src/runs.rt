@@ -1,7 +1,7 @@
 //! Runs in a place to which little can be said.
 ghost use Rattle.std.specs.Prelude.{◌≡◌, None};
 
-use crate::fixtures::{are_bytes, empty_bench, owned, place, source};
+use crate::fixtures::{all_owned, are_bytes, empty_bench, place, source};
 use std::alloc::Global;
 use std::process::Abort;
 use tv_base::TextSource;
@@ -10,15 +10,6 @@ use tv_replay::{BenchPlace, run};
 
 const USAGE: &str =
     "usage: tv replay FOLDER SCHEMA | space FOLDER SCHEMA | generate N | race FOLDER SCHEMA HANDLES SCRIPT..\n";
-
-// The words of a command line.
-fn all_owned<R: Abort>(rt: &R, alloc: Global, words: &[&str]) -> Vec<String> {
-    let mut all = Vec::new(alloc);
-    for word in words {
-        all.push(owned(rt, alloc, word)).expect(rt, "memory");
-    }
-    all
-}
 
 // Runs the words in this place: the status, and what was said.
 fn run_in<O: Outside + Drop>(
@@ -49,50 +40,63 @@ fn found<R: Abort, O: Outside + Drop>(
     run_in(alloc, place, words.as_slice(), &mut script)
 }
 
+const ABSENT: &[&str] = &["replay", "F", "absent.json"];
+
+// The words of a run, for how many bytes there is room, the status, and what is said.
+const RUNS: &[(&[&str], usize, u8, &str)] = &[
+    (&[], 104, 2, USAGE),
+    (&[], 103, 2, ""),
+    (ABSENT, 9, 1, "error io\n"),
+    (ABSENT, 8, 1, ""),
+    (
+        &["generate", "0"],
+        104,
+        0,
+        "events 0 stamp 0 files 1 collected 0\n",
+    ),
+    (
+        &["generate", "1"],
+        104,
+        0,
+        "events 22 stamp 1 files 7 collected 0\n",
+    ),
+    (
+        &["generate", "2"],
+        104,
+        0,
+        "events 45 stamp 2 files 13 collected 0\n",
+    ),
+    (
+        &["generate", "1000"],
+        51,
+        0,
+        "events 22999 stamp 1000 files 13 collected 5988\n",
+    ),
+    (&["generate", "0"], 36, 1, "error io\n"),
+    (&["generate", "0"], 8, 1, ""),
+    (&["generate", "1001"], 104, 2, USAGE),
+    (&["generate", "03"], 104, 2, USAGE),
+    (&["generate", "+3"], 104, 2, USAGE),
+    (&["generate"], 104, 2, USAGE),
+    (&["generate", "3", "3"], 104, 2, USAGE),
+];
+
+// Looks at the status of a run, and at what was said.
+fn assert_run<R: Abort>(
+    rt: &R,
+    alloc: Global,
+    words: &[&str],
+    room: usize,
+    (want, line): (u8, &str),
+) {
+    let (status, said) = found(rt, alloc, empty_bench(rt, alloc), words, room);
+    assert!(rt; status == want, "at {words:?} and {room}");
+    are_bytes(rt, said.as_slice(), line);
+}
+
 #[test]
 fn a_run_says_what_there_is_room_for(rt: HostRuntime) {
-    let absent = ["replay", "F", "absent.json"];
-    let rows: [(&[&str], usize, u8, &str); 15] = [
-        (&[], 104, 2, USAGE),
-        (&[], 103, 2, ""),
-        (&absent, 9, 1, "error io\n"),
-        (&absent, 8, 1, ""),
-        (
-            &["generate", "0"],
-            104,
-            0,
-            "events 0 stamp 0 files 1 collected 0\n",
-        ),
-        (
-            &["generate", "1"],
-            104,
-            0,
-            "events 22 stamp 1 files 7 collected 0\n",
-        ),
-        (
-            &["generate", "2"],
-            104,
-            0,
-            "events 45 stamp 2 files 13 collected 0\n",
-        ),
-        (
-            &["generate", "1000"],
-            51,
-            0,
-            "events 22999 stamp 1000 files 13 collected 5988\n",
-        ),
-        (&["generate", "0"], 36, 1, "error io\n"),
-        (&["generate", "0"], 8, 1, ""),
-        (&["generate", "1001"], 104, 2, USAGE),
-        (&["generate", "03"], 104, 2, USAGE),
-        (&["generate", "+3"], 104, 2, USAGE),
-        (&["generate"], 104, 2, USAGE),
-        (&["generate", "3", "3"], 104, 2, USAGE),
-    ];
-    for (words, room, want, line) in rows {
-        let bench = empty_bench(&rt, rt.alloc());
-        let (status, said) = found(&rt, rt.alloc(), bench, words, room);
-        assert!(rt; status == want, "at {words:?} and {room}");
-        are_bytes(&rt, said.as_slice(), line);
+    for (words, room, status, line) in RUNS {
+        assert_run(&rt, rt.alloc(), words, *room, (*status, line));
     }
 }

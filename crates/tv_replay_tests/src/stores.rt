@@ -1,17 +1,40 @@
 //! Events that are applied to an open index, one by one.
-use crate::fixtures::{are_bytes, empty_bench, has_heard};
+use crate::fixtures::{
+    FolderDesk, are_bytes, empty_bench, folder_desk, has_heard, make_folder, remove_folder,
+};
 use std::alloc::Global;
 use std::fs::{self, File};
 use std::process::Abort;
 use std::rt::Files;
-use tv_base::{TantivyError, VecSink};
-use tv_directory::{Desk, NoWatch, Outside};
-use tv_files::MmapDirectory;
-use tv_replay::{
-    Answer, Event, IndexStore, ReloadPolicy, SegmentComponent, SegmentId, parse_event,
-};
+use tv_base::TantivyError;
+use tv_directory::Outside;
+use tv_replay::{Answer, Event, IndexStore, ReloadPolicy, parse_event};
 
-// What is told of the steps below.
+// Lines, and what their events answer.
+const LINES: &[(&str, &str)] = &[
+    (
+        "open 11111111111111111111111111111111 del",
+        "refused unknown-segment",
+    ),
+    (
+        "segment 11111111111111111111111111111111",
+        "segment 11111111111111111111111111111111",
+    ),
+    (
+        "open 11111111111111111111111111111111 del",
+        "refused no-deletes",
+    ),
+    (
+        "open 11111111111111111111111111111111 idx",
+        "opened 11111111111111111111111111111111.idx",
+    ),
+    (
+        "managed",
+        "managed 11111111111111111111111111111111.idx meta.json",
+    ),
+];
+
+// What is told of them.
 const TOLD: &str = "open 0 0
 refused unknown-segment
 segment 11111111111111111111111111111111
@@ -33,9 +56,6 @@ const EIGHTH: &str = "{\"segments\":[],\"schema\":[],\"opstamp\":8}";
 const OTHER: &str =
     "{\"segments\":[],\"schema\":[{\"name\":\"n\",\"type\":\"text\"}],\"opstamp\":9}";
 
-// A directory in a folder.
-type Folder<R> = Desk<MmapDirectory<R, NoWatch>, VecSink>;
-
 // An index in a directory.
 fn open<R: Abort, O: Outside + Drop>(rt: &R, alloc: Global, outside: O) -> IndexStore<O> {
     match IndexStore::open(alloc, outside, b"[]") {
@@ -51,38 +71,30 @@ fn apply<R: Abort, O: Outside>(rt: &R, store: &mut IndexStore<O>, event: &Event,
     are_bytes(rt, answer.as_slice(), want);
 }
 
-// Opens the delete file of a segment without deletes, for which no line of a script asks so far.
-fn apply_made<R: Abort, O: Outside>(rt: &R, store: &mut IndexStore<O>) {
-    let id = SegmentId::from_bytes([17; 16]);
-    let delete = Event::Open(id, SegmentComponent::Delete);
-    let postings = Event::Open(id, SegmentComponent::Postings);
-    for (event, want) in [
-        (&delete, "refused unknown-segment"),
-        (
-            &Event::Segment(id),
-            "segment 11111111111111111111111111111111",
-        ),
-        (&delete, "refused no-deletes"),
-        (&postings, "opened 11111111111111111111111111111111.idx"),
-    ] {
-        apply(rt, store, event, want);
-    }
+// Applies the event of a line, and looks at its answer.
+fn apply_line<R: Abort, O: Outside>(
+    rt: &R,
+    alloc: Global,
+    store: &mut IndexStore<O>,
+    line: &str,
+    want: &str,
+) {
+    let found = parse_event(alloc, line.as_bytes()).expect(rt, "memory");
+    let event = found.expect(rt, "it is an event's line");
+    apply(rt, store, &event, want);
 }
 
-// Applies the event of a line.
-fn apply_parsed<R: Abort, O: Outside>(rt: &R, alloc: Global, store: &mut IndexStore<O>) {
-    let found = parse_event(alloc, b"managed").expect(rt, "memory");
-    let event = found.expect(rt, "it is an event's line");
-    let want = "managed 11111111111111111111111111111111.idx meta.json";
-    apply(rt, store, &event, want);
+fn apply_lines<R: Abort, O: Outside>(rt: &R, alloc: Global, store: &mut IndexStore<O>) {
+    for (line, want) in LINES {
+        apply_line(rt, alloc, store, line, want);
+    }
+    assert!(rt; store.is_open());
 }
 
 // The directory of an index, behind those events.
 fn applied<R: Abort, O: Outside + Drop>(rt: &R, alloc: Global, outside: O) -> O {
     let mut store = open(rt, alloc, outside);
-    apply_made(rt, &mut store);
-    apply_parsed(rt, alloc, &mut store);
-    assert!(rt; store.is_open());
+    apply_lines(rt, alloc, &mut store);
     store.into_outside()
 }
 
@@ -101,24 +113,28 @@ fn overwrite<R: Files<File = File> + Abort>(rt: &R, text: &str) {
 fn open_folder<R: Files<File = File> + Clone + Drop + Abort>(
     rt: &R,
     alloc: Global,
-) -> IndexStore<Folder<R>> {
-    let handle = rt.clone().expect(rt, "memory");
-    let directory = MmapDirectory::open(handle, alloc, FOLDER).expect(rt, "a folder");
-    let sink = VecSink::new(alloc, 4096).expect(rt, "memory");
-    open(rt, alloc, Desk::new(alloc, directory, sink))
+) -> IndexStore<FolderDesk<R>> {
+    open(rt, alloc, folder_desk(rt, alloc, FOLDER))
 }
 
 // A new reader and a reload show what was written since the index was opened.
-fn shows_what_was_written<R: Files<File = File> + Clone + Drop + Abort>(rt: &R, alloc: Global) {
-    let mut store = open_folder(rt, alloc);
+fn read_what_was_written<R: Files<File = File> + Abort, O: Outside>(
+    rt: &R,
+    store: &mut IndexStore<O>,
+) {
     overwrite(rt, SEVENTH);
     let reader = Event::Reader(ReloadPolicy::Manual);
-    apply(rt, &mut store, &reader, "reader 0 0 0");
-    apply(rt, &mut store, &Event::Searcher(0), "searcher 0 0 7");
-    apply(rt, &mut store, &Event::Show(0), "show 0 7 +70");
+    apply(rt, store, &reader, "reader 0 0 0");
+    apply(rt, store, &Event::Searcher(0), "searcher 0 0 7");
+    apply(rt, store, &Event::Show(0), "show 0 7 +70");
     overwrite(rt, EIGHTH);
-    apply(rt, &mut store, &Event::Reload(0), "published 0 1 0");
-    apply(rt, &mut store, &Event::Searcher(0), "searcher 1 1 8");
+    apply(rt, store, &Event::Reload(0), "published 0 1 0");
+    apply(rt, store, &Event::Searcher(0), "searcher 1 1 8");
+}
+
+fn shows_what_was_written<R: Files<File = File> + Clone + Drop + Abort>(rt: &R, alloc: Global) {
+    let mut store = open_folder(rt, alloc);
+    read_what_was_written(rt, &mut store);
     let (_directory, _sink) = store.into_outside().split();
 }
 
@@ -150,11 +166,8 @@ fn tells_apart<R: Files<File = File> + Clone + Drop + Abort>(rt: &R, alloc: Glob
 
 #[test]
 fn a_reader_loads_what_was_written(rt: HostRuntime) {
-    if fs::exists(&rt, FOLDER).expect(&rt, "asked") {
-        fs::remove_dir_all(&rt, FOLDER).expect(&rt, "removed");
-    }
-    fs::create_dir(&rt, FOLDER).expect(&rt, "a new folder");
+    make_folder(&rt, rt.alloc(), FOLDER);
     shows_what_was_written(&rt, rt.alloc());
     tells_apart(&rt, rt.alloc());
-    fs::remove_dir_all(&rt, FOLDER).expect(&rt, "removed");
+    remove_folder(&rt, FOLDER);
 }
