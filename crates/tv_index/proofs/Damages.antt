@@ -1,9 +1,8 @@
 -- The damaged files among some, one file further.
 use Rattle.std.proofs.Common.{◌≡◌, ◌⊎◌, inl, inr, ℕ, suc, zero, ◌<◌, ◌&&◌, ◌||◌, Bool, true, false, true≢false, cond, not, List, [], ◌∷◌, ◌++◌, length, take, get_or, Some, None, Result, Ok, Err, refl, sym, ap, subst, ◌∙◌, arith, map, string_bytes, String, Global}
 use Rattle.std.specs.Prelude.{IsErrAnd, OnOk}
-use Rattle.std.specs.BTreeMap.{is_at}
 use Rattle.std.specs.BTreeSet.{insert_key}
-use Rattle.std.specs.List.{filter, list_any}
+use Rattle.std.specs.List.{filter}
 use Rattle.std.proofs.lemmas.List.Elements.{filter-append}
 use Rattle.std.specs.String.{string_cmp}
 use Rattle.tv_base.specs.Causes.{IsDevice}
@@ -18,7 +17,7 @@ use Rattle.tv_managed.specs.Reading.{FooterFaults, OpenBodyCause, ReadsRefused, 
 use Rattle.tv_managed.specs.Names.{ManagedNames}
 use Rattle.tv_model.specs.Files.{Reads, Rose, Same}
 use Rattle.tv_model.specs.Meaning.{Means}
-use Rattle.tv_model.specs.Names.{byte_cmp, has, is, meta_name}
+use Rattle.tv_model.specs.Names.{has, is, meta_name}
 use Rattle.tv_model.proofs.Entries.{has_put, is_text}
 use Rattle.tv_model.proofs.Required.{by_one}
 use Rattle.tv_index.specs.Checksums.{AreDamaged, TellsFile, UnreadCause, UnreadFaults, UnreadFile, ValidateCause, ValidateFaults, looked_at}

@@ -24,7 +24,7 @@ use Rattle.tv_model.specs.Names.{list_name, meta_name}
 use Rattle.tv_model.proofs.SpelledCommits.{spells_commit}
 use Rattle.tv_index.specs.Metas.{commit_of, settings_of}
 use Rattle.tv_index.specs.NewForms.{FindsOrMakes, IsFirst, LeavesUnmade, NotLoaded, NotOpenedForm, OpensForm, new_text}
-use Rattle.tv_index.specs.Opening.{HasCommit, IsRefusedBytes, ListsSome, LoadCause, LoadFaults, Loads, NotOpened, OfBytes, OpenCause, OpensIndex}
+use Rattle.tv_index.specs.Opening.{HasCommit, IsRefusedBytes, ListsSome, LoadCause, Loads, NotOpened, OfBytes, OpenCause, OpensIndex}
 use Rattle.tv_index.specs.Saving.{FrameNotes, LeavesText}
 use Rattle.tv_index.specs.declared.index_meta.UntrackedIndexMeta.{UntrackedIndexMeta}
 

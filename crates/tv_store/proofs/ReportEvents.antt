@@ -1,14 +1,12 @@
 -- The event that reports on files: whether a file is intact, by what the directory answers and by what is held, and which files are looked at.
 use Rattle.std.proofs.Common.{◌≡◌, ◌≢◌, inl, inr, ℕ, ◌+◌, ◌<◌, Bool, true, false, true≢false, cond, not, List, [], ◌∷◌, ◌++◌, length, take, get_or, filter, codes, Option, Some, None, is_some, refl, sym, ap, subst, ◌∙◌, Ok, Err, ◌⊎◌}
-use Rattle.std.specs.Prelude.{find, is_none, option_and_then, Result, IfOk, OnOk, OnErr}
+use Rattle.std.specs.Prelude.{find, is_none, option_and_then, Result, IfOk, OnOk}
 use Rattle.std.specs.List.{flat_map, AllByRecursion}
 use Rattle.std.proofs.lemmas.List.{take_more}
 use Rattle.tv_base.specs.Causes.{IsDevice}
 use Rattle.tv_base.specs.declared.error.TantivyError.{TantivyError}
 use Rattle.tv_base.specs.declared.io.IoFault.{IoFault}
 use Rattle.tv_base.specs.declared.io.IoKind.TheVariants.{Device}
-use Rattle.tv_directory.specs.View.{OnlyReads}
-use Rattle.tv_directory.specs.declared.directory.Directory.{Ghosts}
 use Rattle.tv_managed.specs.Reading.{HasNoFooter, ReadsSuch, TellsChecksum}
 use Rattle.tv_model.specs.declared.segment.LiveSegment.{LiveSegment}
 use Rattle.tv_model.specs.Commits.{IsSegment}
@@ -17,7 +15,7 @@ use Rattle.tv_model.specs.Framing.{is_intact}
 use Rattle.tv_model.specs.Index.{IsFileOf}
 use Rattle.tv_model.specs.Lines.{line}
 use Rattle.tv_model.specs.Living.{segment_names}
-use Rattle.tv_model.specs.Names.{has, is, meta_name}
+use Rattle.tv_model.specs.Names.{has, is}
 use Rattle.tv_model.specs.ReportEvents.{committed_names, damaged_files, intact_at, is_damaged, validated}
 use Rattle.tv_model.specs.Segments.{components}
 use Rattle.tv_model.specs.State.{State, FileState, Sealed, Open, Left, at, file_at}
@@ -25,7 +23,7 @@ use Rattle.tv_model.proofs.Entries.{is_text}
 use Rattle.tv_model.proofs.Framing.{intact_again, intact_none}
 use Rattle.tv_model.proofs.Required.{by_one}
 use Rattle.tv_store.specs.FileCalls.{intact_in}
-use Rattle.tv_store.specs.Kept.{Kept, StoreState, FileHolds, Holds, is_left}
+use Rattle.tv_store.specs.Kept.{Kept, FileHolds, Holds, is_left}
 use Rattle.tv_store.proofs.CommitEvents.{all_joined, files_named}
 use Rattle.tv_store.proofs.FoundStates.{means_commit}
 
