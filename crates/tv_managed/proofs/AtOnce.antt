@@ -1,6 +1,6 @@
 -- What a collection at once did, from its beginning to its end.
 use Rattle.std.proofs.Common.{◌≡◌, ◌+◌, ◌-◌, ◌||◌, ◌++◌, ℕ, Bool, true, false, true≢false, List, [], None, Some, Option, Result, Ok, Err, inl, inr, ⊎_elim, ◌⊎◌, refl, sym, ap, subst, ◌∙◌, arith, append-nil}
-use Rattle.std.specs.Prelude.{IfOk, OnErr, OnOk}
+use Rattle.std.specs.Prelude.{IfOk, OnErr, OnOk, length}
 use Rattle.std.specs.Result.{IsErr}
 use Rattle.std.specs.BTreeMap.{insert_entry}
 use Rattle.std.specs.List.{flat_map}
@@ -16,7 +16,7 @@ use Rattle.tv_model.proofs.Entries.{is_itself, is_text}
 use Rattle.tv_directory.specs.Images.{KeepsDisk, TouchesOnly}
 use Rattle.tv_directory.specs.View.{Kept, OnlyReads}
 use Rattle.tv_directory.specs.declared.directory.Directory.{Ghosts}
-use Rattle.tv_managed.specs.Collecting.{Begins, Ended, EndsCollection, Leaves, OnlyDeletes, Tried, Tries, TriesSome, ending, names_of, standing}
+use Rattle.tv_managed.specs.Collecting.{Begins, Ended, EndsCollection, FailsAtMost, Leaves, OnlyDeletes, Tried, Tries, TriesSome, ending, names_of, standing}
 use Rattle.tv_managed.specs.Crashes.{AnyOrList, CollectsNames, EndsSafely, Forgets, IsCovered, KeepsTrack, LeavesSafely, LosesNames, SettlesStates, ShortensStates}
 use Rattle.tv_managed.specs.Frames.{KeepsNames}
 use Rattle.tv_managed.specs.Managed.{Covers}
@@ -107,6 +107,8 @@ leaves_of g taken front rest deleted failed {old} {new} result split t ok err =
       spared = λ tell n h other. t.others tell n (missed n h) other;
       alive = λ tell w h l. t.alive tell w (had (g.state_of w).name false h) l;
       ended = λ tell w o h some. t.ended tell w o (had (g.state_of w).name true h) some;
+      counted = subst (λ (l : List (List ℕ)). FailsAtMost (length l) (g.view old.0).refusals (g.view new.0).refusals) t.failed_is t.counted;
+      calm = λ none. t.calm (t.failed_is ∙ none);
       fits = t.fits;
     }
 
@@ -213,6 +215,8 @@ collects_none g {old} {new} result is t same list safe = record {
     spared = λ tell n h other. t.others tell n refl other;
     alive = λ tell w h l. t.alive tell w refl l;
     ended = λ tell w o h some. absurd (true≢false (sym h));
+    counted = t.counted;
+    calm = λ none. t.calm refl;
     fits = t.fits;
   };
   tries = no_if_ok _ result is;

@@ -31,7 +31,7 @@ names_of texts = map string_bytes texts
 abbrev pub FailsAtMost : (failed before now : ℕ) → Type 0
 FailsAtMost failed before now = (failed + before ≤ now) ⊎ (now ≡ 18446744073709551615)
 
--- every writer of a name that isn't one of these lives as it did
+-- each writer that lives, of a name that isn't one of these, lives on
 abbrev pub SparesWriters : {W : Type 0} → (names : List (List ℕ)) → (state_of : W → WriterState) → (before after : W → Bool) → Type 0
 SparesWriters {W} names state_of before after = (w : W) → has names (state_of w).name ≡ false → before w ≡ true → after w ≡ true
 
@@ -48,7 +48,8 @@ abbrev pub LeftUnfinished : (front rest : List (List ℕ)) → (outcomes : List 
 LeftUnfinished front rest outcomes old new = new ≡ standing old (record { untried = rest; done = done_of front outcomes; failed = failed_of front outcomes })
 
 -- What trying these names left, whatever was answered: some first ones were tried, and some of these are done, which don't read. All else is as it was, but that at Ok
--- the managed names are without those that are done. After an error they are as they were, and unless no name was tried the collection isn't finished.
+-- the managed names are without those that are done. After an error they are as they were, and the collection isn't finished, unless none was begun: then no name was
+-- tried.
 pub record Leaves {A E D W C : Type 0} (g : Ghosts D W C) (names : List (List ℕ)) (old new : D × ManagedNames) (result : Result A E) : Type 0 where
   pub front : List (List ℕ)
   pub rest : List (List ℕ)
@@ -67,6 +68,9 @@ pub record Leaves {A E D W C : Type 0} (g : Ghosts D W C) (names : List (List �
   pub alive : g.told.content → SparesWriters (done_of front outcomes) g.state_of (g.view old.0).lives (g.view new.0).lives
   -- and no writer that was open lives of a file that was deleted
   pub ended : g.told.content → EndsTheirWriters (done_of front outcomes) g.state_of (g.view old.0) (g.view new.0)
+  -- no more names failed than deletes were refused; and where none failed, none was
+  pub counted : FailsAtMost (length (failed_of front outcomes)) (g.view old.0).refusals (g.view new.0).refusals
+  pub calm : failed_of front outcomes ≡ [] → (g.view new.0).refusals ≡ (g.view old.0).refusals
   -- the count of refused deletes is one of 64 bits
   pub fits : (g.view old.0).refusals ≤ 18446744073709551615 → (g.view new.0).refusals ≤ 18446744073709551615
 
@@ -179,9 +183,9 @@ pub record EndsCollection {E D W C : Type 0} (g : Ghosts D W C) (number : ℕ) (
 abbrev pub meta_lock_name : List ℕ
 meta_lock_name = codes ".tantivy-meta.lock"
 
--- names that are tried: those that a collection takes where a set was answered as living, or, where it failed, perhaps none
-abbrev pub Among : {S A E : Type 0} → (answered : S → Type 0) → (living : S → List (List ℕ)) → ManagedNames → (names : List (List ℕ)) → Result A E → Type 0
-Among {S} answered living managed names result = (IsErr result × (names ≡ [])) ⊎ ((set : S) × answered set × (names ≡ taken_by (living set) managed))
+-- names that are tried: those that a collection takes where a set was answered as living, or none, where it failed and none was begun
+abbrev pub Among : {S A E : Type 0} → (answered : S → Type 0) → (living : S → List (List ℕ)) → (old new : ManagedNames) → (names : List (List ℕ)) → Result A E → Type 0
+Among {S} answered living old new names result = (IsErr result × (names ≡ []) × (new ≡ old)) ⊎ ((set : S) × answered set × (names ≡ taken_by (living set) old))
 
 -- Why a collection was given up: `busy` where the lock isn't given, `spent` where it has no number, `refused` where the device refused a call other than a delete,
 -- `quiet` where memory was wanted.

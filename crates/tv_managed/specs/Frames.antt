@@ -15,7 +15,7 @@ pub record KeepsNames {D W : Type 0} (keeps : View W → View W → Type 0) (vie
   pub names : new.1 ≡ old.1
   pub below : keeps (view old.0) (view new.0)
 
--- nothing was told, no lock was taken or freed, and nobody was registered or called; of `meta.json` a notice stands
+-- nothing was told, no lock was taken or freed, and nobody was registered or called; at Ok a notice of `meta.json` stands that was written, and it may after a refusal
 pub record KeptButNotes {A W : Type 0} (told : Told) (old new : View W) (name : List ℕ) (result : Result A IoError) : Type 0 where
   pub frame : Frame told old new
   pub notes : Notes old new name result

@@ -39,13 +39,13 @@ impl<D: Directory> ManagedDirectory<D> {
         self.directory.delete(name)
     }
 
-    /// Deletes each managed file whose name isn't living, in the order of the names: begins a collection, tries
-    /// each of its names, and ends it. A file that is absent counts as deleted. One whose delete is refused has
-    /// failed: it stays managed, a writer of it lives on, and the others are still tried. Names that an unfinished
-    /// collection has are left to it. At Ok the shorter list was saved where something was deleted; where nothing
-    /// was, each file reads what it read, and the list too. The managed names change at Ok alone, and then the
-    /// collection's number is given back; after an error they are as they were, and where a name was tried the
-    /// collection stays unfinished. `LockFailure` comes where the lock isn't given, `Exhausted` where the
+    /// Deletes each managed file whose name isn't living, in the order of the names: begins a collection, tries each
+    /// of its names, and ends it. A file that is absent counts as deleted. One whose delete is refused has failed: it
+    /// stays managed, a writer of it lives on, and the others are still tried. Names that an unfinished collection
+    /// has are left to it. At Ok the list has the managed names that are left, where it had them all before; where
+    /// nothing was deleted, each file reads what it read, and the list too. The managed names change at Ok alone, and
+    /// then the collection's number is given back; after an error they are as they were, and where a name was tried
+    /// the collection stays unfinished. `LockFailure` comes where the lock isn't given, `Exhausted` where the
     /// collection's number would be the last; then nothing changed.
     ///
     /// Before the first delete the device has kept what was written: from then on a crash leaves each name as it
@@ -71,7 +71,8 @@ impl<D: Directory> ManagedDirectory<D> {
         requires { L.IsAlwaysCallable living }
         ensures collects { (names : List (List ℕ))
             × CollectsNames D.Directory names self.old self.new result
-            × Among (L.post living) (λ set. names_of set.keys) self.old.1 names result }
+            × Among (L.post living) (λ set. names_of set.keys) self.old.1 self.new.1
+            names result }
         ensures faults { CollectFaults D.Directory self.old self.new result }
         ensures frame { MayDelete D.told (D.view self.old.0) (D.view self.new.0) }
     {
@@ -144,8 +145,9 @@ impl<D: Directory> ManagedDirectory<D> {
     }
 
     /// Ends a collection: what is done is managed no more, and what failed or wasn't tried stays managed. At Ok the
-    /// shorter list was saved where something is done; where nothing is, each file reads what it read, and the list
-    /// too. After an error the collection isn't finished, and the managed names are as they were.
+    /// list has the managed names that are left, where it had them all before; where nothing is done, each file reads
+    /// what it read, and the list too. After an error the collection isn't finished, and the managed names are as
+    /// they were.
     ///
     /// The device has kept what was deleted before the shorter list is saved: where track is kept, no crash leaves a
     /// file whose name isn't managed any more.

@@ -60,7 +60,7 @@ partly_spared names front rest outcomes n split spared =
 
 -- a collection at once, whatever it answers, leaves no `meta.json` held, which is living
 pub collected_spares : {S A E D W C : Type 0} (g : Ghosts D W C) (answered : S → Type 0) (sets : S → List (List ℕ)) (living names : List (List ℕ)) (old new : D × ManagedNames) (result : Result A E)
-    → ((set : S) → answered set → sets set ≡ living) → Among answered sets old.1 names result → Leaves g names old new result → has living meta_name ≡ true → has (held old.1.collections) meta_name ≡ false → has (held new.1.collections) meta_name ≡ false
+    → ((set : S) → answered set → sets set ≡ living) → Among answered sets old.1 new.1 names result → Leaves g names old new result → has living meta_name ≡ true → has (held old.1.collections) meta_name ≡ false → has (held new.1.collections) meta_name ≡ false
 collected_spares g answered sets living names old new (Ok a) is among l lives spared = ap (λ names. has (held names.collections) meta_name) l.ok ∙ spared
 collected_spares {A = A} g answered sets living names old new (Err e) is among l lives spared =
     elim l.err [
@@ -69,7 +69,7 @@ collected_spares {A = A} g answered sets living names old new (Err e) is among l
           let c : Collection = record { untried = l.rest; done = done_of l.front l.outcomes; failed = failed_of l.front l.outcomes } in
           ap (λ names. has (held names.collections) meta_name) begun
           ∙ never _ (has (taken c) meta_name || has (held old.1.collections) meta_name) (held_standing meta_name old.1.collections c (old.1.collections.next + 1))
-          (ap (λ b. b || has (held old.1.collections) meta_name) (partly_spared names l.front l.rest l.outcomes meta_name l.split (among_spares {A = A} answered sets living names old.1 (Err e) meta_name is among lives)) ∙ spared)
+          (ap (λ b. b || has (held old.1.collections) meta_name) (partly_spared names l.front l.rest l.outcomes meta_name l.split (among_spares {A = A} answered sets living names old.1 new.1 (Err e) meta_name is among lives)) ∙ spared)
     ]
 
 -- the end of a collection fails as an event does

@@ -216,7 +216,7 @@ all_filtered p test names h = list_all-from_AllPass test (filter p names) (All-f
 
 -- at Ok exactly what the living names leave was tried
 pub tried_of : {S E D W C : Type 0} (g : Ghosts D W C) (answered : S → Type 0) (sets : S → List (List ℕ)) (living : List (List ℕ)) {names : List (List ℕ)} {old new : D × ManagedNames} {result : GarbageCollectionResult}
-    → ((set : S) → answered set → sets set ≡ living) → CollectsNames {E = E} g names old new (Ok result) → Among {E = E} answered sets old.1 names (Ok result) → Tries g (taken_by living old.1) old new result
+    → ((set : S) → answered set → sets set ≡ living) → CollectsNames {E = E} g names old new (Ok result) → Among {E = E} answered sets old.1 new.1 names (Ok result) → Tries g (taken_by living old.1) old new result
 tried_of g answered sets living {old = old} {new = new} {result = result} is collects (inl none) = absurd (true≢false (sym none.0))
 tried_of g answered sets living {old = old} {new = new} {result = result} is collects (inr set) =
     subst (λ (ns : List (List ℕ)). Tries g ns old new result) (set.2 ∙ ap (λ (ns : List (List ℕ)). taken_by ns old.1) (is set.0 set.1)) collects.tries
@@ -255,16 +255,16 @@ living_spared living names n h =
     ∙ ap (λ (b : Bool). not (b || has (held names.collections) n) && has names.managed n) h
 
 -- what is living isn't taken, whichever names are tried
-pub among_spares : {S A E : Type 0} (answered : S → Type 0) (sets : S → List (List ℕ)) (living names : List (List ℕ)) (managed : ManagedNames) (result : Result A E) (n : List ℕ)
-    → ((set : S) → answered set → sets set ≡ living) → Among answered sets managed names result → has living n ≡ true → has names n ≡ false
-among_spares answered sets living names managed result n is (inl none) h = ap (λ (ns : List (List ℕ)). has ns n) none.1
-among_spares answered sets living names managed result n is (inr set) h = ap (λ (ns : List (List ℕ)). has ns n) (set.2 ∙ ap (λ (ns : List (List ℕ)). taken_by ns managed) (is set.0 set.1)) ∙ living_spared living managed n h
+pub among_spares : {S A E : Type 0} (answered : S → Type 0) (sets : S → List (List ℕ)) (living names : List (List ℕ)) (managed now : ManagedNames) (result : Result A E) (n : List ℕ)
+    → ((set : S) → answered set → sets set ≡ living) → Among answered sets managed now names result → has living n ≡ true → has names n ≡ false
+among_spares answered sets living names managed now result n is (inl none) h = ap (λ (ns : List (List ℕ)). has ns n) none.1.0
+among_spares answered sets living names managed now result n is (inr set) h = ap (λ (ns : List (List ℕ)). has ns n) (set.2 ∙ ap (λ (ns : List (List ℕ)). taken_by ns managed) (is set.0 set.1)) ∙ living_spared living managed n h
 
 -- so it reads what it read
 pub living_stands : {S A E D W C : Type 0} (g : Ghosts D W C) (answered : S → Type 0) (sets : S → List (List ℕ)) (living names : List (List ℕ)) (old new : D × ManagedNames) (result : Result A E) (n : List ℕ)
-    → ((set : S) → answered set → sets set ≡ living) → Among answered sets old.1 names result → Leaves g names old new result
+    → ((set : S) → answered set → sets set ≡ living) → Among answered sets old.1 new.1 names result → Leaves g names old new result
     → g.told.content → has living n ≡ true → n ≢ list_name → (g.view new.0).reads n ≡ (g.view old.0).reads n
-living_stands g answered sets living names old new result n is among l t h other = l.spared t n (among_spares answered sets living names old.1 result n is among h) other
+living_stands g answered sets living names old new result n is among l t h other = l.spared t n (among_spares answered sets living names old.1 new.1 result n is among h) other
 
 plain_undotted : (a b c d e : Bool) → (a && b && c && d && e) ≡ true → d ≡ true
 plain_undotted a b c d e h = (both (a && b && c) d (both (a && b && c && d) e h).0).1
@@ -288,9 +288,9 @@ plain_hasnt (x ∷ names) n h dot =
 
 -- nor is a name with a dot in front, since managed names have none
 pub dotted_stands : {S A E D W C : Type 0} (g : Ghosts D W C) (answered : S → Type 0) (sets : S → List (List ℕ)) (names : List (List ℕ)) (old new : D × ManagedNames) (result : Result A E) (n : List ℕ)
-    → list_all is_plain old.1.managed ≡ true → Among answered sets old.1 names result → Leaves g names old new result
+    → list_all is_plain old.1.managed ≡ true → Among answered sets old.1 new.1 names result → Leaves g names old new result
     → g.told.content → is_undotted n ≡ false → n ≢ list_name → (g.view new.0).reads n ≡ (g.view old.0).reads n
-dotted_stands g answered sets names old new result n plain (inl none) l t dot other = l.spared t n (ap (λ (ns : List (List ℕ)). has ns n) none.1) other
+dotted_stands g answered sets names old new result n plain (inl none) l t dot other = l.spared t n (ap (λ (ns : List (List ℕ)). has ns n) none.1.0) other
 dotted_stands g answered sets names old new result n plain (inr set) l t dot other =
     let taken : list_all is_plain (taken_by (sets set.0) old.1) ≡ true = all_filtered (λ name. not (has (sets set.0 ++ held old.1.collections) name)) is_plain old.1.managed plain in
     l.spared t n (ap (λ (ns : List (List ℕ)). has ns n) set.2 ∙ plain_hasnt (taken_by (sets set.0) old.1) n taken dot) other

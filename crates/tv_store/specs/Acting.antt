@@ -72,7 +72,7 @@ pub record OnCollecting {O W C : Type 0} (g : Ghosts O W C) (keeps : View W → 
   pub dotted : g.told.content → KeepsDotted (g.view old.outside).reads (g.view new.outside).reads
   pub frame : KeepsReaders keeps g.view old new
 
--- What an event does beside its step that changes no file. At Ok there is room for its answer. No open file is longer than it was; the settings and the schema stay, and
+-- What an event does beside its step that changes no file. At Ok there is room for its answer. No open file is longer than the longest was; the settings and the schema stay, and
 -- whether the store is open; and the directory was only read from.
 pub record OnReading {O W C : Type 0} (g : Ghosts O W C) (old new : StoreState O) (result : Result (List ℕ) TantivyError) : Type 0 where
   pub room : IfOk result (λ answer. length answer < (g.view new.outside).room)

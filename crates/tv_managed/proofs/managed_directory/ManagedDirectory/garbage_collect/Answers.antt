@@ -19,7 +19,7 @@ returns-in_err-living-clause-collects g c =
       [],
       collects_none D c.from_residual.result c.from_residual.ensures.0 (tried_quiet D _ _ asks.frame) asks.frame.names (λ tells. asks.frame.below.content tells _)
           (λ tells. record { tracks = track_read D asks.frame.names (asks.images tells); states = settles_none (asks.images tells) (no_ok _ c.from_residual.result c.from_residual.ensures.0) }),
-      inl (c.from_residual.ensures.0, refl),
+      inl (c.from_residual.ensures.0, refl, asks.frame.names),
     )
 
 pub returns-in_err-number-clause-collects : goal.returns-in_err-number-clause-collects
@@ -37,7 +37,7 @@ returns-in_err-number-clause-collects g c =
                 track_then D first ((begun_safely D [] {old = c.under_meta_lock.new.self} {new = c.begin.new.self} _ (begin.images tells) tt begin.err).tracks first.tracked);
             states = settles_asked (asks.images tells) (begin.images tells);
           }),
-      inl (c.from_residual-in_err-number.ensures.0, refl),
+      inl (c.from_residual-in_err-number.ensures.0, refl, begin.err ∙ asks.frame.names),
     )
 
 pub returns-in_err-try_each-clause-collects : goal.returns-in_err-try_each-clause-collects
