@@ -257,7 +257,7 @@ living_spared living names n h =
 -- what is living isn't taken, whichever names are tried
 pub among_spares : {S A E : Type 0} (answered : S → Type 0) (sets : S → List (List ℕ)) (living names : List (List ℕ)) (managed now : ManagedNames) (result : Result A E) (n : List ℕ)
     → ((set : S) → answered set → sets set ≡ living) → Among answered sets managed now names result → has living n ≡ true → has names n ≡ false
-among_spares answered sets living names managed now result n is (inl none) h = ap (λ (ns : List (List ℕ)). has ns n) none.1.0
+among_spares answered sets living names managed now result n is (inl none) h = ap (λ (ns : List (List ℕ)). has ns n) none.1
 among_spares answered sets living names managed now result n is (inr set) h = ap (λ (ns : List (List ℕ)). has ns n) (set.2 ∙ ap (λ (ns : List (List ℕ)). taken_by ns managed) (is set.0 set.1)) ∙ living_spared living managed n h
 
 -- so it reads what it read
@@ -290,7 +290,7 @@ plain_hasnt (x ∷ names) n h dot =
 pub dotted_stands : {S A E D W C : Type 0} (g : Ghosts D W C) (answered : S → Type 0) (sets : S → List (List ℕ)) (names : List (List ℕ)) (old new : D × ManagedNames) (result : Result A E) (n : List ℕ)
     → list_all is_plain old.1.managed ≡ true → Among answered sets old.1 new.1 names result → Leaves g names old new result
     → g.told.content → is_undotted n ≡ false → n ≢ list_name → (g.view new.0).reads n ≡ (g.view old.0).reads n
-dotted_stands g answered sets names old new result n plain (inl none) l t dot other = l.spared t n (ap (λ (ns : List (List ℕ)). has ns n) none.1.0) other
+dotted_stands g answered sets names old new result n plain (inl none) l t dot other = l.spared t n (ap (λ (ns : List (List ℕ)). has ns n) none.1) other
 dotted_stands g answered sets names old new result n plain (inr set) l t dot other =
     let taken : list_all is_plain (taken_by (sets set.0) old.1) ≡ true = all_filtered (λ name. not (has (sets set.0 ++ held old.1.collections) name)) is_plain old.1.managed plain in
     l.spared t n (ap (λ (ns : List (List ℕ)). has ns n) set.2 ∙ plain_hasnt (taken_by (sets set.0) old.1) n taken dot) other
