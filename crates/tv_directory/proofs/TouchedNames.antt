@@ -1,58 +1,21 @@
 -- Names that calls don't touch.
-use Rattle.std.proofs.Common.{◌≡◌, ◌++◌, ◌∷◌, ℕ, Bool, true, false, cond, List, [], Some, Result, Ok, Err, IsSome, refl, sym, subst, ◌∙◌, ⊎_elim, arith}
+use Rattle.std.proofs.Common.{◌≡◌, ◌++◌, ◌∷◌, ℕ, Bool, true, false, cond, List, [], Some, Result, Ok, Err, IsSome, refl, sym, subst}
 use Rattle.std.specs.BTreeMap.{is_at}
-use Rattle.tv_model.specs.Disk.{DiskState, Absent, Unsealed, Sealed, IsThere, Possible, Disk, possible_now, MayAdd, Elapses, Throughout, OnlyTouches, OnlyMoves}
+use Rattle.tv_model.specs.Disk.{DiskState, Absent, Unsealed, Sealed, IsThere, Disk, TouchesOnly}
 use Rattle.tv_model.specs.Names.{byte_cmp}
 use Rattle.tv_model.specs.State.{at}
-use Rattle.tv_model.proofs.DiskLaws.{HoldsOfFewer, started, goes_on, goes_on_run}
+use Rattle.tv_model.proofs.DiskLaws.{touches_file, touches_more, touches_none}
 use Rattle.tv_model.proofs.Entries.{at_itself}
 use Rattle.tv_base.specs.declared.io.IoError.{IoError}
 use Rattle.tv_base.specs.declared.io.IoError.TheVariants as io
 use Rattle.tv_base.specs.declared.open_errors.OpenWriteError.{OpenWriteError}
 use Rattle.tv_base.specs.declared.open_errors.OpenWriteError.TheVariants as write
-use Rattle.tv_directory.specs.Images.{KeepsDisk, KeepsOtherStates, GivesState, MayOpen, OpensState, TouchesOnly, WritesState}
+use Rattle.tv_directory.specs.Images.{KeepsDisk, KeepsOtherStates, GivesState, MayOpen, OpensState, WritesState}
 use Rattle.tv_directory.specs.Persisting.{IsAmong}
 
-fewer_touched : (possible : Possible) (touched : List ℕ → Type 0) → HoldsOfFewer (OnlyTouches touched possible)
-fewer_touched possible touched old new within was = record { each = λ n other s is. was.each n other s (within.each n s is) }
-
--- nothing is touched yet
-pub touches_same : (disk : Disk) (touched : List ℕ → Type 0) → TouchesOnly touched disk disk
-touches_same disk touched = record { moments = started _ (fewer_touched _ touched) disk (record { each = λ n other s is. is }); now = record { each = λ n other. refl } }
-
--- one call
-touches_step : {old new : Disk} {touched : List ℕ → Type 0} → Elapses old new → OnlyTouches touched (possible_now old) (possible_now new) → OnlyMoves touched old new → TouchesOnly touched old new
-touches_step {old} {touched = touched} time states now = record { moments = goes_on _ (fewer_touched (possible_now old) touched) (touches_same old touched).moments time states; now = now }
-
--- one call gives a name one state more
-touches_file : {old new : Disk} {name : List ℕ} {state : DiskState} → Elapses old new → MayAdd (possible_now old) (possible_now new) name state → KeepsOtherStates old new name → TouchesOnly (λ n. n ≡ name) old new
-touches_file time adds others =
-    touches_step time (record { each = λ n other s is. ⊎_elim (λ before. before) (λ p. absurd (other p.0)) (adds.each n s is) }) (record { each = others })
-
 -- a call that only reads
-pub touches_none : {old new : Disk} (touched : List ℕ → Type 0) → KeepsDisk old new → TouchesOnly touched old new
-touches_none touched keeps = touches_step keeps.time (record { each = λ n other s is. keeps.states.possible.no_more.each n s is }) (record { each = λ n other. keeps.states.now n })
-
-weaker : {P Q : Possible → Type 0} {old new : Disk} → Throughout P old new → ((possible : Possible) → P possible → Q possible) → Throughout Q old new
-weaker run then = record { later = run.later; past = run.past; each = λ x from to. then _ (run.each x from to) }
-
-at_end : {P : Possible → Type 0} {old new : Disk} → Throughout P old new → P (possible_now new)
-at_end {new = new} run = run.each new.moment run.later (omega arith)
-
--- one run, and another
-pub touches_then : {old mid new : Disk} {touched : List ℕ → Type 0} → TouchesOnly touched old mid → TouchesOnly touched mid new → TouchesOnly touched old new
-touches_then {old} {mid} {new} {touched} first second = record {
-  moments = goes_on_run _ (fewer_touched (possible_now old) touched) first.moments
-      (weaker second.moments (λ p states. record { each = λ n other s is. (at_end first.moments).each n other s (states.each n other s is) }));
-  now = record { each = λ n other. second.now.each n other ∙ first.now.each n other };
-}
-
--- more names may be touched
-touches_more : {old new : Disk} {touched more : List ℕ → Type 0} → ((n : List ℕ) → touched n → more n) → TouchesOnly touched old new → TouchesOnly more old new
-touches_more among touches = record {
-  moments = weaker touches.moments (λ p states. record { each = λ n other. states.each n (λ it. other (among n it)) });
-  now = record { each = λ n other. touches.now.each n (λ it. other (among n it)) };
-}
+pub reads_touch : {old new : Disk} (touched : List ℕ → Type 0) → KeepsDisk old new → TouchesOnly touched old new
+reads_touch touched keeps = touches_none touched keeps.time keeps.states.possible.no_more keeps.states.now
 
 -- ---- calls that make and write a file, whatever they answer
 
@@ -78,7 +41,7 @@ others_given (Err io.Memory) gives n ne = gives.err.now n
 
 touches_by : {A : Type 0} (lives : Bool) {old new : Disk} {name : List ℕ} {state : DiskState} {result : Result A IoError} → WritesState lives old new name state result → TouchesOnly (λ n. n ≡ name) old new
 touches_by true {result = result} writes = let gives = writes.gives refl in touches_file gives.time gives.no_more (others_given result gives)
-touches_by false {name = name} writes = touches_none (λ n. n ≡ name) (writes.gone refl)
+touches_by false {name = name} writes = reads_touch (λ n. n ≡ name) (writes.gone refl)
 
 pub touches_written : {A : Type 0} {lives : Bool} {old new : Disk} {other name : List ℕ} {state : DiskState} {result : Result A IoError} → other ≡ name → WritesState lives old new other state result → TouchesOnly (λ n. n ≡ name) old new
 touches_written {lives = lives} {old} {new} is writes = subst (λ (m : List ℕ). TouchesOnly (λ n. n ≡ m) old new) is (touches_by lives writes)

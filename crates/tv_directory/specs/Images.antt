@@ -1,6 +1,6 @@
 -- How the calls of a directory change what a crash may leave.
 use Rattle.std.specs.Prelude.{◌≡◌, ◌≢◌, ◌⊎◌, ℕ, Bool, true, false, List, Result, OnOk, OnErr, IfErr}
-use Rattle.tv_model.specs.Disk.{DiskState, Absent, Unsealed, IsThere, MayRead, Disk, possible_now, SamePossible, Within, MayAdd, Adds, IsSettled, Elapses, Throughout, OnlyTouches, OnlyMoves}
+use Rattle.tv_model.specs.Disk.{DiskState, Absent, Unsealed, IsThere, MayRead, Disk, possible_now, SamePossible, Within, MayAdd, Adds, IsSettled, Elapses}
 use Rattle.tv_base.specs.Causes.{IoCause, OpenWriteCause, DeleteCause}
 use Rattle.tv_base.specs.declared.io.IoError.{IoError}
 use Rattle.tv_base.specs.declared.open_errors.OpenWriteError.{OpenWriteError}
@@ -31,11 +31,6 @@ pub record KeepsStates (old new : Disk) : Type 0 where
 pub record KeepsDisk (old new : Disk) : Type 0 where
   pub states : KeepsStates old new
   pub time : Elapses old new
-
--- at each moment of some calls names that aren't touched have no possible state that they hadn't before, and then they stand as they stood
-pub record TouchesOnly (touched : List ℕ → Type 0) (old new : Disk) : Type 0 where
-  pub moments : Throughout (OnlyTouches touched (possible_now old)) old new
-  pub now : OnlyMoves touched old new
 
 -- this name is in this state now, and every other one as it was; a crash may leave it so, and each as it might have left it before
 pub record SetsState (old new : Disk) (name : List ℕ) (state : DiskState) : Type 0 where

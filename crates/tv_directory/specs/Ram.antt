@@ -83,7 +83,8 @@ pub record KeepsWriters {C : Type 0} (writer : RamWriter) (old new : RamDirector
   pub lives : (w : RamWriter) → ram_lives new w ≡ ram_lives old w
   pub gone : ram_lives old writer ≡ false → new ≡ old
 
--- A call that makes an empty file, where there was none: nothing changed but the files, and of these at most that of this name; nothing at all where it was there.
+-- A call that makes an empty file, where there was none: nothing changed but the files, and of these at most that of this name; nothing at all where it was there and
+-- the call says so.
 pub record MakesRamFile {A C : Type 0} (old new : RamDirectory C) (name : List ℕ) (result : Result A OpenWriteError) : Type 0 where
   pub states : PutsState (ram_states old) (ram_states new) name Unsealed result
   pub there : IfErr result (OpenWriteCause name (new ≡ old) ⊥ (Unit {0}))

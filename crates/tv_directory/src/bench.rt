@@ -68,9 +68,9 @@ impl<C: WatchCall> Bench<C> {
     }
 
     /// From now on the device refuses exactly the calls with these numbers. The calls that can answer
-    /// a fault of the device are numbered from 0 on, whatever they answer: those of `Directory` but
-    /// `release`, `watch`, `unwatch` and `deliver`, and `tell`. The number stops at `u64::MAX`, and that
-    /// call is never refused.
+    /// a fault of the device are numbered from 0 on, whatever they answer: `tell`, and those of
+    /// `Directory` but `release`, `watch`, `unwatch` and `deliver`. The number stops at `u64::MAX`, and
+    /// that call is never refused.
     pub fn fail_at(&mut self, calls: Vec<u64>)
         ensures device { device_in self.new ≡ record (device_in self.old)
             { fail_at = calls.items } }

@@ -3,7 +3,6 @@ ghost use Rattle.std.specs.Prelude.{◌≡◌, ◌<◌, true, false, Some, IfOk,
 ghost use Rattle.tv_model.specs.Names.{is_file_name};
 ghost use Rattle.tv_model.specs.Disk.{Unsealed};
 ghost use Rattle.tv_directory.specs.Bench.{OnlyRecords, disk_in};
-ghost use Rattle.tv_directory.specs.Images.{KeepsDisk};
 ghost use Rattle.tv_directory.specs.Ram.{ram_states};
 ghost use Rattle.tv_directory.specs.Record.{RecordedRefused, RefusedOpening, has_line_room};
 ghost use Rattle.tv_directory.specs.StoredFiles.{state_of};

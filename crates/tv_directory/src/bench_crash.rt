@@ -22,9 +22,9 @@ impl<C: WatchCall> Bench<C> {
     ///
     /// The names that have a file now, or that a recorded call names, are gone through in their order.
     /// The states in which a crash at this moment may leave a name are numbered from 0 on, in this order:
-    /// for each call between the last sync before the moment and the moment, in the order of the calls,
-    /// the state in which the call found the name, and behind it, where the device refused the call, the
-    /// one that the call would have made; at last the state in which the name was at the moment. The i-th
+    /// for each recorded call on it between the last sync before the moment and the moment, in the order of
+    /// the calls, the state in which the call found the name, and behind it, where the device refused the
+    /// call, the one that the call would have made; at last the state in which it was at the moment. The i-th
     /// name is left in the one whose number is `choice[i]` modulo how many there are. Past the end of the
     /// choice that number is 0. A file that isn't sealed is left empty.
     pub fn crash(&self, moment: u64, choice: &[u32]) -> Result<Bench<C>, Memory>

@@ -71,7 +71,7 @@ impl<D: Directory + Drop, S: Sink + Drop> Directory for Desk<D, S> {
 
     ghost told = { told_at D.told };
 
-    ghost view = { desk_view D.view S.faults };
+    ghost view = { desk_view D.view S.taken S.faults };
 
     ghost state_of = { D.state_of };
 
@@ -157,14 +157,14 @@ impl<D: Directory + Drop, S: Sink + Drop> Outside for Desk<D, S> {
     }
 
     fn tell(&mut self, line: &[u8]) -> Result<(), IoFault>
-        requires room { length line.now < (desk_view D.view S.faults self.old).room }
+        requires room { length line.now < (desk_view D.view S.taken S.faults self.old).room }
         requires feed { has_no_feed line.now ≡ true }
-        ensures tells { TellsLineTo (told_at D.told) (desk_view D.view S.faults self.old)
-            (desk_view D.view S.faults self.new) line.now result }
-        ensures faults { DeviceFaults (desk_view D.view S.faults self.old)
-            (desk_view D.view S.faults self.new) result }
-        ensures frame { OnlyTells (told_at D.told) (desk_view D.view S.faults self.old)
-            (desk_view D.view S.faults self.new) }
+        ensures tells { TellsLineTo (told_at D.told) (desk_view D.view S.taken S.faults self.old)
+            (desk_view D.view S.taken S.faults self.new) line.now result }
+        ensures faults { DeviceFaults (desk_view D.view S.taken S.faults self.old)
+            (desk_view D.view S.taken S.faults self.new) result }
+        ensures frame { OnlyTells (told_at D.told) (desk_view D.view S.taken S.faults self.old)
+            (desk_view D.view S.taken S.faults self.new) }
         ensures sink { TellsSink S.taken self.old self.new line.now result }
     {
         end_line(&mut self.line, line);

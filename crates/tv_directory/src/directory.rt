@@ -21,8 +21,8 @@ use tv_model::Memory;
 /// There are two in memory: `RamDirectory`, whose calls no device refuses, and `Bench`, whose device refuses
 /// the calls that it is told to. That of plain files is `MmapDirectory` of `tv_files`.
 ///
-/// The device may refuse any call. It then answers a fault of kind `Device`, and a count rises:
-/// `refusals` for a delete, and `faults` for any other call.
+/// The device may refuse any call but `release`, `watch`, `unwatch` and `deliver`. It then answers a fault of
+/// kind `Device`, and a count rises: `refusals` for a delete, and `faults` for any other call.
 ///
 /// A writer doesn't write by itself, as tantivy's does: `open_write` gives it, and `write`, `flush` and at last
 /// `terminate` are handed it in again, on the same directory. After a fault of one of them it is only dropped.
@@ -31,7 +31,7 @@ use tv_model::Memory;
 ///   Nothing is kept from a crash by it.
 /// - `terminate` ends a file and seals it. It needs no flush before it.
 /// - `sync_directory` is for crashes. It is called behind what must stand before the next step is taken: behind
-///   the sealed files of a commit, before `meta.json` names them, and behind `meta.json`. After it a crash
+///   the sealed files of a commit, before `meta.json` names them, and behind `meta.json`. At Ok a crash
 ///   leaves each name as it is then; the clause `images` says so, where images are told.
 /// - Dropping a writer does none of this. The file stays, unsealed, and what wasn't flushed may be lost.
 pub trait Directory {
@@ -168,7 +168,7 @@ pub trait Directory {
         ensures frame { OnlyReads told (view self.old) (view self.new) }
         ensures images { tells_images → Settles (disk self.old) (disk self.new) result };
 
-    /// Takes a lock. In memory `LockBusy` comes exactly where it is held. Over plain files a blocking
+    /// Takes a lock. In memory `LockBusy` comes only where it is held. Over plain files a blocking
     /// lock waits until it is free, unless this very directory holds it.
     fn acquire_lock(&mut self, lock: &Lock) -> Result<DirectoryLock, LockError>
         requires { is_file_name lock.now.filepath.now ≡ true }

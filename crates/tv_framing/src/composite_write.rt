@@ -103,7 +103,7 @@ impl<W: TerminatingWrite> CompositeWrite<W> {
     }
 
     /// Writes the list of the bodies, tells the end, and gives the writer back. `InvalidData` comes
-    /// exactly where the list is longer than `u32::MAX` bytes.
+    /// only where the list is longer than `u32::MAX` bytes.
     pub fn close(self) -> (W, Result<(), IoError>)
         requires going { (W.view self.writer).ended ≡ false }
         ensures form { OnOk result.1 (IsComposite (composite self.parts) self.parts) }

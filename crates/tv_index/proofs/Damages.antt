@@ -57,9 +57,6 @@ right false c h k = absurd (true≢false (sym k ∙ h))
 
 -- ---- one file further
 
-pub none_damaged : (reads : Reads) → AreDamaged reads [] []
-none_damaged reads = record { named = λ n h. absurd (true≢false (sym h)); others = λ n h k. absurd (true≢false (sym h)) }
-
 pub one_further : (reads : Reads) (done damaged new : List (List ℕ)) (name : List ℕ) (is_right : Bool) → ((n : List ℕ) → has new n ≡ ((not is_right && is name n) || has damaged n))
     → TellsFile reads is_right name → AreDamaged reads done damaged → AreDamaged reads (done ++ name ∷ []) new
 one_further reads done damaged new name is_right put here h = record { named = named; others = others } where

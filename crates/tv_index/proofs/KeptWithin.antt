@@ -1,12 +1,11 @@
 -- What an inventory keeps has no more deleted documents than there are, whatever is taken in, shared and given back.
-use Rattle.std.proofs.Common.{◌≡◌, ℕ, ◌≤◌, Bool, true, false, cond, [], ◌∷◌, All, map, Result, Ok, Err, sym, subst}
+use Rattle.std.proofs.Common.{◌≡◌, ℕ, Bool, true, false, cond, [], ◌∷◌, All, map, Result, Ok, Err, sym, subst}
 use Rattle.std.specs.Prelude.{OnErr, OnOk, find}
 use Rattle.std.specs.List.{AllByRecursion}
-use Rattle.std.proofs.lemmas.List.Elements.{All-from_recursion, All-map, All-push, recursion_from_All}
+use Rattle.std.proofs.lemmas.List.Elements.{All-from_recursion, All-map, recursion_from_All}
 use Rattle.tv_base.specs.declared.inventory.Entry.{Entry}
-use Rattle.tv_base.specs.Entries.{is_at, is_last, one_fewer, one_more, released, tracked}
+use Rattle.tv_base.specs.Entries.{is_at, is_last, one_fewer, one_more, released}
 use Rattle.tv_base.specs.Places.{change_at, take_out}
-use Rattle.tv_model.specs.Segments.{num_deleted}
 use Rattle.tv_index.specs.Tracked.{IsWithin, Kept}
 use Rattle.tv_index.specs.declared.segment_meta.InnerSegmentMeta.{InnerSegmentMeta}
 
@@ -51,7 +50,3 @@ within_all_shared es h = All-map IsWithin one_more es h
 pub within_shares : {U E : Type 0} (result : Result U E) (old new : Kept) → OnOk result (new ≡ map one_more old) → OnErr result (new ≡ old) → All IsWithin old → All IsWithin new
 within_shares (Ok u) old new ok err h = subst (λ (es : Kept). All IsWithin es) (sym ok) (within_all_shared old h)
 within_shares (Err e) old new ok err h = subst (λ (es : Kept). All IsWithin es) (sym err) h
-
--- a segment is taken in
-pub within_tracked : (number : ℕ) (segment : InnerSegmentMeta) (es : Kept) → num_deleted segment.deletes ≤ segment.max_doc → All IsWithin es → All IsWithin (tracked number segment es)
-within_tracked number segment es w h = All-push IsWithin es (record { number = number; count = 1; value = segment }) h w

@@ -1,7 +1,6 @@
 pub mod Options
 pub mod HandedOn
 pub mod BoundedTrees
-pub mod Canonical
 pub mod Inside
 pub mod Blanks
 pub mod SeenNames
@@ -23,7 +22,6 @@ pub mod Managing
 pub mod Standings
 pub mod Indexes
 pub mod KeptWithin
-pub mod Buildings
 pub mod RamIndexes
 pub mod InFolders
 pub mod Damages

@@ -33,6 +33,7 @@ module _ {A B E F D W C : Type 0} (g : Ghosts D W C) (old new : D × ManagedName
     ok = tt;
     err = or_one_more g old new inner h;
     saves = record { list = λ t lists. tt; covers = h.saves.covers };
+    unsaved = h.unsaved;
     listed = h.listed;
     managed = h.managed;
   }
@@ -45,6 +46,7 @@ module _ {A B E F D W C : Type 0} (g : Ghosts D W C) (old new : D × ManagedName
     ok = h.ok;
     err = tt;
     saves = record { list = h.saves.list; covers = h.saves.covers };
+    unsaved = h.unsaved;
     listed = h.listed;
     managed = h.managed;
   }
@@ -81,6 +83,7 @@ module _ {D W C : Type 0} (g : Ghosts D W C) (old mid now new : D × ManagedName
       list = λ t lists. on_ok inner (lists_out t) (h.saves.list t (lists_in t lists));
       covers = λ t covers. covers_out t (h.saves.covers t (covers_in t covers));
     };
+    unsaved = λ t put. reads_after t list_name ∙ h.unsaved t (λ undotted. ap (λ (ns : ManagedNames). has ns.managed meta_name) names_before ∙ put undotted) ∙ reads_before t list_name;
     listed = λ t covers n undotted some none. subst (λ (read : Option (List ℕ)). IsOnList read n) (sym (reads_after t list_name))
         (h.listed t (covers_in t covers) n undotted (subst IsSome (reads_after t n) some) (reads_before t n ∙ none));
     managed = λ t n undotted some none. subst (λ (ns : ManagedNames). has ns.managed n ≡ true) (sym names_after)
@@ -94,6 +97,7 @@ module _ {D W C : Type 0} (g : Ghosts D W C) (old mid now new : D × ManagedName
     ok = tt;
     err = inl (ap (λ (d : D × ManagedNames). d.1) is);
     saves = record { list = λ t lists. tt; covers = λ t covers. subst (λ (d : D × ManagedNames). Covers ((g.view d.0).reads list_name) d.1) (sym is) covers };
+    unsaved = λ t put. ap (λ (d : D × ManagedNames). (g.view d.0).reads list_name) is;
     listed = λ t covers n undotted some none. absurd (some_none ((g.view now.0).reads n) (ap (λ (d : D × ManagedNames). (g.view d.0).reads n) is ∙ none) some);
     managed = λ t n undotted some none. absurd (some_none ((g.view now.0).reads n) (ap (λ (d : D × ManagedNames). (g.view d.0).reads n) is ∙ none) some);
   })

@@ -24,7 +24,7 @@ use Rattle.tv_model.specs.Names.{list_name, meta_name}
 use Rattle.tv_model.proofs.SpelledCommits.{spells_commit}
 use Rattle.tv_index.specs.Metas.{commit_of, settings_of}
 use Rattle.tv_index.specs.NewForms.{FindsOrMakes, IsFirst, LeavesUnmade, NotLoaded, NotOpenedForm, OpensForm, new_text}
-use Rattle.tv_index.specs.Opening.{HasCommit, IsRefusedBytes, ListsSome, LoadCause, Loads, NotOpened, OfBytes, OpenCause, OpensIndex}
+use Rattle.tv_index.specs.Opening.{FrameNotesFirst, HasCommit, IsRefusedBytes, ListsSome, LoadCause, Loads, NotOpened, OfBytes, OpenCause, OpensIndex}
 use Rattle.tv_index.specs.Saving.{FrameNotes, LeavesText}
 use Rattle.tv_index.specs.declared.index_meta.UntrackedIndexMeta.{UntrackedIndexMeta}
 
@@ -58,6 +58,10 @@ failed_as (Ok a) given P h p = tt
 failed_as (Err e) given P h p = subst P (sym h) p
 
 -- ---- what calls keep, one after the other
+
+no_some : {A : Type 0} (read : Option A) → read ≡ None → IsSome read → ⊥
+no_some None is some = true≢false (sym some)
+no_some (Some bytes) is some = absurd cc
 
 module _ {W : Type 0} {told : Told} {first now next : View W} where
   goes_later : GoesOn told first now → GoesOn told now next → GoesOn told first next
@@ -93,8 +97,20 @@ module _ {W : Type 0} {told : Told} {first now next : View W} where
     watched = subst (λ (w : WatchState). MayNote meta_name w next.watched) before.kept.watched after.watched;
   }
 
-pub quiet_notes : {W : Type 0} {told : Told} {old new : View W} → OnlyReads told old new → FrameNotes told old new
-quiet_notes h = record { frame = h.kept.frame; watched = inl h.kept.watched }
+  pub first_later : OnlyReads told first now → FrameNotesFirst told now next → FrameNotesFirst told first next
+  first_later before after = record {
+    frame = frame_later before.kept.frame after.frame;
+    watched = subst (λ (w : WatchState). MayNote meta_name w next.watched) before.kept.watched after.watched;
+    stood = λ t some. after.stood t (subst IsSome (sym (before.content t meta_name)) some) ∙ before.kept.watched;
+  }
+
+module _ {W : Type 0} {told : Told} {old new : View W} where
+  pub quiet_first : OnlyReads told old new → FrameNotesFirst told old new
+  quiet_first h = record { frame = h.kept.frame; watched = inl h.kept.watched; stood = λ t some. h.kept.watched }
+
+  -- there was no `meta.json`, whose first one may be noted
+  pub none_first : (told.content → old.reads meta_name ≡ None) → FrameNotes told old new → FrameNotesFirst told old new
+  none_first none h = record { frame = h.frame; watched = h.watched; stood = λ t some. absurd (no_some (old.reads meta_name) (none t) some) }
 
 -- ---- an index that isn't made
 
@@ -122,12 +138,8 @@ module _ {A D W C : Type 0} (g : Ghosts D W C) (old mid new : D × ManagedNames)
     };
     unchanged = λ t bytes. absurd (no_bytes error bytes);
     cause = io_cause g.told.content form.schema ((g.view old.0).reads meta_name) _ _ error (λ rose. subst (λ (n : ℕ). Rose n (g.view new.0).faults) quiet rose) (λ same. same ∙ quiet) cause;
-    frame = notes_later reads frame;
+    frame = none_first none (notes_later reads frame);
   }) where
-    no_some : (read : Option (List ℕ)) → read ≡ None → IsSome read → ⊥
-    no_some None is some = true≢false (sym some)
-    no_some (Some bytes) is some = absurd cc
-
     either : g.told.content → (g.view old.0).reads meta_name ≡ None → ((g.view new.0).reads meta_name ≡ None) ⊎ ((g.view new.0).reads meta_name ≡ Some (new_text form))
     either t is = by (leaves.either t) where
       by : ((g.view new.0).reads meta_name ≡ Some (new_text form)) ⊎ ((g.view new.0).reads meta_name ≡ (g.view mid.0).reads meta_name) → ((g.view new.0).reads meta_name ≡ None) ⊎ ((g.view new.0).reads meta_name ≡ Some (new_text form))
@@ -171,7 +183,7 @@ module _ {D W C : Type 0} (g : Ghosts D W C) (before : D) (form : IndexForm) whe
     left = λ t. same_unmade (g.view before).reads (g.view now).reads (new_text form) (h.frame.content t);
     unchanged = λ t bytes. h.frame.content t;
     cause = cause error h.cause;
-    frame = quiet_notes h.frame;
+    frame = quiet_first h.frame;
   } where
     cause : (e : TantivyError) → ListRefusal g.told (g.view before) (g.view now) e
         → OpenCause g.told.content form.schema (g.view before).reads (Rose (g.view before).faults (g.view now).faults) ((g.view now).faults ≡ (g.view before).faults) e
@@ -204,7 +216,7 @@ module _ {D W C : Type 0} (g : Ghosts D W C) (before : D) (form : IndexForm) whe
       left = λ t. later_unmade (g.view before).reads (g.view wrapped.0).reads (g.view now).reads (new_text form) (w.frame.content t) (h.left t);
       unchanged = λ t bytes n. h.unchanged t bytes n ∙ w.frame.content t n;
       cause = loaded_cause now error h.cause;
-      frame = notes_later w.frame h.frame;
+      frame = first_later w.frame h.frame;
     })
 
 -- ---- with the settings of an index that says none

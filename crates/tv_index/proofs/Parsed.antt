@@ -30,11 +30,6 @@ pub corrupt_tree : (e : ReadError) (bytes : List ℕ) (d : Data) → read bytes 
 corrupt_tree Corrupt bytes d is h = nothing bytes d is h
 corrupt_tree Memory bytes d is h = tt
 
--- bytes without a tree
-pub corrupt_text : (e : ReadError) (bytes : List ℕ) → IfCorrupt e (IsUtf8 bytes → read bytes ≡ None) → IfCorrupt e (MeansNothing bytes)
-corrupt_text Corrupt bytes h = λ settings commit schema s. none_some s.tree (sym (h s.utf8) ∙ s.parsed)
-corrupt_text Memory bytes h = tt
-
 pub payload_utf8 : (payload : Option (String Global)) → IfSome (text_of payload) IsUtf8
 payload_utf8 None = tt
 payload_utf8 (Some text) = IsUtf8-string_bytes text

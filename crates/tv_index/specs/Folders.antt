@@ -37,7 +37,7 @@ RefusedIn g path why error = IsNoFolder path error ⊎ IsRefused g why error
 abbrev pub IsOpenIn : {D W C : Type 0} → Ghosts D W C → IndexState D → Type 0
 IsOpenIn {D} g index = (before : D) × IsJustOpened g before × OpensStanding g before index
 
--- nor is it open
+-- it isn't open, for the folder's cause or that of the directory
 abbrev pub NotOpenIn : {D W C : Type 0} → Ghosts D W C → (path : List ℕ) → TantivyError → Type 0
 NotOpenIn g path error = RefusedIn g path (NotStanding g) error
 

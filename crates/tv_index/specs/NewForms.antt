@@ -12,8 +12,7 @@ use Rattle.tv_model.specs.Listing.{Lists}
 use Rattle.tv_model.specs.Meaning.{Means}
 use Rattle.tv_model.specs.Names.{list_name, meta_name}
 use Rattle.tv_index.specs.Metas.{commit_of, settings_of}
-use Rattle.tv_index.specs.Opening.{HasCommit, IsRefusedBytes, LoadCause, OpenCause, form_of}
-use Rattle.tv_index.specs.Saving.{FrameNotes}
+use Rattle.tv_index.specs.Opening.{FrameNotesFirst, HasCommit, IsRefusedBytes, LoadCause, OpenCause, form_of}
 use Rattle.tv_index.specs.Settings.{settings_view}
 use Rattle.tv_index.specs.declared.index_meta.UntrackedIndexMeta.{UntrackedIndexMeta}
 use Rattle.tv_index.specs.declared.index_settings.IndexSettings.{IndexSettings}
@@ -59,14 +58,14 @@ pub record OpensForm {D W C : Type 0} (g : Ghosts D W C) (before : D) (form : In
   pub lists : g.told.content → Lists ((g.view now.0).reads list_name) now.1.managed
   pub collections : now.1.collections ≡ no_collections
   pub quiet : (g.view now.0).faults ≡ (g.view before).faults
-  pub frame : FrameNotes g.told (g.view before) (g.view now.0)
+  pub frame : FrameNotesFirst g.told (g.view before) (g.view now.0)
 
 -- It isn't open, and the directory comes back. Where bytes were refused, nothing was changed.
 pub record NotOpenedForm {D W C : Type 0} (g : Ghosts D W C) (before : D) (form : IndexForm) (now : D) (error : TantivyError) : Type 0 where
   pub left : g.told.content → LeavesUnmade (g.view before).reads (g.view now).reads (new_text form)
   pub unchanged : g.told.content → IsRefusedBytes error → Same (g.view before).reads (g.view now).reads
   pub cause : OpenCause g.told.content form.schema (g.view before).reads (Rose (g.view before).faults (g.view now).faults) ((g.view now).faults ≡ (g.view before).faults) error
-  pub frame : FrameNotes g.told (g.view before) (g.view now)
+  pub frame : FrameNotesFirst g.told (g.view before) (g.view now)
 
 -- a new index of this form: its first commit
 pub record IsFirst (form : IndexForm) (meta : UntrackedIndexMeta) : Type 0 where
@@ -83,11 +82,11 @@ pub record LoadsOrCreates {D W C : Type 0} (g : Ghosts D W C) (old new : D × Ma
   pub left : g.told.content → LeavesMade (g.view old.0).reads (g.view new.0).reads (new_text form)
   pub lists : g.told.content → Lists ((g.view old.0).reads list_name) old.1.managed → Lists ((g.view new.0).reads list_name) new.1.managed
   pub quiet : (g.view new.0).faults ≡ (g.view old.0).faults
-  pub frame : FrameNotes g.told (g.view old.0) (g.view new.0)
+  pub frame : FrameNotesFirst g.told (g.view old.0) (g.view new.0)
 
 -- it wasn't opened
 pub record NotLoaded {D W C : Type 0} (g : Ghosts D W C) (old : D × ManagedNames) (now : D) (form : IndexForm) (error : TantivyError) : Type 0 where
   pub left : g.told.content → LeavesUnmade (g.view old.0).reads (g.view now).reads (new_text form)
   pub unchanged : g.told.content → IsRefusedBytes error → Same (g.view old.0).reads (g.view now).reads
   pub cause : LoadCause g.told.content form.schema ((g.view old.0).reads meta_name) (Rose (g.view old.0).faults (g.view now).faults) ((g.view now).faults ≡ (g.view old.0).faults) error
-  pub frame : FrameNotes g.told (g.view old.0) (g.view now)
+  pub frame : FrameNotesFirst g.told (g.view old.0) (g.view now)

@@ -149,7 +149,8 @@ impl<D: Directory> Index<D> {
     }
 
     /// Opens the index that stands in a directory, or makes one with this schema where there is no
-    /// `meta.json`. A refusal gives the directory back.
+    /// `meta.json`. A refusal gives the directory back. Where there is a `meta.json`, no notice of it
+    /// comes.
     ///
     /// `DataCorruption` comes for the list of managed files and for `meta.json`, `SchemaError`
     /// where `meta.json` has another schema.

@@ -102,7 +102,8 @@ impl IndexBuilder {
     }
 
     /// Opens the index that stands in a directory, whose settings stay, or makes one with these
-    /// settings where there is no `meta.json`. A refusal gives the directory back.
+    /// settings where there is no `meta.json`. A refusal gives the directory back. Where there is a
+    /// `meta.json`, no notice of it comes.
     ///
     /// Errors are those of `Index::open_or_create`. Without a schema nothing is opened:
     /// `InvalidArgument` comes where no index stands there, `IndexBuilderMissingArgument` where one

@@ -23,7 +23,7 @@ fn put_payload(out: &mut Vec<u8>, payload: Option<&str>) -> Result<(), Memory>
 }
 
 /// The text of `meta.json`, without its line feed: that of a commit with this number, this payload
-/// and these segments, in the order of their ids.
+/// and these segments, in the order in which they are handed in, which is to be that of their ids.
 pub fn print_meta(
     alloc: Global,
     settings: &IndexSettings,

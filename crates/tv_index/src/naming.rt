@@ -61,7 +61,7 @@ pub fn has_name(names: &BTreeSet<String>, name: &str) -> bool
     names.contains(name)
 }
 
-/// Adds a copy of a name that is a text in a set.
+/// Adds a copy of a name.
 pub fn push_text(alloc: Global, names: &mut Vec<FileName>, text: &String) -> Result<(), Memory>
     requires { is_plain (string_bytes text.now) ≡ true }
     ensures { OnOk result (names.new.items ≡ names.old.items ++ string_bytes text.now ∷ []) }
@@ -71,7 +71,7 @@ pub fn push_text(alloc: Global, names: &mut Vec<FileName>, text: &String) -> Res
     Ok(())
 }
 
-// Adds a name that is a text in a set, where it is among others.
+// Adds a copy of a name, where it is among others.
 fn push_shared(
     alloc: Global,
     names: &mut Vec<FileName>,

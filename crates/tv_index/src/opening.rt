@@ -204,7 +204,7 @@ pub(crate) fn open_or_create_with<D: Directory>(
 
 /// Opens the index that stands in a directory, or makes one with this schema where there is no
 /// `meta.json`. Gives the directory with its managed names, and the commit that the index shows. A
-/// refusal gives the directory back.
+/// refusal gives the directory back. Where there is a `meta.json`, no notice of it comes.
 ///
 /// `DataCorruption` comes for the list of managed files and for `meta.json`, `SchemaError` where
 /// `meta.json` has another schema.

@@ -74,8 +74,9 @@ fn saved_text(alloc: Global, meta: &IndexMeta) -> Result<Vec<u8>, Memory>
     Ok(text)
 }
 
-/// Saves a commit in one step: `meta.json` then has its printed form and a line feed, which mean that
-/// commit. The segments stand there in the order of their ids, none of which stands twice.
+/// Saves a commit in one step: where no id stands twice, `meta.json` then has its printed form, with
+/// the segments in the order of their ids, and a line feed, which mean that commit. Of two shares with
+/// one id nothing is said.
 ///
 /// The directory is synced before and afterwards. An `IoError` comes where the device refused a call,
 /// and `Memory` where memory was wanted; then `meta.json` has what it had. After an error `meta.json`

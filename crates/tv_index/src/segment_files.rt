@@ -37,7 +37,7 @@ impl Segment {
     }
 
     /// Makes a file of the segment, as `ManagedDirectory::open_write` does. `FileAlreadyExists`
-    /// comes where its name reads, `Leaving` where an unfinished collection has it.
+    /// comes where its name reads, `Leaving` where it doesn't, and an unfinished collection has it.
     pub fn open_write<D: Directory>(
         &self,
         alloc: Global,

@@ -1,8 +1,8 @@
 //! The segments in `meta.json`.
-ghost use Rattle.std.specs.Prelude.{◌≡◌, [], IfOk, codes, map, option_and_then};
+ghost use Rattle.std.specs.Prelude.{◌≡◌, [], IfOk, codes, map};
 ghost use Rattle.serde_json.specs.Find.{as_array, get};
 ghost use Rattle.serde_json.specs.View.{items_view, view};
-ghost use Rattle.tv_model.specs.JsonFields.{field, id_of};
+ghost use Rattle.tv_model.specs.JsonFields.{id_of};
 ghost use Rattle.tv_model.specs.Segments.{num_deleted};
 ghost use Rattle.tv_index.specs.MetaReading.{segments_at};
 ghost use Rattle.tv_index.specs.Reads.{Gives};

@@ -1,5 +1,5 @@
 //! Segments that an inventory keeps as long as they are shared.
-ghost use Rattle.std.specs.Prelude.{◌≡◌, ◌≢◌, ◌≤◌, ◌++◌, ◌↔◌, [], ◌∷◌, ℕ, List, Some, None, All, IfOk, IsErr, MatchResult, OnErr, OnOk, false, find, map, nat_lt, option_map, string_bytes};
+ghost use Rattle.std.specs.Prelude.{◌≡◌, ◌≢◌, ◌≤◌, ◌↔◌, [], ℕ, List, Some, None, All, IfOk, IsErr, MatchResult, OnErr, OnOk, false, find, map, nat_lt, option_map, string_bytes};
 ghost use Rattle.std.specs.List.{list_any};
 ghost use Rattle.std.specs.Option.{IsSomeAnd};
 ghost use Rattle.tv_base.specs.Entries.{IsFull, is_at, is_full, one_more, released};

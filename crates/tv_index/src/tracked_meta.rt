@@ -48,8 +48,8 @@ impl IndexMeta {
         }
     }
 
-    /// The text of `meta.json`, without its line feed. The segments stand there in the order of
-    /// their ids, none of which stands twice.
+    /// The text of `meta.json`, without its line feed. Where no id stands twice, the segments stand
+    /// there in the order of their ids. Of two shares with one id nothing is said.
     pub fn print(&self, alloc: Global) -> Result<Vec<u8>, Memory>
         ensures text { IfOk result (λ text. (commit : Commit)
             → IsInOrder (tracked_commit self.now) commit

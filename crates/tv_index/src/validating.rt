@@ -1,5 +1,5 @@
 //! Which files of the last commit are damaged.
-ghost use Rattle.std.specs.Prelude.{◌≡◌, ◌||◌, ◌&&◌, ◌++◌, [], ◌∷◌, ℕ, List, Some, true, IfOk, OnOk, filter, map, not, string_bytes};
+ghost use Rattle.std.specs.Prelude.{◌≡◌, ◌||◌, ◌&&◌, ◌++◌, ℕ, List, Some, true, IfOk, OnOk, filter, map, not, string_bytes};
 ghost use Rattle.std.specs.List.{flat_map, list_all};
 ghost use Rattle.tv_directory.specs.View.{OnlyReads};
 ghost use Rattle.tv_managed.specs.Frames.{KeepsNames};

@@ -7,13 +7,15 @@ use Rattle.std.specs.List.{flat_map}
 use Rattle.std.specs.Ordering.{nat_cmp}
 use Rattle.std.proofs.lemmas.Bool.{false_from_ne_true, or_left}
 use Rattle.tv_model.specs.Collections.{Collection, begun, collection_at, done_of, without}
-use Rattle.tv_model.specs.Disk.{Throughout, possible_now}
+use Rattle.tv_model.specs.Disk.{Throughout, possible_now, TouchesOnly}
 use Rattle.tv_model.specs.Files.{Same}
 use Rattle.tv_model.specs.Listing.{Lists, list_text}
 use Rattle.tv_model.specs.Names.{is, has, list_name}
-use Rattle.tv_model.proofs.CollectionStates.{done_within}
+use Rattle.tv_model.proofs.CollectionStates.{done_within, has_append}
 use Rattle.tv_model.proofs.Entries.{is_itself, is_text}
-use Rattle.tv_directory.specs.Images.{KeepsDisk, TouchesOnly}
+use Rattle.tv_model.proofs.DiskLaws.{weaker, touches_then}
+use Rattle.tv_model.proofs.Numbered.{put_found}
+use Rattle.tv_directory.specs.Images.{KeepsDisk}
 use Rattle.tv_directory.specs.View.{Kept, OnlyReads}
 use Rattle.tv_directory.specs.declared.directory.Directory.{Ghosts}
 use Rattle.tv_managed.specs.Collecting.{Begins, Ended, EndsCollection, FailsAtMost, Leaves, OnlyDeletes, Tried, Tries, TriesSome, ending, names_of, standing}
@@ -23,12 +25,10 @@ use Rattle.tv_managed.specs.Managed.{Covers}
 use Rattle.tv_managed.specs.Names.{ManagedNames, done_names}
 use Rattle.tv_managed.specs.declared.collection.GarbageCollectionResult.{GarbageCollectionResult}
 use Rattle.tv_managed.proofs.Beginning.{begun_safely}
-use Rattle.tv_managed.proofs.Collections.{at_put, more_done, none_done, put_and_out, put_twice}
-use Rattle.tv_managed.proofs.Removals.{has_or}
+use Rattle.tv_managed.proofs.Collections.{more_done, none_done, put_and_out, put_twice}
 use Rattle.tv_managed.proofs.Giving.{settles_asked}
 use Rattle.tv_managed.proofs.Synced.{IsSynced, TriesSynced, lists_synced, settles_synced, settles_touch, tries_synced}
-use Rattle.tv_managed.proofs.Touching.{touches_then}
-use Rattle.tv_managed.proofs.Tracking.{covered_done, track_names, track_read, track_then, weaker}
+use Rattle.tv_managed.proofs.Tracking.{covered_done, track_names, track_read, track_then}
 use Rattle.tv_managed.proofs.Tried.{tried_none, tried_quiet, tried_then}
 
 -- ---- answers
@@ -57,7 +57,7 @@ standing_done names d n free =
     let es = names.collections.unfinished in
     let k = names.collections.next in
     ap (λ (l : List (ℕ × Collection)). has (flat_map (λ e. e.1.done) l) n) (sym (put_twice es k (begun []) d))
-    ∙ more_done (insert_entry nat_cmp es k (begun [])) k (begun []) d n (has d.done n) (at_put es k (begun [])) refl
+    ∙ more_done (insert_entry nat_cmp es k (begun [])) k (begun []) d n (has d.done n) (put_found es k (begun [])) refl
     ∙ ap (λ b. b || has d.done n) (none_done es k (begun []) n free refl)
 
 neither : (a b : Bool) → (a || b) ≡ false → a ≡ false
@@ -87,7 +87,7 @@ tried_on g {front} {deleted} {failed} {old} {mid} {new} a b = rw (← append-nil
 -- a name that isn't among those that were to be tried isn't deleted
 untried : (taken front rest : List (List ℕ)) (outcomes : List Bool) (n : List ℕ) → taken ≡ front ++ rest → has taken n ≡ false → has (done_of front outcomes) n ≡ false
 untried taken front rest outcomes n split none =
-    false_from_ne_true _ (λ h. true≢false (sym (ap (λ l. has l n) split ∙ has_or front rest n ∙ or_left (has front n) (has rest n) (done_within front outcomes n h)) ∙ none))
+    false_from_ne_true _ (λ h. true≢false (sym (ap (λ l. has l n) split ∙ has_append front rest n ∙ or_left (has front n) (has rest n) (done_within front outcomes n h)) ∙ none))
 
 leaves_of : {A E D W C : Type 0} (g : Ghosts D W C) (taken front rest deleted failed : List (List ℕ)) {old new : D × ManagedNames} (result : Result A E) → taken ≡ front ++ rest → Tried g front old new deleted failed
     → OnOk result (new.1 ≡ record old.1 { managed = without deleted old.1.managed }) → OnErr result (new.1 ≡ standing old.1 (record { untried = rest; done = deleted; failed = failed })) → Leaves g taken old new result
@@ -186,7 +186,7 @@ pub at_far : {D W C : Type 0} (g : Ghosts D W C) {taken : List (List ℕ)} {old 
 at_far g {old = old} {new = new} number same f =
     ap (λ k. collection_at new.1.collections k) same
     ∙ ap (λ v. collection_at v.collections old.1.collections.next) f.names
-    ∙ at_put old.1.collections.unfinished old.1.collections.next _
+    ∙ put_found old.1.collections.unfinished old.1.collections.next _
 
 covers_far : {D W C : Type 0} (g : Ghosts D W C) {taken : List (List ℕ)} {old new : D × ManagedNames} → Far g taken old new → g.told.content → Covers ((g.view old.0).reads list_name) old.1 → Covers ((g.view new.0).reads list_name) new.1
 covers_far g {old = old} {new = new} f tells was =

@@ -11,7 +11,7 @@ use Rattle.std.specs.declared.cmp.Ordering.{Ordering}
 use Rattle.std.specs.declared.cmp.Ordering.TheVariants.{Less, Equal, Greater}
 use Rattle.tv_model.specs.Names.{has}
 use Rattle.tv_model.specs.Collections.{Collection, taken}
-use Rattle.tv_managed.proofs.Removals.{has_or}
+use Rattle.tv_model.proofs.CollectionStates.{has_append}
 
 -- a number is the same as itself
 nat_cmp_same : (n : ℕ) → nat_cmp n n ≡ Equal
@@ -37,8 +37,8 @@ among_done (e ∷ entries) number c n at = here (is_eq (nat_cmp number e.0)) (am
   later false b d h = refl
 
   here : (b : Bool) → (lookup (is_at (nat_cmp number)) entries ≡ Some c → (has c.done n || has (dones entries) n) ≡ has (dones entries) n) → cond b (Some e.1) (lookup (is_at (nat_cmp number)) entries) ≡ Some c → (has c.done n || has (e.1.done ++ dones entries) n) ≡ has (e.1.done ++ dones entries) n
-  here true before k = let it : e.1 ≡ c = cc in rw (has_or e.1.done (dones entries) n, ← it) (twice (has e.1.done n) (has (dones entries) n))
-  here false before k = rw (has_or e.1.done (dones entries) n) (later (has c.done n) (has e.1.done n) (has (dones entries) n) (before k))
+  here true before k = let it : e.1 ≡ c = cc in rw (has_append e.1.done (dones entries) n, ← it) (twice (has e.1.done n) (has (dones entries) n))
+  here false before k = rw (has_append e.1.done (dones entries) n) (later (has c.done n) (has e.1.done n) (has (dones entries) n) (before k))
 
 -- what was done, and what is done once the collection of this number stands so
 pub more_done : (entries : List (ℕ × Collection)) (number : ℕ) (c later : Collection) (n : List ℕ) (b : Bool) → lookup (is_at (nat_cmp number)) entries ≡ Some c → has later.done n ≡ (has c.done n || b)
@@ -56,11 +56,11 @@ more_done (e ∷ entries) number c later n b at is = here (nat_cmp number e.0) (
 
   here : (r : Ordering) → (lookup (is_at (nat_cmp number)) entries ≡ Some c → has (dones (insert_entry nat_cmp entries number later)) n ≡ (has (dones entries) n || b)) → cond (is_eq r) (Some e.1) (lookup (is_at (nat_cmp number)) entries) ≡ Some c
       → has (dones (match_ordering r ((number, later) ∷ e ∷ entries) ((e.0, later) ∷ entries) (e ∷ insert_entry nat_cmp entries number later))) n ≡ (has (e.1.done ++ dones entries) n || b)
-  here Less before k = rw (has_or later.done (e.1.done ++ dones entries) n, has_or e.1.done (dones entries) n, is) (first (has c.done n) b (has e.1.done n) (has (dones entries) n) (among_done entries number c n k))
+  here Less before k = rw (has_append later.done (e.1.done ++ dones entries) n, has_append e.1.done (dones entries) n, is) (first (has c.done n) b (has e.1.done n) (has (dones entries) n) (among_done entries number c n k))
   here Equal before k =
       let it : e.1 ≡ c = cc in
-      rw (has_or later.done (dones entries) n, has_or e.1.done (dones entries) n, is, it) (same (has c.done n) b (has (dones entries) n))
-  here Greater before k = rw (has_or e.1.done (dones (insert_entry nat_cmp entries number later)) n, has_or e.1.done (dones entries) n) (other (has e.1.done n) _ (has (dones entries) n) b (before k))
+      rw (has_append later.done (dones entries) n, has_append e.1.done (dones entries) n, is, it) (same (has c.done n) b (has (dones entries) n))
+  here Greater before k = rw (has_append e.1.done (dones (insert_entry nat_cmp entries number later)) n, has_append e.1.done (dones entries) n) (other (has e.1.done n) _ (has (dones entries) n) b (before k))
 
 -- a collection that has done nothing was put, under a number that is free
 pub none_done : (entries : List (ℕ × Collection)) (number : ℕ) (later : Collection) (n : List ℕ) → lookup (is_at (nat_cmp number)) entries ≡ None → later.done ≡ [] → has (dones (insert_entry nat_cmp entries number later)) n ≡ has (dones entries) n
@@ -70,7 +70,7 @@ none_done (e ∷ entries) number later n at is = here (nat_cmp number e.0) (λ k
       → has (dones (match_ordering r ((number, later) ∷ e ∷ entries) ((e.0, later) ∷ entries) (e ∷ insert_entry nat_cmp entries number later))) n ≡ has (e.1.done ++ dones entries) n
   here Less before k = rw is refl
   here Equal before k = absurd cc
-  here Greater before k = rw (has_or e.1.done (dones (insert_entry nat_cmp entries number later)) n, has_or e.1.done (dones entries) n, before k) refl
+  here Greater before k = rw (has_append e.1.done (dones (insert_entry nat_cmp entries number later)) n, has_append e.1.done (dones entries) n, before k) refl
 
 -- a collection was taken out: what was done, it has done, or it is done still
 pub fewer_done : (entries : List (ℕ × Collection)) (number : ℕ) (c : Collection) (n : List ℕ) → lookup (is_at (nat_cmp number)) entries ≡ Some c → has (dones entries) n ≡ (has c.done n || has (dones (remove_entry (is_at (nat_cmp number)) entries)) n)
@@ -81,8 +81,8 @@ fewer_done (e ∷ entries) number c n at = here (is_eq (nat_cmp number e.0)) (fe
 
   here : (b : Bool) → (lookup (is_at (nat_cmp number)) entries ≡ Some c → has (dones entries) n ≡ (has c.done n || has (dones (remove_entry (is_at (nat_cmp number)) entries)) n)) → cond b (Some e.1) (lookup (is_at (nat_cmp number)) entries) ≡ Some c
       → has (e.1.done ++ dones entries) n ≡ (has c.done n || has (dones (cond b entries (e ∷ remove_entry (is_at (nat_cmp number)) entries))) n)
-  here true before k = let it : e.1 ≡ c = cc in rw (has_or e.1.done (dones entries) n, it) refl
-  here false before k = rw (has_or e.1.done (dones entries) n, has_or e.1.done (dones (remove_entry (is_at (nat_cmp number)) entries)) n) (turn (has c.done n) (has e.1.done n) _ _ (before k))
+  here true before k = let it : e.1 ≡ c = cc in rw (has_append e.1.done (dones entries) n, it) refl
+  here false before k = rw (has_append e.1.done (dones entries) n, has_append e.1.done (dones (remove_entry (is_at (nat_cmp number)) entries)) n) (turn (has c.done n) (has e.1.done n) _ _ (before k))
 
 -- writing the value of a number that is there is putting it
 pub set_is_put : {X : Type 0} (entries : List (ℕ × X)) (number : ℕ) (c later : X) → IsStrictlySortedBy nat_cmp (keys_of entries) → lookup (is_at (nat_cmp number)) entries ≡ Some c
@@ -103,30 +103,20 @@ set_is_put {X} (e ∷ entries) number c later sorted at = here (nat_cmp number e
 -- a name that a collection holds
 pub held_by : (entries : List (ℕ × Collection)) (n : List ℕ) → has (flat_map (λ e. taken e.1) entries) n ≡ list_any (λ c. has (taken c) n) (values_of entries)
 held_by [] n = refl
-held_by (e ∷ entries) n = has_or (taken e.1) (flat_map (λ e. taken e.1) entries) n ∙ ap (λ b. has (taken e.1) n || b) (held_by entries n)
+held_by (e ∷ entries) n = has_append (taken e.1) (flat_map (λ e. taken e.1) entries) n ∙ ap (λ b. has (taken e.1) n || b) (held_by entries n)
 
 -- what is done is held
 pub done_held : (entries : List (ℕ × Collection)) (n : List ℕ) → has (flat_map (λ e. taken e.1) entries) n ≡ false → has (dones entries) n ≡ false
 done_held [] n h = refl
-done_held (e ∷ entries) n h = here (sym (has_or (taken e.1) (flat_map (λ e. taken e.1) entries) n) ∙ h) (done_held entries n) where
+done_held (e ∷ entries) n h = here (sym (has_append (taken e.1) (flat_map (λ e. taken e.1) entries) n) ∙ h) (done_held entries n) where
   none : (a b d x y : Bool) → (((a || b) || d) || x) ≡ false → (x ≡ false → y ≡ false) → (a || y) ≡ false
   none a b d x y h k = grind arith
 
   here : (has (taken e.1) n || has (flat_map (λ e. taken e.1) entries) n) ≡ false → (has (flat_map (λ e. taken e.1) entries) n ≡ false → has (dones entries) n ≡ false) → has (e.1.done ++ dones entries) n ≡ false
   here k more =
-      has_or e.1.done (dones entries) n
+      has_append e.1.done (dones entries) n
       ∙ none (has e.1.done n) (has e.1.failed n) (has e.1.untried n) (has (flat_map (λ e. taken e.1) entries) n) (has (dones entries) n)
-      (ap (λ b. b || has (flat_map (λ e. taken e.1) entries) n) (sym (has_or (e.1.done ++ e.1.failed) e.1.untried n ∙ ap (λ b. b || has e.1.untried n) (has_or e.1.done e.1.failed n))) ∙ k) more
-
--- what stands at a number after it was put
-pub at_put : {X : Type 0} (entries : List (ℕ × X)) (number : ℕ) (c : X) → lookup (is_at (nat_cmp number)) (insert_entry nat_cmp entries number c) ≡ Some c
-at_put [] number c = rw (nat_cmp_same number) refl
-at_put {X} (e ∷ entries) number c = here (nat_cmp number e.0) refl (at_put entries number c) where
-  here : (r : Ordering) → nat_cmp number e.0 ≡ r → lookup (is_at (nat_cmp number)) (insert_entry nat_cmp entries number c) ≡ Some c
-      → lookup (is_at (nat_cmp number)) (match_ordering r ((number, c) ∷ e ∷ entries) ((e.0, c) ∷ entries) (e ∷ insert_entry nat_cmp entries number c)) ≡ Some c
-  here Less is h = rw (nat_cmp_same number) refl
-  here Equal is h = rw is refl
-  here Greater is h = rw is h
+      (ap (λ b. b || has (flat_map (λ e. taken e.1) entries) n) (sym (has_append (e.1.done ++ e.1.failed) e.1.untried n ∙ ap (λ b. b || has e.1.untried n) (has_append e.1.done e.1.failed n))) ∙ k) more
 
 -- what was put twice
 pub put_twice : {X : Type 0} (entries : List (ℕ × X)) (number : ℕ) (c later : X) → insert_entry nat_cmp (insert_entry nat_cmp entries number c) number later ≡ insert_entry nat_cmp entries number later

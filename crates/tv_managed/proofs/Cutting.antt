@@ -6,7 +6,7 @@ use Rattle.tv_model.specs.Disk.{DiskState, Absent, Sealed, IsThere, Possible, po
 use Rattle.tv_model.specs.Listed.{ListsEachFile}
 use Rattle.tv_model.specs.Listing.{IsListOf, list_text}
 use Rattle.tv_model.specs.Names.{has, is_plain, is_undotted, list_name}
-use Rattle.tv_model.proofs.DiskLaws.{started, goes_on, goes_on_run}
+use Rattle.tv_model.proofs.DiskLaws.{started, goes_on, goes_on_run, at_end, weaker}
 use Rattle.tv_base.specs.declared.io.IoError.{IoError}
 use Rattle.tv_directory.specs.Images.{Settles}
 use Rattle.tv_directory.specs.declared.directory.Directory.{Ghosts}
@@ -15,7 +15,7 @@ use Rattle.tv_managed.specs.Names.{ManagedNames, done_names}
 use Rattle.tv_managed.proofs.Listing.{gone_saved}
 use Rattle.tv_managed.proofs.PlainManaged.{plain_undotted}
 use Rattle.tv_managed.proofs.Touching.{adds_run, gained_run, gained_same, gained_then, gained_within}
-use Rattle.tv_managed.proofs.Tracking.{at_end, covered_list, covered_saved, covered_within, fewer, isnt_the_list, track_same, track_within, weaker}
+use Rattle.tv_managed.proofs.Tracking.{covered_list, covered_saved, covered_within, fewer, isnt_the_list, track_same, track_within}
 
 -- no name is forgotten where they are as they were
 kept_all : {X : Type 0} (old new : List (List ℕ)) (n : List ℕ) → new ≡ old → has old n ≡ true → has new n ≡ false → X

@@ -1,19 +1,19 @@
 -- How the calls that make, write, seal and delete a file keep track.
-use Rattle.std.proofs.Common.{◌≡◌, ◌≢◌, inl, inr, ℕ, true, false, true≢false, List, refl, sym, ap, subst, ◌∙◌, Result, Ok, Err}
+use Rattle.std.proofs.Common.{◌≡◌, ◌≢◌, inl, inr, ℕ, true, false, true≢false, List, sym, ap, subst, ◌∙◌, Result, Ok, Err}
 use borrow.Table.Steps.{cases}
 use Rattle.tv_model.specs.Disk.{DiskState, Absent, Possible, Disk, possible_now, Within, MayAdd, Elapses, IsSettled, Throughout}
-use Rattle.tv_model.proofs.DiskLaws.{HoldsOfFewer, started, goes_on, goes_on_run}
+use Rattle.tv_model.proofs.DiskLaws.{HoldsOfFewer, started, goes_on, goes_on_run, at_end, weaker}
 use Rattle.std.specs.Prelude.{OnOk}
 use Rattle.tv_model.specs.Names.{has, is, is_undotted, list_name}
 use Rattle.tv_model.proofs.Entries.{is_itself, is_text}
 use Rattle.tv_base.specs.declared.open_errors.DeleteError.{DeleteError}
 use Rattle.tv_base.specs.declared.open_errors.DeleteError.TheVariants as delete
-use Rattle.tv_directory.specs.Images.{DeletesState, KeepsDisk, KeepsOtherStates, Settles}
+use Rattle.tv_directory.specs.Images.{DeletesState, KeepsDisk, KeepsOtherStates}
 use Rattle.tv_directory.specs.declared.directory.Directory.{Ghosts}
 use Rattle.tv_managed.specs.Crashes.{IsCovered, IsTracked, KeepsTrack, SettlesStates, LeavesSafely, MayAddBoth}
 use Rattle.tv_managed.specs.Names.{ManagedNames, done_names}
 use Rattle.tv_managed.proofs.Touching.{gained_more, gained_none, gained_one, gained_run, gained_then, keeps_same}
-use Rattle.tv_managed.proofs.Tracking.{at_end, covered_within, fewer, track_file, weaker}
+use Rattle.tv_managed.proofs.Tracking.{covered_within, fewer, track_file}
 
 -- a call that only reads, and begins with the struct taken apart
 pub read_from : {D W C : Type 0} (g : Ghosts D W C) {old inside new : D × ManagedNames} → inside ≡ old → LeavesSafely g (KeepsDisk (g.disk inside.0) (g.disk new.0)) inside new → LeavesSafely g (KeepsDisk (g.disk old.0) (g.disk new.0)) old new
@@ -86,14 +86,6 @@ within_step {old} time within = goes_on _ (fewer_within (possible_now old)) (wit
 
 within_then : {old mid new : Disk} → Throughout (Within (possible_now old)) old mid → Throughout (Within (possible_now mid)) mid new → Throughout (Within (possible_now old)) old new
 within_then {old} first second = goes_on_run _ (fewer_within (possible_now old)) first (weaker second (λ p within. record { each = λ n s is. (at_end first).each n s (within.each n s is) }))
-
--- nothing was done, and the answer is an error
-pub settles_same : {A E : Type 0} (disk : Disk) (e : E) → SettlesStates {A = A} disk disk (Err e)
-settles_same disk e = record { moments = within_same disk; now = λ n. refl; ok = tt }
-
--- a sync, and then nothing
-pub settles_once : {A E B F : Type 0} {old new : Disk} {result : Result A E} (after : Result B F) → Settles old new result → (OnOk after (IsSettled new)) → SettlesStates old new after
-settles_once after sync ok = record { moments = within_step sync.time sync.no_more; now = sync.now; ok = ok }
 
 -- behind a call that only read
 pub settles_asked : {A E : Type 0} {old asked new : Disk} {result : Result A E} → KeepsDisk old asked → SettlesStates asked new result → SettlesStates old new result

@@ -143,9 +143,6 @@ none_listed bytes d is e names l =
     let tree : d ≡ array l.items = same_Some d (array l.items) (sym is ∙ l.parsed) in
     none_in l.items [] l.found (ap names_in (sym tree) ∙ e) l.strings l.each
 
-pub no_text : (bytes : List ℕ) → (IsUtf8 bytes → read bytes ≡ None) → (names : List (List ℕ)) → IsListOf bytes names → ⊥
-no_text bytes h names l = let bad : None ≡ Some (array l.items) = sym (h l.utf8) ∙ l.parsed in absurd cc
-
 -- the names of a list may be managed
 pub listed_managed : (bytes : List ℕ) (names : List (List ℕ)) → IsListOf bytes names → AreManaged names
 listed_managed bytes names l = record { plain = all_plain names (λ n h. plain_among l.found n l.each (sym (l.same n) ∙ h)); ordered = l.ordered }

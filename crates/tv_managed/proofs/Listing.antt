@@ -9,6 +9,7 @@ use Rattle.tv_model.specs.Listing.{IsListOf, Lists, list_text}
 use Rattle.tv_model.specs.Names.{has, is_undotted, list_name}
 use Rattle.tv_model.proofs.Entries.{has_inserted}
 use Rattle.tv_model.proofs.ListTexts.{lists_one}
+use Rattle.tv_model.proofs.DiskLaws.{at_end, weaker}
 use Rattle.tv_base.specs.declared.io.IoError.{IoError}
 use Rattle.tv_directory.specs.Images.{KeepsOtherStates, StandsNow}
 use Rattle.tv_directory.specs.View.{View}
@@ -16,7 +17,7 @@ use Rattle.tv_directory.specs.declared.directory.Directory.{Ghosts}
 use Rattle.tv_managed.specs.Crashes.{Gains, IsCovered, IsTracked, KeepsTrack, ListsName, SavesManaged, SavesText}
 use Rattle.tv_managed.specs.Managed.{registered, registering}
 use Rattle.tv_managed.specs.Names.{ManagedNames, done_names}
-use Rattle.tv_managed.proofs.Tracking.{AreGone, at_end, covered_list, covered_saved, isnt_the_list, track_same, weaker}
+use Rattle.tv_managed.proofs.Tracking.{AreGone, covered_list, covered_saved, isnt_the_list, track_same}
 use Rattle.tv_managed.proofs.Touching.{OneState, adds_run, gained_same}
 
 -- nothing was done

@@ -9,12 +9,12 @@ use Rattle.std.specs.BTreeSet.{insert_key}
 use Rattle.std.specs.Ordering.{is_eq}
 use Rattle.std.specs.declared.cmp.Ordering.TheVariants.{Less}
 use Rattle.std.proofs.Math.Bool.{or-false}
-use Rattle.std.proofs.lemmas.List.Folds.{list_any-append}
 use Rattle.std.proofs.lemmas.List.Kept.{IsStrictlySortedBy-filter}
 use Rattle.tv_model.specs.Names.{byte_cmp, is, has, is_plain}
 use Rattle.tv_model.specs.Collections.{done_of, failed_of, without}
 use Rattle.tv_model.proofs.Entries.{is_text, remove_inserted, sorted_put}
 use Rattle.tv_model.proofs.PlainNames.{both}
+use Rattle.tv_model.proofs.CollectionStates.{has_append}
 use Rattle.tv_managed.specs.Names.{AreManaged}
 use Rattle.tv_managed.proofs.SetsOfTexts.{bytes_removed}
 
@@ -30,14 +30,10 @@ pub without_none : (names : List (List ℕ)) → without [] names ≡ names
 without_none [] = refl
 without_none (x ∷ names) = ap (λ (l : List (List ℕ)). x ∷ l) (without_none names)
 
--- a name is among two lists where it is among one of them
-pub has_or : (xs ys : List (List ℕ)) (n : List ℕ) → has (xs ++ ys) n ≡ (has xs n || has ys n)
-has_or xs ys n = list_any-append (λ m. is m n) xs ys
-
 -- without some names, and then without others
 pub without_twice : (xs ys names : List (List ℕ)) → without ys (without xs names) ≡ without (xs ++ ys) names
 without_twice xs ys [] = refl
-without_twice xs ys (n ∷ names) = rw (has_or xs ys n) (kept (has xs n) (has ys n) _ _ refl (without_twice xs ys names)) where
+without_twice xs ys (n ∷ names) = rw (has_append xs ys n) (kept (has xs n) (has ys n) _ _ refl (without_twice xs ys names)) where
   kept : (a b : Bool) (rest rest' : List (List ℕ)) → has ys n ≡ b → without ys rest ≡ rest' → without ys (cond (not a) (n ∷ rest) rest) ≡ cond (not (a || b)) (n ∷ rest') rest'
   kept true b rest rest' e f = f
   kept false true rest rest' e f = rw e f

@@ -1,5 +1,5 @@
 -- What a save of the list changes.
-use Rattle.std.proofs.Common.{◌≡◌, ◌≢◌, ◌⊎◌, ℕ, true, false, true≢false, List, refl, sym, ap, subst, ◌∙◌, ⊎_elim, Option, None, Result, Ok, Err}
+use Rattle.std.proofs.Common.{◌≡◌, ◌≢◌, ◌⊎◌, ℕ, true, false, true≢false, List, refl, sym, subst, ◌∙◌, ⊎_elim, Option, None, Result, Ok, Err}
 use Rattle.std.specs.Prelude.{IsSome, OnOk, IfErr}
 use Rattle.tv_model.specs.Names.{is, has, is_undotted, list_name}
 use Rattle.tv_model.specs.Files.{Reads, Same, Sets, MaySet, KeepsOthers}
@@ -11,8 +11,9 @@ use Rattle.tv_base.specs.declared.io.IoError.TheVariants as io
 use Rattle.tv_base.specs.declared.open_errors.OpenWriteError.{OpenWriteError}
 use Rattle.tv_base.specs.declared.open_errors.OpenWriteError.TheVariants as write
 use Rattle.tv_directory.specs.Calls.{MayMake}
-use Rattle.tv_managed.specs.Managed.{Covers, ListsNew, ManagesNew, registered}
+use Rattle.tv_managed.specs.Managed.{Covers, ListsNew, ManagesNew, NeedsNoListing, registered}
 use Rattle.tv_managed.specs.Names.{ManagedNames, done_names}
+use Rattle.tv_managed.proofs.Tracking.{isnt_the_list}
 
 -- whatever became of a save of names that may be more, the list that reads has the names of before
 pub covers_put : (now before : Option (List ℕ)) (names : ManagedNames) (put : List (List ℕ)) → ((n : List ℕ) → has names.managed n ≡ true → has (done_names names.collections) n ≡ false → has put n ≡ true) → Lists now put ⊎ (now ≡ before) → Covers before names
@@ -21,9 +22,6 @@ covers_put now before names put more either was = ⊎_elim (λ saved. (put, save
 
 pub isnt_some : {X : Type 0} (o : Option X) → IsSome o → o ≡ None → ⊥
 isnt_some o h e = let k = subst IsSome e h in absurd (true≢false (sym k))
-
-undotted_isnt_list : (n : List ℕ) → is_undotted n ≡ true → n ≢ list_name
-undotted_isnt_list n h e = true≢false (sym h ∙ ap is_undotted e)
 
 -- a file that is new is the one that was made
 new_is : {D : Type 0} (reads : D → Reads) (old asked listed inside new : D) (name : List ℕ) → inside ≡ listed → Same (reads old) (reads asked) → KeepsOthers (reads asked) (reads listed) list_name → KeepsOthers (reads inside) (reads new) name
@@ -34,7 +32,7 @@ new_is reads old asked listed inside new name within same saved changed n undott
       | true ↦ λ e. is_text n name e
       | false ↦ λ e.
           let ne : n ≢ name = λ k. true≢false (sym (subst (λ m. is n m ≡ true) k (is_itself n)) ∙ e) in
-          let there : reads new n ≡ None = made n ne ∙ saved n (undotted_isnt_list n undotted) ∙ same n ∙ none in
+          let there : reads new n ≡ None = made n ne ∙ saved n (isnt_the_list n undotted) ∙ same n ∙ none in
           absurd (isnt_some (reads new n) some there)
     ] refl
 
@@ -72,3 +70,14 @@ others_of_refused old new name write.Memory h = λ n ne. h n
 -- a call that changes nothing
 pub still_covers : {D : Type 0} (reads : D → Reads) (old new : D) (before after : ManagedNames) → Same (reads old) (reads new) → after ≡ before → Covers (reads old list_name) before → Covers (reads new list_name) after
 still_covers reads old new before after same is h = subst (Covers (reads new list_name)) (sym is) (subst (λ r. Covers r before) (sym (same list_name)) h)
+
+-- a name that isn't managed is to be listed
+pub isnt_listed : (names : ManagedNames) (name : List ℕ) → is_undotted name ≡ true → has names.managed name ≡ false → NeedsNoListing names name → ⊥
+isnt_listed names name undotted none listed = true≢false (sym (listed undotted) ∙ none)
+
+-- the list stays, where the step that lists the name left it alone
+pub unsaved_by : {D : Type 0} (reads : D → Reads) (old asked listed inside new : D) (name : List ℕ) → inside ≡ listed → Same (reads old) (reads asked) → reads listed list_name ≡ reads asked list_name → KeepsOthers (reads inside) (reads new) name
+    → name ≢ list_name → reads new list_name ≡ reads old list_name
+unsaved_by reads old asked listed inside new name within same unsaved changed other =
+    let made : KeepsOthers (reads listed) (reads new) name = subst (λ d. KeepsOthers (reads d) (reads new) name) within changed in
+    made list_name (λ k. other (sym k)) ∙ unsaved ∙ same list_name

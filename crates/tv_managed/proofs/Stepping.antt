@@ -8,6 +8,7 @@ use Rattle.tv_model.specs.Disk.{Absent}
 use Rattle.tv_model.specs.Names.{has, is, is_plain, list_name}
 use Rattle.tv_model.specs.Collections.{Collection, Collections, collection_at, having_tried, with_collection}
 use Rattle.tv_model.proofs.Entries.{is_text}
+use Rattle.tv_model.proofs.CollectionStates.{has_append}
 use Rattle.tv_directory.specs.declared.directory.Directory.{Ghosts}
 use Rattle.tv_managed.specs.Collecting.{TriesName, is_done}
 use Rattle.tv_managed.specs.Crashes.{KeepsTrack, LeavesSafely, TriesState, TriesStates}
@@ -15,7 +16,6 @@ use Rattle.tv_managed.specs.Names.{ManagedNames, done_names}
 use Rattle.tv_managed.specs.declared.collection.CollectStep.{CollectStep}
 use Rattle.tv_managed.proofs.Collections.{more_done}
 use Rattle.tv_managed.proofs.Giving.{track_deleted}
-use Rattle.tv_managed.proofs.Removals.{has_or}
 use Rattle.tv_managed.proofs.Touching.{adds_run, gained_one}
 use Rattle.tv_managed.proofs.Tracking.{covered_done, track_names, track_then}
 
@@ -24,7 +24,7 @@ pub plain_other : (name : List ℕ) → is_plain name ≡ true → name ≢ list
 plain_other name plain same = true≢false (sym plain ∙ ap is_plain same)
 
 tried_done : (d : Collection) (name : List ℕ) (left : List (List ℕ)) (gone : Bool) (n : List ℕ) → has (having_tried d name left gone).done n ≡ (has d.done n || (gone && is name n))
-tried_done d name left true n = has_or d.done (name ∷ []) n ∙ ap (λ b. has d.done n || b) (or-false (is name n))
+tried_done d name left true n = has_append d.done (name ∷ []) n ∙ ap (λ b. has d.done n || b) (or-false (is name n))
 tried_done d name left false n = sym (or-false (has d.done n))
 
 -- what is done after a name was tried

@@ -1,13 +1,11 @@
 -- What a crash may leave of a collection at once, which tries its names behind a sync.
 use Rattle.std.proofs.Common.{◌≡◌, ⊎_elim, ◌⊎◌, inl, inr, ℕ, true, List, refl, ap, ◌∙◌, Result, Ok}
-use Rattle.tv_model.specs.Disk.{Sealed, Possible, Disk, possible_now, Within, MayAdd, Throughout}
+use Rattle.tv_model.specs.Disk.{Sealed, Possible, Disk, possible_now, Within, MayAdd, Throughout, TouchesOnly}
 use Rattle.tv_model.specs.Names.{has, list_name}
-use Rattle.tv_model.proofs.DiskLaws.{HoldsOfFewer, goes_on_run}
-use Rattle.tv_directory.specs.Images.{TouchesOnly}
+use Rattle.tv_model.proofs.DiskLaws.{HoldsOfFewer, goes_on_run, at_end, weaker, touches_then}
 use Rattle.tv_managed.specs.Crashes.{AnyOrList, Gains, IsLost, IsSettledBut, LosesNames, SettlesStates, TriesStates}
 use Rattle.tv_managed.specs.declared.collection.CollectStep.{CollectStep}
-use Rattle.tv_managed.proofs.Touching.{gained_same, gained_then, touches_then}
-use Rattle.tv_managed.proofs.Tracking.{at_end, weaker}
+use Rattle.tv_managed.proofs.Touching.{gained_same, gained_then}
 
 -- ---- names that are tried
 

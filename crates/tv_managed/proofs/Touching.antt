@@ -1,57 +1,22 @@
 -- What each step leaves alone of the files on a disk.
 use Rattle.std.proofs.Common.{◌≡◌, ◌≢◌, ◌≤◌, ◌<◌, ⊎_elim, ℕ, Bool, true, false, List, refl, sym, ap, subst, ◌∙◌, inl, inr, arith, Result, Ok, Err}
 use Rattle.std.proofs.lemmas.Bool.{cases_lt}
-use Rattle.tv_model.specs.Disk.{DiskState, Absent, Unsealed, Sealed, IsThere, Possible, Disk, possible_now, Within, MayAdd, Elapses, Throughout, OnlyTouches, OnlyMoves}
+use Rattle.tv_model.specs.Disk.{DiskState, Absent, Unsealed, Sealed, IsThere, Possible, Disk, possible_now, Within, MayAdd, Elapses, Throughout, TouchesOnly}
 use Rattle.tv_model.specs.Names.{list_name}
-use Rattle.tv_model.proofs.DiskLaws.{HoldsOfFewer, same, same_then, started, goes_on, goes_on_run}
+use Rattle.tv_model.proofs.DiskLaws.{HoldsOfFewer, at_end, goes_on, goes_on_run, same, same_then, started, touches_file, touches_none, weaker}
 use Rattle.tv_base.specs.declared.io.IoError.{IoError}
 use Rattle.tv_base.specs.declared.io.IoError.TheVariants as io
 use Rattle.tv_base.specs.declared.open_errors.OpenWriteError.TheVariants as write
 use Rattle.tv_base.specs.declared.open_errors.OpenWriteError.{OpenWriteError}
-use Rattle.tv_directory.specs.Images.{KeepsDisk, SameStates, KeepsOtherStates, GivesState, OpensState, MayOpen, WritesState, TouchesOnly}
+use Rattle.tv_directory.specs.Images.{KeepsDisk, KeepsOtherStates, GivesState, OpensState, MayOpen, WritesState}
 use Rattle.tv_directory.specs.declared.directory.Directory.{Ghosts}
 use Rattle.tv_managed.specs.Crashes.{Gains, IsCovered, IsTracked, KeepsTrack}
 use Rattle.tv_managed.specs.Names.{ManagedNames}
-use Rattle.tv_managed.proofs.Tracking.{at_end, covered_file, covered_within, not_done, track_step, weaker}
-
-fewer_touched : (possible : Possible) (touched : List ℕ → Type 0) → HoldsOfFewer (OnlyTouches touched possible)
-fewer_touched possible touched old new within was = record { each = λ n other s is. was.each n other s (within.each n s is) }
-
--- nothing is touched yet
-pub touches_same : (disk : Disk) (touched : List ℕ → Type 0) → TouchesOnly touched disk disk
-touches_same disk touched = record { moments = started _ (fewer_touched _ touched) disk (record { each = λ n other s is. is }); now = record { each = λ n other. refl } }
-
--- one call
-touches_step : {old new : Disk} {touched : List ℕ → Type 0} → Elapses old new → OnlyTouches touched (possible_now old) (possible_now new) → OnlyMoves touched old new → TouchesOnly touched old new
-touches_step {old} {touched = touched} time states now = record { moments = goes_on _ (fewer_touched (possible_now old) touched) (touches_same old touched).moments time states; now = now }
-
--- one call gives a name one state more
-pub touches_file : {old new : Disk} {name : List ℕ} {state : DiskState} → Elapses old new → MayAdd (possible_now old) (possible_now new) name state → KeepsOtherStates old new name → TouchesOnly (λ n. n ≡ name) old new
-touches_file time adds others =
-    touches_step time (record { each = λ n other s is. ⊎_elim (λ before. before) (λ p. absurd (other p.0)) (adds.each n s is) }) (record { each = others })
-
--- a call after which no state is possible besides, and each name stands as it stood
-pub touches_within : {old new : Disk} (touched : List ℕ → Type 0) → Elapses old new → Within (possible_now old) (possible_now new) → SameStates old new → TouchesOnly touched old new
-touches_within touched time within same = touches_step time (record { each = λ n other s is. within.each n s is }) (record { each = λ n other. same n })
+use Rattle.tv_managed.proofs.Tracking.{covered_file, covered_within, not_done, track_step}
 
 -- a call that only reads
-pub touches_none : {old new : Disk} (touched : List ℕ → Type 0) → KeepsDisk old new → TouchesOnly touched old new
-touches_none touched keeps = touches_within touched keeps.time keeps.states.possible.no_more keeps.states.now
-
--- one run, and another
-pub touches_then : {old mid new : Disk} {touched : List ℕ → Type 0} → TouchesOnly touched old mid → TouchesOnly touched mid new → TouchesOnly touched old new
-touches_then {old} {mid} {new} {touched} first second = record {
-  moments = goes_on_run _ (fewer_touched (possible_now old) touched) first.moments
-      (weaker second.moments (λ p states. record { each = λ n other s is. (at_end first.moments).each n other s (states.each n other s is) }));
-  now = record { each = λ n other. second.now.each n other ∙ first.now.each n other };
-}
-
--- more names may be touched
-pub touches_more : {old new : Disk} {touched more : List ℕ → Type 0} → ((n : List ℕ) → touched n → more n) → TouchesOnly touched old new → TouchesOnly more old new
-touches_more among touches = record {
-  moments = weaker touches.moments (λ p states. record { each = λ n other. states.each n (λ it. other (among n it)) });
-  now = record { each = λ n other. touches.now.each n (λ it. other (among n it)) };
-}
+pub reads_touch : {old new : Disk} (touched : List ℕ → Type 0) → KeepsDisk old new → TouchesOnly touched old new
+reads_touch touched keeps = touches_none touched keeps.time keeps.states.possible.no_more keeps.states.now
 
 -- nothing was done
 pub keeps_same : (disk : Disk) → KeepsDisk disk disk

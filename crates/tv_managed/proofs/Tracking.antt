@@ -108,13 +108,6 @@ covered_done still gone was = record {
 
 -- ---- runs of calls
 
--- what holds at each moment, and what follows from it
-pub weaker : {P Q : Possible → Type 0} {old new : Disk} → Throughout P old new → ((possible : Possible) → P possible → Q possible) → Throughout Q old new
-weaker run then = record { later = run.later; past = run.past; each = λ x from to. then _ (run.each x from to) }
-
-pub at_end : {P : Possible → Type 0} {old new : Disk} → Throughout P old new → P (possible_now new)
-at_end {new = new} run = run.each new.moment run.later (omega arith)
-
 -- nothing was done
 pub track_same : {D W C : Type 0} (g : Ghosts D W C) {old : D × ManagedNames} → IsTracked g old → KeepsTrack g old old
 track_same g {old} was = record { tracked = was; moments = started ListsEachFile fewer (g.disk old.0) was.forgets_none }

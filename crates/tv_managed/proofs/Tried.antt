@@ -8,12 +8,13 @@ use Rattle.std.proofs.lemmas.List.{nil_from_length}
 use Rattle.tv_model.specs.Names.{is, has, is_plain, list_name}
 use Rattle.tv_model.specs.Files.{KeepsOthers}
 use Rattle.tv_model.proofs.Entries.{is_itself, is_text}
+use Rattle.tv_model.proofs.CollectionStates.{has_append}
 use Rattle.tv_directory.specs.View.{Kept, MayDelete, OnlyReads}
 use Rattle.tv_directory.specs.declared.directory.Directory.{Ghosts}
 use Rattle.tv_managed.specs.Collecting.{FailsAtMost, Tried, TriesName}
 use Rattle.tv_managed.specs.Frames.{KeepsNames}
 use Rattle.tv_managed.specs.Names.{ManagedNames}
-use Rattle.tv_managed.proofs.Removals.{has_or, tried_append}
+use Rattle.tv_managed.proofs.Removals.{tried_append}
 
 -- no name was tried, and no file but the list changed
 pub tried_none : {D W C : Type 0} (g : Ghosts D W C) (old new : D × ManagedNames) → Kept g.told (g.view old.0) (g.view new.0)
@@ -99,7 +100,7 @@ rises failed more all before mid now e a b fits =
 pub tried_then : {D W C : Type 0} (g : Ghosts D W C) (names more : List (List ℕ)) (old mid new : D × ManagedNames) (deleted failed deleted2 failed2 : List (List ℕ)) → Tried g names old mid deleted failed → Tried g more mid new deleted2 failed2
     → Tried g (names ++ more) old new (deleted ++ deleted2) (failed ++ failed2)
 tried_then g names more old mid new deleted failed deleted2 failed2 a b =
-    let none : (n : List ℕ) → has (deleted ++ deleted2) n ≡ false → (has deleted n ≡ false) × (has deleted2 n ≡ false) = λ n h. either_false (has deleted n) (has deleted2 n) (sym (has_or deleted deleted2 n) ∙ h) in
+    let none : (n : List ℕ) → has (deleted ++ deleted2) n ≡ false → (has deleted n ≡ false) × (has deleted2 n ≡ false) = λ n h. either_false (has deleted n) (has deleted2 n) (sym (has_append deleted deleted2 n) ∙ h) in
     let both = tried_append names a.outcomes more b.outcomes a.each in
     let count = length-append failed failed2 in
     record {
@@ -107,11 +108,11 @@ tried_then g names more old mid new deleted failed deleted2 failed2 a b =
       each = omega (arith, length-append a.outcomes b.outcomes, length-append names more, a.each, b.each);
       deleted_is = cc (both.0, a.deleted_is, b.deleted_is);
       failed_is = cc (both.1, a.failed_is, b.failed_is);
-      hasnt_list = has_or deleted deleted2 list_name ∙ rw a.hasnt_list b.hasnt_list;
+      hasnt_list = has_append deleted deleted2 list_name ∙ rw a.hasnt_list b.hasnt_list;
       gone = λ tell n h. cases (has deleted2 n)
           (λ e. b.gone tell n e)
           (λ e.
-          let first : has deleted n ≡ true = sym (has_or deleted deleted2 n ∙ ap (λ c. has deleted n || c) e ∙ or-false (has deleted n)) ∙ h in
+          let first : has deleted n ≡ true = sym (has_append deleted deleted2 n ∙ ap (λ c. has deleted n || c) e ∙ or-false (has deleted n)) ∙ h in
           b.others tell n e (λ same. true≢false (sym first ∙ ap (has deleted) same ∙ a.hasnt_list)) ∙ a.gone tell n first);
       others = λ tell n h isnt. b.others tell n (none n h).1 isnt ∙ a.others tell n (none n h).0 isnt;
       alive = λ tell w h l. b.alive tell w (none (g.state_of w).name h).1 (a.alive tell w (none (g.state_of w).name h).0 l);
@@ -120,7 +121,7 @@ tried_then g names more old mid new deleted failed deleted2 failed2 a b =
           cases (has deleted n)
           (λ e. b.frame.goes_on.ended tell w (a.frame.goes_on.writers w o) (a.ended tell w o e some))
           (λ e.
-          let last : has deleted2 n ≡ true = ap (λ c. c || has deleted2 n) (sym e) ∙ sym (has_or deleted deleted2 n) ∙ h in
+          let last : has deleted2 n ≡ true = ap (λ c. c || has deleted2 n) (sym e) ∙ sym (has_append deleted deleted2 n) ∙ h in
           let still = a.others tell n e (λ same. true≢false (sym last ∙ ap (has deleted2) same ∙ b.hasnt_list)) in
           b.ended tell w (a.frame.goes_on.writers w o) last (subst IsSome (sym still) some));
       counted = rises (length failed) (length failed2) _ _ _ _ count a.counted b.counted b.fits;

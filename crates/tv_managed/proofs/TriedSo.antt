@@ -5,10 +5,10 @@ use Rattle.std.specs.Prelude.{if◌then◌else◌}
 use Rattle.std.specs.List.{list_all}
 use Rattle.tv_model.specs.Names.{has, is, is_plain}
 use Rattle.tv_model.proofs.PlainNames.{both}
+use Rattle.tv_model.proofs.CollectionStates.{has_append}
 use Rattle.tv_model.specs.Collections.{Collection, having_tried, taken}
 use Rattle.tv_managed.specs.Collecting.{names_of}
 use Rattle.tv_managed.specs.Names.{IsCollection, tried_so, trying_first}
-use Rattle.tv_managed.proofs.Removals.{has_or}
 
 -- the names that weren't tried are left
 pub left_is : (names : List (List ℕ)) (outcomes : List Bool) → (tried_so names outcomes).untried ≡ drop (length outcomes) names
@@ -24,9 +24,9 @@ has_taken [] (o ∷ outcomes) n le = absurd (omega arith)
 has_taken (name ∷ names) (true ∷ outcomes) n le = ap (λ b. is name n || b) (has_taken names outcomes n (omega arith))
 has_taken (name ∷ names) (false ∷ outcomes) n le =
     let c = tried_so names outcomes in
-    has_or (c.done ++ name ∷ c.failed) c.untried n
-    ∙ ap (λ b. b || has c.untried n) (has_or c.done (name ∷ c.failed) n)
-    ∙ turn (has c.done n) (is name n) (has c.failed n) (has c.untried n) (has names n) (ap (λ b. b || has c.untried n) (sym (has_or c.done c.failed n)) ∙ sym (has_or (c.done ++ c.failed) c.untried n) ∙ has_taken names outcomes n (omega arith)) where
+    has_append (c.done ++ name ∷ c.failed) c.untried n
+    ∙ ap (λ b. b || has c.untried n) (has_append c.done (name ∷ c.failed) n)
+    ∙ turn (has c.done n) (is name n) (has c.failed n) (has c.untried n) (has names n) (ap (λ b. b || has c.untried n) (sym (has_append c.done c.failed n)) ∙ sym (has_append (c.done ++ c.failed) c.untried n) ∙ has_taken names outcomes n (omega arith)) where
       turn : (a b d e x : Bool) → ((a || d) || e) ≡ x → ((a || (b || d)) || e) ≡ (b || x)
       turn a b d e x h = grind arith
 

@@ -4,17 +4,18 @@ use Rattle.std.specs.Option.{IsSomeAnd}
 use Rattle.std.proofs.lemmas.Bool.{or_left, or_right}
 use Rattle.tv_model.specs.Names.{has, is}
 use Rattle.tv_model.proofs.Entries.{is_itself}
+use Rattle.tv_model.proofs.CollectionStates.{has_append}
+use Rattle.tv_model.proofs.Numbered.{put_found}
 use Rattle.tv_model.specs.Collections.{Collection, begun, collection_at, having_tried, with_collection}
 use Rattle.tv_directory.specs.View.{Kept}
 use Rattle.tv_directory.specs.declared.directory.Directory.{Ghosts}
 use Rattle.tv_managed.specs.Collecting.{HasLeft, OnlyDeletes, TriesFirst, TriesSome, is_done, standing}
 use Rattle.tv_managed.specs.Crashes.{LeavesSafely, LosesNames, StepsSafely}
 use Rattle.tv_managed.specs.Names.{ManagedNames}
-use Rattle.tv_managed.proofs.Removals.{has_or}
 use Rattle.tv_managed.proofs.Synced.{loses_one, loses_then}
 use Rattle.tv_managed.proofs.Tracking.{track_then}
 use Rattle.tv_managed.specs.declared.collection.CollectStep.{CollectStep}
-use Rattle.tv_managed.proofs.Collections.{at_put, put_twice}
+use Rattle.tv_managed.proofs.Collections.{put_twice}
 use Rattle.tv_managed.proofs.Tried.{tried_name, tried_none, tried_then}
 
 -- how many names a collection has left, where there is one
@@ -24,7 +25,7 @@ left_of (Some c) = length c.untried
 
 -- a collection that was begun stands as it stands
 pub at_standing : (names : ManagedNames) (c : Collection) → collection_at (standing names c).collections names.collections.next ≡ Some c
-at_standing names c = at_put names.collections.unfinished names.collections.next c
+at_standing names c = put_found names.collections.unfinished names.collections.next c
 
 stands_on : (names : ManagedNames) (c later : Collection) → record (standing names c) { collections = with_collection (standing names c).collections names.collections.next later } ≡ standing names later
 stands_on names c later =
@@ -88,7 +89,7 @@ fewer_left g number old new step has tries = by (collection_at old.1.collections
   tried d [] none at some = absurd (omega (arith, ap length none))
   tried d (name ∷ left) next at some =
       let t = tries d name left at next in
-      let now : collection_at new.1.collections number ≡ Some (having_tried d name left (is_done step)) = ap (λ v. collection_at v.collections number) t.names ∙ at_put old.1.collections.unfinished number _ in
+      let now : collection_at new.1.collections number ≡ Some (having_tried d name left (is_done step)) = ap (λ v. collection_at v.collections number) t.names ∙ put_found old.1.collections.unfinished number _ in
       omega (arith, ap left_of now, left_tried d name left (is_done step), ap length next)
 
   by : (o : Option Collection) → collection_at old.1.collections number ≡ o → IsSomeAnd o (λ d. 0 < length d.untried) → suc (left_of (collection_at new.1.collections number)) ≤ left_of o
@@ -102,7 +103,7 @@ some_none g before names old is kept = record { front = []; rest = names; delete
 -- the name that is tried is one of those that were taken
 among : (names front rest left : List (List ℕ)) (name : List ℕ) → names ≡ front ++ rest → rest ≡ name ∷ left → has names name ≡ true
 among names front rest left name split next =
-    ap (λ l. has l name) (split ∙ ap (λ r. front ++ r) next) ∙ has_or front (name ∷ left) name ∙ or_right (has front name) _ (or_left (is name name) _ (is_itself name))
+    ap (λ l. has l name) (split ∙ ap (λ r. front ++ r) next) ∙ has_append front (name ∷ left) name ∙ or_right (has front name) _ (or_left (is name name) _ (is_itself name))
 
 -- track is kept by one step more
 pub safe_next : {E D W C : Type 0} (g : Ghosts D W C) (before : ManagedNames) (names : List (List ℕ)) (number : ℕ) {first old new : D × ManagedNames} {result : Result CollectStep E} → number ≡ before.collections.next → HasLeft old.1.collections number → StepsSafely g number old new result

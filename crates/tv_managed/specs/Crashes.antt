@@ -1,6 +1,6 @@
 -- What a crash may leave of a managed directory at each moment of its calls.
 use Rattle.std.specs.Prelude.{ℕ, ◌≡◌, ◌⊎◌, Bool, true, false, List, ◌∷◌, Some, Result, IfErr, IfOk, OnOk}
-use Rattle.tv_model.specs.Disk.{DiskState, Absent, Sealed, IsThere, Possible, Disk, possible_now, Within, MayAdd, IsSettled, IsSettledAt, Elapses, Throughout, OnlyMoves}
+use Rattle.tv_model.specs.Disk.{DiskState, Absent, Sealed, IsThere, Possible, Disk, possible_now, Within, MayAdd, IsSettled, IsSettledAt, Elapses, Throughout, OnlyMoves, TouchesOnly}
 use Rattle.tv_model.specs.Listed.{IsOnEach, ListsEachFile}
 use Rattle.tv_model.specs.Listing.{IsListOf, list_text}
 use Rattle.tv_model.specs.Names.{has, is_undotted, list_name}
@@ -8,7 +8,7 @@ use Rattle.tv_model.specs.Footer.{sealed}
 use Rattle.tv_model.specs.Collections.{Collection, collection_at, done_of, without}
 use Rattle.tv_base.specs.Causes.{IoCause}
 use Rattle.tv_base.specs.declared.io.IoError.{IoError}
-use Rattle.tv_directory.specs.Images.{KeepsDisk, KeepsOtherStates, SameStates, TouchesOnly}
+use Rattle.tv_directory.specs.Images.{KeepsDisk, KeepsOtherStates, SameStates}
 use Rattle.tv_directory.specs.declared.directory.Directory.{Ghosts}
 use Rattle.tv_managed.specs.Collecting.{is_done, Leaves, SavesNone, Tries}
 use Rattle.tv_managed.specs.Managed.{SavesList, registered}

@@ -66,28 +66,34 @@ pub record OnlySaves {A D W C : Type 0} (g : Ghosts D W C) (old new : D × Manag
   pub faults : IoFaults (g.view old.0) (g.view new.0) result
   pub frame : KeepsNames (Kept g.told) g.view old new
 
+-- the name has a dot in front, or is managed
+abbrev pub NeedsNoListing : ManagedNames → List ℕ → Type 0
+NeedsNoListing names name = is_undotted name ≡ true → has names.managed name ≡ true
+
 -- The list on the device goes on having each managed name that no unfinished collection has done. Where it listed the managed names, it does so at Ok.
 pub record SavesList {A E D W C : Type 0} (g : Ghosts D W C) (old new : D × ManagedNames) (result : Result A E) : Type 0 where
   pub list : g.told.content → Lists ((g.view old.0).reads list_name) old.1.managed → OnOk result (Lists ((g.view new.0).reads list_name) new.1.managed)
   pub covers : g.told.content → Covers ((g.view old.0).reads list_name) old.1 → Covers ((g.view new.0).reads list_name) new.1
 
 -- The same of a step that lists a name: at Ok the name is managed, and, unless an unfinished collection has done it, on the list, if it has no dot in front; after an
--- error all names are as they were. Nothing but the list and these names was changed.
+-- error all names are as they were. Nothing but the list and these names was changed, and the list only for a name without a dot in front that wasn't managed.
 pub record HasListed {A E D W C : Type 0} (g : Ghosts D W C) (old new : D × ManagedNames) (name : List ℕ) (result : Result A E) : Type 0 where
   pub saves : SavesList g old new result
   pub on_list : g.told.content → Covers ((g.view old.0).reads list_name) old.1 → has (done_names old.1.collections) name ≡ false → is_undotted name ≡ true → OnOk result (IsOnList ((g.view new.0).reads list_name) name)
   pub names : OnOk result (new.1 ≡ registering old.1 name)
   pub kept : OnErr result (new.1 ≡ old.1)
+  pub unsaved : g.told.content → NeedsNoListing old.1 name → (g.view new.0).reads list_name ≡ (g.view old.0).reads list_name
   pub others : g.told.content → KeepsOthers (g.view old.0).reads (g.view new.0).reads list_name
   pub frame : Kept g.told (g.view old.0) (g.view new.0)
 
 -- What a call that makes a file of this name, or gives it its bytes, does to the names and to the list. A name without a dot in front is managed afterwards; after an
 -- error the managed names are as they were, or there is this one more; the collections stay. The list has each undotted file that is made, and so have the managed
--- names.
+-- names. Where the name has a dot in front, or was managed, the list reads what it read.
 pub record ManagesFile {A E D W C : Type 0} (g : Ghosts D W C) (old new : D × ManagedNames) (name : List ℕ) (result : Result A E) : Type 0 where
   pub ok : OnOk result (new.1 ≡ registering old.1 name)
   pub err : OnErr result ((new.1 ≡ old.1) ⊎ (new.1 ≡ registering old.1 name))
   pub saves : SavesList g old new result
+  pub unsaved : g.told.content → NeedsNoListing old.1 name → (g.view new.0).reads list_name ≡ (g.view old.0).reads list_name
   pub listed : g.told.content → Covers ((g.view old.0).reads list_name) old.1 → ListsNew (g.view old.0).reads (g.view new.0).reads
   pub managed : g.told.content → ManagesNew (g.view old.0).reads (g.view new.0).reads new.1.managed
 
@@ -126,8 +132,8 @@ pub record GivesFile {A D W C : Type 0} (g : Ghosts D W C) (old new : D) (name b
   pub err : g.told.content → IfErr result (IoCause (((g.view new).reads name ≡ Some bytes) ⊎ ((g.view new).reads name ≡ (g.view old).reads name)) ((g.view new).reads name ≡ (g.view old).reads name))
   pub others : g.told.content → KeepsOtherFiles (g.view old).reads (g.view new).reads name
 
--- The writer's file is sealed: it reads what was written, with a footer, and so its body is read back. After an error the file is still there. Where its name was
--- deleted since, nothing changed. No other file was changed.
+-- The writer's file is sealed: where the writer's checksum is that of what was written, it reads this, with a footer, and so its body is read back. After an error the
+-- file is still there. Where its name was deleted since, nothing changed. No other file was changed.
 pub record SealsBody {A D W C : Type 0} (g : Ghosts D W C) (old new : D) (w : ManagedWriter D W C) (result : Result A IoError) : Type 0 where
   pub ok : g.told.content → (g.view old).lives w.writer ≡ true → IsSummed g.state_of w → OnOk result (Sets (g.view old).reads (g.view new).reads (g.state_of w.writer).name (Some (sealed (g.state_of w.writer).written)))
   pub body : g.told.content → (g.view old).lives w.writer ≡ true → IsSummed g.state_of w → OnOk result (ReadsBody ((g.view new).reads (g.state_of w.writer).name) (g.state_of w.writer).written)

@@ -1,7 +1,5 @@
 //! Deletes the managed files that nothing needs, at once or in steps.
-ghost use Rattle.std.specs.Prelude.{◌≡◌, ◌≢◌, ◌≤◌, [], ◌∷◌, ◌++◌, ℕ, List, length, true, false, Option, Some, None, IsSome, option_map, IfOk, IfErr, OnOk, OnErr};
-ghost use Rattle.std.specs.List.{list_all};
-ghost use Rattle.std.specs.Option.{IfSome};
+ghost use Rattle.std.specs.Prelude.{◌≡◌, ◌≢◌, [], ◌++◌, ℕ, List, length, true, false, Option, Some, None, IsSome, option_map, IfOk, IfErr, OnErr};
 ghost use Rattle.tv_model.specs.Names.{has, is_file_name, is_plain, list_name};
 ghost use Rattle.tv_model.specs.Collections.{Collection as CollectionState, begun, collectable, collection_at, held, no_collections, taken, without};
 ghost use Rattle.tv_directory.specs.Images.{DeletesState};
@@ -42,11 +40,11 @@ impl<D: Directory> ManagedDirectory<D> {
     /// Deletes each managed file whose name isn't living, in the order of the names: begins a collection, tries each
     /// of its names, and ends it. A file that is absent counts as deleted. One whose delete is refused has failed: it
     /// stays managed, a writer of it lives on, and the others are still tried. Names that an unfinished collection
-    /// has are left to it. At Ok the list has the managed names that are left, where it had them all before; where
-    /// nothing was deleted, each file reads what it read, and the list too. The managed names change at Ok alone, and
-    /// then the collection's number is given back; after an error they are as they were, and where a name was tried
-    /// the collection stays unfinished. `LockFailure` comes where the lock isn't given, `Exhausted` where the
-    /// collection's number would be the last; then nothing changed.
+    /// has are left to it. At Ok the list has exactly the managed names that are left, where it had exactly those that
+    /// were managed; where nothing was deleted, each file reads what it read, and the list too. The managed names
+    /// change at Ok alone, and then the collection's number is given back; after an error they are as they were, and
+    /// where a file was deleted or a delete refused the collection stays unfinished. `LockFailure` comes where the
+    /// lock isn't given, `Exhausted` where the collection's number would be the last; then nothing changed.
     ///
     /// Before the first delete the device has kept what was written: from then on a crash leaves each name as it
     /// stood, but for these names and the list. It has kept what was deleted before the shorter list is saved: where
@@ -145,9 +143,9 @@ impl<D: Directory> ManagedDirectory<D> {
     }
 
     /// Ends a collection: what is done is managed no more, and what failed or wasn't tried stays managed. At Ok the
-    /// list has the managed names that are left, where it had them all before; where nothing is done, each file reads
-    /// what it read, and the list too. After an error the collection isn't finished, and the managed names are as
-    /// they were.
+    /// list has exactly the managed names that are left, where it had exactly those that were managed; where nothing
+    /// is done, each file reads what it read, and the list too. After an error the collection isn't finished, and the
+    /// managed names are as they were.
     ///
     /// The device has kept what was deleted before the shorter list is saved: where track is kept, no crash leaves a
     /// file whose name isn't managed any more.

@@ -1,6 +1,5 @@
 //! Collections: what they take, and what they told so far.
-ghost use Rattle.std.specs.Prelude.{◌≡◌, ◌≤◌, ◌<◌, ◌+◌, ◌-◌, ◌^◌, ◌∷◌, ◌++◌, [], ℕ, List, length, map, string_bytes, true, false, IsSome, Option, Some, None, option_map, IfOk, OnOk, OnErr, if◌then◌else◌};
-ghost use Rattle.std.specs.Option.{IfSome};
+ghost use Rattle.std.specs.Prelude.{◌≡◌, ◌≤◌, ◌<◌, ◌+◌, ◌-◌, ◌∷◌, ◌++◌, [], ℕ, List, length, map, string_bytes, true, false, IsSome, Option, Some, None, option_map, IfOk, OnOk, OnErr, if◌then◌else◌};
 ghost use Rattle.tv_model.specs.Names.{has, is_plain};
 ghost use Rattle.tv_model.specs.Collections.{Collection as CollectionState, begun, collection_at, having_tried, held, no_collections, taken, with_begun, with_collection, without_collection};
 ghost use Rattle.tv_managed.specs.Collecting.{HasLeft, IsLast, is_done, names_of, tried_name};

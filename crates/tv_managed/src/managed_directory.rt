@@ -8,13 +8,13 @@ ghost use Rattle.tv_model.specs.Listed.{ListsEachFile, ListsItsFiles};
 ghost use Rattle.tv_model.specs.Listing.{Lists};
 ghost use Rattle.tv_model.specs.Collections.{held, without};
 ghost use Rattle.tv_model.specs.Checksum.{crc32};
-ghost use Rattle.tv_model.specs.Footer.{footer, sealed};
+ghost use Rattle.tv_model.specs.Footer.{footer};
 ghost use Rattle.tv_checksum.specs.Crc32.{HasTaken};
 ghost use Rattle.tv_directory.specs.View.{Kept, OnlyReads};
 ghost use Rattle.tv_directory.specs.Calls.{AskFaults, ReadFaults, IoFaults, DeviceFaults, Appends, HandsBack, Touches, Flushes};
 ghost use Rattle.tv_directory.specs.Device.{IsSilent};
 ghost use Rattle.tv_directory.specs.Images.{KeepsDisk, Settles, WritesState};
-ghost use Rattle.tv_managed.specs.Writers.{HandsOn, IsNewManaged, IsSummed, KeepsWritten};
+ghost use Rattle.tv_managed.specs.Writers.{HandsOn, IsNewManaged, KeepsWritten};
 ghost use Rattle.tv_managed.specs.Managed.{HasListed, OnlySaves, ManagesFile, CreateFaults, Creates, GivesFile, SealsBody};
 ghost use Rattle.tv_managed.specs.Crashes.{GivesSafely, LeavesSafely, ListsName, ReadsSafely, SavesManaged, SealsStates, WrapsDisk};
 ghost use Rattle.tv_managed.specs.Frames.{KeepsNames, KeptButNotes, MakeFaults, OnlyAsks};
@@ -37,9 +37,11 @@ use tv_model::Memory;
 /// kept in memory beside it: the managed names in their order, and the unfinished collections.
 ///
 /// The list is for crashes: a file that is on no list is never collected. Where the directory tells images, the
-/// clause `safe` of a call says that it keeps track: at each moment of it, whatever it answers, each undotted
-/// file that a crash may leave is on each list that it may leave. That holds from a wrapped directory on, whose
-/// list a crash leaves as it is (`wrap`: `tracks`). The clause says too which other states are possible then.
+/// clause `safe` of a call, of `garbage_collect` `collects`, says that it keeps track: at each moment of it,
+/// whatever it answers, each undotted file that a crash may leave is on each list that it may leave (of `flush`
+/// and `terminate` for a writer of another name than the list's). That holds from a wrapped directory on whose
+/// list a crash leaves as it is, and which has each file (`wrap`: `tracks`), until collections are forgotten
+/// whose names aren't all on the list. The clause says too which other states are possible then.
 pub struct ManagedDirectory<D: Directory> {
     pub(crate) alloc: Global,
     pub(crate) directory: D,

@@ -14,7 +14,7 @@ use tv_model::Memory;
 
 impl<D: Directory> ManagedDirectory<D> {
     /// Takes a lock. `LockBusy` comes where it is held. Over plain files a blocking lock waits until it
-    /// is free.
+    /// is free, unless this very directory holds it.
     pub fn acquire_lock(&mut self, lock: &Lock) -> Result<DirectoryLock, LockError>
         requires { is_file_name lock.now.filepath.now ≡ true }
         ensures token { IfOk result (λ token. token ≡ lock.now.filepath.now) }

@@ -1,8 +1,8 @@
 -- How a run of calls goes on, as far as it is seen by what a crash may leave.
 use Rattle.std.specs.Prelude.{◌≤◌, ◌<◌}
-use Rattle.std.proofs.Common.{⊎_elim, subst, arith}
+use Rattle.std.proofs.Common.{◌≡◌, ◌≢◌, ℕ, List, refl, ◌∙◌, ⊎_elim, subst, arith}
 use Rattle.std.proofs.lemmas.Bool.{cases_lt}
-use Rattle.tv_model.specs.Disk.{Possible, Disk, possible_now, Within, SamePossible, Elapses, Throughout}
+use Rattle.tv_model.specs.Disk.{DiskState, Possible, Disk, possible_now, Within, SamePossible, MayAdd, Elapses, Throughout, OnlyTouches, OnlyMoves, TouchesOnly}
 
 -- the same states are possible
 pub same : (possible : Possible) → SamePossible possible possible
@@ -52,3 +52,47 @@ module _ (P : Possible → Type 0) (fewer : HoldsOfFewer P) where
         (λ (upto : x ≤ mid.moment). fewer (mid.possible x) (new.possible x) (second.past x upto).no_more (first.each x from upto))
         (cases_lt mid.moment x);
   }
+
+-- what holds at each moment, and what follows from it
+pub weaker : {P Q : Possible → Type 0} {old new : Disk} → Throughout P old new → ((possible : Possible) → P possible → Q possible) → Throughout Q old new
+weaker run then = record { later = run.later; past = run.past; each = λ x from to. then _ (run.each x from to) }
+
+-- the last moment is one of them
+pub at_end : {P : Possible → Type 0} {old new : Disk} → Throughout P old new → P (possible_now new)
+at_end {new = new} run = run.each new.moment run.later (omega arith)
+
+-- ---- names that aren't touched
+
+fewer_touched : (possible : Possible) (touched : List ℕ → Type 0) → HoldsOfFewer (OnlyTouches touched possible)
+fewer_touched possible touched old new within was = record { each = λ n other s is. was.each n other s (within.each n s is) }
+
+-- nothing is touched yet
+pub touches_same : (disk : Disk) (touched : List ℕ → Type 0) → TouchesOnly touched disk disk
+touches_same disk touched = record { moments = started _ (fewer_touched _ touched) disk (record { each = λ n other s is. is }); now = record { each = λ n other. refl } }
+
+touches_step : {old new : Disk} {touched : List ℕ → Type 0} → Elapses old new → OnlyTouches touched (possible_now old) (possible_now new) → OnlyMoves touched old new → TouchesOnly touched old new
+touches_step {old} {touched = touched} time states now = record { moments = goes_on _ (fewer_touched (possible_now old) touched) (touches_same old touched).moments time states; now = now }
+
+-- one call gives a name one state more
+pub touches_file : {old new : Disk} {name : List ℕ} {state : DiskState} → Elapses old new → MayAdd (possible_now old) (possible_now new) name state → ((n : List ℕ) → n ≢ name → new.now n ≡ old.now n) → TouchesOnly (λ n. n ≡ name) old new
+touches_file time adds others =
+    touches_step time (record { each = λ n other s is. ⊎_elim (λ before. before) (λ p. absurd (other p.0)) (adds.each n s is) }) (record { each = others })
+
+-- one call after which no state is possible besides, and each name stands as it stood
+pub touches_none : {old new : Disk} (touched : List ℕ → Type 0) → Elapses old new → Within (possible_now old) (possible_now new) → ((n : List ℕ) → new.now n ≡ old.now n) → TouchesOnly touched old new
+touches_none touched time within stands = touches_step time (record { each = λ n other s is. within.each n s is }) (record { each = λ n other. stands n })
+
+-- one run, and another
+pub touches_then : {old mid new : Disk} {touched : List ℕ → Type 0} → TouchesOnly touched old mid → TouchesOnly touched mid new → TouchesOnly touched old new
+touches_then {old} {mid} {new} {touched} first second = record {
+  moments = goes_on_run _ (fewer_touched (possible_now old) touched) first.moments
+      (weaker second.moments (λ p states. record { each = λ n other s is. (at_end first.moments).each n other s (states.each n other s is) }));
+  now = record { each = λ n other. second.now.each n other ∙ first.now.each n other };
+}
+
+-- more names may be touched
+pub touches_more : {old new : Disk} {touched more : List ℕ → Type 0} → ((n : List ℕ) → touched n → more n) → TouchesOnly touched old new → TouchesOnly more old new
+touches_more among touches = record {
+  moments = weaker touches.moments (λ p states. record { each = λ n other. states.each n (λ it. other (among n it)) });
+  now = record { each = λ n other. touches.now.each n (λ it. other (among n it)) };
+}

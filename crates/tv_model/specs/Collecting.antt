@@ -126,7 +126,7 @@ pub record CollectsInSteps (s : State) : Type 0 where
   -- one that is unfinished stays so until it is finished or the index is opened again
   pub stays : (turns : List Turn) (number : ℕ) → NeverEnds number turns
       → IsSome (collection_at s.collections number) → IsSome (collection_at (after s turns).collections number)
-  -- as long as it is unfinished it has the names that it took, whatever happens in between
+  -- as long as it is unfinished it has the names that it took, whatever happens in between, a reopening apart
   pub keeps : (turns : List Turn) (number : ℕ) (first later : Collection) → NeverReopens turns
       → collection_at s.collections number ≡ Some first → collection_at (after s turns).collections number ≡ Some later
       → (n : List ℕ) → has (taken later) n ≡ has (taken first) n

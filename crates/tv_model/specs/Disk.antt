@@ -92,3 +92,8 @@ pub record OnlyTouches (touched : List ℕ → Type 0) (old new : Possible) : Ty
 -- names that aren't touched stand as they stood
 pub record OnlyMoves (touched : List ℕ → Type 0) (old new : Disk) : Type 0 where
   pub each : (n : List ℕ) → (touched n → ⊥) → new.now n ≡ old.now n
+
+-- at each moment of some calls names that aren't touched have no possible state that they hadn't before, and then they stand as they stood
+pub record TouchesOnly (touched : List ℕ → Type 0) (old new : Disk) : Type 0 where
+  pub moments : Throughout (OnlyTouches touched (possible_now old)) old new
+  pub now : OnlyMoves touched old new

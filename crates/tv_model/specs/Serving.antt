@@ -13,7 +13,7 @@ use Rattle.tv_model.specs.Index.{next_after}
 abbrev pub Shows : State → List Turn → Snapshot → Type 0
 Shows s turns shown = (front : List Turn) × (rest : List Turn) × (turns ≡ front ++ rest) × (shown ≡ snapshot_in (after s front) shown.generation)
 
--- each file that the current commit requires is sealed, and what is shown of it is the body with which it was sealed
+-- each file that the current commit requires is sealed, and what is shown of it is the body before its footer, with which it was sealed where the run did so
 abbrev pub ShowsAsSealed : State → Type 0
 ShowsAsSealed s = (n : List ℕ) → has (all_required s.catalog.commit.segments) n ≡ true
     → (bytes : List ℕ) × (body : List ℕ) × (file_at s n ≡ Some (Sealed bytes)) × HasBody bytes body × (body_in (file_at s n) ≡ body)
@@ -43,7 +43,7 @@ pub record Serves (s : State) (turns : List Turn) : Type 0 where
       → reader_at (after s front).catalog n ≡ Some reader
       → searcher_at (after s (front ++ (events.Searcher n, outcomes) ∷ [])).catalog (after s front).catalog.reading.next_searcher ≡ Some reader.shown
 
--- and each state of a run, whose commit readers may come to show, shows bodies as they were sealed
+-- and each state of a run, whose commit readers may come to show, shows bodies so
 abbrev pub ServesAsSealed : State → List Turn → Type 0
 ServesAsSealed s turns = (front rest : List Turn) → turns ≡ front ++ rest
     → ShowsAsSealed (after s front)

@@ -42,7 +42,8 @@ use crate::id::SegmentId;
 
 /// In each run of an index that was just opened, a searcher shows one commit of the run for life,
 /// and a reader never shows an older commit than it showed before; both end where the index is opened
-/// again. From a sound state on, what is shown of a file is the body with which it was sealed.
+/// again. From a sound state on, what is shown of a file is the body before its footer: that with
+/// which it was sealed, where the run sealed it.
 pub fn searchers_keep_their_commit()
     ensures serves { (s : State) (turns : List Turn) → IsJustOpened s → Serves s turns }
     ensures as_sealed { (s : State) (turns : List Turn) → IsSoundState s
@@ -75,9 +76,9 @@ pub fn sound_starts_open_to_sound_states()
 /// takes the same names, and is unfinished and has these names until its end or a reopening. Its
 /// step tells the name that it tries, and changes no other file; its end takes those names out of
 /// the managed ones that are done. Its events change neither the catalog nor another collection,
-/// and no other events change it. One at once does to the files, the managed names and the catalog
-/// what one in steps does with the same outcomes. From a sound state one at once of which no delete
-/// is refused leaves exactly the files that are needed or held.
+/// and no other event but a reopening changes it. One at once does to the files, the managed names
+/// and the catalog what one in steps does with the same outcomes. From a sound state one at once of
+/// which no delete is refused leaves exactly the files that are needed or held.
 pub fn collections_take_what_nothing_needs()
     ensures collects { (s : State) (outcomes : List Bool)
         → IsStrictlySortedBy byte_cmp s.managed → Collects s outcomes }
@@ -107,9 +108,9 @@ pub fn validations_name_damaged_files()
     ensures validates { (s : State) → Validates s }
 {}
 
-/// The files of different segments have different names. Where no documents are deleted, a delete
-/// file has the name of the one with the number 0. From a sound state an event of deletes that
-/// isn't refused, as it changes the state, gives its segment a new name for its delete file.
+/// The files of different segments have different names. Without deletes a delete file has the name
+/// of the one with the number 0. From a sound state an event of deletes that isn't refused, as it
+/// changes the state, gives its segment a new name for its delete file.
 /// Numbers of deletes are drawn in order in an index that was just made, and from a sound state
 /// each event leaves them so.
 pub fn names_tell_their_segment()

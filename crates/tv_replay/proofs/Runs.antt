@@ -1,7 +1,7 @@
 -- What a run tells or says: no line feed stands in the lines of errors, and what each refusal leads to.
 use Rattle.std.proofs.Common.{◌≡◌, ◌≢◌, ◌⊎◌, inl, inr, ℕ, zero, suc, ◌+◌, ◌<◌, ◌/◌, ◌%◌, ◌==◌, Bool, true, false, not, nat_lt, if◌then◌else◌, List, [], ◌∷◌, ◌++◌, codes, refl, sym, ap, subst, ◌∙◌, arith, string_bytes, Result, Ok, Err}
 use Rattle.std.specs.Global.{Global}
-use Rattle.std.specs.Prelude.{nat_eq, option_map, String, Option, Some, None, IsSome}
+use Rattle.std.specs.Prelude.{nat_eq, option_map, String, Option, Some, None}
 use Rattle.std.specs.List.{starts_with}
 use Rattle.std.specs.Fmt.{decimal, digits, digits_onto, digit_glyph}
 use Rattle.std.proofs.lemmas.Bool.{ne_eqb}
@@ -38,7 +38,7 @@ use Rattle.tv_replay.specs.Completeness.{IsReady}
 use Rattle.tv_replay.proofs.Complete.{only_memory}
 use Rattle.tv_replay.proofs.Stopping.{none_met}
 use Rattle.tv_replay.specs.Commands.{replay_words}
-use Rattle.tv_replay.specs.Runs.{schema_line, folder_line, SaysLine, OnlySays, SaysError, PlaceRefuses, AskedReplay, Scene, Reports, ReportsError, Stops, EndsReplay, IsUndisturbedRun}
+use Rattle.tv_replay.specs.Runs.{SaysLine, OnlySays, SaysError, PlaceRefuses, AskedReplay, Scene, KeepsScript, RefusesReplay, Reports, ReportsError, Stops, EndsReplay, IsUndisturbedRun, schema_line, folder_line}
 
 -- a digit is no line feed
 glyph_no_feed : (d : ℕ) → not (digit_glyph false d == 10) ≡ true
@@ -212,9 +212,9 @@ refuses memory kept (inl rose) other is only = refused_by kept rose (says_this i
 refuses memory kept (inr (_, m)) other is only = absurd (other m)
 
 -- memory was wanted for a schema or a folder, or for the line of its refusal
-pub wants : {O X : Type 0} {told : PlaceTold} {old mid new : PlaceView O} {line : List ℕ} (memory : Type 0) → PlaceKept told old mid
-    → Rose old.faults mid.faults ⊎ ((mid.faults ≡ old.faults) × memory) → OnlySays told mid new line → OnlySays told old new line ⊎ (PlaceRefuses told old new line ⊎ X)
-wants memory kept (inl rose) only = inr (inl (refused_by kept rose only))
+pub wants : {O : Type 0} {told : PlaceTold} {old mid new : PlaceView O} {line : List ℕ} (memory : Type 0) → PlaceKept told old mid
+    → Rose old.faults mid.faults ⊎ ((mid.faults ≡ old.faults) × memory) → OnlySays told mid new line → OnlySays told old new line ⊎ PlaceRefuses told old new line
+wants memory kept (inl rose) only = inr (refused_by kept rose only)
 wants memory kept (inr (quiet, _)) only = inl (says_quietly kept quiet only)
 
 not_done : (n : ℕ) → (n ≡ 1) ⊎ (n ≡ 3) → n ≡ 0 → ⊥
@@ -224,12 +224,11 @@ not_done n (inr three) none = omega arith
 -- a replay that didn't begin, since there is no schema or no folder
 pub not_begun : {O W C : Type 0} {g : Ghosts O W C} {told : PlaceTold} (asked : AskedReplay O) {mid : PlaceView O} {error : TantivyError} {status : ℕ} {line : List ℕ} → PlaceKept told asked.old.place mid
     → Rose asked.old.place.faults mid.faults ⊎ ((mid.faults ≡ asked.old.place.faults) × (error ≡ errors.Memory)) → (error ≢ errors.Memory → error_line error ≡ line) → SaysError told mid asked.new.place error status
-    → (PlaceRefuses told asked.old.place asked.new.place line → (PlaceRefuses told asked.old.place asked.new.place schema_line) ⊎ (((told.content → IsSome (asked.old.place.schemas asked.path)) × PlaceRefuses told asked.old.place asked.new.place folder_line) ⊎ ((error : TantivyError) × (error ≢ errors.Memory) × Stops g told asked error (error_line error))))
-    → EndsReplay g told asked status
-not_begun asked {error = error} kept why line_is says refused = record {
+    → KeepsScript asked.old asked.new → (PlaceRefuses told asked.old.place asked.new.place line → RefusesReplay told asked) → EndsReplay g told asked status
+not_begun asked {error = error} kept why line_is says unread refused = record {
   done = λ zero. absurd (not_done _ says.statuses zero);
-  failed = λ one. let said = says.other one in refused (refuses (error ≡ errors.Memory) kept why said.0 (line_is said.0) said.1);
-  memory = λ three. wants (error ≡ errors.Memory) kept why (says.memory three);
+  failed = λ one. let said = says.other one in inl (refused (refuses (error ≡ errors.Memory) kept why said.0 (line_is said.0) said.1), unread);
+  memory = λ three. inl (wants (error ≡ errors.Memory) kept why (says.memory three), unread);
   statuses = inr says.statuses;
 }
 
@@ -257,8 +256,8 @@ pub stopped_with : {O W C : Type 0} {g : Ghosts O W C} {told : PlaceTold} (asked
     → ((line : List ℕ) → Reports g told stopped mid asked.new.place line → Stops g told asked error line) → EndsReplay g told asked status
 stopped_with asked {error = error} gave stops = record {
   done = λ zero. absurd (not_done _ gave.statuses zero);
-  failed = λ one. let said = gave.other one in inr (inr (error, said.0, stops _ said.1));
-  memory = λ three. inr (inr (error, stops _ (gave.memory three)));
+  failed = λ one. let said = gave.other one in inr (error, said.0, stops _ said.1);
+  memory = λ three. inr (error, stops _ (gave.memory three));
   statuses = inr gave.statuses;
 }
 
@@ -306,10 +305,10 @@ module _ {O W C : Type 0} (g : Ghosts O W C) (told : PlaceTold) (words : List (L
     told_of (inl none) = inl none
     told_of (inr (inr three)) = inr three
     told_of (inr (inl failing)) = absurd (failed (ends.failed failing)) where
-      failed : PlaceRefuses told old.place new.place schema_line ⊎ (((told.content → IsSome (old.place.schemas u.path)) × PlaceRefuses told old.place new.place folder_line) ⊎ ((error : TantivyError) × (error ≢ errors.Memory) × Stops g told asked error (error_line error))) → ⊥
-      failed (inl refused) = u.place_still refused.refused
-      failed (inr (inl refused)) = u.place_still refused.1.refused
-      failed (inr (inr (error, other, stop))) = no_stop error (error_line error) other stop
+      failed : (RefusesReplay told asked × KeepsScript old new) ⊎ ((error : TantivyError) × (error ≢ errors.Memory) × Stops g told asked error (error_line error)) → ⊥
+      failed (inl (inl refused, unread)) = u.place_still refused.refused
+      failed (inl (inr refused, unread)) = u.place_still refused.1.refused
+      failed (inr (error, other, stop)) = no_stop error (error_line error) other stop
 
 pub same_words : {a b c d : List ℕ} → replay_words a b ≡ replay_words c d → (a ≡ c) × (b ≡ d)
 same_words e = (cc, cc)

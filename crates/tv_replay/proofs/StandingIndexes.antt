@@ -1,10 +1,8 @@
 -- What stands in a directory, next to the state that it holds.
-use Rattle.std.proofs.Common.{◌≡◌, ◌≢◌, ℕ, zero, suc, ◌+◌, ◌<◌, Bool, true, false, true≢false, cond, not, ◌&&◌, ◌||◌, nat_le, List, [], ◌∷◌, ◌++◌, filter, get_or, length, length-append, map, take, Option, Some, None, codes, refl, sym, ap, subst, ◌∙◌, arith}
+use Rattle.std.proofs.Common.{◌≡◌, ◌≢◌, ℕ, zero, suc, ◌<◌, Bool, true, false, true≢false, cond, not, ◌&&◌, ◌||◌, nat_le, List, [], ◌∷◌, filter, get_or, length, map, Option, Some, None, codes, refl, sym, ap, subst, ◌∙◌, arith}
 use Rattle.std.specs.Prelude.{is_some}
 use Rattle.std.specs.List.{list_all}
 use Rattle.std.proofs.lemmas.Bool.{and_parts}
-use Rattle.std.proofs.lemmas.List.{map-append, take_more}
-use Rattle.std.proofs.lemmas.List.Elements.{filter-append}
 use Rattle.tv_model.specs.Commits.{Commit, Settings}
 use Rattle.tv_model.specs.Files.{Reads, Same}
 use Rattle.tv_model.specs.Index.{DirectoryHolds, FileReads}
@@ -76,17 +74,6 @@ same_holds settings schema reads now s same holds = record {
 }
 
 -- ---- how many names read, one after the other
-
-last_counted : (p : List ℕ → Bool) (name : List ℕ) (b : Bool) → p name ≡ b → length (filter p (name ∷ [])) ≡ cond b 1 0
-last_counted p name true is = ap (λ (c : Bool). length (cond c (name ∷ []) [])) is
-last_counted p name false is = ap (λ (c : Bool). length (cond c (name ∷ []) [])) is
-
-pub counted_more : {X : Type 0} (p : List ℕ → Bool) (f : X → List ℕ) (xs : List X) (i : ℕ) (x : X) (b : Bool) → i < length xs → x ≡ get_or xs i x → p (f x) ≡ b
-    → length (filter p (map f (take (i + 1) xs))) ≡ length (filter p (map f (take i xs))) + cond b 1 0
-counted_more {X} p f xs i x b within is reads =
-    let more : take (i + 1) xs ≡ take i xs ++ x ∷ [] = take_more xs i x within ∙ ap (λ (y : X). take i xs ++ y ∷ []) (sym is) in
-    ap (λ (l : List X). length (filter p (map f l))) more ∙ ap (λ (l : List (List ℕ)). length (filter p l)) (map-append f (take i xs) (x ∷ [])) ∙ ap (λ (l : List (List ℕ)). length l) (filter-append p (map f (take i xs)) (f x ∷ []))
-    ∙ length-append (filter p (map f (take i xs))) (filter p (f x ∷ [])) ∙ ap (λ (n : ℕ). length (filter p (map f (take i xs))) + n) (last_counted p (f x) b reads)
 
 -- those that are plain are names of files
 pub plain_at : {X : Type 0} (f : X → List ℕ) (xs : List X) (i : ℕ) (x : X) → i < length xs → x ≡ get_or xs i x → list_all is_plain (map f xs) ≡ true → is_file_name (f x) ≡ true

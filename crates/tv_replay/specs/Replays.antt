@@ -1,5 +1,5 @@
 -- A script replayed over a directory.
-use Rattle.std.specs.Prelude.{ℕ, ◌≡◌, ◌≢◌, ◌⊎◌, ◌+◌, ◌≤◌, Bool, true, false, List, [], ◌∷◌, ◌++◌, length, codes, Option, Some, None, option_map, IfErr, OnOk, string_bytes}
+use Rattle.std.specs.Prelude.{ℕ, ◌≡◌, ◌≢◌, ◌⊎◌, ◌+◌, ◌≤◌, Bool, true, false, List, [], ◌∷◌, ◌++◌, length, codes, Option, Some, None, IsSome, option_map, IfErr, OnOk, string_bytes}
 use Rattle.std.specs.Fmt.{decimal}
 use Rattle.tv_model.specs.declared.event.Event.{Event}
 use Rattle.tv_model.specs.declared.event.Event.TheVariants as events
@@ -50,7 +50,7 @@ ValidatesIn s turns = (front rest : List Turn) (outcomes : List Bool) → turns 
 -- A replay that answered Ok: an index stood there, or was made, whose files can be read; the script is the lines of some events; from the state of each index to which the directory opened, the report of the machine's run
 -- on these events was told, line by line, and the directory holds the run's last state; each event that reads a commit's files found that it could, and where the
 -- meta lock was held none takes it; no more deletes were refused than their count rose; and from a sound start what it reads is sound. The run's readers and
--- searchers serve as `Serves` says, and from a sound start they show each file as it was sealed; its collections take what nothing needs, as `CollectsIn` says, and from a
+-- searchers serve as `Serves` says, and from a sound start they show the body of each file; its collections take what nothing needs, as `CollectsIn` says, and from a
 -- sound start those in steps as `CollectsInStepsIn` says; its validations name the damaged files.
 pub record Replays {O W C : Type 0} (g : Ghosts O W C) (before now : O) (schema : List ℕ) (script : Option (List ℕ)) (tally : Tally) : Type 0 where
   pub turns : List Turn
@@ -181,12 +181,13 @@ pub record StopsAt {W : Type 0} (told : Told) (run : RunFrom) (before now : View
   pub cause : StopsFor run.script.left run.start turns (told.locks → before.locks meta_lock_name ≡ true) (told.locks → before.locks meta_lock_name ≡ false) error
 
 -- What an opening that was refused leaves: no whole line was told, and nothing was read of the script. Where `meta.json` was there each name reads what it read, and
--- where it wasn't there may be the first commit of a new index; an argument and bytes that were refused changed nothing. The error is the first that holds, in the order
--- of an opening.
+-- where it wasn't there may be the first commit of a new index; only of that a notice may have come. An argument and bytes that were refused changed nothing. The error
+-- is the first that holds, in the order of an opening.
 pub record RefusesOpening {W : Type 0} (told : Told) (schema : List ℕ) (before now : View W) (script script_now : SourceView) (error : TantivyError) : Type 0 where
   pub silent : told.heard → TellsNoLine before.heard now.heard
   pub unread : script_now ≡ script
   pub leaves : LeavesRefused before.reads now.reads schema
+  pub stood : IsSome (before.reads meta_name) → now.watched ≡ before.watched
   pub unchanged : IsRefusedFirst error → Same before.reads now.reads
   pub cause : OpeningCause (Unit {0}) schema before.reads (told.locks → before.locks writer_lock_name ≡ true) (told.locks → before.locks writer_lock_name ≡ false) (Unit {0}) (Unit {0}) error
 

@@ -111,12 +111,26 @@ pub record Scene (O : Type 0) : Type 0 where
   pub place : PlaceView O
   pub script : SourceView
 
+-- the script is as it was: what is left of it, where that is told, and how many reads of it were refused
+abbrev pub KeepsScript : {O : Type 0} → (old new : Scene O) → Type 0
+KeepsScript old new = new.script ≡ old.script
+
 -- a replay that a run was asked for, over a folder, with the schema of a path; and what the run stood in before and after
 pub record AskedReplay (O : Type 0) : Type 0 where
   pub folder : List ℕ
   pub path : List ℕ
   pub old : Scene O
   pub new : Scene O
+
+-- the place refused the schema, or had the schema and refused the folder, and the line of that was said
+abbrev pub RefusesReplay : {O : Type 0} → PlaceTold → AskedReplay O → Type 0
+RefusesReplay told asked =
+    PlaceRefuses told asked.old.place asked.new.place schema_line
+    ⊎ ((told.content → IsSome (asked.old.place.schemas asked.path)) × PlaceRefuses told asked.old.place asked.new.place folder_line)
+
+-- memory was wanted for the schema or for the folder, or for the line of a refusal
+abbrev pub WantsMemory : {O : Type 0} → PlaceTold → AskedReplay O → Type 0
+WantsMemory told asked = OnlySays told asked.old.place asked.new.place memory_line ⊎ PlaceRefuses told asked.old.place asked.new.place memory_line
 
 module _ {O W C : Type 0} (g : Ghosts O W C) (told : PlaceTold) where
   -- The whole script was replayed over the directory that was lent for the folder, with the schema of the path. It was given back, nothing was said, and no call was
@@ -166,17 +180,15 @@ module _ {O W C : Type 0} (g : Ghosts O W C) (told : PlaceTold) where
   pub record EndsReplay (asked : AskedReplay O) (status : ℕ) : Type 0 where
     -- 0: the whole script was replayed
     pub done : status ≡ 0 → Succeeds asked
-    -- 1: the place refused the schema, or had the schema and refused the folder; or the replay answered an error that isn't want of memory
+    -- 1: the place refused the schema or the folder, and the script is as it was; or the replay answered an error that isn't want of memory
     pub failed :
         status ≡ 1
-        → PlaceRefuses told asked.old.place asked.new.place schema_line
-        ⊎ ((told.content → IsSome (asked.old.place.schemas asked.path)) × PlaceRefuses told asked.old.place asked.new.place folder_line)
+        → (RefusesReplay told asked × KeepsScript asked.old asked.new)
         ⊎ ((error : TantivyError) × (error ≢ errors.Memory) × Stops asked error (error_line error))
-    -- 3: memory was wanted for the schema or for the folder, or for the line of a refusal, or by the replay or for the line of its error
+    -- 3: memory was wanted before a replay began, and the script is as it was; or it was wanted by the replay or for the line of its error
     pub memory :
         status ≡ 3
-        → OnlySays told asked.old.place asked.new.place memory_line
-        ⊎ PlaceRefuses told asked.old.place asked.new.place memory_line
+        → (WantsMemory told asked × KeepsScript asked.old asked.new)
         ⊎ ((error : TantivyError) × Stops asked error memory_line)
     pub statuses : (status ≡ 0) ⊎ (status ≡ 1) ⊎ (status ≡ 3)
 
@@ -190,7 +202,7 @@ module _ {O W C : Type 0} (g : Ghosts O W C) (told : PlaceTold) where
   -- What stands after a run of these words: a script was replayed, or one was generated, and that of the caller is as it was.
   pub record EndsRun (words : List (List ℕ)) (old new : Scene O) (status : ℕ) : Type 0 where
     pub replayed : (folder path : List ℕ) → words ≡ replay_words folder path → EndsReplay (record { folder = folder; path = path; old = old; new = new }) status
-    pub generated : (n : ℕ) → n ≤ most_commits → words ≡ generate_words n → EndsGenerate told n old.place new.place status × (new.script ≡ old.script)
+    pub generated : (n : ℕ) → n ≤ most_commits → words ≡ generate_words n → EndsGenerate told n old.place new.place status × KeepsScript old new
 
   -- A run that replays a script over a folder, with the schema of a path, where all of this is told: both are there, they and the script are ready for a replay, and
   -- nothing is refused, neither by the place nor by the directory nor in the script.

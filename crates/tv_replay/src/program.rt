@@ -1,5 +1,5 @@
 //! The top call of the program.
-ghost use Rattle.std.specs.Prelude.{◌≡◌, ◌≢◌, ◌⊎◌, ◌↔◌, List, ℕ, None, IsSome, true, map, string_bytes};
+ghost use Rattle.std.specs.Prelude.{◌≡◌, ◌⊎◌, ◌↔◌, List, ℕ, None, IsSome, true, map, string_bytes};
 ghost use Rattle.tv_model.specs.Lines.{has_no_feed};
 ghost use Rattle.tv_replay.specs.ErrorLines.{error_line};
 ghost use Rattle.tv_replay.specs.Commands.{replay_words, IsNoCommand};
@@ -29,7 +29,8 @@ const MEMORY_LINE: &[u8] = b"error memory";
 /// error its line is told to the folder's owner, or said: one line, or a part of it where the place
 /// refuses that too. `generate N`, with N from 0 to 1000, generates a script of N commits, replays it
 /// over a new index in memory, and says its summary. (So far the other words of the usage are of no
-/// command.)
+/// command.) Where no replay begins, the script is left as it was: by these words and by words of no
+/// command, and where the place refuses the schema or the folder.
 pub fn run<P: Place, R: Source>(
     alloc: Global,
     words: &[String],
@@ -41,8 +42,10 @@ pub fn run<P: Place, R: Source>(
         → P.is_folder_path folder × P.is_schema_path path }
     ensures free { (P.view place.new).lent ≡ None }
     ensures usage { (result ≡ 2) ↔ IsNoCommand (map string_bytes words.now) }
+    // Words of no command have the usage line said, and the script is as it was.
     ensures usage_line { result ≡ 2
-        → OnlySays P.told (P.view place.old) (P.view place.new) usage_line }
+        → OnlySays P.told (P.view place.old) (P.view place.new) usage_line
+        × (R.view script.new ≡ R.view script.old) }
     // What was replayed or generated, told and said.
     ensures ends { EndsRun P.Out.Directory P.told (map string_bytes words.now)
         (record { place = P.view place.old; script = R.view script.old })

@@ -1,11 +1,10 @@
 -- What the calls of the events do, put together.
-use Rattle.std.proofs.Common.{ℕ, ◌≡◌, ◌<◌, ◌+◌, true, false, List, [], length, Result, Ok, Err, Some, refl, sym, ap, subst, ◌∙◌, inl, arith}
+use Rattle.std.proofs.Common.{ℕ, ◌≡◌, ◌<◌, ◌+◌, true, false, List, [], length, Option, Result, Ok, Err, Some, refl, sym, ap, subst, ◌∙◌, inl, arith}
 use Rattle.std.specs.Prelude.{IfOk, OnOk, OnErr}
 use Rattle.std.proofs.lemmas.Result.{on_err_weaker}
 use Rattle.tv_base.specs.declared.error.TantivyError.{TantivyError}
 use Rattle.tv_base.specs.declared.error.TantivyError.TheVariants as errors
 use Rattle.tv_directory.specs.View.{View, Told as ToldParts, Kept as KeptView, OnlyReads, MayDelete}
-use Rattle.tv_directory.specs.Watch.{WatchState}
 use Rattle.tv_directory.specs.declared.directory.Directory.{Ghosts}
 use Rattle.tv_managed.specs.Collecting.{meta_lock_name}
 use Rattle.tv_model.specs.Names.{meta_name}
@@ -13,6 +12,7 @@ use Rattle.tv_model.proofs.Changes.{lifted}
 use Rattle.tv_model.specs.Files.{Rose}
 use Rattle.tv_model.specs.Collections.{no_collections}
 use Rattle.tv_model.specs.State.{Catalog, State, StepResult, no_readers, on_catalog}
+use Rattle.tv_model.specs.CommitEvents.{commit_step}
 use Rattle.tv_model.specs.Machine.{catalog_step, step}
 use Rattle.tv_model.specs.Readable.{ReadsGood}
 use Rattle.tv_model.specs.declared.event.Event.{Event}
@@ -24,7 +24,6 @@ use Rattle.tv_store.specs.StoreCauses.{IsBusy}
 use Rattle.tv_store.specs.ReadCauses.{IsReadError, TakesMetaLock}
 use Rattle.tv_store.specs.Applying.{Stepped, ActCause, ApplyFaults, GoneAt, MayNoteAt, RefusedAt, UnloadedAt, written_by}
 use Rattle.tv_store.specs.Stays.{Asks, Stays, KeepsDotted, KeepsReaders, EventFaults}
-use Rattle.tv_index.specs.Saving.{FrameNotes}
 use Rattle.tv_store.specs.Committing.{Commits}
 use Rattle.tv_store.specs.FileCalls.{GcFaults}
 use Rattle.tv_store.specs.Acting.{Acts, GivesNone, KeepsMeta, OnFiles, LeavesStep, Passes, StepsTo, StepsReading, StepsDeleting}
@@ -32,27 +31,23 @@ use Rattle.tv_store.specs.Catalogs.{CatalogCause, FitsCatalog}
 use Rattle.tv_store.proofs.FewNumbers.{few_more, none_given}
 use Rattle.tv_store.proofs.Holding.{same_holds}
 use Rattle.tv_store.proofs.Lifting.{catalog_held, numbers_grow, plain_event}
-use Rattle.tv_store.proofs.Steps.{cause_in, locking_cause_in, locks_none, takes_lock_in, reads_none, leaves_old, old_at_memory, stepped, stepped_reading, stepped_deleting, at_most, numbers_stay, same_lens}
-
--- nothing noted anything
-abbrev pub NotesNothing : Event → Type 0
-NotesNothing event = (old new : WatchState) → new ≡ old → MayNoteAt event old new
+use Rattle.tv_store.proofs.Steps.{IsNoCommit, notes_none, cause_in, locking_cause_in, locks_none, takes_lock_in, reads_none, leaves_old, old_at_memory, stepped, stepped_reading, stepped_deleting, stepped_committing, at_most, numbers_stay, same_lens}
 
 -- what an event passes that only wrote files, or that deleted some
-pub passed : {W : Type 0} (told : ToldParts) (event : Event) (old new : View W) → NotesNothing event → KeptView told old new → Passes told event old new
+pub passed : {W : Type 0} (told : ToldParts) (event : Event) (old new : View W) → IsNoCommit event → KeptView told old new → Passes told event old new
 passed told event old new none h = record {
   goes_on = h.frame.tells_none.deletes_none.goes_on;
   heard = h.frame.tells_none.heard;
   locks = h.frame.locks;
-  watched = none old.watched new.watched h.watched;
+  watched = notes_none event none old.watched new.watched h.watched;
 }
 
-pub passed_deleting : {W : Type 0} (told : ToldParts) (event : Event) (old new : View W) → NotesNothing event → MayDelete told old new → Passes told event old new
+pub passed_deleting : {W : Type 0} (told : ToldParts) (event : Event) (old new : View W) → IsNoCommit event → MayDelete told old new → Passes told event old new
 passed_deleting told event old new none h = record {
   goes_on = h.goes_on;
   heard = h.heard;
   locks = h.locks;
-  watched = none old.watched new.watched h.watched;
+  watched = notes_none event none old.watched new.watched h.watched;
 }
 
 on_err : {A E : Type 0} (result : Result A E) (P : Type 0) → P → OnErr result P
@@ -120,23 +115,23 @@ module _ {O W C : Type 0} (g : Ghosts O W C) (old new : StoreState O) (event sho
     Busy : Type 0
     Busy = IsBusy g.told.locks ((g.view old.outside).locks meta_lock_name ≡ true) RefusedOne
 
-  step_alone : ((s : State) → ReadsGood s shown) → (g.view new.outside).refusals ≡ (g.view old.outside).refusals → StepsTo g old new (λ s. step s shown []) result → Steps
-  step_alone good refusals h = stepped g old new shown (λ s. step s shown []) result refusals (λ s. refl) good h
+  step_alone : IsNoCommit shown → ((s : State) → ReadsGood s shown) → (g.view new.outside).refusals ≡ (g.view old.outside).refusals → StepsTo g old new (λ s. step s shown []) result → Steps
+  step_alone none good refusals h = stepped g old new shown none (λ s. step s shown []) result refusals (λ s. refl) good h
 
   -- one on files
-  pub acts_on_files : NotesNothing shown → (keeps : View W → View W → Type 0) → ((before now : View W) → keeps before now → KeptView g.told before now) → (spent : Type 0) → (spent → IsExhausted old.kept shown) → ((s : State) → ReadsGood s shown) → (TakesMetaLock old.kept.catalog shown → ⊥)
+  pub acts_on_files : IsNoCommit shown → (keeps : View W → View W → Type 0) → ((before now : View W) → keeps before now → KeptView g.told before now) → (spent : Type 0) → (spent → IsExhausted old.kept shown) → ((s : State) → ReadsGood s shown) → (TakesMetaLock old.kept.catalog shown → ⊥)
       → StepsTo g old new (λ s. step s shown []) result → ((bound : ℕ) → AtMost bound old.kept → AtMost (bound + written_by shown) new.kept)
       → OnFiles g keeps spent old new result
       → Acts g old new event result
   acts_on_files none keeps weaker spent all good free step lens does =
       let stays = does.frame.stays in
       let below = weaker (g.view old.outside) (g.view new.outside) stays.below in
-      acts (step_alone good below.frame.tells_none.deletes_none.refusals step) does.room lens
+      acts (step_alone none good below.frame.tells_none.deletes_none.refusals step) does.room lens
       (λ bound h. numbers_stay bound (written_by shown) old.kept.catalog.reading new.kept.catalog.reading old.kept.collections new.kept.collections result does.frame.reading does.numbers h) (faults_alone spent all free does.faults) does.meta does.dotted
       (record { form = stays.form; is_open = stays.is_open; below = passed g.told shown (g.view old.outside) (g.view new.outside) none below })
 
   -- one that reads a commit's files
-  pub acts_reading : NotesNothing shown → (good : State → Type 0) → ((s : State) → good s → ReadsGood s shown)
+  pub acts_reading : IsNoCommit shown → (good : State → Type 0) → ((s : State) → good s → ReadsGood s shown)
       → StepsReading g old new (λ s. step s shown []) good result → IfOk result (λ answer. length answer < (g.view new.outside).room)
       → ((bound : ℕ) → AtMost bound old.kept → AtMost (bound + written_by shown) new.kept)
       → ((bound : ℕ) → FewNumbers bound old.kept.catalog.reading old.kept.collections → OnOk result (FewNumbers (bound + written_by shown) new.kept.catalog.reading new.kept.collections))
@@ -144,25 +139,25 @@ module _ {O W C : Type 0} (g : Ghosts O W C) (old new : StoreState O) (event sho
       → Acts g old new event result
   acts_reading none good reads did room lens numbers faults frame =
       let below = frame.below.kept in
-      acts (stepped_reading g old new shown (λ s. step s shown []) good result below.frame.tells_none.deletes_none.refusals (λ s. refl) reads did) room lens numbers faults
+      acts (stepped_reading g old new shown none (λ s. step s shown []) good result below.frame.tells_none.deletes_none.refusals (λ s. refl) reads did) room lens numbers faults
       (λ tells. on_err result ((g.view new.outside).reads meta_name ≡ (g.view old.outside).reads meta_name) (frame.below.content tells meta_name))
       (λ tells n dot other. frame.below.content tells n)
       (record { form = frame.form; is_open = frame.is_open; below = passed g.told shown (g.view old.outside) (g.view new.outside) none below })
 
   -- one on files that is made from whole states
-  pub acts_on_whole : NotesNothing shown → ((s : State) → ReadsGood s shown) → (TakesMetaLock old.kept.catalog shown → ⊥)
+  pub acts_on_whole : IsNoCommit shown → ((s : State) → ReadsGood s shown) → (TakesMetaLock old.kept.catalog shown → ⊥)
       → StepsReading g old new (λ s. step s shown []) (λ s. Unit {0}) result → ((bound : ℕ) → AtMost bound old.kept → AtMost (bound + written_by shown) new.kept)
       → OnFiles g (KeptView g.told) ⊥ old new result
       → Acts g old new event result
   acts_on_whole none good free did lens does =
       let stays = does.frame.stays in
-      acts (stepped_reading g old new shown (λ s. step s shown []) (λ s. Unit {0}) result stays.below.frame.tells_none.deletes_none.refusals (λ s. refl) (λ s h. good s) did) does.room lens
+      acts (stepped_reading g old new shown none (λ s. step s shown []) (λ s. Unit {0}) result stays.below.frame.tells_none.deletes_none.refusals (λ s. refl) (λ s h. good s) did) does.room lens
       (λ bound h. numbers_stay bound (written_by shown) old.kept.catalog.reading new.kept.catalog.reading old.kept.collections new.kept.collections result does.frame.reading does.numbers h)
       (faults_alone ⊥ (λ never. absurd never) free does.faults) does.meta does.dotted
       (record { form = stays.form; is_open = stays.is_open; below = passed g.told shown (g.view old.outside) (g.view new.outside) none stays.below })
 
   -- one after which nobody reads, and no collection was begun
-  pub acts_anew : NotesNothing shown → ((s : State) → ReadsGood s shown) → (TakesMetaLock old.kept.catalog shown → ⊥)
+  pub acts_anew : IsNoCommit shown → ((s : State) → ReadsGood s shown) → (TakesMetaLock old.kept.catalog shown → ⊥)
       → StepsTo g old new (λ s. step s shown []) result → IfOk result (λ answer. length answer < (g.view new.outside).room)
       → ((bound : ℕ) → AtMost bound old.kept → AtMost (bound + written_by shown) new.kept)
       → OnOk result ((new.kept.collections ≡ no_collections) × (new.kept.catalog.reading ≡ no_readers))
@@ -170,7 +165,7 @@ module _ {O W C : Type 0} (g : Ghosts O W C) (old new : StoreState O) (event sho
       → Acts g old new event result
   acts_anew none good free step room lens anew faults frame =
       let below = frame.below.kept in
-      acts (step_alone good below.frame.tells_none.deletes_none.refusals step) room lens (λ bound few. begun (bound + written_by shown) result anew)
+      acts (step_alone none good below.frame.tells_none.deletes_none.refusals step) room lens (λ bound few. begun (bound + written_by shown) result anew)
       (faults_alone ⊥ (λ never. absurd never) free faults)
       (λ tells. on_err result ((g.view new.outside).reads meta_name ≡ (g.view old.outside).reads meta_name) (frame.below.content tells meta_name))
       (λ tells n dot other. frame.below.content tells n)
@@ -180,7 +175,7 @@ module _ {O W C : Type 0} (g : Ghosts O W C) (old new : StoreState O) (event sho
         begun bound (Err e) h = tt
 
   -- one that gives a number to a collection
-  pub acts_beginning : NotesNothing shown → ((s : State) → ReadsGood s shown) → written_by shown ≡ 1
+  pub acts_beginning : IsNoCommit shown → ((s : State) → ReadsGood s shown) → written_by shown ≡ 1
       → StepsTo g old new (λ s. step s shown []) result → IfOk result (λ answer. length answer < (g.view new.outside).room)
       → ((bound : ℕ) → AtMost bound old.kept → AtMost (bound + written_by shown) new.kept)
       → OnOk result (new.kept.collections.next ≡ old.kept.collections.next + 1)
@@ -188,7 +183,7 @@ module _ {O W C : Type 0} (g : Ghosts O W C) (old new : StoreState O) (event sho
       → Acts g old new event result
   acts_beginning none good takes step room lens next faults frame =
       let below = frame.stays.below.kept in
-      acts (step_alone good below.frame.tells_none.deletes_none.refusals step) room lens (λ bound few. more bound result next few) faults
+      acts (step_alone none good below.frame.tells_none.deletes_none.refusals step) room lens (λ bound few. more bound result next few) faults
       (λ tells. on_err result ((g.view new.outside).reads meta_name ≡ (g.view old.outside).reads meta_name) (frame.stays.below.content tells meta_name))
       (λ tells n dot other. frame.stays.below.content tells n)
       (record { form = frame.stays.form; is_open = frame.stays.is_open; below = passed g.told shown (g.view old.outside) (g.view new.outside) none below }) where
@@ -205,45 +200,45 @@ module _ {O W C : Type 0} (g : Ghosts O W C) (old new : StoreState O) (event sho
         more bound (Err e) is few = tt
 
   -- one that deletes files
-  pub acts_deleting : NotesNothing shown → ((s : State) → ReadsGood s shown)
+  pub acts_deleting : IsNoCommit shown → ((s : State) → ReadsGood s shown)
       → IfOk result (StepsDeleting g old new (λ s outcomes. step s shown outcomes)) → IfOk result (λ answer. length answer < (g.view new.outside).room)
       → ((bound : ℕ) → AtMost bound old.kept → AtMost (bound + written_by shown) new.kept)
       → GivesNone old new result
       → ApplyFaults g old new shown result → KeepsMeta g old new result → (g.told.content → KeepsDotted (g.view old.outside).reads (g.view new.outside).reads) → KeepsReaders (MayDelete g.told) g.view old new
       → Acts g old new event result
   acts_deleting none good did room lens numbers faults meta dotted frame =
-      acts (stepped_deleting g old new shown (λ s outcomes. step s shown outcomes) result (λ s outcomes. refl) good did) room lens
+      acts (stepped_deleting g old new shown none (λ s outcomes. step s shown outcomes) result (λ s outcomes. refl) good did) room lens
       (λ bound h. numbers_stay bound (written_by shown) old.kept.catalog.reading new.kept.catalog.reading old.kept.collections new.kept.collections result frame.reading numbers h) faults meta dotted
       (record { form = frame.stays.form; is_open = frame.stays.is_open; below = passed_deleting g.told shown (g.view old.outside) (g.view new.outside) none frame.stays.below })
 
-  -- one that commits
-  pub acts_committing : ((s : State) → ReadsGood s shown) → (TakesMetaLock old.kept.catalog shown → ⊥)
-      → (FrameNotes g.told (g.view old.outside) (g.view new.outside) → MayNoteAt shown (g.view old.outside).watched (g.view new.outside).watched)
-      → Commits g (Unit {0}) old new (λ s. step s shown []) result → Acts g old new event result
-  acts_committing good free notes h =
-      let below = h.frame.stays.below in
-      subst (λ (e : Event). Acts g old new e result) (sym is) (record {
-        step = step_alone good below.frame.tells_none.deletes_none.refusals (λ tells s held. h.step tells s held tt);
-        room = h.room;
-        lens = λ bound all. at_most bound (written_by shown) new.kept (same_lens bound old.kept new.kept.open_files h.frame.open_files all);
-        numbers = λ bound few. numbers_stay bound (written_by shown) old.kept.catalog.reading new.kept.catalog.reading old.kept.collections new.kept.collections result h.frame.reading (none_given result h.frame.collections) few;
-        faults = faults_alone ⊥ (λ never. absurd never) free h.faults;
-        leaves = record {
-          meta = λ tells s held whole. on_err_weaker result (λ left. ([], left)) (h.meta tells s held tt);
-          memory = h.memory;
+-- one that commits
+pub acts_committing : {O W C : Type 0} (g : Ghosts O W C) (old new : StoreState O) (event : Event) (payload : Option (List ℕ)) (ids : List (List ℕ)) → event ≡ events.Commit payload ids → (result : Result (List ℕ) TantivyError)
+    → Commits g (Unit {0}) old new (λ s. commit_step s payload ids) result → Acts g old new event result
+acts_committing g old new event payload ids is result h =
+    let shown : Event = events.Commit payload ids in
+    let below = h.frame.stays.below in
+    subst (λ (e : Event). Acts g old new e result) (sym is) (record {
+      step = stepped_committing g old new payload ids result below.frame.tells_none.deletes_none.refusals (λ tells s held. h.step tells s held tt);
+      room = h.room;
+      lens = λ bound all. at_most bound 0 new.kept (same_lens bound old.kept new.kept.open_files h.frame.open_files all);
+      numbers = λ bound few. numbers_stay bound 0 old.kept.catalog.reading new.kept.catalog.reading old.kept.collections new.kept.collections result h.frame.reading (none_given result h.frame.collections) few;
+      faults = faults_alone g old new shown shown refl result ⊥ (λ never. absurd never) (λ takes. takes) h.faults;
+      leaves = record {
+        meta = λ tells s held whole. on_err_weaker result (λ left. ([], left)) (h.meta tells s held tt);
+        memory = h.memory;
+      };
+      dotted = h.dotted;
+      frame = record {
+        form = h.frame.stays.form;
+        is_open = h.frame.stays.is_open;
+        below = record {
+          goes_on = below.frame.tells_none.deletes_none.goes_on;
+          heard = below.frame.tells_none.heard;
+          locks = below.frame.locks;
+          watched = below.watched;
         };
-        dotted = h.dotted;
-        frame = record {
-          form = h.frame.stays.form;
-          is_open = h.frame.stays.is_open;
-          below = record {
-            goes_on = below.frame.tells_none.deletes_none.goes_on;
-            heard = below.frame.tells_none.heard;
-            locks = below.frame.locks;
-            watched = notes below;
-          };
-        };
-      })
+      };
+    })
 
 -- an event that touches no file, whose answer was told in room that was made for it
 pub acts_known : {O W C : Type 0} (g : Ghosts O W C) (old mid new : StoreState O) (event : Event) (known : StepResult Catalog) (result : Result (List ℕ) TantivyError)
@@ -257,7 +252,7 @@ acts_known g old mid new event known result steps fits kept outside is_open answ
     let below : OnlyReads g.told (g.view old.outside) (g.view new.outside) = subst (λ o. OnlyReads g.told (g.view o) (g.view new.outside)) outside frame.below in
     let now : new.kept ≡ record old.kept { catalog = known.1 } = frame.kept ∙ kept in
     acts g old new event event refl result
-    (step_alone g old new event event refl result plain.reads below.kept.frame.tells_none.deletes_none.refusals (λ tells s held. weaker result answer (λ a said.
+    (step_alone g old new event event refl result plain.none plain.reads below.kept.frame.tells_none.deletes_none.refusals (λ tells s held. weaker result answer (λ a said.
     let is = lifted s event [] known (here s held) in (
       said ∙ ap (λ (t : StepResult State). t.0) (sym is),
       subst (λ (t : StepResult State). Holds (g.view new.outside).reads new.kept t.1) (sym is)
@@ -270,7 +265,7 @@ acts_known g old mid new event known result steps fits kept outside is_open answ
     (faults_alone g old new event event refl result ⊥ (λ never. absurd never) (plain.free old.kept.catalog) (subst (λ o. EventFaults ⊥ (g.view o) (g.view new.outside) result) outside faults))
     (λ tells. on_err result ((g.view new.outside).reads meta_name ≡ (g.view old.outside).reads meta_name) (below.content tells meta_name))
     (λ tells n dot other. below.content tells n)
-    (record { form = ap (λ (k : Kept). k.form) now; is_open = frame.is_open ∙ is_open; below = passed g.told event (g.view old.outside) (g.view new.outside) plain.notes below.kept }) where
+    (record { form = ap (λ (k : Kept). k.form) now; is_open = frame.is_open ∙ is_open; below = passed g.told event (g.view old.outside) (g.view new.outside) plain.none below.kept }) where
       here : (s : State) → Holds (g.view old.outside).reads old.kept s → catalog_step s.catalog s.managed event ≡ Some known
       here s h = subst (λ (c : Catalog). catalog_step c s.managed event ≡ Some known) h.catalog (subst (λ (names : List (List ℕ)). catalog_step old.kept.catalog names event ≡ Some known) h.managed steps)
 

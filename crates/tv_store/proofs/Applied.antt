@@ -10,10 +10,11 @@ use Rattle.tv_base.specs.declared.io.IoFault.{IoFault}
 use Rattle.tv_model.specs.Machine.{step, refused_in}
 use Rattle.tv_model.specs.Meaning.{Means}
 use Rattle.tv_model.specs.declared.event.Event.{Event}
+use Rattle.tv_model.specs.declared.event.Event.TheVariants as events
 use Rattle.tv_store.specs.Kept.{Kept, StoreState, Holds, AtMost}
 use Rattle.tv_store.specs.ReaderNumbers.{FewNumbers}
 use Rattle.tv_store.specs.Acting.{Acts}
-use Rattle.tv_store.specs.Applying.{ActCause, Grows, ApplyFaults, IsUndisturbedEvent, LeavesMeta, MeetsBadAt, Stepped, written_by}
+use Rattle.tv_store.specs.Applying.{ActCause, Grows, ApplyFaults, IsUndisturbedEvent, LeavesMeta, MeetsBadAt, SavesAt, Stepped, written_by}
 use Rattle.tv_store.proofs.ReaderEvents.{has_middle}
 use Rattle.tv_base.specs.declared.open_errors.LockError.TheVariants as lock
 use Rattle.tv_base.specs.declared.open_errors.OpenReadError.{OpenReadError}
@@ -25,7 +26,7 @@ use Rattle.tv_model.specs.Readable.{AreGoodFiles, IsGoodFile, ReadsGood}
 use Rattle.tv_model.specs.Segments.{all_required}
 use Rattle.tv_model.specs.State.{State, Sealed}
 use Rattle.tv_model.specs.Commits.{Commit, IndexForm}
-use Rattle.tv_model.specs.Names.{has}
+use Rattle.tv_model.specs.Names.{has, meta_name}
 use Rattle.tv_store.specs.Telling.{TellsAnswer, TellsFirstPart, TellsNoLine, TriesLine}
 use Rattle.tv_store.proofs.Holding.{same_holds}
 use Rattle.tv_store.proofs.LoadedCommits.{damaged_holds_none, other_holds_none}
@@ -35,9 +36,6 @@ use Rattle.tv_store.proofs.Steps.{longer}
 -- ---- an error of the step
 
 module _ {O W C : Type 0} (g : Ghosts O W C) (old mid : StoreState O) (event : Event) (error : TantivyError) (acted : Acts g (record old { is_open = false }) mid event (Err error)) where
-  pub untold : TellsAnswer g old.outside mid.outside (Err error)
-  untold = record { ok = λ tells. tt; err = λ tells. inl acted.frame.below.heard }
-
   pub grows_failed : Grows old.kept mid.kept event (Err error)
   grows_failed = record {
     lens = λ bound more small all. longer mid.kept.open_files (bound + written_by event) (bound + more) (omega (arith, small)) (acted.lens bound all);
@@ -116,12 +114,20 @@ module _ {O W C : Type 0} (g : Ghosts O W C) (old mid new : StoreState O) (event
   held_told : g.told.content → (s : State) → Holds (g.view mid.outside).reads mid.kept s → Holds (g.view new.outside).reads new.kept s
   held_told t s h = same_holds (g.view mid.outside).reads (g.view new.outside).reads mid.kept new.kept s (told.content t) kept h
 
+  -- no event's line changes what was saved
+  saves_told : (e : Event) (before after : State) → g.told.content → SavesAt e old.kept.form (g.view old.outside) (g.view mid.outside) before after → SavesAt e old.kept.form (g.view old.outside) (g.view new.outside) before after
+  saves_told (events.Commit payload ids) before after t h = record {
+    refused = λ same. let k = h.refused same in ((λ n. told.content t n ∙ k.0 n), told.watched ∙ k.1);
+    saved = λ other. let k = h.saved other in (told.content t meta_name ∙ k.0, told.watched ∙ k.1);
+  }
+  saves_told other before after t h = tt
+
   pub step_told : Stepped g old new event answer
   step_told =
       let stepped = acted.step in (
         stepped.0,
         subst (λ (n : ℕ). RoseBy (refused_in stepped.0) (g.view old.outside).refusals n) (sym told.deletes_none.refusals) stepped.1,
-        λ t s h w. let k = stepped.2 t s h w in (k.0, held_told t (step s event stepped.0).1 k.1, k.2),
+        λ t s h w. let k = stepped.2 t s h w in (k.0, held_told t (step s event stepped.0).1 k.1, k.2, saves_told event s (step s event stepped.0).1 t k.3),
       )
 
   pub leaves_untold : {A : Type 0} (fault : IoFault) → TriesLine {A = A} {E = IoFault} g.told (g.view mid.outside) (g.view new.outside) answer (Err fault) → Rose (g.view mid.outside).faults (g.view new.outside).faults

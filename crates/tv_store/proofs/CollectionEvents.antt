@@ -1,6 +1,5 @@
 -- What is held after a collection, and after the end of a segment; and which files are sealed.
 use Rattle.std.proofs.Common.{◌≡◌, ◌≢◌, filter, ℕ, inl, inr, ⊎_elim, Bool, true, false, true≢false, cond, not, ◌&&◌, ◌||◌, List, [], ◌∷◌, ◌++◌, length, Option, Some, None, option_map, is_some, refl, sym, ap, subst, ◌∙◌, arith}
-use Rattle.std.specs.Prelude.{IsSome}
 use Rattle.std.specs.List.{AllByRecursion}
 use Rattle.std.specs.BTreeMap.{is_at}
 use Rattle.tv_model.specs.declared.segment.LiveSegment.{LiveSegment}
@@ -12,14 +11,12 @@ use Rattle.tv_model.specs.Living.{living, segment_names}
 use Rattle.tv_model.specs.State.{Catalog, State, FileState, Sealed, Open, Left, at, file_at}
 use Rattle.tv_model.specs.CollectionEvents.{garbage, without_files, without_live, collected_line, gc_step, left, released, with_left}
 use Rattle.tv_model.specs.Machine.{refused_in}
-use Rattle.tv_model.specs.CommitEvents.{is_sealed}
 use Rattle.tv_model.specs.Meaning.{Means}
 use Rattle.tv_model.specs.Commits.{Commit, IsSegment, IndexForm}
-use Rattle.tv_model.proofs.Entries.{is_text}
 use Rattle.tv_model.proofs.CollectionStates.{has_append, has_without, at_without, living_spared, meta_living, at_left}
 use Rattle.tv_directory.specs.declared.directory.Directory.{Ghosts}
 use Rattle.tv_managed.specs.Collecting.{FailsAtMost}
-use Rattle.tv_store.specs.FileCalls.{Asked, Tried, Collects, LeavesFiles}
+use Rattle.tv_store.specs.FileCalls.{Tried, Collects, LeavesFiles}
 use Rattle.tv_store.specs.Kept.{FilesState, Holds, FileHolds, is_left, kept_of}
 use Rattle.tv_store.proofs.OpenFiles.{all_left}
 use Rattle.tv_store.proofs.CommitEvents.{undotted_isnt_list}
@@ -60,14 +57,6 @@ was_there true file h = absurd (true≢false (sym h))
 was_there false file h = h
 
 -- ---- the end of a segment
-
-named_of : (P : List ℕ → Type 0) (names : List (List ℕ)) (n : List ℕ) → AllByRecursion P names → has names n ≡ true → P n
-named_of P [] n h e = absurd (true≢false (sym e))
-named_of P (x ∷ names) n h e =
-    elim (is x n) as (λ b. is x n ≡ b → (b || has names n) ≡ true → P n) [
-      | true ↦ λ same k. subst P (is_text x n same) h.0
-      | false ↦ λ same k. named_of P names n h.1 k
-    ] refl e
 
 left_file : (b : Bool) (file : Option FileState) (read is_open was_open : Option (List ℕ)) → is_open ≡ cond b None was_open → FileHolds file read was_open → FileHolds (option_map (λ f. cond b (left f) f) file) read is_open
 left_file false None read is_open was_open e h = (h.0, e ∙ h.1)
@@ -193,19 +182,3 @@ refusals_rose names before after deleted failed tells old new told start end h =
     ⊎_elim (λ most. inl (omega (arith, most, same))) (λ full. inr (omega (arith, full))) h
 
 -- ---- which files are sealed
-
-none_isnt_some : {X : Type 0} (o : Option X) → o ≡ None → IsSome o → ⊥
-none_isnt_some o none some = true≢false (sym some ∙ ap is_some none)
-
--- a file is sealed exactly where it was found to be
-pub sealed_is : (file : Option FileState) (read written : Option (List ℕ)) (gone found : Bool) → FileHolds file read written → gone ≡ is_left file → Asked read written gone found → found ≡ is_sealed file
-sealed_is None read written gone true h l asked = absurd (none_isnt_some read h.0 (asked.yes refl).0)
-sealed_is None read written gone false h l asked = refl
-sealed_is (Some (Sealed bytes)) read written gone true h l asked = refl
-sealed_is (Some (Sealed bytes)) read written gone false h l asked =
-    ⊎_elim (λ none. absurd (true≢false (sym (ap is_some h.0) ∙ ap is_some none)))
-    (⊎_elim (λ some. absurd (none_isnt_some written h.1 some)) (λ here. absurd (true≢false (sym here ∙ l)))) (asked.no refl)
-sealed_is (Some (Open body)) read written gone true h l asked = absurd (true≢false (sym (ap is_some h.1) ∙ ap is_some (asked.yes refl).1))
-sealed_is (Some (Open body)) read written gone false h l asked = refl
-sealed_is (Some Left) read written gone true h l asked = absurd (true≢false (sym l ∙ (asked.yes refl).2))
-sealed_is (Some Left) read written gone false h l asked = refl

@@ -109,7 +109,7 @@ pub undotted_isnt_list : (n : List ℕ) → is_undotted n ≡ true → n ≢ lis
 undotted_isnt_list n h e = true≢false (sym h ∙ ap is_undotted e)
 
 -- a commit with the number that comes next is that of the state after it
-next_commit : (catalog held : Catalog) (commit : Commit) → catalog ≡ held → commit.opstamp ≡ catalog.next → commit ≡ (committed held commit.payload commit.segments).1.commit
+pub next_commit : (catalog held : Catalog) (commit : Commit) → catalog ≡ held → commit.opstamp ≡ catalog.next → commit ≡ (committed held commit.payload commit.segments).1.commit
 next_commit catalog held commit same is =
     ap (λ (n : ℕ). record { opstamp = n; payload = commit.payload; segments = commit.segments }) (is ∙ ap (λ (c : Catalog). c.next) same)
 

@@ -1,11 +1,12 @@
 -- What the calls that commit do, put together.
-use Rattle.std.proofs.Common.{ℕ, ◌≡◌, ◌⊎◌, inl, inr, ◌<◌, false, List, [], ◌∷◌, length, codes, Option, Some, None, Result, Ok, Err, IfErr, refl, sym, ap, subst, ◌∙◌}
+use Rattle.std.proofs.Common.{ℕ, ◌≡◌, ◌≢◌, ◌+◌, ◌⊎◌, inl, inr, ◌<◌, arith, false, List, [], ◌∷◌, length, codes, Option, Some, None, Result, Ok, Err, IfErr, refl, sym, ap, subst, ◌∙◌}
 use Rattle.std.specs.Prelude.{IfOk, OnOk, OnErr, is_some, option_map, ◌==◌}
-use Rattle.std.proofs.lemmas.Result.{on_err_weaker}
+use Rattle.std.proofs.lemmas.Result.{IfOk-weaker, on_err_weaker}
 use Rattle.tv_base.specs.declared.error.TantivyError.{TantivyError}
 use Rattle.tv_base.specs.declared.error.TantivyError.TheVariants as errors
 use Rattle.tv_base.specs.declared.open_errors.OpenWriteError.TheVariants as write
-use Rattle.tv_directory.specs.View.{OnlyReads}
+use Rattle.tv_directory.specs.View.{View, Told as ToldParts, OnlyReads}
+use Rattle.tv_directory.specs.Watch.{WatchState, noted}
 use Rattle.tv_directory.specs.declared.directory.Directory.{Ghosts}
 use Rattle.tv_model.specs.declared.segment.LiveSegment.{LiveSegment}
 use Rattle.tv_model.specs.Names.{meta_name}
@@ -18,12 +19,13 @@ use Rattle.tv_model.specs.CommitEvents.{commit_step, committed, chosen, first_un
 use Rattle.tv_managed.specs.Managed.{KeepsOtherFiles}
 use Rattle.tv_store.specs.Kept.{Kept, StoreState, Holds}
 use Rattle.tv_store.specs.StoreCauses.{EventCause}
-use Rattle.tv_store.specs.Applying.{LeavesCommit}
+use Rattle.tv_store.specs.Applying.{LeavesCommit, SavesUnlessRefused}
 use Rattle.tv_store.specs.Stays.{Asks, EventFaults}
-use Rattle.tv_store.specs.Committing.{Commits, IsPrinted, KeepsRest, Publishes, commit_line, commit_of, unsealed_line}
+use Rattle.tv_store.specs.Committing.{CommitStep, Commits, IsPrinted, KeepsRest, Publishes, commit_line, commit_of, unsealed_line}
 use Rattle.tv_store.proofs.Asking.{notes_later}
 use Rattle.tv_store.proofs.Holding.{same_holds, dotted_others}
-use Rattle.tv_store.proofs.CommitEvents.{means_next, published}
+use Rattle.tv_store.proofs.CommitEvents.{means_next, next_commit, published}
+use Rattle.tv_index.specs.Saving.{saved_text}
 
 module _ {O W C : Type 0} (g : Ghosts O W C) (given : Type 0) (old new : StoreState O) where
   -- what was only asked for stays
@@ -57,7 +59,12 @@ module _ {O W C : Type 0} (g : Ghosts O W C) (given : Type 0) (old new : StoreSt
   refuses told answer (Ok a) asks faults is room shows = record {
     step = λ tells s held known.
         let e = shows tells s held known in
-        (is ∙ sym (ap (λ (t : StepResult State). t.0) e), subst (λ (t : StepResult State). Holds (g.view new.outside).reads new.kept t.1) (sym e) (same_holds (g.view old.outside).reads (g.view new.outside).reads old.kept new.kept s (asks.below.content tells) asks.kept held));
+        let saves : SavesUnlessRefused old.kept.form (g.view old.outside) (g.view new.outside) s s =
+        record { refused = λ same. (asks.below.content tells, asks.below.kept.watched); saved = λ other. absurd (other refl) } in (
+          is ∙ sym (ap (λ (t : StepResult State). t.0) e),
+          subst (λ (t : StepResult State). Holds (g.view new.outside).reads new.kept t.1) (sym e) (same_holds (g.view old.outside).reads (g.view new.outside).reads old.kept new.kept s (asks.below.content tells) asks.kept held),
+          subst (λ (t : StepResult State). SavesUnlessRefused old.kept.form (g.view old.outside) (g.view new.outside) s t.1) (sym e) saves,
+        );
     meta = λ tells s held known. tt;
     memory = λ tells. tt;
     room = room;
@@ -74,7 +81,7 @@ module _ {O W C : Type 0} (g : Ghosts O W C) (given : Type 0) (old new : StoreSt
   commits_as more told other result h shows = record {
     step = λ tells s held known.
         let k = shows tells s held known in
-        subst (λ (t : StepResult State). IfOk result (λ answer. (answer ≡ t.0) × Holds (g.view new.outside).reads new.kept t.1)) k.1 (h.step tells s held k.0);
+        subst (λ (t : StepResult State). IfOk result (CommitStep g old new s t)) k.1 (h.step tells s held k.0);
     meta = λ tells s held known.
         let k = shows tells s held known in
         subst (λ (t : StepResult State). OnErr result (LeavesCommit (Rose (g.view old.outside).faults (g.view new.outside).faults) ((g.view old.outside).reads meta_name) ((g.view new.outside).reads meta_name) old.kept.form t.1.catalog.commit)) k.1 (h.meta tells s held k.0);
@@ -91,6 +98,17 @@ later_left : (quiet now_faults was_faults : ℕ) (start before now : Option (Lis
 later_left quiet now_faults was_faults start before now form was commit q b w h =
     subst (λ (n : ℕ). LeavesCommit (Rose n now_faults) start now form commit) q
     (subst (λ (r : Option (List ℕ)). LeavesCommit (Rose was_faults now_faults) r now form commit) b (subst (λ (x : IndexForm). LeavesCommit (Rose was_faults now_faults) before now x commit) w h))
+
+saves_later : {W : Type 0} (told : ToldParts) (form was : IndexForm) (first now next : View W) (before after : State) → told.content → OnlyReads told first now → was ≡ form
+    → SavesUnlessRefused was now next before after → SavesUnlessRefused form first next before after
+saves_later told form was first now next before after tells asks is h = record {
+  refused = λ same. let k = h.refused same in ((λ n. k.0 n ∙ asks.content tells n), k.1 ∙ asks.kept.watched);
+  saved = λ other.
+      let k = h.saved other in (
+        subst (λ (f : IndexForm). next.reads meta_name ≡ Some (saved_text f.settings f.schema after.catalog.commit)) is k.0,
+        subst (λ (w : WatchState). next.watched ≡ noted meta_name w) asks.kept.watched k.1,
+      );
+}
 
 module _ {O W C : Type 0} (g : Ghosts O W C) (old mid new : StoreState O) where
   rest_later : Asks (OnlyReads g.told) g.view old mid → KeepsRest g.told g.view mid new → KeepsRest g.told g.view old new
@@ -113,7 +131,10 @@ module _ {O W C : Type 0} (g : Ghosts O W C) (old mid new : StoreState O) where
   pub commits_later : (given : Type 0) (told : State → StepResult State) (result : Result (List ℕ) TantivyError)
       → Asks (OnlyReads g.told) g.view old mid → (g.view mid.outside).faults ≡ (g.view old.outside).faults → Commits g given mid new told result → Commits g given old new told result
   commits_later given told result asks quiet h = record {
-    step = λ tells s held known. h.step tells s (same_holds (g.view old.outside).reads (g.view mid.outside).reads old.kept mid.kept s (asks.below.content tells) asks.kept held) known;
+    step = λ tells s held known.
+        let now = same_holds (g.view old.outside).reads (g.view mid.outside).reads old.kept mid.kept s (asks.below.content tells) asks.kept held in
+        IfOk-weaker result (CommitStep g mid new s (told s)) (CommitStep g old new s (told s)) (λ answer k. (k.0, k.1, saves_later g.told old.kept.form mid.kept.form (g.view old.outside) (g.view mid.outside) (g.view new.outside) s (told s).1 tells asks.below (ap (λ (x : Kept). x.form) asks.kept) k.2))
+        (h.step tells s now known);
     meta = λ tells s held known.
         let now = same_holds (g.view old.outside).reads (g.view mid.outside).reads old.kept mid.kept s (asks.below.content tells) asks.kept held in
         on_err_weaker result (later_left (g.view old.outside).faults (g.view new.outside).faults (g.view mid.outside).faults ((g.view old.outside).reads meta_name) ((g.view mid.outside).reads meta_name) ((g.view new.outside).reads meta_name) old.kept.form mid.kept.form (told s).1.catalog.commit quiet (asks.below.content tells meta_name) (ap (λ (k : Kept). k.form) asks.kept))
@@ -160,6 +181,9 @@ left_so (errors.OpenWriteError other) refused quiet before now text form commit 
 left_so errors.Exhausted refused quiet before now text form commit cause memory (inl is) means = absurd cause.1
 left_so other refused quiet before now text form commit cause memory (inl is) means = absurd cause
 
+goes_up : (n : ℕ) → n + 1 ≢ n
+goes_up n same = omega (arith, same)
+
 module _ {O W C : Type 0} (g : Ghosts O W C) (old new : StoreState O) (commit : Commit) (text answer : List ℕ) where
   abbrev Given : Type 0
   Given = IsPrinted old.kept commit text × (answer ≡ commit_line commit.opstamp commit.segments)
@@ -174,6 +198,13 @@ module _ {O W C : Type 0} (g : Ghosts O W C) (old new : StoreState O) (commit : 
     step = λ tells s held known. (
       known.1 ∙ ap (λ (n : ℕ). commit_line n commit.segments) (known.0.opstamp ∙ ap (λ c. c.next) held.catalog),
       published (g.view old.outside).reads (g.view new.outside).reads old.kept new.kept s commit text held known.0 done.kept (done.saved tells) (others tells) (done.list tells),
+      record {
+        refused = λ same. absurd (goes_up s.catalog.next (ap (λ (x : State). x.catalog.next) same));
+        saved = λ other. (
+          done.saved tells ∙ ap (λ (t : List ℕ). Some t) (known.0.text_is ∙ ap (saved_text old.kept.form.settings old.kept.form.schema) (next_commit old.kept.catalog s.catalog commit held.catalog known.0.opstamp)),
+          done.notes,
+        );
+      },
     );
     meta = λ tells s held known. tt;
     memory = λ tells. tt;

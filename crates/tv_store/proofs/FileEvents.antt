@@ -1,23 +1,19 @@
 -- What is held after an event on a file.
-use Rattle.std.proofs.Common.{◌≡◌, ◌≢◌, ℕ, ◌+◌, ◌≤◌, ◌<◌, Bool, true, false, true≢false, ⊎_elim, cond, List, [], ◌∷◌, ◌++◌, length, length-append, append_assoc, codes, Option, Some, None, option_map, is_some, Result, Ok, Err, refl, sym, ap, subst, ◌∙◌, arith}
-use Rattle.std.specs.Prelude.{IfOk, IsSome, SomeIff}
+use Rattle.std.proofs.Common.{◌≡◌, ◌≢◌, ℕ, ◌+◌, ◌≤◌, ◌<◌, Bool, true, false, true≢false, ⊎_elim, cond, List, [], ◌∷◌, ◌++◌, length, length-append, codes, Option, Some, None, option_map, is_some, refl, sym, ap, subst, ◌∙◌, arith}
+use Rattle.std.specs.Prelude.{IsSome, SomeIff}
 use Rattle.std.specs.Fmt.{decimal}
 use Rattle.std.specs.List.{AllByRecursion}
 use Rattle.std.specs.Map.{remove_entry}
 use Rattle.std.specs.BTreeMap.{is_at, insert_entry}
 use Rattle.std.specs.BTreeSet.{insert_key}
-use Rattle.hex.specs.Hex.{encode_lower, lower_digits}
-use Rattle.hex.proofs.HexLemmas.{length-encode_with}
-use Rattle.tv_model.specs.declared.segment.DeleteMeta.{DeleteMeta}
 use Rattle.tv_model.specs.declared.segment.LiveSegment.{LiveSegment}
 use Rattle.tv_model.specs.declared.segment.SegmentComponent.{SegmentComponent}
 use Rattle.tv_model.specs.Names.{byte_cmp, has, is_undotted, list_name, meta_name}
 use Rattle.tv_model.specs.declared.event.Event.TheVariants as events
-use Rattle.tv_model.specs.Ids.{IsId}
 use Rattle.tv_model.specs.Footer.{sealed}
 use Rattle.tv_model.specs.Files.{Reads, KeepsOthers, Sets}
 use Rattle.tv_model.specs.Listing.{Lists}
-use Rattle.tv_model.specs.Segments.{name_of, extension, is_delete, delete_opstamp}
+use Rattle.tv_model.specs.Segments.{name_of}
 use Rattle.tv_model.specs.State.{Catalog, State, StepResult, FileState, Sealed, Open, Left, at, live_at, file_at, with_file}
 use Rattle.tv_model.specs.Lines.{line, refuse, unless, given}
 use Rattle.tv_model.specs.FileEvents.{lacks_deletes, open_name, open_step, opened, seal_name, seal_step, sealed_as, write_name, write_step, written_to, wrote}
@@ -26,7 +22,6 @@ use Rattle.tv_model.specs.Living.{living}
 use Rattle.tv_model.specs.SoundStates.{IsWhole}
 use Rattle.tv_model.specs.Index.{IsFileOf}
 use Rattle.tv_model.proofs.Entries.{same_at, at_itself, text_at, lookup_put, has_kept}
-use Rattle.tv_model.proofs.PlainNames.{undotted}
 use Rattle.tv_directory.specs.View.{Kept as KeptView, OnlyReads}
 use Rattle.tv_directory.specs.declared.directory.Directory.{Ghosts}
 use Rattle.tv_model.specs.Meaning.{Means}
@@ -38,27 +33,6 @@ use Rattle.tv_store.specs.Stays.{Asks, KeepsManaged}
 use Rattle.tv_store.proofs.Holding.{same_holds}
 use Rattle.tv_store.proofs.LivingNames.{living_name}
 use Rattle.tv_store.proofs.OpenFiles.{all_put, all_left, all_found}
-
--- a name that begins with an id is that of a file of the machine
-after_id : (id rest : List ℕ) → IsId id → IsFileOf (encode_lower id ++ rest)
-after_id id rest h = (
-  undotted id rest h.size,
-  λ e.
-      let long : length (encode_lower id ++ rest) ≡ 9 = ap length e in
-      absurd (omega (arith, length-append (encode_lower id) rest, length-encode_with lower_digits id, h.size)),
-)
-
--- the name of a segment's file is one
-pub named_file : (id name : List ℕ) (deletes : Option DeleteMeta) (component : SegmentComponent) → IsId id → name ≡ name_of id deletes component → IsFileOf name
-named_file id name deletes component h is =
-    let number = decimal (delete_opstamp deletes) in
-    let digits = encode_lower id in
-    let delete : IsFileOf (digits ++ codes "." ++ number ++ codes ".del") =
-    subst IsFileOf (sym (append_assoc (digits ++ codes ".") number (codes ".del") ∙ append_assoc digits (codes ".") (number ++ codes ".del"))) (after_id id (codes "." ++ (number ++ codes ".del")) h) in
-    let other : IsFileOf (digits ++ codes "." ++ extension component) =
-    subst IsFileOf (sym (append_assoc digits (codes ".") (extension component))) (after_id id (codes "." ++ extension component) h) in
-    subst IsFileOf (sym is)
-    (elim (is_delete component) as (λ b. IsFileOf (cond b (digits ++ codes "." ++ number ++ codes ".del") (digits ++ codes "." ++ extension component))) [ true ↦ delete | false ↦ other ])
 
 -- ---- how the steps go on
 
@@ -111,13 +85,6 @@ inside_holds {O} reads inside value s e h = subst (λ (v : StoreState O). Holds 
 -- what was held is held after room was made
 pub asked_holds : {O W C : Type 0} (g : Ghosts O W C) (old new : StoreState O) (s : State) → g.told.content → Asks (OnlyReads g.told) g.view old new → Holds (g.view old.outside).reads old.kept s → Holds (g.view new.outside).reads new.kept s
 asked_holds g old new s tells frame h = same_holds (g.view old.outside).reads (g.view new.outside).reads old.kept new.kept s (frame.below.content tells) frame.kept h
-
--- an event is refused with these words
-pub refused : {O W C E : Type 0} (g : Ghosts O W C) (old new : StoreState O) (s : State) (words : List (List ℕ)) (told : StepResult State) (result : Result (List ℕ) E)
-    → told ≡ refuse s words → g.told.content → Asks (OnlyReads g.told) g.view old new → IfOk result (λ answer. answer ≡ line (codes "refused") words) → Holds (g.view old.outside).reads old.kept s
-    → IfOk result (λ answer. Told answer (g.view new.outside).reads new.kept told)
-refused g old new s words told (Ok answer) is tells frame said h = told_is answer (g.view new.outside).reads new.kept told (refuse s words) is (said, asked_holds g old new s tells frame h)
-refused g old new s words told (Err error) is tells frame said h = tt
 
 -- entries but the one that was taken out
 left_at : {X : Type 0} (es : List (List ℕ × X)) (k q : List ℕ) → is_at (byte_cmp k) q ≡ false → at (remove_entry (is_at (byte_cmp k)) es) q ≡ at es q

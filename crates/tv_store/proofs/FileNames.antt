@@ -10,7 +10,7 @@ use Rattle.tv_model.specs.declared.segment.LiveSegment.{LiveSegment}
 use Rattle.tv_model.specs.declared.segment.SegmentComponent.{SegmentComponent}
 use Rattle.tv_model.specs.declared.segment.SegmentComponent.TheVariants.{Postings, Positions, FastFields, FieldNorms, Terms, Store, Delete}
 use Rattle.tv_model.specs.FileEvents.{lacks_deletes}
-use Rattle.tv_model.specs.Names.{is, has}
+use Rattle.tv_model.specs.Names.{is}
 use Rattle.tv_model.specs.Ids.{IsId}
 use Rattle.tv_model.specs.Index.{IsFileOf}
 use Rattle.tv_model.specs.Segments.{all_required, components, delete_opstamp, extension, is_delete, name_of, num_deleted, required_names}

@@ -15,10 +15,6 @@ abbrev pub all_taken : List (ℕ × Collection) → List (List ℕ)
 all_taken es = flat_map (λ e. taken e.1) es
 
 module _ (n : List ℕ) where
-  -- a name of these entries is one of those
-  abbrev Within : List (ℕ × Collection) → (names : List (List ℕ)) → Type 0
-  Within es names = has (all_taken es) n ≡ true → has names n ≡ true
-
   first_taken : (e : ℕ × Collection) (es : List (ℕ × Collection)) → has (all_taken (e ∷ es)) n ≡ (has (taken e.1) n || has (all_taken es) n)
   first_taken e es = has_append (taken e.1) (all_taken es) n
 

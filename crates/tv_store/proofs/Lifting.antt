@@ -8,7 +8,6 @@ use Rattle.tv_model.specs.declared.event.Event.TheVariants as events
 use Rattle.tv_model.specs.declared.segment.DeleteMeta.{DeleteMeta}
 use Rattle.tv_model.specs.declared.segment.LiveSegment.{LiveSegment}
 use Rattle.tv_model.specs.Segments.{num_deleted}
-use Rattle.tv_directory.specs.Watch.{WatchState}
 use Rattle.tv_model.specs.Commits.{Commit, IsSegment}
 use Rattle.tv_model.specs.Meaning.{Means}
 use Rattle.tv_model.specs.Files.{Reads}
@@ -18,7 +17,7 @@ use Rattle.tv_model.specs.SearcherEvents.{with_searcher}
 use Rattle.tv_model.specs.SegmentEvents.{fresh_segment, has_docs}
 use Rattle.tv_model.specs.State.{Catalog, State, StepResult, on_catalog}
 use Rattle.tv_model.proofs.Changes.{catalog_changes}
-use Rattle.tv_store.specs.Applying.{MayNoteAt, written_by}
+use Rattle.tv_store.specs.Applying.{written_by}
 use Rattle.tv_store.specs.Catalogs.{FitsCatalog}
 use Rattle.tv_store.specs.Kept.{Kept, Holds}
 use Rattle.tv_store.specs.ReadCauses.{TakesMetaLock}
@@ -26,6 +25,7 @@ use Rattle.tv_store.specs.ReaderNumbers.{FewNumbers}
 use Rattle.tv_store.proofs.FewNumbers.{few_more}
 use Rattle.tv_store.proofs.Named.{put_segments, found_segment, fresh_is}
 use Rattle.tv_store.proofs.ReaderNumbers.{few_released}
+use Rattle.tv_store.proofs.Steps.{IsNoCommit}
 
 -- the current commit stays
 pub commit_stays : (c : Catalog) (managed : List (List ℕ)) (event : Event) (result : StepResult Catalog) → catalog_step c managed event ≡ Some result → result.1.commit ≡ c.commit
@@ -81,11 +81,11 @@ numbers_grow bound c collections managed event result few =
       more : FewNumbers (bound + written_by event) c.reading collections
       more = few_more bound (written_by event) c.reading collections few
 
--- it reads no file, takes no lock and leaves no notice
+-- it reads no file, takes no lock and doesn't commit
 pub record Plain (event : Event) : Type 0 where
   pub reads : (s : State) → ReadsGood s event
   pub free : (c : Catalog) → TakesMetaLock c event → ⊥
-  pub notes : (old new : WatchState) → new ≡ old → MayNoteAt event old new
+  pub none : IsNoCommit event
 
 pub plain_event : (c : Catalog) (managed : List (List ℕ)) (event : Event) (result : StepResult Catalog) → catalog_step c managed event ≡ Some result → Plain event
 plain_event c managed (events.Commit payload ids) result e = absurd cc
@@ -93,7 +93,7 @@ plain_event c managed events.Gc result e = absurd cc
 plain_event c managed events.GcBegin result e = absurd cc
 plain_event c managed (events.Reader policy) result e = absurd cc
 plain_event c managed (events.Reload number) result e = absurd cc
-plain_event c managed other result e = record { reads = λ s. tt; free = λ k takes. takes; notes = λ o n same. same }
+plain_event c managed other result e = record { reads = λ s. tt; free = λ k takes. takes; none = tt }
 
 -- what is held after it
 pub catalog_held : (reads : Reads) (kept : Kept) (s : State) (event : Event) (result : StepResult Catalog) → FitsCatalog event → catalog_step kept.catalog kept.managed event ≡ Some result → Holds reads kept s

@@ -20,7 +20,7 @@ use Rattle.tv_model.specs.Names.{has, meta_name}
 use Rattle.tv_model.specs.Schemas.{IsSchema}
 use Rattle.tv_model.specs.Segments.{all_required}
 use Rattle.tv_model.specs.State.{Catalog}
-use Rattle.tv_index.specs.Opening.{Finds, LeavesFound, LeavesUnopened}
+use Rattle.tv_index.specs.Opening.{Finds, LeavesFound, LeavesUnopened, NotesNone}
 use Rattle.tv_store.specs.Bodies.{ReadsGoodFile}
 use Rattle.tv_store.specs.Kept.{Kept, FilesState, StoreState, kept_of}
 use Rattle.tv_store.specs.Making.{Begins, FindsFiles, IsRefusedFirst, LeavesRefused, NotBegun}
@@ -37,10 +37,6 @@ use Rattle.tv_store.proofs.FoundStates.{can_read, commit_is, had_files, held_at,
 use Rattle.tv_store.proofs.Holding.{same_holds, dotted_others}
 use Rattle.tv_store.proofs.ReaderEvents.{has_middle}
 use Rattle.tv_store.proofs.StoreLocks.{freed_again}
-
--- what is left of an index that was found, seen as what a refusal leaves
-unopened : (old new : Reads) (schema : List ℕ) → LeavesFound old new schema → LeavesUnopened old new schema
-unopened old new schema h = record { stood = h.stood; others = h.others; made = λ none. inr (h.made none) }
 
 pub same_unopened : (old mid new : Reads) (schema : List ℕ) → LeavesFound old mid schema → Same mid new → LeavesUnopened old new schema
 same_unopened old mid new schema h same = record {
@@ -116,6 +112,9 @@ module _ {O W C : Type 0} (g : Ghosts O W C) (outside : O) (schema : List ℕ) (
     dotted = λ t n dot other. lock_frame.content t n ∙ dotted_others (g.view outside).reads (g.view files.outside).reads meta_name refl (f.leaves t).others n dot other;
     watched = subst (λ (w : WatchState). MayNote meta_name (g.view outside).watched w) (sym lock_frame.watched) f.frame.watched;
   }
+
+  pub unnoted : NotesNone g.told (g.view outside) (g.view locked.outside)
+  unnoted t some = lock_frame.watched ∙ f.frame.stood t some
 
   pub heard_yet : (g.view locked.outside).heard ≡ (g.view outside).heard
   heard_yet = lock_frame.tells_none.heard ∙ f.frame.frame.tells_none.heard
@@ -268,5 +267,5 @@ module _ {O W C : Type 0} (g : Ghosts O W C) (outside : O) (schema : List ℕ) (
     pub stays : OpeningFrame g outside result
     stays = by_result result begun refused where
       by_result : (r : Result (StoreState O) (Refused O)) → IfOk r (Begins g store) → IfErr r (λ e. NotBegun g store e.directory e.error) → OpeningFrame g outside r
-      by_result (Ok s) b n = record { ok = frame_begun s b; err = tt }
-      by_result (Err e) b n = record { ok = tt; err = frame_unbegun e.directory e.error n }
+      by_result (Ok s) b n = record { ok = frame_begun s b; err = tt; stood = λ t some. b.frame.watched ∙ unnoted t some }
+      by_result (Err e) b n = record { ok = tt; err = frame_unbegun e.directory e.error n; stood = λ t some. n.watched ∙ unnoted t some }

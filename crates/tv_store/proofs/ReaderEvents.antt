@@ -484,9 +484,6 @@ reload_reads s number there = told (reader_at s.catalog number) there where
 pub reload_passes : (c : Catalog) (number : ℕ) → ((reader : Reader) × (reader_at c number ≡ Some reader) × (reader.next ≡ 18446744073709551615)) → PassesEnd (number_after c (events.Reload number))
 reload_passes c number h = (h.0.next + 1, ap (option_map (λ (r : Reader). r.next + 1)) h.1, omega (arith, h.2))
 
-pub isnt_there : {A : Type 0} (o : Option A) → o ≡ None → IsSome o → ⊥
-isnt_there o e h = true≢false (sym h ∙ ap is_some e)
-
 pub few_with_new : (bound : ℕ) (collections : Collections) (old now : Catalog) (policy : ReloadPolicy) (shown : Snapshot) → now ≡ with_new_reader old policy shown → FewNumbers bound old.reading collections → FewNumbers (bound + 1) now.reading collections
 few_with_new bound collections old now policy shown put few =
     subst (λ (c : Catalog). FewNumbers (bound + 1) c.reading collections) (sym put) (few_added bound old.reading collections _ old.reading.next_reader (record { policy = policy; next = 1; shown = shown }) refl (omega arith) few)

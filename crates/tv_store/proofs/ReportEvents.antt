@@ -35,10 +35,6 @@ tells_intact was is_right h =
     let says = h.2 in
     ap (λ (b : Bool). Some b) says.says ∙ sym (intact_again h.0 says.footer says.body says.framed) ∙ ap (option_and_then is_intact) (sym h.1)
 
--- there is no such file
-pub absent_intact : (was : Option (List ℕ)) → was ≡ None → None ≡ option_and_then is_intact was
-absent_intact was e = rw e refl
-
 -- it has no footer
 pub bad_intact : (was : Option (List ℕ)) → ReadsSuch was HasNoFooter → None ≡ option_and_then is_intact was
 bad_intact was h = sym (ap (option_and_then is_intact) h.1 ∙ intact_none h.0 h.2)
@@ -144,10 +140,6 @@ damaged_more s names i name intact within is said =
       line_joined : (text : List ℕ) (words more : List (List ℕ)) → line (line text words) more ≡ line text (words ++ more)
       line_joined text [] more = refl
       line_joined text (word ∷ words) more = line_joined (text ++ 32 ∷ word) words more
-
--- what is told where each file can be read, and where one can't
-pub validated_all : (s : State) (names : List (List ℕ)) → find (unread s) names ≡ None → (validated s names).0 ≡ line (codes "damaged") (damaged_files s names)
-validated_all s names e = rw e refl
 
 pub validated_none : (s : State) (names : List (List ℕ)) (name : List ℕ) → find (unread s) names ≡ Some name → (validated s names).0 ≡ line (codes "refused") (codes "unreadable" ∷ name ∷ [])
 validated_none s names name e = rw e refl

@@ -1,5 +1,5 @@
 -- What a call does that begins, put together.
-use Rattle.std.proofs.Common.{◌≡◌, Result, Ok, Err, inl, refl, sym, subst, ◌∙◌}
+use Rattle.std.proofs.Common.{◌≡◌, Result, Ok, Err, inl, refl, sym, subst}
 use Rattle.std.specs.Result.{IsErrAnd}
 use Rattle.tv_base.specs.declared.error.TantivyError.{TantivyError}
 use Rattle.tv_directory.specs.View.{OnlyReads, OnlyTells, View, Told as ToldParts}
@@ -14,19 +14,10 @@ use Rattle.tv_store.specs.ReadCauses.{ApplyCause}
 use Rattle.tv_store.specs.Stays.{Asks}
 use Rattle.tv_store.specs.StoreCauses.{MakesNoFile}
 use Rattle.tv_store.specs.Telling.{TellsFirstPart, TellsNoLine}
-use Rattle.tv_store.proofs.Asking.{deletes_later}
 
 -- a call that only reads tells nothing more than one that tells
 pub reads_tells : {W : Type 0} {told : ToldParts} {old new : View W} → OnlyReads told old new → OnlyTells told old new
 reads_tells h = record { deletes_none = h.kept.frame.tells_none.deletes_none; locks = h.kept.frame.locks; watched = h.kept.watched; content = h.content }
-
-pub tells_later : {W : Type 0} {told : ToldParts} {first now next : View W} → OnlyReads told first now → OnlyTells told now next → OnlyTells told first next
-tells_later before after = record {
-  deletes_none = deletes_later before.kept.frame.tells_none.deletes_none after.deletes_none;
-  locks = λ t n. after.locks t n ∙ before.kept.frame.locks t n;
-  watched = after.watched ∙ before.kept.watched;
-  content = λ t n. after.content t n ∙ before.content t n;
-}
 
 module _ {O W C : Type 0} (g : Ghosts O W C) (old new : StoreState O) where
   abbrev pub Cause : TantivyError → Type 0

@@ -3,13 +3,15 @@ use Rattle.std.proofs.Common.{ℕ, ◌≡◌, ◌+◌, ◌≤◌, Bool, inl, Lis
 use Rattle.std.specs.Prelude.{IfOk, OnOk, OnErr}
 use Rattle.std.specs.List.{AllByRecursion}
 use Rattle.tv_model.specs.declared.event.Event.{Event}
+use Rattle.tv_model.specs.declared.event.Event.TheVariants as events
 use Rattle.tv_base.specs.declared.open_errors.OpenReadError.{OpenReadError}
 use Rattle.tv_base.specs.declared.open_errors.LockError.TheVariants as lock
 use Rattle.tv_base.specs.declared.error.TantivyError.{TantivyError}
 use Rattle.tv_base.specs.declared.error.TantivyError.TheVariants as errors
 use Rattle.tv_store.specs.Kept.{Kept, StoreState, Holds, AtMost}
 use Rattle.tv_store.specs.ReaderNumbers.{FewNumbers}
-use Rattle.tv_store.specs.Applying.{Stepped, LeavesOldOrNew}
+use Rattle.tv_store.specs.Applying.{Stepped, LeavesOldOrNew, MayNoteAt, SavesAt}
+use Rattle.tv_store.specs.Committing.{CommitStep}
 use Rattle.tv_store.specs.ReadCauses.{LoadingCause, IsReadError}
 use Rattle.tv_store.proofs.FewNumbers.{few_more}
 use Rattle.tv_model.specs.Collections.{Collections}
@@ -18,6 +20,9 @@ use Rattle.tv_model.specs.State.{State, StepResult, Readers}
 use Rattle.tv_model.specs.Machine.{step}
 use Rattle.tv_model.specs.SoundStates.{IsWhole}
 use Rattle.tv_model.specs.Readable.{ReadsGood}
+use Rattle.tv_model.specs.CommitEvents.{commit_step}
+use Rattle.tv_directory.specs.View.{View}
+use Rattle.tv_directory.specs.Watch.{WatchState}
 use Rattle.tv_directory.specs.declared.directory.Directory.{Ghosts}
 use Rattle.tv_store.specs.Acting.{StepsDeleting}
 use Rattle.tv_store.specs.StoreCauses.{EventCause, LockingCause}
@@ -103,7 +108,38 @@ pub locking_cause_in : (A busy refused quiet spent more : Type 0) (load : Tantiv
 locking_cause_in A busy refused quiet spent more load bad absent (Ok answer) h f = h
 locking_cause_in A busy refused quiet spent more load bad absent (Err error) h f = locking_cause busy refused quiet spent more load bad absent error h f
 
-module _ {O W C : Type 0} (g : Ghosts O W C) (old new : StoreState O) (event : Event) where
+-- ---- an event that doesn't commit
+
+-- it is another one
+abbrev pub IsNoCommit : Event → Type 0
+IsNoCommit (events.Commit payload ids) = ⊥
+IsNoCommit other = Unit {0}
+
+-- it notes nothing
+pub notes_none : (event : Event) → IsNoCommit event → (old new : WatchState) → new ≡ old → MayNoteAt event old new
+notes_none (events.Commit payload ids) none old new same = absurd none
+notes_none other none old new same = same
+
+-- and of what it saves nothing is said
+saves_none : {W : Type 0} (event : Event) → IsNoCommit event → (form : IndexForm) (old new : View W) (before after : State) → SavesAt event form old new before after
+saves_none (events.Commit payload ids) none form old new before after = absurd none
+saves_none other none form old new before after = tt
+
+-- ---- the steps
+
+-- one that commits
+pub stepped_committing : {O W C E : Type 0} (g : Ghosts O W C) (old new : StoreState O) (payload : Option (List ℕ)) (ids : List (List ℕ)) (result : Result (List ℕ) E)
+    → (g.view new.outside).refusals ≡ (g.view old.outside).refusals
+    → (g.told.content → (s : State) → Holds (g.view old.outside).reads old.kept s
+    → IfOk result (CommitStep g old new s (commit_step s payload ids)))
+    → IfOk result (Stepped g old new (events.Commit payload ids))
+stepped_committing g old new payload ids (Ok answer) quiet h = ([], inl (omega (arith, quiet)), λ t s held whole. let k = h t s held in (k.0, k.1, tt, k.2))
+stepped_committing g old new payload ids (Err error) quiet h = tt
+
+module _ {O W C : Type 0} (g : Ghosts O W C) (old new : StoreState O) (event : Event) (none : IsNoCommit event) where
+  abbrev saves : (before after : State) → SavesAt event old.kept.form (g.view old.outside) (g.view new.outside) before after
+  saves before after = saves_none event none old.kept.form (g.view old.outside) (g.view new.outside) before after
+
   -- an event that deletes nothing and reads no commit's files
   pub stepped : {E : Type 0} (told : State → StepResult State) (result : Result (List ℕ) E)
       → (g.view new.outside).refusals ≡ (g.view old.outside).refusals → ((s : State) → step s event [] ≡ told s) → ((s : State) → ReadsGood s event)
@@ -114,7 +150,7 @@ module _ {O W C : Type 0} (g : Ghosts O W C) (old new : StoreState O) (event : E
     inl (omega (arith, quiet)),
     λ t s held whole.
         let k = h t s held in
-        (k.0 ∙ ap (λ (x : StepResult State). x.0) (sym (is s)), subst (λ (x : StepResult State). Holds (g.view new.outside).reads new.kept x.1) (sym (is s)) k.1, good s),
+        (k.0 ∙ ap (λ (x : StepResult State). x.0) (sym (is s)), subst (λ (x : StepResult State). Holds (g.view new.outside).reads new.kept x.1) (sym (is s)) k.1, good s, saves s (step s event []).1),
   )
   stepped told (Err error) quiet is good h = tt
 
@@ -128,7 +164,7 @@ module _ {O W C : Type 0} (g : Ghosts O W C) (old new : StoreState O) (event : E
     inl (omega (arith, quiet)),
     λ t s held whole.
         let k = h t s held whole in
-        (k.0 ∙ ap (λ (x : StepResult State). x.0) (sym (is s)), subst (λ (x : StepResult State). Holds (g.view new.outside).reads new.kept x.1) (sym (is s)) k.1, reads s k.2),
+        (k.0 ∙ ap (λ (x : StepResult State). x.0) (sym (is s)), subst (λ (x : StepResult State). Holds (g.view new.outside).reads new.kept x.1) (sym (is s)) k.1, reads s k.2, saves s (step s event []).1),
   )
   stepped_reading told good (Err error) quiet is reads h = tt
 
@@ -141,7 +177,7 @@ module _ {O W C : Type 0} (g : Ghosts O W C) (old new : StoreState O) (event : E
     h.1,
     λ t s held whole.
         let k = h.2 t s held in
-        (k.0 ∙ ap (λ (x : StepResult State). x.0) (sym (is s h.0)), subst (λ (x : StepResult State). Holds (g.view new.outside).reads new.kept x.1) (sym (is s h.0)) k.1, good s),
+        (k.0 ∙ ap (λ (x : StepResult State). x.0) (sym (is s h.0)), subst (λ (x : StepResult State). Holds (g.view new.outside).reads new.kept x.1) (sym (is s h.0)) k.1, good s, saves s (step s event h.0).1),
   )
   stepped_deleting told (Err error) is good h = tt
 

@@ -1,75 +1,26 @@
 -- What a refused opening leaves, where no index was found or where the lock wasn't given.
-use Rattle.std.proofs.Common.{◌≡◌, ◌⊎◌, inl, ℕ, true, false, List, Err, refl, sym, subst, ◌∙◌}
+use Rattle.std.proofs.Common.{◌≡◌, ◌⊎◌, ℕ, true, false, List, Err, refl, sym, subst, ◌∙◌}
 use Rattle.std.proofs.Math.Logic.{⊎_map}
 use Rattle.tv_base.specs.Errors.{of_lock}
 use Rattle.tv_base.specs.declared.error.TantivyError.{TantivyError}
-use Rattle.tv_base.specs.declared.error.TantivyError.TheVariants as errors
 use Rattle.tv_base.specs.declared.open_errors.LockError.{LockError}
 use Rattle.tv_base.specs.declared.open_errors.LockError.TheVariants as lock
 use Rattle.tv_directory.specs.Calls.{LockFaults}
-use Rattle.tv_directory.specs.Locks.{LockCause, SameLocks}
+use Rattle.tv_directory.specs.Locks.{LockCause}
 use Rattle.tv_directory.specs.View.{OnlyLocks}
 use Rattle.tv_directory.specs.declared.directory.Directory.{Ghosts}
 use Rattle.tv_managed.specs.declared.managed_directory.Refused.{Refused}
-use Rattle.tv_model.specs.Files.{Reads, Heard, Rose}
-use Rattle.tv_model.specs.Lines.{opening_of}
-use Rattle.tv_model.specs.Names.{meta_name}
+use Rattle.tv_model.specs.Files.{Rose}
 use Rattle.tv_model.specs.State.{Catalog}
 use Rattle.tv_index.specs.Opening.{LeavesUnopened}
 use Rattle.tv_store.specs.Kept.{FilesState}
-use Rattle.tv_store.specs.Making.{FindsFiles, FindsNone, IsRefusedFirst}
-use Rattle.tv_store.specs.Opening.{LeavesIndex, OpeningFaults, OpeningFrame, TakesWriterLock, TellsOpening}
+use Rattle.tv_store.specs.Making.{FindsFiles, IsRefusedFirst}
+use Rattle.tv_store.specs.Opening.{LeavesIndex, OpeningFaults}
 use Rattle.tv_store.specs.OpeningCauses.{OpeningCause}
 use Rattle.tv_store.specs.Stays.{KeepsFiles}
 use Rattle.tv_store.specs.StoreCauses.{IsBusy, writer_lock_name}
-use Rattle.tv_store.specs.Telling.{TellsFirstPart, TellsNoLine}
 use Rattle.tv_store.proofs.FoundStates.{the_found}
-use Rattle.tv_store.proofs.Holding.{dotted_others}
-use Rattle.tv_store.proofs.Opened.{heard_yet, notified, same_unopened}
-
--- nothing was told
-untold : {before now : Heard} → now ≡ before → TellsNoLine before now
-untold {before} is = subst (TellsNoLine before) (sym is) (inl refl)
-
-no_part : {before now : Heard} (line : List ℕ) → now ≡ before → TellsFirstPart before now line
-no_part {before} line is = subst (λ (h : Heard). TellsFirstPart before h line) (sym is) (inl refl)
-
--- a cause before the lock is one of an opening
-sooner : (tells : Type 0) (schema : List ℕ) (reads : Reads) (busy free refused quiet : Type 0) (error : TantivyError) → OpeningCause tells schema reads ⊥ ⊥ refused quiet error → OpeningCause tells schema reads busy free refused quiet error
-sooner tells schema reads busy free refused quiet (errors.LockFailure lock.LockBusy text) h = absurd h.2
-sooner tells schema reads busy free refused quiet (errors.LockFailure (lock.IoError fault) text) h = h
-sooner tells schema reads busy free refused quiet (errors.LockFailure lock.Memory text) h = absurd h.2
-sooner tells schema reads busy free refused quiet (errors.OpenReadError error) h = absurd h.2
-sooner tells schema reads busy free refused quiet (errors.InvalidArgument text) h = h
-sooner tells schema reads busy free refused quiet errors.Memory h = h
-sooner tells schema reads busy free refused quiet other h = h
-
-module _ {O W C : Type 0} (g : Ghosts O W C) (outside : O) (schema : List ℕ) (refused : Refused O) (r : FindsNone g outside schema refused.directory refused.error) where
-  pub none_leaves : LeavesIndex g outside schema refused
-  none_leaves = record { leaves = r.leaves; unchanged = r.unchanged }
-
-  pub none_tells : TellsOpening g outside schema (Err refused)
-  none_tells = record {
-    ok = λ t. tt;
-    err = λ t. untold r.frame.frame.tells_none.heard;
-    part = λ t h index. no_part (opening_of index.commit) r.frame.frame.tells_none.heard;
-  }
-
-  pub none_takes : TakesWriterLock g outside (Err refused)
-  none_takes = record { ok = λ t. tt; err = r.frame.frame.locks }
-
-  pub none_fails : OpeningFaults g outside schema (Err refused)
-  none_fails = record { quiet = tt; cause = sooner g.told.content schema (g.view outside).reads _ _ _ _ refused.error r.cause }
-
-  pub none_stays : OpeningFrame g outside (Err refused)
-  none_stays = record {
-    ok = tt;
-    err = record {
-      deletes_none = r.frame.frame.tells_none.deletes_none;
-      dotted = λ t. dotted_others (g.view outside).reads (g.view refused.directory).reads meta_name refl (r.others t);
-      watched = r.frame.watched;
-    };
-  }
+use Rattle.tv_store.proofs.Opened.{same_unopened}
 
 -- the lock wasn't given
 module _ {O W C : Type 0} (g : Ghosts O W C) (outside : O) (schema : List ℕ) (catalog : Catalog) (files locked : FilesState O)
@@ -87,19 +38,6 @@ module _ {O W C : Type 0} (g : Ghosts O W C) (outside : O) (schema : List ℕ) (
     };
     unchanged = λ t first. absurd (other first);
   }
-
-  pub unlocked_tells : TellsOpening g outside schema (Err back)
-  unlocked_tells = record {
-    ok = λ t. tt;
-    err = λ t. untold (heard_yet g outside schema catalog files locked f frame);
-    part = λ t h index. no_part (opening_of index.commit) (heard_yet g outside schema catalog files locked f frame);
-  }
-
-  pub unlocked_takes : (g.told.locks → SameLocks (g.view files.outside).locks (g.view locked.outside).locks) → TakesWriterLock g outside (Err back)
-  unlocked_takes same = record { ok = λ t. tt; err = λ t n. same t n ∙ f.frame.frame.locks t n }
-
-  pub unlocked_stays : OpeningFrame g outside (Err back)
-  unlocked_stays = record { ok = tt; err = notified g outside schema catalog files locked f frame }
 
   -- why it wasn't
   pub unlocked_fails : (why : LockError) → of_lock why ≡ error → LockFaults {A = Unit {0}} g.told (g.view files.outside) (g.view locked.outside) writer_lock_name (Err why) → OpeningFaults g outside schema (Err back)

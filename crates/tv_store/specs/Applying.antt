@@ -1,15 +1,16 @@
 -- An event, applied to a store that is open.
-use Rattle.std.specs.Prelude.{ℕ, ◌≡◌, ◌≤◌, ◌+◌, ◌⊎◌, Bool, true, false, List, length, Option, Some, Result, IfErr, OnOk, OnErr, is_ok}
+use Rattle.std.specs.Prelude.{ℕ, ◌≡◌, ◌≢◌, ◌≤◌, ◌+◌, ◌⊎◌, Bool, true, false, List, length, Option, Some, Result, IfErr, OnOk, OnErr, is_ok}
 use Rattle.tv_base.specs.declared.error.TantivyError.{TantivyError}
 use Rattle.tv_base.specs.declared.error.TantivyError.TheVariants as errors
 use Rattle.tv_base.specs.declared.open_errors.OpenReadError.{OpenReadError}
 use Rattle.tv_directory.specs.Locks.{SameLocks}
-use Rattle.tv_directory.specs.View.{GoesOn}
-use Rattle.tv_directory.specs.Watch.{WatchState, MayNote}
+use Rattle.tv_directory.specs.View.{View, GoesOn}
+use Rattle.tv_directory.specs.Watch.{WatchState, MayNote, noted}
 use Rattle.tv_directory.specs.declared.directory.Directory.{Ghosts}
+use Rattle.tv_index.specs.Saving.{saved_text}
 use Rattle.tv_index.specs.Standing.{MetaCause}
 use Rattle.tv_model.specs.Names.{meta_name}
-use Rattle.tv_model.specs.Files.{Reads, Heard, Rose, RoseBy}
+use Rattle.tv_model.specs.Files.{Reads, Heard, Rose, RoseBy, Same}
 use Rattle.tv_model.specs.Commits.{Commit, IndexForm}
 use Rattle.tv_model.specs.Meaning.{Means}
 use Rattle.tv_model.specs.Segments.{all_required}
@@ -38,13 +39,25 @@ written_by (events.Searcher number) = 1
 written_by events.GcBegin = 1
 written_by other = 0
 
+-- What a commit does whose step leads from one state to another. One that is refused leaves the state as it was: each name reads what it read, and no notice is left. After
+-- any other `meta.json` reads the new commit's printed form, with a line feed, and a notice of it stands.
+pub record SavesUnlessRefused {W : Type 0} (form : IndexForm) (old new : View W) (before after : State) : Type 0 where
+  pub refused : after ≡ before → Same old.reads new.reads × (new.watched ≡ old.watched)
+  pub saved : after ≢ before → (new.reads meta_name ≡ Some (saved_text form.settings form.schema after.catalog.commit)) × (new.watched ≡ noted meta_name old.watched)
+
+-- what an event does that commits; of any other nothing is said
+abbrev pub SavesAt : {W : Type 0} → Event → IndexForm → (old new : View W) → (before after : State) → Type 0
+SavesAt (events.Commit payload ids) form old new before after = SavesUnlessRefused form old new before after
+SavesAt other form old new before after = Unit {0}
+
 -- One event was applied, with some outcomes of its deletes: from each state that was held before, the state after its step is held now, and this is the step's
--- answer; where it reads a commit's files it could do so; and no more deletes were refused than their count rose.
+-- answer; where it reads a commit's files it could do so; a commit is saved unless it is refused; and no more deletes were refused than their count rose.
 abbrev pub Stepped : {O W C : Type 0} (g : Ghosts O W C) (old new : StoreState O) (event : Event) (answer : List ℕ) → Type 0
 Stepped g old new event answer =
     (outcomes : List Bool) × RoseBy (refused_in outcomes) (g.view old.outside).refusals (g.view new.outside).refusals
     × (g.told.content → (s : State) → Holds (g.view old.outside).reads old.kept s → IsWhole s
-    → (answer ≡ (step s event outcomes).0) × Holds (g.view new.outside).reads new.kept (step s event outcomes).1 × ReadsGood s event)
+    → (answer ≡ (step s event outcomes).0) × Holds (g.view new.outside).reads new.kept (step s event outcomes).1 × ReadsGood s event
+    × SavesAt event old.kept.form (g.view old.outside) (g.view new.outside) s (step s event outcomes).1)
 
 -- what `meta.json` reads after an error: what it read before; or, where this is so, a text that means this commit
 abbrev pub LeavesCommit : (given : Type 0) (before now : Option (List ℕ)) → IndexForm → Commit → Type 0
@@ -114,7 +127,7 @@ pub record Grows (old new : Kept) (event : Event) (result : Result (List ℕ) Ta
   pub lens : (bound more : ℕ) → written_by event ≤ more → AtMost bound old → AtMost (bound + more) new
   pub numbers : (bound more : ℕ) → written_by event ≤ more → FewNumbers bound old.catalog.reading old.collections → OnOk result (FewNumbers (bound + more) new.catalog.reading new.collections)
 
--- after an event nobody was registered or called; and a notice of a commit may stand after one, but else as before
+-- nobody was registered or called; and only a commit may change whether a notice of one stands
 abbrev pub MayNoteAt : Event → WatchState → WatchState → Type 0
 MayNoteAt (events.Commit payload ids) old new = MayNote meta_name old new
 MayNoteAt other old new = new ≡ old

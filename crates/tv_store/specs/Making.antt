@@ -6,8 +6,7 @@ use Rattle.tv_base.specs.declared.error.TantivyError.TheVariants as errors
 use Rattle.tv_directory.specs.declared.directory.Directory.{Ghosts}
 use Rattle.tv_directory.specs.Locks.{FreesLock}
 use Rattle.tv_directory.specs.View.{DeletesNone, OnlyReads, OnlyTells}
-use Rattle.tv_index.specs.Opening.{Finds, LeavesFound, LeavesUnopened}
-use Rattle.tv_index.specs.Saving.{FrameNotes}
+use Rattle.tv_index.specs.Opening.{Finds, FrameNotesFirst, LeavesFound, LeavesUnopened}
 use Rattle.tv_model.specs.Commits.{IsCommit}
 use Rattle.tv_model.specs.Collections.{no_collections}
 use Rattle.tv_model.specs.Files.{Reads, Rose, Same}
@@ -57,7 +56,7 @@ pub record FindsFiles {O W C : Type 0} (g : Ghosts O W C) (outside : O) (schema 
   pub left : files.left ≡ []
   pub collections : files.collections ≡ no_collections
   pub quiet : (g.view files.outside).faults ≡ (g.view outside).faults
-  pub frame : FrameNotes g.told (g.view outside) (g.view files.outside)
+  pub frame : FrameNotesFirst g.told (g.view outside) (g.view files.outside)
 
 -- None was, and the directory comes back. A refused argument, and refused bytes, changed nothing.
 pub record FindsNone {O W C : Type 0} (g : Ghosts O W C) (outside : O) (schema : List ℕ) (now : O) (error : TantivyError) : Type 0 where
@@ -65,7 +64,7 @@ pub record FindsNone {O W C : Type 0} (g : Ghosts O W C) (outside : O) (schema :
   pub unchanged : g.told.content → IsRefusedFirst error → Same (g.view outside).reads (g.view now).reads
   pub others : g.told.content → KeepsOtherFiles (g.view outside).reads (g.view now).reads meta_name
   pub cause : OpeningCause g.told.content schema (g.view outside).reads ⊥ ⊥ (Rose (g.view outside).faults (g.view now).faults) ((g.view now).faults ≡ (g.view outside).faults) error
-  pub frame : FrameNotes g.told (g.view outside) (g.view now)
+  pub frame : FrameNotesFirst g.told (g.view outside) (g.view now)
 
 -- Each of these files can be read; or the first that can't be is refused, or the device refused a call, or memory was wanted.
 pub record ChecksFiles {A O W C : Type 0} (g : Ghosts O W C) (old new : StoreState O) (names : List (List ℕ)) (result : Result A TantivyError) : Type 0 where

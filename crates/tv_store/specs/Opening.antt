@@ -1,5 +1,5 @@
 -- How an index is opened, or isn't.
-use Rattle.std.specs.Prelude.{ℕ, ◌≡◌, true, false, List, Result, IfOk, IfErr}
+use Rattle.std.specs.Prelude.{ℕ, ◌≡◌, true, false, List, Result, IfOk, IfErr, MatchResult}
 use Rattle.tv_directory.specs.declared.directory.Directory.{Ghosts}
 use Rattle.tv_directory.specs.Locks.{SameLocks, TakesLock}
 use Rattle.tv_managed.specs.declared.managed_directory.Refused.{Refused}
@@ -8,7 +8,7 @@ use Rattle.tv_model.specs.Files.{Rose, Same}
 use Rattle.tv_model.specs.Lines.{opening_of}
 use Rattle.tv_model.specs.Schemas.{IsSchema}
 use Rattle.tv_model.specs.State.{no_readers}
-use Rattle.tv_index.specs.Opening.{Finds, LeavesFound}
+use Rattle.tv_index.specs.Opening.{Finds, LeavesFound, NotesNone}
 use Rattle.tv_model.specs.Index.{FoundIndex, HasFiles, OpenedIndex, opened_catalog}
 use Rattle.tv_model.specs.Readable.{CanRead}
 use Rattle.tv_store.specs.Kept.{StoreState, Holds, AtMost}
@@ -55,7 +55,9 @@ pub record OpeningFaults {O W C : Type 0} (g : Ghosts O W C) (outside : O) (sche
   pub quiet : IfOk result (λ store. (g.view store.outside).faults ≡ (g.view outside).faults)
   pub cause : IfErr result (λ refused. OpeningCause g.told.content schema (g.view outside).reads (IsBusy g.told.locks ((g.view outside).locks writer_lock_name ≡ true) (Rose (g.view outside).faults (g.view refused.directory).faults)) (g.told.locks → (g.view outside).locks writer_lock_name ≡ false) (Rose (g.view outside).faults (g.view refused.directory).faults) ((g.view refused.directory).faults ≡ (g.view outside).faults) refused.error)
 
--- No writer lost its file, no delete was refused, and nobody was registered or called; a notice of the first commit may stand.
+-- No writer lost its file, no delete was refused, nobody was registered or called, and no file with a dot in front was changed but the list. A notice of the first
+-- commit may stand, but where the content is told none came if there was a `meta.json`.
 pub record OpeningFrame {O W C : Type 0} (g : Ghosts O W C) (outside : O) (result : Result (StoreState O) (Refused O)) : Type 0 where
   pub ok : IfOk result (λ store. MayNotify g.told (g.view outside) (g.view store.outside))
   pub err : IfErr result (λ refused. MayNotify g.told (g.view outside) (g.view refused.directory))
+  pub stood : MatchResult result (λ store. NotesNone g.told (g.view outside) (g.view store.outside)) (λ refused. NotesNone g.told (g.view outside) (g.view refused.directory))

@@ -1,33 +1,31 @@
 //! The files of an index: the index, the writers of the files that are open, and the names of those
 //! that were left.
-ghost use Rattle.std.specs.Prelude.{◌≡◌, ◌≢◌, ◌&&◌, not, ◌≤◌, ◌<◌, ◌+◌, ◌^◌, ◌++◌, [], List, ℕ, true, false, length, Option, Some, None, IsSome, is_some, cond, option_map, Contains, IfErr, IfOk, OnOk, OnErr, map, string_bytes};
+ghost use Rattle.std.specs.Prelude.{◌≡◌, ◌≢◌, ◌≤◌, ◌<◌, ◌+◌, ◌^◌, ◌++◌, [], List, ℕ, true, false, length, Option, Some, None, IsSome, is_some, option_map, IfErr, IfOk, OnOk, OnErr, map, string_bytes};
 ghost use Rattle.std.specs.List.{list_all, AllByRecursion};
 ghost use Rattle.std.specs.Map.{remove_entry};
 ghost use Rattle.std.specs.BTreeMap.{is_at, insert_entry};
 ghost use Rattle.tv_base.specs.declared.io.IoKind.TheVariants.{Device};
-ghost use Rattle.tv_model.specs.Names.{byte_cmp, has, is_plain, is_file_name, list_name, meta_name};
+ghost use Rattle.tv_model.specs.Names.{byte_cmp, has, is_plain, is_file_name, meta_name};
 ghost use Rattle.tv_model.specs.Footer.{sealed};
-ghost use Rattle.tv_model.specs.Listing.{Lists};
 ghost use Rattle.tv_model.specs.Collections.{no_collections};
 ghost use Rattle.tv_model.specs.Files.{Sets, KeepsOthers};
 ghost use Rattle.tv_model.specs.State.{at};
 ghost use Rattle.tv_model.specs.Lines.{has_no_feed};
 ghost use Rattle.tv_directory.specs.Calls.{DeviceFaults, Frees, LockFaults, Acquires, MakesRoom, TellsLineTo};
-ghost use Rattle.tv_directory.specs.View.{Kept, OnlyReads, OnlyLocks, OnlyTells, MayDelete};
+ghost use Rattle.tv_directory.specs.View.{Kept, OnlyReads, OnlyLocks, OnlyTells};
 ghost use Rattle.tv_managed.specs.Managed.{KeepsOtherFiles};
 ghost use Rattle.tv_managed.specs.Reading.{ReadsBody};
-ghost use Rattle.tv_store.specs.FileCalls.{Asked, intact_in, LeavesFiles, OpensFile, FindsFile, ReadBodyFaults, Collects, GcFaults, LeavesText, KeepsOpenFiles};
+ghost use Rattle.tv_store.specs.FileCalls.{Asked, intact_in, LeavesFiles, OpensFile, FindsFile, ReadBodyFaults, LeavesText, KeepsOpenFiles};
 ghost use Rattle.tv_index.specs.NewForms.{form_with};
 ghost use Rattle.tv_index.specs.Saving.{SavesMeta};
 ghost use Rattle.tv_index.specs.Settings.{settings_view};
 ghost use Rattle.tv_index.specs.Standing.{LoadsMeta, MetaFaults};
 ghost use Rattle.tv_store.specs.Kept.{names_below};
-ghost use Rattle.tv_store.specs.Stays.{KeepsDotted, KeepsFiles, KeepsMade, OnlyWrites, EventFaults, Faults};
+ghost use Rattle.tv_store.specs.Stays.{KeepsFiles, KeepsMade, OnlyWrites, EventFaults, Faults};
 
 use std::alloc::Global;
 use std::collections::{BTreeMap, BTreeSet};
 use std::marker::Model;
-use std::mem;
 use tv_base::{FileSlice, IoFault, IoKind, LockError, OpenReadError, OpenWriteError, TantivyError};
 use tv_directory::{Directory, DirectoryLock, Lock, Outside};
 use tv_index::{Index, IndexSettings, Schema, UntrackedIndexMeta, save_meta_text};

@@ -53,7 +53,8 @@ impl<O: Outside> Model for IndexStore<O> {
 impl<O: Outside> IndexStore<O> {
     /// Opens the index that stands in a directory, or makes one with this schema where there is no
     /// `meta.json`; takes the writer lock, sees that the files of the commit can be read, and tells the
-    /// opening line. A refusal gives the directory back, with the locks that it had.
+    /// opening line. A refusal gives the directory back, with the locks that it had. Where there is a
+    /// `meta.json`, no notice of it comes.
     ///
     /// Refusals come in this order: `InvalidArgument` for the schema, `DataCorruption` for the list of
     /// managed files, `DataCorruption` and `SchemaError` for `meta.json`, `LockFailure` for the lock,
@@ -121,7 +122,8 @@ impl<O: Outside> IndexStore<O> {
         Ok(())
     }
 
-    /// Makes one step of the machine, and tells its line. After an error the store isn't open.
+    /// Makes one step of the machine, and tells its line. A commit writes `meta.json`, unless it is
+    /// refused. After an error the store isn't open.
     pub fn apply(&mut self, event: &Event) -> Result<Answer, TantivyError>
         requires { self.old.is_open ≡ true }
         ensures step { IfOk result (Stepped O.Directory self.old self.new event.now) }

@@ -1,5 +1,5 @@
 //! The events of readers.
-ghost use Rattle.std.specs.Prelude.{◌≡◌, ◌<◌, ◌+◌, [], ◌∷◌, ℕ, true, length, map, IsSome, Some, IfOk, OnOk};
+ghost use Rattle.std.specs.Prelude.{◌≡◌, ◌<◌, ◌+◌, [], ◌∷◌, ℕ, true, map, IsSome, Some, IfOk, OnOk};
 ghost use Rattle.std.specs.Fmt.{decimal};
 ghost use Rattle.tv_model.specs.Lines.{line, has_no_feed};
 ghost use Rattle.tv_model.specs.Segments.{all_required, required_names};

@@ -11,7 +11,6 @@ use crate::catalog::Catalog;
 use crate::index_store::IndexStore;
 use crate::opening::{next_after, opening_line};
 use crate::readers::Readers;
-use std::alloc::Global;
 use std::collections::BTreeMap;
 use tv_base::TantivyError;
 use tv_directory::Outside;

@@ -1,15 +1,16 @@
 use Rattle.std.proofs.Common.{◌∙◌, ap}
-use Rattle.tv_directory.proofs.TouchedNames.{touches_none, touches_opened, touches_then, touches_written}
+use Rattle.tv_model.proofs.DiskLaws.{touches_then}
+use Rattle.tv_directory.proofs.TouchedNames.{reads_touch, touches_opened, touches_written}
 use Rattle.tv_directory.proofs.persist.persist_file.Goals as goal
 
 pub returns-in_err-writer-clause-images : goal.returns-in_err-writer-clause-images
 returns-in_err-writer-clause-images g c = λ tells. touches_opened (c.in_err-writer.ensures.images tells)
 
 pub returns-in_err-write-clause-images : goal.returns-in_err-write-clause-images
-returns-in_err-write-clause-images g c = λ tells. touches_then (touches_opened (c.in_ok-writer.ensures.images tells)) (touches_none _ (c.in_err-write.ensures.images tells))
+returns-in_err-write-clause-images g c = λ tells. touches_then (touches_opened (c.in_ok-writer.ensures.images tells)) (reads_touch _ (c.in_err-write.ensures.images tells))
 
 pub returns-in_err-terminate-clause-images : goal.returns-in_err-terminate-clause-images
-returns-in_err-terminate-clause-images g c = λ tells. touches_then (touches_then (touches_opened (c.in_ok-writer.ensures.images tells)) (touches_none _ (c.in_ok-write.ensures.images tells))) (touches_written (c.in_ok-write.ensures.appends.name ∙ ap (λ s. s.name) c.in_ok-writer.ensures.writer.state) (c.in_err-terminate.ensures.images tells))
+returns-in_err-terminate-clause-images g c = λ tells. touches_then (touches_then (touches_opened (c.in_ok-writer.ensures.images tells)) (reads_touch _ (c.in_ok-write.ensures.images tells))) (touches_written (c.in_ok-write.ensures.appends.name ∙ ap (λ s. s.name) c.in_ok-writer.ensures.writer.state) (c.in_err-terminate.ensures.images tells))
 
 pub returns-clause-images : goal.returns-clause-images
-returns-clause-images g c = λ tells. touches_then (touches_then (touches_opened (c.in_ok-writer.ensures.images tells)) (touches_none _ (c.in_ok-write.ensures.images tells))) (touches_written (c.in_ok-write.ensures.appends.name ∙ ap (λ s. s.name) c.in_ok-writer.ensures.writer.state) (c.in_ok-terminate.ensures.images tells))
+returns-clause-images g c = λ tells. touches_then (touches_then (touches_opened (c.in_ok-writer.ensures.images tells)) (reads_touch _ (c.in_ok-write.ensures.images tells))) (touches_written (c.in_ok-write.ensures.appends.name ∙ ap (λ s. s.name) c.in_ok-writer.ensures.writer.state) (c.in_ok-terminate.ensures.images tells))

@@ -7,7 +7,7 @@ pub run_replay-requires-clause-paths : goal.run_replay-requires-clause-paths
 run_replay-requires-clause-paths g c = c.requires.paths c.in-Some-Replay.folder.now c.in-Some-Replay.path.now (rw c.in-Some-Replay.field-0-is at c.in-Some-Replay.ensures)
 
 pub returns-in-None-clause-usage_line : goal.returns-in-None-clause-usage_line
-returns-in-None-clause-usage_line g c two = says_this c.as_bytes.ensures.value c.say_line.ensures.says
+returns-in-None-clause-usage_line g c two = (says_this c.as_bytes.ensures.value c.say_line.ensures.says, refl)
 
 pub returns-in-Some-Replay-clause-complete : goal.returns-in-Some-Replay-clause-complete
 returns-in-Some-Replay-clause-complete g c u =

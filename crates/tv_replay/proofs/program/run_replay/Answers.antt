@@ -1,4 +1,4 @@
-use Rattle.std.proofs.Common.{inl, inr, sym, ap, ◌∙◌, Some}
+use Rattle.std.proofs.Common.{refl, inl, inr, sym, ap, ◌∙◌, Some}
 use Rattle.std.specs.Prelude.{is_some}
 use Rattle.tv_replay.specs.Replays.{IsRefusedAt, IsQuietAt}
 use Rattle.tv_replay.proofs.Runs.{schema_cause, lend_cause, schema_line_is, folder_line_is, not_begun, why_since, kept_then, reports_since, stopped_with, error_no_feed, texts_then}
@@ -6,7 +6,7 @@ use Rattle.tv_replay.proofs.program.run_replay.Goals as goal
 
 pub returns-in-Err-clause-ends : goal.returns-in-Err-clause-ends
 returns-in-Err-clause-ends g c =
-    not_begun _ c.in-Err.ensures.frame (schema_cause _ _ c.in-Err.error c.in-Err.ensures.faults.cause) (schema_line_is _ _ c.in-Err.error c.in-Err.ensures.faults.cause) (rw c.from.ensures at c.say_error.ensures) (λ refused. inl refused)
+    not_begun _ c.in-Err.ensures.frame (schema_cause _ _ c.in-Err.error c.in-Err.ensures.faults.cause) (schema_line_is _ _ c.in-Err.error c.in-Err.ensures.faults.cause) (rw c.from.ensures at c.say_error.ensures) refl (λ refused. inl refused)
 
 pub returns-in-Err-lend-clause-ends : goal.returns-in-Err-lend-clause-ends
 returns-in-Err-lend-clause-ends g c =
@@ -14,8 +14,8 @@ returns-in-Err-lend-clause-ends g c =
     let refused = c.in-Err-lend.ensures in
     let free = had_schema.frame.folders.lent ∙ c.requires.free in
     let kept = kept_then had_schema.frame (record { folders = record { texts = refused.frame.texts; folders = refused.lends.folders; lent = refused.lends.free ∙ sym free }; said = refused.frame.said }) in
-    not_begun _ kept (why_since had_schema.faults.quiet (lend_cause _ _ c.in-Err-lend.refusal refused.faults.cause)) (folder_line_is c.in-Err-lend.refusal) (rw c.from-in-Err-lend.ensures at c.say_error-in-Err-lend.ensures)
-    (λ refused. inr (inl (λ told. ap is_some (had_schema.bytes told), refused)))
+    not_begun _ kept (why_since had_schema.faults.quiet (lend_cause _ _ c.in-Err-lend.refusal refused.faults.cause)) (folder_line_is c.in-Err-lend.refusal) (rw c.from-in-Err-lend.ensures at c.say_error-in-Err-lend.ensures) refl
+    (λ refused. inr (λ told. ap is_some (had_schema.bytes told), refused))
 
 pub give_back_after-requires-clause-feed : goal.give_back_after-requires-clause-feed
 give_back_after-requires-clause-feed g c =

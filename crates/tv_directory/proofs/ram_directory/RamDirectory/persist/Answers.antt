@@ -2,7 +2,8 @@ use Rattle.std.proofs.Common.{rules, ◌∙◌}
 use Rattle.tv_directory.specs.Persisting.{contents}
 use Rattle.tv_directory.proofs.Views.{kept_then}
 use Rattle.tv_directory.proofs.PersistedFiles.{first_of, rest_next, split_at, stops_at}
-use Rattle.tv_directory.proofs.TouchedNames.{touches_among, touches_then}
+use Rattle.tv_model.proofs.DiskLaws.{touches_then}
+use Rattle.tv_directory.proofs.TouchedNames.{touches_among}
 use Rattle.tv_directory.proofs.ram_directory.RamDirectory.persist.Goals as goal
 
 pub loop-name-preserved : goal.loop-name-preserved

@@ -3,7 +3,7 @@ use Rattle.tv_model.specs.Disk.{Sealed}
 use Rattle.tv_model.specs.Names.{has, is_undotted}
 use Rattle.tv_managed.specs.Names.{ManagedNames, done_names}
 use Rattle.tv_managed.proofs.Collections.{done_held}
-use Rattle.tv_managed.proofs.Saves.{lists_new, manages_new, others_written}
+use Rattle.tv_managed.proofs.Saves.{lists_new, manages_new, others_written, unsaved_by}
 use Rattle.tv_managed.proofs.Listing.{has_registered}
 use Rattle.tv_managed.proofs.Giving.{both_from, list_states, track_given}
 use Rattle.tv_managed.proofs.Tracking.{track_from, track_then}
@@ -18,6 +18,8 @@ returns-clause-manages g c =
       ok = search rules;
       err = search rules;
       saves = search rules;
+      unsaved = λ tells put. unsaved_by (λ d. (D.view d).reads) c.args.self.now.0 c.args.self.now.0 c.register_file_as_managed.new.self.0 c.self.inside.directory c.atomic_write.new.self c.args.name.now (ap (λ v. v.0) c.self.view_is) (λ n. refl) (list.unsaved tells put)
+          (others_written c.atomic_write.result (D.view c.self.inside.directory).reads (D.view c.atomic_write.new.self).reads c.args.name.now _ (c.atomic_write.ensures.gives.ok tells) (c.atomic_write.ensures.gives.err tells)) c.requires.other;
       listed = λ tells covers.
           lists_new (λ d. (D.view d).reads) c.args.self.now.0 c.args.self.now.0 c.register_file_as_managed.new.self.0 c.self.inside.directory c.atomic_write.new.self c.args.name.now (ap (λ v. v.0) c.self.view_is) (λ n. refl) (list.others tells)
           (others_written c.atomic_write.result (D.view c.self.inside.directory).reads (D.view c.atomic_write.new.self).reads c.args.name.now _ (c.atomic_write.ensures.gives.ok tells) (c.atomic_write.ensures.gives.err tells)) c.requires.other

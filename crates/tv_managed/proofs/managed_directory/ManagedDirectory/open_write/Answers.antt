@@ -4,7 +4,7 @@ use Rattle.tv_model.specs.Names.{has, is_undotted}
 use Rattle.tv_managed.specs.Managed.{registering}
 use Rattle.tv_managed.specs.Names.{ManagedNames, done_names}
 use Rattle.tv_managed.proofs.Collections.{done_held}
-use Rattle.tv_managed.proofs.Saves.{lists_new, manages_new, others_of_refused, still_covers}
+use Rattle.tv_managed.proofs.Saves.{lists_new, manages_new, others_of_refused, still_covers, unsaved_by}
 use Rattle.tv_managed.proofs.Listing.{has_registered}
 use Rattle.tv_managed.proofs.Giving.{asked_from, list_states, no_states, track_given}
 use Rattle.tv_managed.proofs.Tracking.{track_from, track_read, track_then}
@@ -21,6 +21,8 @@ returns-in_err-writer-clause-manages g c =
       ok = search rules;
       err = search rules;
       saves = search rules;
+      unsaved = λ tells put. unsaved_by (λ d. (D.view d).reads) c.args.self.now.0 c.refuse_taken.new.self.0 c.list.new.self.0 c.self.inside.directory c.open_write.new.self c.args.name.now (ap (λ v. v.0) c.self.view_is) (asked.below.content tells)
+          (list.unsaved tells (λ undotted. ap (λ v. has v.managed c.args.name.now) asked.names ∙ put undotted)) (others_of_refused (D.view c.self.inside.directory).reads (D.view c.open_write.new.self).reads c.args.name.now c.in_err-writer.field-0.0 (c.in_err-writer.ensures.makes.err tells)) c.requires.other;
       listed = λ tells covers.
           lists_new (λ d. (D.view d).reads) c.args.self.now.0 c.refuse_taken.new.self.0 c.list.new.self.0 c.self.inside.directory c.open_write.new.self c.args.name.now (ap (λ v. v.0) c.self.view_is) (asked.below.content tells) (list.others tells)
           (others_of_refused (D.view c.self.inside.directory).reads (D.view c.open_write.new.self).reads c.args.name.now c.in_err-writer.field-0.0 (c.in_err-writer.ensures.makes.err tells)) c.requires.other
@@ -40,6 +42,8 @@ returns-clause-manages g c =
       ok = search rules;
       err = search rules;
       saves = search rules;
+      unsaved = λ tells put. unsaved_by (λ d. (D.view d).reads) c.args.self.now.0 c.refuse_taken.new.self.0 c.list.new.self.0 c.self.inside.directory c.open_write.new.self c.args.name.now (ap (λ v. v.0) c.self.view_is) (asked.below.content tells)
+          (list.unsaved tells (λ undotted. ap (λ v. has v.managed c.args.name.now) asked.names ∙ put undotted)) ((c.in_ok-writer.ensures.makes.ok tells).1.others) c.requires.other;
       listed = λ tells covers.
           lists_new (λ d. (D.view d).reads) c.args.self.now.0 c.refuse_taken.new.self.0 c.list.new.self.0 c.self.inside.directory c.open_write.new.self c.args.name.now (ap (λ v. v.0) c.self.view_is) (asked.below.content tells) (list.others tells)
           (c.in_ok-writer.ensures.makes.ok tells).1.others c.requires.other

@@ -4,11 +4,11 @@ use Rattle.tv_model.specs.Collections.{without}
 use Rattle.tv_model.specs.Listing.{IsOnList}
 use Rattle.tv_model.specs.Names.{byte_cmp, has, is_undotted, list_name}
 use Rattle.tv_model.proofs.Entries.{has_inserted, has_kept, insert_present}
-use Rattle.tv_managed.specs.Managed.{Covers, registered, registering}
+use Rattle.tv_managed.specs.Managed.{Covers, NeedsNoListing, registered, registering}
 use Rattle.tv_managed.specs.Names.{AreManaged, ManagedNames, done_names}
 use Rattle.tv_managed.proofs.Removals.{without_inserted}
 use Rattle.tv_managed.proofs.SetsOfTexts.{had_is}
-use Rattle.tv_managed.proofs.Saves.{covers_put}
+use Rattle.tv_managed.proofs.Saves.{covers_put, isnt_listed}
 use Rattle.tv_managed.proofs.Listing.{lists_refused, lists_same, lists_saved}
 use Rattle.tv_managed.proofs.managed_directory.ManagedDirectory.register_plain.Goals as goal
 
@@ -46,6 +46,8 @@ returns-in-Ok-clause-list g c =
     let managed : new.managed ≡ insert_key byte_cmp old.managed c.args.name.now = ap (λ v. v.managed) (c.in-Ok.ensures.only.frame.names ∙ c.in_ok-add.ensures.names) in
     let covers : g.D.Directory.told.content → Covers ((g.D.Directory.view c.save.new.self.0).reads list_name) new = λ tells. (new.managed, lists tells, λ n h free. h) in
     let on : g.D.Directory.told.content → IsOnList ((g.D.Directory.view c.save.new.self.0).reads list_name) c.args.name.now = λ tells. (new.managed, lists tells, rw managed (has_inserted old.managed c.args.name.now)) in
+    let names : map string_bytes c.self.inside.managed.keys ≡ old.managed = ap (λ v. v.1.managed) c.self.view_is in
+    let new_name : NeedsNoListing old c.args.name.now → ⊥ = isnt_listed old c.args.name.now c.requires.undotted (had_is c.self.inside.managed.keys _ c.args.name.now false c.if-contains.ensures names) in
     search rules
 
 pub returns-in-Err-clause-list : goal.returns-in-Err-clause-list
@@ -60,6 +62,7 @@ returns-in-Err-clause-list g c =
     c.forget.ensures.names ∙ ap (λ v. with_names v (without (c.args.name.now ∷ []) v.managed)) put ∙ ap (with_names c.args.self.now.1) (without_inserted c.args.self.now.1.managed _ _ c.args.name.now (subst AreManaged names c.self.invariant) none refl refl) in
     let covers : g.D.Directory.told.content → Covers ((g.D.Directory.view c.args.self.now.0).reads list_name) old → Covers ((g.D.Directory.view c.forget.new.self.0).reads list_name) c.forget.new.self.1 = λ tells was.
     rw (c.forget.ensures.directory, same) (covers_put _ _ old c.save.new.self.1.managed (λ n h free. rw (ap (λ v. v.managed) (only.frame.names ∙ c.in_ok-add.ensures.names)) (has_kept old.managed c.args.name.now n h)) (only.either tells) (rw c.in_ok-add.ensures.directory was)) in
+    let new_name : NeedsNoListing old c.args.name.now → ⊥ = isnt_listed old c.args.name.now c.requires.undotted none in
     search rules
 
 pub returns-then-contains-clause-images : goal.returns-then-contains-clause-images

@@ -10,7 +10,8 @@ use Rattle.tv_model.specs.Disk.{Sealed}
 use Rattle.tv_managed.specs.Crashes.{SealsStates}
 use Rattle.tv_managed.specs.Names.{ManagedNames}
 use Rattle.tv_managed.proofs.Tracking.{track_from, track_read, track_same, track_then}
-use Rattle.tv_managed.proofs.Touching.{added_written, adds_run, gained_more, gained_none, gained_one, gained_same, gained_then, keeps_same, reads_then, time_written, touches_more, touches_none, touches_same, touches_then, touches_written, track_written}
+use Rattle.tv_model.proofs.DiskLaws.{touches_more, touches_same, touches_then}
+use Rattle.tv_managed.proofs.Touching.{added_written, adds_run, gained_more, gained_none, gained_one, gained_same, gained_then, keeps_same, reads_then, reads_touch, time_written, touches_written, track_written}
 use Rattle.tv_managed.proofs.managed_directory.ManagedDirectory.terminate.Goals as goal
 
 pub returns-clause-seals : goal.returns-clause-seals
@@ -52,7 +53,7 @@ returns-in_err-write-clause-safe g c = λ tells other.
     record {
       tracks = track_from g.D.Directory c.self.view_is (track_read g.D.Directory refl keeps);
       states = subst (λ v. SealsStates g.D.Directory v.0 c.write.new.self c.args.writer c.from_residual-in_err-write.result) c.self.view_is (record {
-        touches = touches_none _ keeps;
+        touches = reads_touch _ keeps;
         moments = λ summed. adds_run (gained_none _ keeps);
         stands = λ lives summed. search rules;
         gone = λ lives. keeps;
@@ -75,7 +76,7 @@ returns-clause-safe g c = λ tells other.
           let first = track_read D {new = (c.write.new.self, names)} refl keeps was in
           track_then D first (track_written D _ seals (g.met.D.Directory.stands c.write.new.self tells).possible (λ e. other (sym same ∙ e)) first.tracked));
       states = subst (λ v. SealsStates D v.0 c.terminate.new.self w c.terminate.result) c.self.view_is (record {
-        touches = touches_then (touches_none _ keeps) (touches_more (λ n it. it ∙ same) (touches_written _ seals));
+        touches = touches_then (reads_touch _ keeps) (touches_more (λ n it. it ∙ same) (touches_written _ seals));
         moments = λ summed. adds_run (gained_then (gained_none _ keeps) (gained_more (λ n s it. (it.0 ∙ same, it.1 ∙ ap Sealed (text summed))) (gained_one (time_written _ seals) (added_written _ seals))));
         stands = λ lives summed. on_ok_weaker c.terminate.result (λ sets. ap (D.disk c.terminate.new.self).now (sym same) ∙ sets.now ∙ ap Sealed (text summed)) (seals.gives (c.in_ok-write.ensures.hands_back.lives content ∙ lives)).ok;
         gone = λ lives. reads_then keeps (seals.gone (c.in_ok-write.ensures.hands_back.lives content ∙ lives));

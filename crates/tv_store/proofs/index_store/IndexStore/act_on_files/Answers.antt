@@ -14,54 +14,54 @@ use Rattle.tv_store.proofs.index_store.IndexStore.act_on_files.Goals as goal
 pub returns-in-ReleaseSegment : goal.returns-in-ReleaseSegment
 returns-in-ReleaseSegment g c =
     let did = c.release_segment.ensures in
-    acts_on_files g.O.Directory c.args.self.now c.release_segment.new.self c.args.event.now _ c.in-ReleaseSegment.is c.release_segment.result (λ o n same. same) _ (λ o n h. h.kept) ⊥ (λ never. absurd never) (λ s. tt) (λ takes. takes)
+    acts_on_files g.O.Directory c.args.self.now c.release_segment.new.self c.args.event.now _ c.in-ReleaseSegment.is c.release_segment.result tt _ (λ o n h. h.kept) ⊥ (λ never. absurd never) (λ s. tt) (λ takes. takes)
     did.step (λ bound h. at_most bound 0 c.release_segment.new.self.kept (did.lens bound h)) did.does
 
 pub returns-in-Validate : goal.returns-in-Validate
 returns-in-Validate g c =
     let did = c.validate.ensures in
-    acts_on_files g.O.Directory c.args.self.now c.validate.new.self c.args.event.now _ c.in-Validate.is c.validate.result (λ o n same. same) _ (λ o n h. h.kept) ⊥ (λ never. absurd never) (λ s. tt) (λ takes. takes)
+    acts_on_files g.O.Directory c.args.self.now c.validate.new.self c.args.event.now _ c.in-Validate.is c.validate.result tt _ (λ o n h. h.kept) ⊥ (λ never. absurd never) (λ s. tt) (λ takes. takes)
     did.step (λ bound h. at_most bound 0 c.validate.new.self.kept (did.lens bound h)) did.does
 
 pub returns-in-Deletes : goal.returns-in-Deletes
 returns-in-Deletes g c =
     let did = c.deletes.ensures in
-    acts_on_files g.O.Directory c.args.self.now c.deletes.new.self c.args.event.now _ c.in-Deletes.is c.deletes.result (λ o n same. same) _ (λ o n h. h.kept) ⊥ (λ never. absurd never) (λ s. tt) (λ takes. takes)
+    acts_on_files g.O.Directory c.args.self.now c.deletes.new.self c.args.event.now _ c.in-Deletes.is c.deletes.result tt _ (λ o n h. h.kept) ⊥ (λ never. absurd never) (λ s. tt) (λ takes. takes)
     did.step (λ bound h. at_most bound 0 c.deletes.new.self.kept (did.lens bound h)) did.does
 
 pub returns-in-Reopen : goal.returns-in-Reopen
 returns-in-Reopen g c =
     let did = c.reopen.ensures in
-    acts_anew g.O.Directory c.args.self.now c.reopen.new.self c.args.event.now _ c.in-Reopen.is c.reopen.result (λ o n same. same) (λ s. tt) (λ takes. takes)
+    acts_anew g.O.Directory c.args.self.now c.reopen.new.self c.args.event.now _ c.in-Reopen.is c.reopen.result tt (λ s. tt) (λ takes. takes)
     did.step did.does.room (λ bound h. at_most bound 0 c.reopen.new.self.kept (did.does.lens bound h)) did.anew did.faults did.does.frame
 
 pub returns-in-Open : goal.returns-in-Open
 returns-in-Open g c =
     let did = c.open_file.ensures in
-    acts_on_whole g.O.Directory c.args.self.now c.open_file.new.self c.args.event.now _ c.in-Open.is c.open_file.result (λ o n same. same) (λ s. tt) (λ takes. takes)
+    acts_on_whole g.O.Directory c.args.self.now c.open_file.new.self c.args.event.now _ c.in-Open.is c.open_file.result tt (λ s. tt) (λ takes. takes)
     did.step (λ bound h. at_most bound 0 c.open_file.new.self.kept (did.lens bound h)) did.does
 
 pub returns-in-Seal : goal.returns-in-Seal
 returns-in-Seal g c =
     let did = c.seal_file.ensures in
-    acts_on_files g.O.Directory c.args.self.now c.seal_file.new.self c.args.event.now _ c.in-Seal.is c.seal_file.result (λ o n same. same) _ (λ o n h. h) ⊥ (λ never. absurd never) (λ s. tt) (λ takes. takes)
+    acts_on_files g.O.Directory c.args.self.now c.seal_file.new.self c.args.event.now _ c.in-Seal.is c.seal_file.result tt _ (λ o n h. h) ⊥ (λ never. absurd never) (λ s. tt) (λ takes. takes)
     did.step (λ bound h. at_most bound 0 c.seal_file.new.self.kept (did.lens bound h)) did.does
 
 pub returns-in-Write : goal.returns-in-Write
 returns-in-Write g c =
     let did = c.write_file.ensures in
-    acts_on_files g.O.Directory c.args.self.now c.write_file.new.self c.args.event.now _ c.in-Write.is c.write_file.result (λ o n same. same) _ (λ o n h. h) _ (λ spent. inr (inr spent)) (λ s. tt) (λ takes. takes) did.step did.lens did.does
+    acts_on_files g.O.Directory c.args.self.now c.write_file.new.self c.args.event.now _ c.in-Write.is c.write_file.result tt _ (λ o n h. h) _ (λ spent. inr (inr spent)) (λ s. tt) (λ takes. takes) did.step did.lens did.does
 
 pub returns-in-Commit : goal.returns-in-Commit
 returns-in-Commit g c =
-    acts_committing g.O.Directory c.args.self.now c.commit.new.self c.args.event.now _ c.in-Commit.is c.commit.result (λ s. tt) (λ takes. takes) (λ below. below.watched) c.commit.ensures
+    acts_committing g.O.Directory c.args.self.now c.commit.new.self c.args.event.now _ _ c.in-Commit.is c.commit.result c.commit.ensures
 
 pub returns-in-Gc : goal.returns-in-Gc
 returns-in-Gc g c =
     let did = c.gc.ensures in
     let old = c.args.self.now in
     let new = c.gc.new.self in
-    acts_deleting g.O.Directory old new c.args.event.now Gc c.in-Gc.is c.gc.result (λ o n same. same) (λ s. tt)
+    acts_deleting g.O.Directory old new c.args.event.now Gc c.in-Gc.is c.gc.result tt (λ s. tt)
     did.step did.does.room (λ bound h. at_most bound 0 new.kept (did.lens bound h)) did.numbers
     (faults_collecting g.O.Directory old new c.args.event.now Gc c.in-Gc.is c.gc.result _ (λ spent. inr (inl spent)) tt did.does.faults) did.does.meta did.does.dotted did.does.frame
 
@@ -70,7 +70,7 @@ returns-in-GcBegin g c =
     let did = c.gc_begin.ensures in
     let old = c.args.self.now in
     let new = c.gc_begin.new.self in
-    acts_beginning g.O.Directory old new c.args.event.now GcBegin c.in-GcBegin.is c.gc_begin.result (λ o n same. same) (λ s. tt) refl
+    acts_beginning g.O.Directory old new c.args.event.now GcBegin c.in-GcBegin.is c.gc_begin.result tt (λ s. tt) refl
     did.step did.does.room (λ bound h. at_most bound 1 new.kept (did.lens bound h)) did.numbers
     (faults_collecting g.O.Directory old new c.args.event.now GcBegin c.in-GcBegin.is c.gc_begin.result _ (λ spent. inr (inl spent)) tt did.does.faults) did.does.frame
 
@@ -80,14 +80,14 @@ returns-in-GcStep g c =
     let old = c.args.self.now in
     let new = c.gc_step.new.self in
     let event : Event = GcStep c.in-GcStep.number in
-    acts_deleting g.O.Directory old new c.args.event.now event c.in-GcStep.is c.gc_step.result (λ o n same. same) (λ s. tt)
+    acts_deleting g.O.Directory old new c.args.event.now event c.in-GcStep.is c.gc_step.result tt (λ s. tt)
     did.step did.does.room (λ bound h. at_most bound 0 new.kept (did.lens bound h)) did.does.numbers
     (faults_alone g.O.Directory old new c.args.event.now event c.in-GcStep.is c.gc_step.result ⊥ (λ never. absurd never) (λ takes. takes) did.does.faults) did.does.meta did.does.dotted did.does.frame
 
 pub returns-in-GcEnd : goal.returns-in-GcEnd
 returns-in-GcEnd g c =
     let did = c.gc_end.ensures in
-    acts_on_files g.O.Directory c.args.self.now c.gc_end.new.self c.args.event.now _ c.in-GcEnd.is c.gc_end.result (λ o n same. same) _ (λ o n h. h) ⊥ (λ never. absurd never) (λ s. tt) (λ takes. takes)
+    acts_on_files g.O.Directory c.args.self.now c.gc_end.new.self c.args.event.now _ c.in-GcEnd.is c.gc_end.result tt _ (λ o n h. h) ⊥ (λ never. absurd never) (λ s. tt) (λ takes. takes)
     did.step (λ bound h. at_most bound 0 c.gc_end.new.self.kept (did.lens bound h)) did.does
 
 pub returns-in-Reader : goal.returns-in-Reader
@@ -100,7 +100,7 @@ returns-in-Reader g c =
     let refused : Type 0 = Rose (d.view old.outside).faults (d.view new.outside).faults in
     let quiet : Type 0 = (d.view new.outside).faults ≡ (d.view old.outside).faults in
     let busy : Type 0 = IsBusy d.told.locks ((d.view old.outside).locks meta_lock_name ≡ true) refused in
-    acts_reading d old new c.args.event.now event c.in-Reader.is c.reader.result (λ o n same. same) _ (λ s good. good)
+    acts_reading d old new c.args.event.now event c.in-Reader.is c.reader.result tt _ (λ s good. good)
     did.step did.does.room (λ bound h. at_most bound 1 new.kept (did.does.lens bound h)) did.numbers
     (record {
       quiet = did.faults.quiet;
@@ -122,7 +122,7 @@ returns-in-Reload g c =
     let refused : Type 0 = Rose (d.view old.outside).faults (d.view new.outside).faults in
     let quiet : Type 0 = (d.view new.outside).faults ≡ (d.view old.outside).faults in
     let busy : Type 0 = IsBusy d.told.locks ((d.view old.outside).locks meta_lock_name ≡ true) refused in
-    acts_reading d old new c.args.event.now event c.in-Reload.is c.reload.result (λ o n same. same) _ (λ s good. good)
+    acts_reading d old new c.args.event.now event c.in-Reload.is c.reload.result tt _ (λ s good. good)
     did.step did.does.room (λ bound h. at_most bound 1 new.kept (did.does.lens bound h)) did.numbers
     (record {
       quiet = did.faults.quiet;
