@@ -155,6 +155,7 @@ fn composite_files_are_read(rt: HostRuntime) {
     for row in READ {
         assert_read(&rt, rt.alloc(), *row);
     }
+    assert_body_at(&rt, &CompositeFile::empty(rt.alloc()), 0, 0, None);
 }
 
 #[test]

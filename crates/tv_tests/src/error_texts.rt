@@ -5,6 +5,7 @@ use std::process::Abort;
 use tv_base::{
     DataCorruption, DeleteError, Exhausted, Incompatibility, IoError, IoFault, IoKind, LockError,
     Memory, OpenDirectoryError, OpenReadError, OpenWriteError, TantivyError, Version,
+    version_string,
 };
 
 fn x<R: Abort>(rt: &R, alloc: Global) -> String {
@@ -259,7 +260,7 @@ fn texts_of_locks_and_devices(rt: HostRuntime) {
 fn texts_of_versions_and_corruption(rt: HostRuntime) {
     let a = rt.alloc();
     prints(&rt, a, version(7), "tantivy v0.26.2, index_format v7");
-    debugs(&rt, a, version(7), "tantivy v0.26.2, index_format v7");
+    debugs(&rt, a, version(7), version_string());
     debugs(
         &rt,
         a,

@@ -291,6 +291,7 @@ fn adds_one<R: Abort>(rt: &R, alloc: Global, index: &mut Index<TestRam>) {
     assert!(rt; segment.id() == id && segment.meta().max_doc() == 0);
     is_in_use(rt, alloc, index, id);
     let segment = delete_one(rt, index.inventory(), segment);
+    let segment = index.segment(segment.into_meta());
     names_deletes(rt, alloc, &segment);
     index.inventory().release(segment.into_meta());
 }
@@ -299,6 +300,12 @@ fn adds_one<R: Abort>(rt: &R, alloc: Global, index: &mut Index<TestRam>) {
 fn keeps_shares<R: Abort>(rt: &R, alloc: Global, index: &mut Index<TestRam>) {
     let all = index.list_all_segment_metas(alloc).expect(rt, "few shares");
     assert!(rt; all.len() > 2);
+}
+
+// Sets the size of a block, in memory.
+fn sets_blocksize<R: Abort>(rt: &R, index: &mut Index<TestRam>) {
+    index.settings_mut().docstore_blocksize = 100;
+    assert_eq!(rt; index.settings().docstore_blocksize, 100);
 }
 
 // Makes two commits, and looks at what stands then.
@@ -311,6 +318,7 @@ fn commit_twice<R: Abort>(rt: &R, alloc: Global, index: &mut Index<TestRam>) {
     is_undamaged(rt, alloc, index);
     adds_one(rt, alloc, index);
     keeps_shares(rt, alloc, index);
+    sets_blocksize(rt, index);
 }
 
 // A new index in memory, with these settings.

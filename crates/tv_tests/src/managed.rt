@@ -9,7 +9,7 @@ use std::alloc::Global;
 use std::collections::BTreeSet;
 use std::process::Abort;
 use tv_base::{IoError, MANAGED_FILEPATH, TantivyError, is_plain_name};
-use tv_directory::{Bench, Directory, meta_lock};
+use tv_directory::{Bench, Directory, meta_lock, what_reads_is_an_image};
 use tv_managed::{GarbageCollectionResult, ManagedDirectory, ManagedWriter};
 
 /// A call on a file.
@@ -307,7 +307,10 @@ pub(crate) fn faults_of<R: Abort>(
     let mut managed = failing(rt, alloc, refused);
     take_all(rt, &mut managed, alloc, given);
     take_all(rt, &mut managed, alloc, steps);
-    managed.into_directory().faults()
+    managed.images_list_their_files();
+    let bench = managed.into_directory();
+    what_reads_is_an_image(&bench);
+    bench.faults()
 }
 
 // The checksum of `123456789` is CBF43926.

@@ -85,4 +85,5 @@ fn laws_are_called() {
     laws::meta_json_keeps_commits();
     laws::stripped_schemas_are_texts();
     laws::lists_tell_their_names();
+    tv_framing::laws::footers_are_read_back();
 }

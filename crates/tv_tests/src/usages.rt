@@ -9,7 +9,26 @@ use tv_framing::{
     SegmentComponent, SegmentSpaceUsage, StoreSpaceUsage,
 };
 
-// The usage of a field of this name, with one part and a column of these sizes.
+// The usage of a field of this name, with one part of this size and this column.
+fn field_with(
+    rt: &impl Abort,
+    alloc: Global,
+    name: &str,
+    part: (usize, u64),
+    column: ColumnSpaceUsage,
+) -> FieldUsage
+    requires { part.0 ≤ 65535 }
+{
+    let name = String::from_str(alloc, name).expect(rt, "memory");
+    let mut field = FieldUsage::empty(alloc, name);
+    field
+        .add_field_idx(part.0, ByteCount(part.1))
+        .expect(rt, "memory");
+    field.set_column_usage(column);
+    field
+}
+
+// The same with a column of this size, without a dictionary.
 fn field_of(
     rt: &impl Abort,
     alloc: Global,
@@ -19,13 +38,8 @@ fn field_of(
 ) -> FieldUsage
     requires { part.0 ≤ 65535 }
 {
-    let name = String::from_str(alloc, name).expect(rt, "memory");
-    let mut field = FieldUsage::empty(alloc, name);
-    field
-        .add_field_idx(part.0, ByteCount(part.1))
-        .expect(rt, "memory");
-    field.set_column_usage(ColumnSpaceUsage::new(ByteCount(column), None));
-    field
+    let column = ColumnSpaceUsage::new(ByteCount(column), None);
+    field_with(rt, alloc, name, part, column)
 }
 
 fn three_fields(rt: &impl Abort, alloc: Global) -> Vec<FieldUsage> {
@@ -103,11 +117,50 @@ fn sizes_of_each_kind_of_file(rt: HostRuntime) {
     }
 }
 
+fn assert_segment(rt: &impl Abort, segment: &SegmentSpaceUsage) {
+    assert_eq!(rt; segment.num_docs(), 3);
+    let fields = [
+        segment.termdict(),
+        segment.postings(),
+        segment.positions(),
+        segment.fast_fields(),
+        segment.fieldnorms(),
+    ];
+    for (usage, total) in fields.iter().zip([1, 2, 4, 8, 16]) {
+        assert!(rt; usage.total() == ByteCount(total));
+    }
+    assert!(rt; segment.store().data_usage() == ByteCount(32));
+    assert!(rt; segment.store().offsets_usage() == ByteCount(64));
+    assert!(rt; segment.deletes() == ByteCount(128));
+}
+
 #[test]
 fn sizes_of_a_searcher(rt: HostRuntime) {
     let mut searcher = SearcherSpaceUsage::new(rt.alloc());
     searcher
         .add_segment(segment_of_255(&rt, rt.alloc()))
         .expect(&rt, "memory");
+    for segment in searcher.segments() {
+        assert_segment(&rt, segment);
+    }
+    assert_eq!(rt; searcher.segments().len(), 1);
     assert!(rt; searcher.total() == ByteCount(255));
+}
+
+// A field of a part of 3 bytes, and a column of 100 with a dictionary of 7.
+fn assert_field(rt: &impl Abort, field: &FieldUsage, column: &ColumnSpaceUsage) {
+    assert!(rt; field.sub_num_bytes() == [Some(ByteCount(3))].as_slice());
+    assert!(rt; field.column_num_bytes() == Some(ByteCount(100)));
+    assert!(rt; field.dictionary_num_bytes() == Some(ByteCount(7)));
+    assert!(rt; field.column_space_usage() == Some(column));
+    assert!(rt; column.column_num_bytes() == ByteCount(100));
+    assert!(rt; column.dictionary_num_bytes() == Some(ByteCount(7)));
+    assert_eq!(rt; field.total().get_bytes(), 110);
+}
+
+#[test]
+fn sizes_of_a_field(rt: HostRuntime) {
+    let column = ColumnSpaceUsage::new(ByteCount(100), Some(ByteCount(7)));
+    let field = field_with(&rt, rt.alloc(), "title", (0, 3), column);
+    assert_field(&rt, &field, &column);
 }
