@@ -11,7 +11,7 @@ use thiserror::Error;
 use tv_model::Memory;
 
 /// Bytes that are not what they should be, and in which file.
-#[derive(Drop, PartialEq, Eq)]
+#[derive(Drop)]
 pub struct DataCorruption {
     /// The name of the file, if it was one.
     pub filepath: Option<String>,
@@ -56,7 +56,7 @@ impl fmt::Debug for DataCorruption {
 ///
 /// The variants and their texts are those of tantivy, but for the last three. Some of tantivy's are made by no
 /// call here, and stay so that a `match` which names them stays right.
-#[derive(Debug, Drop, PartialEq, Eq, Error)]
+#[derive(Debug, Drop, Error)]
 pub enum TantivyError {
     /// A directory was not opened.
     #[error("Failed to open the directory: '{0:?}'")]

@@ -18,7 +18,7 @@ pub enum IoKind {
 }
 
 /// A refused call, or bytes that can't be read. Stands for `std::io::Error`.
-#[derive(Debug, Drop, PartialEq, Eq)]
+#[derive(Debug, Drop)]
 pub struct IoFault {
     /// Whether the device refused a call, or what is wrong with the bytes.
     pub kind: IoKind,
@@ -37,7 +37,7 @@ impl fmt::Display for IoFault {
 impl std::error::Error for IoFault {}
 
 /// A fault, or want of memory.
-#[derive(Debug, Drop, PartialEq, Eq, Error)]
+#[derive(Debug, Drop, Error)]
 pub enum IoError {
     /// A refused call, or bytes that can't be read.
     #[error("{0}")]

@@ -8,7 +8,7 @@ use thiserror::Error;
 use tv_model::Memory;
 
 /// Why a lock was not acquired. `Memory` is own, the other variants are tantivy's.
-#[derive(Debug, Drop, PartialEq, Eq, Error)]
+#[derive(Debug, Drop, Error)]
 pub enum LockError {
     /// Somebody holds it.
     #[error("Could not acquire lock as it is already held, possibly by a different process.")]
@@ -23,7 +23,7 @@ pub enum LockError {
 
 /// Why a directory was not opened. The `String` is the folder's path. `Memory` is own, the other variants are
 /// tantivy's.
-#[derive(Debug, Drop, PartialEq, Eq, Error)]
+#[derive(Debug, Drop, Error)]
 pub enum OpenDirectoryError {
     /// No folder has this path.
     #[error("Directory does not exist: '{0}'.")]
@@ -49,7 +49,7 @@ pub enum OpenDirectoryError {
 
 /// Why a file was not made. The `String` is the file's name. `Leaving` and `Memory` are own, the other variants
 /// are tantivy's.
-#[derive(Debug, Drop, PartialEq, Eq, Error)]
+#[derive(Debug, Drop, Error)]
 pub enum OpenWriteError {
     /// A file of this name is there. It is left alone.
     #[error("File already exists: '{0}'")]
@@ -71,7 +71,7 @@ pub enum OpenWriteError {
 }
 
 /// Why a file was not read. The `String` is the file's name. `Memory` is own, the other variants are tantivy's.
-#[derive(Debug, Drop, PartialEq, Eq, Error)]
+#[derive(Debug, Drop, Error)]
 pub enum OpenReadError {
     /// No file has this name.
     #[error("Files does not exist: {0:?}")]
@@ -94,7 +94,7 @@ pub enum OpenReadError {
 
 /// Why a file was not deleted. The `String` is the file's name. `Memory` is own, the other variants are
 /// tantivy's.
-#[derive(Debug, Drop, PartialEq, Eq, Error)]
+#[derive(Debug, Drop, Error)]
 pub enum DeleteError {
     /// No file has this name.
     #[error("File does not exist: '{0}'.")]

@@ -40,7 +40,7 @@ impl fmt::Debug for Version {
 }
 
 /// Why a file of another version is not read.
-#[derive(Debug, Drop, PartialEq, Eq)]
+#[derive(Debug, Drop)]
 pub enum Incompatibility {
     /// The compressions differ. No call makes this: nothing is compressed.
     CompressionMismatch {

@@ -7,7 +7,7 @@ use std::alloc::Global;
 use tv_model::Memory;
 
 // Where a byte of a JSON text stands.
-#[derive(Clone, Copy, Debug, PartialEq, Eq)]
+#[derive(Clone, Copy, PartialEq, Eq)]
 enum Place {
     // Outside string literals.
     Outside,

@@ -11,7 +11,7 @@ use std::marker::Model;
 use tv_model::Memory;
 
 /// What a step of a collection did with its name.
-#[derive(Debug, Drop, PartialEq, Eq)]
+#[derive(Debug, Drop)]
 pub enum CollectStep {
     /// The name is gone, or was absent before too.
     Done(String),
@@ -21,7 +21,7 @@ pub enum CollectStep {
 
 /// The names that a collection tried, in their order: those that are gone, and those whose delete the
 /// device refused.
-#[derive(Debug, Drop, PartialEq, Eq)]
+#[derive(Debug, Drop)]
 pub struct GarbageCollectionResult {
     /// The names that are gone, those that were absent before too.
     pub deleted_files: Vec<String>,

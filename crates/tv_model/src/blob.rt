@@ -9,7 +9,7 @@ use std::collections::BTreeSet;
 use std::marker::Model;
 
 /// Some bytes.
-#[derive(Debug, Drop)]
+#[derive(Drop)]
 pub struct Blob {
     bytes: Vec<u8>,
 }
@@ -39,7 +39,7 @@ impl Blob {
 }
 
 /// Some text. To a contract it is its bytes.
-#[derive(Debug, Drop)]
+#[derive(Drop)]
 pub struct Text {
     text: String,
 }
@@ -69,7 +69,7 @@ impl Text {
 }
 
 /// Some ids, none of them twice.
-#[derive(Debug, Drop)]
+#[derive(Drop)]
 pub struct IdList {
     ids: Vec<SegmentId>,
 }

@@ -5,7 +5,7 @@ use crate::reload_policy::ReloadPolicy;
 use crate::segment::SegmentComponent;
 
 /// One event, which is one line of a script.
-#[derive(Debug, Drop)]
+#[derive(Drop)]
 pub enum Event {
     /// Makes a segment live.
     Segment(SegmentId),

@@ -10,7 +10,7 @@ use std::alloc::{AllocError, Global};
 use tv_base::{IoFault, Source};
 
 /// Why there is no next line.
-#[derive(Debug, Drop)]
+#[derive(Drop)]
 pub(crate) enum LineError {
     /// There was no memory for it.
     Memory,

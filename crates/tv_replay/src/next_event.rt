@@ -12,7 +12,7 @@ use tv_base::Source;
 use tv_model::{Event, Memory};
 
 /// Why there is no next event.
-#[derive(Debug, Drop)]
+#[derive(Drop)]
 pub(crate) enum ScriptError {
     /// There is no next line.
     Line(LineError),

@@ -68,7 +68,7 @@ impl Model for Reader {
 }
 
 /// What is answered to a searcher that is asked for a body.
-#[derive(Debug, Drop)]
+#[derive(Drop)]
 pub(crate) enum BodyAnswer {
     /// There is no such searcher.
     NoSearcher,
