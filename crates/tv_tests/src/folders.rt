@@ -284,9 +284,7 @@ fn standard_input_and_output_answer(rt: HostRuntime) {
 }
 
 // What came of an index in a folder, which is closed again.
-fn close<R: Files<File = File> + Drop>(
-    outcome: Result<Index<MmapDirectory<R, NoWatch>>, TantivyError>,
-) -> Result<(), TantivyError> {
+fn close<D: Directory + Drop>(outcome: Result<Index<D>, TantivyError>) -> Result<(), TantivyError> {
     match outcome {
         Ok(index) => {
             drop(index.into_directory());
@@ -302,7 +300,11 @@ fn opens<R: Files<File = File> + Clone + Drop + Abort>(
     alloc: Global,
     want: Option<Failure<'static>>,
 ) {
-    let outcome = close(Index::open_in_dir(handle(rt), alloc, "index"));
+    let outcome = close::<MmapDirectory<R, NoWatch>>(Index::open_in_dir(
+        handle(rt),
+        alloc,
+        "index",
+    ));
     fails_as(rt, &outcome, want);
 }
 
@@ -313,7 +315,12 @@ fn makes<R: Files<File = File> + Clone + Drop + Abort>(
     want: Option<Failure<'static>>,
 ) {
     let schema = Schema::from_bytes(alloc, b"[]").expect(rt, "a schema");
-    let outcome = close(Index::create_in_dir(handle(rt), alloc, "index", schema));
+    let outcome = close::<MmapDirectory<R, NoWatch>>(Index::create_in_dir(
+        handle(rt),
+        alloc,
+        "index",
+        schema,
+    ));
     fails_as(rt, &outcome, want);
 }
 

@@ -102,7 +102,7 @@ pub(crate) fn fails_as<R: Abort>(
 }
 
 // The error of a refusal.
-fn error_of(refused: Refused<TestRam>) -> TantivyError {
+fn error_of<D: Directory + Drop>(refused: Refused<D>) -> TantivyError {
     let Refused {
         error,
         directory: _,
@@ -111,7 +111,7 @@ fn error_of(refused: Refused<TestRam>) -> TantivyError {
 }
 
 // What came of an opening. The index is closed again.
-fn close(opened: Result<Index<TestRam>, Refused<TestRam>>) -> Result<(), TantivyError> {
+fn close<D: Directory + Drop>(opened: Result<Index<D>, Refused<D>>) -> Result<(), TantivyError> {
     match opened {
         Ok(index) => {
             drop(index.into_directory());
@@ -140,15 +140,20 @@ fn builders_open_or_refuse(rt: HostRuntime) {
     }
 }
 
-// Opens what stands, which has this schema.
-fn stands<R: Abort>(rt: &R, alloc: Global, meta: &str) {
-    match Index::open(alloc, directory(rt, alloc, Some(meta))) {
+// Whether an index was opened that has this schema.
+fn is_open<R: Abort, D: Directory + Drop>(rt: &R, opened: Result<Index<D>, Refused<D>>) {
+    match opened {
         Ok(index) => {
             are_bytes(rt, index.schema().text(), SORTED.as_bytes());
             drop(index.into_directory());
         }
         Err(_) => panic!(rt; "it is opened"),
     }
+}
+
+// Opens what stands.
+fn stands<R: Abort>(rt: &R, alloc: Global, meta: &str) {
+    is_open(rt, Index::open(alloc, directory(rt, alloc, Some(meta))));
 }
 
 // Opens a directory in which nothing stands.
@@ -164,7 +169,7 @@ fn what_stands_is_opened(rt: HostRuntime) {
 }
 
 // Adds a segment of five documents.
-fn add_segment<R: Abort>(rt: &R, index: &mut Index<TestRam>, meta: &mut IndexMeta, id: u8) {
+fn add_segment<R: Abort, D: Directory>(rt: &R, index: &mut Index<D>, meta: &mut IndexMeta, id: u8) {
     let share = index
         .new_segment_meta(SegmentId::from_bytes([id; 16]), 5)
         .expect(rt, "memory");
@@ -172,10 +177,10 @@ fn add_segment<R: Abort>(rt: &R, index: &mut Index<TestRam>, meta: &mut IndexMet
 }
 
 // A commit of this number with one segment more than the last one.
-fn next_commit<R: Abort>(
+fn next_commit<R: Abort, D: Directory>(
     rt: &R,
     alloc: Global,
-    index: &mut Index<TestRam>,
+    index: &mut Index<D>,
     opstamp: Opstamp,
     id: u8,
 ) -> IndexMeta {
@@ -186,14 +191,20 @@ fn next_commit<R: Abort>(
 }
 
 // Saves that commit.
-fn commit<R: Abort>(rt: &R, alloc: Global, index: &mut Index<TestRam>, opstamp: Opstamp, id: u8) {
+fn commit<R: Abort, D: Directory>(
+    rt: &R,
+    alloc: Global,
+    index: &mut Index<D>,
+    opstamp: Opstamp,
+    id: u8,
+) {
     let meta = next_commit(rt, alloc, index, opstamp, id);
     assert!(rt; !index.directory().is_held(META_FILEPATH));
     save_metas(alloc, &meta, index.directory_mut()).expect(rt, "saved");
 }
 
 // Looks at the segments of the last commit, of which the second was made first.
-fn shows_two<R: Abort>(rt: &R, alloc: Global, index: &mut Index<TestRam>) {
+fn shows_two<R: Abort, D: Directory>(rt: &R, alloc: Global, index: &mut Index<D>) {
     let ids = index.searchable_segment_ids(alloc).expect(rt, "a commit");
     let want = [
         SegmentId::from_bytes([3; 16]),
@@ -203,7 +214,12 @@ fn shows_two<R: Abort>(rt: &R, alloc: Global, index: &mut Index<TestRam>) {
 }
 
 // Whether the segments of the last commit have these metas.
-fn have<R: Abort>(rt: &R, alloc: Global, index: &mut Index<TestRam>, metas: &[SegmentMeta]) {
+fn have<R: Abort, D: Directory>(
+    rt: &R,
+    alloc: Global,
+    index: &mut Index<D>,
+    metas: &[SegmentMeta],
+) {
     let segments = index.searchable_segments(alloc).expect(rt, "a commit");
     for (meta, segment) in metas.iter().zip(segments.iter()) {
         assert!(rt; meta.id() == segment.id() && meta.max_doc() == segment.meta().max_doc());
@@ -211,7 +227,7 @@ fn have<R: Abort>(rt: &R, alloc: Global, index: &mut Index<TestRam>, metas: &[Se
 }
 
 // Looks at the metas of the last commit, which are those of its segments.
-fn shows_metas<R: Abort>(rt: &R, alloc: Global, index: &mut Index<TestRam>) {
+fn shows_metas<R: Abort, D: Directory>(rt: &R, alloc: Global, index: &mut Index<D>) {
     let metas = index.searchable_segment_metas(alloc).expect(rt, "a commit");
     have(rt, alloc, index, metas.as_slice());
 }
@@ -238,7 +254,7 @@ fn is_empty<R: Abort, D: Directory>(
 }
 
 // Seals a file of the first segment, and reads it back.
-fn seal_first<R: Abort>(rt: &R, alloc: Global, index: &mut Index<TestRam>) {
+fn seal_first<R: Abort, D: Directory>(rt: &R, alloc: Global, index: &mut Index<D>) {
     let segments = index.searchable_segments(alloc).expect(rt, "a commit");
     let Some(first) = segments.first() else {
         panic!(rt; "no segment")
@@ -248,13 +264,13 @@ fn seal_first<R: Abort>(rt: &R, alloc: Global, index: &mut Index<TestRam>) {
 }
 
 // Whether no file is damaged.
-fn is_undamaged<R: Abort>(rt: &R, alloc: Global, index: &mut Index<TestRam>) {
+fn is_undamaged<R: Abort, D: Directory>(rt: &R, alloc: Global, index: &mut Index<D>) {
     let damaged = index.validate_checksum(alloc).expect(rt, "sealed files");
     assert!(rt; damaged.is_empty());
 }
 
 // Whether the id of a new segment is in use.
-fn is_in_use<R: Abort>(rt: &R, alloc: Global, index: &mut Index<TestRam>, id: SegmentId) {
+fn is_in_use<R: Abort, D: Directory>(rt: &R, alloc: Global, index: &mut Index<D>, id: SegmentId) {
     match index.new_segment(alloc, id) {
         Err(error) => says(
             rt,
@@ -285,7 +301,7 @@ fn names_deletes<R: Abort>(rt: &R, alloc: Global, segment: &Segment) {
 }
 
 // Makes a segment, whose id is in use from then on.
-fn adds_one<R: Abort>(rt: &R, alloc: Global, index: &mut Index<TestRam>) {
+fn adds_one<R: Abort, D: Directory>(rt: &R, alloc: Global, index: &mut Index<D>) {
     let id = SegmentId::from_bytes([9; 16]);
     let segment = index.new_segment(alloc, id).expect(rt, "a free id");
     assert!(rt; segment.id() == id && segment.meta().max_doc() == 0);
@@ -297,19 +313,19 @@ fn adds_one<R: Abort>(rt: &R, alloc: Global, index: &mut Index<TestRam>) {
 }
 
 // The shares of the calls above weren't given back.
-fn keeps_shares<R: Abort>(rt: &R, alloc: Global, index: &mut Index<TestRam>) {
+fn keeps_shares<R: Abort, D: Directory>(rt: &R, alloc: Global, index: &mut Index<D>) {
     let all = index.list_all_segment_metas(alloc).expect(rt, "few shares");
     assert!(rt; all.len() > 2);
 }
 
 // Sets the size of a block, in memory.
-fn sets_blocksize<R: Abort>(rt: &R, index: &mut Index<TestRam>) {
+fn sets_blocksize<R: Abort, D: Directory>(rt: &R, index: &mut Index<D>) {
     index.settings_mut().docstore_blocksize = 100;
     assert_eq!(rt; index.settings().docstore_blocksize, 100);
 }
 
 // Makes two commits, and looks at what stands then.
-fn commit_twice<R: Abort>(rt: &R, alloc: Global, index: &mut Index<TestRam>) {
+fn commit_twice<R: Abort, D: Directory>(rt: &R, alloc: Global, index: &mut Index<D>) {
     commit(rt, alloc, index, 1, 7);
     commit(rt, alloc, index, 2, 3);
     shows_two(rt, alloc, index);
@@ -348,7 +364,7 @@ fn in_ram<R: Abort>(rt: &R, alloc: Global) -> Index<TestRam> {
 }
 
 // Whether the commit that stands is printed like the first one.
-fn shows_first<R: Abort>(rt: &R, alloc: Global, index: &mut Index<TestRam>) {
+fn shows_first<R: Abort, D: Directory>(rt: &R, alloc: Global, index: &mut Index<D>) {
     let meta = index.load_metas(alloc).expect(rt, "a commit");
     is_first(rt, alloc, &meta);
 }
