@@ -234,18 +234,18 @@ fn file_name(name: &str) -> Option<&str>
 }
 
 // Gives a name these bytes.
-fn write(bench: &mut CaseBench, name: &str, bytes: &[u8]) -> anyhow::Result<()> {
+fn write<D: Directory>(directory: &mut D, name: &str, bytes: &[u8]) -> anyhow::Result<()> {
     let name = checked(name)?;
-    match bench.atomic_write(name, bytes) {
+    match directory.atomic_write(name, bytes) {
         Ok(()) => Ok(()),
         Err(_) => Err(refused()),
     }
 }
 
 /// What a name reads, or None where there is no such file.
-pub(crate) fn read(bench: &mut CaseBench, name: &str) -> anyhow::Result<Option<Vec<u8>>> {
+pub(crate) fn read<D: Directory>(directory: &mut D, name: &str) -> anyhow::Result<Option<Vec<u8>>> {
     let name = checked(name)?;
-    match bench.atomic_read(name) {
+    match directory.atomic_read(name) {
         Ok(bytes) => Ok(Some(bytes)),
         Err(OpenReadError::FileDoesNotExist(_)) => Ok(None),
         Err(_) => Err(refused()),
@@ -253,33 +253,33 @@ pub(crate) fn read(bench: &mut CaseBench, name: &str) -> anyhow::Result<Option<V
 }
 
 // Takes a lock for good.
-fn hold(bench: &mut CaseBench, lock: &Lock) -> anyhow::Result<()>
+fn hold<D: Directory>(directory: &mut D, lock: &Lock) -> anyhow::Result<()>
     requires { is_file_name lock.now.filepath.now ≡ true }
 {
-    match bench.acquire_lock(lock) {
+    match directory.acquire_lock(lock) {
         Ok(_token) => Ok(()),
         Err(_) => Err(refused()),
     }
 }
 
 // Takes these locks for good.
-fn hold_all(bench: &mut CaseBench, locks: Locks) -> anyhow::Result<()> {
+fn hold_all<D: Directory>(directory: &mut D, locks: Locks) -> anyhow::Result<()> {
     if locks.writer {
-        hold(bench, &index_writer_lock())?;
+        hold(directory, &index_writer_lock())?;
     }
     if locks.meta {
-        hold(bench, &meta_lock())?;
+        hold(directory, &meta_lock())?;
     }
     Ok(())
 }
 
 // Whether the lock is held. The device refuses no call.
-fn is_held(bench: &mut CaseBench, lock: &Lock) -> anyhow::Result<bool>
+fn is_held<D: Directory>(directory: &mut D, lock: &Lock) -> anyhow::Result<bool>
     requires { is_file_name lock.now.filepath.now ≡ true }
 {
-    match bench.acquire_lock(lock) {
+    match directory.acquire_lock(lock) {
         Ok(token) => {
-            bench.release(token);
+            directory.release(token);
             Ok(false)
         }
         Err(LockError::LockBusy) => Ok(true),
@@ -314,8 +314,8 @@ fn refuse_call(alloc: Global, bench: &mut CaseBench, call: u64) -> anyhow::Resul
 }
 
 // Makes a call that changes nothing. Whether it is refused.
-fn is_refused(bench: &mut CaseBench) -> anyhow::Result<bool> {
-    match bench.exists(MANAGED_FILEPATH) {
+fn is_refused<D: Directory>(directory: &mut D) -> anyhow::Result<bool> {
+    match directory.exists(MANAGED_FILEPATH) {
         Ok(_) => Ok(false),
         Err(OpenReadError::IoError { .. }) => Ok(true),
         Err(_) => Err(anyhow::anyhow!("memory is wanted")),

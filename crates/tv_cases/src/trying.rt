@@ -2,6 +2,7 @@
 use crate::case::{Case, Form, Left, Locks, Piece, Run, Wanted, Wish};
 use crate::running::{CaseBench, Manner, Seen, empty, observe, read};
 use std::alloc::{AllocError, Global};
+use tv_directory::Directory;
 
 // `refuse each` tries no more calls.
 const MOST_CALLS: u64 = 10_000;
@@ -102,26 +103,26 @@ fn check_form(alloc: Global, left: &Left, text: &str, parts: &[Vec<u8>], found: 
 }
 
 // What is under the name after a run.
-fn check_name(alloc: Global, bench: &mut CaseBench, left: &Left) -> Checked {
-    let found = read(bench, left.name.as_str())?;
+fn check_name<D: Directory>(alloc: Global, directory: &mut D, left: &Left) -> Checked {
+    let found = read(directory, left.name.as_str())?;
     check_file(alloc, left, found.as_deref())
 }
 
 // The files that are left.
-fn check_files(alloc: Global, bench: &mut CaseBench, left: &[Left]) -> Checked {
+fn check_files<D: Directory>(alloc: Global, directory: &mut D, left: &[Left]) -> Checked {
     for file in left {
-        check_name(alloc, bench, file)?;
+        check_name(alloc, directory, file)?;
     }
     Ok(())
 }
 
 // All that came of a run.
-fn check_run(alloc: Global, bench: &mut CaseBench, run: &Run, seen: &Seen) -> Checked {
+fn check_run<D: Directory>(alloc: Global, directory: &mut D, run: &Run, seen: &Seen) -> Checked {
     let wanted = &run.wanted;
     check_talk(alloc, run.at, wanted.told.as_slice(), wanted, seen)?;
     check_numbers(alloc, wanted, seen)?;
     check_locks(alloc, wanted.held_at, wanted.held, seen.held)?;
-    check_files(alloc, bench, wanted.left.as_slice())
+    check_files(alloc, directory, wanted.left.as_slice())
 }
 
 // Makes the runs one after the other over one directory.

@@ -1,5 +1,5 @@
 //! What crashes leave of an index: each image is a sound start again, with a commit that may stand then.
-use crate::fixtures::{TestBench, empty_bench, source};
+use crate::fixtures::{Shows, TestBench, empty_bench, source};
 use std::alloc::Global;
 use std::process::Abort;
 use tv_directory::Directory;
@@ -127,7 +127,7 @@ fn may_stand(commits: &[Commit], moment: u64, stands: usize) -> bool {
 }
 
 // Whether each file that a crash left is on the list that it left.
-fn lists_each<R: Abort>(rt: &R, alloc: Global, left: TestBench) -> TestBench {
+fn lists_each<R: Abort, D: Directory>(rt: &R, alloc: Global, left: D) -> D {
     let mut managed = match ManagedDirectory::wrap(alloc, left) {
         Ok(managed) => managed,
         Err(_) => panic!(rt; "the list is one"),
@@ -141,12 +141,12 @@ fn lists_each<R: Abort>(rt: &R, alloc: Global, left: TestBench) -> TestBench {
 }
 
 // Which of the openings is told over what a crash left: how many commits of the script stand.
-fn opens<R: Abort>(rt: &R, alloc: Global, left: TestBench) -> usize {
+fn opens<R: Abort, O: Shows>(rt: &R, alloc: Global, left: O) -> usize {
     let store = match IndexStore::open(alloc, left, b"[]") {
         Ok(store) => store,
         Err(_) => panic!(rt; "it is opened"),
     };
-    let heard = store.into_outside().heard_lines().expect(rt, "memory");
+    let heard = store.into_outside().heard().expect(rt, "memory");
     let told = OPENINGS
         .iter()
         .position(|line| line.as_bytes() == heard.as_slice());

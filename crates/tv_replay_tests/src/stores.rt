@@ -138,7 +138,13 @@ fn shows_what_was_written<R: Files<File = File> + Clone + Drop + Abort>(rt: &R, 
     let (_directory, _sink) = store.into_outside().split();
 }
 
-// What a new reader answers once this was written.
+// What a new reader answers.
+fn read<R: Abort, O: Outside>(rt: &R, store: &mut IndexStore<O>) -> Result<Answer, TantivyError> {
+    assert!(rt; store.is_open());
+    store.apply(&Event::Reader(ReloadPolicy::Manual))
+}
+
+// What it answers once this was written.
 fn reads<R: Files<File = File> + Clone + Drop + Abort>(
     rt: &R,
     alloc: Global,
@@ -146,8 +152,7 @@ fn reads<R: Files<File = File> + Clone + Drop + Abort>(
 ) -> Result<Answer, TantivyError> {
     let mut store = open_folder(rt, alloc);
     overwrite(rt, text);
-    assert!(rt; store.is_open());
-    let answer = store.apply(&Event::Reader(ReloadPolicy::Manual));
+    let answer = read(rt, &mut store);
     let (_directory, _sink) = store.into_outside().split();
     answer
 }

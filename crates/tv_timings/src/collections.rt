@@ -1,10 +1,12 @@
 //! Times collections, at once and in steps: how long one takes for each name that it deletes, where it spares as many.
-use crate::segments::{FILES, Store, each, open, percent, start};
+use crate::segments::{FILES, each, open, percent, start};
 use std::alloc::Global;
 use std::process::ExitCode;
 use std::time::{Clock, Instant};
 use tv_base::TantivyError;
+use tv_directory::Outside;
 use tv_model::{Answer, Event};
+use tv_store::IndexStore;
 
 // Of how many segments the files are deleted (1,002, 10,002 and 100,002 names), and how often that is timed. The
 // fastest counts.
@@ -17,7 +19,7 @@ const STEP: u32 = 2;
 // goes with n log n, it takes 170, and more where memory is far; where it goes with the square, 10,000.
 const LIMIT: u64 = 500;
 
-fn apply(store: &mut Store, event: &Event) -> Result<Answer, TantivyError> {
+fn apply<O: Outside>(store: &mut IndexStore<O>, event: &Event) -> Result<Answer, TantivyError> {
     if !store.is_open() {
         return Err(TantivyError::Poisoned);
     }
@@ -30,7 +32,7 @@ fn words(answer: &Answer) -> usize {
 }
 
 // Deletes so many names at once. The answer is `gc deleted`, the names, and `failed`.
-fn at_once(store: &mut Store, names: u32) -> anyhow::Result<()> {
+fn at_once<O: Outside>(store: &mut IndexStore<O>, names: u32) -> anyhow::Result<()> {
     let answer = apply(store, &Event::Gc)?;
     if words(&answer) != names as usize + 3 {
         anyhow::bail!("the collection deleted something else");
@@ -39,7 +41,7 @@ fn at_once(store: &mut Store, names: u32) -> anyhow::Result<()> {
 }
 
 // Deletes so many names one after the other. The first answer is `gc 0` and the names.
-fn in_steps(store: &mut Store, names: u32) -> anyhow::Result<()> {
+fn in_steps<O: Outside>(store: &mut IndexStore<O>, names: u32) -> anyhow::Result<()> {
     let answer = apply(store, &Event::GcBegin)?;
     if words(&answer) != names as usize + 2 {
         anyhow::bail!("the collection took something else");
@@ -52,7 +54,12 @@ fn in_steps(store: &mut Store, names: u32) -> anyhow::Result<()> {
 }
 
 // How many nanoseconds a collection of so many names takes.
-fn time(rt: &impl Clock, store: &mut Store, names: u32, is_stepped: bool) -> anyhow::Result<u128> {
+fn time<R: Clock, O: Outside>(
+    rt: &R,
+    store: &mut IndexStore<O>,
+    names: u32,
+    is_stepped: bool,
+) -> anyhow::Result<u128> {
     let start = Instant::now(rt)?;
     if is_stepped {
         in_steps(store, names)?;

@@ -1,9 +1,11 @@
 //! Times openings and commits: how long each takes for a segment of the commit.
-use crate::segments::{Store, each, open, percent, segment, start};
+use crate::segments::{each, open, percent, segment, start};
 use std::alloc::Global;
 use std::process::ExitCode;
 use std::time::{Clock, Instant};
+use tv_directory::Outside;
 use tv_model::{Event, IdList};
+use tv_store::IndexStore;
 
 // How many segments the commit has.
 const SIZES: [u32; 3] = [1_000, 10_000, 100_000];
@@ -21,7 +23,11 @@ fn commit_all(alloc: Global, count: u32) -> anyhow::Result<Event> {
 }
 
 // How many nanoseconds the next commit of the same segments takes.
-fn time_commit(rt: &impl Clock, store: &mut Store, event: &Event) -> anyhow::Result<u128> {
+fn time_commit<R: Clock, O: Outside>(
+    rt: &R,
+    store: &mut IndexStore<O>,
+    event: &Event,
+) -> anyhow::Result<u128> {
     if !store.is_open() {
         anyhow::bail!("the index is not open");
     }

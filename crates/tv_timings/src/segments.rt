@@ -1,7 +1,7 @@
 //! The indexes that are timed: their segments, the files of these, and their commit.
 use std::alloc::Global;
 use tv_base::TantivyError;
-use tv_directory::{Bench, Directory, NoWatch};
+use tv_directory::{Bench, Directory, NoWatch, Outside};
 use tv_index::{IndexSettings, InnerSegmentMeta, Schema, UntrackedIndexMeta};
 use tv_managed::Refused;
 use tv_model::{FileName, SegmentComponent, SegmentId, segment_file_name};
@@ -16,9 +16,6 @@ pub(crate) const FILES: u32 = 6;
 // A sealed file without a body.
 const EMPTY: &[u8] =
     b"{\"version\":{\"major\":0,\"minor\":26,\"patch\":2,\"index_format_version\":7},\"crc\":0}\x4d\x00\x00\x00\x39\x05\x00\x00";
-
-/// The index in a directory in memory.
-pub(crate) type Store = IndexStore<Bench<NoWatch>>;
 
 /// The segment of this number. Those of higher numbers come later.
 pub(crate) fn segment(number: u32) -> SegmentId {
@@ -35,16 +32,16 @@ fn push_listed(list: &mut Vec<u8>, name: &FileName) -> Result<(), TantivyError> 
 }
 
 // Makes the files of a segment, and adds their names to the list.
-fn add_files(
+fn add_files<D: Directory>(
     alloc: Global,
-    bench: &mut Bench<NoWatch>,
+    directory: &mut D,
     list: &mut Vec<u8>,
     id: SegmentId,
 ) -> Result<(), TantivyError> {
     // The last one is that of the deletes, of which there are none.
     for component in SegmentComponent::iterator().take(FILES as usize) {
         let name = segment_file_name(alloc, id, None, *component)?;
-        bench.atomic_write(name.as_str(), EMPTY)?;
+        directory.atomic_write(name.as_str(), EMPTY)?;
         push_listed(list, &name)?;
     }
     Ok(())
@@ -98,8 +95,11 @@ pub(crate) fn start(alloc: Global, count: u32, step: u32) -> Result<Bench<NoWatc
 }
 
 /// The index that stands in a directory, or a new one.
-pub(crate) fn open(alloc: Global, bench: Bench<NoWatch>) -> Result<Store, TantivyError> {
-    match IndexStore::open(alloc, bench, SCHEMA.as_bytes()) {
+pub(crate) fn open<O: Outside + Drop>(
+    alloc: Global,
+    outside: O,
+) -> Result<IndexStore<O>, TantivyError> {
+    match IndexStore::open(alloc, outside, SCHEMA.as_bytes()) {
         Ok(store) => Ok(store),
         Err(
             Refused {
