@@ -1,26 +1,12 @@
 -- What a recorded call leaves alone of a directory in memory.
-use Rattle.std.proofs.Common.{◌≡◌, ◌≤◌, ◌++◌, ◌∷◌, [], ℕ, List, true, refl, sym, ap, subst, length, arith, if◌then◌else◌}
+use Rattle.std.proofs.Common.{◌≡◌, ◌≤◌, ◌++◌, ◌∷◌, [], ℕ, List, true, sym, ap, subst, length, arith, if◌then◌else◌}
 use Rattle.std.proofs.lemmas.List.{length-append}
 use Rattle.tv_directory.specs.declared.bench.Bench.{Bench}
 use Rattle.tv_directory.specs.Bench.{view_in}
 use Rattle.tv_directory.specs.Ram.{ram_view}
 use Rattle.tv_directory.specs.Record.{has_line_room}
-use Rattle.tv_directory.specs.View.{View, Kept, tells_all}
+use Rattle.tv_directory.specs.View.{Kept, tells_all}
 use Rattle.tv_directory.proofs.Recorded.{room_kept}
-
--- a view keeps what it says
-pub kept_itself : {W : Type 0} (view : View W) → Kept tells_all view view
-kept_itself view = record {
-  frame = record {
-    tells_none = record {
-      deletes_none = record { goes_on = record { writers = λ w is. is; ended = λ t w is lost. lost; clock = omega arith }; refusals = refl; alive = λ t w is. is };
-      heard = refl;
-      room = omega arith;
-    };
-    locks = λ t n. refl;
-  };
-  watched = refl;
-}
 
 -- what the files, locks and watchers keep, and the record, and what was told
 pub kept_in : {C : Type 0} (calls : C → ℕ) (old new : Bench C) → Kept tells_all (ram_view calls old.ram) (ram_view calls new.ram) → new.told ≡ old.told → length old.recorded.calls ≤ length new.recorded.calls
@@ -30,7 +16,7 @@ kept_in calls old new below told later line refusals =
     record {
       frame = record {
         tells_none = record {
-          deletes_none = record { goes_on = record { writers = goes_on.writers; ended = goes_on.ended; clock = later }; refusals = refusals; alive = below.frame.tells_none.deletes_none.alive };
+          deletes_none = record { goes_on = record { writers = goes_on.writers; ended = goes_on.ended; clock = later; refusals = omega (arith, refusals) }; refusals = refusals; alive = below.frame.tells_none.deletes_none.alive };
           heard = ap (λ t. t.0) told;
           room = subst (λ t. (if has_line_room old.recorded then old.told.1 else 0) ≤ (if has_line_room new.recorded then t.1 else 0)) (sym told) (room_kept old.recorded new.recorded old.told.1 line);
         };

@@ -1,12 +1,33 @@
--- What calls keep, one after the other.
-use Rattle.std.proofs.Common.{◌∙◌, arith}
-use Rattle.tv_directory.specs.View.{View, Told, GoesOn, DeletesNone, TellsNone, Frame, Kept}
+-- What calls keep: none, and one after the other.
+use Rattle.std.proofs.Common.{refl, ◌∙◌, arith}
+use Rattle.tv_directory.specs.View.{View, Told, GoesOn, DeletesNone, TellsNone, Frame, Kept, OnlyReads}
+
+-- a view goes on from itself
+pub goes_on_itself : {W : Type 0} (told : Told) (view : View W) → GoesOn told view view
+goes_on_itself told view = record { writers = λ w o. o; ended = λ t w o l. l; clock = omega arith; refusals = omega arith }
+
+pub kept_itself : {W : Type 0} (told : Told) (view : View W) → Kept told view view
+kept_itself told view = record {
+  frame = record {
+    tells_none = record {
+      deletes_none = record { goes_on = goes_on_itself told view; refusals = refl; alive = λ t w l. l };
+      heard = refl;
+      room = omega arith;
+    };
+    locks = λ t n. refl;
+  };
+  watched = refl;
+}
+
+pub reads_itself : {W : Type 0} (told : Told) (view : View W) → OnlyReads told view view
+reads_itself told view = record { kept = kept_itself told view; content = λ t n. refl }
 
 pub goes_then : {W : Type 0} {told : Told} {first next last : View W} → GoesOn told first next → GoesOn told next last → GoesOn told first last
 goes_then before after = record {
   writers = λ w o. after.writers w (before.writers w o);
   ended = λ t w o l. after.ended t w (before.writers w o) (before.ended t w o l);
   clock = omega (arith, before.clock, after.clock);
+  refusals = omega (arith, before.refusals, after.refusals);
 }
 
 pub deletes_then : {W : Type 0} {told : Told} {first next last : View W} → DeletesNone told first next → DeletesNone told next last → DeletesNone told first last
@@ -33,4 +54,10 @@ pub kept_then : {W : Type 0} {told : Told} {first next last : View W} → Kept t
 kept_then before after = record {
   frame = frame_then before.frame after.frame;
   watched = after.watched ∙ before.watched;
+}
+
+pub reads_then : {W : Type 0} {told : Told} {first next last : View W} → OnlyReads told first next → OnlyReads told next last → OnlyReads told first last
+reads_then before after = record {
+  kept = kept_then before.kept after.kept;
+  content = λ t n. after.content t n ∙ before.content t n;
 }

@@ -45,11 +45,12 @@ pub record WriterState : Type 0 where
   pub name : List ℕ
   pub written : List ℕ
 
--- What every call keeps: writers may still be handed in, and what was deleted stays so; time doesn't go back.
+-- What every call keeps: writers may still be handed in, and what was deleted stays so; time doesn't go back, nor does the count of refused deletes.
 pub record GoesOn {W : Type 0} (told : Told) (old new : View W) : Type 0 where
   pub writers : (w : W) → old.opened w ≡ true → new.opened w ≡ true
   pub ended : told.content → (w : W) → old.opened w ≡ true → old.lives w ≡ false → new.lives w ≡ false
   pub clock : old.moment ≤ new.moment
+  pub refusals : old.refusals ≤ new.refusals
 
 -- and no writer lost its file, and no delete was refused
 pub record DeletesNone {W : Type 0} (told : Told) (old new : View W) : Type 0 where

@@ -5,8 +5,9 @@ use Rattle.std.specs.BTreeMap.{insert_entry}
 use Rattle.std.proofs.lemmas.List.Sorted.{IsPermutation-sym, IsPermutation-trans}
 use Rattle.tv_model.specs.Names.{byte_cmp}
 use Rattle.tv_model.specs.Commits.{Commit}
+use Rattle.tv_model.proofs.OneMeaning.{one_permutation}
 use Rattle.tv_index.specs.TrackedMetas.{IsInOrder, put_all}
-use Rattle.tv_index.proofs.InOrder.{Entry, InIdOrder, in_order_put, one_permutation, stands_once}
+use Rattle.tv_index.proofs.InOrder.{Entry, InIdOrder, in_order_put, stands_once}
 use Rattle.tv_index.proofs.SegmentForms.{moved, no_order}
 
 put_after : (es found all : List Entry) → InIdOrder found → IsPermutation (found ++ es) all → InIdOrder all → put_all found es ≡ all

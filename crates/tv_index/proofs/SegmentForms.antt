@@ -14,9 +14,10 @@ use Rattle.tv_model.specs.JsonFields.{field, u32_of, u64_of, id_of, IsOptional}
 use Rattle.tv_model.specs.MetaJson.{IsDeleteMeta, SpellsSegment, SpellEach, SpellSegments}
 use Rattle.tv_model.specs.Segments.{num_deleted}
 use Rattle.tv_model.specs.State.{at}
+use Rattle.tv_model.proofs.OneMeaning.{one_permutation}
 use Rattle.tv_index.specs.Segments.{unless_null, optional, delete_meta_of, if_within, segment_of, gathered}
 use Rattle.tv_index.proofs.Options.{and_then_some, map_some, and_then_is, where_some, unless_some}
-use Rattle.tv_index.proofs.InOrder.{Entry, InIdOrder, in_order_put, put_among, stands_once, one_permutation}
+use Rattle.tv_index.proofs.InOrder.{Entry, InIdOrder, in_order_put, put_among, stands_once}
 
 -- ---- a field that may be left out
 

@@ -32,7 +32,7 @@ told (name ∷ names) [] n = grind arith
 told (name ∷ names) (true ∷ outcomes) n = grind (arith, told names outcomes n)
 told (name ∷ names) (false ∷ outcomes) n = grind (arith, told names outcomes n)
 
-failed_within : (names : List (List ℕ)) (outcomes : List Bool) (n : List ℕ) → has (failed_of names outcomes) n ≡ true → has names n ≡ true
+pub failed_within : (names : List (List ℕ)) (outcomes : List Bool) (n : List ℕ) → has (failed_of names outcomes) n ≡ true → has names n ≡ true
 failed_within names outcomes n h = told names outcomes n ∙ or_right (has (done_of names outcomes) n) _ h
 
 -- and not both, where names stand once

@@ -115,7 +115,7 @@ moved_collecting s id segment move h =
     (λ n is none. none) h.sorted h
 
 -- the name of a component is among those of its segment
-name_among : (id : List ℕ) (deletes : Option DeleteMeta) (component : SegmentComponent) → has (map (name_of id deletes) components) (name_of id deletes component) ≡ true
+pub name_among : (id : List ℕ) (deletes : Option DeleteMeta) (component : SegmentComponent) → has (map (name_of id deletes) components) (name_of id deletes component) ≡ true
 name_among id deletes Postings = grind (arith, is_itself (name_of id deletes Postings))
 name_among id deletes Positions = grind (arith, is_itself (name_of id deletes Positions))
 name_among id deletes FastFields = grind (arith, is_itself (name_of id deletes FastFields))

@@ -67,7 +67,7 @@ mutual
 -- ---- a text that is read inside an array too nests one level less than is read
 
 -- tokens are those of one value
-one_tree : (i j : json.Json) → json_tokens i ≡ json_tokens j → i ≡ j
+pub one_tree : (i j : json.Json) → json_tokens i ≡ json_tokens j → i ≡ j
 one_tree i j e =
     let n = max (depth i) (depth j) in
     let left : json.value n (json_tokens i ++ []) ≡ Some (i, []) = value-json_tokens i n [] (omega arith) in
@@ -91,7 +91,7 @@ bracket_printable : ArePrintable (begin_array ∷ [])
 unfolding ArePrintable
 bracket_printable = (tt, tt)
 
-abbrev bracketed : json.Json → json.Json
+abbrev pub bracketed : json.Json → json.Json
 bracketed j = json.array (json.item j json.no_items)
 
 inner_tokens : (rest : List ℕ) (j : json.Json) → tokens (91 ∷ rest) ≡ json_tokens j → HasNumbers j

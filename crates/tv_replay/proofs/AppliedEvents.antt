@@ -31,11 +31,11 @@ use Rattle.tv_model.proofs.SoundOpenings.{sound_index, opens_managed_sorted}
 use Rattle.tv_store.specs.OpeningCauses.{IsSomeSchema}
 use Rattle.tv_model.proofs.OpenedStates.{opens_sound}
 use Rattle.tv_model.specs.Script.{line_limit, lines_of, Fits}
-use Rattle.tv_model.specs.SoundStates.{IsWhole, IsSoundState}
-use Rattle.tv_model.proofs.SoundStates.{step_sound, holds_sound}
+use Rattle.tv_model.specs.SoundStates.{IsWhole}
+use Rattle.tv_model.proofs.SoundStates.{holds_sound}
 use Rattle.tv_model.proofs.HeldStates.{nothing_held}
 use Rattle.tv_model.proofs.WholeStates.{after_whole}
-use Rattle.tv_model.proofs.Serving.{serves, serves_as_sealed}
+use Rattle.tv_model.proofs.Serving.{serves, serves_as_sealed, sound_after}
 use Rattle.tv_model.proofs.Collects.{collects_in}
 use Rattle.tv_model.proofs.CollectsInSteps.{collects_in_steps_in}
 use Rattle.tv_model.proofs.Validating.{validates}
@@ -105,10 +105,6 @@ tells_by {from = from} {mid = mid} to le ts = record { pieces = ts.pieces; heard
 fits-last : (events : List Event) (e : Event) → AllByRecursion Fits events → Fits e → AllByRecursion Fits (events ++ e ∷ [])
 fits-last [] e all fits = (fits, tt)
 fits-last (first ∷ events) e all fits = (all.0, fits-last events e all.1 fits)
-
-pub turns_sound : (s : State) (turns : List Turn) → AllByRecursion Fits (events_of turns) → IsSoundState s → IsSoundState (after s turns)
-turns_sound s [] all h = h
-turns_sound s (t ∷ turns) all h = turns_sound (step s t.0 t.1).1 turns all.1 (step_sound s t.0 t.1 all.0 h)
 
 -- ---- how long files are
 
@@ -468,7 +464,7 @@ replays g before schema mid new now text left tally opened said refusals holds h
           let as_text : IsSoundImage index.form.schema old_reads = subst (λ (x : List ℕ). IsSoundImage x old_reads) same sound in
           let start = opens_sound index.form.settings index.form.schema old_reads index.state as_text index.opens in
           subst (λ (x : List ℕ). IsSoundImage x (g.view now).reads) (sym same)
-          (holds_sound index.form.settings index.form.schema (g.view now).reads (after index.state r.turns) (stands t index) (turns_sound index.state r.turns r.applied.fits start));
+          (holds_sound index.form.settings index.form.schema (g.view now).reads (after index.state r.turns) (stands t index) (sound_after index.state r.turns r.applied.fits start));
     }
 
 -- what follows from two things that are true of an error

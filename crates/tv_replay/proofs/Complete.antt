@@ -33,6 +33,7 @@ use Rattle.tv_model.specs.Meaning.{Means, MeansOther, MeansNothing}
 use Rattle.tv_model.specs.Schemas.{IsSchema}
 use Rattle.tv_model.specs.Index.{FindsCommit, FoundIndex, HasFiles, IsSoundImage, IsSoundMeta}
 use Rattle.tv_model.specs.Script.{line_limit, lines_of, Fits, IsLine, AreLines}
+use Rattle.tv_model.proofs.Serving.{sound_after}
 use Rattle.tv_replay.specs.ScriptLines.{IsNoEvent, IsTooLong}
 use Rattle.tv_index.specs.Opening.{OfBytes, OpenCause}
 use Rattle.tv_store.specs.StoreCauses.{WriteFault, writer_lock_name}
@@ -45,7 +46,7 @@ use Rattle.tv_store.specs.Applying.{MeetsBadAt}
 use Rattle.tv_replay.specs.Replays.{ReplayCause, RefusesOpening, StopsFor, StopsReplay, StopsRunning, StopsAtLine, LineRefusal}
 use Rattle.tv_replay.specs.Completeness.{IsScript, IsReady}
 use Rattle.tv_replay.proofs.Progress.{AreLines-length}
-use Rattle.tv_replay.proofs.AppliedEvents.{mapped, turns_sound}
+use Rattle.tv_replay.proofs.AppliedEvents.{mapped}
 
 -- the event whose line stands after some others
 event_there : (texts : List (List ℕ)) (text : List ℕ) (more : List (List ℕ)) (events : List Event) → AreLines (texts ++ text ∷ more) events → (event : Event) × IsLine text event
@@ -227,7 +228,7 @@ only_memory g before now schema script script_now busy refused quiet (errors.Ope
       let as_text : IsSoundImage index.form.schema (g.view before).reads = subst (λ (x : List ℕ). IsSoundImage x (g.view before).reads) (ready.spelled.text_is ∙ sym index.spelled.text_is) ready.sound.image in
       let start = opens_sound index.form.settings index.form.schema (g.view before).reads index.state as_text index.opens in
       no_read_fault refused quiet script.left index.state stop.turns (g.told.locks → (g.view before).locks meta_lock_name ≡ true) (g.told.locks → (g.view before).locks meta_lock_name ≡ false) error f
-      (turns_sound index.state stop.turns fit start) h.2 stop.cause
+      (sound_after index.state stop.turns fit start) h.2 stop.cause
 only_memory g before now schema script script_now busy refused quiet (errors.LockFailure lock.LockBusy text) t ready y f h stops = absurd (y h.2)
 only_memory g before now schema script script_now busy refused quiet (errors.LockFailure (lock.IoError fault) text) t ready y f h stops = absurd (f h.2.1)
 only_memory g before now schema script script_now busy refused quiet (errors.LockFailure lock.Memory text) t ready y f h stops = absurd h.2

@@ -7,18 +7,19 @@ use Rattle.tv_base.specs.declared.error.TantivyError.TheVariants as errors
 use Rattle.tv_base.specs.declared.open_errors.LockError.TheVariants as lock
 use Rattle.tv_base.specs.declared.open_errors.OpenReadError.{OpenReadError}
 use Rattle.tv_model.specs.Names.{meta_name}
-use Rattle.tv_model.specs.Files.{Reads, Heard, Rose}
+use Rattle.tv_model.specs.Files.{Reads, Heard, Rose, RoseBy}
 use Rattle.tv_model.specs.Commits.{IndexForm}
 use Rattle.tv_model.specs.Meaning.{Means, MeansNothing, MeansOther}
 use Rattle.tv_model.specs.State.{State}
 use Rattle.tv_model.specs.Lines.{opening_of}
 use Rattle.tv_model.specs.declared.event.Event.{Event}
-use Rattle.tv_model.specs.Machine.{Turn, step, answers, report, after, events_of}
+use Rattle.tv_model.specs.Machine.{Turn, step, answers, report, after, events_of, all_refused}
 use Rattle.tv_model.specs.Readable.{AllReadGood}
 use Rattle.tv_model.specs.SoundStates.{IsWhole}
 use Rattle.tv_model.proofs.WholeStates.{after_whole}
 use Rattle.tv_directory.specs.Locks.{Locks, TakesLock}
-use Rattle.tv_directory.specs.View.{View, Told}
+use Rattle.tv_directory.specs.View.{View, Told, GoesOn}
+use Rattle.tv_directory.proofs.Views.{goes_on_itself}
 use Rattle.tv_directory.specs.declared.directory.Directory.{Ghosts}
 use Rattle.tv_managed.specs.Collecting.{meta_lock_name}
 use Rattle.tv_store.specs.Kept.{StoreState, Holds}
@@ -49,6 +50,7 @@ module _ {W : Type 0} (told : Told) (run : RunFrom) (first new : View W) (script
     pub lines : (whole : List ℕ) → run.script.left ≡ Some whole → BeginsWith whole (events_of turns)
     pub read : (Rose run.script.faults script_now.faults → ⊥) → (whole : List ℕ) → run.script.left ≡ Some whole → (begun : BeginsWith whole (events_of turns)) × IsAhead begun.rest script_now.left
     pub heard : told.heard → HearsTurns run first new turns
+    pub deletes : RoseBy (all_refused turns) first.refusals new.refusals
     pub readable : AllReadGood run.start turns
     pub unlocked : told.locks → first.locks meta_lock_name ≡ true → TakesNoLock run.start turns
     pub text : List ℕ
@@ -67,6 +69,7 @@ module _ {W : Type 0} (told : Told) (run : RunFrom) (first new : View W) (script
     lines = λ whole given. subst (λ (ts : List Turn). BeginsWith whole (events_of ts)) (sym (append-nil turns)) (s.lines whole given);
     read = s.read;
     heard = s.heard;
+    deletes = s.deletes;
     readable = s.readable;
     unlocked = s.unlocked;
     text = s.text;
@@ -94,6 +97,7 @@ module _ {W : Type 0} (told : Told) (run : RunFrom) (first new : View W) (script
         lines = λ whole given. subst (λ (es : List Event). BeginsWith whole es) (sym (events-last turns turn)) (next whole given);
         read = s.read;
         heard = s.heard;
+        deletes = s.deletes;
         readable = s.readable;
         unlocked = s.unlocked;
         text = text;
@@ -101,6 +105,11 @@ module _ {W : Type 0} (told : Told) (run : RunFrom) (first new : View W) (script
         means = subst (λ (after_all : State). Means run.form.settings run.form.schema text after_all.catalog.commit) (sym (after-last run.start turns turn)) means;
         cause = s.cause;
       }
+
+-- a count that rose by so much did so too where it went on since
+rose_since : (n : ℕ) {before now new : ℕ} → RoseBy n before now → now ≤ new → RoseBy n before new
+rose_since n (inl a) le = inl (omega arith)
+rose_since n (inr a) le = inr (omega arith)
 
 -- memory was wanted, or something else was amiss
 memory_or : (error : TantivyError) → (error ≡ errors.Memory) ⊎ (error ≢ errors.Memory)
@@ -121,15 +130,16 @@ module _ {O W C : Type 0} (g : Ghosts O W C) (old now new : StoreState O) (scrip
   abbrev pub Free : Type 0
   Free = g.told.locks → (g.view old.outside).locks meta_lock_name ≡ false
 
-  stands : g.told.content → (s : State) → Holds (g.view old.outside).reads old.kept s → IsWhole s → Ahead → (g.view now.outside).moment ≤ (g.view new.outside).moment
+  stands : g.told.content → (s : State) → Holds (g.view old.outside).reads old.kept s → IsWhole s → Ahead → GoesOn g.told (g.view now.outside) (g.view new.outside)
       → (g.told.heard → TellsNoLine (g.view now.outside).heard (g.view new.outside).heard) → StopsFor script.left s p.turns Held Free error
       → Stands g.told (since s) (g.view old.outside) (g.view new.outside) script_now error p.turns ((g.view now.outside).reads meta_name)
-  stands t s h w ahead clock silent cause =
+  stands t s h w ahead goes_on silent cause =
       let held = p.applied.holds t s h w in
       record {
         lines = λ whole given. (p.read whole given).begun;
         read = λ quiet whole given. let r = p.read whole given in (r.begun, ahead quiet r.begun.rest r.left_is);
-        heard = λ th. record { so_far = (g.view now.outside).heard; moment = (g.view now.outside).moment; lines = p.applied.told t th s h w; sooner = clock; silent = silent th };
+        heard = λ th. record { so_far = (g.view now.outside).heard; moment = (g.view now.outside).moment; lines = p.applied.told t th s h w; sooner = goes_on.clock; silent = silent th };
+        deletes = rose_since (all_refused p.turns) p.applied.refused goes_on.refusals;
         readable = p.applied.readable t s h w;
         unlocked = λ locks busy. p.applied.unlocked t locks busy s h w;
         text = held.meta.0;
@@ -140,18 +150,18 @@ module _ {O W C : Type 0} (g : Ghosts O W C) (old now new : StoreState O) (scrip
 
   -- the run stopped in an event
   pub stops_in : (later : Option (List ℕ)) (event : Event) → TakesNextEvent left (Some event) later → Ahead
-      → (g.view now.outside).faults ≡ (g.view old.outside).faults → (g.view now.outside).moment ≤ (g.view new.outside).moment
+      → (g.view now.outside).faults ≡ (g.view old.outside).faults → GoesOn g.told (g.view now.outside) (g.view new.outside)
       → (g.told.heard → TellsNoLine (g.view now.outside).heard (g.view new.outside).heard)
       → (g.told.content → (s : State) → Holds (g.view now.outside).reads now.kept s → IsWhole s → LeavesOldOrNew (Rose (g.view now.outside).faults (g.view new.outside).faults) ((g.view now.outside).reads meta_name) ((g.view new.outside).reads meta_name) now.kept.form s event)
       → (g.told.content → error ≡ errors.Memory → (g.view new.outside).reads meta_name ≡ (g.view now.outside).reads meta_name)
       → (g.told.content → (s : State) → Holds (g.view now.outside).reads now.kept (after s p.turns) → IsWhole (after s p.turns) → StopsFor script.left s p.turns Held Free error)
       → StopsRun g old new script script_now error
-  stops_in later event takes ahead quiet clock silent leaves memory cause t s h w =
+  stops_in later event takes ahead quiet goes_on silent leaves memory cause t s h w =
       let there = p.applied.holds t s h w in
       let whole = after_whole s p.turns w in
       let l = leaves t (after s p.turns) there whole in
       left_ahead g.told (since s) (g.view old.outside) (g.view new.outside) script_now error (Rose (g.view now.outside).faults (g.view new.outside).faults) p.turns ((g.view now.outside).reads meta_name) event l.0
-      (stands t s h w ahead clock silent (cause t s there whole))
+      (stands t s h w ahead goes_on silent (cause t s there whole))
       (begins_next script.left left later p.turns event p.read takes) (λ rose. subst (λ (n : ℕ). Rose n (g.view new.outside).faults) quiet rose) (memory t) (memory_or error)
       (subst (λ (form : IndexForm). LeavesCommit (Rose (g.view now.outside).faults (g.view new.outside).faults) ((g.view now.outside).reads meta_name) ((g.view new.outside).reads meta_name) form (step (after s p.turns) event l.0).1.catalog.commit) p.applied.form l.1)
 
@@ -161,7 +171,7 @@ pub stops_between : {O W C : Type 0} (g : Ghosts O W C) (old now : StoreState O)
     → ((s : State) → StopsFor script.left s p.turns (g.told.locks → (g.view old.outside).locks meta_lock_name ≡ true) (g.told.locks → (g.view old.outside).locks meta_lock_name ≡ false) error) → StopsRun g old now script script_now error
 stops_between g old now script script_now left count error p ahead cause t s h w =
     stays g.told (since g old now now script script_now left count error p s) (g.view old.outside) (g.view now.outside) script_now error p.turns ((g.view now.outside).reads meta_name)
-    (stands g old now now script script_now left count error p t s h w ahead (omega arith) (λ th. inl refl) (cause s)) refl
+    (stands g old now now script script_now left count error p t s h w ahead (goes_on_itself g.told (g.view now.outside)) (λ th. inl refl) (cause s)) refl
 
 -- nothing was read beyond
 pub nothing_ahead : (left : Option (List ℕ)) → ReadsAhead (pending [] left) left
@@ -237,9 +247,9 @@ meta_since start opened took = took.others meta_lock_name names_differ
 -- a run that stopped, seen from before the opening line
 pub stops_report : {W : Type 0} (told : Told) (given form : IndexForm) (script script_now : SourceView) (s : State) (first opened new now : View W) (error : TantivyError)
     → given ≡ form → (told.heard → TellsLine first.heard opened.heard first.moment opened.moment (opening_of s.catalog.commit)) → (told.locks → TakesLock first.locks opened.locks writer_lock_name)
-    → opened.faults ≡ first.faults → now.faults ≡ new.faults → now.heard ≡ new.heard → new.moment ≤ now.moment → now.reads meta_name ≡ new.reads meta_name
+    → opened.faults ≡ first.faults → opened.refusals ≡ first.refusals → now.refusals ≡ new.refusals → now.faults ≡ new.faults → now.heard ≡ new.heard → new.moment ≤ now.moment → now.reads meta_name ≡ new.reads meta_name
     → StopsAt told (record { form = given; script = script; start = s; lines_of_turns = answers s }) opened new script_now error → StopsAt told (record { form = form; script = script; start = s; lines_of_turns = report s }) first now script_now error
-stops_report told given form script script_now s first opened new now error form_is line took quiet same heard_is clock meta_is l = record {
+stops_report told given form script script_now s first opened new now error form_is line took quiet none_before none_since same heard_is clock meta_is l = record {
   turns = l.turns;
   ahead = l.ahead;
   one = l.one;
@@ -256,6 +266,7 @@ stops_report told given form script script_now s first opened new now error form
         sooner = omega (arith, heard.sooner, clock);
         silent = subst (λ (h : Heard). TellsNoLine heard.so_far h) (sym heard_is) heard.silent;
       };
+  deletes = subst (λ (n : ℕ). RoseBy (all_refused l.turns) n now.refusals) none_before (subst (λ (n : ℕ). RoseBy (all_refused l.turns) opened.refusals n) (sym none_since) l.deletes);
   readable = l.readable;
   unlocked = λ locks held. l.unlocked locks (meta_since first.locks opened.locks (took locks) ∙ held);
   text = l.text;

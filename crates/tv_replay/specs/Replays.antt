@@ -170,6 +170,8 @@ pub record StopsAt {W : Type 0} (told : Told) (run : RunFrom) (before now : View
   -- and beyond the lines of the events that were told no more was read than a line may have, and one byte, unless a read was refused
   pub read : (Rose run.script.faults script_now.faults → ⊥) → (text : List ℕ) → run.script.left ≡ Some text → (begun : BeginsWith text (events_of turns)) × IsAhead begun.rest script_now.left
   pub heard : told.heard → HearsTurns run before now turns
+  -- no more deletes were refused in them than their count rose
+  pub deletes : RoseBy (all_refused turns) before.refusals now.refusals
   -- each event before that reads a commit's files could do so, and none takes the meta lock where that is held
   pub readable : AllReadGood run.start turns
   pub unlocked : told.locks → before.locks meta_lock_name ≡ true → TakesNoLock run.start turns

@@ -118,7 +118,7 @@ returns-in_err-_answer-clause-stops g c =
     let few : c.loop-events.events < 2 ^ 32 = omega (arith, c.loop-events-test.true) in
     let e = err_from_is_err_and c.from_residual-in_err-_answer.result c.from_residual-in_err-_answer.ensures.1 in
     let failed = c.in_err-_answer.ensures in
-    rw (e.1, e.2) (stops_in g.O.Directory c.args.store.now c.loop-events.store c.apply.new.self (g.R.Source.view c.args.script.now) (g.R.Source.view c.next_event.new.source) _ _ c.in_err-_answer.field-0.0 run _ event taken (λ quiet. c.in-Ok-Some.ensures.ahead.ok) before.quiet.0 failed.frame.goes_on.clock failed.tells.err failed.leaves.meta failed.leaves.memory
+    rw (e.1, e.2) (stops_in g.O.Directory c.args.store.now c.loop-events.store c.apply.new.self (g.R.Source.view c.args.script.now) (g.R.Source.view c.next_event.new.source) _ _ c.in_err-_answer.field-0.0 run _ event taken (λ quiet. c.in-Ok-Some.ensures.ahead.ok) before.quiet.0 failed.frame.goes_on failed.tells.err failed.leaves.meta failed.leaves.memory
     (λ tells s held whole. event_stops text s run.turns _ _ (Rose (g.O.Directory.view c.loop-events.store.outside).faults (g.O.Directory.view c.apply.new.self.outside).faults) ((g.O.Directory.view c.apply.new.self.outside).faults ≡ (g.O.Directory.view c.loop-events.store.outside).faults)
     (ReadsCommit c.loop-events.store.kept.catalog event) g.O.Directory.told.content c.loop-events.store.kept.form.schema ((g.O.Directory.view c.loop-events.store.outside).reads meta_name)
     {busy = TakesMetaLock c.loop-events.store.kept.catalog event × IsBusy g.O.Directory.told.locks ((g.O.Directory.view c.loop-events.store.outside).locks meta_lock_name ≡ true) (Rose (g.O.Directory.view c.loop-events.store.outside).faults (g.O.Directory.view c.apply.new.self.outside).faults)}

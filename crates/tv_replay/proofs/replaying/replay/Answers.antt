@@ -130,7 +130,7 @@ returns-clause-stops g c =
           let held = opened.opens.holds tells index in
           stops_report D.told store.kept.form index.form script script_now index.state before mid new now error
           held.0 (λ th. subst (λ (commit : Commit). TellsLine before.heard mid.heard before.moment mid.moment (opening_of commit)) (ap (λ (catalog : Catalog). catalog.commit) held.1.catalog) (opened.tells.ok th))
-          opened.locks.ok opened.faults.quiet freed.frees.faults
+          opened.locks.ok opened.faults.quiet opened.frame.ok.deletes_none.refusals freed.frees.frame.tells_none.deletes_none.refusals freed.frees.faults
           freed.frees.frame.tells_none.heard freed.frees.frame.tells_none.deletes_none.goes_on.clock (freed.frees.frame.content tells meta_name) (stopped tells index.state held.1 (reads_whole index held.2));
     }))
     c.apply_all-outcome.ensures.stops

@@ -3,8 +3,10 @@ use Rattle.tv_model.specs.Disk.{Sealed}
 use Rattle.tv_directory.specs.Bench.{disk_in}
 use Rattle.tv_directory.specs.Ram.{ram_lives, ram_states, ram_view}
 use Rattle.tv_directory.specs.Record.{RecordedRefused}
+use Rattle.tv_directory.specs.View.{tells_all}
 use Rattle.tv_directory.proofs.Recorded.{kept_by, made_there, may_add, replaced_by}
-use Rattle.tv_directory.proofs.Benches.{kept_in, kept_itself, longer_by}
+use Rattle.tv_directory.proofs.Benches.{kept_in, longer_by}
+use Rattle.tv_directory.proofs.Views.{kept_itself}
 use Rattle.tv_directory.proofs.bench_directory.BenchDirectory.terminate.Goals as goal
 
 pub returns-in_err-record_refused_where-clause-images : goal.returns-in_err-record_refused_where-clause-images
@@ -46,13 +48,13 @@ pub returns-then-refuses-clause-frame : goal.returns-then-refuses-clause-frame
 returns-then-refuses-clause-frame g c =
     let wrote = c.record_refused_where.ensures in
     let later : length c.args.self.now.recorded.calls ≤ length c.record_refused_where.new.self.recorded.calls = search rules in
-    kept_in _ c.args.self.now (record c.record_refused_where.new.self { device = c.fault.new.self }) (rw (ap (λ b. b.ram) wrote.others) (kept_itself (ram_view g.C.WatchCall.calls c.args.self.now.ram))) (ap (λ b. b.told) wrote.others) later wrote.room (search rules)
+    kept_in _ c.args.self.now (record c.record_refused_where.new.self { device = c.fault.new.self }) (rw (ap (λ b. b.ram) wrote.others) (kept_itself tells_all (ram_view g.C.WatchCall.calls c.args.self.now.ram))) (ap (λ b. b.told) wrote.others) later wrote.room (search rules)
 
 pub returns-in_err-name-clause-frame : goal.returns-in_err-name-clause-frame
 returns-in_err-name-clause-frame g c =
     let same = c.before-2.ensures in
     let later : length c.args.self.now.recorded.calls ≤ length c.before-2.new.self.recorded.calls = search rules in
-    kept_in _ c.args.self.now c.before-2.new.self (rw (ap (λ b. b.ram) same.others) (kept_itself (ram_view g.C.WatchCall.calls c.args.self.now.ram))) (ap (λ b. b.told) same.others) later same.line (search rules)
+    kept_in _ c.args.self.now c.before-2.new.self (rw (ap (λ b. b.ram) same.others) (kept_itself tells_all (ram_view g.C.WatchCall.calls c.args.self.now.ram))) (ap (λ b. b.told) same.others) later same.line (search rules)
 
 pub returns-in_err-terminate-clause-frame : goal.returns-in_err-terminate-clause-frame
 returns-in_err-terminate-clause-frame g c =
