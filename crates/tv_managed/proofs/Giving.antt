@@ -10,9 +10,9 @@ use Rattle.tv_base.specs.declared.open_errors.DeleteError.{DeleteError}
 use Rattle.tv_base.specs.declared.open_errors.DeleteError.TheVariants as delete
 use Rattle.tv_directory.specs.Images.{DeletesState, KeepsDisk, KeepsOtherStates}
 use Rattle.tv_directory.specs.declared.directory.Directory.{Ghosts}
-use Rattle.tv_managed.specs.Crashes.{IsCovered, IsTracked, KeepsTrack, SettlesStates, LeavesSafely, MayAddBoth}
+use Rattle.tv_managed.specs.Crashes.{Gains, IsCovered, IsGiven, IsNewList, IsTracked, KeepsTrack, SettlesStates, LeavesSafely}
 use Rattle.tv_managed.specs.Names.{ManagedNames, done_names}
-use Rattle.tv_managed.proofs.Touching.{gained_more, gained_none, gained_one, gained_run, gained_then, keeps_same}
+use Rattle.tv_managed.proofs.Touching.{gained_more, gained_one, gained_then}
 use Rattle.tv_managed.proofs.Tracking.{covered_within, fewer, track_file}
 
 -- a call that only reads, and begins with the struct taken apart
@@ -45,33 +45,12 @@ track_deleted g time adds stays other was = track_file g time adds other (λ und
 
 -- ---- states of a file and of the list
 
--- the list may have its name, and then it is made
-pub both_states : {old asked mid new : Disk} {name : List ℕ} {state list : DiskState} → KeepsDisk old asked → Throughout (λ possible. MayAdd (possible_now asked) possible list_name list) asked mid → Elapses mid new → MayAdd (possible_now mid) (possible_now new) name state
-    → Throughout (λ possible. MayAddBoth (possible_now old) possible name state list) old new
-both_states asks listed time adds =
-    weaker (gained_then (gained_then (gained_none _ asks) (gained_more (λ n s it. inr it) (gained_run listed))) (gained_more (λ n s it. inl it) (gained_one time adds)))
-    (λ p gains. record { each = λ n s is. gains.each n s is })
-
--- the list alone may have it
-pub list_states : {old asked mid : Disk} (name : List ℕ) (state : DiskState) {list : DiskState} → KeepsDisk old asked → Throughout (λ possible. MayAdd (possible_now asked) possible list_name list) asked mid → Throughout (λ possible. MayAddBoth (possible_now old) possible name state list) old mid
-list_states name state asks listed = weaker (gained_then (gained_none _ asks) (gained_more (λ n s it. inr it) (gained_run listed))) (λ p gains. record { each = λ n s is. gains.each n s is })
-
--- or neither
-pub no_states : {old asked : Disk} (name : List ℕ) (state list : DiskState) → KeepsDisk old asked → Throughout (λ possible. MayAddBoth (possible_now old) possible name state list) old asked
-no_states name state list asks = weaker (gained_none _ asks) (λ p gains. record { each = λ n s is. gains.each n s is })
-
--- what both may be, where the call begins with the struct taken apart
-pub both_from : {D W C : Type 0} (g : Ghosts D W C) (old : D × ManagedNames) {mid inside : D × ManagedNames} {new : D} {name : List ℕ} {state list : DiskState} → inside ≡ mid → Throughout (λ possible. MayAdd (possible_now (g.disk old.0)) possible list_name list) (g.disk old.0) (g.disk mid.0)
-    → Elapses (g.disk inside.0) (g.disk new) → MayAdd (possible_now (g.disk inside.0)) (possible_now (g.disk new)) name state → Throughout (λ possible. MayAddBoth (possible_now (g.disk old.0)) possible name state list) (g.disk old.0) (g.disk new)
-both_from g old {mid} {inside} {new} {name} {state} same listed time adds =
-    both_states (keeps_same (g.disk old.0)) listed (subst (λ v. Elapses (g.disk v.0) (g.disk new)) same time) (subst (λ v. MayAdd (possible_now (g.disk v.0)) (possible_now (g.disk new)) name state) same adds)
-
--- the same after a call that only read
-pub asked_from : {D W C : Type 0} (g : Ghosts D W C) (old asked : D × ManagedNames) {mid inside : D × ManagedNames} {new : D} {name : List ℕ} {state list : DiskState} → inside ≡ mid → KeepsDisk (g.disk old.0) (g.disk asked.0)
-    → Throughout (λ possible. MayAdd (possible_now (g.disk asked.0)) possible list_name list) (g.disk asked.0) (g.disk mid.0)
-    → Elapses (g.disk inside.0) (g.disk new) → MayAdd (possible_now (g.disk inside.0)) (possible_now (g.disk new)) name state → Throughout (λ possible. MayAddBoth (possible_now (g.disk old.0)) possible name state list) (g.disk old.0) (g.disk new)
-asked_from g old asked {new = new} {name} {state} same asks listed time adds =
-    both_states asks listed (subst (λ v. Elapses (g.disk v.0) (g.disk new)) same time) (subst (λ v. MayAdd (possible_now (g.disk v.0)) (possible_now (g.disk new)) name state) same adds)
+-- the list may have its name, and then it is made, where the call begins with the struct taken apart
+pub both_from : {D W C : Type 0} (g : Ghosts D W C) (old : D × ManagedNames) {mid inside : D × ManagedNames} {new : D} {name : List ℕ} {state : DiskState} → inside ≡ mid → Throughout (Gains (IsNewList old.1 name) (possible_now (g.disk old.0))) (g.disk old.0) (g.disk mid.0)
+    → Elapses (g.disk inside.0) (g.disk new) → MayAdd (possible_now (g.disk inside.0)) (possible_now (g.disk new)) name state → Throughout (Gains (IsGiven old.1 name state) (possible_now (g.disk old.0))) (g.disk old.0) (g.disk new)
+both_from g old {new = new} {name} {state} same listed time adds =
+    gained_then (gained_more (λ n s it. inr it) listed)
+    (gained_more (λ n s it. inl it) (gained_one (subst (λ v. Elapses (g.disk v.0) (g.disk new)) same time) (subst (λ v. MayAdd (possible_now (g.disk v.0)) (possible_now (g.disk new)) name state) same adds)))
 
 -- ---- states of which there are no more
 

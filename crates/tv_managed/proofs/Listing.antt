@@ -11,21 +11,29 @@ use Rattle.tv_model.proofs.Entries.{has_inserted}
 use Rattle.tv_model.proofs.ListTexts.{lists_one}
 use Rattle.tv_model.proofs.DiskLaws.{at_end, weaker}
 use Rattle.tv_base.specs.declared.io.IoError.{IoError}
-use Rattle.tv_directory.specs.Images.{KeepsOtherStates, StandsNow}
+use Rattle.tv_directory.specs.Images.{KeepsDisk, KeepsOtherStates, StandsNow}
 use Rattle.tv_directory.specs.View.{View}
 use Rattle.tv_directory.specs.declared.directory.Directory.{Ghosts}
-use Rattle.tv_managed.specs.Crashes.{Gains, IsCovered, IsTracked, KeepsTrack, ListsName, SavesManaged, SavesText}
-use Rattle.tv_managed.specs.Managed.{registered, registering}
+use Rattle.tv_managed.specs.Crashes.{Gains, IsCovered, IsNewList, IsToList, IsTracked, KeepsTrack, ListsName, SavesManaged, SavesText}
+use Rattle.tv_managed.specs.Managed.{NeedsNoListing, registered, registering}
 use Rattle.tv_managed.specs.Names.{ManagedNames, done_names}
-use Rattle.tv_managed.proofs.Tracking.{AreGone, covered_list, covered_saved, isnt_the_list, track_same}
-use Rattle.tv_managed.proofs.Touching.{OneState, adds_run, gained_same}
+use Rattle.tv_managed.proofs.Tracking.{AreGone, covered_list, covered_saved, isnt_the_list, track_read, track_same, track_then}
+use Rattle.tv_managed.proofs.Touching.{gained_more, gained_none, gained_run, gained_same, gained_then}
 
 -- nothing was done
 pub lists_same : {D W C : Type 0} (g : Ghosts D W C) (name : List ℕ) {old new : D × ManagedNames} → new.0 ≡ old.0 → new.1 ≡ old.1 → ListsName g old new name
 lists_same g name {old} {new} same names = record {
   tracks = λ was. subst (λ v. KeepsTrack g old v) (ap (λ d. (d, old.1)) (sym same) ∙ ap (λ l. (new.0, l)) (sym names)) (track_same g was);
-  moments = adds_run (subst (λ d. Throughout (Gains (OneState list_name (Sealed (list_text (registered old.1.managed name)))) (possible_now (g.disk old.0))) (g.disk old.0) (g.disk d)) (sym same) (gained_same _ (g.disk old.0)));
-  others = λ n other. ap (λ d. (g.disk d).now n) same;
+  moments = subst (λ d. Throughout (Gains (IsNewList old.1 name) (possible_now (g.disk old.0))) (g.disk old.0) (g.disk d)) (sym same) (gained_same _ (g.disk old.0));
+  now = record { each = λ n other. ap (λ d. (g.disk d).now n) same };
+}
+
+-- what was done behind a call that only read
+pub lists_asked : {D W C : Type 0} (g : Ghosts D W C) (name : List ℕ) {old asked new : D × ManagedNames} → asked.1 ≡ old.1 → KeepsDisk (g.disk old.0) (g.disk asked.0) → ListsName g asked new name → ListsName g old new name
+lists_asked g name {old} {asked} {new} names keeps listed = record {
+  tracks = λ was. let first = track_read g names keeps was in track_then g first (listed.tracks first.tracked);
+  moments = gained_then (gained_none _ keeps) (subst (λ v. Throughout (Gains (IsNewList v name) (possible_now (g.disk asked.0))) (g.disk asked.0) (g.disk new.0)) names listed.moments);
+  now = record { each = λ n other. listed.now.each n (λ it. other (subst (λ v. IsToList v name n) names it)) ∙ keeps.states.now n };
 }
 
 -- more names are those of each file
@@ -54,23 +62,32 @@ saved g {old} {new} {put} x saves listed more names was =
       moments = weaker saves.moments (λ p adds. (covered_list listed (files_put _ more was) (λ n h free. more n h) adds was.gone was).forgets_none);
     }
 
+-- the list alone may have other states, which had to get the name
+lists_only : {D W C : Type 0} (g : Ghosts D W C) {old new : D × ManagedNames} {name : List ℕ} {A : Type 0} {result : Result A IoError} → (NeedsNoListing old.1 name → ⊥) → (IsTracked g old → KeepsTrack g old new)
+    → SavesText (g.disk old.0) (g.disk new.0) (list_text (registered old.1.managed name)) result → ListsName g old new name
+lists_only g needs tracks saves = record {
+  tracks = tracks;
+  moments = gained_more (λ n s it. ((it.0, needs), it.1)) (gained_run saves.moments);
+  now = record { each = λ n other. saves.others n (λ is. other (is, needs)) };
+}
+
 -- a registration whose save is done
-pub lists_saved : {A D W C : Type 0} (g : Ghosts D W C) (name : List ℕ) {old mid new : D × ManagedNames} (x : A) → mid.0 ≡ old.0 → SavesManaged g mid new (Ok x) → mid.1 ≡ registering old.1 name → ((n : List ℕ) → has old.1.managed n ≡ true → has (registered old.1.managed name) n ≡ true) → new.1 ≡ mid.1
+pub lists_saved : {A D W C : Type 0} (g : Ghosts D W C) (name : List ℕ) {old mid new : D × ManagedNames} (x : A) → (NeedsNoListing old.1 name → ⊥) → mid.0 ≡ old.0 → SavesManaged g mid new (Ok x) → mid.1 ≡ registering old.1 name → ((n : List ℕ) → has old.1.managed n ≡ true → has (registered old.1.managed name) n ≡ true) → new.1 ≡ mid.1
     → ListsName g old new name
-lists_saved g name {old} {mid} {new} x same saves put more names =
+lists_saved g name {old} {mid} {new} x needs same saves put more names =
     let text : list_text mid.1.managed ≡ list_text (registered old.1.managed name) = ap (λ v. list_text v.managed) put in
     let from = subst (λ t. SavesText (g.disk old.0) (g.disk new.0) t (Ok x)) text (subst (λ d. SavesText (g.disk d) (g.disk new.0) (list_text mid.1.managed) (Ok x)) same saves.saves) in
     let listed : IsListOf (list_text (registered old.1.managed name)) (registered old.1.managed name) = subst (λ v. IsListOf (list_text v.managed) v.managed) put saves.listed in
-    record { tracks = saved g x from listed more (names ∙ put); moments = from.moments; others = from.others }
+    lists_only g needs (saved g x from listed more (names ∙ put)) from
 
 -- one that failed, after which the name was taken out
-pub lists_refused : {A D W C : Type 0} (g : Ghosts D W C) (name : List ℕ) {old mid last new : D × ManagedNames} {result : Result A IoError} → mid.0 ≡ old.0 → SavesManaged g mid last result → mid.1 ≡ registering old.1 name
+pub lists_refused : {A D W C : Type 0} (g : Ghosts D W C) (name : List ℕ) {old mid last new : D × ManagedNames} {result : Result A IoError} → (NeedsNoListing old.1 name → ⊥) → mid.0 ≡ old.0 → SavesManaged g mid last result → mid.1 ≡ registering old.1 name
     → ((n : List ℕ) → has old.1.managed n ≡ true → has (registered old.1.managed name) n ≡ true) → new.0 ≡ last.0 → new.1 ≡ old.1 → ListsName g old new name
-lists_refused g name {old} {mid} {last} {new} {result} same saves put more within names =
+lists_refused g name {old} {mid} {last} {new} {result} needs same saves put more within names =
     let text : list_text mid.1.managed ≡ list_text (registered old.1.managed name) = ap (λ v. list_text v.managed) put in
     let from = subst (λ t. SavesText (g.disk old.0) (g.disk new.0) t result) text (subst (λ d. SavesText (g.disk d) (g.disk new.0) (list_text mid.1.managed) result) same (subst (λ d. SavesText (g.disk mid.0) (g.disk d) (list_text mid.1.managed) result) (sym within) saves.saves)) in
     let listed : IsListOf (list_text (registered old.1.managed name)) (registered old.1.managed name) = subst (λ v. IsListOf (list_text v.managed) v.managed) put saves.listed in
-    record { tracks = saved_or_not g from listed more names; moments = from.moments; others = from.others }
+    lists_only g needs (saved_or_not g from listed more names) from
 
 -- a name without a dot in front that was registered
 pub has_registered : (names : List (List ℕ)) (name : List ℕ) → is_undotted name ≡ true → has (registered names name) name ≡ true

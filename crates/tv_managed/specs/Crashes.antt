@@ -11,7 +11,7 @@ use Rattle.tv_base.specs.declared.io.IoError.{IoError}
 use Rattle.tv_directory.specs.Images.{KeepsDisk, KeepsOtherStates, SameStates}
 use Rattle.tv_directory.specs.declared.directory.Directory.{Ghosts}
 use Rattle.tv_managed.specs.Collecting.{is_done, Leaves, SavesNone, Tries}
-use Rattle.tv_managed.specs.Managed.{SavesList, registered}
+use Rattle.tv_managed.specs.Managed.{NeedsNoListing, SavesList, registered}
 use Rattle.tv_managed.specs.Names.{ManagedNames, done_names}
 use Rattle.tv_managed.specs.Writers.{IsSummed}
 use Rattle.tv_managed.specs.declared.collection.CollectStep.{CollectStep}
@@ -39,10 +39,6 @@ pub record KeepsTrack {D W C : Type 0} (g : Ghosts D W C) (old new : D × Manage
   pub tracked : IsTracked g new
   pub moments : Throughout ListsEachFile (g.disk old.0) (g.disk new.0)
 
--- this file and the list
-abbrev pub OrList : List ℕ → List ℕ → Type 0
-OrList name n = (n ≡ name) ⊎ (n ≡ list_name)
-
 -- these files and the list
 abbrev pub AnyOrList : List (List ℕ) → List ℕ → Type 0
 AnyOrList names n = (has names n ≡ true) ⊎ (n ≡ list_name)
@@ -62,20 +58,35 @@ pub record LeavesSafely {D W C : Type 0} (g : Ghosts D W C) (becomes : Type 0) (
 abbrev pub ReadsSafely : {D W C : Type 0} → Ghosts D W C → (old new : D × ManagedNames) → Type 0
 ReadsSafely g old new = LeavesSafely g (KeepsDisk (g.disk old.0) (g.disk new.0)) old new
 
--- at most this state of this name is possible besides, and this one of the list
-pub record MayAddBoth (old new : Possible) (name : List ℕ) (state list : DiskState) : Type 0 where
-  pub each : (n : List ℕ) (s : DiskState) → new n s → old n s ⊎ (((n ≡ name) × (s ≡ state)) ⊎ ((n ≡ list_name) × (s ≡ list)))
+-- at most these states are possible besides
+pub record Gains (extra : List ℕ → DiskState → Type 0) (old new : Possible) : Type 0 where
+  pub each : (n : List ℕ) (s : DiskState) → new n s → old n s ⊎ extra n s
 
--- A file is made, or given its bytes. At each moment it may be in this state, and the list may have its name; no other state is possible besides. At Ok it is in this
--- state; other files stand as they stood.
-pub record GivesStates {A E : Type 0} (old new : Disk) (name : List ℕ) (state list : DiskState) (result : Result A E) : Type 0 where
-  pub moments : Throughout (λ possible. MayAddBoth (possible_now old) possible name state list) old new
-  pub now : OnlyMoves (OrList name) old new
+-- this is the list, and the name is to be put on it: it has no dot in front, and isn't managed
+abbrev pub IsToList : ManagedNames → (name n : List ℕ) → Type 0
+IsToList names name n = (n ≡ list_name) × (NeedsNoListing names name → ⊥)
+
+-- and it has the text of the managed names with this one
+abbrev pub IsNewList : ManagedNames → (name n : List ℕ) → DiskState → Type 0
+IsNewList names name n s = IsToList names name n × (s ≡ Sealed (list_text (registered names.managed name)))
+
+-- this is the file, or the list, where the name is to be put on it
+abbrev pub OrItsList : ManagedNames → (name n : List ℕ) → Type 0
+OrItsList names name n = (n ≡ name) ⊎ IsToList names name n
+
+-- the file in this state, or the list with its name
+abbrev pub IsGiven : ManagedNames → (name : List ℕ) → (state : DiskState) → (n : List ℕ) → DiskState → Type 0
+IsGiven names name state n s = ((n ≡ name) × (s ≡ state)) ⊎ IsNewList names name n s
+
+-- A file is made, or given its bytes. At each moment it may be in this state, and the list may have its name, where that has no dot in front and wasn't managed; no
+-- other state is possible besides. At Ok it is in this state; other files stand as they stood.
+pub record GivesStates {A E : Type 0} (old new : Disk) (names : ManagedNames) (name : List ℕ) (state : DiskState) (result : Result A E) : Type 0 where
+  pub moments : Throughout (Gains (IsGiven names name state) (possible_now old)) old new
+  pub now : OnlyMoves (OrItsList names name) old new
   pub stands : OnOk result (new.now name ≡ state)
 
 abbrev pub GivesSafely : {A E D W C : Type 0} → Ghosts D W C → (name : List ℕ) → DiskState → (old new : D × ManagedNames) → Result A E → Type 0
-GivesSafely g name state old new result =
-    LeavesSafely g (GivesStates (g.disk old.0) (g.disk new.0) name state (Sealed (list_text (registered old.1.managed name))) result) old new
+GivesSafely g name state old new result = LeavesSafely g (GivesStates (g.disk old.0) (g.disk new.0) old.1 name state result) old new
 
 -- No state is possible besides those that were, at any moment, and names stand as they stood; at Ok a crash leaves each so.
 pub record SettlesStates {A E : Type 0} (old new : Disk) (result : Result A E) : Type 0 where
@@ -144,12 +155,12 @@ pub record CollectsNames {E D W C : Type 0} (g : Ghosts D W C) (names : List (Li
 
 -- What follows is cited by private functions alone.
 
--- A step that lists a name keeps track. At each moment the list may be that of the managed names and this one; at Ok each list that may be left has each of them, unless
--- an unfinished collection has done it.
+-- A step that lists a name keeps track. At each moment the list may be that of the managed names and this one, where the name has no dot in front and wasn't managed;
+-- no other state is possible besides, and no other file was changed.
 pub record ListsName {D W C : Type 0} (g : Ghosts D W C) (old new : D × ManagedNames) (name : List ℕ) : Type 0 where
   pub tracks : IsTracked g old → KeepsTrack g old new
-  pub moments : Throughout (λ possible. MayAdd (possible_now (g.disk old.0)) possible list_name (Sealed (list_text (registered old.1.managed name)))) (g.disk old.0) (g.disk new.0)
-  pub others : KeepsOtherStates (g.disk old.0) (g.disk new.0) list_name
+  pub moments : Throughout (Gains (IsNewList old.1 name) (possible_now (g.disk old.0))) (g.disk old.0) (g.disk new.0)
+  pub now : OnlyMoves (IsToList old.1 name) (g.disk old.0) (g.disk new.0)
 
 -- The list is given this text: at each moment it may have it, or be as it was, and at Ok it has it. Where memory was wanted, no state is possible that wasn't.
 pub record SavesText {A : Type 0} (old new : Disk) (text : List ℕ) (result : Result A IoError) : Type 0 where
@@ -162,10 +173,6 @@ pub record SavesText {A : Type 0} (old new : Disk) (text : List ℕ) (result : R
 pub record SavesManaged {A D W C : Type 0} (g : Ghosts D W C) (old new : D × ManagedNames) (result : Result A IoError) : Type 0 where
   pub saves : SavesText (g.disk old.0) (g.disk new.0) (list_text old.1.managed) result
   pub listed : IsListOf (list_text old.1.managed) old.1.managed
-
--- at most these states are possible besides
-pub record Gains (extra : List ℕ → DiskState → Type 0) (old new : Possible) : Type 0 where
-  pub each : (n : List ℕ) (s : DiskState) → new n s → old n s ⊎ extra n s
 
 -- Some of these names are tried: at each moment any of them may be absent besides, and no other name is touched.
 pub record LosesNames (names : List (List ℕ)) (old new : Disk) : Type 0 where

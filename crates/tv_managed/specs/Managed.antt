@@ -75,6 +75,10 @@ pub record SavesList {A E D W C : Type 0} (g : Ghosts D W C) (old new : D × Man
   pub list : g.told.content → Lists ((g.view old.0).reads list_name) old.1.managed → OnOk result (Lists ((g.view new.0).reads list_name) new.1.managed)
   pub covers : g.told.content → Covers ((g.view old.0).reads list_name) old.1 → Covers ((g.view new.0).reads list_name) new.1
 
+-- where the name has a dot in front, or was managed, the list reads what it read
+abbrev pub SavesNew : {D W C : Type 0} → Ghosts D W C → (old new : D × ManagedNames) → (name : List ℕ) → Type 0
+SavesNew g old new name = g.told.content → NeedsNoListing old.1 name → (g.view new.0).reads list_name ≡ (g.view old.0).reads list_name
+
 -- The same of a step that lists a name: at Ok the name is managed, and, unless an unfinished collection has done it, on the list, if it has no dot in front; after an
 -- error all names are as they were. Nothing but the list and these names was changed, and the list only for a name without a dot in front that wasn't managed.
 pub record HasListed {A E D W C : Type 0} (g : Ghosts D W C) (old new : D × ManagedNames) (name : List ℕ) (result : Result A E) : Type 0 where
@@ -82,7 +86,7 @@ pub record HasListed {A E D W C : Type 0} (g : Ghosts D W C) (old new : D × Man
   pub on_list : g.told.content → Covers ((g.view old.0).reads list_name) old.1 → has (done_names old.1.collections) name ≡ false → is_undotted name ≡ true → OnOk result (IsOnList ((g.view new.0).reads list_name) name)
   pub names : OnOk result (new.1 ≡ registering old.1 name)
   pub kept : OnErr result (new.1 ≡ old.1)
-  pub unsaved : g.told.content → NeedsNoListing old.1 name → (g.view new.0).reads list_name ≡ (g.view old.0).reads list_name
+  pub unsaved : SavesNew g old new name
   pub others : g.told.content → KeepsOthers (g.view old.0).reads (g.view new.0).reads list_name
   pub frame : Kept g.told (g.view old.0) (g.view new.0)
 
@@ -93,7 +97,7 @@ pub record ManagesFile {A E D W C : Type 0} (g : Ghosts D W C) (old new : D × M
   pub ok : OnOk result (new.1 ≡ registering old.1 name)
   pub err : OnErr result ((new.1 ≡ old.1) ⊎ (new.1 ≡ registering old.1 name))
   pub saves : SavesList g old new result
-  pub unsaved : g.told.content → NeedsNoListing old.1 name → (g.view new.0).reads list_name ≡ (g.view old.0).reads list_name
+  pub unsaved : SavesNew g old new name
   pub listed : g.told.content → Covers ((g.view old.0).reads list_name) old.1 → ListsNew (g.view old.0).reads (g.view new.0).reads
   pub managed : g.told.content → ManagesNew (g.view old.0).reads (g.view new.0).reads new.1.managed
 

@@ -1,14 +1,13 @@
-use Rattle.std.proofs.Common.{rules, ap, ◌∙◌, ◌≡◌, inl, inr, map, string_bytes, true, false}
-use Rattle.tv_model.specs.Disk.{Unsealed}
+use Rattle.std.proofs.Common.{rules, Err, Ok, ap, ◌∙◌, ◌≡◌, inl, inr, map, string_bytes, true, false}
 use Rattle.tv_model.specs.Names.{has, is_undotted}
 use Rattle.tv_managed.specs.Managed.{registering}
 use Rattle.tv_managed.specs.Names.{ManagedNames, done_names}
 use Rattle.tv_managed.proofs.Collections.{done_held}
 use Rattle.tv_managed.proofs.Saves.{lists_new, manages_new, others_of_refused, still_covers, unsaved_by}
-use Rattle.tv_managed.proofs.Listing.{has_registered}
-use Rattle.tv_managed.proofs.Giving.{asked_from, list_states, no_states, track_given}
+use Rattle.tv_managed.proofs.Listing.{has_registered, lists_asked}
+use Rattle.tv_managed.proofs.Giving.{both_from, track_given}
 use Rattle.tv_managed.proofs.Tracking.{track_from, track_read, track_then}
-use Rattle.tv_managed.proofs.Touching.{others_opened}
+use Rattle.tv_managed.proofs.Touching.{gained_more, gained_none, others_opened}
 use Rattle.tv_managed.proofs.managed_directory.ManagedDirectory.open_write.Goals as goal
 
 pub returns-in_err-writer-clause-manages : goal.returns-in_err-writer-clause-manages
@@ -59,19 +58,19 @@ returns-in_err-refuse_taken-clause-safe g c = λ tells.
     let keeps = asked.images tells in
     record {
       tracks = track_read g.D.Directory asked.frame.names keeps;
-      states = record { moments = no_states c.args.name.now Unsealed _ keeps; now = record { each = λ n other. keeps.states.now n }; stands = search rules };
+      states = record { moments = gained_none _ keeps; now = record { each = λ n other. keeps.states.now n }; stands = search rules };
     }
 
 pub returns-in_err-list-clause-safe : goal.returns-in_err-list-clause-safe
 returns-in_err-list-clause-safe g c = λ tells.
     let asked = c.in_ok-refuse_taken.ensures.asks in
     let keeps = asked.images tells in
-    let listed = c.in_err-list.ensures.images tells in
+    let listed = lists_asked g.D.Directory c.args.name.now asked.frame.names keeps (c.in_err-list.ensures.images tells) in
     record {
-      tracks = λ was. let first = track_read g.D.Directory asked.frame.names keeps was in track_then g.D.Directory first (listed.tracks first.tracked);
+      tracks = listed.tracks;
       states = record {
-        moments = list_states c.args.name.now Unsealed keeps (rw asked.frame.names at listed.moments);
-        now = record { each = λ n other. listed.others n (λ e. other (inr e)) ∙ keeps.states.now n };
+        moments = gained_more (λ n s it. inr it) listed.moments;
+        now = record { each = λ n other. listed.now.each n (λ e. other (inr e)) };
         stands = search rules;
       };
     }
@@ -82,22 +81,20 @@ returns-in_err-writer-clause-safe g c = λ tells.
     let name = c.args.name.now in
     let asked = c.in_ok-refuse_taken.ensures.asks in
     let keeps = asked.images tells in
-    let listed = c.in_ok-list.ensures.images tells in
+    let listed = lists_asked D name asked.frame.names keeps (c.in_ok-list.ensures.images tells) in
     let names = c.in_ok-list.ensures.list.names in
     let opens = c.in_err-writer.ensures.images tells in
+    let others = others_opened (Err c.in_err-writer.field-0.0) opens in
     let inside : ManagedNames = record { managed = map string_bytes c.self.inside.managed.keys; collections = c.self.inside.collections } in
     let free : is_undotted name ≡ true → has (done_names inside.collections) name ≡ false =
     λ undotted. ap (λ v. has (done_names v.1.collections) name) c.self.view_is ∙ ap (λ v. has (done_names v.collections) name) (names ∙ ap (λ v. registering v name) asked.frame.names) ∙ done_held c.args.self.now.1.collections.unfinished name asked.faults.free in
     let there : is_undotted name ≡ true → has inside.managed name ≡ true =
     λ undotted. ap (λ v. has v.1.managed name) c.self.view_is ∙ ap (λ v. has v.managed name) names ∙ has_registered _ name undotted in
     record {
-      tracks = λ was.
-          let first = track_read D asked.frame.names keeps was in
-          let second = listed.tracks first.tracked in
-          track_then D (track_then D first second) (track_from D c.self.view_is (track_given D opens.time opens.no_more (others_opened _ opens) c.requires.other (λ undotted. (there undotted, free undotted))) second.tracked);
+      tracks = λ was. track_then D (listed.tracks was) (track_from D c.self.view_is (track_given D opens.time opens.no_more others c.requires.other (λ undotted. (there undotted, free undotted))) (listed.tracks was).tracked);
       states = record {
-        moments = asked_from D c.args.self.now c.refuse_taken.new.self c.self.view_is keeps (rw asked.frame.names at listed.moments) opens.time opens.no_more;
-        now = record { each = λ n other. others_opened _ opens n (λ e. other (inl e)) ∙ ap (λ v. (D.disk v.0).now n) c.self.view_is ∙ listed.others n (λ e. other (inr e)) ∙ keeps.states.now n };
+        moments = both_from D c.args.self.now c.self.view_is listed.moments opens.time opens.no_more;
+        now = record { each = λ n other. others n (λ e. other (inl e)) ∙ ap (λ v. (D.disk v.0).now n) c.self.view_is ∙ listed.now.each n (λ e. other (inr e)) };
         stands = search rules;
       };
     }
@@ -108,22 +105,20 @@ returns-clause-safe g c = λ tells.
     let name = c.args.name.now in
     let asked = c.in_ok-refuse_taken.ensures.asks in
     let keeps = asked.images tells in
-    let listed = c.in_ok-list.ensures.images tells in
+    let listed = lists_asked D name asked.frame.names keeps (c.in_ok-list.ensures.images tells) in
     let names = c.in_ok-list.ensures.list.names in
     let opens = c.in_ok-writer.ensures.images tells in
+    let others = others_opened (Ok c.in_ok-writer.writer) opens in
     let inside : ManagedNames = record { managed = map string_bytes c.self.inside.managed.keys; collections = c.self.inside.collections } in
     let free : is_undotted name ≡ true → has (done_names inside.collections) name ≡ false =
     λ undotted. ap (λ v. has (done_names v.1.collections) name) c.self.view_is ∙ ap (λ v. has (done_names v.collections) name) (names ∙ ap (λ v. registering v name) asked.frame.names) ∙ done_held c.args.self.now.1.collections.unfinished name asked.faults.free in
     let there : is_undotted name ≡ true → has inside.managed name ≡ true =
     λ undotted. ap (λ v. has v.1.managed name) c.self.view_is ∙ ap (λ v. has v.managed name) names ∙ has_registered _ name undotted in
     record {
-      tracks = λ was.
-          let first = track_read D asked.frame.names keeps was in
-          let second = listed.tracks first.tracked in
-          track_then D (track_then D first second) (track_from D c.self.view_is (track_given D opens.time opens.no_more (others_opened _ opens) c.requires.other (λ undotted. (there undotted, free undotted))) second.tracked);
+      tracks = λ was. track_then D (listed.tracks was) (track_from D c.self.view_is (track_given D opens.time opens.no_more others c.requires.other (λ undotted. (there undotted, free undotted))) (listed.tracks was).tracked);
       states = record {
-        moments = asked_from D c.args.self.now c.refuse_taken.new.self c.self.view_is keeps (rw asked.frame.names at listed.moments) opens.time opens.no_more;
-        now = record { each = λ n other. others_opened _ opens n (λ e. other (inl e)) ∙ ap (λ v. (D.disk v.0).now n) c.self.view_is ∙ listed.others n (λ e. other (inr e)) ∙ keeps.states.now n };
+        moments = both_from D c.args.self.now c.self.view_is listed.moments opens.time opens.no_more;
+        now = record { each = λ n other. others n (λ e. other (inl e)) ∙ ap (λ v. (D.disk v.0).now n) c.self.view_is ∙ listed.now.each n (λ e. other (inr e)) };
         stands = search rules;
       };
     }

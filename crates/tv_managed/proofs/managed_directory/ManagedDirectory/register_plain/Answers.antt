@@ -74,7 +74,9 @@ returns-in_err-add-clause-images g c = λ tells. lists_same g.D.Directory c.args
 pub returns-in-Ok-clause-images : goal.returns-in-Ok-clause-images
 unfolding with_names
 returns-in-Ok-clause-images g c = λ tells.
-    lists_saved g.D.Directory c.args.name.now {old = c.args.self.now} {mid = c.add.new.self} {new = c.save.new.self} _ c.in_ok-add.ensures.directory (c.in-Ok.ensures.images tells)
+    let names : map string_bytes c.self.inside.managed.keys ≡ c.args.self.now.1.managed = ap (λ v. v.1.managed) c.self.view_is in
+    let needs = isnt_listed c.args.self.now.1 c.args.name.now c.requires.undotted (had_is c.self.inside.managed.keys _ c.args.name.now false c.if-contains.ensures names) in
+    lists_saved g.D.Directory c.args.name.now {old = c.args.self.now} {mid = c.add.new.self} {new = c.save.new.self} _ needs c.in_ok-add.ensures.directory (c.in-Ok.ensures.images tells)
     (c.in_ok-add.ensures.names ∙ puts c.args.self.now.1 c.args.name.now c.requires.undotted) (keeps_put c.args.self.now.1 c.args.name.now c.requires.undotted) c.in-Ok.ensures.only.frame.names
 
 pub returns-in-Err-clause-images : goal.returns-in-Err-clause-images
@@ -85,5 +87,5 @@ returns-in-Err-clause-images g c = λ tells.
     let put = c.in-Err.ensures.only.frame.names ∙ c.in_ok-add.ensures.names in
     let same : c.forget.new.self.1 ≡ c.args.self.now.1 =
     c.forget.ensures.names ∙ ap (λ v. with_names v (without (c.args.name.now ∷ []) v.managed)) put ∙ ap (with_names c.args.self.now.1) (without_inserted c.args.self.now.1.managed _ _ c.args.name.now (subst AreManaged names c.self.invariant) none refl refl) in
-    lists_refused g.D.Directory c.args.name.now {old = c.args.self.now} {mid = c.add.new.self} {last = c.save.new.self} {new = c.forget.new.self} c.in_ok-add.ensures.directory (c.in-Err.ensures.images tells)
+    lists_refused g.D.Directory c.args.name.now {old = c.args.self.now} {mid = c.add.new.self} {last = c.save.new.self} {new = c.forget.new.self} (isnt_listed c.args.self.now.1 c.args.name.now c.requires.undotted none) c.in_ok-add.ensures.directory (c.in-Err.ensures.images tells)
     (c.in_ok-add.ensures.names ∙ puts c.args.self.now.1 c.args.name.now c.requires.undotted) (keeps_put c.args.self.now.1 c.args.name.now c.requires.undotted) c.forget.ensures.directory same
