@@ -1,16 +1,23 @@
 -- A set of texts, seen as their bytes.
-use Rattle.std.proofs.Common.{◌≡◌, ℕ, Bool, true, false, cond, List, [], ◌∷◌, map, refl, sym, ap, subst, ◌∙◌, string_bytes, String, Global}
+use Rattle.std.proofs.Common.{◌≡◌, ◌+◌, ◌<◌, ◌≤◌, ◌||◌, ℕ, Bool, true, false, cond, List, [], ◌∷◌, map, length, get_or, refl, sym, ap, subst, ◌∙◌, ⊎_elim, arith, string_bytes, String, Global, Result, Ok, Err}
 use Rattle.std.specs.declared.cmp.Ordering.{Ordering}
 use Rattle.std.specs.declared.cmp.Ordering.TheVariants.{Less, Equal, Greater}
-use Rattle.std.specs.Ordering.{is_eq, match_ordering}
-use Rattle.std.specs.List.{list_all, list_any, AllByRecursion}
-use Rattle.std.specs.List.Sorted.{IsStrictlySortedBy}
+use Rattle.std.specs.Ordering.{is_eq, is_lt, match_ordering, ordering_index, ordering_reverse}
+use Rattle.std.specs.Result.{is_ok}
+use Rattle.std.specs.Cmp.Lexicographic.{nat_list_cmp_total, texts_ties}
+use Rattle.std.specs.List.{list_all, list_any, AllByRecursion, HoldsAt}
+use Rattle.std.specs.List.Sorted.{IsBinarySearchResult, IsNonDecreasingBy, IsSearchInRange, IsStrictlySortedBy}
 use Rattle.std.specs.String.{string_cmp}
 use Rattle.std.specs.BTreeMap.{is_at}
 use Rattle.std.specs.BTreeSet.{insert_key}
 use Rattle.std.specs.Set.{remove_key}
+use Rattle.std.proofs.lemmas.Bool.{cases_lt}
+use Rattle.std.proofs.lemmas.List.{get_or-map, length-map}
+use Rattle.std.proofs.lemmas.List.Folds.{list_any_at, list_any_none}
+use Rattle.std.proofs.lemmas.List.Sorted.{searchable_from_sorted}
+use Rattle.std.proofs.lemmas.Map.Keys.{Less-from_sorted}
 use Rattle.std.proofs.lemmas.Str.{IsUtf8-string_bytes}
-use Rattle.tv_model.specs.Names.{byte_cmp, has, is_plain}
+use Rattle.tv_model.specs.Names.{byte_cmp, has, is, is_plain}
 use Rattle.tv_model.specs.Listing.{IsListed, IsListOf, list_text}
 use Rattle.tv_model.proofs.Entries.{is_by_order, sorted_put}
 use Rattle.tv_model.proofs.ListTexts.{written_is_list}
@@ -75,3 +82,29 @@ list_of keys names e h = subst (λ (ns : List (List ℕ)). IsListOf (list_text n
 pub none_managed : (keys : List (String Global)) → keys ≡ [] → AreManaged (map string_bytes keys)
 unfolding IsStrictlySortedBy
 none_managed keys e = rw e (record { plain = refl; ordered = tt })
+
+-- ---- a search in texts that stand in their order
+
+rises : (keys : List (String Global)) (name : List ℕ) → IsStrictlySortedBy byte_cmp (map string_bytes keys) → IsNonDecreasingBy (λ y. ordering_index (byte_cmp (string_bytes y) name)) keys
+rises keys name sorted = searchable_from_sorted nat_list_cmp_total string_bytes keys name (λ k d low inside.
+    let below : byte_cmp (string_bytes (get_or keys k d)) (string_bytes (get_or keys (k + 1) d)) ≡ Less =
+    rw (← get_or-map string_bytes keys k d (string_bytes d) (omega (arith, inside)), ← get_or-map string_bytes keys (k + 1) d (string_bytes d) inside)
+    (Less-from_sorted byte_cmp (map string_bytes keys) k (k + 1) (string_bytes d) sorted (omega arith) (rw (length-map keys string_bytes) inside)) in
+    ap is_lt (nat_list_cmp_total.antisymm (string_bytes (get_or keys (k + 1) d)) (string_bytes (get_or keys k d)) ∙ ap ordering_reverse below))
+
+has_over : (keys : List (String Global)) (name : List ℕ) → has (map string_bytes keys) name ≡ list_any (λ y. is (string_bytes y) name) keys
+has_over [] name = refl
+has_over (k ∷ keys) name = ap (λ b. is (string_bytes k) name || b) (has_over keys name)
+
+found : (keys : List (String Global)) (name : List ℕ) (i : ℕ) → i < length keys → HoldsAt (λ y. byte_cmp (string_bytes y) name ≡ Equal) keys i → list_any (λ y. is (string_bytes y) name) keys ≡ true
+found [] name i inside at = absurd (omega (arith, inside))
+found (k ∷ keys) name i inside at = list_any_at (λ y. is (string_bytes y) name) (k ∷ keys) i k inside (texts_ties (string_bytes (get_or (k ∷ keys) i k)) name ∙ ap is_eq (at k))
+
+-- whether a text is among them
+pub searched_texts : (keys : List (String Global)) (name : List ℕ) (r : Result ℕ ℕ) → IsStrictlySortedBy byte_cmp (map string_bytes keys) → IsSearchInRange r (length keys) → IsBinarySearchResult (λ y. byte_cmp (string_bytes y) name) keys r
+    → is_ok r ≡ has (map string_bytes keys) name
+searched_texts keys name (Ok i) sorted inside at = sym (has_over keys name ∙ found keys name i inside at)
+searched_texts keys name (Err i) sorted inside parted =
+    let place = parted (rises keys name sorted) in
+    sym (has_over keys name
+    ∙ list_any_none (λ y. is (string_bytes y) name) keys (λ k d lt. texts_ties (string_bytes (get_or keys k d)) name ∙ ⊎_elim (λ (low : k < i). ap is_eq (place.0 k d (omega arith) low)) (λ (up : i ≤ k). ap is_eq (place.1 k d up lt)) (cases_lt k i)))

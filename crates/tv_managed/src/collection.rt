@@ -113,7 +113,9 @@ impl Collection {
     fn took(&self, name: &str) -> bool
         ensures { result ≡ has (taken self.now) name.now }
     {
-        has_name(self.names(), name)
+        self.names()
+            .binary_search_by(|other| other.as_str().cmp(name))
+            .is_ok()
     }
 
     // How many names it has yet to try.
@@ -150,18 +152,6 @@ impl Collection {
     {
         outcomes_of(alloc, self.names.as_slice(), &self.outcomes[..self.tried])
     }
-}
-
-// Whether the name is among these.
-fn has_name(names: &[String], name: &str) -> bool
-    ensures { result ≡ has (names_of names.now) name.now }
-{
-    for other in names {
-        if other.as_str() == name {
-            return true;
-        }
-    }
-    false
 }
 
 // The outcomes of the first ones of these names.
@@ -229,12 +219,9 @@ impl Collections {
     pub(crate) fn holds(&self, name: &str) -> bool
         ensures { result ≡ has (held self.now) name.now }
     {
-        for collection in self.unfinished.values() {
-            if collection.took(name) {
-                return true;
-            }
-        }
-        false
+        self.unfinished
+            .values()
+            .any(|collection| collection.took(name))
     }
 
     /// Begins a collection of these names.
