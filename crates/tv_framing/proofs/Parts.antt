@@ -20,6 +20,11 @@ pub addresses_of : (bytes : List ℕ) (ss : List Start) → addresses (parts_of 
 addresses_of bytes [] = refl
 addresses_of bytes (s ∷ ss) = ap (λ (l : List FileAddr). s.addr ∷ l) (addresses_of bytes ss)
 
+-- a test of their addresses
+pub any_start : (p : FileAddr → Bool) (ss : List Start) → list_any p (start_addresses ss) ≡ list_any (λ s. p s.addr) ss
+any_start p [] = refl
+any_start p (s ∷ ss) = ap (λ b. p s.addr || b) (any_start p ss)
+
 length_of : (bytes : List ℕ) (ss : List Start) → length (parts_of bytes ss) ≡ length ss
 length_of bytes [] = refl
 length_of bytes (s ∷ ss) = ap suc (length_of bytes ss)

@@ -63,7 +63,6 @@ impl<W: TerminatingWrite> CompositeWrite<W> {
         ensures ok { OnOk result (self.new ≡ begun self.old field idx) }
         ensures err { OnErr result (self.new ≡ self.old) }
     {
-        let field = Field::from_field_id(field.field_id());
         self.starts.push(Start {
             addr: FileAddr { field, idx },
             offset: self.written,

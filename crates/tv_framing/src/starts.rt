@@ -21,36 +21,21 @@ pub(crate) struct Start {
 pub(crate) fn has_start(starts: &[Start], addr: &FileAddr) -> bool
     ensures { result ≡ list_any (is_at addr.now) (start_addresses starts.now) }
 {
-    for start in starts {
-        if is_at(addr, &start.addr) {
-            return true;
-        }
-    }
-    false
+    starts.iter().any(|start| is_at(addr, &start.addr))
 }
 
 /// Whether every field has a number below this one.
 pub(crate) fn are_below(starts: &[Start], n: u32) -> bool
     ensures { result ≡ list_all (λ addr. nat_lt addr.field n) (start_addresses starts.now) }
 {
-    for start in starts {
-        if start.addr.field.field_id() >= n {
-            return false;
-        }
-    }
-    true
+    starts.iter().all(|start| start.addr.field.field_id() < n)
 }
 
 /// Whether no index is above 65535.
 pub(crate) fn are_small(starts: &[Start]) -> bool
     ensures { result ≡ list_all (λ addr. nat_le addr.idx 65535) (start_addresses starts.now) }
 {
-    for start in starts {
-        if start.addr.idx > 65_535 {
-            return false;
-        }
-    }
-    true
+    starts.iter().all(|start| start.addr.idx <= 65_535)
 }
 
 /// The list of these starts, behind their number.

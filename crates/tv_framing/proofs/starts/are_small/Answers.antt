@@ -1,0 +1,12 @@
+use Rattle.std.proofs.Common.{rules, tests, ◌∙◌, sym, nat_le}
+use Rattle.std.proofs.lemmas.Iterator.{YieldsList-from_slice}
+use Rattle.std.proofs.lemmas.Iterator.Search.{all_from_yields_List}
+use Rattle.std.proofs.lemmas.List.Folds.{list_all-map}
+use Rattle.tv_framing.specs.declared.address.FileAddr.{FileAddr}
+use Rattle.tv_framing.specs.declared.starts.Start.{Start}
+use Rattle.tv_framing.proofs.starts.are_small.Goals as goal
+
+pub returns : goal.returns
+returns c =
+    all_from_yields_List (λ start. nat_le start.addr.idx 65535) _ _ c.all.result c.all.ensures.ran (YieldsList-from_slice c.args.starts.now cc) (λ x b q k. search (rules, tests))
+    ∙ sym (list_all-map (λ (addr : FileAddr). nat_le addr.idx 65535) (λ (start : Start). start.addr) c.args.starts.now)

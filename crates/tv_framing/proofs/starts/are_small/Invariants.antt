@@ -1,8 +1,0 @@
-use Rattle.std.proofs.Common.{◌≡◌, drop, nat_le}
-use Rattle.std.specs.List.{list_all}
-use Rattle.tv_framing.specs.Starts.{start_addresses}
-use Rattle.tv_framing.proofs.starts.are_small.Given as goal
-
-abbrev pub invariant-loop-start : goal.invariant-loop-start
-invariant-loop-start l =
-    list_all (λ addr. nat_le addr.idx 65535) (start_addresses (drop l.start-index l.starts)) ≡ list_all (λ addr. nat_le addr.idx 65535) (start_addresses l.starts)
