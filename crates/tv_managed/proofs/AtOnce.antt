@@ -1,11 +1,12 @@
 -- What a collection at once did, from its beginning to its end.
 use Rattle.std.proofs.Common.{◌≡◌, ◌+◌, ◌-◌, ◌||◌, ◌++◌, ℕ, Bool, true, false, true≢false, List, [], None, Some, Option, Result, Ok, Err, inl, inr, ⊎_elim, ◌⊎◌, refl, sym, ap, subst, ◌∙◌, arith, append-nil}
-use Rattle.std.specs.Prelude.{IfOk, OnErr, OnOk, length}
+use Rattle.std.specs.Prelude.{OnErr, OnOk, length}
 use Rattle.std.specs.Result.{IsErr}
 use Rattle.std.specs.BTreeMap.{insert_entry}
 use Rattle.std.specs.List.{flat_map}
 use Rattle.std.specs.Ordering.{nat_cmp}
-use Rattle.std.proofs.lemmas.Bool.{false_from_ne_true, or_left}
+use Rattle.std.proofs.lemmas.Bool.{false_from_ne_true, or_left, or_parts}
+use Rattle.std.proofs.lemmas.Result.{IfOk-from_err, on_err_weaker}
 use Rattle.tv_model.specs.Collections.{Collection, begun, collection_at, done_of, without}
 use Rattle.tv_model.specs.Disk.{Throughout, possible_now, TouchesOnly}
 use Rattle.tv_model.specs.Files.{Same}
@@ -27,27 +28,10 @@ use Rattle.tv_managed.specs.declared.collection.GarbageCollectionResult.{Garbage
 use Rattle.tv_managed.proofs.Beginning.{begun_safely}
 use Rattle.tv_managed.proofs.Collections.{more_done, none_done, put_and_out, put_twice}
 use Rattle.tv_managed.proofs.Giving.{settles_asked}
+use Rattle.tv_managed.proofs.Saves.{on_err}
 use Rattle.tv_managed.proofs.Synced.{IsSynced, TriesSynced, lists_synced, settles_synced, settles_touch, tries_synced}
 use Rattle.tv_managed.proofs.Tracking.{covered_done, track_names, track_read, track_then}
 use Rattle.tv_managed.proofs.Tried.{tried_none, tried_quiet, tried_then}
-
--- ---- answers
-
-pub no_ok : {A E : Type 0} (P : Type 0) (result : Result A E) → IsErr result → OnOk result P
-no_ok P (Ok x) h = absurd (true≢false (sym h))
-no_ok P (Err e) h = tt
-
-no_if_ok : {A E : Type 0} (P : A → Type 0) (result : Result A E) → IsErr result → IfOk result P
-no_if_ok P (Ok x) h = absurd (true≢false (sym h))
-no_if_ok P (Err e) h = tt
-
-on_err : {A E : Type 0} (P : Type 0) (result : Result A E) → P → OnErr result P
-on_err P (Ok x) p = tt
-on_err P (Err e) p = p
-
-err_or : {A E : Type 0} (P Q : Type 0) (result : Result A E) → OnErr result P → OnErr result (Q ⊎ P)
-err_or P Q (Ok x) p = tt
-err_or P Q (Err e) p = inr p
 
 -- ---- the names
 
@@ -60,13 +44,9 @@ standing_done names d n free =
     ∙ more_done (insert_entry nat_cmp es k (begun [])) k (begun []) d n (has d.done n) (put_found es k (begun [])) refl
     ∙ ap (λ b. b || has d.done n) (none_done es k (begun []) n free refl)
 
-neither : (a b : Bool) → (a || b) ≡ false → a ≡ false
-neither true b e = e
-neither false b e = refl
-
 -- the list that reads has the names that it need have
 covers_standing : (names : ManagedNames) (d : Collection) (read : Option (List ℕ)) → collection_at names.collections names.collections.next ≡ None → Covers read names → Covers read (standing names d)
-covers_standing names d read free was = (was.0, was.1, λ n h none. was.2 n h (neither _ _ (sym (standing_done names d n free) ∙ none)))
+covers_standing names d read free was = (was.0, was.1, λ n h none. was.2 n h (or_parts _ _ (sym (standing_done names d n free) ∙ none)).0)
 
 -- all that is kept in memory, without these names, and with this number as the next
 abbrev pub left_with : ManagedNames → List (List ℕ) → ℕ → ManagedNames
@@ -101,7 +81,7 @@ leaves_of g taken front rest deleted failed {old} {new} result split t ok err =
       split = split;
       each = t.each;
       ok = subst (λ l. OnOk result (new.1 ≡ record old.1 { managed = without l old.1.managed })) t.deleted_is ok;
-      err = err_or _ _ result (subst (λ l. OnErr result (new.1 ≡ standing old.1 (record { untried = rest; done = done_of front t.outcomes; failed = l }))) t.failed_is (subst (λ l. OnErr result (new.1 ≡ standing old.1 (record { untried = rest; done = l; failed = failed }))) t.deleted_is err));
+      err = on_err_weaker result (λ stands. inr stands) (subst (λ l. OnErr result (new.1 ≡ standing old.1 (record { untried = rest; done = done_of front t.outcomes; failed = l }))) t.failed_is (subst (λ l. OnErr result (new.1 ≡ standing old.1 (record { untried = rest; done = l; failed = failed }))) t.deleted_is err));
       gone = λ tell n h. t.gone tell n (had n true h);
       others = λ tell n h other. t.others tell n (had n false h) other;
       spared = λ tell n h other. t.others tell n (missed n h) other;
@@ -208,8 +188,8 @@ collects_none g {old} {new} result is t same list safe = record {
     outcomes = [];
     split = refl;
     each = refl;
-    ok = no_ok _ result is;
-    err = on_err _ result (inl (same, refl));
+    ok = IfOk-from_err result _ is;
+    err = on_err result (inl (same, refl));
     gone = λ tell n h. absurd (true≢false (sym h));
     others = λ tell n h other. t.others tell n refl other;
     spared = λ tell n h other. t.others tell n refl other;
@@ -219,12 +199,12 @@ collects_none g {old} {new} result is t same list safe = record {
     calm = λ none. t.calm refl;
     fits = t.fits;
   };
-  tries = no_if_ok _ result is;
+  tries = IfOk-from_err result _ is;
   saves = record {
-    list = λ tells was. no_ok _ result is;
+    list = λ tells was. IfOk-from_err result _ is;
     covers = λ tells was. subst (Covers ((g.view new.0).reads list_name)) (sym same) (subst (λ r. Covers r old.1) (sym (list tells)) was);
   };
-  saves_none = λ tells. no_if_ok _ result is;
+  saves_none = λ tells. IfOk-from_err result _ is;
   safe = λ tells.
       let settles = (safe tells).states in
       record {
@@ -237,10 +217,10 @@ collects_none g {old} {new} result is t same list safe = record {
 pub collects_far : {E D W C : Type 0} (g : Ghosts D W C) (taken : List (List ℕ)) {old new : D × ManagedNames} (result : Result GarbageCollectionResult E) → IsErr result → Far g taken old new → CollectsNames g taken old new result
 unfolding leaves_of
 collects_far g taken {old} {new} result is f = record {
-  leaves = leaves_of g taken f.front f.rest f.deleted f.failed result f.split f.tried (no_ok _ result is) (on_err _ result f.names);
-  tries = no_if_ok _ result is;
-  saves = record { list = λ tells was. no_ok _ result is; covers = λ tells was. covers_far g f tells was };
-  saves_none = λ tells. no_if_ok _ result is;
+  leaves = leaves_of g taken f.front f.rest f.deleted f.failed result f.split f.tried (IfOk-from_err result _ is) (on_err result f.names);
+  tries = IfOk-from_err result _ is;
+  saves = record { list = λ tells was. IfOk-from_err result _ is; covers = λ tells was. covers_far g f tells was };
+  saves_none = λ tells. IfOk-from_err result _ is;
   safe = λ tells.
       let tries = (f.safe tells).states in
       record { tracks = (f.safe tells).tracks; states = record { touches = tries.touches; synced = tries.synced _; forgets = λ was. forgets_none g old new (ap (λ v. v.managed) f.names) } };
@@ -266,10 +246,10 @@ unfolding leaves_of
 collects_unended g taken number {old} {mid} {new} e result is same f ends kept ended =
     let tried = tried_on g f.tried (tried_none g mid new kept ends.others) in
     record {
-      leaves = leaves_of g taken f.front f.rest f.deleted f.failed result f.split tried (no_ok _ result is) (on_err _ result (ends.err ∙ f.names));
-      tries = no_if_ok _ result is;
-      saves = record { list = λ tells was. no_ok _ result is; covers = λ tells was. ends.saves.covers tells (covers_far g f tells was) };
-      saves_none = λ tells. no_if_ok _ result is;
+      leaves = leaves_of g taken f.front f.rest f.deleted f.failed result f.split tried (IfOk-from_err result _ is) (on_err result (ends.err ∙ f.names));
+      tries = IfOk-from_err result _ is;
+      saves = record { list = λ tells was. IfOk-from_err result _ is; covers = λ tells was. ends.saves.covers tells (covers_far g f tells was) };
+      saves_none = λ tells. IfOk-from_err result _ is;
       safe = λ tells.
           let last = ended tells (last_of g f) (at_far g number same f) in
           let tries = (f.safe tells).states in

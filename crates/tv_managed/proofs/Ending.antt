@@ -1,7 +1,7 @@
 -- How the end of a collection keeps track, and what it saves.
 use Rattle.std.proofs.Common.{◌≡◌, ℕ, Bool, true, false, true≢false, not, ◌||◌, ⊎_elim, ◌⊎◌, List, Option, None, Some, refl, sym, ap, subst, ◌∙◌}
 use Rattle.std.specs.Prelude.{IsSome}
-use Rattle.std.proofs.lemmas.Bool.{or_left, or_right}
+use Rattle.std.proofs.lemmas.Bool.{not-true, or_left, or_right}
 use Rattle.tv_model.specs.Names.{has}
 use Rattle.tv_model.specs.Listing.{Lists}
 use Rattle.tv_model.specs.Collections.{Collection, collection_at, without, without_collection}
@@ -26,13 +26,9 @@ some_is (Some x) some = (x, refl)
 pub lacks_done : (names : ManagedNames) (number : ℕ) (d : Collection) → collection_at names.collections number ≡ Some d → LacksDone (without d.done names.managed) names
 lacks_done names number d at n h lost = sym (among_done names.collections.unfinished number d n at) ∙ or_left (has d.done n) _ (lost_is_gone d.done names.managed n h lost)
 
-not_true : (b : Bool) → not b ≡ true → b ≡ false
-not_true true e = absurd (true≢false (sym e))
-not_true false e = refl
-
 -- what is left isn't done by the collection
 left_free : (d : Collection) (names : List (List ℕ)) (n : List ℕ) → has (without d.done names) n ≡ true → has d.done n ≡ false
-left_free d names n h = not_true (has d.done n) (both (not (has d.done n)) (has names n) (sym (has_without d.done names n) ∙ h)).0
+left_free d names n h = not-true (has d.done n) (both (not (has d.done n)) (has names n) (sym (has_without d.done names n) ∙ h)).0
 
 still_free : (names : ManagedNames) (number : ℕ) (d : Collection) → collection_at names.collections number ≡ Some d → (n : List ℕ) → has (without d.done names.managed) n ≡ true
     → has (done_names (without_collection names.collections number)) n ≡ false → has (done_names names.collections) n ≡ false

@@ -10,10 +10,12 @@ use Rattle.tv_base.specs.declared.open_errors.DeleteError.{DeleteError}
 use Rattle.tv_base.specs.declared.open_errors.DeleteError.TheVariants as delete
 use Rattle.tv_directory.specs.Images.{DeletesState, KeepsDisk, KeepsOtherStates}
 use Rattle.tv_directory.specs.declared.directory.Directory.{Ghosts}
-use Rattle.tv_managed.specs.Crashes.{Gains, IsCovered, IsGiven, IsNewList, IsTracked, KeepsTrack, SettlesStates, LeavesSafely}
+use Rattle.tv_managed.specs.Crashes.{GivesSafely, IsCovered, IsTracked, KeepsTrack, ListsName, SettlesStates, LeavesSafely}
+use Rattle.tv_managed.specs.Managed.{registering}
 use Rattle.tv_managed.specs.Names.{ManagedNames, done_names}
+use Rattle.tv_managed.proofs.Listing.{has_registered}
 use Rattle.tv_managed.proofs.Touching.{gained_more, gained_one, gained_then}
-use Rattle.tv_managed.proofs.Tracking.{covered_within, fewer, track_file}
+use Rattle.tv_managed.proofs.Tracking.{covered_within, fewer, track_file, track_from, track_then}
 
 -- a call that only reads, and begins with the struct taken apart
 pub read_from : {D W C : Type 0} (g : Ghosts D W C) {old inside new : D × ManagedNames} → inside ≡ old → LeavesSafely g (KeepsDisk (g.disk inside.0) (g.disk new.0)) inside new → LeavesSafely g (KeepsDisk (g.disk old.0) (g.disk new.0)) old new
@@ -45,12 +47,24 @@ track_deleted g time adds stays other was = track_file g time adds other (λ und
 
 -- ---- states of a file and of the list
 
--- the list may have its name, and then it is made, where the call begins with the struct taken apart
-pub both_from : {D W C : Type 0} (g : Ghosts D W C) (old : D × ManagedNames) {mid inside : D × ManagedNames} {new : D} {name : List ℕ} {state : DiskState} → inside ≡ mid → Throughout (Gains (IsNewList old.1 name) (possible_now (g.disk old.0))) (g.disk old.0) (g.disk mid.0)
-    → Elapses (g.disk inside.0) (g.disk new) → MayAdd (possible_now (g.disk inside.0)) (possible_now (g.disk new)) name state → Throughout (Gains (IsGiven old.1 name state) (possible_now (g.disk old.0))) (g.disk old.0) (g.disk new)
-both_from g old {new = new} {name} {state} same listed time adds =
-    gained_then (gained_more (λ n s it. inr it) listed)
-    (gained_more (λ n s it. inl it) (gained_one (subst (λ v. Elapses (g.disk v.0) (g.disk new)) same time) (subst (λ v. MayAdd (possible_now (g.disk v.0)) (possible_now (g.disk new)) name state) same adds)))
+-- a name is listed, and then its file is made, or given its bytes, by a call that begins with the struct taken apart
+pub given_safely : {A E D W C : Type 0} (g : Ghosts D W C) {old listed inside : D × ManagedNames} {new : D} {name : List ℕ} {state : DiskState} {result : Result A E} → ListsName g old listed name → inside ≡ listed → listed.1 ≡ registering old.1 name → name ≢ list_name
+    → (is_undotted name ≡ true → has (done_names old.1.collections) name ≡ false) → Elapses (g.disk inside.0) (g.disk new) → MayAdd (possible_now (g.disk inside.0)) (possible_now (g.disk new)) name state → KeepsOtherStates (g.disk inside.0) (g.disk new) name
+    → OnOk result ((g.disk new).now name ≡ state) → GivesSafely g name state old (new, inside.1) result
+given_safely g {old} {inside = inside} {new} {name} {state} lists same names other free time adds others stands =
+    let on : is_undotted name ≡ true → (has inside.1.managed name ≡ true) × (has (done_names inside.1.collections) name ≡ false) = λ undotted. (
+      ap (λ v. has v.1.managed name) same ∙ ap (λ v. has v.managed name) names ∙ has_registered old.1.managed name undotted,
+      ap (λ v. has (done_names v.1.collections) name) same ∙ ap (λ v. has (done_names v.collections) name) names ∙ free undotted,
+    ) in
+    record {
+      tracks = λ was. let first = lists.tracks was in track_then g first (track_from g same (track_given g time adds others other on) first.tracked);
+      states = record {
+        moments = gained_then (gained_more (λ n s it. inr it) lists.moments)
+            (gained_more (λ n s it. inl it) (gained_one (subst (λ v. Elapses (g.disk v.0) (g.disk new)) same time) (subst (λ v. MayAdd (possible_now (g.disk v.0)) (possible_now (g.disk new)) name state) same adds)));
+        now = record { each = λ n untouched. others n (λ e. untouched (inl e)) ∙ ap (λ v. (g.disk v.0).now n) same ∙ lists.now.each n (λ e. untouched (inr e)) };
+        stands = stands;
+      };
+    }
 
 -- ---- states of which there are no more
 

@@ -10,6 +10,7 @@ pub mod Images
 pub mod Touching
 pub mod Synced
 pub mod Saves
+pub mod Making
 pub mod Listing
 pub mod Giving
 pub mod AtOnce

@@ -1,9 +1,9 @@
 -- How a step of a collection keeps track.
-use Rattle.std.proofs.Common.{◌≡◌, ◌≢◌, ⊎_elim, ℕ, Bool, true, false, true≢false, ◌&&◌, ◌||◌, List, [], ◌∷◌, refl, sym, ap, subst, ◌∙◌, Some, Result, Ok, Err}
+use Rattle.std.proofs.Common.{◌≡◌, ◌≢◌, ⊎_elim, ℕ, Bool, true, false, true≢false, ◌&&◌, ◌||◌, List, [], ◌∷◌, sym, ap, subst, ◌∙◌, Some, Result, Ok, Err}
 use Rattle.std.specs.Prelude.{IfOk}
 use Rattle.std.proofs.lemmas.Result.{IfOk-weaker}
 use Rattle.std.proofs.Math.Bool.{or-false}
-use Rattle.std.proofs.lemmas.Bool.{or_cases}
+use Rattle.std.proofs.lemmas.Bool.{and_parts, or_cases, or_parts}
 use Rattle.tv_model.specs.Disk.{Absent}
 use Rattle.tv_model.specs.Names.{has, is, is_plain, list_name}
 use Rattle.tv_model.specs.Collections.{Collection, Collections, collection_at, having_tried, with_collection}
@@ -32,14 +32,6 @@ pub done_after : (cs : Collections) (number : ℕ) (d : Collection) (name : List
     → has (done_names (with_collection cs number (having_tried d name left gone))) n ≡ (has (done_names cs) n || (gone && is name n))
 done_after cs number d name left gone n at = more_done cs.unfinished number d (having_tried d name left gone) n (gone && is name n) at (tried_done d name left gone n)
 
-none_left : (a b : Bool) → (a || b) ≡ false → a ≡ false
-none_left true b e = e
-none_left false b e = refl
-
-both_true : (a b : Bool) → (a && b) ≡ true → (a ≡ true) × (b ≡ true)
-both_true true b e = (refl, e)
-both_true false b e = absurd (true≢false (sym e))
-
 -- a name was tried, and that was noted
 pub step_safely : {E F D W C : Type 0} (g : Ghosts D W C) (number : ℕ) (d : Collection) (name : List ℕ) (left : List (List ℕ)) (gone : Bool) {old : D × ManagedNames} {new : D} {now : ManagedNames} (step : CollectStep) → TriesState {E = E} (g.disk old.0) (g.disk new) name (Ok gone) → is_plain name ≡ true
     → collection_at old.1.collections number ≡ Some d → now ≡ record old.1 { collections = with_collection old.1.collections number (having_tried d name left gone) } → is_done step ≡ gone
@@ -50,10 +42,10 @@ step_safely g number d name left gone {old} {new} {now} step tries plain at so s
       let later = with_collection old.1.collections number (having_tried d name left gone) in
       let second : KeepsTrack g (new, old.1) (new, record old.1 { collections = later }) = track_names g
       (covered_done
-      (λ n h none. none_left _ _ (sym (done_after old.1.collections number d name left gone n at) ∙ none))
+      (λ n h none. (or_parts _ _ (sym (done_after old.1.collections number d name left gone n at) ∙ none)).0)
       (λ n undotted h. ⊎_elim
       (λ before. first.tracked.gone n undotted before)
-      (λ it. let two = both_true gone (is name n) it in subst (λ m. (g.disk new).now m ≡ Absent) (is_text name n two.1) (tries.gone two.0))
+      (λ it. let two = and_parts gone (is name n) it in subst (λ m. (g.disk new).now m ≡ Absent) (is_text name n two.1) (tries.gone two.0))
       (or_cases _ _ (sym (done_after old.1.collections number d name left gone n at) ∙ h)))
       first.tracked)
       first.tracked in

@@ -1,7 +1,7 @@
 -- What each step keeps of the list, where it forgets no file that a crash may leave.
-use Rattle.std.proofs.Common.{◌≡◌, ◌≢◌, ⊎_elim, ℕ, true, false, true≢false, List, sym, ap, subst, ◌∙◌, arith, Some}
+use Rattle.std.proofs.Common.{◌≡◌, ◌≢◌, ⊎_elim, ℕ, true, false, true≢false, List, sym, ap, subst, ◌∙◌, Some}
 use Rattle.std.proofs.lemmas.Bool.{false_from_ne_true}
-use Rattle.tv_model.specs.Disk.{DiskState, Absent, Sealed, IsThere, MayRead, Possible, Disk, possible_now, Within, MayAdd, Elapses, Throughout}
+use Rattle.tv_model.specs.Disk.{DiskState, Absent, Sealed, IsThere, MayRead, Possible, possible_now, Within, MayAdd, Elapses}
 use Rattle.tv_model.specs.Listed.{IsAList, IsOnEach, ListsEachFile}
 use Rattle.tv_model.specs.Listing.{IsListOf, Lists}
 use Rattle.tv_model.specs.Names.{has, is_undotted, list_name}

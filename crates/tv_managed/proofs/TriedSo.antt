@@ -1,10 +1,11 @@
 -- What a collection's outcomes say of its names.
-use Rattle.std.proofs.Common.{◌≡◌, ℕ, zero, ◌<◌, ◌≤◌, ◌+◌, suc, Bool, true, false, ◌||◌, List, [], ◌∷◌, ◌++◌, length, drop, take, get_or, drop-cons, length-drop, set, string_bytes, String, Global, refl, sym, ap, ◌∙◌, arith}
+use Rattle.std.proofs.Common.{◌≡◌, ℕ, ◌<◌, ◌≤◌, ◌+◌, suc, Bool, true, false, ◌||◌, List, [], ◌∷◌, ◌++◌, length, drop, take, get_or, drop-cons, length-drop, set, string_bytes, String, Global, refl, sym, ap, ◌∙◌, arith}
+use Rattle.std.proofs.lemmas.Bool.{both_ways, true_from_ne_false}
+use Rattle.std.proofs.lemmas.List.Folds.{list_all_at}
 use Rattle.std.proofs.lemmas.List.{length-take-le, map-append, take_more, take_more_set}
 use Rattle.std.specs.Prelude.{if◌then◌else◌}
 use Rattle.std.specs.List.{list_all}
 use Rattle.tv_model.specs.Names.{has, is, is_plain}
-use Rattle.tv_model.proofs.PlainNames.{both}
 use Rattle.tv_model.proofs.CollectionStates.{has_append}
 use Rattle.tv_model.specs.Collections.{Collection, having_tried, taken}
 use Rattle.tv_managed.specs.Collecting.{names_of}
@@ -84,6 +85,4 @@ outcome_more names outcomes i d b lt le = ap (tried_so names) (take_more outcome
 
 -- a managed name is plain
 pub plain_at : (names : List (List ℕ)) (i : ℕ) (d : List ℕ) → i < length names → list_all is_plain names ≡ true → is_plain (get_or names i d) ≡ true
-plain_at [] i d lt h = absurd (omega arith)
-plain_at (name ∷ names) zero d lt h = (both (is_plain name) (list_all is_plain names) h).0
-plain_at (name ∷ names) (suc i) d lt h = plain_at names i d (omega arith) (both (is_plain name) (list_all is_plain names) h).1
+plain_at names i d lt h = true_from_ne_false _ (λ e. both_ways _ (list_all_at is_plain names i d lt e) h)

@@ -1,64 +1,36 @@
-use Rattle.std.proofs.Common.{rules, refl, ap, ◌∙◌, ◌≡◌, inl, inr, map, string_bytes, true, false}
-use Rattle.tv_model.specs.Names.{has, is_undotted}
-use Rattle.tv_managed.specs.Names.{ManagedNames, done_names}
+use Rattle.std.proofs.Common.{refl, ap, subst, inr}
+use Rattle.std.proofs.lemmas.Result.{IfOk-from_err, on_ok_weaker}
+use Rattle.tv_model.specs.Files.{KeepsOthers}
 use Rattle.tv_managed.proofs.Collections.{done_held}
-use Rattle.tv_managed.proofs.Saves.{lists_new, manages_new, others_written, unsaved_by}
-use Rattle.tv_managed.proofs.Listing.{has_registered}
-use Rattle.tv_managed.proofs.Giving.{both_from, track_given}
-use Rattle.tv_managed.proofs.Tracking.{track_from, track_then}
+use Rattle.tv_managed.proofs.Making.{manages_by, manages_unlisted, others_written}
+use Rattle.tv_managed.proofs.Giving.{given_safely}
 use Rattle.tv_managed.proofs.Touching.{gained_more, others_given}
 use Rattle.tv_managed.proofs.managed_directory.ManagedDirectory.atomic_write.Goals as goal
 
 pub returns-clause-manages : goal.returns-clause-manages
 returns-clause-manages g c =
     let D = g.D.Directory in
-    let list = c.in_ok-register_file_as_managed.ensures.list in
-    record {
-      ok = search rules;
-      err = search rules;
-      saves = search rules;
-      unsaved = λ tells put. unsaved_by (λ d. (D.view d).reads) c.args.self.now.0 c.args.self.now.0 c.register_file_as_managed.new.self.0 c.self.inside.directory c.atomic_write.new.self c.args.name.now (ap (λ v. v.0) c.self.view_is) (λ n. refl) (list.unsaved tells put)
-          (others_written c.atomic_write.result (D.view c.self.inside.directory).reads (D.view c.atomic_write.new.self).reads c.args.name.now _ (c.atomic_write.ensures.gives.ok tells) (c.atomic_write.ensures.gives.err tells)) c.requires.other;
-      listed = λ tells covers.
-          lists_new (λ d. (D.view d).reads) c.args.self.now.0 c.args.self.now.0 c.register_file_as_managed.new.self.0 c.self.inside.directory c.atomic_write.new.self c.args.name.now (ap (λ v. v.0) c.self.view_is) (λ n. refl) (list.others tells)
-          (others_written c.atomic_write.result (D.view c.self.inside.directory).reads (D.view c.atomic_write.new.self).reads c.args.name.now _ (c.atomic_write.ensures.gives.ok tells) (c.atomic_write.ensures.gives.err tells)) c.requires.other
-          (λ undotted. list.on_list tells covers (done_held c.args.self.now.1.collections.unfinished c.args.name.now (c.requires.free undotted)) undotted);
-      managed = λ tells.
-          manages_new (λ d. (D.view d).reads) c.args.self.now.0 c.args.self.now.0 c.register_file_as_managed.new.self.0 c.self.inside.directory c.atomic_write.new.self c.args.name.now (ap (λ v. v.0) c.self.view_is) (λ n. refl) (list.others tells)
-          (others_written c.atomic_write.result (D.view c.self.inside.directory).reads (D.view c.atomic_write.new.self).reads c.args.name.now _ (c.atomic_write.ensures.gives.ok tells) (c.atomic_write.ensures.gives.err tells))
-          c.args.self.now.1.managed _ (ap (λ v. v.1.managed) c.self.view_is ∙ ap (λ v. v.managed) list.names);
-    }
+    manages_by D {old = c.args.self.now} {asked = c.args.self.now} (λ tells n. refl) refl c.in_ok-register_file_as_managed.ensures.list (ap (λ v. v.1) c.self.view_is)
+    (λ tells. subst (λ v. KeepsOthers (D.view v.0).reads (D.view c.atomic_write.new.self).reads c.args.name.now) c.self.view_is
+    (others_written c.atomic_write.result (D.view c.self.inside.directory).reads (D.view c.atomic_write.new.self).reads c.args.name.now _ (c.atomic_write.ensures.gives.ok tells) (c.atomic_write.ensures.gives.err tells)))
+    c.requires.other c.atomic_write.result
+    (λ undotted. done_held c.args.self.now.1.collections.unfinished c.args.name.now (c.requires.free undotted))
+
+pub returns-in_err-register_file_as_managed-clause-manages : goal.returns-in_err-register_file_as_managed-clause-manages
+returns-in_err-register_file_as_managed-clause-manages g c =
+    manages_unlisted g.D.Directory {old = c.args.self.now} {asked = c.args.self.now} c.from_residual.result c.from_residual.ensures.0 (λ tells n. refl) refl c.in_err-register_file_as_managed.ensures.list
 
 pub returns-in_err-register_file_as_managed-clause-safe : goal.returns-in_err-register_file_as_managed-clause-safe
 returns-in_err-register_file_as_managed-clause-safe g c = λ tells.
-    let listed = c.in_err-register_file_as_managed.ensures.images tells in
+    let lists = c.in_err-register_file_as_managed.ensures.images tells in
     record {
-      tracks = listed.tracks;
-      states = record {
-        moments = gained_more (λ n s it. inr it) listed.moments;
-        now = record { each = λ n other. listed.now.each n (λ e. other (inr e)) };
-        stands = search rules;
-      };
+      tracks = lists.tracks;
+      states = record { moments = gained_more (λ n s it. inr it) lists.moments; now = record { each = λ n other. lists.now.each n (λ e. other (inr e)) }; stands = IfOk-from_err c.from_residual.result _ c.from_residual.ensures.0 };
     }
 
 pub returns-clause-safe : goal.returns-clause-safe
 returns-clause-safe g c = λ tells.
     let D = g.D.Directory in
-    let name = c.args.name.now in
-    let listed = c.in_ok-register_file_as_managed.ensures.images tells in
-    let names = c.in_ok-register_file_as_managed.ensures.list.names in
     let gives = c.atomic_write.ensures.images tells in
-    let others = others_given c.atomic_write.result gives in
-    let inside : ManagedNames = record { managed = map string_bytes c.self.inside.managed.keys; collections = c.self.inside.collections } in
-    let free : is_undotted name ≡ true → has (done_names inside.collections) name ≡ false =
-    λ undotted. ap (λ v. has (done_names v.1.collections) name) c.self.view_is ∙ ap (λ v. has (done_names v.collections) name) names ∙ done_held c.args.self.now.1.collections.unfinished c.args.name.now (c.requires.free undotted) in
-    let there : is_undotted name ≡ true → has inside.managed name ≡ true =
-    λ undotted. ap (λ v. has v.1.managed name) c.self.view_is ∙ ap (λ v. has v.managed name) names ∙ has_registered _ name undotted in
-    record {
-      tracks = λ was. track_then D (listed.tracks was) (track_from D c.self.view_is (track_given D gives.time gives.no_more others c.requires.other (λ undotted. (there undotted, free undotted))) (listed.tracks was).tracked);
-      states = record {
-        moments = both_from D c.args.self.now c.self.view_is listed.moments gives.time gives.no_more;
-        now = record { each = λ n other. others n (λ e. other (inl e)) ∙ ap (λ v. (D.disk v.0).now n) c.self.view_is ∙ listed.now.each n (λ e. other (inr e)) };
-        stands = search rules;
-      };
-    }
+    given_safely D (c.in_ok-register_file_as_managed.ensures.images tells) c.self.view_is c.in_ok-register_file_as_managed.ensures.list.names c.requires.other
+    (λ undotted. done_held c.args.self.now.1.collections.unfinished c.args.name.now (c.requires.free undotted)) gives.time gives.no_more (others_given c.atomic_write.result gives) (on_ok_weaker c.atomic_write.result (λ sets. sets.now) gives.ok)

@@ -1,11 +1,12 @@
 use Rattle.std.proofs.Common.{◌≡◌, ◌+◌, ◌-◌, [], Ok, refl, inl, inr, ap, sym, subst, ◌∙◌, arith, map, string_bytes}
 use Rattle.std.specs.Prelude.{is_some}
+use Rattle.std.proofs.lemmas.Result.{IfOk-from_err}
 use Rattle.tv_base.specs.declared.error.TantivyError.{TantivyError}
 use Rattle.tv_model.specs.Collections.{Collections, collection_at}
 use Rattle.tv_managed.specs.Collecting.{Begins, names_of, taken_by}
 use Rattle.tv_managed.specs.Crashes.{CollectsNames}
 use Rattle.tv_managed.specs.Names.{ManagedNames}
-use Rattle.tv_managed.proofs.AtOnce.{Far, at_far, collects_all, collects_far, collects_none, collects_unended, ended_far, far, given_back, last_names, last_of, no_ok}
+use Rattle.tv_managed.proofs.AtOnce.{Far, at_far, collects_all, collects_far, collects_none, collects_unended, ended_far, far, given_back, last_names, last_of}
 use Rattle.tv_managed.proofs.Beginning.{begun_safely}
 use Rattle.tv_managed.proofs.Giving.{settles_asked, settles_none}
 use Rattle.tv_managed.proofs.Tracking.{track_read, track_then}
@@ -18,7 +19,7 @@ returns-in_err-living-clause-collects g c =
     let asks = c.in_err-living.ensures.asks in (
       [],
       collects_none D c.from_residual.result c.from_residual.ensures.0 (tried_quiet D _ _ asks.frame) asks.frame.names (λ tells. asks.frame.below.content tells _)
-          (λ tells. record { tracks = track_read D asks.frame.names (asks.images tells); states = settles_none (asks.images tells) (no_ok _ c.from_residual.result c.from_residual.ensures.0) }),
+          (λ tells. record { tracks = track_read D asks.frame.names (asks.images tells); states = settles_none (asks.images tells) (IfOk-from_err c.from_residual.result _ c.from_residual.ensures.0) }),
       inl (c.from_residual.ensures.0, refl, asks.frame.names),
     )
 

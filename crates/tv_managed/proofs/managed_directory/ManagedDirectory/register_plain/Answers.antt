@@ -1,11 +1,12 @@
 use Rattle.std.proofs.Common.{rules, refl, ◌≡◌, true, false, sym, ap, subst, ◌∙◌, List, ℕ, [], ◌∷◌, map, string_bytes}
 use Rattle.std.specs.BTreeSet.{insert_key}
 use Rattle.tv_model.specs.Collections.{without}
-use Rattle.tv_model.specs.Listing.{IsOnList}
+use Rattle.tv_model.specs.Files.{KeepsOthers}
 use Rattle.tv_model.specs.Names.{byte_cmp, has, is_undotted, list_name}
 use Rattle.tv_model.proofs.Entries.{has_inserted, has_kept, insert_present}
+use Rattle.tv_directory.specs.View.{Kept}
 use Rattle.tv_managed.specs.Managed.{Covers, NeedsNoListing, registered, registering}
-use Rattle.tv_managed.specs.Names.{AreManaged, ManagedNames, done_names}
+use Rattle.tv_managed.specs.Names.{AreManaged, ManagedNames}
 use Rattle.tv_managed.proofs.Removals.{without_inserted}
 use Rattle.tv_managed.proofs.SetsOfTexts.{had_is}
 use Rattle.tv_managed.proofs.Saves.{covers_put, isnt_listed}
@@ -32,27 +33,41 @@ returns-then-contains-clause-list g c =
     let there = had_is c.self.inside.managed.keys _ c.args.name.now true c.if-contains.ensures names in
     let put : old ≡ registering old c.args.name.now =
     ap (with_names old) (sym (insert_present old.managed c.args.name.now there (subst AreManaged names c.self.invariant).ordered)) ∙ puts old c.args.name.now c.requires.undotted in
-    let on : Covers ((g.D.Directory.view c.args.self.now.0).reads list_name) old → has (done_names old.collections) c.args.name.now ≡ false → IsOnList ((g.D.Directory.view c.args.self.now.0).reads list_name) c.args.name.now =
-    λ was free. (was.0, was.1, was.2 c.args.name.now there free) in
-    search rules
+    record {
+      saves = record { list = λ tells was. was; covers = λ tells was. was };
+      on_list = λ tells was free undotted. (was.0, was.1, was.2 c.args.name.now there free);
+      names = put;
+      kept = tt;
+      unsaved = λ tells listed. refl;
+      others = λ tells n ne. refl;
+      frame = search rules;
+    }
 
 pub returns-in-Ok-clause-list : goal.returns-in-Ok-clause-list
 unfolding with_names
 returns-in-Ok-clause-list g c =
+    let D = g.D.Directory in
     let old = c.args.self.now.1 in
     let new = c.save.new.self.1 in
     let lists = c.in-Ok.ensures.lists in
     let put : new ≡ registering old c.args.name.now = c.in-Ok.ensures.only.frame.names ∙ c.in_ok-add.ensures.names ∙ puts old c.args.name.now c.requires.undotted in
     let managed : new.managed ≡ insert_key byte_cmp old.managed c.args.name.now = ap (λ v. v.managed) (c.in-Ok.ensures.only.frame.names ∙ c.in_ok-add.ensures.names) in
-    let covers : g.D.Directory.told.content → Covers ((g.D.Directory.view c.save.new.self.0).reads list_name) new = λ tells. (new.managed, lists tells, λ n h free. h) in
-    let on : g.D.Directory.told.content → IsOnList ((g.D.Directory.view c.save.new.self.0).reads list_name) c.args.name.now = λ tells. (new.managed, lists tells, rw managed (has_inserted old.managed c.args.name.now)) in
     let names : map string_bytes c.self.inside.managed.keys ≡ old.managed = ap (λ v. v.1.managed) c.self.view_is in
     let new_name : NeedsNoListing old c.args.name.now → ⊥ = isnt_listed old c.args.name.now c.requires.undotted (had_is c.self.inside.managed.keys _ c.args.name.now false c.if-contains.ensures names) in
-    search rules
+    record {
+      saves = record { list = λ tells was. lists tells; covers = λ tells was. (new.managed, lists tells, λ n h free. h) };
+      on_list = λ tells was free undotted. (new.managed, lists tells, rw managed (has_inserted old.managed c.args.name.now));
+      names = put;
+      kept = tt;
+      unsaved = λ tells listed. absurd (new_name listed);
+      others = λ tells. subst (λ d. KeepsOthers (D.view d).reads (D.view c.save.new.self.0).reads list_name) c.in_ok-add.ensures.directory (c.in-Ok.ensures.only.others tells);
+      frame = subst (λ d. Kept D.told (D.view d) (D.view c.save.new.self.0)) c.in_ok-add.ensures.directory c.in-Ok.ensures.only.frame.below;
+    }
 
 pub returns-in-Err-clause-list : goal.returns-in-Err-clause-list
 unfolding with_names
 returns-in-Err-clause-list g c =
+    let D = g.D.Directory in
     let old = c.args.self.now.1 in
     let only = c.in-Err.ensures.only in
     let names : map string_bytes c.self.inside.managed.keys ≡ c.args.self.now.1.managed = ap (λ v. v.1.managed) c.self.view_is in
@@ -60,10 +75,18 @@ returns-in-Err-clause-list g c =
     let put = c.in-Err.ensures.only.frame.names ∙ c.in_ok-add.ensures.names in
     let same : c.forget.new.self.1 ≡ c.args.self.now.1 =
     c.forget.ensures.names ∙ ap (λ v. with_names v (without (c.args.name.now ∷ []) v.managed)) put ∙ ap (with_names c.args.self.now.1) (without_inserted c.args.self.now.1.managed _ _ c.args.name.now (subst AreManaged names c.self.invariant) none refl refl) in
-    let covers : g.D.Directory.told.content → Covers ((g.D.Directory.view c.args.self.now.0).reads list_name) old → Covers ((g.D.Directory.view c.forget.new.self.0).reads list_name) c.forget.new.self.1 = λ tells was.
+    let covers : D.told.content → Covers ((D.view c.args.self.now.0).reads list_name) old → Covers ((D.view c.forget.new.self.0).reads list_name) c.forget.new.self.1 = λ tells was.
     rw (c.forget.ensures.directory, same) (covers_put _ _ old c.save.new.self.1.managed (λ n h free. rw (ap (λ v. v.managed) (only.frame.names ∙ c.in_ok-add.ensures.names)) (has_kept old.managed c.args.name.now n h)) (only.either tells) (rw c.in_ok-add.ensures.directory was)) in
     let new_name : NeedsNoListing old c.args.name.now → ⊥ = isnt_listed old c.args.name.now c.requires.undotted none in
-    search rules
+    record {
+      saves = record { list = λ tells was. tt; covers = covers };
+      on_list = λ tells was free undotted. tt;
+      names = tt;
+      kept = same;
+      unsaved = λ tells listed. absurd (new_name listed);
+      others = λ tells. rw (c.forget.ensures.directory, ← c.in_ok-add.ensures.directory) (only.others tells);
+      frame = rw (c.forget.ensures.directory, ← c.in_ok-add.ensures.directory) only.frame.below;
+    }
 
 pub returns-then-contains-clause-images : goal.returns-then-contains-clause-images
 returns-then-contains-clause-images g c = λ tells. lists_same g.D.Directory c.args.name.now {old = c.args.self.now} {new = c.args.self.now} refl refl

@@ -1,4 +1,4 @@
-use Rattle.std.proofs.Common.{rules, ◌≡◌, refl, Result, Ok, Err, subst, sym}
+use Rattle.std.proofs.Common.{rules, ◌≡◌, ◌∙◌, refl, Result, Ok, Err, subst, sym, arith}
 use Rattle.std.specs.Result.{IsErrAnd}
 use Rattle.tv_base.specs.Errors.{of_lock}
 use Rattle.tv_base.specs.declared.error.TantivyError.{TantivyError}
@@ -8,6 +8,7 @@ use Rattle.tv_directory.specs.Calls.{LockFaults}
 use Rattle.tv_directory.specs.declared.directory.Directory.{Ghosts}
 use Rattle.tv_managed.specs.Collecting.{LockedFaults, meta_lock_name}
 use Rattle.tv_managed.specs.Names.{ManagedNames}
+use Rattle.tv_managed.proofs.Touching.{reads_then}
 use Rattle.tv_managed.proofs.managed_directory.ManagedDirectory.under_meta_lock.Goals as goal
 
 -- the lock wasn't given
@@ -27,4 +28,37 @@ returns-in_err-lock-clause-asks g c =
       frame = search rules;
       images = search rules;
       faults = failed D c.in_err-lock.field-0.0 c.from_residual.result c.from_residual.ensures.1 (subst (λ name. LockFaults D.told (D.view c.args.self.now.0) (D.view c.acquire_lock.new.self.0) name (Err c.in_err-lock.field-0.0)) c.meta_lock.ensures.name c.in_err-lock.ensures.faults);
+    }
+
+pub returns-clause-asks : goal.returns-clause-asks
+returns-clause-asks g c =
+    let D = g.D.Directory in
+    let takes = c.in_ok-lock.ensures in
+    let frees = c.release.ensures.frees in
+    let first = takes.frame.below in
+    let second = frees.below.frame in
+    record {
+      frame = record {
+        names = frees.names ∙ takes.frame.names;
+        below = record {
+          kept = record {
+            frame = record {
+              tells_none = record {
+                deletes_none = record {
+                  goes_on = search rules;
+                  refusals = second.tells_none.deletes_none.refusals ∙ first.tells_none.deletes_none.refusals;
+                  alive = λ tells w lives. second.tells_none.deletes_none.alive tells w (first.tells_none.deletes_none.alive tells w lives);
+                };
+                heard = second.tells_none.heard ∙ first.tells_none.heard;
+                room = omega (arith, first.tells_none.room, second.tells_none.room);
+              };
+              locks = search rules;
+            };
+            watched = second.watched ∙ first.watched;
+          };
+          content = λ tells n. second.content tells n ∙ first.content tells n;
+        };
+      };
+      images = λ tells. reads_then (takes.images tells) (c.release.ensures.images tells);
+      faults = record { quiet = frees.below.faults ∙ takes.faults.quiet; free = search rules; busy = λ tells. tt; given = tt; cause = tt };
     }
