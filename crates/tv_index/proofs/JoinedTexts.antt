@@ -2,6 +2,7 @@
 use Rattle.std.proofs.Common.{◌≡◌, ℕ, Bool, true, false, List, [], ◌∷◌, ◌++◌, map, refl, sym, ap, ◌∙◌, append_assoc}
 use Rattle.std.specs.Prelude.{if◌then◌else◌}
 use Rattle.std.specs.List.{join_with_byte}
+use Rattle.std.proofs.lemmas.List.{map-append}
 
 -- whether a list has no item
 abbrev pub is_nil : {A : Type 0} → List A → Bool
@@ -20,14 +21,10 @@ join_more : (x : List ℕ) (xs : List (List ℕ)) (y : List ℕ) → join_with_b
 join_more x [] y = refl
 join_more x (z ∷ xs) y = ap (λ (t : List ℕ). x ++ (44 ∷ t)) (join_more z xs y) ∙ sym (append_assoc x (44 ∷ join_with_byte 44 (z ∷ xs)) (44 ∷ y))
 
-map_last : {A : Type 0} (f : A → List ℕ) (xs : List A) (x : A) → map f (xs ++ x ∷ []) ≡ map f xs ++ f x ∷ []
-map_last f [] x = refl
-map_last f (y ∷ xs) x = ap (λ (t : List (List ℕ)). f y ∷ t) (map_last f xs x)
-
 pub join_last : {A : Type 0} (f : A → List ℕ) (xs : List A) (x : A) (first : Bool) → first ≡ is_nil xs
     → join_with_byte 44 (map f (xs ++ x ∷ [])) ≡ join_with_byte 44 (map f xs) ++ (separator first ++ f x)
 join_last f [] x first e = rw e refl
-join_last f (y ∷ xs) x first e = rw e (ap (join_with_byte 44) (map_last f (y ∷ xs) x) ∙ join_more (f y) (map f xs) (f x))
+join_last f (y ∷ xs) x first e = rw e (ap (join_with_byte 44) (map-append f (y ∷ xs) (x ∷ [])) ∙ join_more (f y) (map f xs) (f x))
 
 -- two maps in a row are one
 pub map_map : {A B C : Type 0} (f : B → C) (g : A → B) (xs : List A) → map f (map g xs) ≡ map (λ x. f (g x)) xs
