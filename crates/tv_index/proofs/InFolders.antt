@@ -14,7 +14,7 @@ use Rattle.tv_index.specs.Folders.{IsUnmade, Makes, UnmadeCause}
 use Rattle.tv_index.specs.Indexes.{CreatesIndex, IndexState, NotCreated}
 use Rattle.tv_index.specs.NewForms.{form_with, new_text}
 use Rattle.tv_index.specs.declared.index_settings.IndexSettings.{IndexSettings}
-use Rattle.tv_index.proofs.Openings.{notes_later, refusal_later}
+use Rattle.tv_index.proofs.Openings.{notes_later, refusal_later, unless_later}
 
 module _ {D W C : Type 0} (g : Ghosts D W C) (before mid : D) (asked : OnlyReads g.told (g.view before) (g.view mid)) (still : (g.view mid).faults ≡ (g.view before).faults) where
   creates_later : (settings : IndexSettings) (schema : List ℕ) (index : IndexState D) → CreatesIndex g mid settings schema index → CreatesIndex g before settings schema index
@@ -39,7 +39,7 @@ module _ {D W C : Type 0} (g : Ghosts D W C) (before mid : D) (asked : OnlyReads
     others = λ t n other list. h.others t n other list ∙ asked.content t n;
     unchanged = λ t bytes n. h.unchanged t bytes n ∙ asked.content t n;
     cause = refusal_later g before mid asked still now error h.cause;
-    frame = notes_later asked h.frame;
+    frame = unless_later asked (λ other. other) h.frame;
   } where
     either : g.told.content → ((g.view now).reads meta_name ≡ Some (new_text form)) ⊎ ((g.view now).reads meta_name ≡ (g.view mid).reads meta_name)
         → ((g.view now).reads meta_name ≡ Some (new_text form)) ⊎ ((g.view now).reads meta_name ≡ (g.view before).reads meta_name)

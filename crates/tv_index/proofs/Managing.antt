@@ -1,11 +1,12 @@
 -- What a call that saves `meta.json` does to the managed names and to their list, put together from its calls.
-use Rattle.std.proofs.Common.{◌≡◌, ◌⊎◌, inl, inr, ℕ, List, Option, Some, None, Result, Ok, Err, sym, ap, subst, ◌∙◌, true, true≢false}
+use Rattle.std.proofs.Common.{◌≡◌, ◌⊎◌, inl, inr, ℕ, List, Option, Result, Ok, Err, sym, ap, subst, ◌∙◌, true}
 use Rattle.std.specs.Prelude.{IsErr, IsSome, OnErr, OnOk}
 use Rattle.tv_directory.specs.declared.directory.Directory.{Ghosts}
 use Rattle.tv_managed.specs.Managed.{Covers, ManagesFile, registering}
 use Rattle.tv_managed.specs.Names.{ManagedNames}
 use Rattle.tv_model.specs.Listing.{IsOnList, Lists}
 use Rattle.tv_model.specs.Names.{has, list_name, meta_name}
+use Rattle.tv_index.proofs.Options.{no_some}
 
 on_ok : {A E X Y : Type 0} (result : Result A E) → (X → Y) → OnOk result X → OnOk result Y
 on_ok (Ok a) f h = f h
@@ -14,10 +15,6 @@ on_ok (Err e) f h = tt
 on_err : {A E X Y : Type 0} (result : Result A E) → (X → Y) → OnErr result X → OnErr result Y
 on_err (Ok a) f h = tt
 on_err (Err e) f h = f h
-
-some_none : (read : Option (List ℕ)) → read ≡ None → IsSome read → ⊥
-some_none None is some = true≢false (sym some)
-some_none (Some bytes) is some = absurd cc
 
 -- ---- another answer
 
@@ -98,6 +95,6 @@ module _ {D W C : Type 0} (g : Ghosts D W C) (old mid now new : D × ManagedName
     err = inl (ap (λ (d : D × ManagedNames). d.1) is);
     saves = record { list = λ t lists. tt; covers = λ t covers. subst (λ (d : D × ManagedNames). Covers ((g.view d.0).reads list_name) d.1) (sym is) covers };
     unsaved = λ t put. ap (λ (d : D × ManagedNames). (g.view d.0).reads list_name) is;
-    listed = λ t covers n undotted some none. absurd (some_none ((g.view now.0).reads n) (ap (λ (d : D × ManagedNames). (g.view d.0).reads n) is ∙ none) some);
-    managed = λ t n undotted some none. absurd (some_none ((g.view now.0).reads n) (ap (λ (d : D × ManagedNames). (g.view d.0).reads n) is ∙ none) some);
+    listed = λ t covers n undotted some none. no_some ((g.view now.0).reads n) (ap (λ (d : D × ManagedNames). (g.view d.0).reads n) is ∙ none) some;
+    managed = λ t n undotted some none. no_some ((g.view now.0).reads n) (ap (λ (d : D × ManagedNames). (g.view d.0).reads n) is ∙ none) some;
   })

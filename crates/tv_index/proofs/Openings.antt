@@ -1,5 +1,5 @@
 -- What an opening finds and leaves, put together from its calls.
-use Rattle.std.proofs.Common.{◌≡◌, ◌⊎◌, inl, inr, ℕ, ◌<◌, ◌^◌, List, Option, Some, None, Result, Ok, Err, refl, sym, subst, ◌∙◌, arith, true≢false}
+use Rattle.std.proofs.Common.{◌≡◌, ◌⊎◌, inl, inr, ℕ, ◌<◌, ◌^◌, List, Option, Some, None, Result, Ok, Err, refl, sym, subst, ◌∙◌, arith}
 use Rattle.std.specs.Prelude.{IsSome, IfErr, IsErrAnd}
 use Rattle.std.specs.List.Sorted.{IsStrictlySortedBy}
 use Rattle.tv_base.specs.Causes.{IoCause}
@@ -8,10 +8,12 @@ use Rattle.tv_base.specs.declared.error.TantivyError.{TantivyError}
 use Rattle.tv_base.specs.declared.error.TantivyError.TheVariants as errors
 use Rattle.tv_base.specs.declared.io.IoError.{IoError}
 use Rattle.tv_base.specs.declared.io.IoError.TheVariants as io
+use Rattle.tv_directory.specs.Calls.{Notes}
 use Rattle.tv_directory.specs.View.{View, Told, OnlyReads}
 use Rattle.tv_directory.specs.Watch.{WatchState, MayNote}
 use Rattle.tv_directory.specs.declared.directory.Directory.{Ghosts}
 use Rattle.tv_directory.proofs.Views.{frame_then, reads_then}
+use Rattle.tv_managed.specs.Frames.{KeptButNotes}
 use Rattle.tv_managed.specs.Managed.{KeepsOtherFiles}
 use Rattle.tv_managed.specs.Wrapping.{ListsNothing, ListRefusal, NotWrapped, Wraps}
 use Rattle.tv_managed.specs.declared.managed_directory.Refused.{Refused}
@@ -25,9 +27,10 @@ use Rattle.tv_model.specs.Names.{list_name, meta_name}
 use Rattle.tv_model.proofs.SpelledCommits.{spells_commit}
 use Rattle.tv_index.specs.Metas.{commit_of, settings_of}
 use Rattle.tv_index.specs.NewForms.{FindsOrMakes, IsFirst, LeavesUnmade, NotLoaded, NotOpenedForm, OpensForm, new_text}
-use Rattle.tv_index.specs.Opening.{FrameNotesFirst, HasCommit, IsRefusedBytes, ListsSome, LoadCause, Loads, NotOpened, OfBytes, OpenCause, OpensIndex}
-use Rattle.tv_index.specs.Saving.{FrameNotes, LeavesText}
+use Rattle.tv_index.specs.Opening.{FrameNotesRefused, HasCommit, IsRefusedBytes, ListsSome, LoadCause, Loads, NotOpened, OfBytes, OpenCause, OpensIndex, TellsMeta}
+use Rattle.tv_index.specs.Saving.{FrameNotes, FrameNotesUnless, IsUnrefused, LeavesText}
 use Rattle.tv_index.specs.declared.index_meta.UntrackedIndexMeta.{UntrackedIndexMeta}
+use Rattle.tv_index.proofs.Options.{no_some}
 
 -- ---- commits
 
@@ -60,10 +63,6 @@ failed_as (Err e) given P h p = subst P (sym h) p
 
 -- ---- what calls keep, one after the other
 
-no_some : {A : Type 0} (read : Option A) → read ≡ None → IsSome read → ⊥
-no_some None is some = true≢false (sym some)
-no_some (Some bytes) is some = absurd cc
-
 module _ {W : Type 0} {told : Told} {first now next : View W} where
   pub notes_later : OnlyReads told first now → FrameNotes told now next → FrameNotes told first next
   notes_later before after = record {
@@ -71,20 +70,58 @@ module _ {W : Type 0} {told : Told} {first now next : View W} where
     watched = subst (λ (w : WatchState). MayNote meta_name w next.watched) before.kept.watched after.watched;
   }
 
-  pub first_later : OnlyReads told first now → FrameNotesFirst told now next → FrameNotesFirst told first next
-  first_later before after = record {
-    frame = frame_then before.kept.frame after.frame;
-    watched = subst (λ (w : WatchState). MayNote meta_name w next.watched) before.kept.watched after.watched;
-    stood = λ t some. after.stood t (subst IsSome (sym (before.content t meta_name)) some) ∙ before.kept.watched;
+  pub unless_later : {before after : Type 0} → OnlyReads told first now → (before → after) → FrameNotesUnless told after now next → FrameNotesUnless told before first next
+  unless_later read still h = record { notes = notes_later read h.notes; unless = λ b. h.unless (still b) ∙ read.kept.watched }
+
+  -- a notice came with the first call, if at all
+  pub unless_before : {none : Type 0} → FrameNotesUnless told none first now → OnlyReads told now next → FrameNotesUnless told none first next
+  unless_before h read = record {
+    notes = record {
+      frame = frame_then h.notes.frame read.kept.frame;
+      watched = subst (λ (w : WatchState). MayNote meta_name first.watched w) (sym read.kept.watched) h.notes.watched;
+    };
+    unless = λ is. read.kept.watched ∙ h.unless is;
   }
 
-module _ {W : Type 0} {told : Told} {old new : View W} where
-  pub quiet_first : OnlyReads told old new → FrameNotesFirst told old new
-  quiet_first h = record { frame = h.kept.frame; watched = inl h.kept.watched; stood = λ t some. h.kept.watched }
+  refused_later : (error : TantivyError) → OnlyReads told first now → FrameNotesRefused told error now next → FrameNotesRefused told error first next
+  refused_later error read = unless_later read still where
+    still : TellsMeta told first ⊎ IsUnrefused error → TellsMeta told now ⊎ IsUnrefused error
+    still (inl stood) = inl (stood.0, subst IsSome (sym (read.content stood.0 meta_name)) stood.1)
+    still (inr other) = inr other
 
-  -- there was no `meta.json`, whose first one may be noted
-  pub none_first : (told.content → old.reads meta_name ≡ None) → FrameNotes told old new → FrameNotesFirst told old new
-  none_first none h = record { frame = h.frame; watched = h.watched; stood = λ t some. absurd (no_some (old.reads meta_name) (none t) some) }
+module _ {W : Type 0} {old new : View W} where
+  may_note : {A : Type 0} (result : Result A IoError) → Notes old new meta_name result → MayNote meta_name old.watched new.watched
+  may_note (Ok a) h = inr h.ok
+  may_note (Err (io.Fault fault)) h = h.err.1
+  may_note (Err io.Memory) h = inl h.err
+
+  none_noted : {A : Type 0} (result : Result A IoError) → Notes old new meta_name result → IsErrAnd result (λ e. e ≡ io.Memory) → new.watched ≡ old.watched
+  none_noted (Ok a) h memory = absurd memory
+  none_noted (Err e) h memory = subst (IoCause (MayNote meta_name old.watched new.watched) (new.watched ≡ old.watched)) memory h.err
+
+module _ {W : Type 0} {told : Told} {old new : View W} where
+  pub reads_unless : {none : Type 0} → OnlyReads told old new → FrameNotesUnless told none old new
+  reads_unless h = record { notes = record { frame = h.kept.frame; watched = inl h.kept.watched }; unless = λ is. h.kept.watched }
+
+  pub notes_unless : {before after : Type 0} → (before → after) → FrameNotesUnless told after old new → FrameNotesUnless told before old new
+  notes_unless still h = record { notes = h.notes; unless = λ b. h.unless (still b) }
+
+  -- a write of `meta.json`
+  pub wrote : {A : Type 0} (result : Result A IoError) → KeptButNotes told old new meta_name result → FrameNotesUnless told (IsErrAnd result (λ e. e ≡ io.Memory)) old new
+  wrote result h = record { notes = record { frame = h.frame; watched = may_note result h.notes }; unless = none_noted result h.notes }
+
+  pub not_written : {A : Type 0} (error : IoError) → KeptButNotes {A = A} told old new meta_name (Err error) → FrameNotesUnless told (error ≡ io.Memory) old new
+  not_written error h = wrote (Err error) h
+
+-- the same error is answered
+pub same_error : {A : Type 0} (result : Result A IoError) (error : IoError) → IsErrAnd result (λ e. e ≡ error) → IsErrAnd result (λ e. e ≡ io.Memory) → error ≡ io.Memory
+same_error (Ok a) error h memory = absurd h
+same_error (Err e) error h memory = sym h ∙ memory
+
+pub same_memory : {A : Type 0} (result : Result A TantivyError) (error : IoError) → IsErrAnd result (λ e. e ≡ of_io error) → IsErrAnd result (λ e. e ≡ errors.Memory) → error ≡ io.Memory
+same_memory (Ok a) error h memory = absurd h
+same_memory (Err e) io.Memory h memory = refl
+same_memory (Err e) (io.Fault fault) h memory = absurd cc
 
 -- ---- an index that isn't made
 
@@ -96,6 +133,10 @@ no_bytes : (error : IoError) → IsRefusedBytes (of_io error) → ⊥
 no_bytes (io.Fault fault) h = h
 no_bytes io.Memory h = h
 
+pub unrefused_io : (error : IoError) → IsUnrefused (of_io error) → error ≡ io.Memory
+unrefused_io (io.Fault fault) h = absurd h
+unrefused_io io.Memory h = refl
+
 io_cause : (tells : Type 0) (schema : List ℕ) (read : Option (List ℕ)) (refused quiet : Type 0) {more same : Type 0} (error : IoError) → (more → refused) → (same → quiet) → IoCause more same error → LoadCause tells schema read refused quiet (of_io error)
 io_cause tells schema read refused quiet (io.Fault fault) f q h = (h.0, f h.1)
 io_cause tells schema read refused quiet io.Memory f q h = q h
@@ -103,17 +144,22 @@ io_cause tells schema read refused quiet io.Memory f q h = q h
 module _ {A D W C : Type 0} (g : Ghosts D W C) (old mid new : D × ManagedNames) (form : IndexForm) (result : Result A TantivyError) (error : IoError) where
   pub creates_none : {B : Type 0} → IsErrAnd result (λ e. e ≡ of_io error) → (g.told.content → (g.view old.0).reads meta_name ≡ None) → OnlyReads g.told (g.view old.0) (g.view mid.0) → (g.view mid.0).faults ≡ (g.view old.0).faults
       → (g.told.content → KeepsOtherFiles (g.view mid.0).reads (g.view new.0).reads meta_name) → LeavesText {A = B} g mid.0 new.0 (new_text form) (Err error)
-      → IoCause (Rose (g.view mid.0).faults (g.view new.0).faults) ((g.view new.0).faults ≡ (g.view mid.0).faults) error → FrameNotes g.told (g.view mid.0) (g.view new.0) → IfErr result (NotLoaded g old new.0 form)
+      → IoCause (Rose (g.view mid.0).faults (g.view new.0).faults) ((g.view new.0).faults ≡ (g.view mid.0).faults) error → FrameNotesUnless g.told (error ≡ io.Memory) (g.view mid.0) (g.view new.0)
+      → IfErr result (NotLoaded g old new.0 form)
   creates_none h none reads quiet others leaves cause frame = failed_as result (of_io error) (NotLoaded g old new.0 form) h (record {
     left = λ t. record {
-      stood = λ some. absurd (no_some ((g.view old.0).reads meta_name) (none t) some);
+      stood = λ some. no_some ((g.view old.0).reads meta_name) (none t) some;
       others = λ n other list. others t n other list ∙ reads.content t n;
       made = λ is. either t is;
     };
     unchanged = λ t bytes. absurd (no_bytes error bytes);
     cause = io_cause g.told.content form.schema ((g.view old.0).reads meta_name) _ _ error (λ rose. subst (λ (n : ℕ). Rose n (g.view new.0).faults) quiet rose) (λ same. same ∙ quiet) cause;
-    frame = none_first none (notes_later reads frame);
+    frame = unless_later reads memory frame;
   }) where
+    memory : TellsMeta g.told (g.view old.0) ⊎ IsUnrefused (of_io error) → error ≡ io.Memory
+    memory (inl stood) = no_some ((g.view old.0).reads meta_name) (none stood.0) stood.1
+    memory (inr other) = unrefused_io error other
+
     either : g.told.content → (g.view old.0).reads meta_name ≡ None → ((g.view new.0).reads meta_name ≡ None) ⊎ ((g.view new.0).reads meta_name ≡ Some (new_text form))
     either t is = by (leaves.either t) where
       by : ((g.view new.0).reads meta_name ≡ Some (new_text form)) ⊎ ((g.view new.0).reads meta_name ≡ (g.view mid.0).reads meta_name) → ((g.view new.0).reads meta_name ≡ None) ⊎ ((g.view new.0).reads meta_name ≡ Some (new_text form))
@@ -157,7 +203,7 @@ module _ {D W C : Type 0} (g : Ghosts D W C) (before : D) (form : IndexForm) whe
     left = λ t. same_unmade (g.view before).reads (g.view now).reads (new_text form) (h.frame.content t);
     unchanged = λ t bytes. h.frame.content t;
     cause = cause error h.cause;
-    frame = quiet_first h.frame;
+    frame = reads_unless h.frame;
   } where
     cause : (e : TantivyError) → ListRefusal g.told (g.view before) (g.view now) e
         → OpenCause g.told.content form.schema (g.view before).reads (Rose (g.view before).faults (g.view now).faults) ((g.view now).faults ≡ (g.view before).faults) e
@@ -190,7 +236,7 @@ module _ {D W C : Type 0} (g : Ghosts D W C) (before : D) (form : IndexForm) whe
       left = λ t. later_unmade (g.view before).reads (g.view wrapped.0).reads (g.view now).reads (new_text form) (w.frame.content t) (h.left t);
       unchanged = λ t bytes n. h.unchanged t bytes n ∙ w.frame.content t n;
       cause = loaded_cause now error h.cause;
-      frame = first_later w.frame h.frame;
+      frame = refused_later error w.frame h.frame;
     })
 
 -- ---- with the settings of an index that says none
@@ -218,6 +264,7 @@ module _ {D W C : Type 0} (g : Ghosts D W C) (before : D) (schema : List ℕ) wh
       lists = h.lists;
       collections = h.collections;
       quiet = h.quiet;
+      notes = h.notes;
       frame = h.frame;
     }
 

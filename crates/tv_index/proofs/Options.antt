@@ -29,6 +29,10 @@ pub some_is : {A : Type 0} (o : Option A) (x : A) → o ≡ Some x → IsSome o
 some_is None x e = cc
 some_is (Some y) x e = refl
 
+pub no_some : {A P : Type 0} (o : Option A) → o ≡ None → IsSome o → P
+no_some None is some = cc
+no_some (Some x) is some = cc
+
 pub is_there : {A : Type 0} (o : Option A) → IsSome o → (x : A) × (o ≡ Some x)
 is_there None h = cc
 is_there (Some x) h = (x, refl)

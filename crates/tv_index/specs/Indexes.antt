@@ -24,7 +24,7 @@ use Rattle.tv_model.specs.Names.{byte_cmp, list_name, meta_name}
 use Rattle.tv_model.specs.SegmentEvents.{is_named}
 use Rattle.tv_index.specs.NewForms.{OpensForm, form_with, new_text}
 use Rattle.tv_index.specs.Opening.{IsRefusedBytes, ListsSome}
-use Rattle.tv_index.specs.Saving.{FrameNotes}
+use Rattle.tv_index.specs.Saving.{FrameNotes, FrameNotesUnless, IsUnrefused}
 use Rattle.tv_index.specs.Standing.{LoadsMeta, MetaCause}
 use Rattle.tv_index.specs.Tracked.{Kept, Share, TrackAll, has_id}
 use Rattle.tv_index.specs.TrackedMetas.{tracked_commit, tracked_settings}
@@ -106,14 +106,14 @@ pub record IsNewInRam {C : Type 0} (settings : IndexSettings) (schema : List ℕ
   pub others : (n : List ℕ) → n ≢ meta_name → n ≢ list_name → ram_reads index.directory.0 n ≡ None
 
 -- It doesn't stand, and the directory comes back. `meta.json` has the text of the first commit, or what it had; after want of memory what it had. Where the list was
--- refused, nothing was changed.
+-- refused, nothing was changed. A notice may stand where the device refused a call.
 pub record NotCreated {D W C : Type 0} (g : Ghosts D W C) (before : D) (form : IndexForm) (now : D) (error : TantivyError) : Type 0 where
   pub either : g.told.content → ((g.view now).reads meta_name ≡ Some (new_text form)) ⊎ ((g.view now).reads meta_name ≡ (g.view before).reads meta_name)
   pub memory : g.told.content → error ≡ errors.Memory → (g.view now).reads meta_name ≡ (g.view before).reads meta_name
   pub others : g.told.content → KeepsOtherFiles (g.view before).reads (g.view now).reads meta_name
   pub unchanged : g.told.content → IsRefusedBytes error → Same (g.view before).reads (g.view now).reads
   pub cause : ListRefusal g.told (g.view before) (g.view now) error
-  pub frame : FrameNotes g.told (g.view before) (g.view now)
+  pub frame : FrameNotesUnless g.told (IsUnrefused error) (g.view before) (g.view now)
 
 -- The managed names, the unfinished collections, the settings and the schema stay, and of the directory below what such a call keeps.
 pub record KeepsForm {D W : Type 0} (keeps : View W → View W → Type 0) (view : D → View W) (old new : IndexState D) : Type 0 where

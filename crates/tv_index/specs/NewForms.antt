@@ -1,6 +1,7 @@
 -- How an index is opened, or made with some settings and a schema where there is none.
 use Rattle.std.specs.Prelude.{◌≡◌, ◌⊎◌, ◌++◌, ◌∷◌, [], ℕ, List, Option, Some, None, IsSome}
 use Rattle.tv_base.specs.declared.error.TantivyError.{TantivyError}
+use Rattle.tv_directory.specs.Watch.{noted}
 use Rattle.tv_directory.specs.declared.directory.Directory.{Ghosts}
 use Rattle.tv_managed.specs.Managed.{KeepsOtherFiles}
 use Rattle.tv_managed.specs.Names.{ManagedNames}
@@ -12,7 +13,7 @@ use Rattle.tv_model.specs.Listing.{Lists}
 use Rattle.tv_model.specs.Meaning.{Means}
 use Rattle.tv_model.specs.Names.{list_name, meta_name}
 use Rattle.tv_index.specs.Metas.{commit_of, settings_of}
-use Rattle.tv_index.specs.Opening.{FrameNotesFirst, HasCommit, IsRefusedBytes, LoadCause, OpenCause, form_of}
+use Rattle.tv_index.specs.Opening.{FrameNotesFirst, FrameNotesRefused, HasCommit, IsRefusedBytes, LoadCause, OpenCause, form_of}
 use Rattle.tv_index.specs.Settings.{settings_view}
 use Rattle.tv_index.specs.declared.index_meta.UntrackedIndexMeta.{UntrackedIndexMeta}
 use Rattle.tv_index.specs.declared.index_settings.IndexSettings.{IndexSettings}
@@ -50,7 +51,8 @@ pub record LeavesUnmade (old new : Reads) (text : List ℕ) : Type 0 where
   pub others : KeepsOtherFiles old new meta_name
   pub made : old meta_name ≡ None → (new meta_name ≡ None) ⊎ (new meta_name ≡ Some text)
 
--- An index is open in this directory: the one that stood there under the form's schema, or a new one of this form. No collection was begun.
+-- An index is open in this directory: the one that stood there under the form's schema, or a new one of this form, of which a notice stands. No
+-- collection was begun.
 pub record OpensForm {D W C : Type 0} (g : Ghosts D W C) (before : D) (form : IndexForm) (now : D × ManagedNames) (meta : UntrackedIndexMeta) : Type 0 where
   pub has : HasCommit form.schema meta
   pub finds : g.told.content → FindsAmong (g.view before).reads form (form_of meta) (commit_of meta) now.1.managed
@@ -58,6 +60,7 @@ pub record OpensForm {D W C : Type 0} (g : Ghosts D W C) (before : D) (form : In
   pub lists : g.told.content → Lists ((g.view now.0).reads list_name) now.1.managed
   pub collections : now.1.collections ≡ no_collections
   pub quiet : (g.view now.0).faults ≡ (g.view before).faults
+  pub notes : g.told.content → (g.view before).reads meta_name ≡ None → (g.view now.0).watched ≡ noted meta_name (g.view before).watched
   pub frame : FrameNotesFirst g.told (g.view before) (g.view now.0)
 
 -- It isn't open, and the directory comes back. Where bytes were refused, nothing was changed.
@@ -65,7 +68,7 @@ pub record NotOpenedForm {D W C : Type 0} (g : Ghosts D W C) (before : D) (form 
   pub left : g.told.content → LeavesUnmade (g.view before).reads (g.view now).reads (new_text form)
   pub unchanged : g.told.content → IsRefusedBytes error → Same (g.view before).reads (g.view now).reads
   pub cause : OpenCause g.told.content form.schema (g.view before).reads (Rose (g.view before).faults (g.view now).faults) ((g.view now).faults ≡ (g.view before).faults) error
-  pub frame : FrameNotesFirst g.told (g.view before) (g.view now)
+  pub frame : FrameNotesRefused g.told error (g.view before) (g.view now)
 
 -- a new index of this form: its first commit
 pub record IsFirst (form : IndexForm) (meta : UntrackedIndexMeta) : Type 0 where
@@ -82,6 +85,7 @@ pub record LoadsOrCreates {D W C : Type 0} (g : Ghosts D W C) (old new : D × Ma
   pub left : g.told.content → LeavesMade (g.view old.0).reads (g.view new.0).reads (new_text form)
   pub lists : g.told.content → Lists ((g.view old.0).reads list_name) old.1.managed → Lists ((g.view new.0).reads list_name) new.1.managed
   pub quiet : (g.view new.0).faults ≡ (g.view old.0).faults
+  pub notes : g.told.content → (g.view old.0).reads meta_name ≡ None → (g.view new.0).watched ≡ noted meta_name (g.view old.0).watched
   pub frame : FrameNotesFirst g.told (g.view old.0) (g.view new.0)
 
 -- it wasn't opened
@@ -89,4 +93,4 @@ pub record NotLoaded {D W C : Type 0} (g : Ghosts D W C) (old : D × ManagedName
   pub left : g.told.content → LeavesUnmade (g.view old.0).reads (g.view now).reads (new_text form)
   pub unchanged : g.told.content → IsRefusedBytes error → Same (g.view old.0).reads (g.view now).reads
   pub cause : LoadCause g.told.content form.schema ((g.view old.0).reads meta_name) (Rose (g.view old.0).faults (g.view now).faults) ((g.view now).faults ≡ (g.view old.0).faults) error
-  pub frame : FrameNotesFirst g.told (g.view old.0) (g.view now)
+  pub frame : FrameNotesRefused g.told error (g.view old.0) (g.view now)

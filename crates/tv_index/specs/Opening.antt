@@ -3,8 +3,8 @@ use Rattle.std.specs.Prelude.{◌≡◌, ◌⊎◌, ◌<◌, ◌^◌, ◌++◌, 
 use Rattle.tv_base.specs.Causes.{IsDevice}
 use Rattle.tv_base.specs.declared.error.TantivyError.{TantivyError}
 use Rattle.tv_base.specs.declared.error.TantivyError.TheVariants as errors
-use Rattle.tv_directory.specs.View.{View, Told, Frame}
-use Rattle.tv_directory.specs.Watch.{MayNote}
+use Rattle.tv_directory.specs.View.{View, Told}
+use Rattle.tv_directory.specs.Watch.{noted}
 use Rattle.tv_directory.specs.declared.directory.Directory.{Ghosts}
 use Rattle.tv_managed.specs.Managed.{KeepsOtherFiles}
 use Rattle.tv_managed.specs.Names.{ManagedNames}
@@ -17,6 +17,7 @@ use Rattle.tv_model.specs.Listing.{Lists}
 use Rattle.tv_model.specs.Meaning.{Means, MeansOther, MeansNothing}
 use Rattle.tv_model.specs.Names.{list_name, meta_name}
 use Rattle.tv_index.specs.Metas.{commit_of, settings_of}
+use Rattle.tv_index.specs.Saving.{FrameNotesUnless, IsUnrefused}
 use Rattle.tv_index.specs.declared.index_meta.UntrackedIndexMeta.{UntrackedIndexMeta}
 
 -- what an index keeps of how it is made
@@ -97,14 +98,20 @@ pub record LeavesFound (old new : Reads) (schema : List ℕ) : Type 0 where
 abbrev pub NotesNone : {W : Type 0} → Told → (old new : View W) → Type 0
 NotesNone told old new = told.content → IsSome (old.reads meta_name) → new.watched ≡ old.watched
 
+-- the content is told, and there is a `meta.json`
+abbrev pub TellsMeta : {W : Type 0} → Told → View W → Type 0
+TellsMeta told view = told.content × IsSome (view.reads meta_name)
+
 -- Nothing was told, no lock was taken or freed, and nobody was registered or called. A notice of the first commit may stand, but where the content is told none came if
 -- there was a `meta.json`.
-pub record FrameNotesFirst {W : Type 0} (told : Told) (old new : View W) : Type 0 where
-  pub frame : Frame told old new
-  pub watched : MayNote meta_name old.watched new.watched
-  pub stood : NotesNone told old new
+abbrev pub FrameNotesFirst : {W : Type 0} → Told → (old new : View W) → Type 0
+FrameNotesFirst told old new = FrameNotesUnless told (TellsMeta told old) old new
 
--- An index with this schema is open in this directory: the one that stood there, or a new one. No collection was begun.
+-- The same with this error, where none came either unless the device refused a call.
+abbrev pub FrameNotesRefused : {W : Type 0} → Told → TantivyError → (old new : View W) → Type 0
+FrameNotesRefused told error old new = FrameNotesUnless told (TellsMeta told old ⊎ IsUnrefused error) old new
+
+-- An index with this schema is open in this directory: the one that stood there, or a new one, of which a notice stands. No collection was begun.
 pub record OpensIndex {D W C : Type 0} (g : Ghosts D W C) (before : D) (schema : List ℕ) (now : D × ManagedNames) (meta : UntrackedIndexMeta) : Type 0 where
   pub has : HasCommit schema meta
   pub finds : g.told.content → Finds (g.view before).reads (form_of meta) (commit_of meta) now.1.managed
@@ -112,6 +119,7 @@ pub record OpensIndex {D W C : Type 0} (g : Ghosts D W C) (before : D) (schema :
   pub lists : g.told.content → Lists ((g.view now.0).reads list_name) now.1.managed
   pub collections : now.1.collections ≡ no_collections
   pub quiet : (g.view now.0).faults ≡ (g.view before).faults
+  pub notes : g.told.content → (g.view before).reads meta_name ≡ None → (g.view now.0).watched ≡ noted meta_name (g.view before).watched
   pub frame : FrameNotesFirst g.told (g.view before) (g.view now.0)
 
 -- What a refused opening leaves: where there was a `meta.json`, each name reads what it read; where there was none, only the list and it may have been written.
@@ -131,4 +139,4 @@ pub record NotOpened {D W C : Type 0} (g : Ghosts D W C) (before : D) (schema : 
   pub left : g.told.content → LeavesUnopened (g.view before).reads (g.view now).reads schema
   pub unchanged : g.told.content → IsRefusedBytes error → Same (g.view before).reads (g.view now).reads
   pub cause : OpenCause g.told.content schema (g.view before).reads (Rose (g.view before).faults (g.view now).faults) ((g.view now).faults ≡ (g.view before).faults) error
-  pub frame : FrameNotesFirst g.told (g.view before) (g.view now)
+  pub frame : FrameNotesRefused g.told error (g.view before) (g.view now)

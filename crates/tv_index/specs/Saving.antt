@@ -20,6 +20,16 @@ pub record FrameNotes {W : Type 0} (told : Told) (old new : View W) : Type 0 whe
   pub frame : Frame told old new
   pub watched : MayNote meta_name old.watched new.watched
 
+-- The same, but no notice came where this is so.
+pub record FrameNotesUnless {W : Type 0} (told : Told) (none : Type 0) (old new : View W) : Type 0 where
+  pub notes : FrameNotes told old new
+  pub unless : none → new.watched ≡ old.watched
+
+-- it is another error than that the device refused a call
+abbrev pub IsUnrefused : TantivyError → Type 0
+IsUnrefused (errors.IoError fault) = ⊥
+IsUnrefused other = Unit {0}
+
 -- The text is that of `meta.json`, which is managed, and a notice of it stands.
 pub record SavesMeta {D W C : Type 0} (g : Ghosts D W C) (old new : D × ManagedNames) (text : List ℕ) : Type 0 where
   pub names : new.1 ≡ record old.1 { managed = insert_key byte_cmp old.1.managed meta_name }

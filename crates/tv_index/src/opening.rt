@@ -1,5 +1,5 @@
 //! How an index is opened, or made where there is none.
-ghost use Rattle.std.specs.Prelude.{◌≡◌, ◌<◌, ◌^◌, IfOk, IfErr, IfSome, OnOk, false, option_map};
+ghost use Rattle.std.specs.Prelude.{◌≡◌, ◌<◌, ◌^◌, IfOk, IfErr, IfSome, IsErrAnd, OnOk, false, option_map};
 ghost use Rattle.tv_model.specs.Collections.{held};
 ghost use Rattle.tv_model.specs.Commits.{first_commit};
 ghost use Rattle.tv_model.specs.Names.{has, meta_name};
@@ -11,7 +11,7 @@ ghost use Rattle.tv_managed.specs.Wrapping.{NotWrapped, Wraps};
 ghost use Rattle.tv_index.specs.Metas.{commit_of};
 ghost use Rattle.tv_index.specs.NewForms.{IsFirst, LoadsOrCreates, NotLoaded, NotOpenedForm, OpensForm, form_with, new_text};
 ghost use Rattle.tv_index.specs.Opening.{HasCommit, LoadFaults, Loads, NoneIfAbsent, NotOpened, OpensIndex};
-ghost use Rattle.tv_index.specs.Saving.{FrameNotes, LeavesText, SavesMeta};
+ghost use Rattle.tv_index.specs.Saving.{FrameNotesUnless, LeavesText, SavesMeta};
 ghost use Rattle.tv_index.specs.Standing.{LoadsMeta, MetaFaults, UnreadAs};
 
 use crate::index_meta::UntrackedIndexMeta;
@@ -132,7 +132,8 @@ pub(crate) fn create<D: Directory>(
     ensures leaves { LeavesText D.Directory directory.old.0 directory.new.0
         (new_text (form_with settings.now schema.now)) result }
     ensures faults { IoFaults (D.view directory.old.0) (D.view directory.new.0) result }
-    ensures frame { FrameNotes D.told (D.view directory.old.0) (D.view directory.new.0) }
+    ensures frame { FrameNotesUnless D.told (IsErrAnd result (λ error. error ≡ IoError.Memory))
+        (D.view directory.old.0) (D.view directory.new.0) }
 {
     let mut text = print_meta(alloc, settings, schema, &[], 0, None)?;
     text.push(b'\n')?;

@@ -1,12 +1,12 @@
 //! How the text of `meta.json` is saved.
-ghost use Rattle.std.specs.Prelude.{◌≡◌, ◌<◌, ◌^◌, IfOk, OnOk, false, map};
+ghost use Rattle.std.specs.Prelude.{◌≡◌, ◌<◌, ◌^◌, IfOk, IsErrAnd, OnOk, false, map};
 ghost use Rattle.std.specs.List.{AllByRecursion};
 ghost use Rattle.tv_model.specs.Collections.{held};
 ghost use Rattle.tv_model.specs.Commits.{Commit, IsCommit, IsSegment};
 ghost use Rattle.tv_model.specs.Names.{has, meta_name};
 ghost use Rattle.tv_directory.specs.Calls.{IoFaults};
 ghost use Rattle.tv_managed.specs.Managed.{KeepsOtherFiles, ManagesFile};
-ghost use Rattle.tv_index.specs.Saving.{FrameNotes, LeavesText, SaveFaults, SavesCommit, SavesMeta, saved_text};
+ghost use Rattle.tv_index.specs.Saving.{FrameNotesUnless, LeavesText, SaveFaults, SavesCommit, SavesMeta, saved_text};
 ghost use Rattle.tv_index.specs.Schemas.{HasSchemaTree};
 ghost use Rattle.tv_index.specs.TrackedMetas.{IsInOrder, tracked_commit, tracked_settings};
 
@@ -32,7 +32,8 @@ pub fn save_meta_text<D: Directory>(
     ensures leaves { LeavesText D.Directory directory.old.0 directory.new.0 text.now result }
     ensures manages { ManagesFile D.Directory directory.old directory.new meta_name result }
     ensures faults { IoFaults (D.view directory.old.0) (D.view directory.new.0) result }
-    ensures frame { FrameNotes D.told (D.view directory.old.0) (D.view directory.new.0) }
+    ensures frame { FrameNotesUnless D.told (IsErrAnd result (λ error. error ≡ IoError.Memory))
+        (D.view directory.old.0) (D.view directory.new.0) }
 {
     directory.sync_directory()?;
     directory.atomic_write(META_FILEPATH, text)?;
@@ -94,7 +95,9 @@ pub fn save_metas<D: Directory>(
         (D.view directory.new.0).reads meta_name }
     ensures manages { ManagesFile D.Directory directory.old directory.new meta_name result }
     ensures faults { SaveFaults (D.view directory.old.0) (D.view directory.new.0) result }
-    ensures frame { FrameNotes D.told (D.view directory.old.0) (D.view directory.new.0) }
+    ensures frame { FrameNotesUnless D.told
+        (IsErrAnd result (λ error. error ≡ TantivyError.Memory))
+        (D.view directory.old.0) (D.view directory.new.0) }
 {
     learn_commit(meta);
     let text = saved_text(alloc, meta)?;

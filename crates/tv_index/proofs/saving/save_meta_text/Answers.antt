@@ -1,5 +1,7 @@
 use Rattle.std.proofs.Common.{Ok, refl}
+use Rattle.tv_base.specs.declared.io.IoError.TheVariants as io
 use Rattle.tv_index.proofs.Managing.{manages_between, manages_err, manages_none}
+use Rattle.tv_index.proofs.Openings.{not_written, notes_unless, reads_unless, same_error, unless_before, unless_later, wrote}
 use Rattle.tv_index.proofs.saving.save_meta_text.Goals as goal
 
 pub returns-in_err-sync_directory-clause-manages : goal.returns-in_err-sync_directory-clause-manages
@@ -33,3 +35,26 @@ returns-clause-manages g c =
     let synced = c.in_ok-sync_directory.ensures.frame in
     let later = c.in_ok-sync_directory-2.ensures.frame in
     manages_between g.D.Directory old c.sync_directory.new.self c.atomic_write.new.self new synced.below.content synced.names later.below.content later.names (Ok c.in_ok-atomic_write.field-0) c.in_ok-atomic_write.ensures.manages
+
+pub returns-in_err-sync_directory-clause-frame : goal.returns-in_err-sync_directory-clause-frame
+returns-in_err-sync_directory-clause-frame g c = reads_unless c.in_err-sync_directory.ensures.frame.below
+
+pub returns-in_err-atomic_write-clause-frame : goal.returns-in_err-atomic_write-clause-frame
+returns-in_err-atomic_write-clause-frame g c =
+    let synced = c.in_ok-sync_directory.ensures.frame in
+    let answer = c.from_residual-in_err-atomic_write in
+    unless_later synced.below (same_error answer.result c.in_err-atomic_write.field-0.0 answer.ensures.1) (not_written c.in_err-atomic_write.field-0.0 c.in_err-atomic_write.ensures.frame)
+
+pub returns-in_err-sync_directory-2-clause-frame : goal.returns-in_err-sync_directory-2-clause-frame
+returns-in_err-sync_directory-2-clause-frame g c =
+    let synced = c.in_ok-sync_directory.ensures.frame in
+    let later = c.in_err-sync_directory-2.ensures.frame in
+    let answer = c.from_residual-in_err-sync_directory-2 in
+    notes_unless (same_error answer.result (io.Fault c.in_err-sync_directory-2.field-0.0) answer.ensures.1)
+    (notes_unless (λ e. absurd cc) (unless_before (unless_later synced.below (λ m. m) (wrote (Ok c.in_ok-atomic_write.field-0) c.in_ok-atomic_write.ensures.frame)) later.below))
+
+pub returns-clause-frame : goal.returns-clause-frame
+returns-clause-frame g c =
+    let synced = c.in_ok-sync_directory.ensures.frame in
+    let later = c.in_ok-sync_directory-2.ensures.frame in
+    unless_before (unless_later synced.below (λ m. m) (wrote (Ok c.in_ok-atomic_write.field-0) c.in_ok-atomic_write.ensures.frame)) later.below

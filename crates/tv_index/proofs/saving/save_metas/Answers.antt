@@ -1,6 +1,7 @@
 use Rattle.std.proofs.Common.{◌∙◌, refl}
 use Rattle.tv_index.specs.TrackedMetas.{tracked_settings}
 use Rattle.tv_index.proofs.Managing.{manages_err, manages_none, manages_ok}
+use Rattle.tv_index.proofs.Openings.{notes_unless, same_memory}
 use Rattle.tv_index.proofs.Saves.{saved, unprinted, unsaved}
 use Rattle.tv_index.proofs.saving.save_metas.Goals as goal
 
@@ -38,3 +39,8 @@ returns-in_err-save_meta_text-clause-manages g c =
 pub returns-clause-manages : goal.returns-clause-manages
 returns-clause-manages g c =
     manages_ok g.D.Directory c.args.directory.now c.save_meta_text.new.directory _ _ tt tt c.in_ok-save_meta_text.ensures.manages
+
+pub returns-in_err-save_meta_text-clause-frame : goal.returns-in_err-save_meta_text-clause-frame
+returns-in_err-save_meta_text-clause-frame g c =
+    let saving = c.from_residual-in_err-save_meta_text in
+    notes_unless (same_memory saving.result c.in_err-save_meta_text.field-0.0 saving.ensures.1) c.in_err-save_meta_text.ensures.frame
