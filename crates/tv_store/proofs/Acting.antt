@@ -1,6 +1,6 @@
 -- What the calls of the events do, put together.
 use Rattle.std.proofs.Common.{ℕ, ◌≡◌, ◌<◌, ◌+◌, true, false, List, [], length, Option, Result, Ok, Err, Some, refl, sym, ap, subst, ◌∙◌, inl, arith}
-use Rattle.std.specs.Prelude.{IfOk, OnOk, OnErr}
+use Rattle.std.specs.Prelude.{IfOk, OnOk}
 use Rattle.std.proofs.lemmas.Result.{on_err_weaker}
 use Rattle.tv_base.specs.declared.error.TantivyError.{TantivyError}
 use Rattle.tv_base.specs.declared.error.TantivyError.TheVariants as errors
@@ -32,6 +32,7 @@ use Rattle.tv_store.specs.Catalogs.{CatalogCause, FitsCatalog}
 use Rattle.tv_store.proofs.FewNumbers.{few_more, none_given}
 use Rattle.tv_store.proofs.Holding.{same_holds}
 use Rattle.tv_store.proofs.Lifting.{catalog_held, numbers_grow, plain_event}
+use Rattle.tv_store.proofs.OpenFiles.{on_err}
 use Rattle.tv_store.proofs.Steps.{IsNoCommit, notes_none, cause_in, locking_cause_in, locks_none, takes_lock_in, reads_none, leaves_old, old_at_memory, stepped, stepped_reading, stepped_deleting, stepped_committing, at_most, numbers_stay, same_lens}
 
 -- what an event passes that only wrote files, or that deleted some
@@ -50,10 +51,6 @@ passed_deleting told event old new none h = record {
   locks = h.locks;
   watched = notes_none event none old.watched new.watched h.watched;
 }
-
-on_err : {A E : Type 0} (result : Result A E) (P : Type 0) → P → OnErr result P
-on_err (Ok a) P h = tt
-on_err (Err e) P h = h
 
 module _ {O W C : Type 0} (g : Ghosts O W C) (old new : StoreState O) (event shown : Event) (is : event ≡ shown) (result : Result (List ℕ) TantivyError) where
   abbrev pub RefusedOne : Type 0

@@ -1,6 +1,6 @@
 -- What an event does that only asked its directory, as far as it came.
 use Rattle.std.proofs.Common.{◌≡◌, ◌<◌, ℕ, List, length, Result, Ok, Err, refl, ap}
-use Rattle.std.specs.Prelude.{IfErr, IfOk, IsErrAnd, OnErr}
+use Rattle.std.specs.Prelude.{IfErr, IfOk, IsErrAnd}
 use Rattle.tv_base.specs.declared.error.TantivyError.{TantivyError}
 use Rattle.tv_base.specs.declared.error.TantivyError.TheVariants as errors
 use Rattle.tv_directory.specs.View.{MayDelete, OnlyReads, Told, View}
@@ -12,6 +12,7 @@ use Rattle.tv_store.specs.Stays.{Asks, AsksOrFails}
 use Rattle.tv_store.specs.StoreCauses.{EventCause}
 use Rattle.tv_store.proofs.FewNumbers.{none_given}
 use Rattle.tv_store.proofs.KeptFiles.{asked_nothing, fails_after}
+use Rattle.tv_store.proofs.OpenFiles.{on_err}
 
 -- what only reads deletes nothing
 pub may_delete : {W : Type 0} {told : Told} {old new : View W} → OnlyReads told old new → MayDelete told old new
@@ -22,10 +23,6 @@ may_delete h = record {
   locks = h.kept.frame.locks;
   watched = h.kept.watched;
 }
-
-on_err : {A E : Type 0} (result : Result A E) (P : Type 0) → P → OnErr result P
-on_err (Ok a) P h = tt
-on_err (Err e) P h = h
 
 -- nothing was spent
 spends_none : (refused quiet spent : Type 0) (error : TantivyError) → EventCause refused quiet ⊥ error → EventCause refused quiet spent error

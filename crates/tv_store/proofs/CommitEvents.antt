@@ -1,14 +1,11 @@
 -- The event that commits: the files that it asks for, the segments that it chooses, and the state that it leads to.
-use Rattle.std.proofs.Common.{◌≡◌, ◌≢◌, ℕ, zero, suc, ◌+◌, ◌<◌, Bool, true, false, true≢false, cond, ◌&&◌, nat_lt, List, [], ◌∷◌, ◌++◌, length, map, take, get_or, codes, Option, Some, None, refl, sym, ap, subst, ◌∙◌, arith, append_assoc, length-append}
+use Rattle.std.proofs.Common.{◌≡◌, ◌≢◌, ℕ, zero, suc, ◌+◌, ◌<◌, Bool, true, false, true≢false, cond, ◌&&◌, nat_lt, List, [], ◌∷◌, ◌++◌, length, map, take, get_or, Option, Some, None, refl, sym, ap, subst, ◌∙◌, arith}
 use Rattle.std.specs.Prelude.{find}
-use Rattle.std.specs.Fmt.{decimal}
 use Rattle.std.specs.List.{filter, AllByRecursion}
 use Rattle.std.specs.List.Sorted.{IsStrictlySortedBy}
 use Rattle.std.specs.BTreeSet.{insert_key}
 use Rattle.std.proofs.lemmas.List.{take_more}
 use Rattle.std.proofs.lemmas.List.Folds.{find-append}
-use Rattle.hex.specs.Hex.{encode_lower, lower_digits}
-use Rattle.hex.proofs.HexLemmas.{length-encode_with}
 use Rattle.tv_model.specs.declared.segment.DeleteMeta.{DeleteMeta}
 use Rattle.tv_model.specs.declared.segment.LiveSegment.{LiveSegment}
 use Rattle.tv_model.specs.declared.segment.SegmentComponent.{SegmentComponent}
@@ -16,15 +13,15 @@ use Rattle.tv_model.specs.Names.{byte_cmp, has, is_undotted, meta_name, list_nam
 use Rattle.tv_model.specs.Ids.{IsId}
 use Rattle.tv_model.specs.Files.{Reads}
 use Rattle.tv_model.specs.Listing.{Lists}
-use Rattle.tv_model.specs.Segments.{name_of, num_docs, delete_opstamp, extension, is_delete, required_components, required_names, all_required}
+use Rattle.tv_model.specs.Segments.{name_of, num_docs, required_components, required_names, all_required}
 use Rattle.tv_model.specs.Commits.{Commit, IsSegment, printed}
 use Rattle.tv_model.specs.Meaning.{Means}
 use Rattle.tv_model.specs.State.{Catalog, State, at, file_at}
 use Rattle.tv_model.specs.CommitEvents.{chosen, committed}
 use Rattle.tv_model.specs.Index.{IsFileOf}
 use Rattle.tv_model.proofs.Entries.{insert_present}
-use Rattle.tv_model.proofs.PlainNames.{undotted}
 use Rattle.tv_model.proofs.ReadPrinted.{printed_means}
+use Rattle.tv_model.proofs.Required.{name_is_file}
 use Rattle.tv_managed.specs.Managed.{KeepsOtherFiles}
 use Rattle.tv_store.specs.Kept.{Kept, Holds, FileHolds}
 use Rattle.tv_store.specs.Committing.{IsPrinted}
@@ -55,28 +52,10 @@ all_at P (y ∷ ys) (suc i) x h lt is = all_at P ys i x h.1 (omega arith) is
 
 -- ---- the files that are asked for
 
-after_id : (id rest : List ℕ) → IsId id → IsFileOf (encode_lower id ++ rest)
-after_id id rest h = (
-  undotted id rest h.size,
-  λ e.
-      let long : length (encode_lower id ++ rest) ≡ 9 = ap length e in
-      absurd (omega (arith, length-append (encode_lower id) rest, length-encode_with lower_digits id, h.size)),
-)
-
--- the name of a segment's file is that of a file
-file_named : (id : List ℕ) (deletes : Option DeleteMeta) (component : SegmentComponent) → IsId id → IsFileOf (name_of id deletes component)
-file_named id deletes component h =
-    let digits = encode_lower id in
-    let number = decimal (delete_opstamp deletes) in
-    elim (is_delete component) as (λ b. IsFileOf (cond b (digits ++ codes "." ++ number ++ codes ".del") (digits ++ codes "." ++ extension component))) [
-      | true ↦ rw (append_assoc (digits ++ codes ".") number (codes ".del"), append_assoc digits (codes ".") (number ++ codes ".del")) (after_id id (codes "." ++ (number ++ codes ".del")) h)
-      | false ↦ rw (append_assoc digits (codes ".") (extension component)) (after_id id (codes "." ++ extension component) h)
-    ]
-
--- so are those of some of its components
+-- the names of some components of a segment are those of files
 pub files_named : (id : List ℕ) (deletes : Option DeleteMeta) (some : List SegmentComponent) → IsId id → AllByRecursion IsFileOf (map (name_of id deletes) some)
 files_named id deletes [] h = tt
-files_named id deletes (component ∷ some) h = (file_named id deletes component h, files_named id deletes some h)
+files_named id deletes (component ∷ some) h = (name_is_file id deletes component h, files_named id deletes some h)
 
 pub required_are_files : (id : List ℕ) (segment : LiveSegment) → IsId id → AllByRecursion IsFileOf (required_names id segment)
 required_are_files id segment h = files_named id segment.deletes (required_components segment) h

@@ -21,7 +21,7 @@ use Rattle.tv_model.specs.Collections.{Collections, held}
 use Rattle.tv_model.specs.Living.{living}
 use Rattle.tv_model.specs.SoundStates.{IsWhole}
 use Rattle.tv_model.specs.Index.{IsFileOf}
-use Rattle.tv_model.proofs.Entries.{same_at, at_itself, text_at, lookup_put, has_kept}
+use Rattle.tv_model.proofs.Entries.{at_itself, text_at, lookup_put, has_kept}
 use Rattle.tv_directory.specs.View.{Kept as KeptView, OnlyReads}
 use Rattle.tv_directory.specs.declared.directory.Directory.{Ghosts}
 use Rattle.tv_model.specs.Meaning.{Means}
@@ -33,6 +33,7 @@ use Rattle.tv_store.specs.Stays.{Asks, KeepsManaged}
 use Rattle.tv_store.proofs.Holding.{same_holds}
 use Rattle.tv_store.proofs.LivingNames.{living_name}
 use Rattle.tv_store.proofs.OpenFiles.{all_put, all_left, all_found}
+use Rattle.tv_store.proofs.Removals.{at_removed}
 
 -- ---- how the steps go on
 
@@ -85,17 +86,6 @@ inside_holds {O} reads inside value s e h = subst (λ (v : StoreState O). Holds 
 -- what was held is held after room was made
 pub asked_holds : {O W C : Type 0} (g : Ghosts O W C) (old new : StoreState O) (s : State) → g.told.content → Asks (OnlyReads g.told) g.view old new → Holds (g.view old.outside).reads old.kept s → Holds (g.view new.outside).reads new.kept s
 asked_holds g old new s tells frame h = same_holds (g.view old.outside).reads (g.view new.outside).reads old.kept new.kept s (frame.below.content tells) frame.kept h
-
--- entries but the one that was taken out
-left_at : {X : Type 0} (es : List (List ℕ × X)) (k q : List ℕ) → is_at (byte_cmp k) q ≡ false → at (remove_entry (is_at (byte_cmp k)) es) q ≡ at es q
-left_at [] k q other = refl
-left_at {X} (e ∷ es) k q other =
-    elim (is_at (byte_cmp k) e.0) as (λ b. is_at (byte_cmp k) e.0 ≡ b → at (cond b es (e ∷ remove_entry (is_at (byte_cmp k)) es)) q ≡ at (e ∷ es) q) [
-      | true ↦ λ here.
-          let missed : is_at (byte_cmp q) e.0 ≡ false = subst (λ (n : List ℕ). is_at (byte_cmp q) n ≡ false) (text_at k e.0 here) (same_at q k ∙ other) in
-          sym (ap (λ (b : Bool). cond b (Some e.1) (at es q)) missed)
-      | false ↦ λ there. ap (λ (o : Option X). cond (is_at (byte_cmp q) e.0) (Some e.1) o) (left_at es k q other)
-    ] refl
 
 apart : (name n : List ℕ) → is_at (byte_cmp name) n ≡ false → n ≢ name
 apart name n missed e = true≢false (sym (at_itself name) ∙ ap (λ (m : List ℕ). is_at (byte_cmp name) m) (sym e) ∙ missed)
@@ -233,7 +223,7 @@ module _ {O W C : Type 0} (g : Ghosts O W C) (c : Catalog) (old new : FilesState
         changed c (g.view old.outside).reads (g.view new.outside).reads old new s name (Open (body ++ bytes)) s.managed fits (λ n isnt _. others n isnt) (frame.names ∙ h.managed)
             (kept_list (g.view old.outside).reads (g.view new.outside).reads name s.managed fits others h.listing) h.listed
             (there, looks name ∙ ap (λ (b : Bool). cond b (Some (body ++ bytes)) (at rest name)) (at_itself name))
-            (λ n e. looks n ∙ ap (λ (b : Bool). cond b (Some (body ++ bytes)) (at rest n)) e ∙ left_at old.open_files name n e) frame.left frame.form frame.collections
+            (λ n e. looks n ∙ ap (λ (b : Bool). cond b (Some (body ++ bytes)) (at rest n)) e ∙ at_removed old.open_files name n e) frame.left frame.form frame.collections
             (open_isnt_left (file_at s name) ((g.view old.outside).reads name) (at old.open_files name) body (h.files name fits) it.1) refl h,
       )
 
@@ -252,7 +242,7 @@ module _ {O W C : Type 0} (g : Ghosts O W C) (c : Catalog) (old new : FilesState
         said ∙ ap (λ (n : ℕ). line (codes "sealed") (name ∷ decimal n ∷ [])) it.2,
         changed c (g.view old.outside).reads (g.view new.outside).reads old new s name (Sealed (sealed body)) s.managed fits (λ n isnt _. now.others n isnt) (frame.names ∙ h.managed)
             (kept_list (g.view old.outside).reads (g.view new.outside).reads name s.managed fits now.others h.listing) h.listed
-            (now.changed, closed) (λ n e. ap (λ (es : List (List ℕ × List ℕ)). at es n) cut ∙ left_at old.open_files name n e) frame.left frame.form frame.collections
+            (now.changed, closed) (λ n e. ap (λ (es : List (List ℕ × List ℕ)). at es n) cut ∙ at_removed old.open_files name n e) frame.left frame.form frame.collections
             (open_isnt_left (file_at s name) ((g.view old.outside).reads name) (at old.open_files name) body (h.files name fits) it.1) refl h,
       )
 

@@ -1,43 +1,22 @@
 -- The names of the files of segments, gathered one after the other.
-use Rattle.std.proofs.Common.{◌≡◌, ℕ, Bool, true, false, cond, not, ◌&&◌, nat_lt, List, [], ◌∷◌, ◌++◌, map, length, length-append, append_assoc, codes, Option, refl, sym, ap, subst, ◌∙◌, arith}
-use Rattle.std.specs.Fmt.{decimal}
+use Rattle.std.proofs.Common.{◌≡◌, ℕ, Bool, true, false, cond, not, ◌&&◌, nat_lt, List, [], ◌∷◌, map, Option, refl, sym, ap, subst, ◌∙◌}
 use Rattle.std.specs.List.{filter, flat_map}
 use Rattle.std.proofs.lemmas.List.Folds.{flat_map-map}
-use Rattle.hex.specs.Hex.{encode_lower, lower_digits}
-use Rattle.hex.proofs.HexLemmas.{length-encode_with}
 use Rattle.tv_model.specs.declared.segment.DeleteMeta.{DeleteMeta}
 use Rattle.tv_model.specs.declared.segment.LiveSegment.{LiveSegment}
 use Rattle.tv_model.specs.declared.segment.SegmentComponent.{SegmentComponent}
 use Rattle.tv_model.specs.declared.segment.SegmentComponent.TheVariants.{Postings, Positions, FastFields, FieldNorms, Terms, Store, Delete}
 use Rattle.tv_model.specs.FileEvents.{lacks_deletes}
-use Rattle.tv_model.specs.Names.{is}
 use Rattle.tv_model.specs.Ids.{IsId}
 use Rattle.tv_model.specs.Index.{IsFileOf}
-use Rattle.tv_model.specs.Segments.{all_required, components, delete_opstamp, extension, is_delete, name_of, num_deleted, required_names}
-use Rattle.tv_model.proofs.PlainNames.{undotted}
+use Rattle.tv_model.specs.Segments.{all_required, components, is_delete, name_of, num_deleted, required_names}
+use Rattle.tv_model.proofs.Required.{name_is_file}
 
 -- ---- the name of a file
 
--- a name that begins with an id is that of a file of the machine
-after_id : (id rest : List ℕ) → IsId id → IsFileOf (encode_lower id ++ rest)
-after_id id rest h = (
-  undotted id rest h.size,
-  λ e.
-      let long : length (encode_lower id ++ rest) ≡ 9 = ap length e in
-      absurd (omega (arith, length-append (encode_lower id) rest, length-encode_with lower_digits id, h.size)),
-)
-
 -- the name of a segment's file is one
 pub named_file : (id name : List ℕ) (deletes : Option DeleteMeta) (component : SegmentComponent) → IsId id → name ≡ name_of id deletes component → IsFileOf name
-named_file id name deletes component h is =
-    let number = decimal (delete_opstamp deletes) in
-    let digits = encode_lower id in
-    let delete : IsFileOf (digits ++ codes "." ++ number ++ codes ".del") =
-    subst IsFileOf (sym (append_assoc (digits ++ codes ".") number (codes ".del") ∙ append_assoc digits (codes ".") (number ++ codes ".del"))) (after_id id (codes "." ++ (number ++ codes ".del")) h) in
-    let other : IsFileOf (digits ++ codes "." ++ extension component) =
-    subst IsFileOf (sym (append_assoc digits (codes ".") (extension component))) (after_id id (codes "." ++ extension component) h) in
-    subst IsFileOf (sym is)
-    (elim (is_delete component) as (λ b. IsFileOf (cond b (digits ++ codes "." ++ number ++ codes ".del") (digits ++ codes "." ++ extension component))) [ true ↦ delete | false ↦ other ])
+named_file id name deletes component h is = subst IsFileOf (sym is) (name_is_file id deletes component h)
 
 -- ---- the names that have to be sealed
 

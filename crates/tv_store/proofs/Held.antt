@@ -1,6 +1,5 @@
 -- Which names the unfinished collections hold, after each change of them.
 use Rattle.std.proofs.Common.{◌≡◌, ℕ, Bool, true, false, cond, ◌||◌, List, [], ◌∷◌, ◌++◌, Option, Some, sym, ap, ◌∙◌, arith}
-use Rattle.std.specs.List.{flat_map}
 use Rattle.std.specs.Map.{lookup, remove_entry}
 use Rattle.std.specs.BTreeMap.{is_at, insert_entry}
 use Rattle.std.specs.Ordering.{nat_cmp, match_ordering}
@@ -9,23 +8,20 @@ use Rattle.std.specs.declared.cmp.Ordering.TheVariants.{Less, Equal, Greater}
 use Rattle.tv_model.specs.Names.{has}
 use Rattle.tv_model.specs.Collections.{Collection, Collections, begun, collection_at, having_tried, held, taken, with_begun, with_collection, without_collection}
 use Rattle.tv_model.proofs.CollectionStates.{has_append}
-
--- what the collections of these entries took
-abbrev pub all_taken : List (ℕ × Collection) → List (List ℕ)
-all_taken es = flat_map (λ e. taken e.1) es
+use Rattle.tv_model.proofs.HeldNames.{names_held}
 
 module _ (n : List ℕ) where
-  first_taken : (e : ℕ × Collection) (es : List (ℕ × Collection)) → has (all_taken (e ∷ es)) n ≡ (has (taken e.1) n || has (all_taken es) n)
-  first_taken e es = has_append (taken e.1) (all_taken es) n
+  first_taken : (e : ℕ × Collection) (es : List (ℕ × Collection)) → has (names_held (e ∷ es)) n ≡ (has (taken e.1) n || has (names_held es) n)
+  first_taken e es = has_append (taken e.1) (names_held es) n
 
-  placed : (r : Ordering) (number : ℕ) (c : Collection) (e : ℕ × Collection) (es rest : List (ℕ × Collection)) → (has (all_taken rest) n ≡ true → (has (taken c) n || has (all_taken es) n) ≡ true)
-      → has (all_taken (match_ordering r ((number, c) ∷ e ∷ es) ((e.0, c) ∷ es) (e ∷ rest))) n ≡ true → (has (taken c) n || has (all_taken (e ∷ es)) n) ≡ true
+  placed : (r : Ordering) (number : ℕ) (c : Collection) (e : ℕ × Collection) (es rest : List (ℕ × Collection)) → (has (names_held rest) n ≡ true → (has (taken c) n || has (names_held es) n) ≡ true)
+      → has (names_held (match_ordering r ((number, c) ∷ e ∷ es) ((e.0, c) ∷ es) (e ∷ rest))) n ≡ true → (has (taken c) n || has (names_held (e ∷ es)) n) ≡ true
   placed Less number c e es rest h k = sym (first_taken (number, c) (e ∷ es)) ∙ k
   placed Equal number c e es rest h k = grind (arith, first_taken (e.0, c) es, first_taken e es, k)
   placed Greater number c e es rest h k = grind (arith, first_taken e rest, first_taken e es, h, k)
 
   -- one that was put took it, or another one did
-  put : (es : List (ℕ × Collection)) (number : ℕ) (c : Collection) → has (all_taken (insert_entry nat_cmp es number c)) n ≡ true → (has (taken c) n || has (all_taken es) n) ≡ true
+  put : (es : List (ℕ × Collection)) (number : ℕ) (c : Collection) → has (names_held (insert_entry nat_cmp es number c)) n ≡ true → (has (taken c) n || has (names_held es) n) ≡ true
   put [] number c h = sym (first_taken (number, c) []) ∙ h
   put (e ∷ es) number c h = placed (nat_cmp number e.0) number c e es (insert_entry nat_cmp es number c) (put es number c) h
 
@@ -33,22 +29,22 @@ module _ (n : List ℕ) where
   pub held_standing : (collections : Collections) (c : Collection) (next : ℕ) → has (held (record { unfinished = insert_entry nat_cmp collections.unfinished collections.next c; next = next })) n ≡ true → (has (taken c) n || has (held collections) n) ≡ true
   held_standing collections c next h = put collections.unfinished collections.next c h
 
-  left : (b : Bool) (e : ℕ × Collection) (es rest : List (ℕ × Collection)) → (has (all_taken rest) n ≡ true → has (all_taken es) n ≡ true) → has (all_taken (cond b es (e ∷ rest))) n ≡ true → has (all_taken (e ∷ es)) n ≡ true
+  left : (b : Bool) (e : ℕ × Collection) (es rest : List (ℕ × Collection)) → (has (names_held rest) n ≡ true → has (names_held es) n ≡ true) → has (names_held (cond b es (e ∷ rest))) n ≡ true → has (names_held (e ∷ es)) n ≡ true
   left true e es rest h k = grind (arith, first_taken e es, k)
   left false e es rest h k = grind (arith, first_taken e rest, first_taken e es, h, k)
 
   -- one less took none else
-  cut : (es : List (ℕ × Collection)) (test : ℕ → Bool) → has (all_taken (remove_entry test es)) n ≡ true → has (all_taken es) n ≡ true
+  cut : (es : List (ℕ × Collection)) (test : ℕ → Bool) → has (names_held (remove_entry test es)) n ≡ true → has (names_held es) n ≡ true
   cut [] test h = h
   cut (e ∷ es) test h = left (test e.0) e es (remove_entry test es) (cut es test) h
 
-  here : (b : Bool) (x : ℕ × Collection) (es : List (ℕ × Collection)) (rest : Option Collection) (c : Collection) → (rest ≡ Some c → has (all_taken es) n ≡ true) → cond b (Some x.1) rest ≡ Some c → has (taken c) n ≡ true
-      → has (all_taken (x ∷ es)) n ≡ true
+  here : (b : Bool) (x : ℕ × Collection) (es : List (ℕ × Collection)) (rest : Option Collection) (c : Collection) → (rest ≡ Some c → has (names_held es) n ≡ true) → cond b (Some x.1) rest ≡ Some c → has (taken c) n ≡ true
+      → has (names_held (x ∷ es)) n ≡ true
   here true x es rest c more k h = let same : x.1 ≡ c = cc in grind (arith, first_taken x es, ap (λ (d : Collection). has (taken d) n) same, h)
   here false x es rest c more k h = grind (arith, first_taken x es, more k)
 
   -- what an unfinished collection took is held
-  found : (es : List (ℕ × Collection)) (test : ℕ → Bool) (c : Collection) → lookup test es ≡ Some c → has (taken c) n ≡ true → has (all_taken es) n ≡ true
+  found : (es : List (ℕ × Collection)) (test : ℕ → Bool) (c : Collection) → lookup test es ≡ Some c → has (taken c) n ≡ true → has (names_held es) n ≡ true
   found [] test c e h = absurd cc
   found (x ∷ es) test c e h = here (test x.0) x es (lookup test es) c (λ k. found es test c k h) e h
 

@@ -13,6 +13,7 @@ use Rattle.tv_model.specs.State.{at}
 use Rattle.tv_model.specs.Collections.{Collections, held}
 use Rattle.tv_model.specs.Files.{Reads, KeepsOthers, Sets}
 use Rattle.tv_model.specs.Footer.{sealed}
+use Rattle.tv_model.proofs.Changes.{none_is}
 use Rattle.tv_model.proofs.Entries.{text_at}
 use Rattle.tv_model.proofs.PlainNames.{both}
 use Rattle.tv_directory.specs.View.{DeletesNone, WriterState}
@@ -212,16 +213,12 @@ one_less {O} written outside form managed collections es new left old test cut i
       the_files : List (List ℕ × List ℕ) → FilesState O
       the_files open_files = record { outside = outside; form = form; managed = managed; collections = collections; open_files = open_files; left = left }
 
-read_absent : {X : Type 0} (o : Option X) → is_some o ≡ false → o ≡ None
-read_absent None e = refl
-read_absent (Some x) e = absurd (true≢false e)
-
 -- whether a file is sealed, by what the directory answers where it isn't open and wasn't left
 pub sealed_answer : {S : Type 0} (reads : S → Reads) (inside old : S) (asked name : List ℕ) (found left : Bool) (o : Option (List ℕ)) → inside ≡ old → asked ≡ name → found ≡ is_some (reads inside asked) → is_some o ≡ false → left ≡ false
     → Asked (reads old name) o left found
 sealed_answer {S} reads inside old asked name found left o same text answer none stays =
     let it : found ≡ is_some (reads old name) = answer ∙ ap (λ (s : S). is_some (reads s asked)) same ∙ ap (λ (n : List ℕ). is_some (reads old n)) text in
-    record { yes = λ e. (sym it ∙ e, read_absent o none, stays); no = λ e. inl (read_absent (reads old name) (sym it ∙ e)) }
+    record { yes = λ e. (sym it ∙ e, none_is o none, stays); no = λ e. inl (none_is (reads old name) (sym it ∙ e)) }
 
 -- an open file isn't sealed, and neither is one that was left
 pub open_answer : (before o : Option (List ℕ)) (left : Bool) → is_some o ≡ true → Asked before o left false
@@ -238,11 +235,14 @@ on_err (Err e) P h = h
 fourth : (a b c d e : Bool) → (a && b && c && d && e) ≡ true → d ≡ true
 fourth a b c d e h = (both (a && b && c) d (both (a && b && c && d) e h).0).1
 
+-- a plain name has no dot in front
+pub plain_undotted : (name : List ℕ) → is_plain name ≡ true → is_undotted name ≡ true
+plain_undotted name plain = fourth (nat_le 1 (length name)) (nat_le (length name) 255) (list_all is_name_byte name) (is_undotted name) _ plain
+
 -- a plain name is on the list
 pub plain_registered : (names names' after : List (List ℕ)) (asked name : List ℕ) → after ≡ registered names asked → names ≡ names' → asked ≡ name → is_plain name ≡ true → after ≡ insert_key byte_cmp names' name
 plain_registered names names' after asked name is same text plain =
-    let undotted : is_undotted name ≡ true = fourth (nat_le 1 (length name)) (nat_le (length name) 255) (list_all is_name_byte name) (is_undotted name) _ plain in
-    is ∙ ap (λ (ns : List (List ℕ)). registered ns asked) same ∙ ap (λ (n : List ℕ). registered names' n) text ∙ ap (λ (b : Bool). cond b (insert_key byte_cmp names' name) names') undotted
+    is ∙ ap (λ (ns : List (List ℕ)). registered ns asked) same ∙ ap (λ (n : List ℕ). registered names' n) text ∙ ap (λ (b : Bool). cond b (insert_key byte_cmp names' name) names') (plain_undotted name plain)
 
 -- the files after a call changed only the writer's
 pub others_kept : {S : Type 0} (reads : S → Reads) (inside old new : S) (written_to name : List ℕ) → inside ≡ old → written_to ≡ name → KeepsOthers (reads inside) (reads new) written_to → KeepsOthers (reads old) (reads new) name

@@ -1,12 +1,12 @@
 -- The events of readers: which files are read, why a read fails, and what is held afterwards.
-use Rattle.std.proofs.Common.{◌≡◌, ◌≢◌, inl, inr, ℕ, zero, suc, ◌+◌, ◌<◌, Bool, true, false, true≢false, ◌||◌, List, [], ◌∷◌, ◌++◌, map, length, take, drop, get_or, string_bytes, Option, Some, None, is_some, refl, sym, ap, subst, ◌∙◌, arith, append_assoc}
+use Rattle.std.proofs.Common.{◌≡◌, ◌≢◌, inl, inr, ℕ, zero, suc, ◌+◌, ◌<◌, Bool, true, false, true≢false, List, [], ◌∷◌, ◌++◌, map, length, take, drop, get_or, string_bytes, Option, Some, None, is_some, refl, sym, ap, subst, ◌∙◌, arith, append_assoc}
 use Rattle.std.proofs.Math.Logic.{⊎_map}
 use Rattle.std.specs.Prelude.{IsSome, option_map, String, Result, Ok, Err, IfErr}
 use Rattle.std.specs.Global.{Global}
 use Rattle.std.specs.Result.{IsErrAnd}
 use Rattle.std.proofs.lemmas.List.{take_more, map_push, take-append-drop, drop_more}
 use Rattle.std.proofs.lemmas.Grind.{flat_map-append}
-use Rattle.std.proofs.lemmas.List.Folds.{list_any-append}
+use Rattle.std.proofs.lemmas.Bool.{or_left, or_right}
 use Rattle.tv_model.specs.declared.reload_policy.ReloadPolicy.{ReloadPolicy}
 use Rattle.tv_model.specs.declared.event.Event.{Event}
 use Rattle.tv_model.specs.declared.event.Event.TheVariants as events
@@ -23,6 +23,8 @@ use Rattle.tv_model.specs.Readable.{IsGoodFile, read_by}
 use Rattle.tv_model.specs.ReaderEvents.{body_in, with_new_reader, with_reloaded}
 use Rattle.tv_model.proofs.Entries.{is_itself, is_text}
 use Rattle.tv_model.proofs.Bodies.{body_of_good}
+use Rattle.tv_model.proofs.CollectionStates.{has_append}
+use Rattle.tv_model.proofs.Required.{by_one}
 use Rattle.tv_base.specs.Errors.{of_open_read}
 use Rattle.tv_base.specs.declared.io.IoFault.{IoFault}
 use Rattle.tv_base.specs.declared.io.IoKind.{IoKind}
@@ -161,33 +163,17 @@ loading_of busy refused quiet spent load bad absent other h = h
 
 -- ---- names of a list
 
-has_joined : (xs ys : List (List ℕ)) (n : List ℕ) → has (xs ++ ys) n ≡ (has xs n || has ys n)
-has_joined xs ys n = list_any-append (λ m. is m n) xs ys
-
-in_first : (a b : Bool) → a ≡ true → (a || b) ≡ true
-in_first true b h = refl
-in_first false b h = absurd (true≢false (sym h))
-
-in_second : (a b : Bool) → b ≡ true → (a || b) ≡ true
-in_second true b h = refl
-in_second false b h = h
-
-in_one : {P : Type 0} (a b : Bool) → (a ≡ true → P) → (b ≡ true → P) → (a || b) ≡ true → P
-in_one true b f g h = f refl
-in_one false b f g h = g h
-
 -- a name that stands in a list
 has_at : (names : List (List ℕ)) (i : ℕ) (name : List ℕ) → i < length names → name ≡ get_or names i name → has names name ≡ true
 has_at [] i name within at_i = absurd (omega arith)
-has_at (x ∷ xs) zero name within at_i = in_first (is x name) (has xs name) (subst (λ (m : List ℕ). is m name ≡ true) at_i (is_itself name))
-has_at (x ∷ xs) (suc i) name within at_i = in_second (is x name) (has xs name) (has_at xs i name (omega arith) at_i)
+has_at (x ∷ xs) zero name within at_i = or_left (is x name) (has xs name) (subst (λ (m : List ℕ). is m name ≡ true) at_i (is_itself name))
+has_at (x ∷ xs) (suc i) name within at_i = or_right (is x name) (has xs name) (has_at xs i name (omega arith) at_i)
 
 -- what is true of some names and of one more
 all_pushed : (P : List ℕ → Type 0) (names : List (List ℕ)) (name : List ℕ) → ((n : List ℕ) → has names n ≡ true → P n) → P name → (n : List ℕ) → has (names ++ name ∷ []) n ≡ true → P n
 all_pushed P names name h p n among =
-    in_one {P = P n} (has names n) (has (name ∷ []) n) (h n)
-    (in_one {P = P n} (is name n) false (λ same. subst P (is_text name n same) p) (λ never. absurd (true≢false (sym never))))
-    (sym (has_joined names (name ∷ []) n) ∙ among)
+    by_one {P = P n} (has names n) (has (name ∷ []) n) (sym (has_append names (name ∷ []) n) ∙ among) (h n)
+    (λ one. by_one {P = P n} (is name n) false one (λ same. subst P (is_text name n same) p) (λ never. absurd (true≢false (sym never))))
 
 -- ---- sealed files
 
@@ -285,10 +271,10 @@ has_required : (segments : List (List ℕ × LiveSegment)) (i : ℕ) (entry : Li
     → i < length segments → entry ≡ get_or segments i entry → has (required_names entry.0 entry.1) n ≡ true → has (all_required segments) n ≡ true
 has_required [] i entry n within at_i h = absurd (omega arith)
 has_required (e ∷ es) zero entry n within at_i h =
-    has_joined (required_names e.0 e.1) (all_required es) n
-    ∙ in_first _ _ (subst (λ (x : List ℕ × LiveSegment). has (required_names x.0 x.1) n ≡ true) at_i h)
+    has_append (required_names e.0 e.1) (all_required es) n
+    ∙ or_left _ _ (subst (λ (x : List ℕ × LiveSegment). has (required_names x.0 x.1) n ≡ true) at_i h)
 has_required (e ∷ es) (suc i) entry n within at_i h =
-    has_joined (required_names e.0 e.1) (all_required es) n ∙ in_second _ _ (has_required es i entry n (omega arith) at_i h)
+    has_append (required_names e.0 e.1) (all_required es) n ∙ or_right _ _ (has_required es i entry n (omega arith) at_i h)
 
 -- the files of one of some segments are sealed where those of all are
 pub segment_is_sealed : (s : State) (segments : List (List ℕ × LiveSegment)) (i : ℕ) (entry : List ℕ × LiveSegment)
@@ -299,12 +285,11 @@ required_pushed : (P : List ℕ → Type 0) (segments : List (List ℕ × LiveSe
     → ((n : List ℕ) → has (all_required segments) n ≡ true → P n) → ((n : List ℕ) → has (required_names entry.0 entry.1) n ≡ true → P n)
     → (n : List ℕ) → has (all_required (segments ++ entry ∷ [])) n ≡ true → P n
 required_pushed P [] entry h p n among =
-    in_one {P = P n} (has (required_names entry.0 entry.1) n) false (p n) (λ never. absurd (true≢false (sym never))) (sym (has_joined (required_names entry.0 entry.1) [] n) ∙ among)
+    by_one {P = P n} (has (required_names entry.0 entry.1) n) false (sym (has_append (required_names entry.0 entry.1) [] n) ∙ among) (p n) (λ never. absurd (true≢false (sym never)))
 required_pushed P (e ∷ es) entry h p n among =
-    in_one {P = P n} (has (required_names e.0 e.1) n) (has (all_required (es ++ entry ∷ [])) n)
-    (λ k. h n (has_joined (required_names e.0 e.1) (all_required es) n ∙ in_first _ _ k))
-    (required_pushed P es entry (λ m k. h m (has_joined (required_names e.0 e.1) (all_required es) m ∙ in_second _ _ k)) p n)
-    (sym (has_joined (required_names e.0 e.1) (all_required (es ++ entry ∷ [])) n) ∙ among)
+    by_one {P = P n} (has (required_names e.0 e.1) n) (has (all_required (es ++ entry ∷ [])) n) (sym (has_append (required_names e.0 e.1) (all_required (es ++ entry ∷ [])) n) ∙ among)
+    (λ k. h n (has_append (required_names e.0 e.1) (all_required es) n ∙ or_left _ _ k))
+    (required_pushed P es entry (λ m k. h m (has_append (required_names e.0 e.1) (all_required es) m ∙ or_right _ _ k)) p n)
 
 -- one more was
 pub read_more : (s : State) (segments : List (List ℕ × LiveSegment)) (i : ℕ) (entry : List ℕ × LiveSegment) (read_id : List ℕ) (read_segment : LiveSegment) (bodies : List (List ℕ))
@@ -343,12 +328,12 @@ between before front rest after names path e =
     ∙ sym (append_assoc before front (path ∷ (rest ++ after)))
 
 has_front : (names front rest : List (List ℕ)) (path n : List ℕ) → names ≡ front ++ path ∷ rest → has front n ≡ true → has names n ≡ true
-has_front names front rest path n e h = ap (λ (ns : List (List ℕ)). has ns n) e ∙ has_joined front (path ∷ rest) n ∙ in_first (has front n) (has (path ∷ rest) n) h
+has_front names front rest path n e h = ap (λ (ns : List (List ℕ)). has ns n) e ∙ has_append front (path ∷ rest) n ∙ or_left (has front n) (has (path ∷ rest) n) h
 
 pub has_middle : (names front rest : List (List ℕ)) (path : List ℕ) → names ≡ front ++ path ∷ rest → has names path ≡ true
 has_middle names front rest path e =
-    ap (λ (ns : List (List ℕ)). has ns path) e ∙ has_joined front (path ∷ rest) path
-    ∙ in_second (has front path) (has (path ∷ rest) path) (in_first (is path path) (has rest path) (is_itself path))
+    ap (λ (ns : List (List ℕ)). has ns path) e ∙ has_append front (path ∷ rest) path
+    ∙ or_right (has front path) (has (path ∷ rest) path) (or_left (is path path) (has rest path) (is_itself path))
 
 -- a file of one of some segments isn't read
 pub segments_fail : (tells : Type 0) (first now : Reads) (segments : List (List ℕ × LiveSegment)) (i : ℕ) (entry : List ℕ × LiveSegment) (start before after : ℕ) (error : TantivyError)
@@ -368,8 +353,8 @@ segments_fail tells first now segments i entry start before after error same qui
           required_split segments i entry within at_i
           ∙ between (all_required (take i segments)) b.front b.rest (all_required (drop (i + 1) segments)) (required_names entry.0 entry.1) b.path b.split;
       good = λ t n among.
-          in_one {P = ReadsGoodFile (first n)} (has (all_required (take i segments)) n) (has b.front n) (so_far t n) (λ k. good_before first now n (same t) (b.good t n k))
-          (sym (has_joined (all_required (take i segments)) b.front n) ∙ among);
+          by_one {P = ReadsGoodFile (first n)} (has (all_required (take i segments)) n) (has b.front n) (sym (has_append (all_required (take i segments)) b.front n) ∙ among)
+          (so_far t n) (λ k. good_before first now n (same t) (b.good t n k));
       refuses = λ t. refused_before first now b.path error (same t) (b.refuses t);
     })
     (λ path a. (has_required segments i entry path within at_i a.0, λ t. sym (same t path) ∙ a.1 t)) h

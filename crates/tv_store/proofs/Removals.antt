@@ -1,13 +1,15 @@
 -- Entries and names that are taken out: of maps, of sets, and of the open files.
-use Rattle.std.proofs.Common.{◌≡◌, ◌≢◌, true≢false, nat_le, codes, ℕ, suc, ◌+◌, ◌≤◌, ◌<◌, inl, inr, Bool, true, false, cond, not, ◌&&◌, ◌||◌, List, [], ◌∷◌, ◌++◌, map, length, get_or, drop, drop-cons, Option, Some, None, option_map, is_some, Result, Ok, Err, refl, sym, ap, subst, ◌∙◌, arith}
+use Rattle.std.proofs.Common.{◌≡◌, ◌≢◌, true≢false, ℕ, suc, ◌+◌, ◌≤◌, ◌<◌, inl, inr, Bool, true, false, cond, not, ◌&&◌, ◌||◌, List, [], ◌∷◌, ◌++◌, map, length, get_or, drop, Option, Some, None, option_map, is_some, Result, Ok, Err, refl, sym, ap, subst, ◌∙◌, arith}
 use Rattle.std.specs.Prelude.{Contains, OnOk}
 use Rattle.std.specs.List.{AllByRecursion, filter, list_all, list_any}
+use Rattle.std.proofs.lemmas.Bool.{and_right, or_right}
+use Rattle.std.proofs.lemmas.List.{drop_more}
 use Rattle.std.proofs.lemmas.List.Elements.{All-filter}
 use Rattle.std.proofs.lemmas.List.Sums.{AllPass-from_list_all, list_all-from_AllPass}
 use Rattle.std.specs.Map.{remove_entry}
 use Rattle.std.specs.BTreeMap.{is_at}
 use Rattle.std.specs.BTreeSet.{insert_key}
-use Rattle.tv_model.specs.Names.{byte_cmp, is, has, is_name_byte, is_plain, is_undotted, list_name}
+use Rattle.tv_model.specs.Names.{byte_cmp, is, has, is_plain, is_undotted, list_name}
 use Rattle.tv_model.specs.Collections.{Collections, done_of, failed_of, held}
 use Rattle.tv_model.specs.State.{at}
 use Rattle.tv_model.proofs.Entries.{same_at, text_at, at_itself, is_text, is_by_order, has_put}
@@ -24,7 +26,7 @@ use Rattle.tv_store.specs.Kept.{FilesState}
 use Rattle.tv_store.specs.FileCalls.{Tried}
 use Rattle.tv_store.specs.declared.files.OpenFile.{OpenFile}
 use Rattle.tv_store.specs.OpenFiles.{IsOpenFile}
-use Rattle.tv_store.proofs.OpenFiles.{all_left, AreOpen, bodies, at_seen}
+use Rattle.tv_store.proofs.OpenFiles.{all_left, AreOpen, bodies, at_seen, plain_undotted}
 use Rattle.tv_store.proofs.CommitEvents.{all_at}
 
 -- ---- entries
@@ -56,12 +58,10 @@ removed_still first es new test cut h = subst (AllByRecursion (Contains first)) 
 
 -- the rest of a list begins with the element that comes next
 pub drop_here : {A : Type 0} (xs : List A) (i : ℕ) (x : A) → i < length xs → x ≡ get_or xs i x → drop i xs ≡ x ∷ drop (i + 1) xs
-drop_here {A} xs i x h is =
-    let next : suc i ≡ i + 1 = omega arith in
-    drop-cons xs i x h ∙ ap (λ (n : ℕ). get_or xs i x ∷ drop n xs) next ∙ ap (λ (y : A). y ∷ drop (i + 1) xs) (sym is)
+drop_here {A} xs i x h is = drop_more xs i x h ∙ ap (λ (y : A). y ∷ drop (i + 1) xs) (sym is)
 
 -- entries but one that was taken out
-at_removed : {X : Type 0} (es : List (List ℕ × X)) (k q : List ℕ) → is_at (byte_cmp k) q ≡ false → at (remove_entry (is_at (byte_cmp k)) es) q ≡ at es q
+pub at_removed : {X : Type 0} (es : List (List ℕ × X)) (k q : List ℕ) → is_at (byte_cmp k) q ≡ false → at (remove_entry (is_at (byte_cmp k)) es) q ≡ at es q
 at_removed [] k q other = refl
 at_removed {X} (e ∷ es) k q other =
     elim (is_at (byte_cmp k) e.0) as (λ b. is_at (byte_cmp k) e.0 ≡ b → at (cond b es (e ∷ remove_entry (is_at (byte_cmp k)) es)) q ≡ at (e ∷ es) q) [
@@ -266,16 +266,12 @@ pub living_stands : {S A E D W C : Type 0} (g : Ghosts D W C) (answered : S → 
     → g.told.content → has living n ≡ true → n ≢ list_name → (g.view new.0).reads n ≡ (g.view old.0).reads n
 living_stands g answered sets living names old new result n is among l t h other = l.spared t n (among_spares answered sets living names old.1 new.1 result n is among h) other
 
-plain_undotted : (a b c d e : Bool) → (a && b && c && d && e) ≡ true → d ≡ true
-plain_undotted a b c d e h = (both (a && b && c) d (both (a && b && c && d) e h).0).1
-
 pub isnt_plain : (x n : List ℕ) → is_plain x ≡ true → is_undotted n ≡ false → is x n ≡ false
 isnt_plain x n plain dot =
     elim (is x n) as (λ b. is x n ≡ b → b ≡ false) [
       | true ↦ λ e.
           let same : x ≡ n = is_text x n e in
-          let undotted : is_undotted x ≡ true = plain_undotted (nat_le 1 (length x)) (nat_le (length x) 255) (list_all is_name_byte x) (is_undotted x) (not (is x (codes "failed"))) plain in
-          absurd (true≢false (sym undotted ∙ ap is_undotted same ∙ dot))
+          absurd (true≢false (sym (plain_undotted x plain) ∙ ap is_undotted same ∙ dot))
       | false ↦ λ e. refl
     ] refl
 
@@ -297,20 +293,12 @@ dotted_stands g answered sets names old new result n plain (inr set) l t dot oth
 
 -- ---- open files that are left
 
-or_true : (a : Bool) → (a || true) ≡ true
-or_true true = refl
-or_true false = refl
-
-never_more : (r : Bool) → (r && false) ≡ false
-never_more true = refl
-never_more false = refl
-
 moved : {X : Type 0} (i k r : Bool) (o : Option X) → (i ≡ true → is_some o ≡ true) → ((i || k) || (r && is_some (cond i None o))) ≡ (k || ((i || r) && is_some o))
-moved true k r o h = sym (ap (λ (b : Bool). k || b) (h refl) ∙ or_true k)
+moved true k r o h = sym (ap (λ (b : Bool). k || b) (h refl) ∙ or_right k true refl)
 moved false k r o h = refl
 
 missed : {X : Type 0} (i k r : Bool) (o : Option X) → (i ≡ true → is_some o ≡ false) → (k || (r && is_some (cond i None o))) ≡ (k || ((i || r) && is_some o))
-missed true k r o h = ap (λ (b : Bool). k || b) (never_more r ∙ sym (h refl))
+missed true k r o h = ap (λ (b : Bool). k || b) (and_right r false refl ∙ sym (h refl))
 missed false k r o h = refl
 
 -- one more open file was left
