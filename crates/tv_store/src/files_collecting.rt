@@ -22,7 +22,7 @@ use std::mem;
 use tv_base::TantivyError;
 use tv_directory::Outside;
 use tv_index::naming::push_text;
-use tv_managed::CollectStep;
+use tv_managed::{CollectStep, GarbageCollectionResult};
 use tv_model::{FileName, Memory};
 
 /// A name that a collection tried, and whether it is done.
@@ -47,6 +47,21 @@ fn file_names(alloc: Global, texts: Vec<String>) -> Result<Vec<FileName>, Memory
         names.push(FileName::new(text))?;
     }
     Ok(names)
+}
+
+// What became of a collection, from what it answered.
+fn collected_from(alloc: Global, told: GarbageCollectionResult) -> Result<Collected, Memory>
+    requires deleted { list_all is_plain (map string_bytes told.deleted_files.items) ≡ true }
+    requires failed { list_all is_plain
+        (map string_bytes told.failed_to_delete_files.items) ≡ true }
+    ensures deleted { IfOk result (λ c. c.deleted.items
+        ≡ map string_bytes told.deleted_files.items) }
+    ensures failed { IfOk result (λ c. c.failed.items
+        ≡ map string_bytes told.failed_to_delete_files.items) }
+{
+    let deleted = file_names(alloc, told.deleted_files)?;
+    let failed = file_names(alloc, told.failed_to_delete_files)?;
+    Ok(Collected { deleted, failed })
 }
 
 // Names of files, from copies of their texts.
@@ -165,8 +180,6 @@ impl<O: Outside> Files<O> {
         ensures faults { EventFaults ⊥ (O.view self.old.outside) (O.view self.new.outside) result }
         ensures frame { KeepsForm (MayDelete O.told) O.view self.old self.new }
     {
-        // A contract learns from the names that they are plain.
-        let _names = self.index.directory().collect_names(number);
         match self.index.directory_mut().collect_delete(number)? {
             CollectStep::Done(text) => {
                 let name = FileName::new(text);
@@ -228,12 +241,11 @@ impl<O: Outside> Files<O> {
         // No writer is kept beside an error, since nobody could tell which files are gone.
         let mut files = mem::replace(&mut self.files, BTreeMap::new(alloc));
         let result = self.index.directory_mut().garbage_collect(move || living)?;
-        let deleted = file_names(alloc, result.deleted_files)?;
-        let failed = file_names(alloc, result.failed_to_delete_files)?;
-        remove_all(&mut files, deleted.as_slice());
+        let collected = collected_from(alloc, result)?;
+        remove_all(&mut files, collected.deleted.as_slice());
         self.files = files;
-        remove_names(&mut self.left, deleted.as_slice());
-        Ok(Collected { deleted, failed })
+        remove_names(&mut self.left, collected.deleted.as_slice());
+        Ok(collected)
     }
 
     /// The open files are left, and no collection is unfinished any more.

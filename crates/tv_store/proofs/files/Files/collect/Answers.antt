@@ -10,11 +10,11 @@ use Rattle.tv_store.proofs.Removals.{told_plain, tried_as, tried_of, collected_o
 use Rattle.tv_store.proofs.OpenFiles.{AreOpen, bodies, same_open}
 use Rattle.tv_store.proofs.files.Files.collect.Goals as goal
 
-pub file_names-requires : goal.file_names-requires
-file_names-requires g c = let left = c.in_ok-result.ensures.collects in (told_plain g.O.Directory _ _ _ _ (tried_of g.O.Directory _ _ (map string_bytes c.args.living.keys) (λ set answer. search) left.1 left.2) (subst (λ d. list_all is_plain d.1.managed ≡ true) (c.directory.ensures ∙ sym c.directory_mut.ensures.value) c.list_managed_files-names.ensures.plain)).0
+pub collected_from-requires-clause-deleted : goal.collected_from-requires-clause-deleted
+collected_from-requires-clause-deleted g c = let left = c.in_ok-result.ensures.collects in (told_plain g.O.Directory _ _ _ _ (tried_of g.O.Directory _ _ (map string_bytes c.args.living.keys) (λ set answer. search) left.1 left.2) (subst (λ d. list_all is_plain d.1.managed ≡ true) (c.directory.ensures ∙ sym c.directory_mut.ensures.value) c.list_managed_files-names.ensures.plain)).0
 
-pub file_names-requires-2 : goal.file_names-requires-2
-file_names-requires-2 g c = let left = c.in_ok-result.ensures.collects in (told_plain g.O.Directory _ _ _ _ (tried_of g.O.Directory _ _ (map string_bytes c.args.living.keys) (λ set answer. search) left.1 left.2) (subst (λ d. list_all is_plain d.1.managed ≡ true) (c.directory.ensures ∙ sym c.directory_mut.ensures.value) c.list_managed_files-names.ensures.plain)).1
+pub collected_from-requires-clause-failed : goal.collected_from-requires-clause-failed
+collected_from-requires-clause-failed g c = let left = c.in_ok-result.ensures.collects in (told_plain g.O.Directory _ _ _ _ (tried_of g.O.Directory _ _ (map string_bytes c.args.living.keys) (λ set answer. search) left.1 left.2) (subst (λ d. list_all is_plain d.1.managed ≡ true) (c.directory.ensures ∙ sym c.directory_mut.ensures.value) c.list_managed_files-names.ensures.plain)).1
 
 pub invariant_of-self : goal.invariant_of-self
 invariant_of-self g c =
@@ -25,7 +25,7 @@ pub invariant_of-self-2 : goal.invariant_of-self-2
 invariant_of-self-2 g c =
     let D = g.O.Directory in
     let old = c.directory_mut.result.now.0 in
-    let deleted : c.as_slice.result.now ≡ map string_bytes c.in_ok-result.result.deleted_files.items = c.as_slice.ensures.value ∙ c.in_ok-deleted.ensures in (
+    let deleted : c.as_slice.result.now ≡ map string_bytes c.in_ok-result.result.deleted_files.items = c.as_slice.ensures.value ∙ c.in_ok-collected.ensures.deleted in (
       collected_open D old c.garbage_collect.new.self.0 c.as_slice.result.now c.replace-files.result.entries c.remove_all.new.map.entries
           c.garbage_collect.ensures.frame.goes_on
           (λ tells. subst (λ (ns : List (List ℕ)). SparesWriters ns D.state_of (D.view old).lives (D.view c.garbage_collect.new.self.0).lives) (sym deleted) (c.in_ok-result.ensures.collects.1.tries.alive tells))
@@ -40,7 +40,7 @@ returns-clause-collects g c = record {
       let left = c.in_ok-result.ensures.collects in
       let told = tried_of g.O.Directory _ _ (map string_bytes c.args.living.keys) (λ set answer. search) left.1 left.2 in
       tried_as g.O.Directory _ (map string_bytes c.args.living.keys) c.directory_mut.result.now c.garbage_collect.new.self (names_below c.args.self.now) c.in_ok-result.result _ _
-      (c.directory_mut.ensures.value ∙ ap names_below c.self.view_is) refl c.in_ok-deleted.ensures c.in_ok-failed.ensures told;
+      (c.directory_mut.ensures.value ∙ ap names_below c.self.view_is) refl c.in_ok-collected.ensures.deleted c.in_ok-collected.ensures.failed told;
   counted = search rules;
   collections = ap (λ names. names.collections) c.in_ok-result.ensures.collects.1.tries.managed ∙ ap (λ d. d.1.collections) c.directory_mut.ensures.value ∙ ap (λ v. v.collections) c.self.view_is;
   open_files = λ n.
@@ -61,14 +61,8 @@ returns-in_err-result-clause-spared g c tells n living other =
     living_stands g.O.Directory _ _ (map string_bytes c.args.living.keys) left.0 c.directory_mut.result.now c.garbage_collect.new.self c.garbage_collect.result n (λ set answer. search) left.2 left.1.leaves tells living other
     ∙ ap (λ d. (g.O.Directory.view d.0).reads n) c.directory_mut.ensures.value ∙ ap (λ v. (g.O.Directory.view v.outside).reads n) c.self.view_is
 
-pub returns-in_err-deleted-clause-spared : goal.returns-in_err-deleted-clause-spared
-returns-in_err-deleted-clause-spared g c tells n living other =
-    let left = c.garbage_collect.ensures.collects in
-    living_stands g.O.Directory _ _ (map string_bytes c.args.living.keys) left.0 c.directory_mut.result.now c.garbage_collect.new.self c.garbage_collect.result n (λ set answer. search) left.2 left.1.leaves tells living other
-    ∙ ap (λ d. (g.O.Directory.view d.0).reads n) c.directory_mut.ensures.value ∙ ap (λ v. (g.O.Directory.view v.outside).reads n) c.self.view_is
-
-pub returns-in_err-failed-clause-spared : goal.returns-in_err-failed-clause-spared
-returns-in_err-failed-clause-spared g c tells n living other =
+pub returns-in_err-collected-clause-spared : goal.returns-in_err-collected-clause-spared
+returns-in_err-collected-clause-spared g c tells n living other =
     let left = c.garbage_collect.ensures.collects in
     living_stands g.O.Directory _ _ (map string_bytes c.args.living.keys) left.0 c.directory_mut.result.now c.garbage_collect.new.self c.garbage_collect.result n (λ set answer. search) left.2 left.1.leaves tells living other
     ∙ ap (λ d. (g.O.Directory.view d.0).reads n) c.directory_mut.ensures.value ∙ ap (λ v. (g.O.Directory.view v.outside).reads n) c.self.view_is
@@ -85,14 +79,8 @@ returns-in_err-result-clause-dotted g c tells n dot other =
     dotted_stands g.O.Directory _ _ left.0 _ _ _ n (subst (λ d. list_all is_plain d.1.managed ≡ true) (c.directory.ensures ∙ sym c.directory_mut.ensures.value) c.list_managed_files-names.ensures.plain) left.2 left.1.leaves tells dot other
     ∙ ap (λ d. (g.O.Directory.view d.0).reads n) c.directory_mut.ensures.value ∙ ap (λ v. (g.O.Directory.view v.outside).reads n) c.self.view_is
 
-pub returns-in_err-deleted-clause-dotted : goal.returns-in_err-deleted-clause-dotted
-returns-in_err-deleted-clause-dotted g c tells n dot other =
-    let left = c.garbage_collect.ensures.collects in
-    dotted_stands g.O.Directory _ _ left.0 _ _ _ n (subst (λ d. list_all is_plain d.1.managed ≡ true) (c.directory.ensures ∙ sym c.directory_mut.ensures.value) c.list_managed_files-names.ensures.plain) left.2 left.1.leaves tells dot other
-    ∙ ap (λ d. (g.O.Directory.view d.0).reads n) c.directory_mut.ensures.value ∙ ap (λ v. (g.O.Directory.view v.outside).reads n) c.self.view_is
-
-pub returns-in_err-failed-clause-dotted : goal.returns-in_err-failed-clause-dotted
-returns-in_err-failed-clause-dotted g c tells n dot other =
+pub returns-in_err-collected-clause-dotted : goal.returns-in_err-collected-clause-dotted
+returns-in_err-collected-clause-dotted g c tells n dot other =
     let left = c.garbage_collect.ensures.collects in
     dotted_stands g.O.Directory _ _ left.0 _ _ _ n (subst (λ d. list_all is_plain d.1.managed ≡ true) (c.directory.ensures ∙ sym c.directory_mut.ensures.value) c.list_managed_files-names.ensures.plain) left.2 left.1.leaves tells dot other
     ∙ ap (λ d. (g.O.Directory.view d.0).reads n) c.directory_mut.ensures.value ∙ ap (λ v. (g.O.Directory.view v.outside).reads n) c.self.view_is
