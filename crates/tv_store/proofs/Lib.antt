@@ -34,5 +34,6 @@ pub mod CheckedFiles
 pub mod Starting
 pub mod Unfound
 pub mod KeptFiles
+pub mod NewFiles
 pub mod AskedEvents
 pub mod AskedReads

@@ -1,9 +1,11 @@
 -- What the calls on the files of a store do.
-use Rattle.std.specs.Prelude.{ℕ, ◌≡◌, ◌≢◌, ◌⊎◌, ◌&&◌, ◌||◌, ◌++◌, Bool, not, is_some, true, false, List, [], length, cond, Option, Some, None, IsSome, Result, IfErr, OnOk, OnErr, option_and_then}
+use Rattle.std.specs.Prelude.{ℕ, ◌≡◌, ◌≢◌, ◌⊎◌, ◌&&◌, ◌||◌, ◌++◌, Bool, not, is_some, true, false, List, [], length, cond, Option, Some, None, IsSome, Result, Ok, Err, IfErr, OnOk, OnErr, option_and_then}
 use Rattle.std.specs.BTreeMap.{insert_entry}
 use Rattle.std.specs.BTreeSet.{insert_key}
 use Rattle.tv_base.specs.declared.error.TantivyError.{TantivyError}
 use Rattle.tv_base.specs.declared.error.TantivyError.TheVariants as errors
+use Rattle.tv_base.specs.declared.open_errors.OpenWriteError.{OpenWriteError}
+use Rattle.tv_base.specs.declared.open_errors.OpenWriteError.TheVariants as write
 use Rattle.tv_directory.specs.View.{View, Told}
 use Rattle.tv_directory.specs.declared.directory.Directory.{Ghosts}
 use Rattle.tv_managed.specs.Collecting.{FailsAtMost, meta_lock_name}
@@ -31,6 +33,14 @@ abbrev pub intact_in : (read written : Option (List ℕ)) → (left : Bool) → 
 intact_in read (Some body) left = None
 intact_in read None true = None
 intact_in read None false = option_and_then is_intact read
+
+-- what an attempt to make a file gives: its writer, or nothing where its name is taken
+abbrev pub unless_taken : {W : Type 0} → Result W OpenWriteError → Result (Option W) TantivyError
+unless_taken (Ok writer) = Ok (Some writer)
+unless_taken (Err (write.FileAlreadyExists path)) = Ok None
+unless_taken (Err (write.Leaving path)) = Ok None
+unless_taken (Err (write.IoError fault path)) = Err (errors.OpenWriteError (write.IoError fault path))
+unless_taken (Err write.Memory) = Err errors.Memory
 
 -- An empty file was made that wasn't there; it is on the list, and open.
 pub record OpensFile {O W C : Type 0} (g : Ghosts O W C) (old new : FilesState O) (name : List ℕ) : Type 0 where

@@ -15,7 +15,7 @@ ghost use Rattle.tv_directory.specs.Calls.{DeviceFaults, Frees, LockFaults, Acqu
 ghost use Rattle.tv_directory.specs.View.{Kept, OnlyReads, OnlyLocks, OnlyTells};
 ghost use Rattle.tv_managed.specs.Managed.{KeepsOtherFiles};
 ghost use Rattle.tv_managed.specs.Reading.{ReadsBody};
-ghost use Rattle.tv_store.specs.FileCalls.{Asked, intact_in, LeavesFiles, OpensFile, FindsFile, ReadBodyFaults, LeavesText, KeepsOpenFiles};
+ghost use Rattle.tv_store.specs.FileCalls.{Asked, intact_in, LeavesFiles, OpensFile, FindsFile, ReadBodyFaults, LeavesText, KeepsOpenFiles, unless_taken};
 ghost use Rattle.tv_index.specs.NewForms.{form_with};
 ghost use Rattle.tv_index.specs.Saving.{SavesMeta};
 ghost use Rattle.tv_index.specs.Settings.{settings_view};
@@ -87,6 +87,19 @@ fn unless_device(fault: IoFault) -> Result<Option<bool>, TantivyError>
     match fault.kind {
         IoKind::Device => Err(TantivyError::IoError(fault)),
         IoKind::UnexpectedEof | IoKind::InvalidData => Ok(None),
+    }
+}
+
+// The writer of a file that was to be made, and nothing where its name is taken: the name reads, or
+// an unfinished collection holds it.
+fn unless_taken<W: Drop>(opened: Result<W, OpenWriteError>) -> Result<Option<W>, TantivyError>
+    ensures { result ≡ unless_taken opened }
+{
+    match opened {
+        Ok(writer) => Ok(Some(writer)),
+        // No live segment has a file that a collection holds.
+        Err(OpenWriteError::FileAlreadyExists(_) | OpenWriteError::Leaving(_)) => Ok(None),
+        Err(error) => Err(TantivyError::from(error)),
     }
 }
 
@@ -240,13 +253,9 @@ impl<O: Outside> Files<O> {
         ensures faults { EventFaults ⊥ (O.view self.old.outside) (O.view self.new.outside) result }
         ensures frame { KeepsMade (Kept O.told) O.view self.old self.new }
     {
-        let writer = match self.index.directory_mut().open_write(name.as_str()) {
-            Ok(writer) => writer,
-            // No live segment has a file that a collection holds.
-            Err(OpenWriteError::FileAlreadyExists(_) | OpenWriteError::Leaving(_)) => {
-                return Ok(false);
-            }
-            Err(error) => return Err(TantivyError::from(error)),
+        let opened = self.index.directory_mut().open_write(name.as_str());
+        let Some(writer) = unless_taken(opened)? else {
+            return Ok(false);
         };
         self.files.insert(name, OpenFile { writer, len: 0 })?;
         Ok(true)

@@ -1,4 +1,6 @@
 use Rattle.std.proofs.Common.{refl, sym, ap, subst, ◌∙◌}
+use Rattle.tv_directory.specs.View.{Kept}
+use Rattle.tv_store.proofs.KeptFiles.{io_fails, kept_managed}
 use Rattle.tv_store.proofs.OpenFiles.{still_files, left_files, found_open, must_be_open, same_body_is, isnt_open, bodies_left, others_kept, sealed_is, AreFiles}
 use Rattle.tv_store.proofs.files.Files.seal.Goals as goal
 
@@ -45,3 +47,19 @@ returns-clause-others g c tells =
     let file = found_open g.O.Directory c.directory_mut.result.now.0 c.self.inside.files.entries c.args.name.now c.in-Some.file c.in-Some.ensures.value (subst (λ d. AreFiles g.O.Directory d c.self.inside.files.entries) (sym c.directory_mut.ensures.value) c.self.invariant).0 in
     others_kept (λ d. (g.O.Directory.view d).reads) c.directory_mut.result.now.0 c.args.self.now.outside c.terminate.new.self.0 (g.O.Directory.state_of c.in-Some.file.writer.writer).name c.args.name.now (ap (λ d. d.0) c.directory_mut.ensures.value ∙ ap (λ v. v.outside) c.self.view_is) file.name_is
     (c.terminate.ensures.seals.others tells)
+
+pub returns-in_err-terminate-clause-rest : goal.returns-in_err-terminate-clause-rest
+returns-in_err-terminate-clause-rest g c =
+    let D = g.O.Directory in
+    record {
+      faults = io_fails D c.args.self.now.outside c.directory_mut.result.now.0 c.terminate.new.self.0 c.from_residual.result c.in_err-terminate.field-0.0 (ap (λ d. d.0) c.directory_mut.ensures.value ∙ ap (λ v. v.outside) c.self.view_is) c.from_residual.ensures.1 c.in_err-terminate.ensures.faults;
+      frame = kept_managed (Kept D.told) D.view _ _ _ _ c.directory_mut.result.now c.terminate.new.self _ c.directory_mut.ensures.value c.self.view_is _ c.terminate.ensures.frame;
+    }
+
+pub returns-clause-rest : goal.returns-clause-rest
+returns-clause-rest g c =
+    let D = g.O.Directory in
+    record {
+      faults = record { quiet = c.in_ok-terminate.ensures.faults.quiet ∙ ap (λ d. (D.view d.0).faults) c.directory_mut.ensures.value ∙ ap (λ v. (D.view v.outside).faults) c.self.view_is; cause = tt };
+      frame = kept_managed (Kept D.told) D.view _ _ _ _ c.directory_mut.result.now c.terminate.new.self _ c.directory_mut.ensures.value c.self.view_is _ c.terminate.ensures.frame;
+    }

@@ -1,4 +1,6 @@
 use Rattle.std.proofs.Common.{ap, ◌∙◌, length, ◌+◌, ◌<◌, arith, sym, subst}
+use Rattle.tv_directory.specs.View.{Kept}
+use Rattle.tv_store.proofs.KeptFiles.{io_fails, kept_managed, wants_then}
 use Rattle.tv_store.proofs.OpenFiles.{still_files, put_files, left_files, found_open, same_files, written_open, must_be_open, body_is, same_body_is, bodies_put, bodies_left, longer_fits, others_kept, there_is, more_is, on_err, AreFiles}
 use Rattle.tv_store.proofs.files.Files.write.Goals as goal
 
@@ -63,3 +65,27 @@ pub returns-clause-there : goal.returns-clause-there
 returns-clause-there g c tells =
     let file = found_open g.O.Directory c.directory_mut.result.now.0 c.self.inside.files.entries c.args.name c.in-Some.file c.in-Some.ensures.value (subst (λ d. AreFiles g.O.Directory d c.self.inside.files.entries) (sym c.directory_mut.ensures.value) c.self.invariant).0 in
     there_is (g.O.Directory.view c.write.new.self.0).reads _ _ file.name_is (c.in_ok-write.ensures.touches.there tells (file.lives_is tells))
+
+pub returns-in_err-write-clause-rest : goal.returns-in_err-write-clause-rest
+returns-in_err-write-clause-rest g c =
+    let D = g.O.Directory in
+    record {
+      faults = io_fails D c.args.self.now.outside c.directory_mut.result.now.0 c.write.new.self.0 c.from_residual.result c.in_err-write.field-0.0 (ap (λ d. d.0) c.directory_mut.ensures.value ∙ ap (λ v. v.outside) c.self.view_is) c.from_residual.ensures.1 c.in_err-write.ensures.faults;
+      frame = kept_managed (Kept D.told) D.view _ _ _ _ c.directory_mut.result.now c.write.new.self _ c.directory_mut.ensures.value c.self.view_is _ c.write.ensures.frame;
+    }
+
+pub returns-in_err-insert-clause-rest : goal.returns-in_err-insert-clause-rest
+returns-in_err-insert-clause-rest g c =
+    let D = g.O.Directory in
+    record {
+      faults = wants_then D c.args.self.now.outside c.directory_mut.result.now.0 c.write.new.self.0 c.from_residual-in_err-insert.result (ap (λ d. d.0) c.directory_mut.ensures.value ∙ ap (λ v. v.outside) c.self.view_is) c.from_residual-in_err-insert.ensures.1 c.in_ok-write.ensures.faults.quiet;
+      frame = kept_managed (Kept D.told) D.view _ _ _ _ c.directory_mut.result.now c.write.new.self _ c.directory_mut.ensures.value c.self.view_is _ c.write.ensures.frame;
+    }
+
+pub returns-clause-rest : goal.returns-clause-rest
+returns-clause-rest g c =
+    let D = g.O.Directory in
+    record {
+      faults = record { quiet = c.in_ok-write.ensures.faults.quiet ∙ ap (λ d. (D.view d.0).faults) c.directory_mut.ensures.value ∙ ap (λ v. (D.view v.outside).faults) c.self.view_is; cause = tt };
+      frame = kept_managed (Kept D.told) D.view _ _ _ _ c.directory_mut.result.now c.write.new.self _ c.directory_mut.ensures.value c.self.view_is _ c.write.ensures.frame;
+    }
