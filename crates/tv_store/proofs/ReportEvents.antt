@@ -144,6 +144,9 @@ damaged_more s names i name intact within is said =
 pub validated_none : (s : State) (names : List (List ℕ)) (name : List ℕ) → find (unread s) names ≡ Some name → (validated s names).0 ≡ line (codes "refused") (codes "unreadable" ∷ name ∷ [])
 validated_none s names name e = rw e refl
 
+pub validated_all : (s : State) (names : List (List ℕ)) → find (unread s) names ≡ None → (validated s names).0 ≡ line (codes "damaged") (damaged_files s names)
+validated_all s names e = rw e refl
+
 pub validated_same : (s : State) (names : List (List ℕ)) → (validated s names).1 ≡ s
 validated_same s names = by_found (find (unread s) names) refl where
   by_found : (found : Option (List ℕ)) → find (unread s) names ≡ found → (validated s names).1 ≡ s

@@ -1,15 +1,17 @@
-use Rattle.std.proofs.Common.{◌≡◌, ◌<◌, ℕ, List, [], ◌∷◌, true, cond, length, Some, sym, ap, ◌∙◌, arith}
-use Rattle.std.specs.Prelude.{is_none}
+use Rattle.std.proofs.Common.{◌≡◌, ◌<◌, ℕ, List, [], ◌∷◌, true, cond, codes, length, Some, refl, sym, ap, ◌∙◌, arith}
+use Rattle.std.specs.Prelude.{find, is_none}
+use Rattle.std.proofs.lemmas.List.{take_all}
 use Rattle.std.proofs.lemmas.Result.{IfOk-weaker}
+use Rattle.tv_base.specs.declared.error.TantivyError.TheVariants as errors
 use Rattle.tv_model.specs.Index.{IsFileOf}
 use Rattle.tv_model.specs.Lines.{line}
-use Rattle.tv_model.specs.ReportEvents.{intact_at}
+use Rattle.tv_model.specs.ReportEvents.{damaged_files, intact_at}
 use Rattle.tv_model.specs.State.{file_at}
 use Rattle.tv_store.proofs.Asking.{asks_later}
 use Rattle.tv_store.proofs.CommitEvents.{all_at, find_further, find_here}
 use Rattle.tv_store.proofs.Holding.{same_holds}
-use Rattle.tv_store.proofs.ReportEvents.{damaged_more, unread, validated_none}
-use Rattle.tv_store.proofs.KeptFiles.{asks_after, fails_after}
+use Rattle.tv_store.proofs.ReportEvents.{damaged_more, unread, validated_all, validated_none}
+use Rattle.tv_store.proofs.KeptFiles.{asked_nothing, asks_after, fails_after}
 use Rattle.tv_store.proofs.index_store.IndexStore.validate_files.Goals as goal
 
 pub returns-in_default-clause-answer : goal.returns-in_default-clause-answer
@@ -65,3 +67,30 @@ pub returns-clause-asks : goal.returns-clause-asks
 returns-clause-asks g c =
     let so_far = c.loop-name.invariant in
     asks_after g.O.Directory c.args.self.now c.loop-name.self c.told.new.self c.told.result so_far.asks so_far.quiet c.told.ensures.asks
+
+pub returns-in_err-answer-clause-asks : goal.returns-in_err-answer-clause-asks
+returns-in_err-answer-clause-asks g c =
+    let D = g.O.Directory in
+    let store = c.args.self.now in
+    record {
+      faults = fails_after D store.outside store.outside store.outside c.from_residual.result errors.Memory c.from_residual.ensures.1 refl refl;
+      frame = asked_nothing D.told D.view store;
+    }
+
+pub returns-in_err-answer-2-clause-asks : goal.returns-in_err-answer-2-clause-asks
+returns-in_err-answer-2-clause-asks g c =
+    let so_far = c.loop-name.invariant in
+    let asked = c.in_ok-is_intact.ensures.asks in
+    let old = c.args.self.now.outside in
+    record {
+      faults = fails_after g.O.Directory old old c.is_intact.new.self.outside c.from_residual-in_err-answer-2.result errors.Memory c.from_residual-in_err-answer-2.ensures.1 refl (asked.faults.quiet ∙ so_far.quiet);
+      frame = asks_later so_far.asks asked.frame;
+    }
+
+pub returns-clause-answer : goal.returns-clause-answer
+returns-clause-answer g c tells s held files =
+    let names = c.args.names.now in
+    let all = take_all c.loop-name.name-index names c.loop-name-test.false in
+    let so_far = c.loop-name.invariant.told tells s held files in
+    IfOk-weaker c.told.result _ _ (λ answer is.
+    is ∙ so_far.1 ∙ ap (λ (ns : List (List ℕ)). line (codes "damaged") (damaged_files s ns)) all ∙ sym (validated_all s names (sym (ap (find (unread s)) all) ∙ so_far.0))) c.told.ensures.answer
