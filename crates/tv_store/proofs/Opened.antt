@@ -109,16 +109,16 @@ module _ {O W C : Type 0} (g : Ghosts O W C) (outside : O) (schema : List ℕ) (
 
   pub notified : MayNotify g.told (g.view outside) (g.view locked.outside)
   notified = record {
-    deletes_none = deletes_then f.frame.frame.tells_none.deletes_none lock_frame.tells_none.deletes_none;
+    deletes_none = deletes_then f.frame.notes.frame.tells_none.deletes_none lock_frame.tells_none.deletes_none;
     dotted = λ t n dot other. lock_frame.content t n ∙ dotted_others (g.view outside).reads (g.view files.outside).reads meta_name refl (f.leaves t).others n dot other;
-    watched = subst (λ (w : WatchState). MayNote meta_name (g.view outside).watched w) (sym lock_frame.watched) f.frame.watched;
+    watched = subst (λ (w : WatchState). MayNote meta_name (g.view outside).watched w) (sym lock_frame.watched) f.frame.notes.watched;
   }
 
   pub unnoted : NotesNone g.told (g.view outside) (g.view locked.outside)
-  unnoted t some = lock_frame.watched ∙ f.frame.stood t some
+  unnoted t some = lock_frame.watched ∙ f.frame.unless (t, some)
 
   pub heard_yet : (g.view locked.outside).heard ≡ (g.view outside).heard
-  heard_yet = lock_frame.tells_none.heard ∙ f.frame.frame.tells_none.heard
+  heard_yet = lock_frame.tells_none.heard ∙ f.frame.notes.frame.tells_none.heard
 
   abbrev pub store : StoreState O
   store = record { kept = kept_of catalog locked; outside = locked.outside; is_open = false }
@@ -164,7 +164,7 @@ module _ {O W C : Type 0} (g : Ghosts O W C) (outside : O) (schema : List ℕ) (
         let k = b.told t in
         record {
           moment = k.moment;
-          later = omega (arith, f.frame.frame.tells_none.deletes_none.goes_on.clock, lock_frame.tells_none.deletes_none.goes_on.clock, k.later);
+          later = omega (arith, f.frame.notes.frame.tells_none.deletes_none.goes_on.clock, lock_frame.tells_none.deletes_none.goes_on.clock, k.later);
           sooner = k.sooner;
           heard =
               k.heard ∙ ap (λ (h : Heard). h ++ (k.moment, opening_of catalog.commit ++ 10 ∷ []) ∷ []) heard_yet
@@ -175,9 +175,9 @@ module _ {O W C : Type 0} (g : Ghosts O W C) (outside : O) (schema : List ℕ) (
     locks_begun taken t =
         let k = taken t in
         record {
-          was_free = sym (f.frame.frame.locks t writer_lock_name) ∙ k.was_free;
+          was_free = sym (f.frame.notes.frame.locks t writer_lock_name) ∙ k.was_free;
           is_held = b.frame.locks t writer_lock_name ∙ k.is_held;
-          others = λ n other. b.frame.locks t n ∙ k.others n other ∙ f.frame.frame.locks t n;
+          others = λ n other. b.frame.locks t n ∙ k.others n other ∙ f.frame.notes.frame.locks t n;
         }
 
     frame_begun : MayNotify g.told (g.view outside) (g.view begun.outside)
@@ -206,14 +206,14 @@ module _ {O W C : Type 0} (g : Ghosts O W C) (outside : O) (schema : List ℕ) (
         (subst (λ (c : Commit). TellsFirstPart (g.view locked.outside).heard (g.view now).heard (opening_of c)) (sym (commit_is g outside schema catalog files f t index)) (r.part h))
 
     locks_unbegun : (g.told.locks → TakesLock (g.view files.outside).locks (g.view locked.outside).locks writer_lock_name) → g.told.locks → SameLocks (g.view outside).locks (g.view now).locks
-    locks_unbegun taken t = freed_again (g.view outside).locks (g.view files.outside).locks (g.view locked.outside).locks (g.view now).locks writer_lock_name (f.frame.frame.locks t) (taken t) (r.freed t)
+    locks_unbegun taken t = freed_again (g.view outside).locks (g.view files.outside).locks (g.view locked.outside).locks (g.view now).locks writer_lock_name (f.frame.notes.frame.locks t) (taken t) (r.freed t)
 
     cause_unbegun : (busy : Type 0) → (g.view locked.outside).faults ≡ (g.view outside).faults → (g.told.locks → TakesLock (g.view files.outside).locks (g.view locked.outside).locks writer_lock_name)
         → OpeningCause g.told.content schema (g.view outside).reads busy (g.told.locks → (g.view outside).locks writer_lock_name ≡ false) (Rose (g.view outside).faults (g.view now).faults) ((g.view now).faults ≡ (g.view outside).faults) error
     cause_unbegun busy quiet taken =
         begun_cause g.told.content schema (g.view outside).reads busy (g.told.locks → (g.view outside).locks writer_lock_name ≡ false) (Rose (g.view outside).faults (g.view now).faults) ((g.view now).faults ≡ (g.view outside).faults)
         (λ e. g.told.content → MeetsRefused (g.view locked.outside).reads (all_required catalog.commit.segments) e) (λ path. g.told.content → MeetsMissing (g.view locked.outside).reads (all_required catalog.commit.segments) path)
-        error files.form.schema f.spelled (the_found g outside schema catalog files f) (λ t. sym (f.frame.frame.locks t writer_lock_name) ∙ (taken t).was_free)
+        error files.form.schema f.spelled (the_found g outside schema catalog files f) (λ t. sym (f.frame.notes.frame.locks t writer_lock_name) ∙ (taken t).was_free)
         (λ e met t. (the_found g outside schema catalog files f t, refused_before (g.view outside).reads (g.view locked.outside).reads (all_required catalog.commit.segments) e (as_before t) (met t)))
         (λ path met t. (the_found g outside schema catalog files f t, missing_before (g.view outside).reads (g.view locked.outside).reads (all_required catalog.commit.segments) path (as_before t) (met t)))
         r.file

@@ -1,5 +1,5 @@
 -- Why no index was found, as a cause of an opening, and what that leaves.
-use Rattle.std.proofs.Common.{◌≡◌, ℕ, List, Result, Ok, Err, sym, subst, ◌∙◌}
+use Rattle.std.proofs.Common.{◌≡◌, inl, ℕ, List, Result, Ok, Err, sym, subst, ◌∙◌}
 use Rattle.std.specs.Prelude.{IfErr}
 use Rattle.std.specs.Result.{IsErrAnd}
 use Rattle.tv_base.specs.declared.error.TantivyError.{TantivyError}
@@ -35,7 +35,7 @@ finds_none g outside schema text now error is n = record {
   unchanged = λ t first. n.unchanged t (first_bytes g.told.content text (g.view outside).reads _ _ error first n.cause);
   others = λ t. (n.left t).others;
   cause = found_cause g.told.content schema text (g.view outside).reads _ _ error is n.cause;
-  frame = n.frame;
+  frame = record { notes = n.frame.notes; unless = λ stood. n.frame.unless (inl stood) };
 }
 
 -- what is true of an error that was handed on

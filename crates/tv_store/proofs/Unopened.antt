@@ -57,7 +57,7 @@ module _ {O W C : Type 0} (g : Ghosts O W C) (outside : O) (schema : List ℕ) (
       (files.form.schema, f.spelled),
       the_found g outside schema catalog files f,
       record {
-        told = λ t. sym (f.frame.frame.locks t writer_lock_name) ∙ busy t;
+        told = λ t. sym (f.frame.notes.frame.locks t writer_lock_name) ∙ busy t;
         untold = ⊎_map (λ both. both.0) rose h;
       },
       refl,
