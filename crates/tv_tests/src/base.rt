@@ -15,9 +15,8 @@ fn assert_written(rt: &impl Abort, alloc: Global, number: u64, spelling: &[u8]) 
     are_bytes(rt, out.as_slice(), spelling);
 }
 
-fn assert_read(rt: &impl Abort, number: u64, spelling: &[u8]) {
-    let want = Some((VInt(number), spelling.len()));
-    assert_eq!(rt; VInt::deserialize(spelling), want);
+fn assert_read(rt: &impl Abort, bytes: &[u8], want: Option<(VInt, usize)>) {
+    assert_eq!(rt; VInt::deserialize(bytes), want);
 }
 
 // A number, and its spelling.
@@ -33,7 +32,7 @@ const SPELLINGS: &[(u64, &[u8])] = &[
 fn spellings_of_numbers(rt: HostRuntime) {
     for (number, spelling) in SPELLINGS {
         assert_written(&rt, rt.alloc(), *number, spelling);
-        assert_read(&rt, *number, spelling);
+        assert_read(&rt, spelling, Some((VInt(*number), spelling.len())));
     }
 }
 
@@ -48,7 +47,7 @@ const FRONTS: &[(&[u8], Option<(VInt, usize)>)] = &[
 #[test]
 fn numbers_are_read_from_the_front(rt: HostRuntime) {
     for (bytes, want) in FRONTS {
-        assert_eq!(rt; VInt::deserialize(bytes), *want);
+        assert_read(&rt, bytes, *want);
     }
 }
 
@@ -98,8 +97,10 @@ fn read<S: Source>(source: &mut S, into: &mut [u8; 4]) -> Result<usize, IoKind> 
     }
 }
 
-// What each read of a text answers, and what the buffer has then.
-const READS: &[(Result<usize, IoKind>, &[u8])] = &[
+// What a read of a text answers, and what the buffer has then.
+type Read = (Result<usize, IoKind>, &'static [u8]);
+
+const READS: &[Read] = &[
     (Err(IoKind::Device), b"\0\0\0\0"),
     (Ok(4), b"abcd"),
     (Err(IoKind::Device), b"abcd"),
@@ -107,12 +108,17 @@ const READS: &[(Result<usize, IoKind>, &[u8])] = &[
     (Ok(0), b"efgd"),
 ];
 
+fn reads_piece<R: Abort, S: Source>(rt: &R, source: &mut S, piece: &mut [u8; 4], row: Read) {
+    let (want, held) = row;
+    assert_eq!(rt; read(source, piece), want);
+    are_bytes(rt, piece.as_slice(), held);
+}
+
 // Reads a text in pieces of four bytes.
 fn reads_pieces<R: Abort, S: Source>(rt: &R, source: &mut S) {
     let mut piece = [0; 4];
-    for (want, held) in READS {
-        assert_eq!(rt; read(source, &mut piece), *want);
-        are_bytes(rt, piece.as_slice(), held);
+    for row in READS {
+        reads_piece(rt, source, &mut piece, *row);
     }
 }
 
@@ -146,7 +152,9 @@ fn is_refused<S: Sink>(sink: &mut S, bytes: &[u8]) -> bool {
 }
 
 // Bytes that are put, whether that is refused, and what was taken and how much refused by then.
-const PUTS: &[(&[u8], bool, &[u8], u64)] = &[
+type Put = (&'static [u8], bool, &'static [u8], u64);
+
+const PUTS: &[Put] = &[
     (b"abc", false, b"abc", 0),
     (b"def", true, b"abc", 1),
     (b"de", false, b"abcde", 1),
@@ -154,11 +162,16 @@ const PUTS: &[(&[u8], bool, &[u8], u64)] = &[
     (b"f", true, b"abcde", 2),
 ];
 
+fn assert_put(rt: &impl Abort, sink: &mut VecSink, row: Put) {
+    let (bytes, refused, taken, faults) = row;
+    assert_eq!(rt; is_refused(sink, bytes), refused);
+    assert_eq!(rt; sink.faults(), faults);
+    are_bytes(rt, sink.as_slice(), taken);
+}
+
 fn assert_puts(rt: &impl Abort, sink: &mut VecSink) {
-    for (bytes, refused, taken, faults) in PUTS {
-        assert_eq!(rt; is_refused(sink, bytes), *refused);
-        are_bytes(rt, sink.as_slice(), taken);
-        assert_eq!(rt; sink.faults(), *faults);
+    for row in PUTS {
+        assert_put(rt, sink, *row);
     }
 }
 

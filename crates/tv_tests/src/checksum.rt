@@ -1,4 +1,7 @@
 //! Checksums of known messages.
+ghost use Rattle.std.specs.Prelude.{◌≤◌, length};
+
+use std::process::Abort;
 use tv_checksum::{Checksum, Crc32};
 
 // The checksum of these pieces, one behind the other.
@@ -10,17 +13,21 @@ fn checksum_of<C: Checksum>(pieces: &[&[u8]]) -> u32 {
     checksum.finish()
 }
 
+// Looks at the checksum of a message that is cut in two.
+fn has_checksum<R: Abort>(rt: &R, message: &[u8], cut: usize, want: u32)
+    requires { cut ≤ length message.now }
+{
+    let (front, back) = message.split_at(cut);
+    let found = checksum_of::<Crc32>(&[front, b"", back]);
+    assert_eq!(rt; found, want, "cut at {cut}");
+}
+
 const KNOWN: &[(&str, u32)] = &[("", 0), ("123456789", 0xCBF4_3926), ("abc", 0x3524_41C2)];
 
 #[test]
 fn checksums_of_known_messages(rt: HostRuntime) {
     for (text, want) in KNOWN {
-        let (front, back) = text.as_bytes().split_at(text.len() / 2);
-        assert_eq!(rt;
-            checksum_of::<Crc32>(&[front, b"", back]),
-            *want,
-            "of {text}"
-        );
+        has_checksum(&rt, text.as_bytes(), text.len() / 2, *want);
     }
 }
 
@@ -45,12 +52,7 @@ const PREFIXES: &[u32] = &[
 fn checksums_of_pieces(rt: HostRuntime) {
     for (len, want) in PREFIXES.iter().enumerate() {
         for cut in 0..=len {
-            let (front, back) = MESSAGE[..len].split_at(cut);
-            assert_eq!(rt;
-                checksum_of::<Crc32>(&[front, back]),
-                *want,
-                "of {len} bytes, cut at {cut}"
-            );
+            has_checksum(&rt, &MESSAGE[..len], cut, *want);
         }
     }
 }

@@ -1,6 +1,7 @@
 //! The texts of errors: a table a type, each row an error and what it prints.
 use crate::printing::{debugs, prints, text};
 use std::alloc::Global;
+use std::fmt::Display;
 use std::process::Abort;
 use tv_base::{
     DataCorruption, DeleteError, Exhausted, Incompatibility, IoError, IoFault, IoKind, LockError,
@@ -275,17 +276,21 @@ fn texts_of_versions_and_corruption(rt: HostRuntime) {
     );
 }
 
+// `Display` prints these words, and behind them the debug form of the incompatibility.
+fn prints_why<R: Abort, E: Display + Drop>(rt: &R, alloc: Global, shown: E, words: &str) {
+    let want = format!(in alloc; "{words}{:?}", mismatch()).expect(rt, "memory");
+    prints(rt, alloc, shown, want.as_str());
+}
+
 // How an incompatibility prints is open, but these texts hold its debug form.
 #[test]
 fn texts_with_incompatibilities(rt: HostRuntime) {
     let a = rt.alloc();
-    let why = format!(in a; "{:?}", mismatch()).expect(&rt, "memory");
-    prints(
+    prints_why(&rt, a, TantivyError::IncompatibleIndex(mismatch()), "");
+    prints_why(
         &rt,
         a,
-        TantivyError::IncompatibleIndex(mismatch()),
-        why.as_str(),
+        OpenReadError::from(mismatch()),
+        "Index version unsupported: ",
     );
-    let want = format!(in a; "Index version unsupported: {why}").expect(&rt, "memory");
-    prints(&rt, a, OpenReadError::from(mismatch()), want.as_str());
 }

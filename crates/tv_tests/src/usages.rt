@@ -9,6 +9,11 @@ use tv_framing::{
     SegmentComponent, SegmentSpaceUsage, StoreSpaceUsage,
 };
 
+// Looks whether these sizes are the wanted ones.
+fn are<T: PartialEq>(rt: &impl Abort, sizes: &[T], want: &[T]) {
+    assert!(rt; sizes == want);
+}
+
 // The usage of a field of this name, with one part of this size and this column.
 fn field_with(
     rt: &impl Abort,
@@ -58,13 +63,15 @@ fn three_fields(rt: &impl Abort, alloc: Global) -> Vec<FieldUsage> {
 
 fn assert_total(rt: &impl Abort, field: &FieldUsage, name: &str, total: u64) {
     assert_eq!(rt; field.field_name(), name);
-    assert!(rt; field.total() == ByteCount(total));
+    assert_eq!(rt; field.total().get_bytes(), total);
 }
 
+// A field, and how much it takes.
+const TOTALS: &[(&str, u64)] = &[("body", 10), ("title", 307)];
+
 fn assert_totals(rt: &impl Abort, usage: &PerFieldSpaceUsage) {
-    assert!(rt; usage.total() == ByteCount(317));
-    let wants = [("body", 10), ("title", 307)];
-    for (field, (name, total)) in usage.fields().zip(&wants) {
+    assert_eq!(rt; usage.total().get_bytes(), 317);
+    for (field, (name, total)) in usage.fields().zip(TOTALS) {
         assert_total(rt, field, name, *total);
     }
 }
@@ -108,30 +115,38 @@ fn total_of(usage: &ComponentSpaceUsage) -> ByteCount {
     }
 }
 
+fn assert_component(
+    rt: &impl Abort,
+    segment: &SegmentSpaceUsage,
+    kind: SegmentComponent,
+    size: u64,
+) {
+    let usage = segment.component(kind).expect(rt, "memory");
+    assert_eq!(rt; total_of(&usage).get_bytes(), size);
+}
+
 #[test]
 fn sizes_of_each_kind_of_file(rt: HostRuntime) {
     let segment = segment_of_255(&rt, rt.alloc());
-    for (kind, total) in SegmentComponent::iterator().zip([2, 4, 8, 16, 1, 96, 128]) {
-        let usage = segment.component(*kind).expect(&rt, "memory");
-        assert!(rt; total_of(&usage) == ByteCount(total));
+    let sizes: &[u64] = &[2, 4, 8, 16, 1, 96, 128];
+    for (kind, size) in SegmentComponent::iterator().zip(sizes) {
+        assert_component(&rt, &segment, *kind, *size);
     }
 }
 
 fn assert_segment(rt: &impl Abort, segment: &SegmentSpaceUsage) {
     assert_eq!(rt; segment.num_docs(), 3);
-    let fields = [
-        segment.termdict(),
-        segment.postings(),
-        segment.positions(),
-        segment.fast_fields(),
-        segment.fieldnorms(),
+    let sizes = [
+        segment.termdict().total().get_bytes(),
+        segment.postings().total().get_bytes(),
+        segment.positions().total().get_bytes(),
+        segment.fast_fields().total().get_bytes(),
+        segment.fieldnorms().total().get_bytes(),
+        segment.store().data_usage().get_bytes(),
+        segment.store().offsets_usage().get_bytes(),
+        segment.deletes().get_bytes(),
     ];
-    for (usage, total) in fields.iter().zip([1, 2, 4, 8, 16]) {
-        assert!(rt; usage.total() == ByteCount(total));
-    }
-    assert!(rt; segment.store().data_usage() == ByteCount(32));
-    assert!(rt; segment.store().offsets_usage() == ByteCount(64));
-    assert!(rt; segment.deletes() == ByteCount(128));
+    are(rt, sizes.as_slice(), &[1, 2, 4, 8, 16, 32, 64, 128]);
 }
 
 #[test]
@@ -144,17 +159,28 @@ fn sizes_of_a_searcher(rt: HostRuntime) {
         assert_segment(&rt, segment);
     }
     assert_eq!(rt; searcher.segments().len(), 1);
-    assert!(rt; searcher.total() == ByteCount(255));
+    assert_eq!(rt; searcher.total().get_bytes(), 255);
 }
+
+// A column of 100 bytes with a dictionary of 7, as its field tells it and as it tells itself.
+const COLUMN: &[Option<ByteCount>] = &[
+    Some(ByteCount(100)),
+    Some(ByteCount(7)),
+    Some(ByteCount(100)),
+    Some(ByteCount(7)),
+];
 
 // A field of a part of 3 bytes, and a column of 100 with a dictionary of 7.
 fn assert_field(rt: &impl Abort, field: &FieldUsage, column: &ColumnSpaceUsage) {
-    assert!(rt; field.sub_num_bytes() == [Some(ByteCount(3))].as_slice());
-    assert!(rt; field.column_num_bytes() == Some(ByteCount(100)));
-    assert!(rt; field.dictionary_num_bytes() == Some(ByteCount(7)));
+    are(rt, field.sub_num_bytes(), &[Some(ByteCount(3))]);
+    let sizes = [
+        field.column_num_bytes(),
+        field.dictionary_num_bytes(),
+        Some(column.column_num_bytes()),
+        column.dictionary_num_bytes(),
+    ];
+    are(rt, sizes.as_slice(), COLUMN);
     assert!(rt; field.column_space_usage() == Some(column));
-    assert!(rt; column.column_num_bytes() == ByteCount(100));
-    assert!(rt; column.dictionary_num_bytes() == Some(ByteCount(7)));
     assert_eq!(rt; field.total().get_bytes(), 110);
 }
 
