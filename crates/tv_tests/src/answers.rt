@@ -1,7 +1,7 @@
 //! What calls answer, and whether that is wanted. Values and errors are looked at by reference, and dropped in one
 //! place, since a function that drops them is dear to prove.
 
-use crate::failures::{Failure, failure_of};
+use crate::failures::{Failure, is_failure};
 use tv_base::{
     DeleteError, FileSlice, Incompatibility, IoError, IoFault, IoKind, LockError, OpenReadError,
     OpenWriteError, OwnedBytes, TantivyError,
@@ -31,6 +31,8 @@ pub(crate) enum Want {
     Refused,
     /// A fault of this kind and text.
     Fault(IoKind, &'static str),
+    /// The library's error says that.
+    Fails(Failure<'static>),
     /// The file is of this other format.
     Format(u32),
     /// A collection has this number.
@@ -62,6 +64,11 @@ pub(crate) fn ends<T: Answer + Drop, E: Answer + Drop>(
     }
 }
 
+/// Whether an answer is no error.
+pub(crate) fn is_ok<T: Drop, E: Drop>(answer: Result<T, E>) -> bool {
+    answer.is_ok()
+}
+
 fn reads(bytes: &[u8], want: Want) -> bool {
     match want {
         Want::Done => true,
@@ -87,13 +94,14 @@ fn is_mismatch(why: &Incompatibility, want: Want) -> bool {
     }
 }
 
-// Whether these texts are these names.
-fn are(texts: &[String], names: &[&str]) -> bool {
+/// Whether these texts are these names.
+pub(crate) fn are(texts: &[String], names: &[&str]) -> bool {
+    for (text, name) in texts.iter().zip(names) {
+        if text.as_str() != *name {
+            return false;
+        }
+    }
     texts.len() == names.len()
-        && texts
-            .iter()
-            .zip(names.iter())
-            .all(|(text, name)| text.as_str() == *name)
 }
 
 impl Answer for () {
@@ -260,9 +268,10 @@ impl Answer for DeleteError {
 
 impl Answer for TantivyError {
     fn is(&self, name: &str, want: Want) -> bool {
-        match (failure_of(self), want) {
-            (Failure::Io(kind), Want::Refused) => kind == IoKind::Device,
-            (Failure::Exists(path), Want::Taken) => path == name,
+        match want {
+            Want::Refused => is_failure(self, Failure::Io(IoKind::Device)),
+            Want::Taken => is_failure(self, Failure::Exists(name)),
+            Want::Fails(failure) => is_failure(self, failure),
             _ => false,
         }
     }

@@ -7,11 +7,11 @@ ghost use Rattle.tv_model.specs.Lines.{has_no_feed};
 
 use crate::answers::{Answer, Want, ends};
 use crate::calls::{Call, take};
-use crate::compare::are_bytes;
-use crate::empty::TestBench;
+use crate::compare::are_made;
+use crate::empty::{TestBench, refusing};
 use std::alloc::Global;
 use std::process::Abort;
-use tv_directory::{Bench, Outside};
+use tv_directory::Outside;
 
 // What is done with the directory.
 #[derive(Clone, Copy)]
@@ -59,7 +59,7 @@ fn one_file<R: Abort>(rt: &R, alloc: Global) -> Vec<(String, Vec<u8>)>
 }
 
 // The calls of the device that are refused. It numbers them from 0 on.
-const REFUSED: [u64; 13] = [38, 20, 21, 22, 23, 24, 25, 27, 30, 34, 35, 36, 37];
+const REFUSED: &[u64] = &[38, 20, 21, 22, 23, 24, 25, 27, 30, 34, 35, 36, 37];
 
 // A call, whether it is refused, and the clock afterwards.
 type Row = (Turn, bool, u64);
@@ -113,24 +113,10 @@ fn take_rows<R: Abort>(rt: &R, bench: &mut TestBench) {
     }
 }
 
-// Looks at what was told, and how many calls were refused.
-fn assert_told<R: Abort>(rt: &R, bench: &TestBench) {
-    let lines = bench.heard_lines().expect(rt, "memory");
-    are_bytes(rt, lines.as_slice(), b"line\nline\n");
-}
-
-// A directory with one file, whose device refuses calls.
-fn refusing<R: Abort>(rt: &R, alloc: Global) -> TestBench {
-    let calls = Vec::from_slice(alloc, &REFUSED).expect(rt, "memory");
-    let mut bench = Bench::new(alloc, one_file(rt, alloc)).expect(rt, "memory");
-    bench.fail_at(calls);
-    bench
-}
-
 #[test]
 fn recorded_calls_take_a_moment_and_listed_ones_are_refused(rt: HostRuntime) {
-    let mut bench = refusing(&rt, rt.alloc());
+    let mut bench = refusing(&rt, rt.alloc(), one_file(&rt, rt.alloc()), REFUSED);
     take_rows(&rt, &mut bench);
-    assert_told(&rt, &bench);
+    are_made(&rt, bench.heard_lines(), b"line\nline\n");
     assert_eq!(rt; (bench.faults(), bench.refusals()), (12, 1));
 }

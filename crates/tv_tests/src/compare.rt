@@ -1,6 +1,6 @@
 //! Comparisons of borrowed values: each that can fail is dear to prove where values are owned.
 use std::process::Abort;
-use tv_base::FileSlice;
+use tv_base::{FileSlice, Memory};
 
 pub(crate) fn is_text<R: Abort>(rt: &R, text: &str, want: &str) {
     assert_eq!(rt; text, want);
@@ -8,6 +8,16 @@ pub(crate) fn is_text<R: Abort>(rt: &R, text: &str, want: &str) {
 
 pub(crate) fn are_bytes<R: Abort>(rt: &R, bytes: &[u8], want: &[u8]) {
     assert_eq!(rt; bytes, want);
+}
+
+/// Looks whether there was memory for a text, and it is this one.
+pub(crate) fn is_made<R: Abort>(rt: &R, text: Result<String, Memory>, want: &str) {
+    is_text(rt, text.expect(rt, "memory").as_str(), want);
+}
+
+/// Looks whether there was memory for bytes, and they are these.
+pub(crate) fn are_made<R: Abort>(rt: &R, bytes: Result<Vec<u8>, Memory>, want: &[u8]) {
+    are_bytes(rt, bytes.expect(rt, "memory").as_slice(), want);
 }
 
 /// Looks whether a file has these bytes.

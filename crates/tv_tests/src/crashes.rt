@@ -1,8 +1,8 @@
 //! What crashes leave of a directory in memory, and that its list then has each of its files.
 
-use crate::answers::{Want, ends};
+use crate::answers::{Want, ends, is_ok};
 use crate::empty::{Empty, TestBench};
-use crate::managed::{Call, Step, collect, on_file, take_all, wrapped};
+use crate::managed::{Call, Step, collect, on_file, taken, wrapped};
 use std::alloc::Global;
 use std::process::Abort;
 use tv_directory::Directory;
@@ -34,9 +34,13 @@ fn leave_all<R: Abort>(rt: &R, bench: &TestBench, rows: &[Row]) {
 }
 
 // Writes `a`, with ample memory.
-fn write<R: Abort>(rt: &R, bench: &mut TestBench, text: &str) {
+fn write<R: Abort, D: Directory>(rt: &R, directory: &mut D, text: &str) {
     assert!(rt;
-        ends(bench.atomic_write("a", text.as_bytes()), "a", Want::Done),
+        ends(
+            directory.atomic_write("a", text.as_bytes()),
+            "a",
+            Want::Done
+        ),
         "{text}"
     );
 }
@@ -87,38 +91,36 @@ const NONE_LIVES: &[Step] = &[
 ];
 
 // Makes both files, and collects them, one after the other.
-fn collected<R: Abort>(rt: &R, alloc: Global) -> TestBench {
-    let empty = TestBench::empty(alloc).expect(rt, "memory");
-    let mut managed = wrapped(rt, alloc, empty);
-    take_all(rt, &mut managed, alloc, FIRST_LIVES);
-    let mut again = wrapped(rt, alloc, managed.into_directory());
-    take_all(rt, &mut again, alloc, NONE_LIVES);
-    again.into_directory()
+fn collected<R: Abort, D: Empty>(rt: &R, alloc: Global, empty: D) -> D {
+    let first = taken(rt, alloc, empty, &[], FIRST_LIVES);
+    taken(rt, alloc, first, &[], NONE_LIVES)
 }
 
-fn is_gone(managed: &mut ManagedDirectory<TestBench>, name: &str) -> bool {
+fn is_gone<D: Directory>(managed: &mut ManagedDirectory<D>, name: &str) -> bool {
     on_file(managed, Call::Exists, name, b"", Want::Is(false))
 }
 
 // Whether a file of this name, where there is one, is on the list.
-fn is_listed(managed: &mut ManagedDirectory<TestBench>, name: &str) -> bool {
+fn is_listed<D: Directory>(managed: &mut ManagedDirectory<D>, name: &str) -> bool {
     is_gone(managed, name) || managed.list_managed_files().contains(name)
 }
 
-// Wraps what a crash left, collects all of it, and counts the calls that were refused.
-fn collect_all<R: Abort>(rt: &R, alloc: Global, left: TestBench) -> u64 {
+// Collects all files, which are on the list before, and gone behind it.
+fn collect_all<R: Abort, D: Directory>(rt: &R, alloc: Global, managed: &mut ManagedDirectory<D>) {
+    for name in NAMES {
+        assert!(rt; is_listed(managed, name), "{name} is listed");
+    }
+    assert!(rt; is_ok(collect(rt, managed, alloc, &[])), "a collection");
+    for name in NAMES {
+        assert!(rt; is_gone(managed, name), "{name} is gone");
+    }
+}
+
+// Wraps what a crash left, and collects all of it.
+fn emptied<R: Abort, D: Empty>(rt: &R, alloc: Global, left: D) -> D {
     let mut managed = wrapped(rt, alloc, left);
-    for name in NAMES {
-        assert!(rt; is_listed(&mut managed, name), "{name} is listed");
-    }
-    assert!(rt;
-        collect(rt, &mut managed, alloc, &[]).is_ok(),
-        "a collection"
-    );
-    for name in NAMES {
-        assert!(rt; is_gone(&mut managed, name), "{name} is gone");
-    }
-    managed.into_directory().faults()
+    collect_all(rt, alloc, &mut managed);
+    managed.into_directory()
 }
 
 // Crashes at this moment, by each of three choices for all files.
@@ -126,14 +128,15 @@ fn crash_at<R: Abort>(rt: &R, alloc: Global, bench: &TestBench, moment: u64) {
     for choice in 0..3 {
         if moment <= bench.moment() {
             let left = bench.crash(moment, &[choice; 4]).expect(rt, "memory");
-            assert_eq!(rt; collect_all(rt, alloc, left), 0);
+            assert!(rt; emptied(rt, alloc, left).faults() == 0);
         }
     }
 }
 
 #[test]
 fn a_crash_leaves_no_file_that_nothing_lists(rt: HostRuntime) {
-    let bench = collected(&rt, rt.alloc());
+    let empty = TestBench::empty(rt.alloc()).expect(&rt, "memory");
+    let bench = collected(&rt, rt.alloc(), empty);
     let last = bench.moment();
     assert!(rt; last > 9, "the calls were recorded");
     for moment in 0..=last {

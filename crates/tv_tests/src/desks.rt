@@ -2,6 +2,7 @@
 ghost use Rattle.std.specs.Prelude.{◌≡◌, true};
 ghost use Rattle.tv_model.specs.Lines.{has_no_feed};
 
+use crate::answers::is_ok;
 use crate::calls::take_all;
 use crate::empty::TestRam;
 use crate::ram::FILES;
@@ -14,7 +15,7 @@ fn tell<R: Abort, O: Outside>(rt: &R, outside: &mut O, line: &[u8]) -> bool
     requires { has_no_feed line.now ≡ true }
 {
     outside.ready(line.len()).expect(rt, "memory");
-    outside.tell(line).is_ok()
+    is_ok(outside.tell(line))
 }
 
 #[test]

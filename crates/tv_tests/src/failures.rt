@@ -1,7 +1,7 @@
 //! What the library's one large error says, as far as tests look at it.
 use tv_base::{DataCorruption, IoKind, OpenReadError, OpenWriteError, TantivyError};
 
-#[derive(Clone, Copy)]
+#[derive(Clone, Copy, PartialEq, Eq)]
 pub(crate) enum Failure<'a> {
     Io(IoKind),
     // A file of this name is there.
@@ -53,4 +53,9 @@ pub(crate) fn failure_of(error: &TantivyError) -> Failure<'_> {
         TantivyError::OpenDirectoryError(_) => Failure::NoFolder,
         _ => Failure::Other,
     }
+}
+
+/// Whether an error says that.
+pub(crate) fn is_failure(error: &TantivyError, want: Failure<'_>) -> bool {
+    failure_of(error) == want
 }

@@ -1,7 +1,7 @@
 //! The footers of files: their bytes, what is read of them, and what is refused.
 ghost use Rattle.std.specs.Prelude.{◌≡◌, false};
 
-use crate::answers::{Want, ends};
+use crate::answers::{Want, ends, is_ok};
 use crate::compare::is_file;
 use crate::written::{Content, file_of, is_written};
 use std::alloc::Global;
@@ -90,7 +90,7 @@ type Row<'a> = (&'a [u8], &'a [u8], u32, bool);
 
 // Whether the format of a file with this footer is good.
 fn is_good(footer: &Footer) -> bool {
-    footer.is_compatible().is_ok()
+    is_ok(footer.is_compatible())
 }
 
 fn assert_footer(rt: &impl Abort, footer: &Footer, crc: u32, is_compatible: bool) {

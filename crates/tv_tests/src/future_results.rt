@@ -1,88 +1,67 @@
 //! Results that come later: by which way they come, and who looks at them.
 ghost use Rattle.std.specs.Prelude.{◌≡◌, false};
 
-use crate::failures::{Failure, failure_of};
+use crate::answers::{Want, ends, is_ok};
+use crate::failures::Failure;
 use futures::executor::block_on;
 use futures::future::Future;
 use futures::task::{Context, Poll};
 use std::alloc::{AllocGlobal, Global};
+use std::process::Abort;
 use std::random::RandomSource;
 use std::sync::Wait;
-use std::test::Fail;
 use std::thread;
 use std::thread::Threads;
 use tv_base::{FutureResult, Memory, Sender, TantivyError};
 
-// What an answer is.
-#[derive(Clone, Copy, Debug, PartialEq, Eq)]
-enum Outcome {
-    Number(u8),
-    Poisoned,
-    // The error of a future whose sender is gone.
-    Failed,
-    Other,
-}
-
-fn seen(answer: Result<u8, TantivyError>) -> Outcome {
-    match answer {
-        Ok(number) => Outcome::Number(number),
-        Err(error) => failed(failure_of(&error)),
-    }
-}
-
-fn failed(failure: Failure<'_>) -> Outcome {
-    match failure {
-        Failure::Poisoned => Outcome::Poisoned,
-        Failure::System("failed") => Outcome::Failed,
-        _ => Outcome::Other,
-    }
-}
-
 // What becomes of a sender.
 #[derive(Clone, Copy)]
 enum Way {
-    Sends(u8),
+    Sends(u64),
     SendsError,
     Goes,
 }
 
-// What is sent on this way.
-fn sent(way: Way) -> Option<Result<u8, TantivyError>> {
-    match way {
-        Way::Sends(number) => Some(Ok(number)),
-        Way::SendsError => Some(Err(TantivyError::Poisoned)),
-        Way::Goes => None,
-    }
+// Whether this answer reaches the future of its sender.
+fn is_sent(sender: Sender<u64>, answer: Result<u64, TantivyError>) -> bool {
+    is_ok(sender.send(answer))
 }
 
 // Whether a sender reaches its future. One that goes always does.
-fn reaches(sender: Sender<u8>, way: Way) -> bool {
-    match sent(way) {
-        Some(answer) => sender.send(answer).is_ok(),
-        None => true,
+fn reaches(sender: Sender<u64>, way: Way) -> bool {
+    match way {
+        Way::Sends(number) => is_sent(sender, Ok(number)),
+        Way::SendsError => is_sent(sender, Err(TantivyError::Poisoned)),
+        Way::Goes => true,
     }
 }
+
+// The answer on a way that sends an error, and on one that sends none.
+const POISONED: Want = Want::Fails(Failure::Poisoned);
+
+const FAILED: Want = Want::Fails(Failure::System("failed"));
 
 // A future, and its sender, which goes its way once the future was looked at without an answer.
 #[derive(Drop)]
 struct Look {
-    future: FutureResult<u8>,
-    sender: Option<Sender<u8>>,
+    future: FutureResult<u64>,
+    sender: Option<Sender<u64>>,
     way: Way,
+    want: Want,
     // How often it was looked at before.
     looks: u8,
 }
 
 impl Future for Look {
-    type Output = (u8, Outcome);
+    type Output = (u8, bool);
 
     ghost use Rattle.std.specs.Prelude.{◌≡◌, false};
 
     ghost can_poll = { λ l. l.future.answered ≡ false };
 
-    fn poll(&mut self, cx: &mut Context<'_>) -> Poll<(u8, Outcome)> {
+    fn poll(&mut self, cx: &mut Context<'_>) -> Poll<(u8, bool)> {
         match self.future.poll(cx) {
-            Poll::Ready(answer) => Poll::Ready((self.looks, seen(answer))),
+            Poll::Ready(answer) => Poll::Ready((self.looks, ends(answer, "", self.want))),
             Poll::Pending => {
                 self.looks = self.looks.saturating_add(1);
                 self.sender.take().map(|sender| reaches(sender, self.way));
@@ -93,7 +72,7 @@ impl Future for Look {
 }
 
 // The sender, if it is to go its way later.
-fn kept(sender: Sender<u8>, way: Way, is_later: bool) -> Option<Sender<u8>> {
+fn kept(sender: Sender<u64>, way: Way, is_later: bool) -> Option<Sender<u64>> {
     if is_later {
         return Some(sender);
     }
@@ -101,58 +80,79 @@ fn kept(sender: Sender<u8>, way: Way, is_later: bool) -> Option<Sender<u8>> {
     None
 }
 
-// How often a future was looked at without an answer, and the answer.
+// How often a future was looked at without an answer, and whether the answer is wanted.
 fn polled<R: Wait + RandomSource + AllocGlobal>(
     rt: &R,
     way: Way,
     is_later: bool,
-) -> Result<Option<(u8, Outcome)>, Memory> {
+    want: Want,
+) -> Result<Option<(u8, bool)>, Memory> {
     let (future, sender) = FutureResult::create(rt.alloc(), "failed")?;
     let look = Look {
         future,
         sender: kept(sender, way, is_later),
         way,
+        want,
         looks: 0,
     };
     Ok(block_on(rt, look).ok())
 }
 
-#[test]
-fn answers_are_polled(rt: HostRuntime) -> Result<(), Fail> {
-    let rows = [
-        (Way::Sends(2), false, (0, Outcome::Number(2))),
-        (Way::SendsError, false, (0, Outcome::Poisoned)),
-        (Way::Goes, false, (0, Outcome::Failed)),
-        (Way::Sends(2), true, (1, Outcome::Number(2))),
-        (Way::Goes, true, (1, Outcome::Failed)),
-    ];
-    for (way, is_later, want) in rows {
-        assert_eq!(rt; polled(&rt, way, is_later)?, Some(want));
-    }
-    Ok(())
+// A way, whether it is gone once the future was looked at, how often it was, and the answer.
+type Row = (Way, bool, u8, Want);
+
+const POLLED: &[Row] = &[
+    (Way::Sends(2), false, 0, Want::Number(2)),
+    (Way::SendsError, false, 0, POISONED),
+    (Way::Goes, false, 0, FAILED),
+    (Way::Sends(2), true, 1, Want::Number(2)),
+    (Way::Goes, true, 1, FAILED),
+];
+
+fn assert_polled<R: Wait + RandomSource + AllocGlobal + Abort>(rt: &R, row: Row) {
+    let (way, is_later, looks, want) = row;
+    let polled = polled(rt, way, is_later, want).expect(rt, "memory");
+    assert_eq!(rt; polled, Some((looks, true)));
 }
 
-// Whether another thread's sender reaches the future, and the answer that is waited for.
-fn waited<R: Threads + Wait + AllocGlobal>(rt: &R, way: Way) -> Result<(bool, Outcome), Memory> {
+#[test]
+fn answers_are_polled(rt: HostRuntime) {
+    for row in POLLED {
+        assert_polled(&rt, *row);
+    }
+}
+
+// Whether another thread's sender reaches the future, and the answer that is waited for is the
+// wanted one.
+fn waited<R: Threads + Wait + AllocGlobal>(
+    rt: &R,
+    way: Way,
+    want: Want,
+) -> Result<(bool, bool), Memory> {
     let (future, sender) = FutureResult::create(rt.alloc(), "failed")?;
     Ok(thread::join(
         rt,
         move || reaches(sender, way),
-        move || seen(future.wait(rt)),
+        move || ends(future.wait(rt), "", want),
     ))
 }
 
+const WAITED: &[(Way, Want)] = &[
+    (Way::Sends(2), Want::Number(2)),
+    (Way::SendsError, POISONED),
+    (Way::Goes, FAILED),
+];
+
+fn assert_waited<R: Threads + Wait + AllocGlobal + Abort>(rt: &R, way: Way, want: Want) {
+    let (is_reached, is_wanted) = waited(rt, way, want).expect(rt, "memory");
+    assert!(rt; is_reached && is_wanted);
+}
+
 #[test]
-fn answers_are_waited_for(rt: HostRuntime) -> Result<(), Fail> {
-    let rows = [
-        (Way::Sends(2), Outcome::Number(2)),
-        (Way::SendsError, Outcome::Poisoned),
-        (Way::Goes, Outcome::Failed),
-    ];
-    for (way, want) in rows {
-        assert_eq!(rt; waited(&rt, way)?, (true, want));
+fn answers_are_waited_for(rt: HostRuntime) {
+    for (way, want) in WAITED {
+        assert_waited(&rt, *way, *want);
     }
-    Ok(())
 }
 
 // Whether a sender reaches a future that is gone.
@@ -163,9 +163,8 @@ fn reaches_nobody(alloc: Global) -> Result<bool, Memory> {
 }
 
 #[test]
-fn one_that_nobody_waits_for(rt: HostRuntime) -> Result<(), Fail> {
-    assert!(rt; !reaches_nobody(rt.alloc())?);
-    let future = FutureResult::from(TantivyError::Poisoned);
-    assert_eq!(rt; seen(future.wait(&rt)), Outcome::Poisoned);
-    Ok(())
+fn one_that_nobody_waits_for(rt: HostRuntime) {
+    assert!(rt; !reaches_nobody(rt.alloc()).expect(&rt, "memory"));
+    let future: FutureResult<u64> = FutureResult::from(TantivyError::Poisoned);
+    assert!(rt; ends(future.wait(&rt), "", POISONED));
 }

@@ -1,16 +1,16 @@
 //! The list of managed files, in spellings that JSON allows, and what is no list.
 
-use crate::empty::TestBench;
-use crate::failures::{Failure, failure_of};
+use crate::answers::{Want, ends};
+use crate::empty::{Empty, TestBench};
+use crate::failures::Failure;
+use crate::managed::{are_managed, error_of, wrapped};
 use crate::sealed_files::{Bytes, slice_of};
 use std::alloc::Global;
-use std::collections::BTreeSet;
 use std::process::Abort;
-use tv_base::MANAGED_FILEPATH;
-use tv_directory::{Bench, Directory};
-use tv_managed::{ManagedDirectory, Refused};
+use tv_base::{MANAGED_FILEPATH, TantivyError};
+use tv_managed::ManagedDirectory;
 
-// A text, and the names that it lists, in their order.
+// A text, and the names that it lists.
 const LISTS: &[(&str, &[&str])] = &[
     ("[]", &[]),
     ("\n[ ]", &[]),
@@ -44,70 +44,60 @@ const DAMAGED: &[Bytes] = &[
 ];
 
 // A directory whose list reads these bytes.
-fn with_list<R: Abort>(rt: &R, alloc: Global, bytes: &[u8]) -> TestBench {
-    let mut bench: TestBench = Bench::new(alloc, Vec::new(alloc)).expect(rt, "memory");
-    bench
+fn with_list<R: Abort, D: Empty>(rt: &R, alloc: Global, bytes: &[u8]) -> D {
+    let mut directory = D::empty(alloc).expect(rt, "memory");
+    directory
         .atomic_write(MANAGED_FILEPATH, bytes)
         .expect(rt, "written");
-    bench
+    directory
 }
 
-fn are(names: &BTreeSet<String>, wanted: &[&str]) -> bool {
-    names.len() == wanted.len()
-        && names
-            .iter()
-            .zip(wanted.iter())
-            .all(|(name, want)| name.as_str() == *want)
+// Whether a directory whose list reads this text has these names.
+fn lists<R: Abort, D: Empty>(rt: &R, alloc: Global, text: &str, names: &[&str]) -> bool {
+    let directory: D = with_list(rt, alloc, text.as_bytes());
+    let managed = wrapped(rt, alloc, directory);
+    let is_so = are_managed(&managed, names);
+    drop(managed.into_directory());
+    is_so
 }
 
-// Whether a directory is wrapped that lists these names.
-fn lists(directory: TestBench, alloc: Global, names: &[&str]) -> bool {
-    match ManagedDirectory::wrap(alloc, directory) {
-        Ok(managed) => {
-            let is_so = are(managed.list_managed_files(), names);
-            drop(managed.into_directory());
-            is_so
-        }
-        Err(
-            Refused {
-                error: _,
-                directory: _,
-            },
-        ) => false,
-    }
-}
-
-// Whether a directory is refused, since the file of its list is none.
-fn is_damaged(directory: TestBench, alloc: Global) -> bool {
+// What comes of wrapping a directory.
+fn outcome<D: Empty>(alloc: Global, directory: D) -> Result<(), TantivyError> {
     match ManagedDirectory::wrap(alloc, directory) {
         Ok(managed) => {
             drop(managed.into_directory());
-            false
+            Ok(())
         }
-        Err(
-            Refused {
-                error,
-                directory: _,
-            },
-        ) => match failure_of(&error) {
-            Failure::Corrupt(path) => path == MANAGED_FILEPATH,
-            _ => false,
-        },
+        Err(refused) => Err(error_of(refused)),
     }
+}
+
+// Whether a directory whose list reads these bytes is refused, since the file of its list is none.
+fn is_damaged<R: Abort, D: Empty>(rt: &R, alloc: Global, bytes: &[u8]) -> bool {
+    let directory: D = with_list(rt, alloc, bytes);
+    ends(
+        outcome(alloc, directory),
+        "",
+        Want::Fails(Failure::Corrupt(MANAGED_FILEPATH)),
+    )
 }
 
 #[test]
 fn a_list_is_read_in_any_spelling(rt: HostRuntime) {
     for (text, names) in LISTS {
-        let directory = with_list(&rt, rt.alloc(), text.as_bytes());
-        assert!(rt; lists(directory, rt.alloc(), names), "{text}");
+        assert!(rt;
+            lists::<_, TestBench>(&rt, rt.alloc(), text, names),
+            "{text}"
+        );
     }
 }
 
 #[test]
 fn what_is_no_list_is_refused(rt: HostRuntime) {
     for (number, bytes) in DAMAGED.iter().enumerate() {
-        let directory = with_list(&rt, rt.alloc(), slice_of(*bytes));
-        assert!(rt; is_damaged(directory, rt.alloc()), "{number}");
+        assert!(rt;
+            is_damaged::<_, TestBench>(&rt, rt.alloc(), slice_of(*bytes)),
+            "{number}"
+        );
     }
 }

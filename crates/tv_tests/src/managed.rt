@@ -2,15 +2,15 @@
 ghost use Rattle.std.specs.Prelude.{◌≡◌, ◌≢◌, ◌+◌, ◌<◌, ◌^◌, true, length, OnOk};
 ghost use Rattle.tv_model.specs.Names.{is_file_name, list_name};
 
-use crate::answers::{Answer, Want, ends};
-use crate::empty::{Empty, TestBench};
+use crate::answers::{Answer, Want, are, ends};
+use crate::empty::{Empty, refusing};
 use crate::sealed_files::{Row, takes};
 use std::alloc::Global;
 use std::collections::BTreeSet;
 use std::process::Abort;
 use tv_base::{IoError, MANAGED_FILEPATH, TantivyError, is_plain_name};
-use tv_directory::{Bench, Directory, meta_lock, what_reads_is_an_image};
-use tv_managed::{GarbageCollectionResult, ManagedDirectory, ManagedWriter};
+use tv_directory::{Directory, meta_lock, what_reads_is_an_image};
+use tv_managed::{GarbageCollectionResult, ManagedDirectory, ManagedWriter, Refused};
 
 /// A call on a file.
 #[derive(Clone, Copy)]
@@ -153,9 +153,15 @@ fn watch<R: Abort, D: Empty>(rt: &R, managed: &mut ManagedDirectory<D>) {
     managed.unwatch(handle);
 }
 
-fn are_managed<D: Directory>(managed: &ManagedDirectory<D>, names: &[&str]) -> bool {
+/// Whether these names are managed, and no others.
+pub(crate) fn are_managed<D: Directory>(managed: &ManagedDirectory<D>, names: &[&str]) -> bool {
     let managed = managed.list_managed_files();
-    managed.len() == names.len() && names.iter().all(|name| managed.contains(*name))
+    for name in names {
+        if !managed.contains(*name) {
+            return false;
+        }
+    }
+    managed.len() == names.len()
 }
 
 fn set_of<R: Abort>(rt: &R, alloc: Global, names: &[&str]) -> BTreeSet<String> {
@@ -178,6 +184,15 @@ pub(crate) fn collect<R: Abort, D: Directory>(
     managed.garbage_collect(|| living)
 }
 
+fn are_held<D: Directory>(managed: &ManagedDirectory<D>, names: &[&str]) -> bool {
+    for name in names {
+        if !managed.is_held(name) {
+            return false;
+        }
+    }
+    true
+}
+
 // Whether a collection took these names, and has so many left.
 fn has_taken<D: Directory>(
     managed: &ManagedDirectory<D>,
@@ -187,10 +202,7 @@ fn has_taken<D: Directory>(
 ) -> bool {
     match managed.collect_names(id) {
         Some(taken) => {
-            managed.collect_left(id) == Some(left)
-                && taken.len() == names.len()
-                && taken.iter().zip(names).all(|(a, b)| a.as_str() == *b)
-                && names.iter().all(|name| managed.is_held(name))
+            managed.collect_left(id) == Some(left) && are(taken, names) && are_held(managed, names)
         }
         None => false,
     }
@@ -267,11 +279,13 @@ pub(crate) fn take_all<R: Abort, D: Empty>(
     }
 }
 
-// A directory without files, whose device refuses the calls with these numbers.
-fn refusing<R: Abort>(rt: &R, alloc: Global, refused: &[u64]) -> TestBench {
-    let mut bench: TestBench = Bench::new(alloc, Vec::new(alloc)).expect(rt, "memory");
-    bench.fail_at(Vec::from_slice(alloc, refused).expect(rt, "memory"));
-    bench
+/// The error of a refusal.
+pub(crate) fn error_of<D: Drop>(refused: Refused<D>) -> TantivyError {
+    let Refused {
+        error,
+        directory: _,
+    } = refused;
+    error
 }
 
 /// The managed directory over this one.
@@ -286,17 +300,23 @@ pub(crate) fn wrapped<R: Abort, D: Empty>(
     }
 }
 
-/// A managed directory without files, whose device refuses the calls with these numbers.
-pub(crate) fn failing<R: Abort>(
+/// Takes the steps in the managed directory over this one, behind those that are given.
+pub(crate) fn taken<R: Abort, D: Empty>(
     rt: &R,
     alloc: Global,
-    refused: &[u64],
-) -> ManagedDirectory<TestBench> {
-    wrapped(rt, alloc, refusing(rt, alloc, refused))
+    directory: D,
+    given: &[Step],
+    steps: &[Step],
+) -> D {
+    let mut managed = wrapped(rt, alloc, directory);
+    take_all(rt, &mut managed, alloc, given);
+    take_all(rt, &mut managed, alloc, steps);
+    managed.images_list_their_files();
+    managed.into_directory()
 }
 
-/// Takes the steps in such a directory, behind those that are given, and counts the refused calls that
-/// weren't deletes.
+/// Takes the steps in a directory without files, whose device refuses the calls with these numbers, and
+/// counts the refused ones that weren't deletes.
 pub(crate) fn faults_of<R: Abort>(
     rt: &R,
     alloc: Global,
@@ -304,11 +324,8 @@ pub(crate) fn faults_of<R: Abort>(
     given: &[Step],
     steps: &[Step],
 ) -> u64 {
-    let mut managed = failing(rt, alloc, refused);
-    take_all(rt, &mut managed, alloc, given);
-    take_all(rt, &mut managed, alloc, steps);
-    managed.images_list_their_files();
-    let bench = managed.into_directory();
+    let empty = refusing(rt, alloc, Vec::new(alloc), refused);
+    let bench = taken(rt, alloc, empty, given, steps);
     what_reads_is_an_image(&bench);
     bench.faults()
 }

@@ -1,9 +1,9 @@
 //! Ids, and the names of a segment's files.
-use crate::compare::is_text;
+use crate::compare::{is_made, is_text};
 use crate::printing::{debugs, prints};
 use std::alloc::Global;
 use std::process::Abort;
-use tv_model::{DeleteMeta, IdList, Memory, SegmentComponent, SegmentId, laws, segment_file_name};
+use tv_model::{DeleteMeta, IdList, SegmentComponent, SegmentId, laws, segment_file_name};
 
 // More ids than the longest line of a script can name.
 const MANY: u64 = 31_775;
@@ -14,11 +14,6 @@ const BYTES: [u8; 16] = [
 
 fn id() -> SegmentId {
     SegmentId::from_bytes(BYTES)
-}
-
-// Looks whether there was memory for a text, and it is this one.
-fn is_made<R: Abort>(rt: &R, text: Result<String, Memory>, want: &str) {
-    is_text(rt, text.expect(rt, "memory").as_str(), want);
 }
 
 #[test]
@@ -41,11 +36,8 @@ fn a_file_is_named_after_its_segment(rt: HostRuntime) {
         opstamp: 7,
     };
     let made = segment_file_name(rt.alloc(), id(), Some(deletes), SegmentComponent::Delete);
-    is_text(
-        &rt,
-        made.expect(&rt, "memory").as_str(),
-        "a5c4dfcbdfe645089129e308e26d5523.7.del",
-    );
+    let name = made.expect(&rt, "memory");
+    is_text(&rt, name.as_str(), "a5c4dfcbdfe645089129e308e26d5523.7.del");
 }
 
 // That many ids, the number of each in its last bytes, highest first.

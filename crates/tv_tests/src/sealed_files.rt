@@ -4,7 +4,8 @@
 use crate::answers::Want;
 use crate::compare::is_file;
 use crate::composites::assert_body;
-use crate::managed::{Call, Step, failing, faults_of, on_file};
+use crate::empty::{Empty, TestBench};
+use crate::managed::{Call, Step, faults_of, on_file, wrapped};
 use crate::written::{Content, written};
 use std::alloc::Global;
 use std::process::Abort;
@@ -176,17 +177,18 @@ fn read_back<R: Abort, D: Directory>(
 }
 
 // The body of a file of these bytes, as a managed directory reads it.
-fn body_in<R: Abort>(rt: &R, alloc: Global, bytes: &[u8]) -> FileSlice {
-    let mut managed = failing(rt, alloc, &[]);
+fn body_in<R: Abort, D: Empty>(rt: &R, alloc: Global, directory: D, bytes: &[u8]) -> FileSlice {
+    let mut managed = wrapped(rt, alloc, directory);
     let body = read_back(rt, &mut managed, bytes);
     drop(managed.into_directory());
     body
 }
 
 // The body of a file with this content.
-fn body_of<R: Abort>(rt: &R, alloc: Global, content: Content) -> FileSlice {
+fn body_of<R: Abort, D: Empty>(rt: &R, alloc: Global, content: Content) -> FileSlice {
     let bytes = written(rt, alloc, content);
-    body_in(rt, alloc, bytes.as_slice())
+    let directory = D::empty(alloc).expect(rt, "memory");
+    body_in(rt, alloc, directory, bytes.as_slice())
 }
 
 // Looks at the body of field 4, which is the spelling of 2.
@@ -198,6 +200,14 @@ fn assert_two<R: Abort>(rt: &R, alloc: Global, body: &FileSlice) {
 #[test]
 fn what_stands_behind_a_proxy_is_read_back(rt: HostRuntime) {
     let a = rt.alloc();
-    is_file(&rt, &body_of(&rt, a, Content::NineBytes), b"123456789");
-    assert_two(&rt, a, &body_of(&rt, a, Content::SealedFields));
+    is_file(
+        &rt,
+        &body_of::<_, TestBench>(&rt, a, Content::NineBytes),
+        b"123456789",
+    );
+    assert_two(
+        &rt,
+        a,
+        &body_of::<_, TestBench>(&rt, a, Content::SealedFields),
+    );
 }
