@@ -1,6 +1,7 @@
 //! Schemas and commits: texts in several spellings, texts that are refused, and what is printed.
-use crate::compare::{are_bytes, is_text};
-use crate::failures::{Failure, failure_of};
+use crate::answers::{Want, ends};
+use crate::compare::{are_bytes, are_made, is_made, is_text};
+use crate::failures::{Failure, is_failure};
 use std::alloc::Global;
 use std::process::Abort;
 use tv_base::{Opstamp, TantivyError};
@@ -27,57 +28,58 @@ const WITH_BLANKS: &str =
 enum Becomes {
     /// A commit that is printed like this.
     Printed(&'static str),
-    /// The file is corrupt.
-    Corrupt,
-    /// Its schema is another one than the expected one.
-    Other,
+    /// The error that says this.
+    Fails(Failure<'static>),
 }
+
+const CORRUPT: Becomes = Becomes::Fails(Failure::Corrupt("meta.json"));
+
+const OTHER_SCHEMA: Becomes = Becomes::Fails(Failure::Schema(
+    "An index exists but the schema does not match.",
+));
 
 // Bytes, and what becomes of them where the schema without fields is expected.
 const METAS: &[(&str, Becomes)] = &[
-    ("{", Becomes::Corrupt),
-    (FIRST, Becomes::Other),
+    ("{", CORRUPT),
+    (FIRST, OTHER_SCHEMA),
     // A segment twice, and one of whose three documents four are deleted.
     (
         "{\"schema\":[],\"opstamp\":2,\"segments\":[{\"segment_id\":\"a5c4dfcbdfe645089129e308e26d5523\",\"max_doc\":3},{\"segment_id\":\"a5c4dfcb-dfe6-4508-9129-e308e26d5523\",\"max_doc\":4}]}",
-        Becomes::Corrupt,
+        CORRUPT,
     ),
     (
         "{\"schema\":[],\"opstamp\":2,\"segments\":[{\"segment_id\":\"a5c4dfcbdfe645089129e308e26d5523\",\"max_doc\":3,\"deletes\":{\"num_deleted_docs\":4,\"opstamp\":1}}]}",
-        Becomes::Corrupt,
+        CORRUPT,
     ),
     (
         "{\"index_settings\":{\"docstore_compression\":\"lz4\"},\"schema\":[],\"opstamp\":2,\"segments\":[]}",
-        Becomes::Corrupt,
+        CORRUPT,
     ),
     (
         "{\"index_settings\":null,\"schema\":[],\"opstamp\":2,\"segments\":[]}",
-        Becomes::Corrupt,
+        CORRUPT,
     ),
-    ("{\"schema\":[],\"opstamp\":2}", Becomes::Corrupt),
-    (
-        "{\"schema\":[],\"opstamp\":2.0,\"segments\":[]}",
-        Becomes::Corrupt,
-    ),
+    ("{\"schema\":[],\"opstamp\":2}", CORRUPT),
+    ("{\"schema\":[],\"opstamp\":2.0,\"segments\":[]}", CORRUPT),
     (
         "{\"schema\":[],\"opstamp\":18446744073709551616,\"segments\":[]}",
-        Becomes::Corrupt,
+        CORRUPT,
     ),
     (
         "{\"schema\":[],\"opstamp\":2,\"segments\":[],\"payload\":7}",
-        Becomes::Corrupt,
+        CORRUPT,
     ),
     (
         "{\"schema\":[{\"name\":\"a\"}],\"opstamp\":2,\"segments\":[]}",
-        Becomes::Corrupt,
+        CORRUPT,
     ),
     (
         "{\"schema\":[],\"opstamp\":2,\"segments\":[{\"segment_id\":\"a5c4dfcbdfe645089129e308e26d5523\",\"max_doc\":4294967296}]}",
-        Becomes::Corrupt,
+        CORRUPT,
     ),
     (
         "{\"schema\":[],\"opstamp\":2,\"segments\":[{\"segment_id\":\"a5c4dfcbdfe645089129e308e26d552\",\"max_doc\":3}]}",
-        Becomes::Corrupt,
+        CORRUPT,
     ),
     // Of a repeated key the last counts, and what is left out has its default.
     (
@@ -134,21 +136,8 @@ fn is_outcome<R: Abort>(
     want: Becomes,
 ) {
     match (parsed, want) {
-        (Ok(meta), Becomes::Printed(text)) => {
-            let printed = meta.print(alloc).expect(rt, "memory");
-            are_bytes(rt, printed.as_slice(), text.as_bytes());
-        }
-        (Err(error), Becomes::Corrupt) => {
-            assert!(rt; matches!(failure_of(error), Failure::Corrupt("meta.json")));
-        }
-        (Err(error), Becomes::Other) => {
-            assert!(rt;
-                matches!(
-                    failure_of(error),
-                    Failure::Schema("An index exists but the schema does not match.")
-                )
-            );
-        }
+        (Ok(meta), Becomes::Printed(text)) => are_made(rt, meta.print(alloc), text.as_bytes()),
+        (Err(error), Becomes::Fails(failure)) => assert!(rt; is_failure(error, failure)),
         _ => panic!(rt; "another outcome"),
     }
 }
@@ -176,7 +165,7 @@ fn metas_are_read_and_printed(rt: HostRuntime) {
     for (bytes, want) in METAS {
         is_read_as(&rt, a, bytes.as_bytes(), Some(&none), *want);
     }
-    is_read_as(&rt, a, b"{\"\xff\":1}", Some(&none), Becomes::Corrupt);
+    is_read_as(&rt, a, b"{\"\xff\":1}", Some(&none), CORRUPT);
     let text = schema(&rt, a, T);
     for bytes in [FIRST, WITH_BLANKS] {
         is_read_as(
@@ -216,26 +205,13 @@ const NO_SCHEMAS: &[&str] = &[
     "[{\"name\":\"a\",\"type\":\"t\",\"x\":1 2}]",
 ];
 
-// Whether the bytes spell no schema.
-fn is_no_schema<R: Abort>(rt: &R, spelled: &Result<Schema, TantivyError>) {
-    match spelled {
-        Ok(_) => panic!(rt; "a schema"),
-        Err(error) => {
-            assert!(rt;
-                matches!(
-                    failure_of(error),
-                    Failure::Argument("the schema is not of the stated form")
-                )
-            );
-        }
-    }
-}
+const NO_SCHEMA: Want = Want::Fails(Failure::Argument("the schema is not of the stated form"));
 
 #[test]
 fn schemas_are_refused(rt: HostRuntime) {
     let a = rt.alloc();
     for bytes in NO_SCHEMAS {
-        is_no_schema(&rt, &Schema::from_bytes(a, bytes.as_bytes()));
+        assert!(rt; ends(Schema::from_bytes(a, bytes.as_bytes()), "", NO_SCHEMA));
     }
 }
 
@@ -248,34 +224,34 @@ fn has_text<R: Abort>(rt: &R, schema: &Schema, text: &str, name: &str) {
     }
 }
 
+// Whether a schema is the one that these bytes spell.
+fn is_same<R: Abort>(rt: &R, alloc: Global, one: &Schema, bytes: &str) -> bool {
+    one.same(&schema(rt, alloc, bytes))
+}
+
+// Looks at the text of a schema, and of its copy.
+fn keeps_text<R: Abort>(rt: &R, alloc: Global, one: &Schema, text: &str, name: &str) {
+    has_text(rt, one, text, name);
+    has_text(rt, &one.share(alloc).expect(rt, "memory"), text, name);
+}
+
 #[test]
 fn a_schema_keeps_its_text(rt: HostRuntime) {
     let a = rt.alloc();
     let one = schema(&rt, a, " [ {\"name\" : \"a b\", \"type\":\"t\\\" \"}\n]\t");
-    has_text(&rt, &one, "[{\"name\":\"a b\",\"type\":\"t\\\" \"}]", "a b");
-    has_text(&rt, &schema(&rt, a, T), T, "text");
-    let copy = one.share(a).expect(&rt, "memory");
-    has_text(
-        &rt,
-        &copy,
-        "[{\"name\":\"a b\",\"type\":\"t\\\" \"}]",
-        "a b",
-    );
-    let other = schema(&rt, a, "[{\"type\":\"t\\u0022 \",\"name\":\"a b\"}]");
-    assert!(rt; one.same(&other));
-    assert!(rt; !one.same(&schema(&rt, a, "[]")));
+    let text = "[{\"name\":\"a b\",\"type\":\"t\\\" \"}]";
+    keeps_text(&rt, a, &one, text, "a b");
+    let same = "[{\"type\":\"t\\u0022 \",\"name\":\"a b\"}]";
+    assert!(rt; is_same(&rt, a, &one, same));
+    assert!(rt; !is_same(&rt, a, &one, "[]"));
+    keeps_text(&rt, a, &schema(&rt, a, T), T, "text");
 }
 
 // Whether a text spells this id.
 fn spells<R: Abort>(rt: &R, alloc: Global, text: &str, want: &str) {
     let id: SegmentId = text.parse().expect(rt, "an id");
-    is_text(
-        rt,
-        id.uuid_string(alloc).expect(rt, "memory").as_str(),
-        want,
-    );
-    let short = id.short_uuid_string(alloc).expect(rt, "memory");
-    is_text(rt, short.as_str(), "a5c4dfcb");
+    is_made(rt, id.uuid_string(alloc), want);
+    is_made(rt, id.short_uuid_string(alloc), "a5c4dfcb");
 }
 
 #[test]
@@ -316,37 +292,71 @@ fn tracked<R: Abort>(
         .expect(rt, "memory")
 }
 
-#[test]
-fn a_delete_of_no_document_has_a_file_name(rt: HostRuntime) {
-    let a = rt.alloc();
-    let mut inventory = SegmentMetaInventory::new(a);
-    let meta = tracked(&rt, &mut inventory, 7);
+// Looks at a segment of three documents, and at the names of its files.
+fn has_three<R: Abort>(rt: &R, alloc: Global, meta: &SegmentMeta) {
     assert!(rt; !meta.has_deletes());
     assert!(rt; meta.num_docs() == 3 && meta.max_doc() == 3 && meta.num_deleted_docs() == 0);
     assert!(rt; meta.delete_opstamp() == Some(7));
-    let path = meta
-        .relative_path(a, SegmentComponent::Delete)
-        .expect(&rt, "memory");
-    is_text(&rt, path.as_str(), "a5c4dfcbdfe645089129e308e26d5523.7.del");
-    assert!(rt; meta.list_files(a).expect(&rt, "memory").len() == 7);
-    let other = inventory.share(&meta).expect(&rt, "few shares");
+    let path = meta.relative_path(alloc, SegmentComponent::Delete);
+    is_made(rt, path, "a5c4dfcbdfe645089129e308e26d5523.7.del");
+}
+
+// Looks how many files a segment has.
+fn has_files<R: Abort>(rt: &R, alloc: Global, meta: &SegmentMeta) {
+    let files = meta.list_files(alloc).expect(rt, "memory");
+    assert_eq!(rt; files.len(), 7);
+}
+
+// Looks at another share of a segment, and gives it back.
+fn shares<R: Abort>(rt: &R, inventory: &mut SegmentMetaInventory, meta: &SegmentMeta) {
+    let other = inventory.share(meta).expect(rt, "few shares");
     assert!(rt; other.id() == meta.id());
     inventory.release(other);
+}
+
+// Tracks a segment, looks at it, and gives it back.
+fn tracks<R: Abort>(rt: &R, alloc: Global, inventory: &mut SegmentMetaInventory) {
+    let meta = tracked(rt, inventory, 7);
+    has_three(rt, alloc, &meta);
+    has_files(rt, alloc, &meta);
+    shares(rt, inventory, &meta);
     inventory.release(meta);
+}
+
+#[test]
+fn a_delete_of_no_document_has_a_file_name(rt: HostRuntime) {
+    let mut inventory = SegmentMetaInventory::new(rt.alloc());
+    tracks(&rt, rt.alloc(), &mut inventory);
+}
+
+// Looks how many documents a segment has, and gives it back.
+fn has_five<R: Abort>(rt: &R, inventory: &mut SegmentMetaInventory, meta: SegmentMeta) {
+    assert_eq!(rt; meta.num_docs(), 5);
+    inventory.release(meta);
+}
+
+// Counts the documents of a segment late.
+fn counts_late<R: Abort>(rt: &R, inventory: &mut SegmentMetaInventory, id: SegmentId) {
+    let meta = inventory.new_segment_meta(id, 0).expect(rt, "memory");
+    let meta = meta.with_max_doc(5, inventory).expect(rt, "memory");
+    has_five(rt, inventory, meta);
+}
+
+// Tracks a segment whose documents are counted.
+fn tracks_counted<R: Abort>(rt: &R, inventory: &mut SegmentMetaInventory, segment_id: SegmentId) {
+    let inner = InnerSegmentMeta {
+        segment_id,
+        max_doc: 5,
+        deletes: None,
+    };
+    let meta = inner.track(inventory).expect(rt, "memory");
+    has_five(rt, inventory, meta);
 }
 
 #[test]
 fn documents_are_counted_late(rt: HostRuntime) {
     let mut inventory = SegmentMetaInventory::new(rt.alloc());
     let id = SegmentId::from_bytes([7; 16]);
-    let meta = inventory.new_segment_meta(id, 0).expect(&rt, "memory");
-    let meta = meta.with_max_doc(5, &mut inventory).expect(&rt, "memory");
-    assert!(rt; meta.num_docs() == 5);
-    let inner = InnerSegmentMeta {
-        segment_id: id,
-        max_doc: 5,
-        deletes: None,
-    };
-    let again = inner.track(&mut inventory).expect(&rt, "memory");
-    assert!(rt; again.num_docs() == 5);
+    counts_late(&rt, &mut inventory, id);
+    tracks_counted(&rt, &mut inventory, id);
 }
