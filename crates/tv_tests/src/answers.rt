@@ -8,7 +8,7 @@ use tv_base::{
 };
 use tv_directory::DirectoryLock;
 use tv_framing::{CompositeFile, Footer};
-use tv_index::Schema;
+use tv_index::{Schema, Segment};
 use tv_managed::{CollectStep, GarbageCollectionResult};
 
 /// What a call on a file is to answer.
@@ -181,6 +181,12 @@ impl Answer for GarbageCollectionResult {
 }
 
 impl Answer for Schema {
+    fn is(&self, _name: &str, want: Want) -> bool {
+        matches!(want, Want::Done)
+    }
+}
+
+impl Answer for Segment {
     fn is(&self, _name: &str, want: Want) -> bool {
         matches!(want, Want::Done)
     }

@@ -3,7 +3,8 @@
 use crate::answers::{Want, ends};
 use crate::calls::{Call, Step, take_all};
 use crate::failures::Failure;
-use crate::indexes::fails_as;
+use crate::index::schema;
+use crate::indexes::close;
 use crate::ram::FILES;
 use crate::watches::{boxed, watch_both};
 use std::alloc::Global;
@@ -16,7 +17,7 @@ use std::{fs, io};
 use tv_base::{OpenDirectoryError, Sink, Source, TantivyError};
 use tv_directory::{Directory, NoWatch, WatchCall, WatchCallback, index_writer_lock};
 use tv_files::{FileWatcher, MmapDirectory, StdinSource, StdoutSink};
-use tv_index::{Index, Schema};
+use tv_index::Index;
 
 // Makes a folder of this path without files. What an earlier run left there goes.
 fn make_anew<R: Files>(rt: &R, alloc: Global, path: &str) -> io::Result<()> {
@@ -139,6 +140,15 @@ fn a_lock_is_free_once_its_directory_is_gone(rt: HostRuntime) {
     remove_folder(&rt, "locks");
 }
 
+// Whether a folder wasn't opened for this cause.
+fn is_cause<T: Drop>(opened: &Result<T, OpenDirectoryError>, path: &str, is_there: bool) -> bool {
+    match opened {
+        Err(OpenDirectoryError::DoesNotExist(text)) => !is_there && text.as_str() == path,
+        Err(OpenDirectoryError::NotADirectory(text)) => is_there && text.as_str() == path,
+        _ => false,
+    }
+}
+
 // Whether no folder is opened here, for this cause.
 fn is_refused<R: Files<File = File> + Clone + Drop + Abort>(
     rt: &R,
@@ -146,16 +156,11 @@ fn is_refused<R: Files<File = File> + Clone + Drop + Abort>(
     path: &str,
     is_there: bool,
 ) -> bool {
-    let opened: Result<MmapDirectory<R, NoWatch>, OpenDirectoryError> = MmapDirectory::open(
-        handle(rt),
-        alloc,
+    is_cause(
+        &MmapDirectory::<R, NoWatch>::open(handle(rt), alloc, path),
         path,
-    );
-    match opened {
-        Err(OpenDirectoryError::DoesNotExist(text)) => !is_there && text.as_str() == path,
-        Err(OpenDirectoryError::NotADirectory(text)) => is_there && text.as_str() == path,
-        _ => false,
-    }
+        is_there,
+    )
 }
 
 #[test]
@@ -283,54 +288,37 @@ fn standard_input_and_output_answer(rt: HostRuntime) {
     source.read(&mut []).expect(&rt, "read");
 }
 
-// What came of an index in a folder, which is closed again.
-fn close<D: Directory + Drop>(outcome: Result<Index<D>, TantivyError>) -> Result<(), TantivyError> {
-    match outcome {
-        Ok(index) => {
-            drop(index.into_directory());
-            Ok(())
-        }
-        Err(error) => Err(error),
+// The index of a folder that nobody watches.
+type InFolder<R> = Index<MmapDirectory<R, NoWatch>>;
+
+// Makes an index without fields in the folder, or opens the one that is there, and closes it.
+fn outcome<R: Files<File = File> + Clone + Drop + Abort>(
+    rt: &R,
+    alloc: Global,
+    is_new: bool,
+) -> Result<(), TantivyError> {
+    if is_new {
+        let schema = schema(rt, alloc, "[]");
+        return close(InFolder::create_in_dir(handle(rt), alloc, "index", schema));
     }
+    close(InFolder::open_in_dir(handle(rt), alloc, "index"))
 }
 
-// Opens the index in the folder, which fails as it is to.
-fn opens<R: Files<File = File> + Clone + Drop + Abort>(
-    rt: &R,
-    alloc: Global,
-    want: Option<Failure<'static>>,
-) {
-    let outcome = close::<MmapDirectory<R, NoWatch>>(Index::open_in_dir(
-        handle(rt),
-        alloc,
-        "index",
-    ));
-    fails_as(rt, &outcome, want);
-}
-
-// Makes an index without fields in the folder, which fails as it is to.
-fn makes<R: Files<File = File> + Clone + Drop + Abort>(
-    rt: &R,
-    alloc: Global,
-    want: Option<Failure<'static>>,
-) {
-    let schema = Schema::from_bytes(alloc, b"[]").expect(rt, "a schema");
-    let outcome = close::<MmapDirectory<R, NoWatch>>(Index::create_in_dir(
-        handle(rt),
-        alloc,
-        "index",
-        schema,
-    ));
-    fails_as(rt, &outcome, want);
-}
+// Whether an index in the folder is made, or opened, and what comes of that.
+const INDEXES: &[(bool, Want)] = &[
+    (false, Want::Fails(Failure::Missing("meta.json"))),
+    (true, Want::Done),
+    (true, Want::Fails(Failure::IndexExists)),
+    (false, Want::Done),
+];
 
 #[test]
 fn an_index_is_made_in_a_folder_and_opened_again(rt: HostRuntime) {
     make_folder(&rt, rt.alloc(), "index");
-    opens(&rt, rt.alloc(), Some(Failure::Missing("meta.json")));
-    makes(&rt, rt.alloc(), None);
-    makes(&rt, rt.alloc(), Some(Failure::IndexExists));
-    opens(&rt, rt.alloc(), None);
+    for (is_new, want) in INDEXES {
+        assert!(rt; ends(outcome(&rt, rt.alloc(), *is_new), "", *want));
+    }
     remove_folder(&rt, "index");
-    makes(&rt, rt.alloc(), Some(Failure::NoFolder));
+    let want = Want::Fails(Failure::NoFolder);
+    assert!(rt; ends(outcome(&rt, rt.alloc(), true), "", want));
 }

@@ -1,14 +1,16 @@
 //! Indexes: how they are opened, and the commits that they show.
 ghost use Rattle.std.specs.Prelude.{◌≡◌, None};
 
-use crate::compare::{are_bytes, is_text};
-use crate::empty::TestRam;
-use crate::failures::{Failure, failure_of};
+use crate::answers::{Want, ends};
+use crate::compare::{are_bytes, are_made, is_made};
+use crate::empty::{Empty, TestRam};
+use crate::failures::Failure;
 use crate::index::{FIRST, T, schema};
+use crate::managed::error_of;
 use std::alloc::Global;
 use std::process::Abort;
 use tv_base::{META_FILEPATH, Opstamp, TantivyError};
-use tv_directory::{Directory, RamDirectory};
+use tv_directory::Directory;
 use tv_index::{
     Index, IndexBuilder, IndexMeta, IndexSettings, Segment, SegmentId, SegmentMeta,
     SegmentMetaInventory, save_metas,
@@ -16,43 +18,43 @@ use tv_index::{
 use tv_managed::Refused;
 use tv_model::SegmentComponent;
 
-/// What stands as `meta.json`, the schema that is passed, and how the opening fails, if it does.
+/// What stands as `meta.json`, the schema that is passed, and how the opening ends.
 struct Opening {
     meta: Option<&'static str>,
     schema: Option<&'static str>,
-    fails: Option<Failure<'static>>,
+    ends: Want,
 }
 
 const OPENINGS: &[Opening] = &[
     Opening {
         meta: None,
         schema: None,
-        fails: Some(Failure::Argument("no schema passed")),
+        ends: Want::Fails(Failure::Argument("no schema passed")),
     },
     Opening {
         meta: Some(FIRST),
         schema: None,
-        fails: Some(Failure::Unbuilt("schema")),
+        ends: Want::Fails(Failure::Unbuilt("schema")),
     },
     Opening {
         meta: Some(FIRST),
         schema: Some("[]"),
-        fails: Some(Failure::Schema("An index exists but the schema does not match.")),
+        ends: Want::Fails(Failure::Schema("An index exists but the schema does not match.")),
     },
     Opening {
         meta: Some("{"),
         schema: None,
-        fails: Some(Failure::Corrupt(META_FILEPATH)),
+        ends: Want::Fails(Failure::Corrupt(META_FILEPATH)),
     },
     Opening {
         meta: Some(FIRST),
         schema: Some(T),
-        fails: None,
+        ends: Want::Done,
     },
     Opening {
         meta: None,
         schema: Some(T),
-        fails: None,
+        ends: Want::Done,
     },
 ];
 
@@ -65,67 +67,40 @@ fn builder<R: Abort>(rt: &R, alloc: Global, text: Option<&str>) -> IndexBuilder 
 }
 
 // A directory with this `meta.json`, if there is one.
-fn directory<R: Abort>(rt: &R, alloc: Global, meta: Option<&str>) -> TestRam {
-    let mut ram: TestRam = RamDirectory::create(alloc);
+fn directory<R: Abort, D: Empty>(rt: &R, alloc: Global, meta: Option<&str>) -> D {
+    let mut directory = D::empty(alloc).expect(rt, "memory");
     if let Some(text) = meta {
-        ram.atomic_write(META_FILEPATH, text.as_bytes())
+        directory
+            .atomic_write(META_FILEPATH, text.as_bytes())
             .expect(rt, "memory");
     }
-    ram
+    directory
 }
 
-// Whether an error says that.
-fn says<R: Abort>(rt: &R, error: &TantivyError, want: Failure<'static>) {
-    match (failure_of(error), want) {
-        (Failure::Argument(text), Failure::Argument(want)) => is_text(rt, text, want),
-        (Failure::Unbuilt(text), Failure::Unbuilt(want)) => is_text(rt, text, want),
-        (Failure::Schema(text), Failure::Schema(want)) => is_text(rt, text, want),
-        (Failure::Corrupt(path), Failure::Corrupt(want)) => is_text(rt, path, want),
-        (Failure::Missing(path), Failure::Missing(want)) => is_text(rt, path, want),
-        (Failure::InUse(id), Failure::InUse(want)) => is_text(rt, id, want),
-        (Failure::IndexExists, Failure::IndexExists) | (Failure::NoFolder, Failure::NoFolder) => {}
-        _ => panic!(rt; "another error"),
-    }
-}
-
-/// Whether an opening fails as it is to.
-pub(crate) fn fails_as<R: Abort>(
-    rt: &R,
-    outcome: &Result<(), TantivyError>,
-    want: Option<Failure<'static>>,
-) {
-    match (outcome, want) {
-        (Ok(()), None) => {}
-        (Err(error), Some(want)) => says(rt, error, want),
-        _ => panic!(rt; "another outcome"),
-    }
-}
-
-// The error of a refusal.
-fn error_of<D: Directory + Drop>(refused: Refused<D>) -> TantivyError {
-    let Refused {
-        error,
-        directory: _,
-    } = refused;
-    error
-}
-
-// What came of an opening. The index is closed again.
-fn close<D: Directory + Drop>(opened: Result<Index<D>, Refused<D>>) -> Result<(), TantivyError> {
+/// What came of an opening. The index is closed again.
+pub(crate) fn close<D: Directory + Drop, E>(opened: Result<Index<D>, E>) -> Result<(), E> {
     match opened {
         Ok(index) => {
             drop(index.into_directory());
             Ok(())
         }
+        Err(error) => Err(error),
+    }
+}
+
+// What came of an opening that gives the directory back where it is refused.
+fn outcome<D: Directory + Drop>(opened: Result<Index<D>, Refused<D>>) -> Result<(), TantivyError> {
+    match close(opened) {
+        Ok(()) => Ok(()),
         Err(refused) => Err(error_of(refused)),
     }
 }
 
 // Opens what stands, or makes an index, which ends as it is to end.
-fn opens<R: Abort>(rt: &R, alloc: Global, opening: &Opening) {
-    let ram = directory(rt, alloc, opening.meta);
-    let opened = builder(rt, alloc, opening.schema).open_or_create(alloc, ram);
-    fails_as(rt, &close(opened), opening.fails);
+fn opens<R: Abort, D: Empty>(rt: &R, alloc: Global, opening: &Opening) {
+    let directory: D = directory(rt, alloc, opening.meta);
+    let opened = builder(rt, alloc, opening.schema).open_or_create(alloc, directory);
+    assert!(rt; ends(outcome(opened), "", opening.ends));
 }
 
 // T with its keys in the order of their bytes.
@@ -136,7 +111,7 @@ const SORTED: &str =
 fn builders_open_or_refuse(rt: HostRuntime) {
     let a = rt.alloc();
     for opening in OPENINGS {
-        opens(&rt, a, opening);
+        opens::<_, TestRam>(&rt, a, opening);
     }
 }
 
@@ -152,20 +127,27 @@ fn is_open<R: Abort, D: Directory + Drop>(rt: &R, opened: Result<Index<D>, Refus
 }
 
 // Opens what stands.
-fn stands<R: Abort>(rt: &R, alloc: Global, meta: &str) {
-    is_open(rt, Index::open(alloc, directory(rt, alloc, Some(meta))));
+fn stands<R: Abort, D: Empty>(rt: &R, alloc: Global, meta: &str) {
+    let directory: D = directory(rt, alloc, Some(meta));
+    is_open(rt, Index::open(alloc, directory));
 }
 
 // Opens a directory in which nothing stands.
-fn finds_nothing<R: Abort>(rt: &R, alloc: Global) {
-    let opened = Index::open(alloc, directory(rt, alloc, None));
-    fails_as(rt, &close(opened), Some(Failure::Missing(META_FILEPATH)));
+fn finds_nothing<R: Abort, D: Empty>(rt: &R, alloc: Global) {
+    let directory: D = directory(rt, alloc, None);
+    assert!(rt;
+        ends(
+            outcome(Index::open(alloc, directory)),
+            "",
+            Want::Fails(Failure::Missing(META_FILEPATH))
+        )
+    );
 }
 
 #[test]
 fn what_stands_is_opened(rt: HostRuntime) {
-    stands(&rt, rt.alloc(), FIRST);
-    finds_nothing(&rt, rt.alloc());
+    stands::<_, TestRam>(&rt, rt.alloc(), FIRST);
+    finds_nothing::<_, TestRam>(&rt, rt.alloc());
 }
 
 // Adds a segment of five documents.
@@ -271,14 +253,9 @@ fn is_undamaged<R: Abort, D: Directory>(rt: &R, alloc: Global, index: &mut Index
 
 // Whether the id of a new segment is in use.
 fn is_in_use<R: Abort, D: Directory>(rt: &R, alloc: Global, index: &mut Index<D>, id: SegmentId) {
-    match index.new_segment(alloc, id) {
-        Err(error) => says(
-            rt,
-            &error,
-            Failure::InUse("09090909090909090909090909090909"),
-        ),
-        Ok(_) => panic!(rt; "the id is in use"),
-    }
+    let again = index.new_segment(alloc, id);
+    let in_use = Failure::InUse("09090909090909090909090909090909");
+    assert!(rt; ends(again, "", Want::Fails(in_use)));
 }
 
 // Deletes one of three documents of a new segment.
@@ -294,10 +271,8 @@ fn delete_one<R: Abort>(rt: &R, inventory: &mut SegmentMetaInventory, segment: S
 
 // Looks at the name of the delete file of that segment.
 fn names_deletes<R: Abort>(rt: &R, alloc: Global, segment: &Segment) {
-    let path = segment
-        .relative_path(alloc, SegmentComponent::Delete)
-        .expect(rt, "memory");
-    is_text(rt, path.as_str(), "09090909090909090909090909090909.5.del");
+    let path = segment.relative_path(alloc, SegmentComponent::Delete);
+    is_made(rt, path, "09090909090909090909090909090909.5.del");
 }
 
 // Makes a segment, whose id is in use from then on.
@@ -337,43 +312,60 @@ fn commit_twice<R: Abort, D: Directory>(rt: &R, alloc: Global, index: &mut Index
     sets_blocksize(rt, index);
 }
 
-// A new index in memory, with these settings.
-fn built<R: Abort>(rt: &R, alloc: Global, settings: IndexSettings) -> Index<TestRam> {
-    let builder = Index::<TestRam>::builder()
+// Makes two commits in a new index, and closes it.
+fn shows_commits<R: Abort, D: Directory + Drop>(
+    rt: &R,
+    alloc: Global,
+    made: Result<Index<D>, TantivyError>,
+) {
+    let mut index = made.expect(rt, "memory");
+    commit_twice(rt, alloc, &mut index);
+    drop(index.into_directory());
+}
+
+// A new index in memory, as a builder makes it.
+fn built<R: Abort>(rt: &R, alloc: Global) -> Result<Index<TestRam>, TantivyError> {
+    Index::<TestRam>::builder()
         .schema(schema(rt, alloc, T))
-        .settings(settings);
-    builder.create_in_ram(alloc).expect(rt, "memory")
+        .settings(IndexSettings::new())
+        .create_in_ram(alloc)
 }
 
 #[test]
 fn an_index_shows_its_commits(rt: HostRuntime) {
-    let mut index = built(&rt, rt.alloc(), IndexSettings::new());
-    commit_twice(&rt, rt.alloc(), &mut index);
-    drop(index.into_directory());
+    shows_commits(&rt, rt.alloc(), built(&rt, rt.alloc()));
 }
 
 // Whether a commit is printed like the first one.
 fn is_first<R: Abort>(rt: &R, alloc: Global, meta: &IndexMeta) {
-    let text = meta.print(alloc).expect(rt, "memory");
-    are_bytes(rt, text.as_slice(), FIRST.as_bytes());
+    are_made(rt, meta.print(alloc), FIRST.as_bytes());
 }
 
 // A new index in memory.
-fn in_ram<R: Abort>(rt: &R, alloc: Global) -> Index<TestRam> {
-    Index::create_in_ram(alloc, schema(rt, alloc, T)).expect(rt, "memory")
+fn in_ram<R: Abort>(rt: &R, alloc: Global) -> Result<Index<TestRam>, TantivyError> {
+    Index::create_in_ram(alloc, schema(rt, alloc, T))
 }
 
 // Whether the commit that stands is printed like the first one.
-fn shows_first<R: Abort, D: Directory>(rt: &R, alloc: Global, index: &mut Index<D>) {
+fn stands_first<R: Abort, D: Directory>(rt: &R, alloc: Global, index: &mut Index<D>) {
     let meta = index.load_metas(alloc).expect(rt, "a commit");
     is_first(rt, alloc, &meta);
+}
+
+// Looks at the commit of a new index, and closes it.
+fn shows_first<R: Abort, D: Directory + Drop>(
+    rt: &R,
+    alloc: Global,
+    made: Result<Index<D>, TantivyError>,
+) {
+    let mut index = made.expect(rt, "memory");
+    stands_first(rt, alloc, &mut index);
+    drop(index.into_directory());
 }
 
 #[test]
 fn commits_with_shares_are_printed(rt: HostRuntime) {
     let a = rt.alloc();
     is_first(&rt, a, &IndexMeta::with_schema(a, schema(&rt, a, T)));
-    let mut index = in_ram(&rt, a);
-    shows_first(&rt, a, &mut index);
-    drop(index.into_directory());
+    shows_first(&rt, a, in_ram(&rt, a));
 }
