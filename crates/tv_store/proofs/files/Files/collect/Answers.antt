@@ -5,7 +5,7 @@ use Rattle.tv_model.specs.Names.{has, is_plain, meta_name}
 use Rattle.tv_model.specs.State.{at}
 use Rattle.tv_managed.specs.Collecting.{SparesWriters}
 use Rattle.tv_store.specs.Kept.{names_below}
-use Rattle.tv_store.proofs.CollectingFiles.{collected_spares}
+use Rattle.tv_store.proofs.CollectingFiles.{collected_spares, gc_fails, gc_faults}
 use Rattle.tv_store.proofs.Removals.{told_plain, tried_as, tried_of, collected_open, bodies_gone, lens_left, living_stands, dotted_stands}
 use Rattle.tv_store.proofs.OpenFiles.{AreOpen, bodies, same_open}
 use Rattle.tv_store.proofs.files.Files.collect.Goals as goal
@@ -90,3 +90,8 @@ returns-clause-dotted g c tells n dot other =
     let left = c.garbage_collect.ensures.collects in
     dotted_stands g.O.Directory _ _ left.0 _ _ _ n (subst (λ d. list_all is_plain d.1.managed ≡ true) (c.directory.ensures ∙ sym c.directory_mut.ensures.value) c.list_managed_files-names.ensures.plain) left.2 left.1.leaves tells dot other
     ∙ ap (λ d. (g.O.Directory.view d.0).reads n) c.directory_mut.ensures.value ∙ ap (λ v. (g.O.Directory.view v.outside).reads n) c.self.view_is
+
+pub returns-in_err-result-clause-faults : goal.returns-in_err-result-clause-faults
+returns-in_err-result-clause-faults g c =
+    gc_fails g.O.Directory _ c.args.self.now.outside c.garbage_collect.new.self.0 c.from_residual.result c.in_err-result.field-0.0 c.from_residual.ensures.1
+    (gc_faults g.O.Directory c.args.self.now c.directory_mut.result.now c.garbage_collect.new.self _ (c.directory_mut.ensures.value ∙ ap names_below c.self.view_is) c.in_err-result.ensures.faults)
