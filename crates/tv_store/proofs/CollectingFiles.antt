@@ -3,7 +3,7 @@ use Rattle.std.proofs.Common.{◌≡◌, ◌≢◌, ℕ, ◌+◌, ◌<◌, inl, 
 use Rattle.std.specs.Prelude.{IfOk, IsErrAnd, OnErr, IsSome}
 use Rattle.std.proofs.Math.Logic.{⊎_map}
 use Rattle.std.specs.Option.{IsSomeAnd}
-use Rattle.std.proofs.lemmas.Bool.{false_from_ne_true, or_right}
+use Rattle.std.proofs.lemmas.Bool.{false_from_ne_true}
 use Rattle.tv_base.specs.declared.error.TantivyError.{TantivyError}
 use Rattle.tv_base.specs.declared.error.TantivyError.TheVariants as errors
 use Rattle.tv_base.specs.declared.open_errors.LockError.TheVariants as lock
@@ -15,6 +15,7 @@ use Rattle.tv_model.specs.State.{at}
 use Rattle.tv_model.specs.declared.event.Event.TheVariants as events
 use Rattle.tv_model.proofs.CollectionStates.{done_within, has_append}
 use Rattle.tv_model.proofs.Entries.{is_itself, is_text}
+use Rattle.tv_model.proofs.Collects.{failed_within}
 use Rattle.tv_directory.specs.declared.directory.Directory.{Ghosts}
 use Rattle.tv_managed.specs.Collecting.{EndsCollection as EndsManaged}
 use Rattle.tv_managed.specs.Collecting.{Among, Begins, CollectCause, CollectFaults, IsLast, Leaves, SparesWriters, Steps, TakesNoLock, TriesName, is_done, meta_lock_name, taken_by, tried_name}
@@ -42,12 +43,6 @@ begun_spares living old new (Ok number) begins err lives spared =
     ∙ never _ (has (taken_by living old) meta_name || has (held old.collections) meta_name) (held_begun meta_name old.collections (taken_by living old))
     (ap (λ b. b || has (held old.collections) meta_name) (living_spared living old meta_name lives) ∙ spared)
 begun_spares living old new (Err e) begins err lives spared = ap (λ names. has (held names.collections) meta_name) err ∙ spared
-
-failed_within : (names : List (List ℕ)) (outcomes : List Bool) (n : List ℕ) → has (failed_of names outcomes) n ≡ true → has names n ≡ true
-failed_within [] outcomes n h = h
-failed_within (name ∷ names) [] n h = absurd cc
-failed_within (name ∷ names) (true ∷ outcomes) n h = or_right (is name n) _ (failed_within names outcomes n h)
-failed_within (name ∷ names) (false ∷ outcomes) n h = grind (arith, failed_within names outcomes n)
 
 -- what an unfinished collection took of some names that don't have this one isn't it
 partly_spared : (names front rest : List (List ℕ)) (outcomes : List Bool) (n : List ℕ) → names ≡ front ++ rest → has names n ≡ false → has (taken (record { untried = rest; done = done_of front outcomes; failed = failed_of front outcomes })) n ≡ false

@@ -1,29 +1,18 @@
 -- The files of a live segment are needed.
-use Rattle.std.proofs.Common.{◌≡◌, ℕ, true, false, cond, List, [], ◌∷◌, ◌++◌, map, Option, Some, refl, sym, subst, ◌∙◌, arith}
+use Rattle.std.proofs.Common.{◌≡◌, ℕ, true, false, cond, List, [], ◌∷◌, ◌++◌, Some, refl, sym, subst, ◌∙◌, arith}
 use Rattle.std.specs.List.{flat_map}
 use Rattle.std.specs.Map.{lookup}
 use Rattle.std.specs.BTreeMap.{is_at}
 use Rattle.std.proofs.lemmas.Bool.{or_right}
-use Rattle.tv_model.specs.declared.segment.DeleteMeta.{DeleteMeta}
 use Rattle.tv_model.specs.declared.segment.LiveSegment.{LiveSegment}
 use Rattle.tv_model.specs.declared.segment.SegmentComponent.{SegmentComponent}
-use Rattle.tv_model.specs.declared.segment.SegmentComponent.TheVariants.{Postings, Positions, FastFields, FieldNorms, Terms, Store, Delete}
 use Rattle.tv_model.specs.Names.{byte_cmp, is, has, meta_name}
-use Rattle.tv_model.specs.Segments.{components, name_of}
+use Rattle.tv_model.specs.Segments.{name_of}
 use Rattle.tv_model.specs.Living.{living, segment_names}
 use Rattle.tv_model.specs.State.{State, live_at}
 use Rattle.tv_model.proofs.CollectionStates.{has_append}
-use Rattle.tv_model.proofs.Entries.{is_itself, text_at}
-
--- a segment has the file of each component
-component_named : (id : List ℕ) (deletes : Option DeleteMeta) (component : SegmentComponent) → has (map (name_of id deletes) components) (name_of id deletes component) ≡ true
-component_named id deletes Postings = grind (arith, is_itself (name_of id deletes Postings))
-component_named id deletes Positions = grind (arith, is_itself (name_of id deletes Positions))
-component_named id deletes FastFields = grind (arith, is_itself (name_of id deletes FastFields))
-component_named id deletes FieldNorms = grind (arith, is_itself (name_of id deletes FieldNorms))
-component_named id deletes Terms = grind (arith, is_itself (name_of id deletes Terms))
-component_named id deletes Store = grind (arith, is_itself (name_of id deletes Store))
-component_named id deletes Delete = grind (arith, is_itself (name_of id deletes Delete))
+use Rattle.tv_model.proofs.Entries.{text_at}
+use Rattle.tv_model.proofs.HeldStates.{name_among}
 
 -- the names of a segment that is found are among those of all
 found_named : (es : List (List ℕ × LiveSegment)) (id n : List ℕ) (segment : LiveSegment) → lookup (is_at (byte_cmp id)) es ≡ Some segment → has (segment_names (id, segment)) n ≡ true → has (flat_map segment_names es) n ≡ true
@@ -46,4 +35,4 @@ pub living_name : (s : State) (id : List ℕ) (segment : LiveSegment) (component
 living_name s id segment component there =
     or_right (is meta_name (name_of id segment.deletes component)) _
     (behind s.catalog.commit.segments s.catalog.live (name_of id segment.deletes component)
-    (found_named s.catalog.live id (name_of id segment.deletes component) segment there (component_named id segment.deletes component)))
+    (found_named s.catalog.live id (name_of id segment.deletes component) segment there (name_among id segment.deletes component)))
