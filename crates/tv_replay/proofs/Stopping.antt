@@ -107,9 +107,9 @@ module _ {W : Type 0} (told : Told) (run : RunFrom) (first new : View W) (script
       }
 
 -- a count that rose by so much did so too where it went on since
-rose_since : (n : ℕ) {before now new : ℕ} → RoseBy n before now → now ≤ new → RoseBy n before new
-rose_since n (inl a) le = inl (omega arith)
-rose_since n (inr a) le = inr (omega arith)
+rose_since : (n before now new : ℕ) → RoseBy n before now → now ≤ new → RoseBy n before new
+rose_since n before now new (inl a) le = inl (omega arith)
+rose_since n before now new (inr a) le = inr (omega arith)
 
 -- memory was wanted, or something else was amiss
 memory_or : (error : TantivyError) → (error ≡ errors.Memory) ⊎ (error ≢ errors.Memory)
@@ -139,7 +139,7 @@ module _ {O W C : Type 0} (g : Ghosts O W C) (old now new : StoreState O) (scrip
         lines = λ whole given. (p.read whole given).begun;
         read = λ quiet whole given. let r = p.read whole given in (r.begun, ahead quiet r.begun.rest r.left_is);
         heard = λ th. record { so_far = (g.view now.outside).heard; moment = (g.view now.outside).moment; lines = p.applied.told t th s h w; sooner = goes_on.clock; silent = silent th };
-        deletes = rose_since (all_refused p.turns) p.applied.refused goes_on.refusals;
+        deletes = rose_since (all_refused p.turns) (g.view old.outside).refusals (g.view now.outside).refusals (g.view new.outside).refusals p.applied.refused goes_on.refusals;
         readable = p.applied.readable t s h w;
         unlocked = λ locks busy. p.applied.unlocked t locks busy s h w;
         text = held.meta.0;
