@@ -1,5 +1,5 @@
 -- Entries under texts, and texts, in the order of their bytes.
-use Rattle.std.proofs.Common.{◌≡◌, ℕ, Bool, true, false, cond, ◌||◌, List, [], ◌∷◌, Option, Some, None, refl, sym, ap, ◌∙◌, true≢false, arith}
+use Rattle.std.proofs.Common.{◌≡◌, ◌≢◌, ℕ, Bool, true, false, cond, ◌||◌, List, [], ◌∷◌, Option, Some, None, refl, sym, ap, ◌∙◌, true≢false, arith}
 use Rattle.std.specs.declared.cmp.Ordering.{Ordering}
 use Rattle.std.specs.declared.cmp.Ordering.TheVariants.{Less, Equal, Greater}
 use Rattle.std.specs.Ordering.{is_eq, match_ordering, ordering_reverse}
@@ -12,6 +12,7 @@ use Rattle.std.specs.Map.{lookup}
 use Rattle.std.specs.Set.{remove_key}
 use Rattle.std.specs.BTreeMap.{is_at, insert_entry}
 use Rattle.std.specs.BTreeSet.{insert_key}
+use Rattle.std.proofs.Math.Bool.{or-false}
 use Rattle.std.proofs.lemmas.Bool.{false_from_ne_true, or_parts, or_right}
 use Rattle.tv_model.specs.Names.{byte_cmp, is, has}
 
@@ -37,6 +38,14 @@ is_itself text = nat_list_eq_equiv.refl text
 -- texts that are the same by the test are one
 pub is_text : (xs ys : List ℕ) → is xs ys ≡ true → xs ≡ ys
 is_text xs ys e = same_text xs ys (sym e)
+
+-- texts that aren't the same by the test are two
+pub isnt_text : (name n : List ℕ) → is name n ≡ false → n ≢ name
+isnt_text name n other same = true≢false (sym (is_itself name) ∙ ap (is name) (sym same) ∙ other)
+
+-- a name that isn't this one is another
+pub isnt_one : (name n : List ℕ) → has (name ∷ []) n ≡ false → n ≢ name
+isnt_one name n other = isnt_text name n (sym (or-false (is name n)) ∙ other)
 
 -- a text isn't above itself
 apart : (x y : List ℕ) → byte_cmp x y ≡ Greater → x ≡ y → ⊥

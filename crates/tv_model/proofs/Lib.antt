@@ -15,6 +15,7 @@ pub mod Entries
 pub mod FirstLaws
 pub mod FooterTexts
 pub mod Framing
+pub mod JoinedTexts
 pub mod JsonStrings
 pub mod JsonWords
 pub mod JsonSplice
@@ -41,5 +42,6 @@ pub mod SoundOpenings
 pub mod SoundStates
 pub mod WholeStates
 pub mod Telling
+pub mod TextSets
 pub mod Validating
 pub mod DiskLaws

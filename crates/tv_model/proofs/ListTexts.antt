@@ -162,7 +162,7 @@ abbrev set_of : List (List ℕ) → BTreeSet (List ℕ)
 set_of names = record { keys = names }
 
 -- lists in order that have the same names are one
-same_names : (xs ys : List (List ℕ)) → IsStrictlySortedBy byte_cmp xs → IsStrictlySortedBy byte_cmp ys → ((n : List ℕ) → has xs n ≡ has ys n) → xs ≡ ys
+pub same_names : (xs ys : List (List ℕ)) → IsStrictlySortedBy byte_cmp xs → IsStrictlySortedBy byte_cmp ys → ((n : List ℕ) → has xs n ≡ has ys n) → xs ≡ ys
 same_names xs ys o p h =
     btree_set_from_contains nat_list_cmp_total (set_of xs) (set_of ys) o p (λ n. sym (has_by_order xs n) ∙ h n ∙ has_by_order ys n) exact_bytes
 

@@ -88,6 +88,10 @@ third_and_last a b c d e h = let t = both (a && b && c && d) e h in ((both (a &&
 pub plain_parts : (name : List ℕ) → is_plain name ≡ true → (list_all is_name_byte name ≡ true) × (not (is name (codes "failed")) ≡ true)
 plain_parts name h = third_and_last (nat_le 1 (length name)) (nat_le (length name) 255) (list_all is_name_byte name) (is_undotted name) (not (is name (codes "failed"))) h
 
+-- a plain name has no dot in front
+pub plain_is_undotted : (name : List ℕ) → is_plain name ≡ true → is_undotted name ≡ true
+plain_is_undotted name h = (both _ _ (both _ _ h).0).1
+
 -- a name of more than six bytes isn't `failed`
 long_isnt : (xs ys : List ℕ) → length ys < length xs → is xs ys ≡ false
 long_isnt [] ys h = absurd (omega arith)

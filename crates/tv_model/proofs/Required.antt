@@ -56,7 +56,7 @@ pub required_begins : (e : List ℕ × LiveSegment) (n : List ℕ) → has (requ
 required_begins e n h = names_begin e.0 e.1.deletes (required_components e.1) n h
 
 -- a name that begins with an id is that of a file of the machine
-pub after_id : (id rest : List ℕ) → IsId id → IsFileOf (encode_lower id ++ rest)
+after_id : (id rest : List ℕ) → IsId id → IsFileOf (encode_lower id ++ rest)
 after_id id rest h = (
   undotted id rest h.size,
   λ e.

@@ -53,7 +53,7 @@ first_sound = record {
 }
 
 -- what is asked of a file that is put over an old one
-put_some : {P : Type 0} (b : Bool) (file : FileState) (old : Option FileState) → (b ≡ true → P) → (is_some old ≡ true → P) → is_some (cond b (Some file) old) ≡ true → P
+pub put_some : {P : Type 0} (b : Bool) (file : FileState) (old : Option FileState) → (b ≡ true → P) → (is_some old ≡ true → P) → is_some (cond b (Some file) old) ≡ true → P
 put_some true file old here there h = here refl
 put_some false file old here there h = there h
 
@@ -137,7 +137,7 @@ moved_good s id segment (HasDocs count old there none) h n bytes required is =
     (λ own. h.live n bytes (required_found s.catalog.live id old n there own) is) (λ other. h.live n bytes other is)
 
 -- a segment without documents has no deletes
-undeleted : (deletes : Option DeleteMeta) (first : Bool) → (first || is_some deletes) ≡ false → num_deleted deletes ≡ 0
+pub undeleted : (deletes : Option DeleteMeta) (first : Bool) → (first || is_some deletes) ≡ false → num_deleted deletes ≡ 0
 undeleted None first e = refl
 undeleted (Some meta) true e = absurd (true≢false e)
 undeleted (Some meta) false e = absurd (true≢false e)
@@ -368,9 +368,9 @@ sealed_reads (Some (Sealed bytes)) read h e good = (bytes, h, good bytes refl)
 sealed_reads (Some (Open body)) read h e good = absurd cc
 sealed_reads (Some Left) read h e good = absurd cc
 
-sealed_is_there : (file : Option FileState) → is_sealed file ≡ true → is_some file ≡ true
-sealed_is_there None e = absurd cc
-sealed_is_there (Some file) e = refl
+pub sealed_is_some : (file : Option FileState) → is_sealed file ≡ true → is_some file ≡ true
+sealed_is_some None e = absurd cc
+sealed_is_some (Some file) e = refl
 
 -- an undotted name that reads is managed
 listed_of : (settings : Settings) (schema : List ℕ) (reads : Reads) (s : State) → DirectoryHolds settings schema reads s → IsSoundState s → (n : List ℕ) → is_undotted n ≡ true → IsSome (reads n) → has s.managed n ≡ true
@@ -396,7 +396,7 @@ holds_sound settings schema reads s d h = record {
         record {
           each = λ n is.
               let e : is_sealed (file_at s n) ≡ true = h.whole.each n is in
-              sealed_reads (file_at s n) (reads n) (d.files n (h.names n (sealed_is_there (file_at s n) e))) e (λ bytes. h.good n bytes is);
+              sealed_reads (file_at s n) (reads n) (d.files n (h.names n (sealed_is_some (file_at s n) e))) e (λ bytes. h.good n bytes is);
         },
       );
 }
