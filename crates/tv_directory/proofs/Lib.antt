@@ -5,7 +5,6 @@ pub mod CutTexts
 pub mod WatchLists
 pub mod PersistedFiles
 pub mod TouchedNames
-pub mod Views
 pub mod Recorded
 pub mod Benches
 pub mod Resting

@@ -10,7 +10,7 @@ use Rattle.std.specs.List.{Contains, flat_map}
 use Rattle.tv_model.specs.Disk.{Disk, DiskState, IsThere, Possible, possible_now, Within, SamePossible, MayAdd, IsSettled, Elapses}
 use Rattle.tv_model.specs.Names.{is}
 use Rattle.tv_model.proofs.DiskLaws.{same}
-use Rattle.tv_model.proofs.Entries.{is_itself, is_text}
+use Rattle.tv_model.proofs.Entries.{is_itself, is_text, isnt_text}
 use Rattle.tv_directory.specs.declared.bench_record.Call.{Call}
 use Rattle.tv_directory.specs.declared.bench_record.Call.TheVariants.{Replaced, Refused, Told, Synced}
 use Rattle.tv_directory.specs.declared.files.Content.{Content}
@@ -33,7 +33,7 @@ by_name : {P : Type 0} (name n : List ℕ) → (is name n ≡ true → name ≡ 
 by_name {P} name n same other =
     elim (is name n) as (λ b. is name n ≡ b → P) [
       | true ↦ λ e. same e (is_text name n e)
-      | false ↦ λ e. other e (λ eq. true≢false (sym (is_itself name) ∙ ap (λ (m : List ℕ). is name m) (sym eq) ∙ e))
+      | false ↦ λ e. other e (isnt_text name n e)
     ] refl
 
 -- how a name stood before some calls and one more

@@ -3,6 +3,7 @@ pub mod WatchList
 pub mod Locks
 pub mod Telling
 pub mod View
+pub mod ViewLaws
 pub mod Calls
 pub mod Device
 pub mod StoredFiles

@@ -13,8 +13,9 @@ use Rattle.tv_index.specs.Building.{Builder, LacksSchema}
 use Rattle.tv_index.specs.Folders.{IsUnmade, Makes, UnmadeCause}
 use Rattle.tv_index.specs.Indexes.{CreatesIndex, IndexState, NotCreated}
 use Rattle.tv_index.specs.NewForms.{form_with, new_text}
+use Rattle.tv_index.specs.SavingLaws.{notes_later}
 use Rattle.tv_index.specs.declared.index_settings.IndexSettings.{IndexSettings}
-use Rattle.tv_index.proofs.Openings.{notes_later, refusal_later, unless_later}
+use Rattle.tv_index.proofs.Openings.{refusal_later, unless_later}
 
 module _ {D W C : Type 0} (g : Ghosts D W C) (before mid : D) (asked : OnlyReads g.told (g.view before) (g.view mid)) (still : (g.view mid).faults ≡ (g.view before).faults) where
   creates_later : (settings : IndexSettings) (schema : List ℕ) (index : IndexState D) → CreatesIndex g mid settings schema index → CreatesIndex g before settings schema index

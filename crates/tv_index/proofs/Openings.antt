@@ -9,7 +9,8 @@ use Rattle.tv_base.specs.declared.error.TantivyError.TheVariants as errors
 use Rattle.tv_base.specs.declared.io.IoError.{IoError}
 use Rattle.tv_base.specs.declared.io.IoError.TheVariants as io
 use Rattle.tv_directory.specs.Calls.{Notes}
-use Rattle.tv_directory.specs.View.{View, Told, GoesOn, Frame, OnlyReads}
+use Rattle.tv_directory.specs.View.{View, Told, OnlyReads}
+use Rattle.tv_directory.specs.ViewLaws.{frame_then, reads_then}
 use Rattle.tv_directory.specs.Watch.{WatchState, MayNote}
 use Rattle.tv_directory.specs.declared.directory.Directory.{Ghosts}
 use Rattle.tv_managed.specs.Frames.{KeptButNotes}
@@ -27,7 +28,8 @@ use Rattle.tv_model.proofs.SpelledCommits.{spells_commit}
 use Rattle.tv_index.specs.Metas.{commit_of, settings_of}
 use Rattle.tv_index.specs.NewForms.{FindsOrMakes, IsFirst, LeavesUnmade, NotLoaded, NotOpenedForm, OpensForm, new_text}
 use Rattle.tv_index.specs.Opening.{FrameNotesRefused, HasCommit, IsRefusedBytes, ListsSome, LoadCause, Loads, NotOpened, OfBytes, OpenCause, OpensIndex, TellsMeta}
-use Rattle.tv_index.specs.Saving.{FrameNotes, FrameNotesUnless, IsUnrefused, LeavesText}
+use Rattle.tv_index.specs.Saving.{FrameNotesUnless, IsUnrefused, LeavesText}
+use Rattle.tv_index.specs.SavingLaws.{notes_later}
 use Rattle.tv_index.specs.declared.index_meta.UntrackedIndexMeta.{UntrackedIndexMeta}
 use Rattle.tv_index.proofs.Options.{no_some}
 
@@ -63,40 +65,6 @@ failed_as (Err e) given P h p = subst P (sym h) p
 -- ---- what calls keep, one after the other
 
 module _ {W : Type 0} {told : Told} {first now next : View W} where
-  goes_later : GoesOn told first now → GoesOn told now next → GoesOn told first next
-  goes_later before after = record {
-    writers = λ w o. after.writers w (before.writers w o);
-    ended = λ t w o l. after.ended t w (before.writers w o) (before.ended t w o l);
-    clock = omega (arith, before.clock, after.clock);
-    refusals = omega (arith, before.refusals, after.refusals);
-  }
-
-  frame_later : Frame told first now → Frame told now next → Frame told first next
-  frame_later before after = record {
-    tells_none = record {
-      deletes_none = record {
-        goes_on = goes_later before.tells_none.deletes_none.goes_on after.tells_none.deletes_none.goes_on;
-        refusals = after.tells_none.deletes_none.refusals ∙ before.tells_none.deletes_none.refusals;
-        alive = λ t w l. after.tells_none.deletes_none.alive t w (before.tells_none.deletes_none.alive t w l);
-      };
-      heard = after.tells_none.heard ∙ before.tells_none.heard;
-      room = omega (arith, before.tells_none.room, after.tells_none.room);
-    };
-    locks = λ t n. after.locks t n ∙ before.locks t n;
-  }
-
-  pub reads_later : OnlyReads told first now → OnlyReads told now next → OnlyReads told first next
-  reads_later before after = record {
-    kept = record { frame = frame_later before.kept.frame after.kept.frame; watched = after.kept.watched ∙ before.kept.watched };
-    content = λ t n. after.content t n ∙ before.content t n;
-  }
-
-  pub notes_later : OnlyReads told first now → FrameNotes told now next → FrameNotes told first next
-  notes_later before after = record {
-    frame = frame_later before.kept.frame after.frame;
-    watched = subst (λ (w : WatchState). MayNote meta_name w next.watched) before.kept.watched after.watched;
-  }
-
   pub unless_later : {before after : Type 0} → OnlyReads told first now → (before → after) → FrameNotesUnless told after now next → FrameNotesUnless told before first next
   unless_later read still h = record { notes = notes_later read h.notes; unless = λ b. h.unless (still b) ∙ read.kept.watched }
 
@@ -104,7 +72,7 @@ module _ {W : Type 0} {told : Told} {first now next : View W} where
   pub unless_before : {none : Type 0} → FrameNotesUnless told none first now → OnlyReads told now next → FrameNotesUnless told none first next
   unless_before h read = record {
     notes = record {
-      frame = frame_later h.notes.frame read.kept.frame;
+      frame = frame_then h.notes.frame read.kept.frame;
       watched = subst (λ (w : WatchState). MayNote meta_name first.watched w) (sym read.kept.watched) h.notes.watched;
     };
     unless = λ is. read.kept.watched ∙ h.unless is;
@@ -212,7 +180,7 @@ module _ {D W C : Type 0} (g : Ghosts D W C) (before mid : D) (synced : OnlyRead
     names = λ t. subst (λ (read : Option (List ℕ)). Lists read wrapped.1.managed) (synced.content t list_name) (w.names t);
     collections = w.collections;
     quiet = w.quiet ∙ still;
-    frame = reads_later synced w.frame;
+    frame = reads_then synced w.frame;
   }
 
   pub refusal_later : (now : D) (error : TantivyError) → ListRefusal g.told (g.view mid) (g.view now) error → ListRefusal g.told (g.view before) (g.view now) error
@@ -222,7 +190,7 @@ module _ {D W C : Type 0} (g : Ghosts D W C) (before mid : D) (synced : OnlyRead
   refusal_later now other k = absurd k
 
   pub not_wrapped_later : (now : D) (error : TantivyError) → NotWrapped g mid now error → NotWrapped g before now error
-  not_wrapped_later now error h = record { cause = refusal_later now error h.cause; frame = reads_later synced h.frame }
+  not_wrapped_later now error h = record { cause = refusal_later now error h.cause; frame = reads_then synced h.frame }
 
 module _ {D W C : Type 0} (g : Ghosts D W C) (before : D) (form : IndexForm) where
   not_wrapped : (now : D) (error : TantivyError) → NotWrapped g before now error → NotOpenedForm g before form now error

@@ -10,6 +10,7 @@ pub mod Parsing
 pub mod Choosing
 pub mod Opening
 pub mod Saving
+pub mod SavingLaws
 pub mod Tracked
 pub mod TrackedMetas
 pub mod NewForms

@@ -1,29 +1,18 @@
 -- What one call after the other keeps.
-use Rattle.std.proofs.Common.{◌≡◌, ◌≢◌, ℕ, List, true, false, true≢false, inl, inr, refl, sym, ap, subst, ◌∙◌, arith}
+use Rattle.std.proofs.Common.{◌≡◌, ◌≢◌, ℕ, List, true, false, inl, inr, refl, sym, ap, subst, ◌∙◌}
 use Rattle.tv_model.specs.Names.{is, meta_name}
 use Rattle.tv_model.specs.declared.event.Event.{Event}
 use Rattle.tv_model.specs.declared.event.Event.TheVariants as events
-use Rattle.tv_model.proofs.Entries.{is_itself, is_text}
+use Rattle.tv_model.proofs.Entries.{is_text, isnt_text}
 use Rattle.tv_directory.specs.Calls.{Frees}
 use Rattle.tv_directory.specs.Locks.{FreesLock, Locks, SameLocks, TakesLock}
-use Rattle.tv_directory.specs.View.{View, Told, GoesOn}
+use Rattle.tv_directory.specs.View.{View, Told}
+use Rattle.tv_directory.specs.ViewLaws.{goes_on_itself, goes_then}
 use Rattle.tv_directory.specs.Watch.{WatchState, MayNote, noted}
 use Rattle.tv_store.specs.Applying.{MayNoteAt}
 use Rattle.tv_store.specs.Stays.{MayNotify}
 use Rattle.tv_store.specs.StoreCauses.{writer_lock_name}
 use Rattle.tv_replay.specs.Replays.{ReplayFrame}
-
--- a view goes on from itself
-pub goes_on_itself : {W : Type 0} (told : Told) (view : View W) → GoesOn told view view
-goes_on_itself told view = record { writers = λ w o. o; ended = λ t w o l. l; clock = omega arith; refusals = omega arith }
-
-pub goes_then : {W : Type 0} {told : Told} {first next last : View W} → GoesOn told first next → GoesOn told next last → GoesOn told first last
-goes_then before after = record {
-  writers = λ w h. after.writers w (before.writers w h);
-  ended = λ tells w o h. after.ended tells w (before.writers w o) (before.ended tells w o h);
-  clock = omega (arith, before.clock, after.clock);
-  refusals = omega (arith, before.refusals, after.refusals);
-}
 
 noted_twice : (s : WatchState) → noted meta_name (noted meta_name s) ≡ noted meta_name s
 noted_twice s = refl
@@ -63,7 +52,7 @@ freed_again start taken back name took freed n =
           let same : name ≡ n = is_text name n e in
           ap back (sym same) ∙ freed.is_free ∙ sym took.was_free ∙ ap start same
       | false ↦ λ e.
-          let other : n ≢ name = λ k. true≢false (sym (is_itself name) ∙ ap (is name) (sym k) ∙ e) in
+          let other : n ≢ name = isnt_text name n e in
           freed.others n other ∙ took.others n other
     ] refl
 

@@ -19,6 +19,7 @@ use Rattle.tv_model.specs.SoundStates.{IsWhole}
 use Rattle.tv_model.proofs.WholeStates.{after_whole}
 use Rattle.tv_directory.specs.Locks.{Locks, TakesLock}
 use Rattle.tv_directory.specs.View.{View, Told, GoesOn}
+use Rattle.tv_directory.specs.ViewLaws.{goes_on_itself}
 use Rattle.tv_directory.specs.declared.directory.Directory.{Ghosts}
 use Rattle.tv_managed.specs.Collecting.{meta_lock_name}
 use Rattle.tv_store.specs.Kept.{StoreState, Holds}
@@ -40,7 +41,6 @@ use Rattle.tv_replay.specs.AppliedEvents.{StopsRun, EndCause, IsErrorOf}
 use Rattle.tv_replay.specs.Replays.{BeginsWith, RunFrom, StopsFor, HearsTurns, StopsAt, TakesNoLock, IsNext, IsRefusedNext, IsLockBusy, ReplayCause, line_refusal, long_refusal}
 use Rattle.tv_replay.proofs.Progress.{after-last, events-last, HasRead, begins_next}
 use Rattle.tv_replay.proofs.AppliedEvents.{Progress, read_fault, tells_first}
-use Rattle.tv_replay.proofs.ReplayFrames.{goes_on_itself}
 
 -- ---- what a run that stopped leaves
 

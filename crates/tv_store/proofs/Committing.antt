@@ -22,10 +22,10 @@ use Rattle.tv_store.specs.StoreCauses.{EventCause}
 use Rattle.tv_store.specs.Applying.{LeavesCommit, SavesUnlessRefused}
 use Rattle.tv_store.specs.Stays.{Asks, EventFaults}
 use Rattle.tv_store.specs.Committing.{CommitStep, Commits, IsPrinted, KeepsRest, Publishes, commit_line, commit_of, unsealed_line}
-use Rattle.tv_store.proofs.Asking.{notes_later}
 use Rattle.tv_store.proofs.Holding.{same_holds, dotted_others}
 use Rattle.tv_store.proofs.CommitEvents.{means_next, next_commit, published}
 use Rattle.tv_index.specs.Saving.{saved_text}
+use Rattle.tv_index.specs.SavingLaws.{notes_later}
 
 module _ {O W C : Type 0} (g : Ghosts O W C) (given : Type 0) (old new : StoreState O) where
   -- what was only asked for stays

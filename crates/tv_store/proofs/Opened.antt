@@ -9,6 +9,7 @@ use Rattle.tv_base.specs.declared.open_errors.OpenReadError.{OpenReadError}
 use Rattle.tv_base.specs.declared.open_errors.OpenReadError.TheVariants as read
 use Rattle.tv_directory.specs.Locks.{TakesLock, SameLocks}
 use Rattle.tv_directory.specs.View.{OnlyLocks}
+use Rattle.tv_directory.specs.ViewLaws.{deletes_then}
 use Rattle.tv_directory.specs.Watch.{WatchState, MayNote}
 use Rattle.tv_directory.specs.declared.directory.Directory.{Ghosts}
 use Rattle.tv_managed.specs.declared.managed_directory.Refused.{Refused}
@@ -30,7 +31,7 @@ use Rattle.tv_store.specs.ReadCauses.{ApplyCause, ReadFault}
 use Rattle.tv_store.specs.Stays.{KeepsFiles, MayNotify}
 use Rattle.tv_store.specs.StoreCauses.{MakesNoFile, writer_lock_name}
 use Rattle.tv_store.specs.Telling.{TellsLine, TellsFirstPart, TellsNoLine}
-use Rattle.tv_store.proofs.Asking.{deletes_later, kept_by_files}
+use Rattle.tv_store.proofs.Asking.{kept_by_files}
 use Rattle.tv_model.proofs.CollectionStates.{has_append}
 use Rattle.tv_model.proofs.Required.{required_is_file}
 use Rattle.tv_store.proofs.FoundStates.{can_read, commit_is, had_files, held_at, read_before, the_found}
@@ -108,7 +109,7 @@ module _ {O W C : Type 0} (g : Ghosts O W C) (outside : O) (schema : List ℕ) (
 
   pub notified : MayNotify g.told (g.view outside) (g.view locked.outside)
   notified = record {
-    deletes_none = deletes_later f.frame.notes.frame.tells_none.deletes_none lock_frame.tells_none.deletes_none;
+    deletes_none = deletes_then f.frame.notes.frame.tells_none.deletes_none lock_frame.tells_none.deletes_none;
     dotted = λ t n dot other. lock_frame.content t n ∙ dotted_others (g.view outside).reads (g.view files.outside).reads meta_name refl (f.leaves t).others n dot other;
     watched = subst (λ (w : WatchState). MayNote meta_name (g.view outside).watched w) (sym lock_frame.watched) f.frame.notes.watched;
   }
@@ -181,7 +182,7 @@ module _ {O W C : Type 0} (g : Ghosts O W C) (outside : O) (schema : List ℕ) (
 
     frame_begun : MayNotify g.told (g.view outside) (g.view begun.outside)
     frame_begun = record {
-      deletes_none = deletes_later notified.deletes_none b.frame.deletes_none;
+      deletes_none = deletes_then notified.deletes_none b.frame.deletes_none;
       dotted = λ t n dot other. b.frame.content t n ∙ notified.dotted t n dot other;
       watched = subst (λ (w : WatchState). MayNote meta_name (g.view outside).watched w) (sym b.frame.watched) notified.watched;
     }
@@ -226,7 +227,7 @@ module _ {O W C : Type 0} (g : Ghosts O W C) (outside : O) (schema : List ℕ) (
 
     frame_unbegun : MayNotify g.told (g.view outside) (g.view now)
     frame_unbegun = record {
-      deletes_none = deletes_later notified.deletes_none r.deletes_none;
+      deletes_none = deletes_then notified.deletes_none r.deletes_none;
       dotted = λ t n dot other. r.content t n ∙ notified.dotted t n dot other;
       watched = subst (λ (w : WatchState). MayNote meta_name (g.view outside).watched w) (sym r.watched) notified.watched;
     }

@@ -2,9 +2,9 @@ use Rattle.std.proofs.Common.{◌<◌, ◌∙◌, ◌++◌, ◌∷◌, [], ℕ, 
 use Rattle.std.proofs.lemmas.List.{take_more}
 use Rattle.tv_base.specs.Errors.{of_open_read}
 use Rattle.tv_managed.specs.Reading.{FooterFaults}
+use Rattle.tv_directory.specs.ViewLaws.{reads_then}
 use Rattle.tv_index.specs.Checksums.{AreDamaged}
 use Rattle.tv_index.proofs.Damages.{one_further, unread_cause, unread_faults}
-use Rattle.tv_index.proofs.Openings.{reads_later}
 use Rattle.tv_index.proofs.validating.damaged_among.Goals as goal
 
 pub returns-in_err-is_right-clause-faults : goal.returns-in_err-is_right-clause-faults
@@ -36,6 +36,6 @@ loop-name-preserved g c =
           (one_further (D.view c.args.directory.now.0).reads (take i names) (map string_bytes c.loop-name.damaged.keys) (map string_bytes c.put_damaged.new.damaged.keys) name c.in_ok-is_right.is_right
           c.in_ok-put_damaged.ensures
           (r.0, sym (so_far.frame.below.content t name) ∙ ap (D.view c.loop-name.directory.0).reads (sym c.as_str.ensures.text) ∙ r.1, r.2) (so_far.damaged t));
-      frame = record { names = asked.frame.names ∙ so_far.frame.names; below = reads_later so_far.frame.below asked.frame.below };
+      frame = record { names = asked.frame.names ∙ so_far.frame.names; below = reads_then so_far.frame.below asked.frame.below };
       quiet = asked.faults.quiet ∙ so_far.quiet;
     }

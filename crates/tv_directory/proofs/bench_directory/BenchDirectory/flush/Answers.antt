@@ -6,7 +6,7 @@ use Rattle.tv_directory.specs.Record.{RecordedRefused}
 use Rattle.tv_directory.specs.View.{tells_all}
 use Rattle.tv_directory.proofs.Recorded.{kept_by, made_there, may_add, replaced_by}
 use Rattle.tv_directory.proofs.Benches.{kept_in, longer_by}
-use Rattle.tv_directory.proofs.Views.{kept_itself}
+use Rattle.tv_directory.specs.ViewLaws.{kept_itself}
 use Rattle.tv_directory.proofs.bench_directory.BenchDirectory.flush.Goals as goal
 
 pub returns-in_err-record_refused_where-clause-images : goal.returns-in_err-record_refused_where-clause-images

@@ -1,6 +1,6 @@
 use Rattle.std.proofs.Common.{rules, ◌∙◌}
 use Rattle.tv_directory.specs.Persisting.{contents}
-use Rattle.tv_directory.proofs.Views.{kept_then}
+use Rattle.tv_directory.specs.ViewLaws.{kept_then}
 use Rattle.tv_directory.proofs.PersistedFiles.{first_of, rest_next, split_at, stops_at}
 use Rattle.tv_model.proofs.DiskLaws.{touches_then}
 use Rattle.tv_directory.proofs.TouchedNames.{touches_among}

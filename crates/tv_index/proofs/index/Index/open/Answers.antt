@@ -2,8 +2,8 @@ use Rattle.std.proofs.Common.{◌∙◌, None, refl, sym, ap, subst}
 use Rattle.tv_managed.specs.Names.{ManagedNames}
 use Rattle.tv_model.specs.Listing.{Lists}
 use Rattle.tv_model.specs.Names.{list_name}
+use Rattle.tv_directory.specs.ViewLaws.{reads_then}
 use Rattle.tv_index.proofs.Indexes.{loads_before}
-use Rattle.tv_index.proofs.Openings.{reads_later}
 use Rattle.tv_index.proofs.index.Index.open.Goals as goal
 
 pub returns-in-Ok-clause-opened : goal.returns-in-Ok-clause-opened
@@ -18,5 +18,5 @@ returns-in-Ok-clause-opened g c =
       lists = λ t. subst (λ (names : ManagedNames). Lists ((D.view c.args.directory).reads list_name) names.managed) (sym loaded.frame.names) (wraps.names t);
       collections = ap (λ (names : ManagedNames). names.collections) loaded.frame.names ∙ wraps.collections;
       quiet = loaded.faults.quiet ∙ wraps.quiet;
-      frame = reads_later wraps.frame loaded.frame.below;
+      frame = reads_then wraps.frame loaded.frame.below;
     })
