@@ -3,6 +3,7 @@ use Rattle.std.proofs.Common.{◌≡◌, ◌⊎◌, inl, inr, ℕ, suc, zero, �
 use Rattle.std.specs.Prelude.{IsErrAnd, OnOk}
 use Rattle.std.specs.BTreeSet.{insert_key}
 use Rattle.std.specs.List.{filter}
+use Rattle.std.proofs.lemmas.Bool.{or_parts}
 use Rattle.std.proofs.lemmas.List.Elements.{filter-append}
 use Rattle.std.specs.String.{string_cmp}
 use Rattle.tv_base.specs.Causes.{IsDevice}
@@ -20,12 +21,12 @@ use Rattle.tv_model.specs.Meaning.{Means}
 use Rattle.tv_model.specs.Names.{has, is, meta_name}
 use Rattle.tv_model.proofs.Entries.{has_put, is_text}
 use Rattle.tv_model.proofs.Required.{by_one}
+use Rattle.tv_model.proofs.TextSets.{texts_inserted}
 use Rattle.tv_index.specs.Checksums.{AreDamaged, TellsFile, UnreadCause, UnreadFaults, UnreadFile, ValidateCause, ValidateFaults, looked_at}
 use Rattle.tv_index.specs.Indexes.{MeansSuch}
 use Rattle.tv_index.specs.Metas.{commit_of, settings_of}
 use Rattle.tv_index.specs.Standing.{LoadsMeta}
 use Rattle.tv_index.specs.declared.index_meta.UntrackedIndexMeta.{UntrackedIndexMeta}
-use Rattle.tv_index.proofs.NameSets.{texts_inserted}
 
 -- ---- names
 
@@ -42,10 +43,6 @@ has_last (x ∷ names) name n = ap (λ (b : Bool). is x n || b) (has_last names 
 both : (a b : Bool) → (a && b) ≡ true → (a ≡ true) × (b ≡ true)
 both true b h = (refl, h)
 both false b h = absurd cc
-
-neither : (a b : Bool) → (a || b) ≡ false → (a ≡ false) × (b ≡ false)
-neither true b h = absurd cc
-neither false b h = (refl, h)
 
 wrong : (b : Bool) → not b ≡ true → b ≡ false
 wrong true h = absurd cc
@@ -77,7 +74,7 @@ one_further reads done damaged new name is_right put here h = record { named = n
 
   others : (n : List ℕ) → has (done ++ name ∷ []) n ≡ true → has new n ≡ false → TellsFile reads true n
   others n e none =
-      let two = neither (not is_right && is name n) (has damaged n) (sym (put n) ∙ none) in
+      let two = or_parts (not is_right && is name n) (has damaged n) (sym (put n) ∙ none) in
       by_one (has done n) (is name n) (sym (has_last done name n) ∙ e) (λ t. h.others n t two.1)
       (λ t. subst (TellsFile reads true) (is_text name n t) (subst (λ (b : Bool). TellsFile reads b name) (right is_right (is name n) two.0 t) here))
 

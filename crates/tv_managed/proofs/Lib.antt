@@ -1,4 +1,3 @@
-pub mod Texts
 pub mod SetsOfTexts
 pub mod ListTrees
 pub mod Removals

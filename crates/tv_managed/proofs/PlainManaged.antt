@@ -4,13 +4,10 @@ use Rattle.std.specs.List.{list_all}
 use Rattle.std.proofs.lemmas.Bool.{or_cases}
 use Rattle.tv_model.specs.Names.{has, is, is_plain, is_undotted}
 use Rattle.tv_model.proofs.Entries.{is_text}
-use Rattle.tv_model.proofs.PlainNames.{both}
-
-one_undotted : (name : List ℕ) → is_plain name ≡ true → is_undotted name ≡ true
-one_undotted name plain = (both _ _ (both _ _ plain).0).1
+use Rattle.tv_model.proofs.PlainNames.{both, plain_is_undotted}
 
 pub plain_undotted : (names : List (List ℕ)) (n : List ℕ) → list_all is_plain names ≡ true → has names n ≡ true → is_undotted n ≡ true
 plain_undotted [] n plain h = absurd (true≢false (sym h))
 plain_undotted (name ∷ names) n plain h =
     let t = both (is_plain name) (list_all is_plain names) plain in
-    ⊎_elim (λ it. subst (λ m. is_undotted m ≡ true) (is_text name n it) (one_undotted name t.0)) (λ more. plain_undotted names n t.1 more) (or_cases (is name n) (has names n) h)
+    ⊎_elim (λ it. subst (λ m. is_undotted m ≡ true) (is_text name n it) (plain_is_undotted name t.0)) (λ more. plain_undotted names n t.1 more) (or_cases (is name n) (has names n) h)

@@ -19,20 +19,11 @@ use Rattle.std.proofs.lemmas.Map.Keys.{Less-from_sorted}
 use Rattle.std.proofs.lemmas.Str.{IsUtf8-string_bytes}
 use Rattle.tv_model.specs.Names.{byte_cmp, has, is, is_plain}
 use Rattle.tv_model.specs.Listing.{IsListed, IsListOf, list_text}
-use Rattle.tv_model.proofs.Entries.{is_by_order, sorted_put}
+use Rattle.tv_model.proofs.Entries.{sorted_put}
 use Rattle.tv_model.proofs.ListTexts.{written_is_list}
 use Rattle.tv_model.proofs.PlainNames.{both}
+use Rattle.tv_model.proofs.TextSets.{bytes_had, texts_inserted}
 use Rattle.tv_managed.specs.Names.{AreManaged}
-
-placed : (r : Ordering) (k x : String Global) (xs : List (String Global)) (rest : List (String Global)) (rest' : List (List ℕ)) → map string_bytes rest ≡ rest'
-    → map string_bytes (match_ordering r (k ∷ x ∷ xs) (x ∷ xs) (x ∷ rest)) ≡ match_ordering r (string_bytes k ∷ string_bytes x ∷ map string_bytes xs) (string_bytes x ∷ map string_bytes xs) (string_bytes x ∷ rest')
-placed Less k x xs rest rest' e = refl
-placed Equal k x xs rest rest' e = refl
-placed Greater k x xs rest rest' e = ap (λ (t : List (List ℕ)). string_bytes x ∷ t) e
-
-pub bytes_inserted : (keys : List (String Global)) (k : String Global) → map string_bytes (insert_key string_cmp keys k) ≡ insert_key byte_cmp (map string_bytes keys) (string_bytes k)
-bytes_inserted [] k = refl
-bytes_inserted (x ∷ keys) k = placed (string_cmp k x) k x keys (insert_key string_cmp keys k) _ (bytes_inserted keys k)
 
 cut : (b : Bool) (x : String Global) (xs rest : List (String Global)) (rest' : List (List ℕ)) → map string_bytes rest ≡ rest'
     → map string_bytes (cond b xs (x ∷ rest)) ≡ cond b (map string_bytes xs) (string_bytes x ∷ rest')
@@ -42,10 +33,6 @@ cut false x xs rest rest' e = ap (λ (t : List (List ℕ)). string_bytes x ∷ t
 pub bytes_removed : (keys : List (String Global)) (name : List ℕ) → map string_bytes (remove_key (is_at (λ k. byte_cmp name (string_bytes k))) keys) ≡ remove_key (is_at (byte_cmp name)) (map string_bytes keys)
 bytes_removed [] name = refl
 bytes_removed (x ∷ keys) name = cut (is_eq (byte_cmp name (string_bytes x))) x keys (remove_key (is_at (λ k. byte_cmp name (string_bytes k))) keys) _ (bytes_removed keys name)
-
-pub bytes_had : (keys : List (String Global)) (name : List ℕ) → list_any (is_at (λ k. byte_cmp name (string_bytes k))) keys ≡ has (map string_bytes keys) name
-bytes_had [] name = refl
-bytes_had (x ∷ keys) name = rw (is_by_order name (string_bytes x), bytes_had keys name) refl
 
 placed_all : (test : List ℕ → Bool) (r : Ordering) (k x : List ℕ) (xs rest : List (List ℕ)) → test k ≡ true → list_all test (x ∷ xs) ≡ true → list_all test rest ≡ true
     → list_all test (match_ordering r (k ∷ x ∷ xs) (x ∷ xs) (x ∷ rest)) ≡ true
@@ -61,10 +48,6 @@ all_inserted test (x ∷ names) name here h = placed_all test (byte_cmp name x) 
 pub are_listed : (keys : List (String Global)) → list_all is_plain (map string_bytes keys) ≡ true → AllByRecursion IsListed (map string_bytes keys)
 are_listed [] h = tt
 are_listed (k ∷ keys) h = let t = both (is_plain (string_bytes k)) (list_all is_plain (map string_bytes keys)) h in ((t.0, IsUtf8-string_bytes k), are_listed keys t.1)
-
--- the set after a text was put
-pub texts_inserted : (keys new : List (String Global)) (copy : String Global) (name : List ℕ) → new ≡ insert_key string_cmp keys copy → string_bytes copy ≡ name → map string_bytes new ≡ insert_key byte_cmp (map string_bytes keys) name
-texts_inserted keys new copy name put is = rw (put, ← is) (bytes_inserted keys copy)
 
 pub managed_inserted : (keys new : List (String Global)) (copy : String Global) (name : List ℕ) → new ≡ insert_key string_cmp keys copy → string_bytes copy ≡ name → is_plain name ≡ true → AreManaged (map string_bytes keys) → AreManaged (map string_bytes new)
 managed_inserted keys new copy name put is plain h =

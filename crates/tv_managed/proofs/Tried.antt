@@ -7,7 +7,7 @@ use Rattle.std.proofs.lemmas.Bool.{false_from_ne_true}
 use Rattle.std.proofs.lemmas.List.{nil_from_length}
 use Rattle.tv_model.specs.Names.{is, has, is_plain, list_name}
 use Rattle.tv_model.specs.Files.{KeepsOthers}
-use Rattle.tv_model.proofs.Entries.{is_itself, is_text}
+use Rattle.tv_model.proofs.Entries.{is_text, isnt_one}
 use Rattle.tv_model.proofs.CollectionStates.{has_append}
 use Rattle.tv_directory.specs.View.{Kept, MayDelete, OnlyReads}
 use Rattle.tv_directory.specs.declared.directory.Directory.{Ghosts}
@@ -43,9 +43,6 @@ tried_quiet g old new k = tried_none g old new k.below.kept (λ tell n other. k.
 only : (name n : List ℕ) → has (name ∷ []) n ≡ true → name ≡ n
 only name n h = is_text name n (sym (or-false (is name n)) ∙ h)
 
-another : (name n : List ℕ) → has (name ∷ []) n ≡ false → n ≢ name
-another name n h same = true≢false (sym (is_itself name) ∙ ap (is name) (sym same) ∙ sym (or-false (is name n)) ∙ h)
-
 isnt_list : (name : List ℕ) → is_plain name ≡ true → has (name ∷ []) list_name ≡ false
 isnt_list name plain = false_from_ne_true _ (λ h. true≢false (sym plain ∙ ap is_plain (only name list_name h)))
 
@@ -59,8 +56,8 @@ tried_name g true name old new plain e frame = record {
   failed_is = refl;
   hasnt_list = isnt_list name plain;
   gone = λ tell n h. subst (λ m. (g.view new.0).reads m ≡ None) (only name n h) (e.gone tell refl);
-  others = λ tell n h isnt. e.others tell n (another name n h);
-  alive = λ tell w h. e.alive tell w (another name (g.state_of w).name h);
+  others = λ tell n h isnt. e.others tell n (isnt_one name n h);
+  alive = λ tell w h. e.alive tell w (isnt_one name (g.state_of w).name h);
   ended = λ tell w o h some.
       let it = only name (g.state_of w).name h in
       e.ended tell refl (subst (λ m. IsSome ((g.view old.0).reads m)) (sym it) some) w (sym it);

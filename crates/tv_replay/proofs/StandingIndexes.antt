@@ -1,5 +1,5 @@
 -- What stands in a directory, next to the state that it holds.
-use Rattle.std.proofs.Common.{◌≡◌, ◌≢◌, ℕ, zero, suc, ◌<◌, Bool, true, false, true≢false, cond, not, ◌&&◌, ◌||◌, nat_le, List, [], ◌∷◌, filter, get_or, length, map, Option, Some, None, codes, refl, sym, ap, subst, ◌∙◌, arith}
+use Rattle.std.proofs.Common.{◌≡◌, ◌≢◌, ℕ, zero, suc, ◌<◌, Bool, true, false, cond, ◌||◌, List, [], ◌∷◌, filter, get_or, length, map, Option, Some, None, refl, sym, ap, subst, ◌∙◌, arith}
 use Rattle.std.specs.Prelude.{is_some}
 use Rattle.std.specs.List.{list_all}
 use Rattle.std.proofs.lemmas.Bool.{and_parts}
@@ -8,19 +8,13 @@ use Rattle.tv_model.specs.Files.{Reads, Same}
 use Rattle.tv_model.specs.Index.{DirectoryHolds, FileReads}
 use Rattle.tv_model.specs.Listing.{Lists}
 use Rattle.tv_model.specs.Meaning.{Means}
-use Rattle.tv_model.specs.Names.{is, is_file_name, is_name_byte, is_plain, is_undotted, list_name, meta_name}
+use Rattle.tv_model.specs.Names.{is, is_file_name, is_plain, list_name, meta_name}
 use Rattle.tv_model.specs.State.{State, FileState, Sealed, Open, Left, file_at}
-use Rattle.tv_model.proofs.Entries.{is_text, is_itself}
+use Rattle.tv_model.proofs.Entries.{is_text, isnt_text}
 use Rattle.tv_model.proofs.ListTexts.{lists_one}
 use Rattle.tv_model.proofs.OneMeaning.{one_meaning}
-use Rattle.tv_model.proofs.PlainNames.{plain_is_file_name}
+use Rattle.tv_model.proofs.PlainNames.{plain_is_file_name, plain_is_undotted}
 use Rattle.tv_replay.specs.Summaries.{has_file, IsStanding}
-
-fourth : (a b c d e : Bool) → (a && b && c && d && e) ≡ true → d ≡ true
-fourth a b c d e h = (and_parts (a && b && c) d (and_parts (a && b && c && d) e h).0).1
-
-undotted : (name : List ℕ) → is_plain name ≡ true → is_undotted name ≡ true
-undotted name plain = fourth (nat_le 1 (length name)) (nat_le (length name) 255) (list_all is_name_byte name) (is_undotted name) (not (is name (codes "failed"))) plain
 
 there : (file : Option FileState) (read : Option (List ℕ)) → FileReads file read → is_some read ≡ is_some file
 there None read h = ap is_some h
@@ -34,8 +28,8 @@ reads_file settings schema reads s name holds plain =
     elim (is name meta_name) as (λ b. is name meta_name ≡ b → is_some (reads name) ≡ (b || is_some (file_at s name))) [
       | true ↦ λ same. ap (λ (n : List ℕ). is_some (reads n)) (is_text name meta_name same) ∙ ap is_some holds.meta.1
       | false ↦ λ other.
-          let apart : name ≢ meta_name = λ same. true≢false (sym (ap (λ (n : List ℕ). is n meta_name) same ∙ is_itself meta_name) ∙ other) in
-          there (file_at s name) (reads name) (holds.files name (undotted name plain, apart))
+          let apart : name ≢ meta_name = λ same. isnt_text name meta_name other (sym same) in
+          there (file_at s name) (reads name) (holds.files name (plain_is_undotted name plain, apart))
     ] refl
 
 same_filter : (p q : List ℕ → Bool) (names : List (List ℕ)) → ((name : List ℕ) → is_plain name ≡ true → p name ≡ q name) → list_all is_plain names ≡ true → filter p names ≡ filter q names

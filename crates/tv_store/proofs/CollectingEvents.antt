@@ -13,6 +13,7 @@ use Rattle.tv_model.specs.Collections.{Collection, Collections, begun, collectab
 use Rattle.tv_model.specs.CollectionEvents.{ended, garbage, gc_begin_step, gc_step_step, having_deleted}
 use Rattle.tv_model.specs.State.{Catalog, State, StepResult, FileState, at}
 use Rattle.tv_model.proofs.CollectionStates.{has_without}
+use Rattle.tv_model.proofs.ListTexts.{same_names}
 use Rattle.tv_model.proofs.Numbered.{put_found}
 use Rattle.tv_directory.specs.declared.directory.Directory.{Ghosts}
 use Rattle.tv_store.specs.Acting.{StepsDeleting}
@@ -22,7 +23,6 @@ use Rattle.tv_store.specs.Stays.{AsksOrFails}
 use Rattle.tv_store.proofs.CollectionEvents.{gone_holds, takes_garbage}
 use Rattle.tv_store.proofs.CommitEvents.{listed_sorted}
 use Rattle.tv_store.proofs.Holding.{same_holds}
-use Rattle.tv_store.proofs.SortedNames.{same_sorted}
 
 -- nothing is gone
 all_stay : {X : Type 0} (entries : List (List ℕ × X)) → filter (λ e. not (has [] e.0)) entries ≡ entries
@@ -66,7 +66,7 @@ module _ {O W C : Type 0} (g : Ghosts O W C) (catalog : Catalog) (old new : File
         let at_number : collection_at new.collections number ≡ Some (begun (garbage s)) =
         ap (λ (c : Collections). collection_at c number) begun_are ∙ ap (collection_at (with_begun s.collections (garbage s))) number_is ∙ put_found s.collections.unfinished s.collections.next (begun (garbage s)) in
         let names_are = took (begun (garbage s)) at_number in
-        same_sorted names (garbage s) names_are.0 garbage_sorted names_are.1
+        same_names names (garbage s) names_are.0 garbage_sorted names_are.1
 
     pub begun_holds : Same (g.view old.outside).reads (g.view new.outside).reads → new ≡ record old { outside = new.outside; collections = new.collections }
         → Holds (g.view new.outside).reads (kept_of catalog new) (gc_begin_step s).1

@@ -14,7 +14,7 @@ use Rattle.tv_model.specs.Names.{has, is, is_plain, is_undotted, list_name, meta
 use Rattle.tv_model.specs.State.{at}
 use Rattle.tv_model.specs.declared.event.Event.TheVariants as events
 use Rattle.tv_model.proofs.CollectionStates.{done_within, has_append}
-use Rattle.tv_model.proofs.Entries.{is_itself, is_text}
+use Rattle.tv_model.proofs.Entries.{is_text, isnt_one}
 use Rattle.tv_model.proofs.Collects.{failed_within}
 use Rattle.tv_directory.specs.declared.directory.Directory.{Ghosts}
 use Rattle.tv_managed.specs.Collecting.{EndsCollection as EndsManaged}
@@ -151,13 +151,6 @@ tried_next g number step given named old new first same is telling some steps =
 has_one : (x n : List ℕ) → has (x ∷ []) n ≡ is x n
 has_one x n = elim (is x n) as (λ b. (b || false) ≡ b) [ true ↦ refl | false ↦ refl ]
 
--- a name that isn't gone is another one
-isnt_gone : (name n : List ℕ) → has (name ∷ []) n ≡ false → n ≢ name
-isnt_gone name n h e = true≢false (sym (ap (has (name ∷ [])) e ∙ itself name) ∙ h)
-  where
-    itself : (x : List ℕ) → has (x ∷ []) x ≡ true
-    itself x = rw (is_itself x) refl
-
 module _ {D W C : Type 0} (g : Ghosts D W C) (number : ℕ) (name : List ℕ) (is_done : Bool) (old new : D × ManagedNames) (next : Next g number name is_done old new) where
   -- `meta.json` is held no more than it was
   pub next_spares : has (held old.1.collections) meta_name ≡ false → has (held new.1.collections) meta_name ≡ false
@@ -202,14 +195,14 @@ module _ {D W C : Type 0} (g : Ghosts D W C) (number : ℕ) (name : List ℕ) (i
   next_gone tells n h = gone is_done refl tells n h
 
   others : (b : Bool) → is_done ≡ b → g.told.content → (n : List ℕ) → has (gone_of name b) n ≡ false → (g.view new.0).reads n ≡ (g.view old.0).reads n
-  others true is tells n h = next.tried.others tells n (isnt_gone name n h)
+  others true is tells n h = next.tried.others tells n (isnt_one name n h)
   others false is tells n h = next.tried.same tells is n
 
   pub next_others : g.told.content → (n : List ℕ) → has (gone_of name is_done) n ≡ false → (g.view new.0).reads n ≡ (g.view old.0).reads n
   next_others tells n h = others is_done refl tells n h
 
   spared_writers : (b : Bool) → is_done ≡ b → g.told.content → SparesWriters (gone_of name b) g.state_of (g.view old.0).lives (g.view new.0).lives
-  spared_writers true is tells w other lives = next.tried.alive tells w (isnt_gone name (g.state_of w).name other) lives
+  spared_writers true is tells w other lives = next.tried.alive tells w (isnt_one name (g.state_of w).name other) lives
   spared_writers false is tells w other lives = next.tried.kept tells is w lives
 
   -- a writer lives on unless its file is gone

@@ -22,6 +22,7 @@ use Rattle.tv_model.specs.Living.{living}
 use Rattle.tv_model.specs.SoundStates.{IsWhole}
 use Rattle.tv_model.specs.Index.{IsFileOf}
 use Rattle.tv_model.proofs.Entries.{at_itself, text_at, lookup_put, has_kept}
+use Rattle.tv_model.proofs.SoundStates.{put_some}
 use Rattle.tv_directory.specs.View.{Kept as KeptView, OnlyReads}
 use Rattle.tv_directory.specs.declared.directory.Directory.{Ghosts}
 use Rattle.tv_model.specs.Meaning.{Means}
@@ -95,10 +96,6 @@ chosen : (b : Bool) (file : FileState) (old : Option FileState) (read written : 
 chosen true file old read written here there = here refl
 chosen false file old read written here there = there refl
 
-named : {P : Type 0} (b : Bool) (file : FileState) (old : Option FileState) → (b ≡ true → P) → (is_some old ≡ true → P) → is_some (cond b (Some file) old) ≡ true → P
-named true file old here there h = here refl
-named false file old here there h = there h
-
 -- a file that is put is not left, and neither was the one in its place
 left_put : (b left : Bool) (file : FileState) (old : Option FileState) → (b ≡ true → left ≡ false) → is_left (Some file) ≡ false → left ≡ is_left old → left ≡ is_left (cond b (Some file) old)
 left_put true left file old here now was = here refl ∙ sym now
@@ -116,7 +113,7 @@ changed c reads reads2 old new s name file managed fits others names listing lis
   collections = still ∙ h.collections;
   segments = h.segments;
   names = λ n is.
-      named {P = IsFileOf n} (is_at (byte_cmp name) n) file (file_at s n) (λ e. subst IsFileOf (text_at name n e) fits) (h.names n)
+      put_some {P = IsFileOf n} (is_at (byte_cmp name) n) file (file_at s n) (λ e. subst IsFileOf (text_at name n e) fits) (h.names n)
       (subst (λ (o : Option FileState). is_some o ≡ true) (lookup_put s.files name n file) is);
   files = λ n it.
       subst (λ (o : Option FileState). FileHolds o (reads2 n) (at new.open_files n)) (sym (lookup_put s.files name n file))

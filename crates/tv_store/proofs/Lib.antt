@@ -3,7 +3,6 @@ pub mod OpenFiles
 pub mod Removals
 pub mod Holding
 pub mod LivingNames
-pub mod SortedNames
 pub mod Held
 pub mod FileNames
 pub mod Named

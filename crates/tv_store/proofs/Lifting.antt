@@ -1,13 +1,10 @@
 -- The events that touch no file, as steps of the machine.
-use Rattle.std.proofs.Common.{ℕ, ◌≡◌, ◌+◌, ◌<◌, ◌^◌, Bool, true, false, true≢false, not, ◌==◌, ◌||◌, List, Option, Some, None, refl, sym, subst, arith}
-use Rattle.std.specs.Prelude.{is_some}
+use Rattle.std.proofs.Common.{ℕ, ◌≡◌, ◌+◌, ◌<◌, ◌^◌, false, not, ◌==◌, List, Some, refl, sym, subst, arith}
 use Rattle.std.specs.List.{AllByRecursion}
 use Rattle.tv_model.specs.Collections.{Collections}
 use Rattle.tv_model.specs.declared.event.Event.{Event}
 use Rattle.tv_model.specs.declared.event.Event.TheVariants as events
-use Rattle.tv_model.specs.declared.segment.DeleteMeta.{DeleteMeta}
 use Rattle.tv_model.specs.declared.segment.LiveSegment.{LiveSegment}
-use Rattle.tv_model.specs.Segments.{num_deleted}
 use Rattle.tv_model.specs.Commits.{Commit, IsSegment}
 use Rattle.tv_model.specs.Meaning.{Means}
 use Rattle.tv_model.specs.Files.{Reads}
@@ -17,6 +14,7 @@ use Rattle.tv_model.specs.SearcherEvents.{with_searcher}
 use Rattle.tv_model.specs.SegmentEvents.{fresh_segment, has_docs}
 use Rattle.tv_model.specs.State.{Catalog, State, StepResult, on_catalog}
 use Rattle.tv_model.proofs.Changes.{catalog_changes}
+use Rattle.tv_model.proofs.SoundStates.{undeleted}
 use Rattle.tv_store.specs.Applying.{written_by}
 use Rattle.tv_store.specs.Catalogs.{FitsCatalog}
 use Rattle.tv_store.specs.Kept.{Kept, Holds}
@@ -38,12 +36,6 @@ commit_stays c managed event result =
       reader = λ number. refl;
       searcher = λ number. refl;
     })
-
--- a segment without documents has no deletes
-undeleted : (deletes : Option DeleteMeta) (first : Bool) → (first || is_some deletes) ≡ false → num_deleted deletes ≡ 0
-undeleted None first e = refl
-undeleted (Some meta) true e = absurd (true≢false e)
-undeleted (Some meta) false e = absurd (true≢false e)
 
 -- live segments are segments still
 segments_stay : (c : Catalog) (managed : List (List ℕ)) (event : Event) (result : StepResult Catalog) → FitsCatalog event → AllByRecursion IsSegment c.live → catalog_step c managed event ≡ Some result → AllByRecursion IsSegment result.1.live

@@ -1,21 +1,21 @@
 -- The entries of open files, and what of them stays true.
-use Rattle.std.proofs.Common.{◌≡◌, ◌⊎◌, inl, inr, ℕ, Bool, true, false, true≢false, cond, ◌&&◌, nat_le, List, [], ◌∷◌, map, Option, Some, None, option_map, is_some, length, ◌++◌, ◌+◌, ◌<◌, length-append, refl, sym, ap, subst, ◌∙◌, Ok, Err}
+use Rattle.std.proofs.Common.{◌≡◌, ◌⊎◌, inl, inr, ℕ, Bool, true, false, true≢false, cond, List, [], ◌∷◌, map, Option, Some, None, option_map, is_some, length, ◌++◌, ◌+◌, ◌<◌, length-append, refl, sym, ap, subst, ◌∙◌, Ok, Err}
 use Rattle.std.specs.Prelude.{IsSome, OnErr, Result}
 use Rattle.std.specs.Ordering.{is_eq, match_ordering}
 use Rattle.std.specs.declared.cmp.Ordering.{Ordering}
 use Rattle.std.specs.declared.cmp.Ordering.TheVariants.{Less, Equal, Greater}
-use Rattle.std.specs.List.{AllByRecursion, list_all}
+use Rattle.std.specs.List.{AllByRecursion}
 use Rattle.std.specs.Map.{remove_entry}
 use Rattle.std.specs.BTreeMap.{is_at, insert_entry}
 use Rattle.std.specs.BTreeSet.{insert_key}
-use Rattle.tv_model.specs.Names.{byte_cmp, has, is_name_byte, is_undotted, is_plain, meta_name}
+use Rattle.tv_model.specs.Names.{byte_cmp, has, is_plain, meta_name}
 use Rattle.tv_model.specs.State.{at}
 use Rattle.tv_model.specs.Collections.{Collections, held}
 use Rattle.tv_model.specs.Files.{Reads, KeepsOthers, Sets}
 use Rattle.tv_model.specs.Footer.{sealed}
 use Rattle.tv_model.proofs.Changes.{none_is}
 use Rattle.tv_model.proofs.Entries.{text_at}
-use Rattle.tv_model.proofs.PlainNames.{both}
+use Rattle.tv_model.proofs.PlainNames.{plain_is_undotted}
 use Rattle.tv_directory.specs.View.{DeletesNone, WriterState}
 use Rattle.tv_directory.specs.declared.directory.Directory.{Ghosts}
 use Rattle.tv_managed.specs.Managed.{ManagesFile, registered, registering}
@@ -232,17 +232,10 @@ pub on_err : {A E : Type 0} (r : Result A E) (P : Type 0) → P → OnErr r P
 on_err (Ok x) P h = tt
 on_err (Err e) P h = h
 
-fourth : (a b c d e : Bool) → (a && b && c && d && e) ≡ true → d ≡ true
-fourth a b c d e h = (both (a && b && c) d (both (a && b && c && d) e h).0).1
-
--- a plain name has no dot in front
-pub plain_undotted : (name : List ℕ) → is_plain name ≡ true → is_undotted name ≡ true
-plain_undotted name plain = fourth (nat_le 1 (length name)) (nat_le (length name) 255) (list_all is_name_byte name) (is_undotted name) _ plain
-
 -- a plain name is on the list
 pub plain_registered : (names names' after : List (List ℕ)) (asked name : List ℕ) → after ≡ registered names asked → names ≡ names' → asked ≡ name → is_plain name ≡ true → after ≡ insert_key byte_cmp names' name
 plain_registered names names' after asked name is same text plain =
-    is ∙ ap (λ (ns : List (List ℕ)). registered ns asked) same ∙ ap (λ (n : List ℕ). registered names' n) text ∙ ap (λ (b : Bool). cond b (insert_key byte_cmp names' name) names') (plain_undotted name plain)
+    is ∙ ap (λ (ns : List (List ℕ)). registered ns asked) same ∙ ap (λ (n : List ℕ). registered names' n) text ∙ ap (λ (b : Bool). cond b (insert_key byte_cmp names' name) names') (plain_is_undotted name plain)
 
 -- the files after a call changed only the writer's
 pub others_kept : {S : Type 0} (reads : S → Reads) (inside old new : S) (written_to name : List ℕ) → inside ≡ old → written_to ≡ name → KeepsOthers (reads inside) (reads new) written_to → KeepsOthers (reads old) (reads new) name

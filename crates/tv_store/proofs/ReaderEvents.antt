@@ -1,5 +1,5 @@
 -- The events of readers: which files are read, why a read fails, and what is held afterwards.
-use Rattle.std.proofs.Common.{◌≡◌, ◌≢◌, inl, inr, ℕ, zero, suc, ◌+◌, ◌<◌, Bool, true, false, true≢false, List, [], ◌∷◌, ◌++◌, map, length, take, drop, get_or, string_bytes, Option, Some, None, is_some, refl, sym, ap, subst, ◌∙◌, arith, append_assoc}
+use Rattle.std.proofs.Common.{◌≡◌, ◌≢◌, inl, inr, ℕ, zero, suc, ◌+◌, ◌<◌, Bool, true, false, true≢false, List, [], ◌∷◌, ◌++◌, map, length, take, drop, get_or, string_bytes, Option, Some, None, refl, sym, ap, subst, ◌∙◌, arith, append_assoc}
 use Rattle.std.proofs.Math.Logic.{⊎_map}
 use Rattle.std.specs.Prelude.{IsSome, option_map, String, Result, Ok, Err, IfErr}
 use Rattle.std.specs.Global.{Global}
@@ -25,6 +25,7 @@ use Rattle.tv_model.proofs.Entries.{is_itself, is_text}
 use Rattle.tv_model.proofs.Bodies.{body_of_good}
 use Rattle.tv_model.proofs.CollectionStates.{has_append}
 use Rattle.tv_model.proofs.Required.{by_one}
+use Rattle.tv_model.proofs.SoundStates.{sealed_is_some}
 use Rattle.tv_base.specs.Errors.{of_open_read}
 use Rattle.tv_base.specs.declared.io.IoFault.{IoFault}
 use Rattle.tv_base.specs.declared.io.IoKind.{IoKind}
@@ -176,10 +177,6 @@ all_pushed P names name h p n among =
     (λ one. by_one {P = P n} (is name n) false one (λ same. subst P (is_text name n same) p) (λ never. absurd (true≢false (sym never))))
 
 -- ---- sealed files
-
-sealed_is_some : (file : Option FileState) → is_sealed file ≡ true → is_some file ≡ true
-sealed_is_some None h = absurd (true≢false (sym h))
-sealed_is_some (Some file) h = refl
 
 -- the bytes of a sealed file are those that its name reads
 sealed_bytes : (file : Option FileState) (bytes : List ℕ) (written : Option (List ℕ)) → is_sealed file ≡ true → FileHolds file (Some bytes) written → file ≡ Some (Sealed bytes)

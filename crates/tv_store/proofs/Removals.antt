@@ -13,7 +13,7 @@ use Rattle.tv_model.specs.Names.{byte_cmp, is, has, is_plain, is_undotted, list_
 use Rattle.tv_model.specs.Collections.{Collections, done_of, failed_of, held}
 use Rattle.tv_model.specs.State.{at}
 use Rattle.tv_model.proofs.Entries.{same_at, text_at, at_itself, is_text, is_by_order, has_put}
-use Rattle.tv_model.proofs.PlainNames.{both}
+use Rattle.tv_model.proofs.PlainNames.{both, plain_is_undotted}
 use Rattle.tv_model.proofs.CollectionStates.{has_append, has_without}
 use Rattle.tv_directory.specs.View.{GoesOn}
 use Rattle.tv_directory.specs.declared.directory.Directory.{Ghosts}
@@ -26,7 +26,7 @@ use Rattle.tv_store.specs.Kept.{FilesState}
 use Rattle.tv_store.specs.FileCalls.{Tried}
 use Rattle.tv_store.specs.declared.files.OpenFile.{OpenFile}
 use Rattle.tv_store.specs.OpenFiles.{IsOpenFile}
-use Rattle.tv_store.proofs.OpenFiles.{all_left, AreOpen, bodies, at_seen, plain_undotted}
+use Rattle.tv_store.proofs.OpenFiles.{all_left, AreOpen, bodies, at_seen}
 use Rattle.tv_store.proofs.CommitEvents.{all_at}
 
 -- ---- entries
@@ -271,7 +271,7 @@ isnt_plain x n plain dot =
     elim (is x n) as (λ b. is x n ≡ b → b ≡ false) [
       | true ↦ λ e.
           let same : x ≡ n = is_text x n e in
-          absurd (true≢false (sym (plain_undotted x plain) ∙ ap is_undotted same ∙ dot))
+          absurd (true≢false (sym (plain_is_undotted x plain) ∙ ap is_undotted same ∙ dot))
       | false ↦ λ e. refl
     ] refl
 

@@ -2,9 +2,10 @@ use Rattle.std.proofs.Common.{◌≡◌, ◌+◌, ◌∷◌, [], ◌++◌, List,
 use Rattle.std.specs.List.{join_with_byte}
 use Rattle.std.proofs.lemmas.List.{take_all, take_more}
 use Rattle.tv_model.specs.Commits.{segment_text}
+use Rattle.tv_model.proofs.JoinedTexts.{is_nil, is_nil_append}
 use Rattle.tv_index.specs.declared.segment_meta.InnerSegmentMeta.{InnerSegmentMeta}
 use Rattle.tv_index.specs.Segments.{entry_of}
-use Rattle.tv_index.proofs.JoinedTexts.{is_nil, is_nil_append, join_added, map_map}
+use Rattle.tv_index.proofs.JoinedTexts.{join_added, map_map}
 use Rattle.tv_index.proofs.printing.put_joined.Goals as goal
 
 abbrev text_of : InnerSegmentMeta → List ℕ

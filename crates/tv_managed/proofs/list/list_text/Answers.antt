@@ -3,7 +3,7 @@ use Rattle.std.specs.List.{join_with_byte}
 use Rattle.std.proofs.lemmas.Map.Iter.{iter_end}
 use Rattle.std.proofs.lemmas.Simd.{map-map}
 use Rattle.tv_model.specs.Listing.{quoted}
-use Rattle.tv_managed.proofs.Texts.{separator, is_nil_append, join_last}
+use Rattle.tv_model.proofs.JoinedTexts.{separator, is_nil_append, join_last}
 use Rattle.tv_managed.proofs.list.list_text.Goals as goal
 
 pub loop-name-preserved : goal.loop-name-preserved

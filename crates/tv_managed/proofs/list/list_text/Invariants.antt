@@ -1,7 +1,7 @@
 use Rattle.std.proofs.Common.{◌≡◌, ◌∷◌, map, string_bytes}
 use Rattle.std.specs.List.{join_with_byte}
 use Rattle.tv_model.specs.Listing.{quoted}
-use Rattle.tv_managed.proofs.Texts.{is_nil}
+use Rattle.tv_model.proofs.JoinedTexts.{is_nil}
 use Rattle.tv_managed.proofs.list.list_text.Given as goal
 
 abbrev pub invariant-loop-name : goal.invariant-loop-name
