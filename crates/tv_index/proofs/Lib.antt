@@ -27,3 +27,4 @@ pub mod InFolders
 pub mod Damages
 pub mod PlainFiles
 pub mod Named
+pub mod SavedSafely

@@ -11,6 +11,7 @@ pub mod Choosing
 pub mod Opening
 pub mod Saving
 pub mod SavingLaws
+pub mod Crashes
 pub mod Tracked
 pub mod TrackedMetas
 pub mod NewForms

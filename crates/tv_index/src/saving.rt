@@ -5,7 +5,9 @@ ghost use Rattle.tv_model.specs.Collections.{held};
 ghost use Rattle.tv_model.specs.Commits.{Commit, IsCommit, IsSegment};
 ghost use Rattle.tv_model.specs.Names.{has, meta_name};
 ghost use Rattle.tv_directory.specs.Calls.{IoFaults};
+ghost use Rattle.tv_managed.specs.Crashes.{LeavesSafely};
 ghost use Rattle.tv_managed.specs.Managed.{KeepsOtherFiles, ManagesFile};
+ghost use Rattle.tv_index.specs.Crashes.{SavesStates};
 ghost use Rattle.tv_index.specs.Saving.{FrameNotesUnless, LeavesText, SaveFaults, SavesCommit, SavesMeta, saved_text};
 ghost use Rattle.tv_index.specs.Schemas.{HasSchemaTree};
 ghost use Rattle.tv_index.specs.TrackedMetas.{IsInOrder, tracked_commit, tracked_settings};
@@ -19,8 +21,8 @@ use tv_managed::ManagedDirectory;
 use tv_model::Memory;
 
 /// Makes these bytes the text of `meta.json`, by one atomic write. The directory is synced before and
-/// afterwards. After an error `meta.json` may be managed, where it wasn't before. No unfinished
-/// collection may have it.
+/// afterwards, so that a crash leaves the old text or this one, and at Ok this one. After an error
+/// `meta.json` may be managed, where it wasn't before. No unfinished collection may have it.
 pub fn save_meta_text<D: Directory>(
     directory: &mut ManagedDirectory<D>,
     text: &[u8],
@@ -34,6 +36,9 @@ pub fn save_meta_text<D: Directory>(
     ensures faults { IoFaults (D.view directory.old.0) (D.view directory.new.0) result }
     ensures frame { FrameNotesUnless D.told (IsErrAnd result (λ error. error ≡ IoError.Memory))
         (D.view directory.old.0) (D.view directory.new.0) }
+    ensures safe { D.tells_images → LeavesSafely D.Directory
+        (SavesStates (D.disk directory.old.0) (D.disk directory.new.0) directory.old.1 text.now
+        result) directory.old directory.new }
 {
     directory.sync_directory()?;
     directory.atomic_write(META_FILEPATH, text)?;
@@ -79,9 +84,10 @@ fn saved_text(alloc: Global, meta: &IndexMeta) -> Result<Vec<u8>, Memory>
 /// the segments in the order of their ids, and a line feed, which mean that commit. Of two shares with
 /// one id nothing is said.
 ///
-/// The directory is synced before and afterwards. An `IoError` comes where the device refused a call,
-/// and `Memory` where memory was wanted; then `meta.json` has what it had. After an error `meta.json`
-/// may be managed, where it wasn't before. No unfinished collection may have it.
+/// The directory is synced before and afterwards, so that a crash leaves the old commit or this one,
+/// and at Ok this one. An `IoError` comes where the device refused a call, and `Memory` where memory
+/// was wanted; then `meta.json` has what it had. After an error `meta.json` may be managed, where it
+/// wasn't before. No unfinished collection may have it.
 pub fn save_metas<D: Directory>(
     alloc: Global,
     meta: &IndexMeta,
@@ -98,6 +104,10 @@ pub fn save_metas<D: Directory>(
     ensures frame { FrameNotesUnless D.told
         (IsErrAnd result (λ error. error ≡ TantivyError.Memory))
         (D.view directory.old.0) (D.view directory.new.0) }
+    ensures safe { D.tells_images → (commit : Commit) → IsInOrder (tracked_commit meta.now) commit
+        → LeavesSafely D.Directory (SavesStates (D.disk directory.old.0) (D.disk directory.new.0)
+        directory.old.1 (saved_text (tracked_settings meta.now) meta.now.schema commit) result)
+        directory.old directory.new }
 {
     learn_commit(meta);
     let text = saved_text(alloc, meta)?;

@@ -6,7 +6,7 @@ use Rattle.tv_model.specs.Disk.{DiskState, Absent, Sealed, IsThere, Possible, po
 use Rattle.tv_model.specs.Listed.{ListsEachFile}
 use Rattle.tv_model.specs.Listing.{IsListOf, list_text}
 use Rattle.tv_model.specs.Names.{has, is_plain, is_undotted, list_name}
-use Rattle.tv_model.proofs.DiskLaws.{started, goes_on, goes_on_run, at_end, weaker}
+use Rattle.tv_model.proofs.DiskLaws.{at_end, fewer_listed, goes_on, goes_on_run, started, weaker}
 use Rattle.tv_base.specs.declared.io.IoError.{IoError}
 use Rattle.tv_directory.specs.Images.{Settles}
 use Rattle.tv_directory.specs.declared.directory.Directory.{Ghosts}
@@ -15,7 +15,7 @@ use Rattle.tv_managed.specs.Names.{ManagedNames, done_names}
 use Rattle.tv_managed.proofs.Listing.{gone_saved}
 use Rattle.tv_managed.proofs.PlainManaged.{plain_undotted}
 use Rattle.tv_managed.proofs.Touching.{adds_run, gained_run, gained_same, gained_then, gained_within}
-use Rattle.tv_managed.proofs.Tracking.{covered_list, covered_saved, covered_within, fewer, isnt_the_list, track_same, track_within}
+use Rattle.tv_managed.proofs.Tracking.{covered_list, covered_saved, covered_within, isnt_the_list, track_same, track_within}
 
 -- no name is forgotten where they are as they were
 kept_all : {X : Type 0} (old new : List (List ℕ)) (n : List ℕ) → new ≡ old → has old n ≡ true → has new n ≡ false → X
@@ -67,7 +67,7 @@ module _ {A X E D W C : Type 0} (g : Ghosts D W C) (old : D × ManagedNames) (mi
 
   cut_moments : IsTracked g old → Throughout ListsEachFile (g.disk old.0) (g.disk new)
   cut_moments was =
-      goes_on_run ListsEachFile fewer (goes_on ListsEachFile fewer (started ListsEachFile fewer (g.disk old.0) was.forgets_none) sync.time (synced was).forgets_none)
+      goes_on_run ListsEachFile fewer_listed (goes_on ListsEachFile fewer_listed (started ListsEachFile fewer_listed (g.disk old.0) was.forgets_none) sync.time (synced was).forgets_none)
       (weaker saves.moments (λ p adds. (covered p (g.disk mid).now (λ was. (synced was).gone) adds was).forgets_none))
 
   left_files : IsTracked g old → (n : List ℕ) → is_undotted n ≡ true → (s : DiskState) → possible_now (g.disk new) n s → IsThere s → has left n ≡ true

@@ -2,7 +2,7 @@
 use Rattle.std.proofs.Common.{◌≡◌, ◌≢◌, inl, inr, ℕ, true, false, true≢false, List, sym, ap, subst, ◌∙◌, Result, Ok, Err}
 use borrow.Table.Steps.{cases}
 use Rattle.tv_model.specs.Disk.{DiskState, Absent, Possible, Disk, possible_now, Within, MayAdd, Elapses, IsSettled, Throughout}
-use Rattle.tv_model.proofs.DiskLaws.{HoldsOfFewer, started, goes_on, goes_on_run, at_end, weaker}
+use Rattle.tv_model.proofs.DiskLaws.{at_end, fewer_listed, fewer_within, goes_on_run, weaker, within_step}
 use Rattle.std.specs.Prelude.{OnOk}
 use Rattle.tv_model.specs.Names.{has, is, is_undotted, list_name}
 use Rattle.tv_model.proofs.Entries.{is_itself, is_text}
@@ -15,7 +15,7 @@ use Rattle.tv_managed.specs.Managed.{registering}
 use Rattle.tv_managed.specs.Names.{ManagedNames, done_names}
 use Rattle.tv_managed.proofs.Listing.{has_registered}
 use Rattle.tv_managed.proofs.Touching.{gained_more, gained_one, gained_then}
-use Rattle.tv_managed.proofs.Tracking.{covered_within, fewer, track_file, track_from, track_then}
+use Rattle.tv_managed.proofs.Tracking.{covered_within, track_file, track_from, track_then}
 
 -- a call that only reads, and begins with the struct taken apart
 pub read_from : {D W C : Type 0} (g : Ghosts D W C) {old inside new : D × ManagedNames} → inside ≡ old → LeavesSafely g (KeepsDisk (g.disk inside.0) (g.disk new.0)) inside new → LeavesSafely g (KeepsDisk (g.disk old.0) (g.disk new.0)) old new
@@ -68,15 +68,6 @@ given_safely g {old} {inside = inside} {new} {name} {state} lists same names oth
 
 -- ---- states of which there are no more
 
-fewer_within : (possible : Possible) → HoldsOfFewer (Within possible)
-fewer_within possible old new within was = record { each = λ n s is. was.each n s (within.each n s is) }
-
-within_same : (disk : Disk) → Throughout (Within (possible_now disk)) disk disk
-within_same disk = started _ (fewer_within (possible_now disk)) disk (record { each = λ n s is. is })
-
-within_step : {old new : Disk} → Elapses old new → Within (possible_now old) (possible_now new) → Throughout (Within (possible_now old)) old new
-within_step {old} time within = goes_on _ (fewer_within (possible_now old)) (within_same old) time within
-
 within_then : {old mid new : Disk} → Throughout (Within (possible_now old)) old mid → Throughout (Within (possible_now mid)) mid new → Throughout (Within (possible_now old)) old new
 within_then {old} first second = goes_on_run _ (fewer_within (possible_now old)) first (weaker second (λ p within. record { each = λ n s is. (at_end first).each n s (within.each n s is) }))
 
@@ -89,7 +80,7 @@ settles_none asks ok = record { moments = within_step asks.time asks.states.poss
 
 -- and track is kept
 pub track_settles : {A E D W C : Type 0} (g : Ghosts D W C) {old new : D × ManagedNames} {result : Result A E} → SettlesStates (g.disk old.0) (g.disk new.0) result → IsCovered (possible_now (g.disk new.0)) (g.disk new.0).now new.1 → IsTracked g old → KeepsTrack g old new
-track_settles g settles now was = record { tracked = now; moments = weaker settles.moments (λ p within. fewer _ p within was.forgets_none) }
+track_settles g settles now was = record { tracked = now; moments = weaker settles.moments (λ p within. fewer_listed _ p within was.forgets_none) }
 
 pub covered_settles : {A E D W C : Type 0} (g : Ghosts D W C) {old : D × ManagedNames} (new : D × ManagedNames) {result : Result A E} → SettlesStates (g.disk old.0) (g.disk new.0) result → IsTracked g old → IsCovered (possible_now (g.disk new.0)) (g.disk new.0).now old.1
 covered_settles g new settles was = covered_within (at_end settles.moments) (λ n undotted h. settles.now n ∙ was.gone n undotted h) was

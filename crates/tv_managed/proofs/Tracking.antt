@@ -6,7 +6,7 @@ use Rattle.tv_model.specs.Listed.{IsAList, IsOnEach, ListsEachFile}
 use Rattle.tv_model.specs.Listing.{IsListOf, Lists}
 use Rattle.tv_model.specs.Names.{has, is_undotted, list_name}
 use Rattle.tv_model.specs.Collections.{Collections}
-use Rattle.tv_model.proofs.DiskLaws.{HoldsOfFewer, started, goes_on, goes_on_run}
+use Rattle.tv_model.proofs.DiskLaws.{fewer_listed, goes_on, goes_on_run, started}
 use Rattle.tv_directory.specs.Images.{KeepsDisk, SameStates}
 use Rattle.tv_directory.specs.declared.directory.Directory.{Ghosts}
 use Rattle.tv_managed.specs.Crashes.{IsCovered, IsTracked, KeepsTrack, LeavesSafely}
@@ -16,13 +16,10 @@ use Rattle.tv_managed.specs.Names.{ManagedNames, done_names}
 abbrev pub AreGone : (now : List ℕ → DiskState) → ManagedNames → Type 0
 AreGone now names = (n : List ℕ) → is_undotted n ≡ true → has (done_names names.collections) n ≡ true → now n ≡ Absent
 
-pub fewer : HoldsOfFewer ListsEachFile
-fewer old new within was = record { lists = λ l of_list. was.lists l (within.each list_name l of_list); each = λ n undotted s is there l of_list. was.each n undotted s (within.each n s is) there l (within.each list_name l of_list) }
-
 -- fewer states are possible
 pub covered_within : {old new : Possible} {before now : List ℕ → DiskState} {names : ManagedNames} → Within old new → AreGone now names → IsCovered old before names → IsCovered new now names
 covered_within {old} {new} within gone was = record {
-  forgets_none = fewer old new within was.forgets_none;
+  forgets_none = fewer_listed old new within was.forgets_none;
   covers = λ n undotted s is there. was.covers n undotted s (within.each n s is) there;
   listed = λ n h free l of_list. was.listed n h free l (within.each list_name l of_list);
   gone = gone;
@@ -110,15 +107,15 @@ covered_done still gone was = record {
 
 -- nothing was done
 pub track_same : {D W C : Type 0} (g : Ghosts D W C) {old : D × ManagedNames} → IsTracked g old → KeepsTrack g old old
-track_same g {old} was = record { tracked = was; moments = started ListsEachFile fewer (g.disk old.0) was.forgets_none }
+track_same g {old} was = record { tracked = was; moments = started ListsEachFile fewer_listed (g.disk old.0) was.forgets_none }
 
 -- one call
 pub track_step : {D W C : Type 0} (g : Ghosts D W C) {old new : D × ManagedNames} → Elapses (g.disk old.0) (g.disk new.0) → IsTracked g old → IsTracked g new → KeepsTrack g old new
-track_step g time was now = record { tracked = now; moments = goes_on ListsEachFile fewer (started ListsEachFile fewer _ was.forgets_none) time now.forgets_none }
+track_step g time was now = record { tracked = now; moments = goes_on ListsEachFile fewer_listed (started ListsEachFile fewer_listed _ was.forgets_none) time now.forgets_none }
 
 -- one run, and another
 pub track_then : {D W C : Type 0} (g : Ghosts D W C) {old mid new : D × ManagedNames} → KeepsTrack g old mid → KeepsTrack g mid new → KeepsTrack g old new
-track_then g first second = record { tracked = second.tracked; moments = goes_on_run ListsEachFile fewer first.moments second.moments }
+track_then g first second = record { tracked = second.tracked; moments = goes_on_run ListsEachFile fewer_listed first.moments second.moments }
 
 -- a call after which no state is possible besides, and each name stands as it stood
 pub track_within : {D W C : Type 0} (g : Ghosts D W C) {old new : D × ManagedNames} → new.1 ≡ old.1 → Elapses (g.disk old.0) (g.disk new.0) → Within (possible_now (g.disk old.0)) (possible_now (g.disk new.0)) → SameStates (g.disk old.0) (g.disk new.0)
@@ -137,7 +134,7 @@ track_file g time adds other on gone was = track_step g time was (covered_file a
 
 -- the names alone are others
 pub track_names : {D W C : Type 0} (g : Ghosts D W C) {old : D × ManagedNames} {names : ManagedNames} → IsCovered (possible_now (g.disk old.0)) (g.disk old.0).now names → IsTracked g old → KeepsTrack g old (old.0, names)
-track_names g {old} now was = record { tracked = now; moments = started ListsEachFile fewer (g.disk old.0) was.forgets_none }
+track_names g {old} now was = record { tracked = now; moments = started ListsEachFile fewer_listed (g.disk old.0) was.forgets_none }
 
 -- what a call does that begins with the struct taken apart
 pub track_from : {D W C : Type 0} (g : Ghosts D W C) {old inside new : D × ManagedNames} → inside ≡ old → (IsTracked g inside → KeepsTrack g inside new) → IsTracked g old → KeepsTrack g old new

@@ -3,6 +3,8 @@ use Rattle.std.specs.Prelude.{◌≤◌, ◌<◌}
 use Rattle.std.proofs.Common.{◌≡◌, ◌≢◌, ℕ, List, refl, ◌∙◌, ⊎_elim, subst, arith}
 use Rattle.std.proofs.lemmas.Bool.{cases_lt}
 use Rattle.tv_model.specs.Disk.{DiskState, Possible, Disk, possible_now, Within, SamePossible, MayAdd, Elapses, Throughout, OnlyTouches, OnlyMoves, TouchesOnly}
+use Rattle.tv_model.specs.Listed.{ListsEachFile}
+use Rattle.tv_model.specs.Names.{list_name}
 
 -- the same states are possible
 pub same : (possible : Possible) → SamePossible possible possible
@@ -52,6 +54,20 @@ module _ (P : Possible → Type 0) (fewer : HoldsOfFewer P) where
         (λ (upto : x ≤ mid.moment). fewer (mid.possible x) (new.possible x) (second.past x upto).no_more (first.each x from upto))
         (cases_lt mid.moment x);
   }
+
+-- no state is possible besides those that were
+pub fewer_within : (possible : Possible) → HoldsOfFewer (Within possible)
+fewer_within possible old new within was = record { each = λ n s is. was.each n s (within.each n s is) }
+
+pub within_step : {old new : Disk} → Elapses old new → Within (possible_now old) (possible_now new) → Throughout (Within (possible_now old)) old new
+within_step {old} time within = goes_on _ (fewer_within (possible_now old)) (started _ (fewer_within (possible_now old)) old (record { each = λ n s is. is })) time within
+
+-- a list forgets no more files
+pub fewer_listed : HoldsOfFewer ListsEachFile
+fewer_listed old new within was = record {
+  lists = λ l of_list. was.lists l (within.each list_name l of_list);
+  each = λ n undotted s is there l of_list. was.each n undotted s (within.each n s is) there l (within.each list_name l of_list);
+}
 
 -- what holds at each moment, and what follows from it
 pub weaker : {P Q : Possible → Type 0} {old new : Disk} → Throughout P old new → ((possible : Possible) → P possible → Q possible) → Throughout Q old new
