@@ -1,5 +1,6 @@
 //! A result that may come later.
-ghost use Rattle.std.specs.Prelude.{◌≡◌, Some, None, false, IfOk, IfErr, IfSome};
+ghost use Rattle.std.specs.Prelude.{◌≡◌, Some, None, Ok, false, IfOk, IfErr, IfSome};
+ghost use Rattle.tv_base.specs.FutureStates.{finished_in, is_answered};
 ghost use Rattle.futures.specs.Poll.{OnPending};
 ghost use Rattle.futures.specs.Task.{IsArmed, Keeps};
 
@@ -19,14 +20,14 @@ type Answer<T> = Result<T, TantivyError>;
 /// A result that is there from the start, or is sent later.
 #[derive(Drop)]
 pub struct FutureResult<T: Drop> {
-    state: State<T>,
+    state: State<Answer<T>>,
 }
 
 #[derive(Drop)]
-enum State<T: Drop> {
-    Finished(Answer<T>),
+enum State<A: Drop> {
+    Finished(A),
     // With the text of the error that is answered where the sender is gone.
-    InProgress(oneshot::Receiver<Answer<T>>, String),
+    InProgress(oneshot::Receiver<A>, String),
     Answered,
 }
 
@@ -95,13 +96,31 @@ impl<T: Drop> FutureResult<T> {
         ensures again { OnPending result (self.new ≡ self.old) }
         ensures kept { Keeps cx.old cx.new }
     {
-        match mem::replace(&mut self.state, State::Answered) {
-            State::Finished(answer) => Poll::Ready(answer),
+        match self.state.poll(cx) {
+            Poll::Ready(Ok(answer)) => Poll::Ready(answer),
+            Poll::Ready(Err(message)) => Poll::Ready(Err(TantivyError::SystemError(message))),
+            Poll::Pending => Poll::Pending,
+        }
+    }
+}
+
+impl<A: Drop> State<A> {
+    // The answer, if it is there, or the text where the sender is gone.
+    fn poll(&mut self, cx: &mut Context<'_>) -> Poll<Result<A, String>>
+        requires unanswered { is_answered self.old ≡ false }
+        ensures answer { IfSome (finished_in self.old) (λ answer. result ≡ Poll.Ready (Ok answer)) }
+        ensures registered { OnPending result (IsArmed cx.new) }
+        ensures finished { OnPending result (finished_in self.new ≡ finished_in self.old) }
+        ensures again { OnPending result (is_answered self.new ≡ is_answered self.old) }
+        ensures kept { Keeps cx.old cx.new }
+    {
+        match mem::replace(self, State::Answered) {
+            State::Finished(answer) => Poll::Ready(Ok(answer)),
             State::InProgress(mut receiver, message) => match receiver.poll(cx) {
-                Poll::Ready(Ok(answer)) => Poll::Ready(answer),
-                Poll::Ready(Err(_)) => Poll::Ready(Err(TantivyError::SystemError(message))),
+                Poll::Ready(Ok(answer)) => Poll::Ready(Ok(answer)),
+                Poll::Ready(Err(_)) => Poll::Ready(Err(message)),
                 Poll::Pending => {
-                    self.state = State::InProgress(receiver, message);
+                    *self = State::InProgress(receiver, message);
                     Poll::Pending
                 }
             },
