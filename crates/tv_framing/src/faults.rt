@@ -1,10 +1,10 @@
 //! Bytes that are refused.
-ghost use Rattle.std.specs.Prelude.{◌≡◌, ◌++◌, IfOk, string_bytes};
+ghost use Rattle.std.specs.Prelude.{◌++◌};
 ghost use Rattle.std.specs.Fmt.{decimal};
 ghost use Rattle.tv_framing.specs.Faults.{IsFault, OfFault};
 
 use std::alloc::Global;
-use tv_base::{IoError, IoFault, IoKind, Memory};
+use tv_base::{IoError, IoFault, IoKind};
 
 /// The fault of this kind and text, or want of memory for the text.
 pub(crate) fn refusal(alloc: Global, kind: IoKind, text: &str) -> IoError
@@ -26,20 +26,8 @@ pub(crate) fn numbered(
 ) -> IoError
     ensures { OfFault (IsFault kind (before.now ++ (decimal number ++ after.now))) result }
 {
-    match numbered_text(alloc, before, number, after) {
+    match format!(in alloc; "{before}{number}{after}") {
         Ok(text) => IoError::Fault(IoFault { kind, text }),
         Err(_) => IoError::Memory,
     }
-}
-
-// The text with the number in its middle.
-fn numbered_text(alloc: Global, before: &str, number: usize, after: &str) -> Result<String, Memory>
-    ensures { IfOk result (λ text.
-        string_bytes text ≡ before.now ++ (decimal number ++ after.now)) }
-{
-    let mut digits = itoa::Buffer::new();
-    let mut text = String::from_str(alloc, before)?;
-    text.push_str(digits.format(number))?;
-    text.push_str(after)?;
-    Ok(text)
 }

@@ -1,6 +1,5 @@
 //! The JSON of a footer.
-ghost use Rattle.std.specs.Prelude.{◌≡◌, ◌++◌, IfOk, MatchOption, OnOk};
-ghost use Rattle.std.specs.Fmt.{decimal};
+ghost use Rattle.std.specs.Prelude.{◌≡◌, IfOk, MatchOption};
 ghost use Rattle.serde_json.specs.View.{view};
 ghost use Rattle.tv_model.specs.FooterForm.{u32_at};
 ghost use Rattle.tv_framing.specs.declared.footer.Footer.{Footer};
@@ -65,27 +64,15 @@ fn number_at(tree: &Value, key: &str) -> Option<u32>
 pub(crate) fn write_json(alloc: Global, footer: &Footer) -> Result<Vec<u8>, Memory>
     ensures { IfOk result (λ json. json.items ≡ footer_json footer.now) }
 {
-    let version = footer.version;
-    let mut json = Vec::new(alloc);
-    put(&mut json, "{\"version\":{\"major\":", version.major)?;
-    put(&mut json, ",\"minor\":", version.minor)?;
-    put(&mut json, ",\"patch\":", version.patch)?;
-    put(
-        &mut json,
-        ",\"index_format_version\":",
-        version.index_format_version,
+    let Version {
+        major,
+        minor,
+        patch,
+        index_format_version,
+    } = footer.version;
+    let crc = footer.crc;
+    let json = format!(in alloc;
+        "{{\"version\":{{\"major\":{major},\"minor\":{minor},\"patch\":{patch},\"index_format_version\":{index_format_version}}},\"crc\":{crc}}}"
     )?;
-    put(&mut json, "},\"crc\":", footer.crc)?;
-    json.extend_from_slice(b"}")?;
-    Ok(json)
-}
-
-// Adds a text, and a number behind it.
-fn put(json: &mut Vec<u8>, text: &str, number: u32) -> Result<(), Memory>
-    ensures { OnOk result (json.new.items ≡ json.old.items ++ (text.now ++ decimal number)) }
-{
-    let mut digits = itoa::Buffer::new();
-    json.extend_from_slice(text.as_bytes())?;
-    json.extend_from_slice(digits.format(number).as_bytes())?;
-    Ok(())
+    Ok(json.into_bytes())
 }
