@@ -142,19 +142,15 @@ impl SegmentSpaceUsage {
     pub fn component(&self, c: SegmentComponent) -> Result<ComponentSpaceUsage, Memory>
         ensures component { IfOk result (λ usage. usage ≡ component_of c self.now) }
     {
-        let usage = match c {
-            SegmentComponent::Postings => ComponentSpaceUsage::PerField(self.postings.copied()?),
-            SegmentComponent::Positions => ComponentSpaceUsage::PerField(self.positions.copied()?),
-            SegmentComponent::FastFields => {
-                ComponentSpaceUsage::PerField(self.fast_fields.copied()?)
-            }
-            SegmentComponent::FieldNorms => {
-                ComponentSpaceUsage::PerField(self.fieldnorms.copied()?)
-            }
-            SegmentComponent::Terms => ComponentSpaceUsage::PerField(self.termdict.copied()?),
-            SegmentComponent::Store => ComponentSpaceUsage::Store(self.store.copied()),
-            SegmentComponent::Delete => ComponentSpaceUsage::Basic(self.deletes),
+        let fields = match c {
+            SegmentComponent::Postings => &self.postings,
+            SegmentComponent::Positions => &self.positions,
+            SegmentComponent::FastFields => &self.fast_fields,
+            SegmentComponent::FieldNorms => &self.fieldnorms,
+            SegmentComponent::Terms => &self.termdict,
+            SegmentComponent::Store => return Ok(ComponentSpaceUsage::Store(self.store.copied())),
+            SegmentComponent::Delete => return Ok(ComponentSpaceUsage::Basic(self.deletes)),
         };
-        Ok(usage)
+        Ok(ComponentSpaceUsage::PerField(fields.copied()?))
     }
 }
