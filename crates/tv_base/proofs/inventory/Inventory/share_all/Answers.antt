@@ -1,4 +1,4 @@
-use Rattle.std.proofs.Common.{◌≡◌, ◌∙◌, ap, map, rules}
+use Rattle.std.proofs.Common.{◌∙◌, ap, map, rules}
 use Rattle.tv_base.specs.Entries.{one_more}
 use Rattle.tv_base.proofs.CountLaws.{all_counted, numbers_counted}
 use Rattle.tv_base.proofs.inventory.Inventory.share_all.Goals as goal
