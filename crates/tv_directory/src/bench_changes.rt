@@ -1,7 +1,7 @@
 //! How the calls of a directory in memory are recorded that change a file.
 ghost use Rattle.std.specs.Prelude.{◌≡◌, ◌<◌, true, false, Some, IfOk, OnOk, OnErr};
 ghost use Rattle.tv_model.specs.Names.{is_file_name};
-ghost use Rattle.tv_model.specs.Disk.{Unsealed};
+ghost use Rattle.tv_model.specs.Disk.{Sealed, Unsealed};
 ghost use Rattle.tv_directory.specs.Bench.{OnlyRecords, disk_in};
 ghost use Rattle.tv_directory.specs.Ram.{ram_states};
 ghost use Rattle.tv_directory.specs.Record.{RecordedRefused, RefusedOpening, has_line_room};
@@ -11,6 +11,7 @@ use crate::bench::Bench;
 use crate::bench_record::Call;
 use crate::files::Content;
 use crate::ram_calls::file_name;
+use crate::ram_directory::RamWriter;
 use tv_base::OwnedBytes;
 use tv_model::{FileName, Memory};
 
@@ -62,6 +63,20 @@ impl<C> Bench<C> {
         Ok(())
     }
 
+    // The same of a call that would have given the name these bytes.
+    pub(crate) fn record_refused_bytes(&mut self, name: &str, bytes: &[u8]) -> Result<(), Memory>
+        requires { is_file_name name.now ≡ true }
+        ensures images { OnOk result (RecordedRefused (disk_in self.old) (disk_in self.new)
+            name.now (Sealed bytes.now)) }
+        ensures err { OnErr result (self.new.recorded.calls ≡ self.old.recorded.calls) }
+        ensures room { has_line_room self.old.recorded ≡ true
+            → has_line_room self.new.recorded ≡ true }
+        ensures others { OnlyRecords self.old self.new }
+    {
+        let sealed = OwnedBytes::new(Vec::from_slice(self.alloc, bytes)?)?;
+        self.record_refused(name, Some(Content::Sealed(sealed)))
+    }
+
     // The same of a call that would have made a file, where there is none of this name.
     pub(crate) fn record_refused_opening(&mut self, name: &str) -> Result<(), Memory>
         requires { is_file_name name.now ≡ true }
@@ -99,5 +114,28 @@ impl<C> Bench<C> {
             return Ok(());
         }
         self.record_refused(name, after)
+    }
+
+    // The same of a call that would have sealed the writer's file.
+    pub(crate) fn record_refused_end(
+        &mut self,
+        lives: bool,
+        writer: RamWriter,
+    ) -> Result<(), Memory>
+        ensures images { lives ≡ true → OnOk result (RecordedRefused (disk_in self.old)
+            (disk_in self.new) writer.name (Sealed writer.bytes.items)) }
+        ensures gone { lives ≡ false → self.new ≡ self.old }
+        ensures err { OnErr result (self.new.recorded.calls ≡ self.old.recorded.calls) }
+        ensures room { has_line_room self.old.recorded ≡ true
+            → has_line_room self.new.recorded ≡ true }
+        ensures others { OnlyRecords self.old self.new }
+    {
+        let RamWriter {
+            name,
+            number: _,
+            bytes,
+        } = writer;
+        let sealed = Content::Sealed(OwnedBytes::new(bytes)?);
+        self.record_refused_where(lives, name.as_str(), Some(sealed))
     }
 }

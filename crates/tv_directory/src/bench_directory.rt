@@ -20,7 +20,6 @@ use crate::bench::Bench;
 use crate::bench_changes::unsealed;
 use crate::bench_record::Call;
 use crate::directory::Directory;
-use crate::files::Content;
 use crate::lock::{DirectoryLock, Lock};
 use crate::outside::Outside;
 use crate::ram_calls::file_name;
@@ -181,13 +180,7 @@ impl<C: WatchCall> Directory for Bench<C> {
     {
         let lives = self.ram.files.is_made(&writer.name, writer.number);
         if self.device.refuses() {
-            let RamWriter {
-                name,
-                number: _,
-                bytes,
-            } = writer;
-            let sealed = Content::Sealed(OwnedBytes::new(bytes)?);
-            self.record_refused_where(lives, name.as_str(), Some(sealed))?;
+            self.record_refused_end(lives, writer)?;
             return Err(IoError::Fault(self.device.fault()));
         }
         if !lives {
@@ -228,8 +221,7 @@ impl<C: WatchCall> Directory for Bench<C> {
             (Sealed bytes.now) result }
     {
         if self.device.refuses() {
-            let sealed = Vec::from_slice(self.alloc, bytes)?;
-            self.record_refused(name, Some(Content::Sealed(OwnedBytes::new(sealed)?)))?;
+            self.record_refused_bytes(name, bytes)?;
             return Err(IoError::Fault(self.device.fault()));
         }
         let (key, before) = self.before(name)?;

@@ -212,11 +212,9 @@ impl Record {
             ≡ states_at self.now.calls moment name.now (state_of now)) }
     {
         let (past, later) = self.calls.as_slice().split_at(moment as usize);
+        let last = stood(later, name, now)?;
         let mut states = found(alloc, past, name)?;
-        states.push(match replaced(later, name) {
-            Some(before) => share(before)?,
-            None => now,
-        })?;
+        states.push(last)?;
         Ok(states)
     }
 }
@@ -246,7 +244,18 @@ fn found(alloc: Global, calls: &[Call], name: &FileName) -> Result<Vec<Option<Co
     Ok(states)
 }
 
-// What the file of a name had before these calls, where one of them gave it another one.
+// What the file of a name had before these calls, which it now has so.
+fn stood(calls: &[Call], name: &FileName, now: Option<Content>) -> Result<Option<Content>, Memory>
+    ensures { IfOk result (λ before. state_of before
+        ≡ stood_before calls.now name.now (state_of now)) }
+{
+    match replaced(calls, name) {
+        Some(before) => share(before),
+        None => Ok(now),
+    }
+}
+
+// The same, where one of the calls gave it another one.
 fn replaced<'a>(calls: &'a [Call], name: &FileName) -> Option<&'a Option<Content>>
     ensures some { IfSome result (λ before. (now : DiskState)
         → stood_before calls.now name.now now ≡ state_of before.now) }

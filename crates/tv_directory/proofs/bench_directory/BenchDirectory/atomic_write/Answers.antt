@@ -5,7 +5,7 @@ use Rattle.tv_directory.proofs.bench_directory.BenchDirectory.atomic_write.Goals
 
 pub returns-then-refuses-clause-frame : goal.returns-then-refuses-clause-frame
 returns-then-refuses-clause-frame g c =
-    let room = room_kept c.args.self.now.recorded c.record_refused.new.self.recorded c.args.self.now.told.1 c.in_ok-record_refused.ensures.room in
+    let room = room_kept c.args.self.now.recorded c.record_refused_bytes.new.self.recorded c.args.self.now.told.1 c.in_ok-record_refused_bytes.ensures.room in
     search rules
 
 pub returns-in_err-atomic_write-clause-images : goal.returns-in_err-atomic_write-clause-images

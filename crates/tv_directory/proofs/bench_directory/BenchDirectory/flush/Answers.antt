@@ -1,12 +1,9 @@
-use Rattle.std.proofs.Common.{rules, ◌≡◌, ◌∙◌, true, refl, sym, ap, true≢false, ◌≤◌, length}
+use Rattle.std.proofs.Common.{rules, ◌≡◌, ◌∙◌, true, refl, sym, ap, true≢false}
 use Rattle.tv_model.specs.Disk.{Unsealed}
 use Rattle.tv_directory.specs.Bench.{disk_in}
-use Rattle.tv_directory.specs.Ram.{ram_lives, ram_states, ram_view}
+use Rattle.tv_directory.specs.Ram.{ram_lives, ram_states}
 use Rattle.tv_directory.specs.Record.{RecordedRefused}
-use Rattle.tv_directory.specs.View.{tells_all}
 use Rattle.tv_directory.proofs.Recorded.{kept_by, made_there, may_add, replaced_by}
-use Rattle.tv_directory.proofs.Benches.{kept_in, longer_by}
-use Rattle.tv_directory.specs.ViewLaws.{kept_itself}
 use Rattle.tv_directory.proofs.bench_directory.BenchDirectory.flush.Goals as goal
 
 pub returns-in_err-record_refused_where-clause-images : goal.returns-in_err-record_refused_where-clause-images
@@ -43,27 +40,3 @@ pub returns-in_err-name-clause-images : goal.returns-in_err-name-clause-images
 returns-in_err-name-clause-images g c =
     let same = kept_by _ _ _ _ _ (ap (λ b. ram_states b.ram) c.before-2.ensures.others) c.before-2.ensures.calls (λ n. refl) in
     record { there = made_there c.args.self.now.ram.files.map.entries c.args.writer.now.name c.args.writer.now.number; gives = λ _. record { ok = search rules; err = search rules; no_more = may_add _ _ _ _ same.states.possible.no_more; time = same.time }; gone = λ isnt. same }
-
-pub returns-then-refuses-clause-frame : goal.returns-then-refuses-clause-frame
-returns-then-refuses-clause-frame g c =
-    let wrote = c.record_refused_where.ensures in
-    let later : length c.args.self.now.recorded.calls ≤ length c.record_refused_where.new.self.recorded.calls = search rules in
-    kept_in _ c.args.self.now (record c.record_refused_where.new.self { device = c.fault.new.self }) (rw (ap (λ b. b.ram) wrote.others) (kept_itself tells_all (ram_view g.C.WatchCall.calls c.args.self.now.ram))) (ap (λ b. b.told) wrote.others) later wrote.room (search rules)
-
-pub returns-in_err-name-clause-frame : goal.returns-in_err-name-clause-frame
-returns-in_err-name-clause-frame g c =
-    let same = c.before-2.ensures in
-    let later : length c.args.self.now.recorded.calls ≤ length c.before-2.new.self.recorded.calls = search rules in
-    kept_in _ c.args.self.now c.before-2.new.self (rw (ap (λ b. b.ram) same.others) (kept_itself tells_all (ram_view g.C.WatchCall.calls c.args.self.now.ram))) (ap (λ b. b.told) same.others) later same.line (search rules)
-
-pub returns-in_err-flush-clause-frame : goal.returns-in_err-flush-clause-frame
-returns-in_err-flush-clause-frame g c =
-    let same = c.before-2.ensures in
-    let later : length c.args.self.now.recorded.calls ≤ length c.before-2.new.self.recorded.calls = search rules in
-    kept_in _ c.args.self.now (record c.before-2.new.self { ram = c.flush.new.self }) (rw (ap (λ b. b.ram) same.others) at c.in_err-flush.ensures.frame) (ap (λ b. b.told) same.others) later same.line (search rules)
-
-pub returns-clause-frame : goal.returns-clause-frame
-returns-clause-frame g c =
-    let same = c.before-2.ensures in
-    kept_in _ c.args.self.now (record c.before-2.new.self { ram = c.flush.new.self; recorded = c.add.new.self }) (rw (ap (λ b. b.ram) same.others) at c.in_ok-flush.ensures.frame) (ap (λ b. b.told) same.others)
-    (longer_by _ _ _ (rw same.calls at c.add.ensures.calls)) (λ _. c.add.ensures.line c.in_ok-name.ensures.room) (search rules)

@@ -1,25 +1,22 @@
 use Rattle.std.proofs.Common.{rules, ◌≡◌, ◌∙◌, true, refl, sym, ap, true≢false, ◌≤◌, length}
-use Rattle.tv_model.specs.Disk.{Sealed}
-use Rattle.tv_directory.specs.Bench.{disk_in}
 use Rattle.tv_directory.specs.Ram.{ram_lives, ram_states, ram_view}
-use Rattle.tv_directory.specs.Record.{RecordedRefused}
 use Rattle.tv_directory.specs.View.{tells_all}
 use Rattle.tv_directory.proofs.Recorded.{kept_by, made_there, may_add, replaced_by}
 use Rattle.tv_directory.proofs.Benches.{kept_in, longer_by}
 use Rattle.tv_directory.specs.ViewLaws.{kept_itself}
 use Rattle.tv_directory.proofs.bench_directory.BenchDirectory.terminate.Goals as goal
 
-pub returns-in_err-record_refused_where-clause-images : goal.returns-in_err-record_refused_where-clause-images
-returns-in_err-record_refused_where-clause-images g c =
-    let same = kept_by _ _ _ _ _ (ap (λ b. ram_states b.ram) c.record_refused_where.ensures.others) c.in_err-record_refused_where.ensures.err (λ n. refl) in
+pub returns-in_err-record_refused_end-clause-images : goal.returns-in_err-record_refused_end-clause-images
+returns-in_err-record_refused_end-clause-images g c =
+    let same = kept_by _ _ _ _ _ (ap (λ b. ram_states b.ram) c.record_refused_end.ensures.others) c.in_err-record_refused_end.ensures.err (λ n. refl) in
     record { there = made_there c.args.self.now.ram.files.map.entries c.args.writer.name c.args.writer.number; gives = λ lives. record { ok = search rules; err = search rules; no_more = may_add _ _ _ _ same.states.possible.no_more; time = same.time }; gone = λ isnt. same }
 
 pub returns-then-refuses-clause-images : goal.returns-then-refuses-clause-images
 returns-then-refuses-clause-images g c =
-    let wrote = c.in_ok-record_refused_where.ensures in
+    let wrote = c.in_ok-record_refused_end.ensures in
     record {
       there = made_there c.args.self.now.ram.files.map.entries c.args.writer.name c.args.writer.number;
-      gives = λ lives. let one : RecordedRefused (disk_in c.args.self.now) (disk_in c.record_refused_where.new.self) c.args.writer.name (Sealed c.args.writer.bytes.items) = rw (c.as_str.ensures.text, c.in_ok-new.ensures.bytes) at wrote.images (rw c.is_made-lives.ensures lives) in record { ok = tt; err = search rules; no_more = one.adds.no_more; time = one.adds.time };
+      gives = λ lives. let one = wrote.images (rw c.is_made-lives.ensures lives) in record { ok = tt; err = search rules; no_more = one.adds.no_more; time = one.adds.time };
       gone = λ isnt. kept_by _ _ _ _ _ (ap (λ b. ram_states b.ram) wrote.others) (ap (λ b. b.recorded.calls) (wrote.gone (rw c.is_made-lives.ensures isnt))) (λ n. refl);
     }
 
@@ -35,7 +32,7 @@ returns-clause-images g c =
     let ram = ap (λ b. b.ram) c.before-2.ensures.others in
     let lives : ram_lives c.args.self.now.ram c.args.writer ≡ true = search rules in
     let (name, before) = c.in_ok-name.ensures.found in
-    let text = c.as_str-2.ensures.text in
+    let text = c.as_str.ensures.text in
     let one = replaced_by _ _ _ c.in_ok-name.before _ _ _ _ (ap (λ b. ram_states b.ram) c.before-2.ensures.others) (rw text at before) (c.in_ok-terminate.ensures.states (rw ram lives)).ok (rw (c.before-2.ensures.calls, name, text) at c.add.ensures.calls) in
     record { there = made_there c.args.self.now.ram.files.map.entries c.args.writer.name c.args.writer.number; gives = λ _. record { ok = one.sets; err = tt; no_more = one.adds.no_more; time = one.adds.time }; gone = λ isnt. absurd (true≢false (sym lives ∙ isnt)) }
 
@@ -46,9 +43,9 @@ returns-in_err-name-clause-images g c =
 
 pub returns-then-refuses-clause-frame : goal.returns-then-refuses-clause-frame
 returns-then-refuses-clause-frame g c =
-    let wrote = c.record_refused_where.ensures in
-    let later : length c.args.self.now.recorded.calls ≤ length c.record_refused_where.new.self.recorded.calls = search rules in
-    kept_in _ c.args.self.now (record c.record_refused_where.new.self { device = c.fault.new.self }) (rw (ap (λ b. b.ram) wrote.others) (kept_itself tells_all (ram_view g.C.WatchCall.calls c.args.self.now.ram))) (ap (λ b. b.told) wrote.others) later wrote.room (search rules)
+    let wrote = c.record_refused_end.ensures in
+    let later : length c.args.self.now.recorded.calls ≤ length c.record_refused_end.new.self.recorded.calls = search rules in
+    kept_in _ c.args.self.now (record c.record_refused_end.new.self { device = c.fault.new.self }) (rw (ap (λ b. b.ram) wrote.others) (kept_itself tells_all (ram_view g.C.WatchCall.calls c.args.self.now.ram))) (ap (λ b. b.told) wrote.others) later wrote.room (search rules)
 
 pub returns-in_err-name-clause-frame : goal.returns-in_err-name-clause-frame
 returns-in_err-name-clause-frame g c =
