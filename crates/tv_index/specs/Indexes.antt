@@ -106,7 +106,7 @@ pub record IsNewInRam {C : Type 0} (settings : IndexSettings) (schema : List ℕ
   pub others : (n : List ℕ) → n ≢ meta_name → n ≢ list_name → ram_reads index.directory.0 n ≡ None
 
 -- It doesn't stand, and the directory comes back. `meta.json` has the text of the first commit, or what it had; after want of memory what it had. Where the list was
--- refused, nothing was changed. A notice may stand where the device refused a call.
+-- refused, nothing was changed. A notice may have come where the device refused a call.
 pub record NotCreated {D W C : Type 0} (g : Ghosts D W C) (before : D) (form : IndexForm) (now : D) (error : TantivyError) : Type 0 where
   pub either : g.told.content → ((g.view now).reads meta_name ≡ Some (new_text form)) ⊎ ((g.view now).reads meta_name ≡ (g.view before).reads meta_name)
   pub memory : g.told.content → error ≡ errors.Memory → (g.view now).reads meta_name ≡ (g.view before).reads meta_name

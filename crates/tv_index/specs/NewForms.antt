@@ -1,7 +1,6 @@
 -- How an index is opened, or made with some settings and a schema where there is none.
 use Rattle.std.specs.Prelude.{◌≡◌, ◌⊎◌, ◌++◌, ◌∷◌, [], ℕ, List, Option, Some, None, IsSome}
 use Rattle.tv_base.specs.declared.error.TantivyError.{TantivyError}
-use Rattle.tv_directory.specs.Watch.{noted}
 use Rattle.tv_directory.specs.declared.directory.Directory.{Ghosts}
 use Rattle.tv_managed.specs.Managed.{KeepsOtherFiles}
 use Rattle.tv_managed.specs.Names.{ManagedNames}
@@ -13,7 +12,7 @@ use Rattle.tv_model.specs.Listing.{Lists}
 use Rattle.tv_model.specs.Meaning.{Means}
 use Rattle.tv_model.specs.Names.{list_name, meta_name}
 use Rattle.tv_index.specs.Metas.{commit_of, settings_of}
-use Rattle.tv_index.specs.Opening.{FrameNotesFirst, FrameNotesRefused, HasCommit, IsRefusedBytes, LoadCause, OpenCause, form_of}
+use Rattle.tv_index.specs.Opening.{FrameNotesFirst, FrameNotesRefused, HasCommit, IsRefusedBytes, LoadCause, NotesMade, OpenCause, form_of}
 use Rattle.tv_index.specs.Settings.{settings_view}
 use Rattle.tv_index.specs.declared.index_meta.UntrackedIndexMeta.{UntrackedIndexMeta}
 use Rattle.tv_index.specs.declared.index_settings.IndexSettings.{IndexSettings}
@@ -60,7 +59,7 @@ pub record OpensForm {D W C : Type 0} (g : Ghosts D W C) (before : D) (form : In
   pub lists : g.told.content → Lists ((g.view now.0).reads list_name) now.1.managed
   pub collections : now.1.collections ≡ no_collections
   pub quiet : (g.view now.0).faults ≡ (g.view before).faults
-  pub notes : g.told.content → (g.view before).reads meta_name ≡ None → (g.view now.0).watched ≡ noted meta_name (g.view before).watched
+  pub notes : NotesMade g.told (g.view before) (g.view now.0)
   pub frame : FrameNotesFirst g.told (g.view before) (g.view now.0)
 
 -- It isn't open, and the directory comes back. Where bytes were refused, nothing was changed.
@@ -85,7 +84,7 @@ pub record LoadsOrCreates {D W C : Type 0} (g : Ghosts D W C) (old new : D × Ma
   pub left : g.told.content → LeavesMade (g.view old.0).reads (g.view new.0).reads (new_text form)
   pub lists : g.told.content → Lists ((g.view old.0).reads list_name) old.1.managed → Lists ((g.view new.0).reads list_name) new.1.managed
   pub quiet : (g.view new.0).faults ≡ (g.view old.0).faults
-  pub notes : g.told.content → (g.view old.0).reads meta_name ≡ None → (g.view new.0).watched ≡ noted meta_name (g.view old.0).watched
+  pub notes : NotesMade g.told (g.view old.0) (g.view new.0)
   pub frame : FrameNotesFirst g.told (g.view old.0) (g.view new.0)
 
 -- it wasn't opened

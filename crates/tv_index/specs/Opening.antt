@@ -94,13 +94,17 @@ pub record LeavesFound (old new : Reads) (schema : List ℕ) : Type 0 where
   pub others : KeepsOtherFiles old new meta_name
   pub made : old meta_name ≡ None → new meta_name ≡ Some (first_text schema)
 
--- where the content is told and there was a `meta.json`, nobody was registered or called, and no notice came
-abbrev pub NotesNone : {W : Type 0} → Told → (old new : View W) → Type 0
-NotesNone told old new = told.content → IsSome (old.reads meta_name) → new.watched ≡ old.watched
-
 -- the content is told, and there is a `meta.json`
 abbrev pub TellsMeta : {W : Type 0} → Told → View W → Type 0
 TellsMeta told view = told.content × IsSome (view.reads meta_name)
+
+-- where the content is told and there was a `meta.json`, nobody was registered or called, and no notice came
+abbrev pub NotesNone : {W : Type 0} → Told → (old new : View W) → Type 0
+NotesNone told old new = TellsMeta told old → new.watched ≡ old.watched
+
+-- where the content is told and there was no `meta.json`, nobody was registered or called, and a notice of it stands
+abbrev pub NotesMade : {W : Type 0} → Told → (old new : View W) → Type 0
+NotesMade told old new = told.content → old.reads meta_name ≡ None → new.watched ≡ noted meta_name old.watched
 
 -- Nothing was told, no lock was taken or freed, and nobody was registered or called. A notice of the first commit may stand, but where the content is told none came if
 -- there was a `meta.json`.
@@ -119,7 +123,7 @@ pub record OpensIndex {D W C : Type 0} (g : Ghosts D W C) (before : D) (schema :
   pub lists : g.told.content → Lists ((g.view now.0).reads list_name) now.1.managed
   pub collections : now.1.collections ≡ no_collections
   pub quiet : (g.view now.0).faults ≡ (g.view before).faults
-  pub notes : g.told.content → (g.view before).reads meta_name ≡ None → (g.view now.0).watched ≡ noted meta_name (g.view before).watched
+  pub notes : NotesMade g.told (g.view before) (g.view now.0)
   pub frame : FrameNotesFirst g.told (g.view before) (g.view now.0)
 
 -- What a refused opening leaves: where there was a `meta.json`, each name reads what it read; where there was none, only the list and it may have been written.

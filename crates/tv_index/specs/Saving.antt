@@ -25,7 +25,7 @@ pub record FrameNotesUnless {W : Type 0} (told : Told) (none : Type 0) (old new 
   pub notes : FrameNotes told old new
   pub unless : none → new.watched ≡ old.watched
 
--- it is another error than that the device refused a call
+-- it is another error than IoError, which is what these calls answer where the device refused one
 abbrev pub IsUnrefused : TantivyError → Type 0
 IsUnrefused (errors.IoError fault) = ⊥
 IsUnrefused other = Unit {0}

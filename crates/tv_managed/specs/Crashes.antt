@@ -155,8 +155,8 @@ pub record CollectsNames {E D W C : Type 0} (g : Ghosts D W C) (names : List (Li
 
 -- What follows is cited by private functions alone.
 
--- A step that lists a name keeps track. At each moment the list may be that of the managed names and this one, where the name has no dot in front and wasn't managed;
--- no other state is possible besides, and no other file was changed.
+-- A step puts a name on the list, where that has no dot in front and isn't managed, and keeps track. At each moment the possible states are at most those that were, and
+-- where the name is put also that the list is that of the managed names and this one. Each file stands as it stood, but for the list where the name is put.
 pub record ListsName {D W C : Type 0} (g : Ghosts D W C) (old new : D × ManagedNames) (name : List ℕ) : Type 0 where
   pub tracks : IsTracked g old → KeepsTrack g old new
   pub moments : Throughout (Gains (IsNewList old.1 name) (possible_now (g.disk old.0))) (g.disk old.0) (g.disk new.0)
