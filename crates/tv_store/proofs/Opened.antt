@@ -115,7 +115,7 @@ module _ {O W C : Type 0} (g : Ghosts O W C) (outside : O) (schema : List ℕ) (
   }
 
   pub unnoted : NotesNone g.told (g.view outside) (g.view locked.outside)
-  unnoted t some = lock_frame.watched ∙ f.frame.unless (t, some)
+  unnoted tells = lock_frame.watched ∙ f.frame.unless tells
 
   pub heard_yet : (g.view locked.outside).heard ≡ (g.view outside).heard
   heard_yet = lock_frame.tells_none.heard ∙ f.frame.notes.frame.tells_none.heard
@@ -268,5 +268,5 @@ module _ {O W C : Type 0} (g : Ghosts O W C) (outside : O) (schema : List ℕ) (
     pub stays : OpeningFrame g outside result
     stays = by_result result begun refused where
       by_result : (r : Result (StoreState O) (Refused O)) → IfOk r (Begins g store) → IfErr r (λ e. NotBegun g store e.directory e.error) → OpeningFrame g outside r
-      by_result (Ok s) b n = record { ok = frame_begun s b; err = tt; stood = λ t some. b.frame.watched ∙ unnoted t some }
-      by_result (Err e) b n = record { ok = tt; err = frame_unbegun e.directory e.error n; stood = λ t some. n.watched ∙ unnoted t some }
+      by_result (Ok s) b n = record { ok = frame_begun s b; err = tt; stood = λ tells. b.frame.watched ∙ unnoted tells }
+      by_result (Err e) b n = record { ok = tt; err = frame_unbegun e.directory e.error n; stood = λ tells. n.watched ∙ unnoted tells }

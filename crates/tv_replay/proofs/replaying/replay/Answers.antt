@@ -25,7 +25,7 @@ returns-in-Err-clause-stops g c tells =
       silent = refused.tells.err;
       unread = refl;
       leaves = refused.leaves.leaves tells;
-      stood = refused.frame.stood tells;
+      stood = λ some. refused.frame.stood (tells, some);
       unchanged = refused.leaves.unchanged tells;
       cause = opening_told D.told.content D.told.locks c.args.schema.now before.reads (before.locks writer_lock_name ≡ true) (D.told.locks → before.locks writer_lock_name ≡ false) (Rose before.faults now.faults) (now.faults ≡ before.faults) c.in-Err.field-0.error tells refused.faults.cause;
     })
