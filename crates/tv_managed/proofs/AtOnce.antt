@@ -16,6 +16,7 @@ use Rattle.tv_model.proofs.CollectionStates.{done_within, has_append}
 use Rattle.tv_model.proofs.Entries.{is_itself, is_text}
 use Rattle.tv_model.proofs.DiskLaws.{weaker, touches_then}
 use Rattle.tv_model.proofs.Numbered.{put_found}
+use Rattle.tv_managed.proofs.Results.{on_err}
 use Rattle.tv_directory.specs.Images.{KeepsDisk}
 use Rattle.tv_directory.specs.View.{Kept, OnlyReads}
 use Rattle.tv_directory.specs.declared.directory.Directory.{Ghosts}
@@ -28,7 +29,6 @@ use Rattle.tv_managed.specs.declared.collection.GarbageCollectionResult.{Garbage
 use Rattle.tv_managed.proofs.Beginning.{begun_safely}
 use Rattle.tv_managed.proofs.Collections.{more_done, none_done, put_and_out, put_twice}
 use Rattle.tv_managed.proofs.Giving.{settles_asked}
-use Rattle.tv_managed.proofs.Saves.{on_err}
 use Rattle.tv_managed.proofs.Synced.{IsSynced, TriesSynced, lists_synced, settles_synced, settles_touch, tries_synced}
 use Rattle.tv_managed.proofs.Tracking.{covered_done, track_names, track_read, track_then}
 use Rattle.tv_managed.proofs.Tried.{tried_none, tried_quiet, tried_then}

@@ -1,6 +1,5 @@
 -- How the end of a collection keeps track, and what it saves.
-use Rattle.std.proofs.Common.{◌≡◌, ℕ, Bool, true, false, true≢false, not, ◌||◌, ⊎_elim, ◌⊎◌, List, Option, None, Some, refl, sym, ap, subst, ◌∙◌}
-use Rattle.std.specs.Prelude.{IsSome}
+use Rattle.std.proofs.Common.{◌≡◌, ℕ, Bool, true, false, true≢false, not, ◌||◌, ⊎_elim, ◌⊎◌, List, Option, Some, refl, sym, ap, subst, ◌∙◌}
 use Rattle.std.proofs.lemmas.Bool.{not-true, or_left, or_right}
 use Rattle.tv_model.specs.Names.{has}
 use Rattle.tv_model.specs.Listing.{Lists}
@@ -16,11 +15,6 @@ use Rattle.tv_managed.proofs.Collections.{among_done, fewer_done}
 use Rattle.tv_managed.proofs.Saves.{covers_put}
 use Rattle.tv_managed.proofs.Shortening.{lost_is_gone, was_there}
 use Rattle.tv_managed.proofs.Tracking.{covered_done, track_names, track_then}
-
--- what is there
-pub some_is : {X : Type 0} (o : Option X) → IsSome o → (x : X) × (o ≡ Some x)
-some_is None some = absurd (true≢false (sym some))
-some_is (Some x) some = (x, refl)
 
 -- a name that isn't left is done by the collection
 pub lacks_done : (names : ManagedNames) (number : ℕ) (d : Collection) → collection_at names.collections number ≡ Some d → LacksDone (without d.done names.managed) names

@@ -1,8 +1,6 @@
 -- What is read at the end of a file, and why it isn't.
-use Rattle.std.proofs.Common.{◌≡◌, ℕ, List, Option, Some, Result, Ok, Err, ⊎_elim, inl, inr, sym, ap, subst, ◌∙◌}
+use Rattle.std.proofs.Common.{◌≡◌, ℕ, List, Option, Some, ⊎_elim, inl, inr, sym, ap, subst, ◌∙◌}
 use Rattle.std.proofs.lemmas.Option.{same_Some}
-use Rattle.std.specs.Prelude.{IfErr}
-use Rattle.std.specs.Result.{IsErrAnd}
 use Rattle.tv_model.specs.Files.{KeepsOthers, Reads, Sets}
 use Rattle.tv_model.specs.Footer.{HasBody, IsFramed, IsOtherFormat, IsReadFormat, sealed}
 use Rattle.tv_model.specs.FooterForm.{FooterNumbers}
@@ -35,11 +33,6 @@ numbered bytes none footer body h =
 pub one_body : (was : Option (List ℕ)) (first second : List ℕ) → ReadsBody was first → ReadsBody was second → first ≡ second
 one_body was first second h k =
     sym (body_of_good h.0 first h.2) ∙ body_of_good h.0 second (subst (λ (l : List ℕ). HasBody l second) (same_Some _ _ (sym k.1 ∙ h.1)) k.2)
-
--- an error that was handed on
-pub handed_on : {T E : Type 0} (result : Result T E) (error : E) (P : E → Type 0) → IsErrAnd result (λ e. e ≡ error) → P error → IfErr result P
-handed_on (Ok x) error P h k = tt
-handed_on (Err e) error P h k = subst P (sym h) k
 
 -- a file is sealed where its footer was written behind its body and nothing else was changed
 pub sealed_sets : (old mid new : Reads) (name given text body : List ℕ) → KeepsOthers old mid name → given ≡ name → text ≡ sealed body → Sets mid new given (Some text) → Sets old new name (Some (sealed body))

@@ -9,6 +9,7 @@ pub mod Images
 pub mod Touching
 pub mod Synced
 pub mod Saves
+pub mod Results
 pub mod Making
 pub mod Listing
 pub mod Giving

@@ -1,5 +1,5 @@
 -- What a call that makes a file, or gives it its bytes, does to the names, to their list and to what is read, put together from its steps.
-use Rattle.std.proofs.Common.{◌≡◌, ◌≢◌, ◌⊎◌, ℕ, true, false, true≢false, List, refl, sym, ap, subst, ◌∙◌, ⊎_elim, inl, inr, Option, None, Result, Ok, Err}
+use Rattle.std.proofs.Common.{◌≡◌, ◌≢◌, ℕ, true, false, true≢false, List, refl, sym, ap, subst, ◌∙◌, ⊎_elim, inl, inr, Option, None, Result, Ok, Err}
 use Rattle.std.specs.Prelude.{IsSome, OnOk, IfErr, is_some}
 use Rattle.std.proofs.lemmas.Bool.{both_ways}
 use Rattle.std.proofs.lemmas.Result.{IfOk-from_err}
@@ -7,6 +7,7 @@ use Rattle.std.specs.Result.{IsErr}
 use Rattle.tv_model.specs.Names.{is, has, is_undotted, list_name}
 use Rattle.tv_model.specs.Files.{Reads, Same, Sets, MaySet, KeepsOthers}
 use Rattle.tv_model.specs.Listing.{IsOnList, Lists}
+use Rattle.tv_managed.proofs.Results.{on_err}
 use Rattle.tv_model.proofs.Entries.{is_itself, is_text}
 use Rattle.tv_base.specs.Causes.{IoCause, OpenWriteCause}
 use Rattle.tv_base.specs.declared.io.IoError.{IoError}
@@ -18,7 +19,7 @@ use Rattle.tv_directory.specs.declared.directory.Directory.{Ghosts}
 use Rattle.tv_managed.specs.Managed.{Covers, HasListed, ManagesFile, registering}
 use Rattle.tv_managed.specs.Names.{ManagedNames, done_names}
 use Rattle.tv_managed.proofs.Listing.{has_registered}
-use Rattle.tv_managed.proofs.Saves.{on_err, still_covers}
+use Rattle.tv_managed.proofs.Saves.{still_covers}
 use Rattle.tv_managed.proofs.Tracking.{isnt_the_list}
 
 -- a write of a name changes no other one, whatever it answers

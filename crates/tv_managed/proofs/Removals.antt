@@ -1,6 +1,6 @@
 -- Names that are taken out of a list, and names that are tried.
 use Rattle.std.proofs.Common.{◌≡◌, ℕ, suc, ◌+◌, ◌<◌, Bool, true, false, not, cond, ◌||◌, List, [], ◌∷◌, ◌++◌, map, length, get_or, drop, drop-cons, refl, sym, ap, subst, ◌∙◌, arith, string_bytes, String, Global}
-use Rattle.std.specs.List.{filter, list_all, AllByRecursion}
+use Rattle.std.specs.List.{AllByRecursion}
 use Rattle.std.specs.List.Sorted.{IsStrictlySortedBy}
 use Rattle.std.specs.Cmp.Lexicographic.{texts_ties}
 use Rattle.std.specs.Set.{remove_key}
@@ -9,21 +9,15 @@ use Rattle.std.specs.BTreeSet.{insert_key}
 use Rattle.std.specs.Ordering.{is_eq}
 use Rattle.std.specs.declared.cmp.Ordering.TheVariants.{Less}
 use Rattle.std.proofs.Math.Bool.{or-false}
+use Rattle.std.proofs.lemmas.List.Elements.{All-filter}
 use Rattle.std.proofs.lemmas.List.Kept.{IsStrictlySortedBy-filter}
+use Rattle.std.proofs.lemmas.List.Sums.{AllPass-from_list_all, list_all-from_AllPass}
 use Rattle.tv_model.specs.Names.{byte_cmp, is, has, is_plain}
 use Rattle.tv_model.specs.Collections.{done_of, failed_of, without}
 use Rattle.tv_model.proofs.Entries.{is_text, remove_inserted, sorted_put}
-use Rattle.tv_model.proofs.PlainNames.{both}
 use Rattle.tv_model.proofs.CollectionStates.{has_append}
 use Rattle.tv_managed.specs.Names.{AreManaged}
 use Rattle.tv_managed.proofs.SetsOfTexts.{bytes_removed}
-
-pub all_filtered : (p test : List ℕ → Bool) (names : List (List ℕ)) → list_all test names ≡ true → list_all test (filter p names) ≡ true
-all_filtered p test [] h = refl
-all_filtered p test (x ∷ names) h = let t = both (test x) (list_all test names) h in kept (p x) t.0 (all_filtered p test names t.1) where
-  kept : (b : Bool) → test x ≡ true → list_all test (filter p names) ≡ true → list_all test (cond b (x ∷ filter p names) (filter p names)) ≡ true
-  kept true h k = rw h k
-  kept false h k = k
 
 -- without no names
 pub without_none : (names : List (List ℕ)) → without [] names ≡ names
@@ -64,7 +58,7 @@ texts_without keys new name cut h = rw cut (bytes_removed keys name ∙ removed_
 
 -- names that are left of managed ones
 pub still_managed : (names gone : List (List ℕ)) → AreManaged names → AreManaged (without gone names)
-still_managed names gone h = record { plain = all_filtered (λ n. not (has gone n)) is_plain names h.plain; ordered = IsStrictlySortedBy-filter byte_cmp (λ n. not (has gone n)) names h.ordered }
+still_managed names gone h = record { plain = list_all-from_AllPass is_plain _ (All-filter (λ n. not (has gone n)) (λ n. is_plain n ≡ true) names (AllPass-from_list_all is_plain names h.plain)); ordered = IsStrictlySortedBy-filter byte_cmp (λ n. not (has gone n)) names h.ordered }
 
 pub texts_left : (keys new : List (String Global)) (name : List ℕ) → new ≡ remove_key (is_at (λ k. byte_cmp name (string_bytes k))) keys → AreManaged (map string_bytes keys) → AreManaged (map string_bytes new)
 texts_left keys new name cut h = rw (texts_without keys new name cut h) (still_managed (map string_bytes keys) (name ∷ []) h)

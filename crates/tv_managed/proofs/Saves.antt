@@ -1,11 +1,8 @@
 -- What a save of the list changes.
-use Rattle.std.proofs.Common.{◌≡◌, ◌≢◌, ◌⊎◌, ℕ, true, false, true≢false, List, sym, subst, ◌∙◌, ⊎_elim, Option, Result, Ok, Err}
-use Rattle.std.specs.Prelude.{OnErr}
+use Rattle.std.proofs.Common.{◌≡◌, ◌⊎◌, ℕ, true, false, true≢false, List, sym, subst, ◌∙◌, ⊎_elim, Option}
 use Rattle.tv_model.specs.Names.{is, has, is_undotted, list_name}
 use Rattle.tv_model.specs.Files.{Reads, Same}
 use Rattle.tv_model.specs.Listing.{Lists}
-use Rattle.tv_base.specs.declared.io.IoError.TheVariants as io
-use Rattle.tv_base.specs.declared.open_errors.OpenWriteError.TheVariants as write
 use Rattle.tv_managed.specs.Managed.{Covers, NeedsNoListing}
 use Rattle.tv_managed.specs.Names.{ManagedNames, done_names}
 
@@ -21,7 +18,3 @@ still_covers reads old new before after same is h = subst (Covers (reads new lis
 -- a name that isn't managed is to be listed
 pub isnt_listed : (names : ManagedNames) (name : List ℕ) → is_undotted name ≡ true → has names.managed name ≡ false → NeedsNoListing names name → ⊥
 isnt_listed names name undotted none listed = true≢false (sym (listed undotted) ∙ none)
-
-pub on_err : {A E P : Type 0} (result : Result A E) → P → OnErr result P
-on_err (Ok x) p = tt
-on_err (Err e) p = p

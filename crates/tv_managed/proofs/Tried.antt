@@ -1,9 +1,9 @@
 -- Names that are tried one after another.
-use Rattle.std.proofs.Common.{rules, ◌≡◌, ◌≢◌, ◌≤◌, ◌+◌, ℕ, Bool, true, false, cond, ◌||◌, inl, inr, ⊎_elim, List, [], ◌∷◌, ◌++◌, length, None, refl, sym, ap, subst, ◌∙◌, arith, true≢false, length-append}
+use Rattle.std.proofs.Common.{rules, ◌≡◌, ◌≤◌, ◌+◌, ℕ, Bool, true, false, cond, ◌||◌, inl, inr, ⊎_elim, List, [], ◌∷◌, ◌++◌, length, None, refl, sym, ap, subst, ◌∙◌, arith, true≢false, length-append}
 use borrow.Table.Steps.{cases}
 use Rattle.std.specs.Prelude.{IsSome}
 use Rattle.std.proofs.Math.Bool.{or-false}
-use Rattle.std.proofs.lemmas.Bool.{false_from_ne_true}
+use Rattle.std.proofs.lemmas.Bool.{false_from_ne_true, or_parts}
 use Rattle.std.proofs.lemmas.List.{nil_from_length}
 use Rattle.tv_model.specs.Names.{is, has, is_plain, list_name}
 use Rattle.tv_model.specs.Files.{KeepsOthers}
@@ -82,10 +82,6 @@ tried_name g false name old new plain e frame = record {
   frame = frame;
 }
 
-either_false : (a b : Bool) → (a || b) ≡ false → (a ≡ false) × (b ≡ false)
-either_false true b e = absurd cc
-either_false false b e = (refl, e)
-
 rises : (failed more all before mid now : ℕ) → all ≡ failed + more → FailsAtMost failed before mid → FailsAtMost more mid now → (mid ≤ 18446744073709551615 → now ≤ 18446744073709551615) → FailsAtMost all before now
 rises failed more all before mid now e a b fits =
     ⊎_elim
@@ -97,7 +93,7 @@ rises failed more all before mid now e a b fits =
 pub tried_then : {D W C : Type 0} (g : Ghosts D W C) (names more : List (List ℕ)) (old mid new : D × ManagedNames) (deleted failed deleted2 failed2 : List (List ℕ)) → Tried g names old mid deleted failed → Tried g more mid new deleted2 failed2
     → Tried g (names ++ more) old new (deleted ++ deleted2) (failed ++ failed2)
 tried_then g names more old mid new deleted failed deleted2 failed2 a b =
-    let none : (n : List ℕ) → has (deleted ++ deleted2) n ≡ false → (has deleted n ≡ false) × (has deleted2 n ≡ false) = λ n h. either_false (has deleted n) (has deleted2 n) (sym (has_append deleted deleted2 n) ∙ h) in
+    let none : (n : List ℕ) → has (deleted ++ deleted2) n ≡ false → (has deleted n ≡ false) × (has deleted2 n ≡ false) = λ n h. or_parts (has deleted n) (has deleted2 n) (sym (has_append deleted deleted2 n) ∙ h) in
     let both = tried_append names a.outcomes more b.outcomes a.each in
     let count = length-append failed failed2 in
     record {

@@ -58,7 +58,7 @@ fn names_of(alloc: Global, items: &[Value]) -> Result<Option<BTreeSet<String>>, 
 }
 
 // Puts a name among the names.
-#[tactic(auto, using(crate::proofs::SetsOfTexts::texts_inserted))]
+#[tactic(auto, using(tv_model::proofs::TextSets::texts_inserted))]
 fn put(alloc: Global, names: &mut BTreeSet<String>, name: &str) -> Result<(), Memory>
     ensures { OnOk result (names_of names.new.keys
         ≡ insert_key byte_cmp (names_of names.old.keys) name.now) }

@@ -180,7 +180,7 @@ impl<D: Directory> ManagedDirectory<D> {
     }
 
     // Adds a name to the managed ones.
-    #[tactic(auto, using(crate::proofs::SetsOfTexts::texts_inserted))]
+    #[tactic(auto, using(tv_model::proofs::TextSets::texts_inserted))]
     fn add(&mut self, name: &str) -> Result<(), Memory>
         requires { is_plain name.now ≡ true }
         ensures names { OnOk result (self.new.1 ≡ record self.old.1 {

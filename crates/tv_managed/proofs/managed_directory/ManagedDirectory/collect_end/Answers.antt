@@ -1,4 +1,5 @@
 use Rattle.std.proofs.Common.{rules, ◌≡◌, ℕ, Some, Ok, refl, ap, sym, subst, ◌∙◌, map, string_bytes}
+use Rattle.tv_managed.proofs.Results.{is_there}
 use Rattle.tv_model.specs.Names.{list_name}
 use Rattle.tv_model.specs.Collections.{Collection, Collections, collection_at, without, without_collection}
 use Rattle.tv_model.specs.Files.{Same}
@@ -8,7 +9,7 @@ use Rattle.tv_managed.specs.Collecting.{EndsCollection, Shortens, ending, names_
 use Rattle.tv_managed.specs.Crashes.{CutsList, LeavesSafely, ShortensStates}
 use Rattle.tv_managed.specs.Managed.{Covers}
 use Rattle.tv_managed.specs.Names.{ManagedNames}
-use Rattle.tv_managed.proofs.Ending.{covers_finished, covers_unfinished, end_safely, lacks_done, some_is}
+use Rattle.tv_managed.proofs.Ending.{covers_finished, covers_unfinished, end_safely, lacks_done}
 use Rattle.tv_managed.proofs.managed_directory.ManagedDirectory.collect_end.Goals as goal
 
 -- these names, without the collection of this number
@@ -18,7 +19,7 @@ finished number names = record names { collections = without_collection names.co
 pub returns-in_err-take_out-clause-ends : goal.returns-in_err-take_out-clause-ends
 returns-in_err-take_out-clause-ends g c =
     let D = g.D.Directory in
-    let some = some_is _ c.requires in
+    let some = is_there _ c.requires in
     let d = some.0 in
     let found = c.in_ok-result.ensures d (ap (λ v. collection_at v.1.collections c.args.id) c.self.view_is ∙ some.1) in
     let done : names_of c.as_slice.result.now ≡ d.done = ap names_of c.as_slice.ensures.value ∙ found.0 in
@@ -39,7 +40,7 @@ returns-clause-ends g c =
     let D = g.D.Directory in
     let old = c.args.self.now.1 in
     let reads = (D.view c.take_out.new.self.0).reads list_name in
-    let some = some_is _ c.requires in
+    let some = is_there _ c.requires in
     let With : Collections → ManagedNames = λ cs. record { managed = map string_bytes c.self-2.inside.managed.keys; collections = cs } in
     let found : (d : Collection) → collection_at old.collections c.args.id ≡ Some d → (names_of c.in_ok-result.result.deleted_files.items ≡ d.done) × (names_of c.in_ok-result.result.failed_to_delete_files.items ≡ d.failed) =
     λ d at. c.in_ok-result.ensures d (ap (λ v. collection_at v.1.collections c.args.id) c.self.view_is ∙ at) in

@@ -1,10 +1,11 @@
-use Rattle.std.proofs.Common.{rules, ◌≡◌, ◌∙◌, refl, Result, Ok, Err, subst, sym, arith}
+use Rattle.std.proofs.Common.{rules, ◌≡◌, ◌∙◌, refl, Result, Ok, Err, subst, sym}
 use Rattle.std.specs.Result.{IsErrAnd}
 use Rattle.tv_base.specs.Errors.{of_lock}
 use Rattle.tv_base.specs.declared.error.TantivyError.{TantivyError}
 use Rattle.tv_base.specs.declared.open_errors.LockError.{LockError}
 use Rattle.tv_base.specs.declared.open_errors.LockError.TheVariants as lock
 use Rattle.tv_directory.specs.Calls.{LockFaults}
+use Rattle.tv_directory.specs.ViewLaws.{tells_then}
 use Rattle.tv_directory.specs.declared.directory.Directory.{Ghosts}
 use Rattle.tv_managed.specs.Collecting.{LockedFaults, meta_lock_name}
 use Rattle.tv_managed.specs.Names.{ManagedNames}
@@ -43,15 +44,7 @@ returns-clause-asks g c =
         below = record {
           kept = record {
             frame = record {
-              tells_none = record {
-                deletes_none = record {
-                  goes_on = search rules;
-                  refusals = second.tells_none.deletes_none.refusals ∙ first.tells_none.deletes_none.refusals;
-                  alive = λ tells w lives. second.tells_none.deletes_none.alive tells w (first.tells_none.deletes_none.alive tells w lives);
-                };
-                heard = second.tells_none.heard ∙ first.tells_none.heard;
-                room = omega (arith, first.tells_none.room, second.tells_none.room);
-              };
+              tells_none = tells_then first.tells_none second.tells_none;
               locks = search rules;
             };
             watched = second.watched ∙ first.watched;

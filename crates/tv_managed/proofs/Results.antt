@@ -1,0 +1,19 @@
+-- What is known of a result or an option by one of its cases.
+use Rattle.std.proofs.Common.{◌≡◌, Option, Some, None, Result, Ok, Err, refl, sym, subst, true≢false}
+use Rattle.std.specs.Prelude.{IfErr, OnErr, IsSome}
+use Rattle.std.specs.Result.{IsErrAnd}
+
+-- what holds of an error holds of a result that hands it on
+pub handed_on : {A E : Type 0} (result : Result A E) (error : E) (P : E → Type 0) → IsErrAnd result (λ e. e ≡ error) → P error → IfErr result P
+handed_on (Ok x) error P is p = tt
+handed_on (Err e) error P is p = subst P (sym is) p
+
+-- what holds anyway holds at an error
+pub on_err : {A E P : Type 0} (result : Result A E) → P → OnErr result P
+on_err (Ok x) p = tt
+on_err (Err e) p = p
+
+-- an option that is something has a value
+pub is_there : {A : Type 0} (o : Option A) → IsSome o → (x : A) × (o ≡ Some x)
+is_there None some = absurd (true≢false (sym some))
+is_there (Some x) some = (x, refl)
