@@ -1,5 +1,5 @@
 -- What a collection at once did, from its beginning to its end.
-use Rattle.std.proofs.Common.{◌≡◌, ◌+◌, ◌-◌, ◌||◌, ◌++◌, ℕ, Bool, true, false, true≢false, List, [], None, Some, Option, Result, Ok, Err, inl, inr, ⊎_elim, ◌⊎◌, refl, sym, ap, subst, ◌∙◌, arith, append-nil}
+use Rattle.std.proofs.Common.{◌≡◌, ◌+◌, ◌-◌, ◌<◌, ◌||◌, ◌++◌, ℕ, Bool, true, false, true≢false, List, [], None, Some, Option, Result, Ok, Err, inl, inr, ⊎_elim, refl, sym, ap, subst, ◌∙◌, arith, append-nil}
 use Rattle.std.specs.Prelude.{OnErr, OnOk, length}
 use Rattle.std.specs.Result.{IsErr}
 use Rattle.std.specs.BTreeMap.{insert_entry}
@@ -17,21 +17,17 @@ use Rattle.tv_model.proofs.Entries.{is_itself, is_text}
 use Rattle.tv_model.proofs.DiskLaws.{weaker, touches_then}
 use Rattle.tv_model.proofs.Numbered.{put_found}
 use Rattle.tv_managed.proofs.Results.{on_err}
-use Rattle.tv_directory.specs.Images.{KeepsDisk}
 use Rattle.tv_directory.specs.View.{Kept, OnlyReads}
 use Rattle.tv_directory.specs.declared.directory.Directory.{Ghosts}
 use Rattle.tv_managed.specs.Collecting.{Begins, Ended, EndsCollection, FailsAtMost, Leaves, OnlyDeletes, Tried, Tries, TriesSome, ending, names_of, standing}
-use Rattle.tv_managed.specs.Crashes.{AnyOrList, CollectsNames, EndsSafely, Forgets, IsCovered, KeepsTrack, LeavesSafely, LosesNames, SettlesStates, ShortensStates}
-use Rattle.tv_managed.specs.Frames.{KeepsNames}
+use Rattle.tv_managed.specs.Crashes.{AnyOrList, CollectsNames, EndsSafely, Forgets, IsCovered, LeavesSafely, LosesNames, SettlesStates, ShortensStates}
 use Rattle.tv_managed.specs.Managed.{Covers}
 use Rattle.tv_managed.specs.Names.{ManagedNames, done_names}
 use Rattle.tv_managed.specs.declared.collection.GarbageCollectionResult.{GarbageCollectionResult}
-use Rattle.tv_managed.proofs.Beginning.{begun_safely}
 use Rattle.tv_managed.proofs.Collections.{more_done, none_done, put_and_out, put_twice}
-use Rattle.tv_managed.proofs.Giving.{settles_asked}
 use Rattle.tv_managed.proofs.Synced.{IsSynced, TriesSynced, lists_synced, settles_synced, settles_touch, tries_synced}
-use Rattle.tv_managed.proofs.Tracking.{covered_done, track_names, track_read, track_then}
-use Rattle.tv_managed.proofs.Tried.{tried_none, tried_quiet, tried_then}
+use Rattle.tv_managed.proofs.Tracking.{covered_done, track_names, track_then}
+use Rattle.tv_managed.proofs.Tried.{tried_none, tried_then}
 
 -- ---- the names
 
@@ -133,30 +129,31 @@ pub record Far {D W C : Type 0} (g : Ghosts D W C) (taken : List (List ℕ)) (ol
   pub quiet : (g.view new.0).faults ≡ (g.view old.0).faults
   pub safe : g.tells_images → LeavesSafely g (TriesSynced taken (g.disk old.0) (g.disk new.0)) old new
 
-pub far : {E D W C : Type 0} (g : Ghosts D W C) (taken : List (List ℕ)) {old asked began new : D × ManagedNames} (number : ℕ) → KeepsNames (OnlyReads g.told) g.view old asked → (g.tells_images → KeepsDisk (g.disk old.0) (g.disk asked.0))
-    → Begins taken old.1 began.1 number → OnlyReads g.told (g.view asked.0) (g.view began.0) → (g.view asked.0).faults ≡ (g.view old.0).faults → (g.view began.0).faults ≡ (g.view asked.0).faults → (g.tells_images → SettlesStates {E = E} (g.disk asked.0) (g.disk began.0) (Ok number))
-    → TriesSome g old.1 taken began new → OnlyDeletes g began new → (g.tells_images → LeavesSafely g (LosesNames taken (g.disk began.0) (g.disk new.0)) began new) → Far g taken old new
-far g taken {old} {asked} {began} {new} number asks disk begins reads quiet calm settles some only safe = record {
-  front = some.front;
-  rest = some.rest;
-  deleted = some.deleted;
-  failed = some.failed;
-  free = subst (λ k. collection_at old.1.collections k ≡ None) begins.numbered begins.free;
-  split = some.split;
-  tried = tried_then g [] _ old asked new [] [] _ _ (tried_quiet g old asked asks) (tried_then g [] _ asked began new [] [] _ _ (tried_none g asked began reads.kept (λ tell n other. reads.content tell n)) some.tried);
-  names = some.names;
-  list = λ tell. only.list tell ∙ reads.content tell list_name ∙ asks.below.content tell list_name;
-  quiet = only.faults ∙ calm ∙ quiet;
-  safe = λ tells.
-      let began_safely = begun_safely g taken {old = (asked.0, old.1)} {new = began} (Ok number) (settles tells) begins tt in
-      record {
-        tracks = λ was.
-            let first : KeepsTrack g old (asked.0, old.1) = track_read g refl (disk tells) was in
-            let second = track_then g first (began_safely.tracks first.tracked) in
-            track_then g second ((safe tells).tracks second.tracked);
-        states = tries_synced taken (settles_asked (disk tells) (settles tells)) (safe tells).states;
-      };
-}
+pub far : {E D W C : Type 0} (g : Ghosts D W C) (taken : List (List ℕ)) {old began new : D × ManagedNames} (number : ℕ) → Begins taken old.1 began.1 number → OnlyReads g.told (g.view old.0) (g.view began.0) → (g.view began.0).faults ≡ (g.view old.0).faults
+    → (g.tells_images → LeavesSafely g (SettlesStates {E = E} (g.disk old.0) (g.disk began.0) (Ok number)) old began)
+    → ((before : ManagedNames) (names : List (List ℕ)) → began.1 ≡ standing before (begun names) → number ≡ before.collections.next → TriesSome g before names began new) → OnlyDeletes g began new
+    → (g.tells_images → (before : ManagedNames) (names : List (List ℕ)) → began.1 ≡ standing before (begun names) → number ≡ before.collections.next → LeavesSafely g (LosesNames names (g.disk began.0) (g.disk new.0)) began new) → Far g taken old new
+far g taken {old} {began} {new} number begins reads calm settles tries only safe =
+    let some = tries old.1 taken begins.names begins.numbered in
+    record {
+      front = some.front;
+      rest = some.rest;
+      deleted = some.deleted;
+      failed = some.failed;
+      free = subst (λ k. collection_at old.1.collections k ≡ None) begins.numbered begins.free;
+      split = some.split;
+      tried = tried_then g [] _ old began new [] [] _ _ (tried_none g old began reads.kept (λ tell n other. reads.content tell n)) some.tried;
+      names = some.names;
+      list = λ tell. only.list tell ∙ reads.content tell list_name;
+      quiet = only.faults ∙ calm;
+      safe = λ tells.
+          let first = settles tells in
+          let second = safe tells old.1 taken begins.names begins.numbered in
+          record {
+            tracks = λ was. let tracked = first.tracks was in track_then g tracked (second.tracks tracked.tracked);
+            states = tries_synced taken first.states second.states;
+          };
+    }
 
 -- the collection that stands then
 abbrev pub last_of : {D W C : Type 0} (g : Ghosts D W C) {taken : List (List ℕ)} {old new : D × ManagedNames} → Far g taken old new → Collection
@@ -269,31 +266,45 @@ collects_unended g taken number {old} {mid} {new} e result is same f ends kept e
 abbrev pub given_back : ManagedNames → ManagedNames
 given_back names = record names { collections = record names.collections { next = names.collections.next - 1 } }
 
-pub ended_far : {D W C : Type 0} (g : Ghosts D W C) (taken : List (List ℕ)) (number : ℕ) {old mid : D × ManagedNames} {now : ManagedNames} {result : GarbageCollectionResult} → number ≡ old.1.collections.next → (f : Far g taken old mid) → Ended number (last_of g f) mid.1 now result
+ended_far : {D W C : Type 0} (g : Ghosts D W C) (taken : List (List ℕ)) (number : ℕ) {old mid : D × ManagedNames} {now : ManagedNames} {result : GarbageCollectionResult} → number ≡ old.1.collections.next → (f : Far g taken old mid) → Ended number (last_of g f) mid.1 now result
     → now ≡ left_with old.1 f.deleted (old.1.collections.next + 1)
 ended_far g taken number {old} {mid} {now} same f ended = ended_names old.1 now number (last_of g f) same f.free (ended.names ∙ ap (λ v. ending v number (last_of g f)) f.names)
 
-pub last_names : (names now last : ManagedNames) (deleted : List (List ℕ)) → now ≡ left_with names deleted (names.collections.next + 1) → last ≡ given_back now → last ≡ record names { managed = without deleted names.managed }
+last_names : (names now last : ManagedNames) (deleted : List (List ℕ)) → now ≡ left_with names deleted (names.collections.next + 1) → last ≡ given_back now → last ≡ record names { managed = without deleted names.managed }
 last_names names now last deleted is back =
     let With : ℕ → ManagedNames = λ k. record { managed = without deleted names.managed; collections = record { unfinished = names.collections.unfinished; next = k } } in
     let once : names.collections.next + 1 - 1 ≡ names.collections.next = omega arith in
     back ∙ ap given_back is ∙ ap With once
 
+-- the number was given back, which no unfinished collection has
+pub may_give_back : {E D W C : Type 0} (g : Ghosts D W C) (taken : List (List ℕ)) (number : ℕ) {old mid new : D × ManagedNames} (result : GarbageCollectionResult) → number ≡ old.1.collections.next → Far g taken old mid → EndsCollection {E = E} g number mid new (Ok result)
+    → (0 < new.1.collections.next) × (collection_at new.1.collections (new.1.collections.next - 1) ≡ None)
+may_give_back g taken number {old} {mid} {new} result same f ends =
+    let is = ended_far g taken number same f (ends.ok (last_of g f) (at_far g number same f)) in
+    let next : old.1.collections.next + 1 - 1 ≡ old.1.collections.next = omega arith in (
+      omega (arith, ap (λ v. v.collections.next) is),
+      ap (λ v. collection_at v.collections (v.collections.next - 1)) is ∙ ap (λ k. collection_at old.1.collections k) next ∙ f.free,
+    )
+
 -- all names were tried
-pub tried_all : {D W C : Type 0} (g : Ghosts D W C) (taken : List (List ℕ)) {old mid new : D × ManagedNames} (f : Far g taken old mid) → f.rest ≡ [] → Tried g [] mid new [] [] → Tried g taken old new f.deleted f.failed
+tried_all : {D W C : Type 0} (g : Ghosts D W C) (taken : List (List ℕ)) {old mid new : D × ManagedNames} (f : Far g taken old mid) → f.rest ≡ [] → Tried g [] mid new [] [] → Tried g taken old new f.deleted f.failed
 tried_all g taken {old} {mid} {new} f none more =
     subst (λ names. Tried g names old new f.deleted f.failed) (sym (f.split ∙ ap (λ r. f.front ++ r) none ∙ append-nil f.front)) (tried_on g f.tried more)
 
-pub collects_all : {E F D W C : Type 0} (g : Ghosts D W C) (taken : List (List ℕ)) (number : ℕ) {old mid : D × ManagedNames} {new : D} {now last : ManagedNames} (result : GarbageCollectionResult) → number ≡ old.1.collections.next → (f : Far g taken old mid) → f.rest ≡ []
-    → EndsCollection {E = F} g number mid (new, now) (Ok result) → now ≡ left_with old.1 f.deleted (old.1.collections.next + 1) → last ≡ record old.1 { managed = without f.deleted old.1.managed } → names_of result.deleted_files.items ≡ f.deleted → names_of result.failed_to_delete_files.items ≡ f.failed
-    → Kept g.told (g.view mid.0) (g.view new) → (g.tells_images → EndsSafely g number mid (new, now)) → CollectsNames {E = E} g taken old (new, last) (Ok result)
+pub collects_all : {E F D W C : Type 0} (g : Ghosts D W C) (taken : List (List ℕ)) (number : ℕ) {old mid : D × ManagedNames} {new : D} {now last : ManagedNames} (result : GarbageCollectionResult) → number ≡ old.1.collections.next → (f : Far g taken old mid)
+    → ((d : Collection) → collection_at mid.1.collections number ≡ Some d → d.untried ≡ []) → last ≡ given_back now → Kept g.told (g.view mid.0) (g.view new) → EndsCollection {E = F} g number mid (new, now) (Ok result) → (g.tells_images → EndsSafely g number mid (new, now))
+    → CollectsNames {E = E} g taken old (new, last) (Ok result)
 unfolding leaves_of
-collects_all g taken number {old} {mid} {new} {now} {last} result same f none ends is last_is told missed kept ended =
-    let tried : Tried g taken old (new, last) f.deleted f.failed = tried_all g taken f none (tried_none g mid (new, last) kept ends.others) in
+collects_all g taken number {old} {mid} {new} {now} {last} result same f all back kept ends ended =
+    let at = at_far g number same f in
+    let told = ends.ok (last_of g f) at in
+    let is = ended_far g taken number same f told in
+    let last_is = last_names old.1 now last f.deleted is back in
+    let tried : Tried g taken old (new, last) f.deleted f.failed = tried_all g taken f (all (last_of g f) at) (tried_none g mid (new, last) kept ends.others) in
     let managed : last.managed ≡ now.managed = ap (λ v. v.managed) last_is ∙ sym (ap (λ v. v.managed) is) in
     record {
       leaves = leaves_of g taken taken [] f.deleted f.failed (Ok result) (sym (append-nil taken)) tried last_is tt;
-      tries = tries_of g taken old (new, last) result (rw told last_is) (rw (told, missed) tried);
+      tries = tries_of g taken old (new, last) result (rw told.deleted last_is) (rw (told.deleted, told.failed) tried);
       saves = record {
         list = λ tells was. subst (Lists ((g.view new).reads list_name)) (sym managed) (ends.saves.list tells (subst (Lists ((g.view mid.0).reads list_name)) (sym (ap (λ v. v.managed) f.names)) (subst (λ r. Lists r old.1.managed) (sym (f.list tells)) was)));
         covers = λ tells was.
@@ -301,9 +312,9 @@ collects_all g taken number {old} {mid} {new} {now} {last} result same f none en
             subst (Covers ((g.view new).reads list_name)) (sym last_is) there;
       };
       saves_none = λ tells quiet n.
-          ends.saves_none tells quiet n ∙ same_where_none g f.tried tells (f.list tells) (sym told ∙ ap names_of quiet) n;
+          ends.saves_none tells quiet n ∙ same_where_none g f.tried tells (f.list tells) (sym told.deleted ∙ ap names_of quiet) n;
       safe = λ tells.
-          let end = ended tells (last_of g f) (at_far g number same f) in
+          let end = ended tells (last_of g f) at in
           let tries = (f.safe tells).states in
           record {
             tracks = λ was.

@@ -256,6 +256,10 @@ pub record BeginFaults {A D W C : Type 0} (g : Ghosts D W C) (old new : D × Man
   pub numbered : OnOk result (IsLast old.1.collections.next → ⊥)
   pub cause : IfErr result (CollectCause ⊥ (IsLast old.1.collections.next × (new ≡ old)) (Rose (g.view old.0).faults (g.view new.0).faults) ((g.view new.0).faults ≡ (g.view old.0).faults))
 
+-- a collection began of the names that a set leaves which was answered as living
+abbrev pub BeginsBeside : {S : Type 0} → (answered : S → Type 0) → (living : S → List (List ℕ)) → (old new : ManagedNames) → (number : ℕ) → Type 0
+BeginsBeside {S} answered living old new number = (set : S) × answered set × Begins (taken_by (living set) old) old new number
+
 -- What trying these names gave, one after another: the deleted ones don't read; those that failed, and all else but the list, are as they were.
 pub record Tried {D W C : Type 0} (g : Ghosts D W C) (names : List (List ℕ)) (old new : D × ManagedNames) (deleted failed : List (List ℕ)) : Type 0 where
   pub outcomes : List Bool

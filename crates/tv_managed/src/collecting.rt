@@ -8,7 +8,7 @@ ghost use Rattle.tv_directory.specs.Calls.{DeleteFaults, Deletes, EndsWriters};
 ghost use Rattle.tv_managed.specs.Crashes.{AreListed, CollectsNames, EndsSafely, IsTracked, LeavesSafely, LosesNames, CutsList, SettlesStates, StepsSafely, TriesState};
 ghost use Rattle.tv_managed.specs.Frames.{KeepsNames, OnlyAsks};
 ghost use Rattle.tv_managed.specs.Names.{AreManaged, ManagedNames};
-ghost use Rattle.tv_managed.specs.Collecting.{Among, BeginFaults, Begins, ChangesNothing, CollectFaults, EndFaults, EndsCollection, HasLeft, LockedFaults, OnlyDeletes, Shortens, Steps, TriesAll, TriesName, TriesSome, names_of, standing, taken_by};
+ghost use Rattle.tv_managed.specs.Collecting.{Among, BeginFaults, Begins, BeginsBeside, ChangesNothing, CollectFaults, EndFaults, EndsCollection, HasLeft, LockedFaults, OnlyDeletes, Shortens, Steps, TriesAll, TriesName, TriesSome, names_of, standing, taken_by};
 
 use crate::collection::{CollectStep, Collections, GarbageCollectionResult};
 use crate::list::save_managed_paths;
@@ -74,8 +74,7 @@ impl<D: Directory> ManagedDirectory<D> {
         ensures faults { CollectFaults D.Directory self.old self.new result }
         ensures frame { MayDelete D.told (D.view self.old.0) (D.view self.new.0) }
     {
-        let living = self.under_meta_lock(living)?;
-        let number = self.begin(&living)?;
+        let number = self.ask_and_begin(living)?;
         self.try_each(number)?;
         let result = self.collect_end(number)?;
         self.collections.give_back();
@@ -185,6 +184,24 @@ impl<D: Directory> ManagedDirectory<D> {
         let answer = call();
         self.release(lock);
         Ok(answer)
+    }
+
+    // Begins a collection of the names that aren't living: asks for those under the meta lock.
+    fn ask_and_begin<L: FnOnce() -> BTreeSet<String>>(
+        &mut self,
+        living: L,
+    ) -> Result<u64, TantivyError>
+        requires { L.IsAlwaysCallable living }
+        ensures begins { IfOk result (BeginsBeside (L.post living) (λ set. names_of set.keys)
+            self.old.1 self.new.1) }
+        ensures err { OnErr result (self.new.1 ≡ self.old.1) }
+        ensures faults { CollectFaults D.Directory self.old self.new result }
+        ensures frame { OnlyReads D.told (D.view self.old.0) (D.view self.new.0) }
+        ensures safe { D.tells_images → LeavesSafely D.Directory
+            (SettlesStates (D.disk self.old.0) (D.disk self.new.0) result) self.old self.new }
+    {
+        let living = self.under_meta_lock(living)?;
+        self.begin(&living)
     }
 
     // Begins a collection, where there is a number for it, once the device has kept what was written.

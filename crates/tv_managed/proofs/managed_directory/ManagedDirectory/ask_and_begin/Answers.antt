@@ -1,0 +1,22 @@
+use Rattle.std.proofs.lemmas.Result.{IfOk-from_err, IfOk-weaker}
+use Rattle.tv_managed.specs.Collecting.{names_of, taken_by}
+use Rattle.tv_managed.proofs.Beginning.{begun_safely}
+use Rattle.tv_managed.proofs.Giving.{settles_asked, settles_none}
+use Rattle.tv_managed.proofs.Tracking.{track_read}
+use Rattle.tv_managed.proofs.managed_directory.ManagedDirectory.ask_and_begin.Goals as goal
+
+pub returns-in_err-living-clause-safe : goal.returns-in_err-living-clause-safe
+returns-in_err-living-clause-safe g c = λ tells.
+    let asks = c.in_err-living.ensures.asks in
+    record { tracks = track_read g.D.Directory asks.frame.names (asks.images tells); states = settles_none (asks.images tells) (IfOk-from_err c.from_residual.result _ c.from_residual.ensures.0) }
+
+pub returns-clause-begins : goal.returns-clause-begins
+returns-clause-begins g c =
+    let names = c.in_ok-living.ensures.asks.frame.names in
+    IfOk-weaker c.begin.result _ _ (λ number begins. (c.in_ok-living.living, c.in_ok-living.ensures.answer, begins)) (rw names at c.begin.ensures.begins)
+
+pub returns-clause-safe : goal.returns-clause-safe
+returns-clause-safe g c = λ tells.
+    let asks = c.in_ok-living.ensures.asks in
+    let settles = settles_asked (asks.images tells) (c.begin.ensures.images tells) in
+    begun_safely g.D.Directory (taken_by (names_of c.in_ok-living.living.keys) c.args.self.now.1) {old = c.args.self.now} {new = c.begin.new.self} c.begin.result settles (rw asks.frame.names at c.begin.ensures.begins) (rw asks.frame.names at c.begin.ensures.err)
