@@ -90,10 +90,7 @@ impl Collection {
         requires { AreManaged (names_of names.items) }
         ensures { IfOk result (λ c. c ≡ begun (names_of names.items)) }
     {
-        let mut outcomes = Vec::new(alloc);
-        for _name in &names {
-            outcomes.push(false)?;
-        }
+        let outcomes = vec![in alloc; false; names.len()]?;
         Ok(Collection {
             names,
             outcomes,
