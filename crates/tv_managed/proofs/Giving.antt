@@ -1,7 +1,7 @@
 -- How the calls that make, write, seal and delete a file keep track.
 use Rattle.std.proofs.Common.{◌≡◌, ◌≢◌, inl, inr, ℕ, true, false, true≢false, List, sym, ap, subst, ◌∙◌, Result, Ok, Err}
 use borrow.Table.Steps.{cases}
-use Rattle.tv_model.specs.Disk.{DiskState, Absent, Possible, Disk, possible_now, Within, MayAdd, Elapses, IsSettled, Throughout}
+use Rattle.tv_model.specs.Disk.{DiskState, Absent, Disk, possible_now, Within, MayAdd, Elapses, IsSettled, Throughout}
 use Rattle.tv_model.proofs.DiskLaws.{at_end, fewer_listed, fewer_within, goes_on_run, weaker, within_step}
 use Rattle.std.specs.Prelude.{OnOk}
 use Rattle.tv_model.specs.Names.{has, is, is_undotted, list_name}
