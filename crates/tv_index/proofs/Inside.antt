@@ -1,6 +1,6 @@
 -- The canonical text of a schema's tree is a schema's text.
 use Rattle.std.proofs.Common.{◌≡◌, ℕ, ◌≤◌, List, [], ◌∷◌, ◌++◌, false, Option, Some, option_map, option_and_then, sym, ap, ◌∙◌, subst, arith}
-use Rattle.std.specs.Prelude.{IsSome, IsUtf8}
+use Rattle.std.specs.Prelude.{IsSome, IsUtf8, is_some}
 use Rattle.json.specs.Lex.{tokens}
 use Rattle.json.specs.Print.{print}
 use Rattle.json.specs.Json as json
@@ -13,7 +13,6 @@ use Rattle.serde_json.specs.Written.{compact_text, items_text, outline}
 use Rattle.serde_json.proofs.Texts.{print-outline}
 use Rattle.tv_model.specs.Schemas.{IsSchemaText, IsSchemaTree}
 use Rattle.tv_model.proofs.JsonReadBack.{bracketed, one_tree, read_of_tokens, spelled}
-use Rattle.tv_index.proofs.Options.{some_is}
 
 -- the canonical text is read inside an array too
 pub inside : (text : List ℕ) (d : Data) → text ≡ compact_text d → read text ≡ Some d → tokens text ≡ json_tokens (outline d) → depth (outline d) ≤ 32
@@ -27,7 +26,7 @@ inside text d is reads same shallow =
     ∙ tokens-print (json_tokens j) (ArePrintable-json_tokens j (subst HasNumbers one s.numbers, tt)) in
     let value : of_json j ≡ Some (array (item d no_items)) =
     ap (λ (o : Option Data). option_map array (option_and_then (λ x. option_map (item x) (Some no_items)) o)) (ap of_json (sym one) ∙ s.means) in
-    some_is (read (91 ∷ text ++ 93 ∷ [])) (array (item d no_items)) (read_of_tokens (91 ∷ text ++ 93 ∷ []) j all (omega (arith, shallow)) ∙ value)
+    ap is_some (read_of_tokens (91 ∷ text ++ 93 ∷ []) j all (omega (arith, shallow)) ∙ value)
 
 -- so that it is a schema's text
 pub canonical_form : (text : List ℕ) (d : Data) (names : List (List ℕ)) → IsSchemaTree d names → IsUtf8 text → text ≡ compact_text d → read text ≡ Some d

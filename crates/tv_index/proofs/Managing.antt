@@ -1,20 +1,13 @@
 -- What a call that saves `meta.json` does to the managed names and to their list, put together from its calls.
 use Rattle.std.proofs.Common.{◌≡◌, ◌⊎◌, inl, inr, ℕ, List, Option, Result, Ok, Err, sym, ap, subst, ◌∙◌, true}
 use Rattle.std.specs.Prelude.{IsErr, IsSome, OnErr, OnOk}
+use Rattle.std.proofs.lemmas.Result.{on_err_weaker, on_ok_weaker}
 use Rattle.tv_directory.specs.declared.directory.Directory.{Ghosts}
 use Rattle.tv_managed.specs.Managed.{Covers, ManagesFile, registering}
 use Rattle.tv_managed.specs.Names.{ManagedNames}
 use Rattle.tv_model.specs.Listing.{IsOnList, Lists}
 use Rattle.tv_model.specs.Names.{has, list_name, meta_name}
 use Rattle.tv_index.proofs.Options.{no_some}
-
-on_ok : {A E X Y : Type 0} (result : Result A E) → (X → Y) → OnOk result X → OnOk result Y
-on_ok (Ok a) f h = f h
-on_ok (Err e) f h = tt
-
-on_err : {A E X Y : Type 0} (result : Result A E) → (X → Y) → OnErr result X → OnErr result Y
-on_err (Ok a) f h = tt
-on_err (Err e) f h = f h
 
 -- ---- another answer
 
@@ -74,10 +67,10 @@ module _ {D W C : Type 0} (g : Ghosts D W C) (old mid now new : D × ManagedName
 
   pub manages_between : {A E : Type 0} (inner : Result A E) → ManagesFile g mid now meta_name inner → ManagesFile g old new meta_name inner
   manages_between inner h = record {
-    ok = on_ok inner names h.ok;
-    err = on_err inner names_or h.err;
+    ok = on_ok_weaker inner names h.ok;
+    err = on_err_weaker inner names_or h.err;
     saves = record {
-      list = λ t lists. on_ok inner (lists_out t) (h.saves.list t (lists_in t lists));
+      list = λ t lists. on_ok_weaker inner (lists_out t) (h.saves.list t (lists_in t lists));
       covers = λ t covers. covers_out t (h.saves.covers t (covers_in t covers));
     };
     unsaved = λ t put. reads_after t list_name ∙ h.unsaved t (λ undotted. ap (λ (ns : ManagedNames). has ns.managed meta_name) names_before ∙ put undotted) ∙ reads_before t list_name;

@@ -25,10 +25,6 @@ pub unless_some : {A : Type 0} (b : Bool) (o : Option A) (y : A) → cond b None
 unless_some true o y h = cc
 unless_some false o y h = (refl, h)
 
-pub some_is : {A : Type 0} (o : Option A) (x : A) → o ≡ Some x → IsSome o
-some_is None x e = cc
-some_is (Some y) x e = refl
-
 pub no_some : {A P : Type 0} (o : Option A) → o ≡ None → IsSome o → P
 no_some None is some = cc
 no_some (Some x) is some = cc
