@@ -1,6 +1,6 @@
 -- What a call that saves `meta.json` does to the managed names and to their list, put together from its calls.
 use Rattle.std.proofs.Common.{◌≡◌, ◌⊎◌, inl, inr, ℕ, List, Option, Result, Ok, Err, sym, ap, subst, ◌∙◌, true}
-use Rattle.std.specs.Prelude.{IsErr, IsSome, OnErr, OnOk}
+use Rattle.std.specs.Prelude.{IsErr, IsSome, OnErr}
 use Rattle.std.proofs.lemmas.Result.{on_err_weaker, on_ok_weaker}
 use Rattle.tv_directory.specs.declared.directory.Directory.{Ghosts}
 use Rattle.tv_managed.specs.Managed.{Covers, ManagesFile, registering}

@@ -32,9 +32,9 @@ resynced {old = old} {mid = mid} names text so_far settles =
 
 -- ---- the whole save
 
-no_ok : {A E P : Type 0} (result : Result A E) → IsErr result → OnOk result P
-no_ok (Ok a) failed = absurd cc
-no_ok (Err e) failed = tt
+no_ok : {A E : Type 0} (P : Type 0) (result : Result A E) → IsErr result → OnOk result P
+no_ok P (Ok a) failed = absurd cc
+no_ok P (Err e) failed = tt
 
 module _ {D W C : Type 0} (g : Ghosts D W C) (text : List ℕ) where
   tracks_then : {old mid new : D × ManagedNames} → KeepsTrack g old mid → KeepsTrack g mid new → KeepsTrack g old new
@@ -47,7 +47,7 @@ module _ {D W C : Type 0} (g : Ghosts D W C) (text : List ℕ) where
     states = record {
       moments = started _ (fewer_saved (g.disk old.0) old.1 text) (g.disk old.0) (inl (record { each = λ n s is. is }));
       now = record { each = λ n other. refl };
-      kept = no_ok result failed;
+      kept = no_ok _ result failed;
     };
   }
 
@@ -55,7 +55,7 @@ module _ {D W C : Type 0} (g : Ghosts D W C) (text : List ℕ) where
   pub saves_unsynced : {A B E F : Type 0} {old new : D × ManagedNames} {first : Result B F} (result : Result A E) → IsErr result → LeavesSafely g (Settles (g.disk old.0) (g.disk new.0) first) old new → LeavesSafely g (SavesStates (g.disk old.0) (g.disk new.0) old.1 text result) old new
   saves_unsynced {old = old} result failed sync = record {
     tracks = sync.tracks;
-    states = record { moments = synced old.1 text sync.states; now = record { each = λ n other. sync.states.now n }; kept = no_ok result failed };
+    states = record { moments = synced old.1 text sync.states; now = record { each = λ n other. sync.states.now n }; kept = no_ok _ result failed };
   }
 
   module _ {X B F G : Type 0} {old mid now : D × ManagedNames} {x : X} {wrote : Result B F} (sync : LeavesSafely g (Settles {E = G} (g.disk old.0) (g.disk mid.0) (Ok x)) old mid) (names : mid.1 ≡ old.1)
@@ -73,7 +73,7 @@ module _ {D W C : Type 0} (g : Ghosts D W C) (text : List ℕ) where
       states = record {
         moments = written old.1 text sync.states gives;
         now = record { each = λ n other. gives.now.each n other ∙ sync.states.now n };
-        kept = no_ok result failed;
+        kept = no_ok _ result failed;
       };
     }
 
@@ -90,7 +90,7 @@ module _ {D W C : Type 0} (g : Ghosts D W C) (text : List ℕ) where
 
     -- the second sync was refused
     pub saves_unkept : {A E H I : Type 0} {new : D × ManagedNames} {last : Result H I} (result : Result A E) → IsErr result → LeavesSafely g (Settles (g.disk now.0) (g.disk new.0) last) now new → LeavesSafely g (SavesStates (g.disk old.0) (g.disk new.0) old.1 text result) old new
-    saves_unkept result failed again = resaved result again (no_ok result failed)
+    saves_unkept result failed again = resaved result again (no_ok _ result failed)
 
 -- each call succeeded
 pub saves_kept : {X Y Z A E F G H D W C : Type 0} (g : Ghosts D W C) (text : List ℕ) {old mid now new : D × ManagedNames} {x : X} {y : Y} {z : Z} (a : A) → LeavesSafely g (Settles {E = F} (g.disk old.0) (g.disk mid.0) (Ok x)) old mid → mid.1 ≡ old.1
@@ -103,7 +103,7 @@ module _ {A B E F D W C : Type 0} (g : Ghosts D W C) {old new : D × ManagedName
   pub saves_err : {inner : Result B F} (result : Result A E) → IsErr result → text ≡ same → LeavesSafely g (SavesStates (g.disk old.0) (g.disk new.0) old.1 text inner) old new → LeavesSafely g (SavesStates (g.disk old.0) (g.disk new.0) old.1 same result) old new
   saves_err {inner} result failed is safe =
       let states = subst (λ t. SavesStates (g.disk old.0) (g.disk new.0) old.1 t inner) is safe.states in
-      record { tracks = safe.tracks; states = record { moments = states.moments; now = states.now; kept = no_ok result failed } }
+      record { tracks = safe.tracks; states = record { moments = states.moments; now = states.now; kept = no_ok _ result failed } }
 
   pub saves_ok : (a : A) (b : B) → text ≡ same → LeavesSafely g (SavesStates {E = F} (g.disk old.0) (g.disk new.0) old.1 text (Ok b)) old new → LeavesSafely g (SavesStates {E = E} (g.disk old.0) (g.disk new.0) old.1 same (Ok a)) old new
   saves_ok a b is safe =
