@@ -44,6 +44,7 @@ use Rattle.tv_replay.specs.declared.next_event.ScriptError.TheVariants as failed
 use Rattle.tv_replay.specs.declared.lines.LineError.TheVariants as line
 use Rattle.tv_replay.specs.declared.replaying.Tally.{Tally}
 use Rattle.tv_store.specs.Kept.{Kept, StoreState, FileHolds, Holds, AtMost}
+use Rattle.tv_directory.specs.Watch.{noted}
 use Rattle.tv_directory.specs.declared.directory.Directory.{Ghosts}
 use Rattle.tv_store.specs.Opening.{Opens}
 use Rattle.tv_store.specs.Telling.{AreBetween, TellsLine, TellsLines}
@@ -421,8 +422,9 @@ pub replays : {O W C : Type 0} (g : Ghosts O W C) (before : O) (schema : List �
     → (g.told.content → (s : State) → Holds (g.view new.outside).reads new.kept s → Holds (g.view now).reads new.kept s)
     → (g.view now).heard ≡ (g.view new.outside).heard → (g.view new.outside).moment ≤ (g.view now).moment → (g.view now).refusals ≡ (g.view new.outside).refusals
     → (g.told.locks → (g.view before).locks meta_lock_name ≡ true → (g.view mid.outside).locks meta_lock_name ≡ true)
+    → (g.told.content → (g.view before).reads meta_name ≡ None → (g.view now).watched ≡ noted meta_name (g.view before).watched)
     → Runs g mid new text left tally → Replays g before now schema text tally
-replays g before schema mid new now text left tally opened said refusals holds heard later refusals_now locked r =
+replays g before schema mid new now text left tally opened said refusals holds heard later refusals_now locked notes r =
     let old_reads = (g.view before).reads in
     let whole : g.told.content → (index : OpenedIndex schema old_reads) → IsWhole index.state = λ t index. reads_whole index (opened.holds t index).2 in
     let stands : g.told.content → (index : OpenedIndex schema old_reads) → DirectoryHolds index.form.settings index.form.schema (g.view now).reads (after index.state r.turns) =
@@ -465,6 +467,7 @@ replays g before schema mid new now text left tally opened said refusals holds h
           let start = opens_sound index.form.settings index.form.schema old_reads index.state as_text index.opens in
           subst (λ (x : List ℕ). IsSoundImage x (g.view now).reads) (sym same)
           (holds_sound index.form.settings index.form.schema (g.view now).reads (after index.state r.turns) (stands t index) (sound_after index.state r.turns r.applied.fits start));
+      notes = notes;
     }
 
 -- what follows from two things that are true of an error

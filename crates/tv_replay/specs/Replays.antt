@@ -20,7 +20,7 @@ use Rattle.tv_base.specs.Causes.{IsDevice}
 use Rattle.tv_base.specs.Streams.{SourceView}
 use Rattle.tv_directory.specs.Locks.{Locks, LockCause, SameLocks}
 use Rattle.tv_directory.specs.View.{View, Told, GoesOn}
-use Rattle.tv_directory.specs.Watch.{MayNote}
+use Rattle.tv_directory.specs.Watch.{MayNote, noted}
 use Rattle.tv_directory.specs.declared.directory.Directory.{Ghosts}
 use Rattle.tv_managed.specs.Collecting.{meta_lock_name}
 use Rattle.tv_base.specs.declared.open_errors.LockError.TheVariants as lock
@@ -51,7 +51,7 @@ ValidatesIn s turns = (front rest : List Turn) (outcomes : List Bool) → turns 
 -- on these events was told, line by line, and the directory holds the run's last state; each event that reads a commit's files found that it could, and where the
 -- meta lock was held none takes it; no more deletes were refused than their count rose; and from a sound start what it reads is sound. The run's readers and
 -- searchers serve as `Serves` says, and from a sound start they show the body of each file; its collections take what nothing needs, as `CollectsIn` says, and from a
--- sound start those in steps as `CollectsInStepsIn` says; its validations name the damaged files.
+-- sound start those in steps as `CollectsInStepsIn` says; its validations name the damaged files. Where an index was made a notice of it stands.
 pub record Replays {O W C : Type 0} (g : Ghosts O W C) (before now : O) (schema : List ℕ) (script : Option (List ℕ)) (tally : Tally) : Type 0 where
   pub turns : List Turn
   pub counted : tally.events ≡ length turns
@@ -70,6 +70,7 @@ pub record Replays {O W C : Type 0} (g : Ghosts O W C) (before now : O) (schema 
   pub as_sealed : g.told.content → (text : List ℕ) → IsSchema schema text → IsSoundImage text (g.view before).reads → (index : OpenedIndex schema (g.view before).reads) → ServesAsSealed index.state turns
   pub in_steps : g.told.content → (text : List ℕ) → IsSchema schema text → IsSoundImage text (g.view before).reads → (index : OpenedIndex schema (g.view before).reads) → CollectsInStepsIn index.state turns
   pub sound : g.told.content → (text : List ℕ) → IsSchema schema text → IsSoundImage text (g.view before).reads → IsSoundImage text (g.view now).reads
+  pub notes : g.told.content → (g.view before).reads meta_name ≡ None → (g.view now).watched ≡ noted meta_name (g.view before).watched
 
 -- what was told of a script was read to its end
 abbrev pub IsReadOut : SourceView → SourceView → Type 0
@@ -183,14 +184,15 @@ pub record StopsAt {W : Type 0} (told : Told) (run : RunFrom) (before now : View
   pub cause : StopsFor run.script.left run.start turns (told.locks → before.locks meta_lock_name ≡ true) (told.locks → before.locks meta_lock_name ≡ false) error
 
 -- What an opening that was refused leaves: no whole line was told, and nothing was read of the script. Where `meta.json` was there each name reads what it read, and
--- where it wasn't there may be the first commit of a new index; only of that a notice may have come. An argument and bytes that were refused changed nothing. The error
--- is the first that holds, in the order of an opening.
+-- where it wasn't there may be the first commit of a new index; only of that a notice may have come. An argument and bytes that were refused changed nothing, and left
+-- no notice. The error is the first that holds, in the order of an opening.
 pub record RefusesOpening {W : Type 0} (told : Told) (schema : List ℕ) (before now : View W) (script script_now : SourceView) (error : TantivyError) : Type 0 where
   pub silent : told.heard → TellsNoLine before.heard now.heard
   pub unread : script_now ≡ script
   pub leaves : LeavesRefused before.reads now.reads schema
   pub stood : IsSome (before.reads meta_name) → now.watched ≡ before.watched
   pub unchanged : IsRefusedFirst error → Same before.reads now.reads
+  pub unnoted : IsRefusedFirst error → now.watched ≡ before.watched
   pub cause : OpeningCause (Unit {0}) schema before.reads (told.locks → before.locks writer_lock_name ≡ true) (told.locks → before.locks writer_lock_name ≡ false) (Unit {0}) (Unit {0}) error
 
 -- an index stood there, or was made, whose files can be read; and a run stopped that began at the state of each index to which the directory opened

@@ -268,5 +268,5 @@ module _ {O W C : Type 0} (g : Ghosts O W C) (outside : O) (schema : List ℕ) (
     pub stays : OpeningFrame g outside result
     stays = by_result result begun refused where
       by_result : (r : Result (StoreState O) (Refused O)) → IfOk r (Begins g store) → IfErr r (λ e. NotBegun g store e.directory e.error) → OpeningFrame g outside r
-      by_result (Ok s) b n = record { ok = frame_begun s b; err = tt; stood = λ tells. b.frame.watched ∙ unnoted tells }
-      by_result (Err e) b n = record { ok = tt; err = frame_unbegun e.directory e.error n; stood = λ tells. n.watched ∙ unnoted tells }
+      by_result (Ok s) b n = record { ok = frame_begun s b; err = tt; stood = λ tells. b.frame.watched ∙ unnoted tells; made = λ t none. b.frame.watched ∙ lock_frame.watched ∙ f.notes t none; unnoted = tt }
+      by_result (Err e) b n = record { ok = tt; err = frame_unbegun e.directory e.error n; stood = λ tells. n.watched ∙ unnoted tells; made = tt; unnoted = λ first. absurd (first_unbegun e.directory e.error n first) }

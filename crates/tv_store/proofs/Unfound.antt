@@ -1,11 +1,12 @@
 -- Why no index was found, as a cause of an opening, and what that leaves.
-use Rattle.std.proofs.Common.{◌≡◌, inl, ℕ, List, Result, Ok, Err, sym, subst, ◌∙◌}
+use Rattle.std.proofs.Common.{◌≡◌, inl, inr, ℕ, List, Result, Ok, Err, sym, subst, ◌∙◌}
 use Rattle.std.specs.Prelude.{IfErr}
 use Rattle.std.specs.Result.{IsErrAnd}
 use Rattle.tv_base.specs.declared.error.TantivyError.{TantivyError}
 use Rattle.tv_base.specs.declared.error.TantivyError.TheVariants as errors
 use Rattle.tv_directory.specs.declared.directory.Directory.{Ghosts}
 use Rattle.tv_index.specs.Opening.{IsRefusedBytes, LeavesUnopened, NotOpened, OpenCause}
+use Rattle.tv_index.specs.Saving.{IsUnrefused}
 use Rattle.tv_model.specs.Files.{Reads}
 use Rattle.tv_model.specs.Schemas.{IsSchema}
 use Rattle.tv_store.specs.Making.{FindsNone, IsRefusedFirst}
@@ -17,6 +18,11 @@ first_bytes tells schema reads refused quiet (errors.InvalidArgument text) first
 first_bytes tells schema reads refused quiet (errors.DataCorruption why) first h = tt
 first_bytes tells schema reads refused quiet (errors.SchemaError text) first h = tt
 first_bytes tells schema reads refused quiet other first h = absurd first
+
+-- that the device refused a call is another error
+first_unrefused : (error : TantivyError) → IsRefusedFirst error → IsUnrefused error
+first_unrefused (errors.IoError fault) first = first
+first_unrefused other first = tt
 
 found_cause : (tells : Type 0) (schema text : List ℕ) (reads : Reads) (refused quiet : Type 0) (error : TantivyError) → IsSchema schema text → OpenCause tells text reads refused quiet error
     → OpeningCause tells schema reads ⊥ ⊥ refused quiet error
@@ -35,6 +41,7 @@ finds_none g outside schema text now error is n = record {
   unchanged = λ t first. n.unchanged t (first_bytes g.told.content text (g.view outside).reads _ _ error first n.cause);
   others = λ t. (n.left t).others;
   cause = found_cause g.told.content schema text (g.view outside).reads _ _ error is n.cause;
+  unnoted = λ first. n.frame.unless (inr (first_unrefused error first));
   frame = record { notes = n.frame.notes; unless = λ stood. n.frame.unless (inl stood) };
 }
 

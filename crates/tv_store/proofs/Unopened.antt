@@ -15,12 +15,12 @@ use Rattle.tv_model.specs.State.{Catalog}
 use Rattle.tv_index.specs.Opening.{LeavesUnopened}
 use Rattle.tv_store.specs.Kept.{FilesState}
 use Rattle.tv_store.specs.Making.{FindsFiles, IsRefusedFirst}
-use Rattle.tv_store.specs.Opening.{LeavesIndex, OpeningFaults}
+use Rattle.tv_store.specs.Opening.{LeavesIndex, OpeningFaults, OpeningFrame}
 use Rattle.tv_store.specs.OpeningCauses.{OpeningCause}
 use Rattle.tv_store.specs.Stays.{KeepsFiles}
 use Rattle.tv_store.specs.StoreCauses.{IsBusy, writer_lock_name}
 use Rattle.tv_store.proofs.FoundStates.{the_found}
-use Rattle.tv_store.proofs.Opened.{same_unopened}
+use Rattle.tv_store.proofs.Opened.{notified, same_unopened, unnoted}
 
 -- the lock wasn't given
 module _ {O W C : Type 0} (g : Ghosts O W C) (outside : O) (schema : List ℕ) (catalog : Catalog) (files locked : FilesState O)
@@ -37,6 +37,15 @@ module _ {O W C : Type 0} (g : Ghosts O W C) (outside : O) (schema : List ℕ) (
       unspelled = λ none. absurd (none files.form.schema f.spelled);
     };
     unchanged = λ t first. absurd (other first);
+  }
+
+  pub unlocked_stays : (IsRefusedFirst error → ⊥) → OpeningFrame g outside (Err back)
+  unlocked_stays other = record {
+    ok = tt;
+    err = notified g outside schema catalog files locked f frame;
+    stood = unnoted g outside schema catalog files locked f frame;
+    made = tt;
+    unnoted = λ first. absurd (other first);
   }
 
   -- why it wasn't

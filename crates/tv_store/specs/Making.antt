@@ -1,11 +1,12 @@
 -- How an index is found and shown, or isn't.
-use Rattle.std.specs.Prelude.{ℕ, ◌≡◌, true, List, [], map, Result, IfErr, OnOk, OnErr}
+use Rattle.std.specs.Prelude.{ℕ, ◌≡◌, true, List, [], map, None, Result, IfErr, OnOk, OnErr}
 use Rattle.std.specs.List.Sorted.{IsStrictlySortedBy}
 use Rattle.tv_base.specs.declared.error.TantivyError.{TantivyError}
 use Rattle.tv_base.specs.declared.error.TantivyError.TheVariants as errors
 use Rattle.tv_directory.specs.declared.directory.Directory.{Ghosts}
 use Rattle.tv_directory.specs.Locks.{FreesLock}
 use Rattle.tv_directory.specs.View.{DeletesNone, OnlyReads, OnlyTells}
+use Rattle.tv_directory.specs.Watch.{noted}
 use Rattle.tv_index.specs.Opening.{Finds, FrameNotesFirst, LeavesFound, LeavesUnopened}
 use Rattle.tv_model.specs.Commits.{IsCommit}
 use Rattle.tv_model.specs.Collections.{no_collections}
@@ -43,8 +44,8 @@ IsRefusedFirst (errors.DataCorruption why) = Unit {0}
 IsRefusedFirst (errors.SchemaError text) = Unit {0}
 IsRefusedFirst other = ⊥
 
--- The index that stands in this directory was found, or a new one was made: its settings and its schema, its catalog, and its files, none of them open; no collection was
--- begun.
+-- The index that stands in this directory was found, or a new one was made, of which a notice stands: its settings and its schema, its catalog, and its files, none of
+-- them open; no collection was begun.
 pub record FindsFiles {O W C : Type 0} (g : Ghosts O W C) (outside : O) (schema : List ℕ) (catalog : Catalog) (files : FilesState O) : Type 0 where
   pub spelled : IsSchema schema files.form.schema
   pub is_commit : IsCommit catalog.commit
@@ -56,14 +57,16 @@ pub record FindsFiles {O W C : Type 0} (g : Ghosts O W C) (outside : O) (schema 
   pub left : files.left ≡ []
   pub collections : files.collections ≡ no_collections
   pub quiet : (g.view files.outside).faults ≡ (g.view outside).faults
+  pub notes : g.told.content → (g.view outside).reads meta_name ≡ None → (g.view files.outside).watched ≡ noted meta_name (g.view outside).watched
   pub frame : FrameNotesFirst g.told (g.view outside) (g.view files.outside)
 
--- None was, and the directory comes back. A refused argument, and refused bytes, changed nothing.
+-- None was, and the directory comes back. A refused argument, and refused bytes, changed nothing, and left no notice.
 pub record FindsNone {O W C : Type 0} (g : Ghosts O W C) (outside : O) (schema : List ℕ) (now : O) (error : TantivyError) : Type 0 where
   pub leaves : g.told.content → LeavesRefused (g.view outside).reads (g.view now).reads schema
   pub unchanged : g.told.content → IsRefusedFirst error → Same (g.view outside).reads (g.view now).reads
   pub others : g.told.content → KeepsOtherFiles (g.view outside).reads (g.view now).reads meta_name
   pub cause : OpeningCause g.told.content schema (g.view outside).reads ⊥ ⊥ (Rose (g.view outside).faults (g.view now).faults) ((g.view now).faults ≡ (g.view outside).faults) error
+  pub unnoted : IsRefusedFirst error → (g.view now).watched ≡ (g.view outside).watched
   pub frame : FrameNotesFirst g.told (g.view outside) (g.view now)
 
 -- Each of these files can be read; or the first that can't be is refused, or the device refused a call, or memory was wanted.

@@ -1,11 +1,13 @@
 -- How an index is opened, or isn't.
-use Rattle.std.specs.Prelude.{ℕ, ◌≡◌, true, false, List, Result, IfOk, IfErr, MatchResult}
+use Rattle.std.specs.Prelude.{ℕ, ◌≡◌, true, false, List, None, Result, IfOk, IfErr, MatchResult}
 use Rattle.tv_directory.specs.declared.directory.Directory.{Ghosts}
 use Rattle.tv_directory.specs.Locks.{SameLocks, TakesLock}
+use Rattle.tv_directory.specs.Watch.{noted}
 use Rattle.tv_managed.specs.declared.managed_directory.Refused.{Refused}
 use Rattle.tv_model.specs.Collections.{no_collections}
 use Rattle.tv_model.specs.Files.{Rose, Same}
 use Rattle.tv_model.specs.Lines.{opening_of}
+use Rattle.tv_model.specs.Names.{meta_name}
 use Rattle.tv_model.specs.Schemas.{IsSchema}
 use Rattle.tv_model.specs.State.{no_readers}
 use Rattle.tv_index.specs.Opening.{Finds, LeavesFound, NotesNone}
@@ -56,8 +58,11 @@ pub record OpeningFaults {O W C : Type 0} (g : Ghosts O W C) (outside : O) (sche
   pub cause : IfErr result (λ refused. OpeningCause g.told.content schema (g.view outside).reads (IsBusy g.told.locks ((g.view outside).locks writer_lock_name ≡ true) (Rose (g.view outside).faults (g.view refused.directory).faults)) (g.told.locks → (g.view outside).locks writer_lock_name ≡ false) (Rose (g.view outside).faults (g.view refused.directory).faults) ((g.view refused.directory).faults ≡ (g.view outside).faults) refused.error)
 
 -- No writer lost its file, no delete was refused, nobody was registered or called, and no file with a dot in front was changed but the list. A notice of the first
--- commit may stand, but where the content is told none came if there was a `meta.json`.
+-- commit may stand. Where the content is told none came if there was a `meta.json`, and at Ok it stands if there was none. No notice came where an argument or bytes were
+-- refused.
 pub record OpeningFrame {O W C : Type 0} (g : Ghosts O W C) (outside : O) (result : Result (StoreState O) (Refused O)) : Type 0 where
   pub ok : IfOk result (λ store. MayNotify g.told (g.view outside) (g.view store.outside))
   pub err : IfErr result (λ refused. MayNotify g.told (g.view outside) (g.view refused.directory))
   pub stood : MatchResult result (λ store. NotesNone g.told (g.view outside) (g.view store.outside)) (λ refused. NotesNone g.told (g.view outside) (g.view refused.directory))
+  pub made : IfOk result (λ store. g.told.content → (g.view outside).reads meta_name ≡ None → (g.view store.outside).watched ≡ noted meta_name (g.view outside).watched)
+  pub unnoted : IfErr result (λ refused. IsRefusedFirst refused.error → (g.view refused.directory).watched ≡ (g.view outside).watched)

@@ -54,7 +54,7 @@ impl<O: Outside> IndexStore<O> {
     /// Opens the index that stands in a directory, or makes one with this schema where there is no
     /// `meta.json`; takes the writer lock, sees that the files of the commit can be read, and tells the
     /// opening line. A refusal gives the directory back, with the locks that it had. Where there is a
-    /// `meta.json`, no notice of it comes.
+    /// `meta.json`, no notice of it comes; of a new one a notice stands.
     ///
     /// Refusals come in this order: `InvalidArgument` for the schema, `DataCorruption` for the list of
     /// managed files, `DataCorruption` and `SchemaError` for `meta.json`, `LockFailure` for the lock,

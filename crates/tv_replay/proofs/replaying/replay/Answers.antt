@@ -11,7 +11,7 @@ use Rattle.tv_replay.specs.AppliedEvents.{Runs, FailsRun, StopsRun}
 use Rattle.tv_replay.specs.Replays.{Replays, ReplayCause, IsLockBusy, IsRefusedAt, IsQuietAt, IsReadOut, FailsReplay, StopsReplay}
 use Rattle.tv_replay.proofs.AppliedEvents.{replays, run_cause, either_rose, reads_whole, if_err_both}
 use Rattle.tv_replay.proofs.Complete.{only_memory}
-use Rattle.tv_replay.proofs.ReplayFrames.{run_frame}
+use Rattle.tv_replay.proofs.ReplayFrames.{noted_since, run_frame}
 use Rattle.tv_replay.proofs.Stopping.{stops_report, opening_cause, opening_told, busy_since_opening, meta_since, none_met}
 use Rattle.tv_replay.proofs.replaying.replay.Goals as goal
 
@@ -27,6 +27,7 @@ returns-in-Err-clause-stops g c tells =
       leaves = refused.leaves.leaves tells;
       stood = λ some. refused.frame.stood (tells, some);
       unchanged = refused.leaves.unchanged tells;
+      unnoted = refused.frame.unnoted;
       cause = opening_told D.told.content D.told.locks c.args.schema.now before.reads (before.locks writer_lock_name ≡ true) (D.told.locks → before.locks writer_lock_name ≡ false) (Rose before.faults now.faults) (now.faults ≡ before.faults) c.in-Err.field-0.error tells refused.faults.cause;
     })
 
@@ -99,7 +100,8 @@ returns-clause-done g c =
     (λ tally runs.
     replays D c.args.outside c.args.schema.now c.in-Ok.store c.apply_all-outcome.new.store c.into_outside.result text left tally opened.opens opened.tells.ok opened.frame.ok.deletes_none.refusals
     freed.holds freed.frees.frame.tells_none.heard freed.frees.frame.tells_none.deletes_none.goes_on.clock freed.frees.frame.tells_none.deletes_none.refusals
-    (λ locks held. meta_since (D.view c.args.outside).locks (D.view c.in-Ok.store.outside).locks (opened.locks.ok locks) ∙ held) runs)
+    (λ locks held. meta_since (D.view c.args.outside).locks (D.view c.in-Ok.store.outside).locks (opened.locks.ok locks) ∙ held)
+    (λ tells none. noted_since (opened.frame.made tells none) c.apply_all-outcome.ensures.frame.watched freed.frees.frame.watched) runs)
     c.apply_all-outcome.ensures.done
 
 pub returns-clause-read_out : goal.returns-clause-read_out

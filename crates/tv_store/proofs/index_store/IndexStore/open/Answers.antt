@@ -1,8 +1,8 @@
 use Rattle.std.proofs.Common.{◌≡◌, ℕ, List, true, Err, sym, subst}
 use Rattle.tv_directory.specs.Locks.{LockCause, TakesLock}
-use Rattle.tv_store.specs.Opening.{LeavesIndex, OpeningFaults}
+use Rattle.tv_store.specs.Opening.{LeavesIndex, OpeningFaults, OpeningFrame}
 use Rattle.tv_store.proofs.Opened.{opens, leaves, tells, takes, fails, stays}
-use Rattle.tv_store.proofs.Unopened.{no_first, unlocked_fails, unlocked_leaves}
+use Rattle.tv_store.proofs.Unopened.{no_first, unlocked_fails, unlocked_leaves, unlocked_stays}
 use Rattle.tv_store.proofs.index_store.IndexStore.open.Goals as goal
 
 pub returns-in-Ok-clause-opens : goal.returns-in-Ok-clause-opens
@@ -75,4 +75,14 @@ returns-in-Err-clause-leaves g c =
     let frame = c.in-Err.ensures.frame in
     subst (λ d. LeavesIndex D c.args.outside c.args.schema.now (record { error = c.from.result; directory = d })) (sym c.into_outside.ensures)
     (unlocked_leaves D c.args.outside c.args.schema.now found.catalog found.files locked c.in_ok-catalog.ensures.found frame c.from.result
+    (no_first D c.args.outside c.args.schema.now found.catalog found.files locked c.in_ok-catalog.ensures.found frame c.from.result c.in-Err.error (sym c.from.ensures)))
+
+pub returns-in-Err-clause-frame : goal.returns-in-Err-clause-frame
+returns-in-Err-clause-frame g c =
+    let D = g.O.Directory in
+    let found = c.in_ok-catalog.field-0 in
+    let locked = c.acquire_lock.new.self in
+    let frame = c.in-Err.ensures.frame in
+    subst (λ d. OpeningFrame D c.args.outside (Err (record { error = c.from.result; directory = d }))) (sym c.into_outside.ensures)
+    (unlocked_stays D c.args.outside c.args.schema.now found.catalog found.files locked c.in_ok-catalog.ensures.found frame c.from.result
     (no_first D c.args.outside c.args.schema.now found.catalog found.files locked c.in_ok-catalog.ensures.found frame c.from.result c.in-Err.error (sym c.from.ensures)))
