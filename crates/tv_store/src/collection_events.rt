@@ -38,8 +38,7 @@ fn collected(alloc: Global, done: &[FileName], failed: &[FileName]) -> Result<An
 {
     let deleted = with_names(Answer::new(alloc, "gc deleted")?, done)?;
     let failed = with_names(Answer::new(alloc, "failed")?, failed)?;
-    let answer = deleted.word(failed.as_slice())?;
-    Ok(answer)
+    deleted.word(failed.as_slice())
 }
 
 impl<O: Outside> IndexStore<O> {
@@ -48,9 +47,7 @@ impl<O: Outside> IndexStore<O> {
         ensures asks { AsksQuietly O.Directory self.old self.new }
     {
         let all = self.catalog.managed(self.files.managed())?;
-        self.files
-            .ready(all.as_slice().len().saturating_add(WORDS))?;
-        Ok(())
+        self.files.ready(all.as_slice().len().saturating_add(WORDS))
     }
 
     // The files that nothing needs are tried, and those that are done are gone.

@@ -46,10 +46,9 @@ fn commit_answer(alloc: Global, opstamp: Opstamp, count: usize) -> Result<Answer
     ensures { IfOk result (λ answer. answer ≡ line (codes "commit")
         (decimal opstamp ∷ decimal count ∷ [])) }
 {
-    let answer = Answer::new(alloc, "commit")?
+    Answer::new(alloc, "commit")?
         .number(opstamp)?
-        .number(count as u64)?;
-    Ok(answer)
+        .number(count as u64)
 }
 
 // The refusal of an id that isn't live.
@@ -133,8 +132,7 @@ impl<O: Outside> IndexStore<O> {
         ensures asks { AsksOrFails O.Directory self.old self.new result }
     {
         let answer = unknown(self.alloc, id)?;
-        let ready = self.ready(answer)?;
-        Ok(ready)
+        self.told(answer)
     }
 
     // The answer to a commit of a file that isn't sealed, in room that is made for it.
@@ -144,8 +142,7 @@ impl<O: Outside> IndexStore<O> {
         ensures asks { AsksOrFails O.Directory self.old self.new result }
     {
         let answer = unsealed(self.alloc, name)?;
-        let ready = self.ready(answer)?;
-        Ok(ready)
+        self.told(answer)
     }
 
     // The refusal of the first of these files that isn't sealed, in room that is made for it.

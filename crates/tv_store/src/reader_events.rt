@@ -58,8 +58,7 @@ impl<O: Outside> IndexStore<O> {
             self.new.outside name.now result }
         ensures frame { Asks (OnlyReads O.told) O.view self.old self.new }
     {
-        let body = self.files.open_read(name)?;
-        Ok(body)
+        self.files.open_read(name)
     }
 
     // The bodies of some sealed files, in their order.
