@@ -1,5 +1,5 @@
 -- A script replayed: how far a run has come, and what a whole run is.
-use Rattle.std.proofs.Common.{◌≡◌, ◌≢◌, ◌⊎◌, ℕ, ◌+◌, ◌*◌, ◌^◌, ◌≤◌, ◌<◌, Bool, cond, true, false, List, [], ◌∷◌, ◌++◌, map, length, Option, Some, None, Result, Ok, Err, IfErr, refl, sym, ap, subst, ◌∙◌, arith, append_assoc, length-append, inl, inr}
+use Rattle.std.proofs.Common.{◌≡◌, ◌≢◌, ◌⊎◌, ℕ, ◌+◌, ◌*◌, ◌^◌, ◌≤◌, ◌<◌, Bool, cond, true, false, List, [], ◌∷◌, ◌++◌, map, length, Option, Some, None, Result, Ok, Err, IfErr, IfOk, refl, sym, ap, subst, ◌∙◌, arith, append_assoc, length-append, inl, inr}
 use Rattle.std.specs.Prelude.{option_map, option_and_then}
 use Rattle.std.specs.Map.{lookup}
 use Rattle.std.specs.BTreeMap.{is_at}
@@ -470,7 +470,12 @@ replays g before schema mid new now text left tally opened said refusals holds h
       notes = notes;
     }
 
--- what follows from two things that are true of an error
+-- what follows from two things that are true of what is answered
+pub if_ok_both : {A : Type 0} (result : Result A TantivyError) {P Q S : A → Type 0} → ((a : A) → P a → Q a → S a) → IfOk result P → IfOk result Q → IfOk result S
+if_ok_both (Ok a) f p q = f a p q
+if_ok_both (Err e) f p q = tt
+
+-- and of an error
 pub if_err_both : {A : Type 0} (result : Result A TantivyError) {P Q S : TantivyError → Type 0} → ((error : TantivyError) → P error → Q error → S error) → IfErr result P → IfErr result Q → IfErr result S
 if_err_both (Ok a) f p q = tt
 if_err_both (Err e) f p q = f e p q

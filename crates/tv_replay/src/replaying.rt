@@ -108,8 +108,7 @@ fn apply_all<O: Outside, R: Source>(
         };
         let _answer = store.apply(&event)?;
     }
-    let tally = end_of(alloc, script, &mut buffer)?;
-    Ok(tally)
+    end_of(alloc, script, &mut buffer)
 }
 
 /// What stands after the last line that is taken: the end, or a line too many.

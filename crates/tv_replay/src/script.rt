@@ -139,8 +139,7 @@ fn event_of(alloc: Global, words: &[&[u8]]) -> Result<Option<Event>, Memory>
     } else if *word == b"open".as_slice() {
         Ok(open_of(args))
     } else if *word == b"write".as_slice() {
-        let found = write_of(alloc, args)?;
-        Ok(found)
+        write_of(alloc, args)
     } else if *word == b"seal".as_slice() {
         Ok(seal_of(args))
     } else if *word == b"docs".as_slice() {
@@ -148,8 +147,7 @@ fn event_of(alloc: Global, words: &[&[u8]]) -> Result<Option<Event>, Memory>
     } else if *word == b"deletes".as_slice() {
         Ok(deletes_of(args))
     } else if *word == b"commit".as_slice() {
-        let found = commit_of(alloc, args)?;
-        Ok(found)
+        commit_of(alloc, args)
     } else if *word == b"managed".as_slice() {
         Ok(alone(Event::Managed, args))
     } else if *word == b"validate".as_slice() {
@@ -174,6 +172,5 @@ pub fn parse_event(alloc: Global, line: &[u8]) -> Result<Option<Event>, Memory>
         return Ok(None);
     }
     let words = words_of(alloc, line)?;
-    let found = event_of(alloc, words.as_slice())?;
-    Ok(found)
+    event_of(alloc, words.as_slice())
 }

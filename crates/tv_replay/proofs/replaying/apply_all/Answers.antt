@@ -7,9 +7,9 @@ use Rattle.tv_store.specs.Applying.{GoneAt, RefusedAt}
 use Rattle.tv_store.specs.ReadCauses.{ReadsCommit, TakesMetaLock}
 use Rattle.tv_store.specs.StoreCauses.{IsBusy}
 use Rattle.tv_replay.specs.ScriptLines.{IsNoEvent, IsTooLong, pending}
-use Rattle.std.proofs.lemmas.Result.{err_from_is_err_and}
+use Rattle.std.proofs.lemmas.Result.{err_from_is_err_and, IfErr-weaker, on_ok_weaker}
 use Rattle.tv_model.specs.Script.{line_limit}
-use Rattle.tv_replay.specs.AppliedEvents.{run_causes}
+use Rattle.tv_replay.specs.AppliedEvents.{FailsRun, run_causes}
 use Rattle.tv_store.specs.Kept.{AtMost}
 use Rattle.tv_store.specs.ReaderNumbers.{FewNumbers}
 use Rattle.tv_managed.specs.Collecting.{meta_lock_name}
@@ -17,7 +17,7 @@ use Rattle.tv_replay.proofs.Progress.{begins_next}
 use Rattle.tv_replay.proofs.Stopping.{stops_between, stops_in, event_stops, script_stops, end_stops, refused_next, nothing_ahead, busy_since}
 use Rattle.tv_replay.proofs.ReadAhead.{event_known, end_known}
 use Rattle.tv_replay.proofs.ReplayFrames.{frame_then, may_note, no_time}
-use Rattle.tv_replay.proofs.AppliedEvents.{starts, goes_on, ends, stops_at_line, stops_at_long, stops_at_last, one_more_line, never_spent, event_cause, script_cause, end_cause, fails, meta_stands, rose_from}
+use Rattle.tv_replay.proofs.AppliedEvents.{starts, goes_on, ends, stops_at_line, stops_at_long, stops_at_last, one_more_line, never_spent, event_cause, script_cause, end_cause, fails, if_err_both, if_ok_both, meta_stands, rose_from}
 use Rattle.tv_replay.proofs.replaying.apply_all.Goals as goal
 
 pub loop-events-init : goal.loop-events-init
@@ -77,19 +77,26 @@ returns-in_err-_answer-clause-faults g c =
     (never_spent c.loop-events.store.kept event c.loop-events.events few line.small before.short before.few)
     (λ wrong t s held whole. meta_stands g.O.Directory.told.content (g.O.Directory.view c.loop-events.store.outside).reads c.loop-events.store.kept wrong t (after s before.run.turns) (before.run.applied.holds t s held whole))))
 
-pub returns-in_err-tally-clause-faults : goal.returns-in_err-tally-clause-faults
-returns-in_err-tally-clause-faults g c =
+pub returns-clause-faults : goal.returns-clause-faults
+returns-clause-faults g c =
     let before = c.loop-events.invariant in
     let all : c.loop-events.events ≡ 4294967295 = omega (arith, c.loop-events-test.false, c.loop-events.auto.events-end) in
-    let e = err_from_is_err_and c.from_residual-in_err-tally.result c.from_residual-in_err-tally.ensures.1 in
     let script = g.R.Source.view c.args.script.now in
-    rw (e.1, e.2) (fails (end_cause (run_causes g.O.Directory c.args.store.now c.loop-events.store script (g.R.Source.view c.end_of.new.script)) c.in_err-tally.field-0.0 c.in_err-tally.ensures.faults.cause
-    (λ rose. inr (rose_from _ _ _ before.quiet.1 rose)) (λ quiet. (before.quiet.0, quiet ∙ before.quiet.1)) (stops_at_last before.run all)))
+    let causes = run_causes g.O.Directory c.args.store.now c.loop-events.store script (g.R.Source.view c.end_of.new.script) in
+    record {
+      quiet = on_ok_weaker c.end_of.result (λ quiet. (before.quiet.0, quiet ∙ before.quiet.1)) c.end_of.ensures.faults.quiet;
+      cause =
+          IfErr-weaker c.end_of.result _ (FailsRun g.O.Directory c.args.store.now c.loop-events.store script (g.R.Source.view c.end_of.new.script))
+          (λ error cause. end_cause causes error cause (λ rose. inr (rose_from _ _ _ before.quiet.1 rose)) (λ quiet. (before.quiet.0, quiet ∙ before.quiet.1)) (stops_at_last before.run all)) c.end_of.ensures.faults.cause;
+    }
 
 pub returns-clause-done : goal.returns-clause-done
 returns-clause-done g c =
-    let all : c.in_ok-tally.tally.events ≡ c.loop-events.events = omega (arith, c.loop-events-test.false, c.loop-events.auto.events-end, c.in_ok-tally.ensures.count) in
-    ends g.O.Directory c.args.store.now c.loop-events.store _ _ c.end_of.new.buffer (g.R.Source.view c.end_of.new.script).left c.loop-events.events _ c.loop-events.invariant.run c.in_ok-tally.ensures.end all
+    if_ok_both c.end_of.result
+    (λ tally count end.
+    let all : tally.events ≡ c.loop-events.events = omega (arith, c.loop-events-test.false, c.loop-events.auto.events-end, count) in
+    ends g.O.Directory c.args.store.now c.loop-events.store _ _ c.end_of.new.buffer (g.R.Source.view c.end_of.new.script).left c.loop-events.events tally c.loop-events.invariant.run end all)
+    c.end_of.ensures.count c.end_of.ensures.end
 
 pub returns-in_err-buffer-clause-stops : goal.returns-in_err-buffer-clause-stops
 returns-in_err-buffer-clause-stops g c =
@@ -130,13 +137,16 @@ returns-in_err-_answer-clause-stops g c =
     (λ error bad. bad.1 tells (after s run.turns) held whole) (λ path none. none.1 tells (after s run.turns) held whole)
     (λ read told. sym (before.frame.locks told meta_lock_name) ∙ failed.faults.reads told read)))
 
-pub returns-in_err-tally-clause-stops : goal.returns-in_err-tally-clause-stops
-returns-in_err-tally-clause-stops g c =
+pub returns-clause-stops : goal.returns-clause-stops
+returns-clause-stops g c =
     let run = c.loop-events.invariant.run in
     let text = (g.R.Source.view c.args.script.now).left in
     let all : c.loop-events.events ≡ 4294967295 = omega (arith, c.loop-events-test.false, c.loop-events.auto.events-end) in
-    let e = err_from_is_err_and c.from_residual-in_err-tally.result c.from_residual-in_err-tally.ensures.1 in
-    rw (e.1, e.2) (stops_between g.O.Directory c.args.store.now c.loop-events.store (g.R.Source.view c.args.script.now) (g.R.Source.view c.end_of.new.script) _ _ _ run
-    (λ quiet. end_known _ _ (Rose (g.R.Source.view c.loop-events.script).faults (g.R.Source.view c.end_of.new.script).faults) ((g.R.Source.view c.end_of.new.script).faults ≡ (g.R.Source.view c.loop-events.script).faults) c.in_err-tally.field-0.0 c.in_err-tally.ensures.faults.cause c.in_err-tally.ensures.ahead.err
-    (λ rose. quiet (rose_from _ _ _ c.loop-events.invariant.quiet.1 rose)))
-    (λ s. end_stops text s run.turns _ _ (Rose (g.R.Source.view c.loop-events.script).faults (g.R.Source.view c.end_of.new.script).faults) ((g.R.Source.view c.end_of.new.script).faults ≡ (g.R.Source.view c.loop-events.script).faults) c.in_err-tally.field-0.0 (sym run.counted ∙ all) c.in_err-tally.ensures.faults.cause (refused_next text _ run.turns (λ rest. rest ≢ []) run.read)))
+    let start = (g.R.Source.view c.loop-events.script).faults in
+    let end = (g.R.Source.view c.end_of.new.script).faults in
+    if_err_both c.end_of.result
+    (λ error cause known.
+    stops_between g.O.Directory c.args.store.now c.loop-events.store (g.R.Source.view c.args.script.now) (g.R.Source.view c.end_of.new.script) _ _ error run
+    (λ quiet. end_known _ _ (Rose start end) (end ≡ start) error cause known (λ rose. quiet (rose_from _ _ _ c.loop-events.invariant.quiet.1 rose)))
+    (λ s. end_stops text s run.turns _ _ (Rose start end) (end ≡ start) error (sym run.counted ∙ all) cause (refused_next text _ run.turns (λ rest. rest ≢ []) run.read)))
+    c.end_of.ensures.faults.cause c.end_of.ensures.ahead.err
