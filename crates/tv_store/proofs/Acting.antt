@@ -5,6 +5,7 @@ use Rattle.std.proofs.lemmas.Result.{on_err_weaker}
 use Rattle.tv_base.specs.declared.error.TantivyError.{TantivyError}
 use Rattle.tv_base.specs.declared.error.TantivyError.TheVariants as errors
 use Rattle.tv_directory.specs.View.{View, Told as ToldParts, Kept as KeptView, OnlyReads, MayDelete}
+use Rattle.tv_directory.specs.ViewLaws.{goes_on_itself}
 use Rattle.tv_directory.specs.declared.directory.Directory.{Ghosts}
 use Rattle.tv_managed.specs.Collecting.{meta_lock_name}
 use Rattle.tv_model.specs.Names.{meta_name}
@@ -288,7 +289,7 @@ acts_unknown g store event error why = record {
     form = refl;
     is_open = refl;
     below = record {
-      goes_on = record { writers = λ w o. o; ended = λ t w o l. l; clock = omega arith; refusals = omega arith };
+      goes_on = goes_on_itself g.told (g.view store.outside);
       heard = refl;
       locks = λ told n. refl;
       watched = quiet_notes event;

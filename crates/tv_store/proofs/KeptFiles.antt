@@ -1,5 +1,5 @@
 -- What a call leaves of a store and its files, and why one fails that comes after another.
-use Rattle.std.proofs.Common.{◌≡◌, ℕ, List, Result, Ok, Err, refl, sym, ap, subst, ◌∙◌, arith}
+use Rattle.std.proofs.Common.{◌≡◌, ℕ, List, Result, Ok, Err, refl, sym, ap, subst, ◌∙◌}
 use Rattle.std.specs.Prelude.{IfErr, IsErrAnd, OnOk}
 use Rattle.tv_base.specs.Causes.{IoCause}
 use Rattle.tv_base.specs.Errors.{of_io}
@@ -9,6 +9,7 @@ use Rattle.tv_base.specs.declared.io.IoError.{IoError}
 use Rattle.tv_base.specs.declared.io.IoError.TheVariants as io
 use Rattle.tv_directory.specs.Calls.{IoFaults}
 use Rattle.tv_directory.specs.View.{OnlyReads, Told, View}
+use Rattle.tv_directory.specs.ViewLaws.{kept_itself}
 use Rattle.tv_directory.specs.declared.directory.Directory.{Ghosts}
 use Rattle.tv_managed.specs.Frames.{KeepsNames}
 use Rattle.tv_managed.specs.Names.{ManagedNames}
@@ -88,21 +89,4 @@ asks_after g old mid new result asks quiet h = record {
 
 -- no call was made
 pub asked_nothing : {O W : Type 0} (told : Told) (view : O → View W) (store : StoreState O) → Asks (OnlyReads told) view store store
-asked_nothing told view store = record {
-  kept = refl;
-  is_open = refl;
-  below = record {
-    kept = record {
-      frame = record {
-        tells_none = record {
-          deletes_none = record { goes_on = record { writers = λ w o. o; ended = λ t w o l. l; clock = omega arith; refusals = omega arith }; refusals = refl; alive = λ t w l. l };
-          heard = refl;
-          room = omega arith;
-        };
-        locks = λ t n. refl;
-      };
-      watched = refl;
-    };
-    content = λ t n. refl;
-  };
-}
+asked_nothing told view store = record { kept = refl; is_open = refl; below = record { kept = kept_itself told (view store.outside); content = λ t n. refl } }

@@ -97,7 +97,6 @@ fn unless_taken<W: Drop>(opened: Result<W, OpenWriteError>) -> Result<Option<W>,
 {
     match opened {
         Ok(writer) => Ok(Some(writer)),
-        // No live segment has a file that a collection holds.
         Err(OpenWriteError::FileAlreadyExists(_) | OpenWriteError::Leaving(_)) => Ok(None),
         Err(error) => Err(TantivyError::from(error)),
     }
@@ -240,7 +239,8 @@ impl<O: Outside> Files<O> {
         }
     }
 
-    /// Makes an empty file, unless the name reads, or an unfinished collection holds it.
+    /// Makes an empty file, unless the name reads, or an unfinished collection holds it. None holds a file
+    /// of a live segment.
     pub(crate) fn open(&mut self, name: FileName) -> Result<bool, TantivyError>
         requires { is_plain name ≡ true }
         ensures opened { IfOk result (λ made. made ≡ true
