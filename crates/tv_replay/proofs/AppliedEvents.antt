@@ -44,13 +44,13 @@ use Rattle.tv_replay.specs.declared.next_event.ScriptError.TheVariants as failed
 use Rattle.tv_replay.specs.declared.lines.LineError.TheVariants as line
 use Rattle.tv_replay.specs.declared.replaying.Tally.{Tally}
 use Rattle.tv_store.specs.Kept.{Kept, StoreState, FileHolds, Holds, AtMost}
-use Rattle.tv_directory.specs.Watch.{noted}
 use Rattle.tv_directory.specs.declared.directory.Directory.{Ghosts}
 use Rattle.tv_store.specs.Opening.{Opens}
 use Rattle.tv_store.specs.Telling.{AreBetween, TellsLine, TellsLines}
 use Rattle.tv_replay.specs.ScriptLines.{pending, TakesNextEvent, IsNoEvent, IsTooLong}
 use Rattle.tv_store.specs.ReaderNumbers.{FewNumbers}
 use Rattle.serde_json.specs.Data.{Data}
+use Rattle.tv_index.specs.Opening.{NotesMade}
 use Rattle.tv_index.specs.Standing.{MetaCause, OfRead}
 use Rattle.tv_model.specs.Meaning.{Means, MeansNothing, MeansOther}
 use Rattle.tv_model.proofs.OneMeaning.{one_meaning}
@@ -422,7 +422,7 @@ pub replays : {O W C : Type 0} (g : Ghosts O W C) (before : O) (schema : List �
     → (g.told.content → (s : State) → Holds (g.view new.outside).reads new.kept s → Holds (g.view now).reads new.kept s)
     → (g.view now).heard ≡ (g.view new.outside).heard → (g.view new.outside).moment ≤ (g.view now).moment → (g.view now).refusals ≡ (g.view new.outside).refusals
     → (g.told.locks → (g.view before).locks meta_lock_name ≡ true → (g.view mid.outside).locks meta_lock_name ≡ true)
-    → (g.told.content → (g.view before).reads meta_name ≡ None → (g.view now).watched ≡ noted meta_name (g.view before).watched)
+    → NotesMade g.told (g.view before) (g.view now)
     → Runs g mid new text left tally → Replays g before now schema text tally
 replays g before schema mid new now text left tally opened said refusals holds heard later refusals_now locked notes r =
     let old_reads = (g.view before).reads in

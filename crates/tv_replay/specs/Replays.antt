@@ -20,7 +20,7 @@ use Rattle.tv_base.specs.Causes.{IsDevice}
 use Rattle.tv_base.specs.Streams.{SourceView}
 use Rattle.tv_directory.specs.Locks.{Locks, LockCause, SameLocks}
 use Rattle.tv_directory.specs.View.{View, Told, GoesOn}
-use Rattle.tv_directory.specs.Watch.{MayNote, noted}
+use Rattle.tv_directory.specs.Watch.{MayNote}
 use Rattle.tv_directory.specs.declared.directory.Directory.{Ghosts}
 use Rattle.tv_managed.specs.Collecting.{meta_lock_name}
 use Rattle.tv_base.specs.declared.open_errors.LockError.TheVariants as lock
@@ -30,7 +30,7 @@ use Rattle.tv_replay.specs.declared.replaying.Replayed.{Replayed}
 use Rattle.tv_replay.specs.declared.replaying.Tally.{Tally}
 use Rattle.tv_replay.specs.ScriptLines.{IsNoEvent, IsTooLong, IsAhead}
 use Rattle.tv_store.specs.ReadCauses.{ReadFault, TakesMetaLock}
-use Rattle.tv_index.specs.Opening.{OpenCause}
+use Rattle.tv_index.specs.Opening.{NotesMade, OpenCause}
 use Rattle.tv_store.specs.StoreCauses.{IsBusy, WriteFault, writer_lock_name}
 use Rattle.tv_store.specs.OpeningCauses.{IsSomeSchema, OpeningCause, schema_refusal}
 use Rattle.tv_store.specs.Making.{IsRefusedFirst, LeavesRefused}
@@ -70,7 +70,7 @@ pub record Replays {O W C : Type 0} (g : Ghosts O W C) (before now : O) (schema 
   pub as_sealed : g.told.content → (text : List ℕ) → IsSchema schema text → IsSoundImage text (g.view before).reads → (index : OpenedIndex schema (g.view before).reads) → ServesAsSealed index.state turns
   pub in_steps : g.told.content → (text : List ℕ) → IsSchema schema text → IsSoundImage text (g.view before).reads → (index : OpenedIndex schema (g.view before).reads) → CollectsInStepsIn index.state turns
   pub sound : g.told.content → (text : List ℕ) → IsSchema schema text → IsSoundImage text (g.view before).reads → IsSoundImage text (g.view now).reads
-  pub notes : g.told.content → (g.view before).reads meta_name ≡ None → (g.view now).watched ≡ noted meta_name (g.view before).watched
+  pub notes : NotesMade g.told (g.view before) (g.view now)
 
 -- what was told of a script was read to its end
 abbrev pub IsReadOut : SourceView → SourceView → Type 0

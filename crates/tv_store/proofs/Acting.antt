@@ -18,6 +18,7 @@ use Rattle.tv_model.specs.Machine.{catalog_step, step}
 use Rattle.tv_model.specs.Readable.{ReadsGood}
 use Rattle.tv_model.specs.declared.event.Event.{Event}
 use Rattle.tv_model.specs.declared.event.Event.TheVariants as events
+use Rattle.tv_store.proofs.Results.{on_err}
 use Rattle.tv_store.specs.Kept.{Kept, StoreState, Holds, AtMost}
 use Rattle.tv_store.specs.Exhausted.{IsExhausted, PassesEnd, number_after}
 use Rattle.tv_store.specs.ReaderNumbers.{FewNumbers}
@@ -32,7 +33,6 @@ use Rattle.tv_store.specs.Catalogs.{CatalogCause, FitsCatalog}
 use Rattle.tv_store.proofs.FewNumbers.{few_more, none_given}
 use Rattle.tv_store.proofs.Holding.{same_holds}
 use Rattle.tv_store.proofs.Lifting.{catalog_held, numbers_grow, plain_event}
-use Rattle.tv_store.proofs.OpenFiles.{on_err}
 use Rattle.tv_store.proofs.Steps.{IsNoCommit, notes_none, cause_in, locking_cause_in, locks_none, takes_lock_in, reads_none, leaves_old, old_at_memory, stepped, stepped_reading, stepped_deleting, stepped_committing, at_most, numbers_stay, same_lens}
 
 -- what an event passes that only wrote files, or that deleted some
@@ -138,7 +138,7 @@ module _ {O W C : Type 0} (g : Ghosts O W C) (old new : StoreState O) (event sho
   acts_reading none good reads did room lens numbers faults frame =
       let below = frame.below.kept in
       acts (stepped_reading g old new shown none (λ s. step s shown []) good result below.frame.tells_none.deletes_none.refusals (λ s. refl) reads did) room lens numbers faults
-      (λ tells. on_err result ((g.view new.outside).reads meta_name ≡ (g.view old.outside).reads meta_name) (frame.below.content tells meta_name))
+      (λ tells. on_err result (frame.below.content tells meta_name))
       (λ tells n dot other. frame.below.content tells n)
       (record { form = frame.form; is_open = frame.is_open; below = passed g.told shown (g.view old.outside) (g.view new.outside) none below })
 
@@ -165,7 +165,7 @@ module _ {O W C : Type 0} (g : Ghosts O W C) (old new : StoreState O) (event sho
       let below = frame.below.kept in
       acts (step_alone none good below.frame.tells_none.deletes_none.refusals step) room lens (λ bound few. begun (bound + written_by shown) result anew)
       (faults_alone ⊥ (λ never. absurd never) free faults)
-      (λ tells. on_err result ((g.view new.outside).reads meta_name ≡ (g.view old.outside).reads meta_name) (frame.below.content tells meta_name))
+      (λ tells. on_err result (frame.below.content tells meta_name))
       (λ tells n dot other. frame.below.content tells n)
       (record { form = frame.form; is_open = frame.is_open; below = passed g.told shown (g.view old.outside) (g.view new.outside) none below }) where
         begun : (bound : ℕ) (r : Result (List ℕ) TantivyError) → OnOk r ((new.kept.collections ≡ no_collections) × (new.kept.catalog.reading ≡ no_readers)) → OnOk r (FewNumbers bound new.kept.catalog.reading new.kept.collections)
@@ -182,7 +182,7 @@ module _ {O W C : Type 0} (g : Ghosts O W C) (old new : StoreState O) (event sho
   acts_beginning none good takes step room lens next faults frame =
       let below = frame.stays.below.kept in
       acts (step_alone none good below.frame.tells_none.deletes_none.refusals step) room lens (λ bound few. more bound result next few) faults
-      (λ tells. on_err result ((g.view new.outside).reads meta_name ≡ (g.view old.outside).reads meta_name) (frame.stays.below.content tells meta_name))
+      (λ tells. on_err result (frame.stays.below.content tells meta_name))
       (λ tells n dot other. frame.stays.below.content tells n)
       (record { form = frame.stays.form; is_open = frame.stays.is_open; below = passed g.told shown (g.view old.outside) (g.view new.outside) none below }) where
         more : (bound : ℕ) (r : Result (List ℕ) TantivyError) → OnOk r (new.kept.collections.next ≡ old.kept.collections.next + 1) → FewNumbers bound old.kept.catalog.reading old.kept.collections
@@ -261,7 +261,7 @@ acts_known g old mid new event known result steps fits kept outside is_open answ
     (λ bound h. at_most bound (written_by event) new.kept (subst (AtMost bound) (sym now) h))
     (λ bound few. ok_result result (subst (λ (k : Kept). FewNumbers (bound + written_by event) k.catalog.reading k.collections) (sym now) (numbers_grow bound old.kept.catalog old.kept.collections old.kept.managed event known few steps)))
     (faults_alone g old new event event refl result ⊥ (λ never. absurd never) (plain.free old.kept.catalog) (subst (λ o. EventFaults ⊥ (g.view o) (g.view new.outside) result) outside faults))
-    (λ tells. on_err result ((g.view new.outside).reads meta_name ≡ (g.view old.outside).reads meta_name) (below.content tells meta_name))
+    (λ tells. on_err result (below.content tells meta_name))
     (λ tells n dot other. below.content tells n)
     (record { form = ap (λ (k : Kept). k.form) now; is_open = frame.is_open ∙ is_open; below = passed g.told event (g.view old.outside) (g.view new.outside) plain.none below.kept }) where
       here : (s : State) → Holds (g.view old.outside).reads old.kept s → catalog_step s.catalog s.managed event ≡ Some known

@@ -6,13 +6,13 @@ use Rattle.tv_base.specs.declared.error.TantivyError.TheVariants as errors
 use Rattle.tv_directory.specs.View.{MayDelete, OnlyReads, Told, View}
 use Rattle.tv_directory.specs.declared.directory.Directory.{Ghosts}
 use Rattle.tv_model.specs.Names.{meta_name}
+use Rattle.tv_store.proofs.Results.{on_err}
 use Rattle.tv_store.specs.Acting.{OnFiles}
 use Rattle.tv_store.specs.Kept.{Kept, StoreState}
 use Rattle.tv_store.specs.Stays.{Asks, AsksOrFails}
 use Rattle.tv_store.specs.StoreCauses.{EventCause}
 use Rattle.tv_store.proofs.FewNumbers.{none_given}
 use Rattle.tv_store.proofs.KeptFiles.{asked_nothing, fails_after}
-use Rattle.tv_store.proofs.OpenFiles.{on_err}
 
 -- what only reads deletes nothing
 pub may_delete : {W : Type 0} {told : Told} {old new : View W} → OnlyReads told old new → MayDelete told old new
@@ -43,7 +43,7 @@ module _ {O W C : Type 0} (g : Ghosts O W C) (keeps : View W → View W → Type
       record {
         room = room;
         faults = record { quiet = asks.faults.quiet; cause = spends_none_in _ _ spent result asks.faults.cause };
-        meta = λ tells. on_err result _ (asks.frame.below.content tells meta_name);
+        meta = λ tells. on_err result (asks.frame.below.content tells meta_name);
         dotted = λ tells n dot other. asks.frame.below.content tells n;
         numbers = none_given result (ap (λ (k : Kept). k.collections) kept);
         frame = record {

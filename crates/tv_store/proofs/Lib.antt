@@ -1,3 +1,4 @@
+pub mod Results
 pub mod CollectionEvents
 pub mod OpenFiles
 pub mod Removals

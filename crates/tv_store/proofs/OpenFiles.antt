@@ -1,6 +1,6 @@
 -- The entries of open files, and what of them stays true.
 use Rattle.std.proofs.Common.{◌≡◌, ◌⊎◌, inl, inr, ℕ, Bool, true, false, true≢false, cond, List, [], ◌∷◌, map, Option, Some, None, option_map, is_some, length, ◌++◌, ◌+◌, ◌<◌, length-append, refl, sym, ap, subst, ◌∙◌, Ok, Err}
-use Rattle.std.specs.Prelude.{IsSome, OnErr, Result}
+use Rattle.std.specs.Prelude.{IsSome, Result}
 use Rattle.std.specs.Ordering.{is_eq, match_ordering}
 use Rattle.std.specs.declared.cmp.Ordering.{Ordering}
 use Rattle.std.specs.declared.cmp.Ordering.TheVariants.{Less, Equal, Greater}
@@ -226,11 +226,6 @@ open_answer before o left h = record { yes = λ e. absurd (true≢false (sym e))
 
 pub left_answer : (before o : Option (List ℕ)) (left : Bool) → left ≡ true → Asked before o left false
 left_answer before o left h = record { yes = λ e. absurd (true≢false (sym e)); no = λ e. inr (inr h) }
-
--- a claim about an error holds of what holds anyway
-pub on_err : {A E : Type 0} (r : Result A E) (P : Type 0) → P → OnErr r P
-on_err (Ok x) P h = tt
-on_err (Err e) P h = h
 
 -- a plain name is on the list
 pub plain_registered : (names names' after : List (List ℕ)) (asked name : List ℕ) → after ≡ registered names asked → names ≡ names' → asked ≡ name → is_plain name ≡ true → after ≡ insert_key byte_cmp names' name

@@ -1,9 +1,8 @@
 -- The events of readers: which files are read, why a read fails, and what is held afterwards.
 use Rattle.std.proofs.Common.{◌≡◌, ◌≢◌, inl, inr, ℕ, zero, suc, ◌+◌, ◌<◌, Bool, true, false, true≢false, List, [], ◌∷◌, ◌++◌, map, length, take, drop, get_or, string_bytes, Option, Some, None, refl, sym, ap, subst, ◌∙◌, arith, append_assoc}
 use Rattle.std.proofs.Math.Logic.{⊎_map}
-use Rattle.std.specs.Prelude.{IsSome, option_map, String, Result, Ok, Err, IfErr}
+use Rattle.std.specs.Prelude.{IsSome, option_map, String}
 use Rattle.std.specs.Global.{Global}
-use Rattle.std.specs.Result.{IsErrAnd}
 use Rattle.std.proofs.lemmas.List.{take_more, map_push, take-append-drop, drop_more}
 use Rattle.std.proofs.lemmas.Grind.{flat_map-append}
 use Rattle.std.proofs.lemmas.Bool.{or_left, or_right}
@@ -96,11 +95,6 @@ body_cause tells reads name refused quiet (read.IoError fault path) fits (inr (s
 body_cause tells reads name refused quiet (read.IncompatibleIndex why) fits (some, still) is_name err outside =
     (still, λ t. refused_at reads name (read.IncompatibleIndex why) (err t).0 (outside t).0 (err t).1 (outside t).1 (err t).2 (outside t).2)
 body_cause tells reads name refused quiet read.Memory fits cause is_name err outside = cause
-
--- an error that was made of another
-pub failed_as : {A : Type 0} (result : Result A TantivyError) (given : TantivyError) (P : TantivyError → Type 0) → IsErrAnd result (λ e. e ≡ given) → P given → IfErr result P
-failed_as (Ok a) given P h p = tt
-failed_as (Err e) given P h p = subst P (sym h) p
 
 -- the error of a read isn't that of a file that was to be made
 pub reads_make_none : (error : OpenReadError) → MakesNoFile (of_open_read error)

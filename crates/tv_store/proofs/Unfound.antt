@@ -1,7 +1,5 @@
 -- Why no index was found, as a cause of an opening, and what that leaves.
-use Rattle.std.proofs.Common.{◌≡◌, inl, inr, ℕ, List, Result, Ok, Err, sym, subst, ◌∙◌}
-use Rattle.std.specs.Prelude.{IfErr}
-use Rattle.std.specs.Result.{IsErrAnd}
+use Rattle.std.proofs.Common.{◌≡◌, inl, inr, ℕ, List, sym, subst, ◌∙◌}
 use Rattle.tv_base.specs.declared.error.TantivyError.{TantivyError}
 use Rattle.tv_base.specs.declared.error.TantivyError.TheVariants as errors
 use Rattle.tv_directory.specs.declared.directory.Directory.{Ghosts}
@@ -44,8 +42,3 @@ finds_none g outside schema text now error is n = record {
   unnoted = λ first. n.frame.unless (inr (first_unrefused error first));
   frame = record { notes = n.frame.notes; unless = λ stood. n.frame.unless (inl stood) };
 }
-
--- what is true of an error that was handed on
-pub returned : {A E : Type 0} (result : Result A E) (given : E) (P : E → Type 0) → IsErrAnd result (λ e. e ≡ given) → P given → IfErr result P
-returned (Ok a) given P is p = tt
-returned (Err e) given P is p = subst P (sym is) p

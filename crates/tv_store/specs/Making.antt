@@ -1,13 +1,12 @@
 -- How an index is found and shown, or isn't.
-use Rattle.std.specs.Prelude.{ℕ, ◌≡◌, true, List, [], map, None, Result, IfErr, OnOk, OnErr}
+use Rattle.std.specs.Prelude.{ℕ, ◌≡◌, true, List, [], map, Result, IfErr, OnOk, OnErr}
 use Rattle.std.specs.List.Sorted.{IsStrictlySortedBy}
 use Rattle.tv_base.specs.declared.error.TantivyError.{TantivyError}
 use Rattle.tv_base.specs.declared.error.TantivyError.TheVariants as errors
 use Rattle.tv_directory.specs.declared.directory.Directory.{Ghosts}
 use Rattle.tv_directory.specs.Locks.{FreesLock}
 use Rattle.tv_directory.specs.View.{DeletesNone, OnlyReads, OnlyTells}
-use Rattle.tv_directory.specs.Watch.{noted}
-use Rattle.tv_index.specs.Opening.{Finds, FrameNotesFirst, LeavesFound, LeavesUnopened}
+use Rattle.tv_index.specs.Opening.{Finds, FrameNotesFirst, LeavesFound, LeavesUnopened, NotesMade}
 use Rattle.tv_model.specs.Commits.{IsCommit}
 use Rattle.tv_model.specs.Collections.{no_collections}
 use Rattle.tv_model.specs.Files.{Reads, Rose, Same}
@@ -57,7 +56,7 @@ pub record FindsFiles {O W C : Type 0} (g : Ghosts O W C) (outside : O) (schema 
   pub left : files.left ≡ []
   pub collections : files.collections ≡ no_collections
   pub quiet : (g.view files.outside).faults ≡ (g.view outside).faults
-  pub notes : g.told.content → (g.view outside).reads meta_name ≡ None → (g.view files.outside).watched ≡ noted meta_name (g.view outside).watched
+  pub notes : NotesMade g.told (g.view outside) (g.view files.outside)
   pub frame : FrameNotesFirst g.told (g.view outside) (g.view files.outside)
 
 -- None was, and the directory comes back. A refused argument, and refused bytes, changed nothing, and left no notice.

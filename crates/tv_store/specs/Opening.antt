@@ -1,16 +1,14 @@
 -- How an index is opened, or isn't.
-use Rattle.std.specs.Prelude.{ℕ, ◌≡◌, true, false, List, None, Result, IfOk, IfErr, MatchResult}
+use Rattle.std.specs.Prelude.{ℕ, ◌≡◌, true, false, List, Result, IfOk, IfErr, MatchResult}
 use Rattle.tv_directory.specs.declared.directory.Directory.{Ghosts}
 use Rattle.tv_directory.specs.Locks.{SameLocks, TakesLock}
-use Rattle.tv_directory.specs.Watch.{noted}
 use Rattle.tv_managed.specs.declared.managed_directory.Refused.{Refused}
 use Rattle.tv_model.specs.Collections.{no_collections}
 use Rattle.tv_model.specs.Files.{Rose, Same}
 use Rattle.tv_model.specs.Lines.{opening_of}
-use Rattle.tv_model.specs.Names.{meta_name}
 use Rattle.tv_model.specs.Schemas.{IsSchema}
 use Rattle.tv_model.specs.State.{no_readers}
-use Rattle.tv_index.specs.Opening.{Finds, LeavesFound, NotesNone}
+use Rattle.tv_index.specs.Opening.{Finds, LeavesFound, NotesMade, NotesNone}
 use Rattle.tv_model.specs.Index.{FoundIndex, HasFiles, OpenedIndex, opened_catalog}
 use Rattle.tv_model.specs.Readable.{CanRead}
 use Rattle.tv_store.specs.Kept.{StoreState, Holds, AtMost}
@@ -64,5 +62,5 @@ pub record OpeningFrame {O W C : Type 0} (g : Ghosts O W C) (outside : O) (resul
   pub ok : IfOk result (λ store. MayNotify g.told (g.view outside) (g.view store.outside))
   pub err : IfErr result (λ refused. MayNotify g.told (g.view outside) (g.view refused.directory))
   pub stood : MatchResult result (λ store. NotesNone g.told (g.view outside) (g.view store.outside)) (λ refused. NotesNone g.told (g.view outside) (g.view refused.directory))
-  pub made : IfOk result (λ store. g.told.content → (g.view outside).reads meta_name ≡ None → (g.view store.outside).watched ≡ noted meta_name (g.view outside).watched)
+  pub made : IfOk result (λ store. NotesMade g.told (g.view outside) (g.view store.outside))
   pub unnoted : IfErr result (λ refused. IsRefusedFirst refused.error → (g.view refused.directory).watched ≡ (g.view outside).watched)

@@ -2,11 +2,11 @@ use Rattle.std.proofs.Common.{◌≡◌, rules, sym, ap, subst, ◌∙◌}
 use Rattle.tv_model.specs.Collections.{held}
 use Rattle.tv_model.specs.Files.{Rose}
 use Rattle.tv_model.specs.Names.{has, meta_name}
+use Rattle.tv_store.proofs.Results.{handed_on}
 use Rattle.tv_store.specs.StoreCauses.{EventCause}
 use Rattle.tv_store.specs.Kept.{names_below}
 use Rattle.tv_store.proofs.CollectingFiles.{end_cause, end_spares, ends_so}
 use Rattle.tv_store.proofs.OpenFiles.{still_open, AreOpen}
-use Rattle.tv_store.proofs.ReaderEvents.{failed_as}
 use Rattle.tv_store.proofs.files.Files.collect_end.Goals as goal
 
 pub returns-in_err-_result-clause-faults : goal.returns-in_err-_result-clause-faults
@@ -17,7 +17,7 @@ returns-in_err-_result-clause-faults g c =
     record {
       quiet = search rules;
       cause =
-          failed_as c.from_residual.result error (EventCause (Rose (D.view c.args.self.now.outside).faults after) (after ≡ (D.view c.args.self.now.outside).faults) ⊥) c.from_residual.ensures.1
+          handed_on c.from_residual.result error (EventCause (Rose (D.view c.args.self.now.outside).faults after) (after ≡ (D.view c.args.self.now.outside).faults) ⊥) c.from_residual.ensures.1
           (subst (λ o. EventCause (Rose (D.view o).faults after) (after ≡ (D.view o).faults) ⊥ error) (ap (λ d. d.0) c.directory_mut.ensures.value ∙ ap (λ v. v.outside) c.self.view_is)
           (end_cause _ _ error c.in_err-_result.ensures.faults.cause c.in_err-_result.ensures.faults.unlocked));
     }

@@ -1,10 +1,11 @@
 use Rattle.std.proofs.Common.{ap, [], refl, sym, subst, ◌∙◌}
+use Rattle.tv_store.proofs.Results.{on_err}
 use Rattle.tv_directory.specs.View.{Kept, WriterState}
 use Rattle.tv_managed.specs.Writers.{IsNewManaged}
 use Rattle.tv_store.specs.Kept.{names_below}
 use Rattle.tv_store.proofs.KeptFiles.{kept_made, wants_then}
 use Rattle.tv_store.proofs.NewFiles.{failed_then, found_faults, found_so, made_so, made_then, opened_so, others_then, quiet_then, was_made}
-use Rattle.tv_store.proofs.OpenFiles.{still_files, put_files, same_files, kept_collections, new_open, bodies, bodies_put, on_err, AreFiles}
+use Rattle.tv_store.proofs.OpenFiles.{still_files, put_files, same_files, kept_collections, new_open, bodies, bodies_put, AreFiles}
 use Rattle.tv_store.proofs.files.Files.open.Goals as goal
 
 pub invariant_of-self : goal.invariant_of-self
@@ -14,7 +15,7 @@ pub returns-in_err-writer-clause-others : goal.returns-in_err-writer-clause-othe
 returns-in_err-writer-clause-others g c = others_then g.O.Directory c.directory_mut.result.now c.open_write-opened.new.self c.args.self.now (c.directory_mut.ensures.value ∙ ap names_below c.self.view_is) c.as_str.result.now c.args.name c.as_str.ensures.text c.open_write-opened.ensures.creates.others
 
 pub returns-in_err-writer-clause-kept : goal.returns-in_err-writer-clause-kept
-returns-in_err-writer-clause-kept g c = on_err c.from_residual.result _ (ap (λ v. v.open_files) c.self.view_is)
+returns-in_err-writer-clause-kept g c = on_err c.from_residual.result (ap (λ v. v.open_files) c.self.view_is)
 
 pub returns-in_err-writer-clause-faults : goal.returns-in_err-writer-clause-faults
 returns-in_err-writer-clause-faults g c =
@@ -51,7 +52,7 @@ pub returns-in_err-insert-clause-others : goal.returns-in_err-insert-clause-othe
 returns-in_err-insert-clause-others g c = others_then g.O.Directory c.directory_mut.result.now c.open_write-opened.new.self c.args.self.now (c.directory_mut.ensures.value ∙ ap names_below c.self.view_is) c.as_str.result.now c.args.name c.as_str.ensures.text c.open_write-opened.ensures.creates.others
 
 pub returns-in_err-insert-clause-kept : goal.returns-in_err-insert-clause-kept
-returns-in_err-insert-clause-kept g c = on_err c.from_residual-in_err-insert.result _ (ap (λ es. bodies (λ w. (g.O.Directory.state_of w).written) es) c.in_err-insert.ensures.err ∙ ap (λ v. v.open_files) c.self.view_is)
+returns-in_err-insert-clause-kept g c = on_err c.from_residual-in_err-insert.result (ap (λ es. bodies (λ w. (g.O.Directory.state_of w).written) es) c.in_err-insert.ensures.err ∙ ap (λ v. v.open_files) c.self.view_is)
 
 pub returns-in_err-insert-clause-faults : goal.returns-in_err-insert-clause-faults
 returns-in_err-insert-clause-faults g c =

@@ -1,7 +1,8 @@
 use Rattle.std.proofs.Common.{ap, ◌∙◌, length, ◌+◌, ◌<◌, arith, sym, subst}
+use Rattle.tv_store.proofs.Results.{on_err}
 use Rattle.tv_directory.specs.View.{Kept}
 use Rattle.tv_store.proofs.KeptFiles.{io_fails, kept_managed, wants_then}
-use Rattle.tv_store.proofs.OpenFiles.{still_files, put_files, left_files, found_open, same_files, written_open, must_be_open, body_is, same_body_is, bodies_put, bodies_left, longer_fits, others_kept, there_is, more_is, on_err, AreFiles}
+use Rattle.tv_store.proofs.OpenFiles.{still_files, put_files, left_files, found_open, same_files, written_open, must_be_open, body_is, same_body_is, bodies_put, bodies_left, longer_fits, others_kept, there_is, more_is, AreFiles}
 use Rattle.tv_store.proofs.files.Files.write.Goals as goal
 
 pub unreachable-requires : goal.unreachable-requires
@@ -22,7 +23,7 @@ returns-in_err-write-clause-others g c tells =
     others_kept (λ d. (g.O.Directory.view d).reads) c.directory_mut.result.now.0 c.args.self.now.outside c.write.new.self.0 (g.O.Directory.state_of c.in-Some.file.writer.writer).name c.args.name (ap (λ d. d.0) c.directory_mut.ensures.value ∙ ap (λ v. v.outside) c.self.view_is) file.name_is (c.write.ensures.touches.others tells)
 
 pub returns-in_err-write-clause-closed : goal.returns-in_err-write-clause-closed
-returns-in_err-write-clause-closed g c = on_err c.from_residual.result _ (bodies_left (λ w. (g.O.Directory.state_of w).written) c.self.inside.files.entries c.remove.new.self.entries c.args.self.now.open_files _ c.remove.ensures.entries (ap (λ v. v.open_files) c.self.view_is))
+returns-in_err-write-clause-closed g c = on_err c.from_residual.result (bodies_left (λ w. (g.O.Directory.state_of w).written) c.self.inside.files.entries c.remove.new.self.entries c.args.self.now.open_files _ c.remove.ensures.entries (ap (λ v. v.open_files) c.self.view_is))
 
 pub overflow_add-len : goal.overflow_add-len
 overflow_add-len g c =
@@ -40,7 +41,7 @@ returns-in_err-insert-clause-others g c tells =
 
 pub returns-in_err-insert-clause-closed : goal.returns-in_err-insert-clause-closed
 returns-in_err-insert-clause-closed g c =
-    on_err c.from_residual-in_err-insert.result _ (bodies_left (λ w. (g.O.Directory.state_of w).written) c.self.inside.files.entries c.insert.new.self.entries c.args.self.now.open_files _ (c.in_err-insert.ensures.err ∙ c.remove.ensures.entries) (ap (λ v. v.open_files) c.self.view_is))
+    on_err c.from_residual-in_err-insert.result (bodies_left (λ w. (g.O.Directory.state_of w).written) c.self.inside.files.entries c.insert.new.self.entries c.args.self.now.open_files _ (c.in_err-insert.ensures.err ∙ c.remove.ensures.entries) (ap (λ v. v.open_files) c.self.view_is))
 
 pub invariant_of-self-2 : goal.invariant_of-self-2
 invariant_of-self-2 g c =

@@ -1,10 +1,11 @@
 use Rattle.std.proofs.Common.{◌≡◌, ◌<◌, length, sym, subst, ◌∙◌, arith, rules}
 use Rattle.std.proofs.lemmas.List.{take_all}
 use Rattle.tv_model.specs.Files.{Rose}
+use Rattle.tv_store.proofs.Results.{handed_on}
 use Rattle.tv_store.specs.Bodies.{AreBodies, AreGood, FailsAt}
 use Rattle.tv_store.proofs.Asking.{asks_later}
 use Rattle.tv_store.proofs.Holding.{same_holds}
-use Rattle.tv_store.proofs.ReaderEvents.{failed_as, fails_here, bodies_more, good_more}
+use Rattle.tv_store.proofs.ReaderEvents.{fails_here, bodies_more, good_more}
 use Rattle.tv_store.proofs.index_store.IndexStore.read_bodies.Goals as goal
 
 pub returns-in_err-body-clause-faults : goal.returns-in_err-body-clause-faults
@@ -16,7 +17,7 @@ returns-in_err-body-clause-faults g c =
     record {
       quiet = search rules;
       cause =
-          failed_as c.from_residual.result c.in_err-body.field-0.0
+          handed_on c.from_residual.result c.in_err-body.field-0.0
           (FailsAt tells (D.view c.args.self.now.outside).reads c.args.names.now (Rose (D.view c.args.self.now.outside).faults (D.view c.read_body.new.self.outside).faults) ((D.view c.read_body.new.self.outside).faults ≡ (D.view c.args.self.now.outside).faults))
           c.from_residual.ensures.1
           (fails_here tells (D.view c.args.self.now.outside).reads (D.view c.loop-name.self.outside).reads c.args.names.now c.loop-name.name-index c.name-item.result

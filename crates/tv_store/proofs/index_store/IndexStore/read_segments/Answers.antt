@@ -4,11 +4,12 @@ use Rattle.tv_index.specs.Segments.{entry_of}
 use Rattle.tv_model.specs.Files.{Rose}
 use Rattle.tv_model.specs.Segments.{all_required, required_names}
 use Rattle.tv_model.specs.declared.segment.LiveSegment.{LiveSegment}
+use Rattle.tv_store.proofs.Results.{handed_on}
 use Rattle.tv_store.specs.Bodies.{AreGood, AreSealed, FailsAt, ReadsSegment, ReadsSegments}
 use Rattle.tv_store.specs.declared.snapshot.SegmentReader.{SegmentReader}
 use Rattle.tv_store.proofs.Asking.{asks_later}
 use Rattle.tv_store.proofs.Holding.{same_holds}
-use Rattle.tv_store.proofs.ReaderEvents.{failed_as, segments_fail, segments_good, segment_is_sealed, read_more}
+use Rattle.tv_store.proofs.ReaderEvents.{segments_fail, segments_good, segment_is_sealed, read_more}
 use Rattle.tv_store.proofs.index_store.IndexStore.read_segments.Goals as goal
 
 pub returns-in_err-reader-clause-faults : goal.returns-in_err-reader-clause-faults
@@ -24,7 +25,7 @@ returns-in_err-reader-clause-faults g c =
     record {
       quiet = search rules;
       cause =
-          failed_as c.from_residual.result c.in_err-reader.field-0.0
+          handed_on c.from_residual.result c.in_err-reader.field-0.0
           (FailsAt tells (D.view c.args.self.now.outside).reads (all_required (map entry_of items)) (Rose (D.view c.args.self.now.outside).faults (D.view c.read_segment.new.self.outside).faults) ((D.view c.read_segment.new.self.outside).faults ≡ (D.view c.args.self.now.outside).faults))
           c.from_residual.ensures.1
           (segments_fail tells (D.view c.args.self.now.outside).reads (D.view c.loop-segment.self.outside).reads (map entry_of items) i (entry_of item)

@@ -11,13 +11,14 @@ use Rattle.tv_model.specs.Readable.{AreGoodFiles}
 use Rattle.tv_model.specs.Segments.{all_required}
 use Rattle.tv_model.specs.State.{Snapshot}
 use Rattle.tv_model.specs.declared.segment.LiveSegment.{LiveSegment}
+use Rattle.tv_store.proofs.Results.{handed_on}
 use Rattle.tv_store.specs.Applying.{HoldsNone, LacksIn}
 use Rattle.tv_index.specs.declared.segment_meta.InnerSegmentMeta.{InnerSegmentMeta}
 use Rattle.tv_store.specs.Bodies.{AreSealed}
 use Rattle.tv_store.specs.ReadCauses.{LoadingCause}
 use Rattle.tv_store.proofs.Holding.{same_holds}
 use Rattle.tv_store.proofs.LoadedCommits.{loaded_commit, loads_none, shown_is}
-use Rattle.tv_store.proofs.ReaderEvents.{commit_fails, failed_as}
+use Rattle.tv_store.proofs.ReaderEvents.{commit_fails}
 use Rattle.tv_store.proofs.index_store.IndexStore.read_snapshot.Goals as goal
 
 pub returns-in_err-meta-clause-faults : goal.returns-in_err-meta-clause-faults
@@ -30,7 +31,7 @@ returns-in_err-meta-clause-faults g c =
     record {
       quiet = search rules;
       cause =
-          failed_as c.from_residual.result c.in_err-meta.field-0.0
+          handed_on c.from_residual.result c.in_err-meta.field-0.0
           (LoadingCause ⊥ (Rose start end) (end ≡ start) ⊥ (MetaCause tells (Some old.kept.form.schema) ((D.view old.outside).reads meta_name) (Rose start end) (end ≡ start)) (LacksIn tells (D.view old.outside).reads old.kept) (λ path. HoldsNone tells (D.view old.outside).reads old.kept))
           c.from_residual.ensures.1
           (loads_none tells (D.view old.outside).reads old.kept (Rose start end) (end ≡ start) c.in_err-meta.field-0.0 c.in_err-meta.ensures.faults.cause);
@@ -49,7 +50,7 @@ returns-in_err-segments-clause-faults g c =
     record {
       quiet = search rules;
       cause =
-          failed_as c.from_residual-in_err-segments.result c.in_err-segments.field-0.0
+          handed_on c.from_residual-in_err-segments.result c.in_err-segments.field-0.0
           (LoadingCause ⊥ (Rose start end) (end ≡ start) ⊥ load (LacksIn tells (D.view old.outside).reads old.kept) (λ path. HoldsNone tells (D.view old.outside).reads old.kept))
           c.from_residual-in_err-segments.ensures.1
           (commit_fails tells (D.view old.outside).reads (D.view mid.outside).reads old.kept load (map entry_of c.as_slice.result.now) start (D.view mid.outside).faults end c.in_err-segments.field-0.0

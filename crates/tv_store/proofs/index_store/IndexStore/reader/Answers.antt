@@ -3,6 +3,7 @@ use Rattle.tv_model.specs.Files.{Rose}
 use Rattle.tv_model.specs.declared.event.Event.TheVariants as events
 use Rattle.tv_index.specs.Standing.{MetaCause}
 use Rattle.tv_model.specs.Names.{meta_name}
+use Rattle.tv_store.proofs.Results.{handed_on}
 use Rattle.tv_managed.specs.Collecting.{meta_lock_name}
 use Rattle.tv_store.specs.Kept.{Kept}
 use Rattle.tv_store.specs.Exhausted.{PassesEnd, number_after}
@@ -10,7 +11,7 @@ use Rattle.tv_store.specs.ReaderNumbers.{FewNumbers}
 use Rattle.tv_store.specs.Applying.{BadIn, HoldsNone}
 use Rattle.tv_store.specs.StoreCauses.{IsBusy}
 use Rattle.tv_store.specs.ReadCauses.{IsReadError, LoadingCause}
-use Rattle.tv_store.proofs.ReaderEvents.{busy_before, failed_as, few_with_new, later_fails}
+use Rattle.tv_store.proofs.ReaderEvents.{busy_before, few_with_new, later_fails}
 use Rattle.tv_store.proofs.Asking.{asks_later}
 use Rattle.tv_store.proofs.AskedReads.{no_answer, only_reads, wants_memory}
 use Rattle.tv_store.proofs.KeptFiles.{asked_nothing}
@@ -28,10 +29,10 @@ returns-in_err-shown-clause-faults g c =
     record {
       quiet = search rules;
       free = search rules;
-      reads = λ told. failed_as c.from_residual-in_err-shown.result c.in_err-shown.field-0.0 (λ error. IsReadError error → (D.view old.outside).locks meta_lock_name ≡ false) c.from_residual-in_err-shown.ensures.1
+      reads = λ told. handed_on c.from_residual-in_err-shown.result c.in_err-shown.field-0.0 (λ error. IsReadError error → (D.view old.outside).locks meta_lock_name ≡ false) c.from_residual-in_err-shown.ensures.1
           (λ r. sym (room.frame.below.kept.frame.locks told meta_lock_name) ∙ c.in_err-shown.ensures.faults.reads told r);
       cause =
-          failed_as c.from_residual-in_err-shown.result c.in_err-shown.field-0.0
+          handed_on c.from_residual-in_err-shown.result c.in_err-shown.field-0.0
           (LoadingCause busy (Rose start end) (end ≡ start) (PassesEnd (number_after old.kept.catalog (events.Reader c.args.policy))) (λ error. (Unit {0}) × MetaCause tells (Some old.kept.form.schema) ((D.view old.outside).reads meta_name) (Rose start end) (end ≡ start) error) (λ error. (Unit {0}) × BadIn tells (D.view old.outside).reads old.kept (events.Reader c.args.policy) error) (λ path. (Unit {0}) × HoldsNone tells (D.view old.outside).reads old.kept))
           c.from_residual-in_err-shown.ensures.1
           (later_fails tells (D.view old.outside).reads (D.view c.ready.new.self.outside).reads old.kept c.ready.new.self.kept (events.Reader c.args.policy) (λ s held. refl) (PassesEnd (number_after old.kept.catalog (events.Reader c.args.policy))) _ busy (Unit {0})

@@ -5,6 +5,7 @@ use Rattle.tv_model.specs.declared.event.Event.TheVariants as events
 use Rattle.tv_model.specs.State.{Catalog, Reader, reader_at}
 use Rattle.tv_index.specs.Standing.{MetaCause}
 use Rattle.tv_model.specs.Names.{meta_name}
+use Rattle.tv_store.proofs.Results.{handed_on}
 use Rattle.tv_managed.specs.Collecting.{meta_lock_name}
 use Rattle.tv_store.specs.Kept.{Kept}
 use Rattle.tv_store.specs.Exhausted.{PassesEnd, number_after}
@@ -12,7 +13,7 @@ use Rattle.tv_store.specs.ReaderNumbers.{FewNumbers}
 use Rattle.tv_store.specs.Applying.{BadIn, HoldsNone}
 use Rattle.tv_store.specs.StoreCauses.{IsBusy}
 use Rattle.tv_store.specs.ReadCauses.{IsReadError, LoadingCause}
-use Rattle.tv_store.proofs.ReaderEvents.{busy_before, failed_as, few_with_reloaded, later_fails, mapped, reload_reads, reload_passes}
+use Rattle.tv_store.proofs.ReaderEvents.{busy_before, few_with_reloaded, later_fails, mapped, reload_reads, reload_passes}
 use Rattle.tv_store.proofs.Asking.{asks_later}
 use Rattle.tv_store.proofs.AskedReads.{no_answer, only_reads, wants_memory}
 use Rattle.tv_store.proofs.KeptFiles.{asked_nothing}
@@ -49,10 +50,10 @@ returns-in_err-shown-clause-faults g c =
     record {
       quiet = search rules;
       free = search rules;
-      reads = λ told. failed_as c.from_residual-in_err-shown.result c.in_err-shown.field-0.0 (λ error. IsReadError error → (D.view old.outside).locks meta_lock_name ≡ false) c.from_residual-in_err-shown.ensures.1
+      reads = λ told. handed_on c.from_residual-in_err-shown.result c.in_err-shown.field-0.0 (λ error. IsReadError error → (D.view old.outside).locks meta_lock_name ≡ false) c.from_residual-in_err-shown.ensures.1
           (λ r. sym (room.frame.below.kept.frame.locks told meta_lock_name) ∙ c.in_err-shown.ensures.faults.reads told r);
       cause =
-          failed_as c.from_residual-in_err-shown.result c.in_err-shown.field-0.0
+          handed_on c.from_residual-in_err-shown.result c.in_err-shown.field-0.0
           (LoadingCause busy (Rose start end) (end ≡ start) (PassesEnd (number_after old.kept.catalog (events.Reload c.args.number))) (λ error. (IsSome (reader_at old.kept.catalog c.args.number)) × MetaCause tells (Some old.kept.form.schema) ((D.view old.outside).reads meta_name) (Rose start end) (end ≡ start) error) (λ error. (IsSome (reader_at old.kept.catalog c.args.number)) × BadIn tells (D.view old.outside).reads old.kept (events.Reload c.args.number) error) (λ path. (IsSome (reader_at old.kept.catalog c.args.number)) × HoldsNone tells (D.view old.outside).reads old.kept))
           c.from_residual-in_err-shown.ensures.1
           (later_fails tells (D.view old.outside).reads (D.view c.ready.new.self.outside).reads old.kept c.ready.new.self.kept (events.Reload c.args.number)
