@@ -4,6 +4,7 @@ use crate::texts::{
     Texts, at_line, name_of, named, number_of, numbers_of, rounds_of, spelled, text_of, texts_of,
     words_of,
 };
+use anyhow::Context;
 use std::alloc::Global;
 
 // The lines of a case, each with its number, from its first line on.
@@ -94,10 +95,8 @@ fn case_of(alloc: Global, block: &Block, texts: &Texts) -> anyhow::Result<Case> 
 
 // Adds a case, whose name no other one has.
 fn add_case(cases: &mut Vec<Case>, case: Case) -> anyhow::Result<()> {
-    for other in cases.iter() {
-        if other.name == case.name {
-            anyhow::bail!("{}: another case has the name {}", case.at, case.name);
-        }
+    if cases.iter().any(|other| other.name == case.name) {
+        anyhow::bail!("{}: another case has the name {}", case.at, case.name);
     }
     cases.push(case)?;
     Ok(())
@@ -307,21 +306,9 @@ fn tell(alloc: Global, run: &mut Run, piece: Piece) -> anyhow::Result<()> {
 
 // A piece is told in place of the last one where a delete is refused.
 fn tell_otherwise(run: &mut Run, piece: Piece) -> anyhow::Result<()> {
-    if !replace_last(run.wanted.otherwise.as_mut_slice(), piece) {
-        anyhow::bail!("a line that is told comes before or");
-    }
+    let last = run.wanted.otherwise.last_mut();
+    *last.context("a line that is told comes before or")? = piece;
     Ok(())
-}
-
-// Puts a piece in place of the last one. Whether there is one.
-fn replace_last(pieces: &mut [Piece], piece: Piece) -> bool {
-    match pieces.last_mut() {
-        Some(last) => {
-            *last = piece;
-            true
-        }
-        None => false,
-    }
 }
 
 // A file, a schema, or the words of the command line.
@@ -359,10 +346,8 @@ fn push_word(alloc: Global, words: &mut Vec<String>, word: &str) -> anyhow::Resu
 
 // A word of the command line.
 fn word_of(alloc: Global, word: &str) -> anyhow::Result<String> {
-    match String::from_utf8(text_of(alloc, word)?) {
-        Ok(word) => Ok(word),
-        Err(_) => anyhow::bail!("the words of a command line are UTF-8"),
-    }
+    let word = String::from_utf8(text_of(alloc, word)?).ok();
+    word.context("the words of a command line are UTF-8")
 }
 
 // A schema, which stands under a path.

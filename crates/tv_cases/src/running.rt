@@ -3,6 +3,7 @@ ghost use Rattle.std.specs.Prelude.{◌≡◌, None, IfOk, IfSome, true};
 ghost use Rattle.tv_model.specs.Names.{is_file_name};
 
 use crate::case::{Given, Locks};
+use anyhow::Context;
 use std::alloc::Global;
 use tv_base::{IoFault, IoKind, LockError, MANAGED_FILEPATH, OpenReadError, Source, is_plain_name};
 use tv_directory::{Bench, Directory, Lock, NoWatch, index_writer_lock, meta_lock};
@@ -214,10 +215,7 @@ pub(crate) fn empty(alloc: Global) -> anyhow::Result<CaseBench> {
 fn checked(name: &str) -> anyhow::Result<&str>
     ensures { IfOk result (λ name. is_file_name name.now ≡ true) }
 {
-    match file_name(name) {
-        Some(name) => Ok(name),
-        None => anyhow::bail!("no file has the name \"{name}\""),
-    }
+    file_name(name).context(format_args!("no file has the name \"{name}\""))
 }
 
 // The same name, if a file can have it.

@@ -1,4 +1,5 @@
 //! Texts of cases: bytes, names, numbers and words, and what is written shorter.
+use anyhow::Context;
 use std::alloc::Global;
 use tv_base::{MANAGED_FILEPATH, is_plain_name};
 
@@ -18,24 +19,19 @@ pub(crate) fn text_of(alloc: Global, text: &str) -> anyhow::Result<Vec<u8>> {
 
 // The bytes of a text, in which `\xNN` is a byte and `\n` a line feed.
 fn bytes_of(alloc: Global, text: &str) -> anyhow::Result<Vec<u8>> {
-    let mut bytes = Vec::new(alloc);
-    let mut is_first = true;
-    for part in text.split('\\') {
-        if is_first {
-            bytes.extend_from_slice(part.as_bytes())?;
-        } else {
-            push_escaped(&mut bytes, part)?;
-        }
-        is_first = false;
+    let mut parts = text.split('\\');
+    let mut bytes = Vec::from_slice(alloc, parts.next().unwrap_or("").as_bytes())?;
+    for part in parts {
+        push_escaped(&mut bytes, part)?;
     }
     Ok(bytes)
 }
 
 // Adds what a part after a backslash means.
 fn push_escaped(bytes: &mut Vec<u8>, part: &str) -> anyhow::Result<()> {
-    let Some((byte, rest)) = escaped(part) else {
-        anyhow::bail!("after a backslash comes n, or x and two hexadecimal digits");
-    };
+    let (byte, rest) = escaped(part).context(
+        "after a backslash comes n, or x and two hexadecimal digits",
+    )?;
     bytes.push(byte)?;
     bytes.extend_from_slice(rest.as_bytes())?;
     Ok(())
@@ -60,24 +56,17 @@ fn byte_of(digits: &str) -> Option<u8> {
 
 // A text in which `${TEXT*N}` is written out, as N times TEXT.
 fn written_out(alloc: Global, text: &str) -> anyhow::Result<String> {
-    let mut out = String::new(alloc);
-    let mut is_first = true;
-    for part in text.split("${") {
-        if is_first {
-            out.push_str(part)?;
-        } else {
-            push_repeated(alloc, &mut out, part)?;
-        }
-        is_first = false;
+    let mut parts = text.split("${");
+    let mut out = String::from_str(alloc, parts.next().unwrap_or(""))?;
+    for part in parts {
+        push_repeated(alloc, &mut out, part)?;
     }
     Ok(out)
 }
 
 // Adds what a part after `${` means.
 fn push_repeated(alloc: Global, out: &mut String, part: &str) -> anyhow::Result<()> {
-    let Some((piece, count, after)) = repeated(part) else {
-        anyhow::bail!("a repetition is ${{TEXT*N}}");
-    };
+    let (piece, count, after) = repeated(part).context("a repetition is ${TEXT*N}")?;
     if piece.contains('#') {
         push_numbered(alloc, out, piece, count)?;
     } else {
@@ -90,19 +79,8 @@ fn push_repeated(alloc: Global, out: &mut String, part: &str) -> anyhow::Result<
 // The text of a repetition, how often it comes, and what stands after it.
 fn repeated(part: &str) -> Option<(&str, u32, &str)> {
     let (inside, after) = part.split_once('}')?;
-    let (piece, count) = piece_of(inside)?;
-    Some((piece, count, after))
-}
-
-// The text of a repetition, and how often it comes.
-fn piece_of(inside: &str) -> Option<(&str, u32)> {
     let (piece, count) = inside.rsplit_once('*')?;
-    Some((piece, count_of(count)?))
-}
-
-// How often a text comes.
-fn count_of(text: &str) -> Option<u32> {
-    u32::try_from(number(text)?).ok()
+    Some((piece, u32::try_from(number(count)?).ok()?, after))
 }
 
 // Adds a piece so often.
@@ -139,10 +117,7 @@ fn number(text: &str) -> Option<u64> {
 
 /// The number of a text.
 pub(crate) fn number_of(text: &str) -> anyhow::Result<u64> {
-    match number(text) {
-        Some(number) => Ok(number),
-        None => anyhow::bail!("\"{text}\" is no number"),
-    }
+    number(text).context(format_args!("\"{text}\" is no number"))
 }
 
 /// The numbers of a text, one at least, with spaces between them.
@@ -162,18 +137,10 @@ fn push_number(numbers: &mut Vec<u64>, word: &str) -> anyhow::Result<()> {
 
 /// The name and the text of `NAME = TEXT`. Where the text is empty, the line can end with the sign.
 pub(crate) fn named(text: &str) -> anyhow::Result<(&str, &str)> {
-    match split_name(text) {
-        Some(named) => Ok(named),
-        None => anyhow::bail!("this line needs NAME = TEXT"),
-    }
-}
-
-// The name and the text, if there is a sign between them.
-fn split_name(text: &str) -> Option<(&str, &str)> {
-    match text.split_once(" = ") {
-        Some(named) => Some(named),
-        None => Some((text.strip_suffix(" =")?, "")),
-    }
+    let without_text = text.strip_suffix(" =").map(|name| (name, ""));
+    text.split_once(" = ")
+        .or(without_text)
+        .context("this line needs NAME = TEXT")
 }
 
 /// The name of a file.
@@ -276,15 +243,10 @@ pub(crate) fn spelled(
     line: &str,
     texts: &[(&str, String)],
 ) -> anyhow::Result<String> {
-    let mut out = String::new(alloc);
-    let mut is_first = true;
-    for part in line.split('$') {
-        if is_first {
-            out.push_str(part)?;
-        } else {
-            push_spelled(&mut out, part, texts)?;
-        }
-        is_first = false;
+    let mut parts = line.split('$');
+    let mut out = String::from_str(alloc, parts.next().unwrap_or(""))?;
+    for part in parts {
+        push_spelled(&mut out, part, texts)?;
     }
     Ok(out)
 }
@@ -304,18 +266,7 @@ fn push_spelled(out: &mut String, part: &str, texts: &[(&str, String)]) -> anyho
 
 // The text of a word.
 fn text_of_word<'a>(word: &str, texts: &'a [(&str, String)]) -> anyhow::Result<&'a str> {
-    match known_text(word, texts) {
-        Some(text) => Ok(text),
-        None => anyhow::bail!("no line above gives ${word} a text"),
-    }
-}
-
-// The text of a word, if it has one.
-fn known_text<'a>(word: &str, texts: &'a [(&str, String)]) -> Option<&'a str> {
-    for (known, text) in texts {
-        if *known == word {
-            return Some(text.as_str());
-        }
-    }
-    None
+    let known = texts.iter().find(|(known, _)| *known == word);
+    let (_, text) = known.context(format_args!("no line above gives ${word} a text"))?;
+    Ok(text.as_str())
 }

@@ -2,6 +2,7 @@
 use crate::case::{Case, Form, Left, Locks, Piece, Run, Wanted, Wish};
 use crate::running::{CaseBench, Manner, Seen, empty, observe, read};
 use std::alloc::{AllocError, Global};
+use std::fmt::{Display, Write};
 use tv_directory::Directory;
 
 // `refuse each` tries no more calls.
@@ -42,9 +43,16 @@ impl From<AllocError> for Trouble {
 /// Whether all is as a case says.
 pub(crate) type Checked = Result<(), Trouble>;
 
-// Something differs, where there was memory to say what.
-fn differs(difference: anyhow::Result<Difference>) -> Checked {
-    Err(Trouble::Differs(difference?))
+// Something isn't as it is wanted.
+fn differs<T: Display + Copy>(
+    alloc: Global,
+    at: usize,
+    what: &str,
+    wanted: T,
+    found: T,
+) -> Checked {
+    let text = format!(in alloc; "{what}: wants {wanted}, found {found}")?;
+    Err(Trouble::Differs(Difference { at, text }))
 }
 
 // The numbers that came of a run.
@@ -82,7 +90,8 @@ fn check_file(alloc: Global, left: &Left, found: Option<&[u8]>) -> Checked {
 
 // A file isn't as it should be, or isn't there, or mustn't be.
 fn is_unlike(alloc: Global, left: &Left, wanted: &str, found: Option<&[u8]>) -> Checked {
-    differs(file_unlike(alloc, left.at, left.name.as_str(), wanted, found))
+    let has = found_text(alloc, found)?;
+    differs(alloc, left.at, left.name.as_str(), wanted, has.as_str())
 }
 
 // The bytes of a file.
@@ -90,7 +99,7 @@ fn check_bytes(alloc: Global, left: &Left, want: &[u8], found: &[u8]) -> Checked
     if want == found {
         return Ok(());
     }
-    differs(unlike(alloc, left.at, left.name.as_str(), want, found))
+    unlike(alloc, left.at, left.name.as_str(), want, found)
 }
 
 // The form of a file, which the case writes as this text.
@@ -182,8 +191,8 @@ fn check_ended(alloc: Global, run: &Run, seen: &Seen) -> Checked {
         return check_locks(alloc, run.wanted.held_at, run.wanted.held, seen.held);
     }
     let want = "a part of what is told, then error io, and status 1";
-    let told = Some(seen.told.as_slice());
-    differs(file_unlike(alloc, run.at, "a run", want, told))
+    let has = quoted(alloc, seen.told.as_slice(), 0)?;
+    differs(alloc, run.at, "a run", want, has.as_str())
 }
 
 // A run one of whose deletes was refused: that is told.
@@ -197,20 +206,12 @@ fn check_refused(alloc: Global, run: &Run, seen: &Seen) -> Checked {
 // The same, with what was refused before the difference.
 fn where_refused(alloc: Global, refused: &str, checked: Checked) -> Checked {
     match checked {
-        Err(Trouble::Differs(difference)) => differs(with_refused(alloc, refused, &difference)),
+        Err(Trouble::Differs(Difference { at, text })) => {
+            let text = format!(in alloc; "where a {refused} is refused: {text}")?;
+            Err(Trouble::Differs(Difference { at, text }))
+        }
         other => other,
     }
-}
-
-// The difference, with what was refused before it.
-fn with_refused(
-    alloc: Global,
-    refused: &str,
-    difference: &Difference,
-) -> anyhow::Result<Difference> {
-    let text = format!(in alloc; "where a {refused} is refused: {}", difference.text)?;
-    let at = difference.at;
-    Ok(Difference { at, text })
 }
 
 // A run one of whose calls was refused.
@@ -321,23 +322,21 @@ fn first_line(text: &[u8]) -> &[u8] {
 }
 
 // Wants a text, and found another one. Where they begin with many bytes alike, these aren't shown.
-fn unlike(
-    alloc: Global,
-    at: usize,
-    what: &str,
-    wanted: &[u8],
-    found: &[u8],
-) -> anyhow::Result<Difference> {
+fn unlike(alloc: Global, at: usize, what: &str, wanted: &[u8], found: &[u8]) -> Checked {
     let same = same_bytes(wanted, found);
     let from = if same < SHOWN { 0 } else { same };
-    let wants = shown(alloc, wanted, from)?;
-    let has = shown(alloc, found, from)?;
-    let text = if from == 0 {
-        format!(in alloc; "{what}: wants \"{wants}\", found \"{has}\"")?
-    } else {
-        format!(in alloc; "{what}: wants \"{wants}\" after {from} bytes, found \"{has}\"")?
-    };
-    Ok(Difference { at, text })
+    let wants = wanted_text(alloc, wanted, from)?;
+    let has = quoted(alloc, found, from)?;
+    differs(alloc, at, what, wants.as_str(), has.as_str())
+}
+
+// A text that is wanted, and how many bytes of it aren't shown.
+fn wanted_text(alloc: Global, bytes: &[u8], from: usize) -> anyhow::Result<String> {
+    let mut text = quoted(alloc, bytes, from)?;
+    if from > 0 {
+        write!(text, " after {from} bytes")?;
+    }
+    Ok(text)
 }
 
 // What was told or said, which are to be these pieces.
@@ -347,7 +346,7 @@ fn check_pieces(alloc: Global, at: usize, what: &str, wanted: &[Piece], found: &
     for piece in wanted {
         let text = piece.text.as_slice();
         let Some(after) = rest.strip_prefix(text) else {
-            return differs(unlike(alloc, piece.at, what, text, first_line(rest)));
+            return unlike(alloc, piece.at, what, text, first_line(rest));
         };
         rest = after;
         last = piece.at;
@@ -355,7 +354,7 @@ fn check_pieces(alloc: Global, at: usize, what: &str, wanted: &[Piece], found: &
     if rest.is_empty() {
         return Ok(());
     }
-    differs(unlike(alloc, last, what, b"", first_line(rest)))
+    unlike(alloc, last, what, b"", first_line(rest))
 }
 
 // A number that came of a run.
@@ -364,8 +363,7 @@ fn check_number(alloc: Global, what: &str, wish: Wish, found: u64) -> Checked {
     if wanted == found {
         return Ok(());
     }
-    let text = format!(in alloc; "{what}: wants {wanted}, found {found}")?;
-    Err(Trouble::Differs(Difference { at: wish.at, text }))
+    differs(alloc, wish.at, what, wanted, found)
 }
 
 // These locks, in words.
@@ -383,36 +381,20 @@ fn check_locks(alloc: Global, at: usize, wanted: Locks, found: Locks) -> Checked
     if wanted == found {
         return Ok(());
     }
-    let wants = locks_text(wanted);
-    let has = locks_text(found);
-    let text = format!(in alloc; "held: wants {wants}, found {has}")?;
-    Err(Trouble::Differs(Difference { at, text }))
-}
-
-// A file is like these parts, or isn't there, or mustn't be.
-fn file_unlike(
-    alloc: Global,
-    at: usize,
-    name: &str,
-    wanted: &str,
-    found: Option<&[u8]>,
-) -> anyhow::Result<Difference> {
-    let has = found_text(alloc, found)?;
-    let text = format!(in alloc; "{name}: wants {wanted}, found {has}")?;
-    Ok(Difference { at, text })
+    differs(alloc, at, "held", locks_text(wanted), locks_text(found))
 }
 
 // What was found, in words.
 fn found_text(alloc: Global, found: Option<&[u8]>) -> anyhow::Result<String> {
     match found {
-        Some(bytes) => quoted(alloc, bytes),
+        Some(bytes) => quoted(alloc, bytes, 0),
         None => Ok(String::from_str(alloc, "no file")?),
     }
 }
 
-// The beginning of these bytes, as a case writes it, in quotation marks.
-fn quoted(alloc: Global, bytes: &[u8]) -> anyhow::Result<String> {
-    let text = shown(alloc, bytes, 0)?;
+// A part of these bytes, as a case writes it, from a byte on, in quotation marks.
+fn quoted(alloc: Global, bytes: &[u8], from: usize) -> anyhow::Result<String> {
+    let text = shown(alloc, bytes, from)?;
     Ok(format!(in alloc; "\"{text}\"")?)
 }
 
