@@ -1,9 +1,8 @@
 //! Times collections, at once and in steps: how long one takes for each name that it deletes, where it spares as many.
-use crate::segments::{FILES, each, open, percent, start};
+use crate::segments::{FILES, Trend, apply, each, open, start};
 use std::alloc::Global;
 use std::process::ExitCode;
 use std::time::{Clock, Instant};
-use tv_base::TantivyError;
 use tv_directory::Outside;
 use tv_model::{Answer, Event};
 use tv_store::IndexStore;
@@ -18,13 +17,6 @@ const STEP: u32 = 2;
 // How many hundredths of the time for a name of the first size one of the last may take. Where the time
 // goes with n log n, it takes 170, and more where memory is far; where it goes with the square, 10,000.
 const LIMIT: u64 = 500;
-
-fn apply<O: Outside>(store: &mut IndexStore<O>, event: &Event) -> Result<Answer, TantivyError> {
-    if !store.is_open() {
-        return Err(TantivyError::Poisoned);
-    }
-    store.apply(event)
-}
 
 // How many words an answer has.
 fn words(answer: &Answer) -> usize {
@@ -95,22 +87,20 @@ fn fastest(
 
 /// Prints how long collections of each size take for a name, and how the last compares with the first.
 pub(crate) fn time_all(rt: &(impl Clock + Print), alloc: Global) -> anyhow::Result<ExitCode> {
-    let mut first = None;
-    let mut last = (0, 0);
+    let mut once = Trend::new();
+    let mut steps = Trend::new();
     for size in SIZES {
-        let once = fastest(rt, alloc, *size, false)?;
-        last = (once, fastest(rt, alloc, *size, true)?);
-        first = first.or(Some(last));
+        once.add(fastest(rt, alloc, *size, false)?);
+        steps.add(fastest(rt, alloc, *size, true)?);
         println!(rt;
             "{} names: {} ns a name at once, {} ns in steps",
             size.0.saturating_mul(FILES),
-            last.0,
-            last.1
+            once.last,
+            steps.last
         )?;
     }
-    let first = first.unwrap_or(last);
-    let once = percent(last.0, first.0);
-    let steps = percent(last.1, first.1);
+    let once = once.percent();
+    let steps = steps.percent();
     println!(rt; "the last takes {once} % of the first at once, {steps} % in steps")?;
     Ok(if once.max(steps) <= LIMIT {
         ExitCode::SUCCESS

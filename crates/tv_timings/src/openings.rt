@@ -1,5 +1,5 @@
 //! Times openings and commits: how long each takes for a segment of the commit.
-use crate::segments::{each, open, percent, segment, start};
+use crate::segments::{Trend, apply, each, open, segment, start};
 use std::alloc::Global;
 use std::process::ExitCode;
 use std::time::{Clock, Instant};
@@ -28,11 +28,8 @@ fn time_commit<R: Clock, O: Outside>(
     store: &mut IndexStore<O>,
     event: &Event,
 ) -> anyhow::Result<u128> {
-    if !store.is_open() {
-        anyhow::bail!("the index is not open");
-    }
     let began = Instant::now(rt)?;
-    store.apply(event)?;
+    apply(store, event)?;
     let took = began.elapsed(rt)?;
     Ok(took.as_nanos())
 }
@@ -52,21 +49,18 @@ fn nanos(rt: &impl Clock, alloc: Global, count: u32) -> anyhow::Result<(u64, u64
 /// Prints how long an opening and a commit of each size take for a segment, and how the last compares
 /// with the first. Where the time goes with n log n, the last takes 1.7 times as long.
 pub(crate) fn time_all(rt: &(impl Clock + Print), alloc: Global) -> anyhow::Result<ExitCode> {
-    let mut first = None;
-    let mut last = (0, 0);
+    let mut openings = Trend::new();
+    let mut commits = Trend::new();
     for count in SIZES {
-        last = nanos(rt, alloc, count)?;
-        first = first.or(Some(last));
-        println!(rt;
-            "{count} segments: {} ns a segment to open, {} ns to commit",
-            last.0, last.1
-        )?;
+        let (opening, commit) = nanos(rt, alloc, count)?;
+        openings.add(opening);
+        commits.add(commit);
+        println!(rt; "{count} segments: {opening} ns a segment to open, {commit} ns to commit")?;
     }
-    let first = first.unwrap_or(last);
     println!(rt;
         "the last takes {} % of the first to open, {} % to commit",
-        percent(last.0, first.0),
-        percent(last.1, first.1)
+        openings.percent(),
+        commits.percent()
     )?;
     Ok(ExitCode::SUCCESS)
 }

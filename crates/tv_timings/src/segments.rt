@@ -4,7 +4,7 @@ use tv_base::TantivyError;
 use tv_directory::{Bench, Directory, NoWatch, Outside};
 use tv_index::{IndexSettings, InnerSegmentMeta, Schema, UntrackedIndexMeta};
 use tv_managed::Refused;
-use tv_model::{FileName, SegmentComponent, SegmentId, segment_file_name};
+use tv_model::{Answer, Event, FileName, SegmentComponent, SegmentId, segment_file_name};
 use tv_store::IndexStore;
 
 // The schema without fields.
@@ -110,12 +110,46 @@ pub(crate) fn open<O: Outside + Drop>(
     }
 }
 
+/// Applies an event to an open index.
+pub(crate) fn apply<O: Outside>(
+    store: &mut IndexStore<O>,
+    event: &Event,
+) -> Result<Answer, TantivyError> {
+    if !store.is_open() {
+        return Err(TantivyError::Poisoned);
+    }
+    store.apply(event)
+}
+
 /// The time for one of so many.
 pub(crate) fn each(nanos: u128, count: u32) -> u64 {
     u64::try_from(nanos).unwrap_or(u64::MAX) / u64::from(count.max(1))
 }
 
-/// How many hundredths of the first time the last one is.
-pub(crate) fn percent(last: u64, first: u64) -> u64 {
-    last.saturating_mul(100) / first.max(1)
+/// How long something takes at the first size and at the last one so far.
+#[derive(Clone, Copy)]
+pub(crate) struct Trend {
+    first: Option<u64>,
+    pub(crate) last: u64,
+}
+
+impl Trend {
+    /// No size so far.
+    pub(crate) fn new() -> Trend {
+        Trend {
+            first: None,
+            last: 0,
+        }
+    }
+
+    /// Takes how long it takes at the next size.
+    pub(crate) fn add(&mut self, nanos: u64) {
+        self.first = self.first.or(Some(nanos));
+        self.last = nanos;
+    }
+
+    /// How many hundredths of the first time the last one is.
+    pub(crate) fn percent(self) -> u64 {
+        self.last.saturating_mul(100) / self.first.unwrap_or(0).max(1)
+    }
 }
