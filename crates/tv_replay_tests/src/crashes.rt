@@ -1,10 +1,10 @@
 //! What crashes leave of an index: each image is a sound start again, with a commit that may stand then.
-use crate::fixtures::{Shows, TestBench, empty_bench, source};
+use crate::fixtures::{Shows, TestBench, empty_bench, replayed};
 use std::alloc::Global;
 use std::process::Abort;
 use tv_directory::Directory;
 use tv_managed::ManagedDirectory;
-use tv_replay::{IndexStore, Replayed, replay};
+use tv_replay::IndexStore;
 
 // A script, cut at its two commits. Documents are deleted before and after the index is opened again, and a
 // collection in steps takes the delete file in between.
@@ -99,17 +99,15 @@ fn text_of<R: Abort>(rt: &R, alloc: Global, parts: usize) -> String {
 }
 
 // The directory behind the first parts of the script.
-fn replayed<R: Abort>(rt: &R, alloc: Global, parts: usize) -> TestBench {
+fn behind<R: Abort>(rt: &R, alloc: Global, parts: usize) -> TestBench {
     let text = text_of(rt, alloc, parts);
-    let mut script = source(rt, alloc, text.as_str());
-    let Replayed { outside, outcome } = replay(alloc, empty_bench(rt, alloc), b"[]", &mut script);
-    outcome.expect(rt, "replayed");
-    outside
+    let (bench, _events) = replayed(rt, alloc, empty_bench(rt, alloc), "[]", text.as_str());
+    bench
 }
 
 // The moment behind the first parts of the script.
 fn moment_behind<R: Abort>(rt: &R, alloc: Global, parts: usize) -> u64 {
-    replayed(rt, alloc, parts).moment()
+    behind(rt, alloc, parts).moment()
 }
 
 // Whether so many of the commits may stand at this moment: each that was told does, and none does whose event
@@ -209,7 +207,7 @@ fn commits<R: Abort>(rt: &R, alloc: Global) -> [Commit; 2] {
 fn a_crash_leaves_a_sound_start(rt: HostRuntime) {
     let a = rt.alloc();
     let commits = commits(&rt, a);
-    let bench = replayed(&rt, a, PARTS.len());
+    let bench = behind(&rt, a, PARTS.len());
     let oldest = crash_by(&rt, a, &bench, &commits, OLDEST);
     let next = crash_by(&rt, a, &bench, &commits, NEXT);
     assert_eq!(rt; next, oldest.saturating_add(commits.len()));

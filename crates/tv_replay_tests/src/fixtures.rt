@@ -9,12 +9,12 @@ use std::{fs, io};
 use tv_base::{Memory, TextSource, VecSink};
 use tv_directory::{Bench, Desk, NoWatch, Outside};
 use tv_files::MmapDirectory;
-use tv_replay::BenchPlace;
+use tv_replay::{BenchPlace, Replayed, replay};
 
 pub(crate) type TestBench = Bench<NoWatch>;
 
-/// The directory of a folder, with a sink for its lines.
-pub(crate) type FolderDesk<R> = Desk<MmapDirectory<R, NoWatch>, VecSink>;
+// The directory of a folder, with a sink for its lines.
+type FolderDesk<R> = Desk<MmapDirectory<R, NoWatch>, VecSink>;
 
 /// A directory that shows what it was told.
 pub(crate) trait Shows: Outside + Drop {
@@ -50,6 +50,19 @@ fn bytes_of<R: Abort>(rt: &R, alloc: Global, text: &str) -> Vec<u8> {
 /// A script none of whose reads is refused.
 pub(crate) fn source<R: Abort>(rt: &R, alloc: Global, text: &str) -> TextSource {
     TextSource::new(bytes_of(rt, alloc, text), Vec::new(alloc))
+}
+
+/// The directory behind a script that is replayed in it, and how many events there were.
+pub(crate) fn replayed<R: Abort, O: Outside + Drop>(
+    rt: &R,
+    alloc: Global,
+    outside: O,
+    schema: &str,
+    script: &str,
+) -> (O, u32) {
+    let mut script = source(rt, alloc, script);
+    let Replayed { outside, outcome } = replay(alloc, outside, schema.as_bytes(), &mut script);
+    (outside, outcome.expect(rt, "replayed").events)
 }
 
 // A copy of a text.

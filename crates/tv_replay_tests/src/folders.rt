@@ -2,14 +2,14 @@
 ghost use Rattle.std.specs.Prelude.{◌≡◌, None};
 
 use crate::fixtures::{
-    all_owned, are_bytes, folder_desk, handle, make_folder, remove_folder, source,
+    all_owned, are_bytes, folder_desk, handle, make_folder, remove_folder, replayed, source,
 };
 use std::alloc::Global;
 use std::fs::{self, File};
 use std::process::Abort;
 use std::rt::Files;
 use tv_base::Source;
-use tv_replay::{FolderPlace, Place, Replayed, replay, run};
+use tv_replay::{FolderPlace, Place, run};
 
 const SCHEMA: &str = "[{\"name\":\"text\",\"type\":\"text\"}]";
 
@@ -65,10 +65,8 @@ fn is_told<R: Files<File = File> + Clone + Drop + Abort>(
     want: &str,
 ) {
     let desk = folder_desk(rt, alloc, "replayed");
-    let mut script = source(rt, alloc, script);
-    let Replayed { outside, outcome } = replay(alloc, desk, SCHEMA.as_bytes(), &mut script);
-    let (_directory, sink) = outside.split();
-    outcome.expect(rt, "replayed");
+    let (desk, _events) = replayed(rt, alloc, desk, SCHEMA, script);
+    let (_directory, sink) = desk.split();
     are_bytes(rt, sink.as_slice(), want);
 }
 

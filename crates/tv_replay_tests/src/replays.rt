@@ -1,8 +1,8 @@
 //! The tally of a replay, and the script that is generated.
-use crate::fixtures::{Shows, are_bytes, empty_bench, has_heard, source};
+use crate::fixtures::{Shows, are_bytes, empty_bench, has_heard, replayed};
 use std::alloc::Global;
 use std::process::Abort;
-use tv_replay::{Replayed, generate, replay};
+use tv_replay::generate;
 
 // Replays a script in this directory: how many events there were, and what was told.
 fn assert_replay<R: Abort, O: Shows>(
@@ -12,10 +12,8 @@ fn assert_replay<R: Abort, O: Shows>(
     text: &str,
     (events, want): (u32, &str),
 ) {
-    let mut script = source(rt, alloc, text);
-    let Replayed { outside, outcome } = replay(alloc, outside, b"[]", &mut script);
-    let tally = outcome.expect(rt, "replayed");
-    assert!(rt; tally.events == events, "at {text}");
+    let (outside, found) = replayed(rt, alloc, outside, "[]", text);
+    assert_eq!(rt; found, events, "at {text}");
     has_heard(rt, &outside, want);
 }
 

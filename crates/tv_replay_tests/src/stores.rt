@@ -1,7 +1,5 @@
 //! Events that are applied to an open index, one by one.
-use crate::fixtures::{
-    FolderDesk, are_bytes, empty_bench, folder_desk, has_heard, make_folder, remove_folder,
-};
+use crate::fixtures::{are_bytes, empty_bench, folder_desk, has_heard, make_folder, remove_folder};
 use std::alloc::Global;
 use std::fs::{self, File};
 use std::process::Abort;
@@ -109,14 +107,6 @@ fn overwrite<R: Files<File = File> + Abort>(rt: &R, text: &str) {
     fs::write(rt, "overwritten/meta.json", text.as_bytes()).expect(rt, "written");
 }
 
-// An index in the folder.
-fn open_folder<R: Files<File = File> + Clone + Drop + Abort>(
-    rt: &R,
-    alloc: Global,
-) -> IndexStore<FolderDesk<R>> {
-    open(rt, alloc, folder_desk(rt, alloc, FOLDER))
-}
-
 // A new reader and a reload show what was written since the index was opened.
 fn read_what_was_written<R: Files<File = File> + Abort, O: Outside>(
     rt: &R,
@@ -132,10 +122,15 @@ fn read_what_was_written<R: Files<File = File> + Abort, O: Outside>(
     apply(rt, store, &Event::Searcher(0), "searcher 1 1 8");
 }
 
-fn shows_what_was_written<R: Files<File = File> + Clone + Drop + Abort>(rt: &R, alloc: Global) {
-    let mut store = open_folder(rt, alloc);
+// The same of an index in this directory.
+fn shows_what_was_written<R: Files<File = File> + Abort, O: Outside + Drop>(
+    rt: &R,
+    alloc: Global,
+    outside: O,
+) {
+    let mut store = open(rt, alloc, outside);
     read_what_was_written(rt, &mut store);
-    let (_directory, _sink) = store.into_outside().split();
+    drop(store.into_outside());
 }
 
 // What a new reader answers.
@@ -144,35 +139,50 @@ fn read<R: Abort, O: Outside>(rt: &R, store: &mut IndexStore<O>) -> Result<Answe
     store.apply(&Event::Reader(ReloadPolicy::Manual))
 }
 
-// What it answers once this was written.
-fn reads<R: Files<File = File> + Clone + Drop + Abort>(
+// What it answers in an index in this directory, once this was written.
+fn reads<R: Files<File = File> + Abort, O: Outside + Drop>(
     rt: &R,
     alloc: Global,
+    outside: O,
     text: &str,
 ) -> Result<Answer, TantivyError> {
-    let mut store = open_folder(rt, alloc);
+    let mut store = open(rt, alloc, outside);
     overwrite(rt, text);
     let answer = read(rt, &mut store);
-    let (_directory, _sink) = store.into_outside().split();
+    drop(store.into_outside());
     answer
 }
 
-// Another schema is told apart from bytes that mean no commit.
-fn tells_apart<R: Files<File = File> + Clone + Drop + Abort>(rt: &R, alloc: Global) {
-    match reads(rt, alloc, "{") {
-        Err(TantivyError::DataCorruption(_)) => overwrite(rt, EIGHTH),
-        _ => panic!(rt; "the bytes mean no commit"),
+// What is written, and whether it is a commit of another schema, and not bytes that mean none.
+const REFUSED: &[(&str, bool)] = &[("{", false), (OTHER, true)];
+
+// Whether a reader is refused for that.
+fn is_refused(answer: &Result<Answer, TantivyError>, is_commit: bool) -> bool {
+    match answer {
+        Err(TantivyError::DataCorruption(_)) => !is_commit,
+        Err(TantivyError::SchemaError(_)) => is_commit,
+        _ => false,
     }
-    match reads(rt, alloc, OTHER) {
-        Err(TantivyError::SchemaError(_)) => {}
-        _ => panic!(rt; "the schema is another one"),
-    }
+}
+
+// Opens the index that stands in the folder, and then looks at what a reader answers.
+fn tells_apart<R: Files<File = File> + Clone + Drop + Abort>(
+    rt: &R,
+    alloc: Global,
+    text: &str,
+    is_commit: bool,
+) {
+    overwrite(rt, EIGHTH);
+    let answer = reads(rt, alloc, folder_desk(rt, alloc, FOLDER), text);
+    assert!(rt; is_refused(&answer, is_commit), "{text} is read");
 }
 
 #[test]
 fn a_reader_loads_what_was_written(rt: HostRuntime) {
     make_folder(&rt, rt.alloc(), FOLDER);
-    shows_what_was_written(&rt, rt.alloc());
-    tells_apart(&rt, rt.alloc());
+    shows_what_was_written(&rt, rt.alloc(), folder_desk(&rt, rt.alloc(), FOLDER));
+    for (text, is_commit) in REFUSED {
+        tells_apart(&rt, rt.alloc(), text, *is_commit);
+    }
     remove_folder(&rt, FOLDER);
 }
