@@ -3,9 +3,9 @@ use crate::case::Case;
 use crate::reading::cases_of;
 use crate::trying::{Trouble, check_case};
 use std::alloc::Global;
+use std::fs;
 use std::process::ExitCode;
 use std::rt::Files;
-use std::{env, fs};
 
 // What the files of a folder hold: cases that go as they say, or ones that are wrong on purpose.
 #[derive(Clone, Copy, PartialEq, Eq)]

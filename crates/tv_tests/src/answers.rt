@@ -1,5 +1,5 @@
-//! What calls answer, and whether that is wanted. Values and errors are looked at by reference, and dropped in one
-//! place, since a function that drops them is dear to prove.
+//! What calls answer, and whether that is wanted. Values and errors are looked at by reference, and dropped in `ends`
+//! and `is_ok`, which are generic in them, since a function that drops a known one is dear to prove.
 
 use crate::failures::{Failure, is_failure};
 use tv_base::{

@@ -1,13 +1,10 @@
-//! Known spellings of numbers, parts of files, and sources and sinks in memory.
+//! Known spellings of numbers, and parts of files.
 ghost use Rattle.std.specs.Prelude.{◌≡◌, [], ◌∷◌, length};
 
 use crate::compare::{are_bytes, is_file};
 use std::alloc::Global;
 use std::process::Abort;
-use tv_base::{
-    ByteCount, DocAddress, Field, FileSlice, IoFault, IoKind, Memory, OwnedBytes, Sink, Source,
-    TextSource, VInt, VecSink,
-};
+use tv_base::{ByteCount, DocAddress, Field, FileSlice, Memory, OwnedBytes, VInt};
 
 fn assert_written(rt: &impl Abort, alloc: Global, number: u64, spelling: &[u8]) {
     let mut out = Vec::new(alloc);
@@ -87,98 +84,6 @@ fn bytes_and_parts_of_a_file(rt: HostRuntime) {
     is_shared(&rt, &bytes);
     let file = FileSlice::new(bytes);
     has_parts(&rt, &file);
-}
-
-// What a read answers: how many bytes it gave, or the kind of its fault.
-fn read<S: Source>(source: &mut S, into: &mut [u8; 4]) -> Result<usize, IoKind> {
-    match source.read(into.as_mut_slice()) {
-        Ok(n) => Ok(n),
-        Err(fault) => Err(fault.kind),
-    }
-}
-
-// What a read of a text answers, and what the buffer has then.
-type Read = (Result<usize, IoKind>, &'static [u8]);
-
-const READS: &[Read] = &[
-    (Err(IoKind::Device), b"\0\0\0\0"),
-    (Ok(4), b"abcd"),
-    (Err(IoKind::Device), b"abcd"),
-    (Ok(3), b"efgd"),
-    (Ok(0), b"efgd"),
-];
-
-fn reads_piece<R: Abort, S: Source>(rt: &R, source: &mut S, piece: &mut [u8; 4], row: Read) {
-    let (want, held) = row;
-    assert_eq!(rt; read(source, piece), want);
-    are_bytes(rt, piece.as_slice(), held);
-}
-
-// Reads a text in pieces of four bytes.
-fn reads_pieces<R: Abort, S: Source>(rt: &R, source: &mut S) {
-    let mut piece = [0; 4];
-    for row in READS {
-        reads_piece(rt, source, &mut piece, *row);
-    }
-}
-
-// The text that is read.
-fn text<R: Abort>(rt: &R, alloc: Global) -> Vec<u8> {
-    b"abcdefg".to_vec(alloc).expect(rt, "memory")
-}
-
-// The reads that are refused.
-fn refused<R: Abort>(rt: &R, alloc: Global) -> Vec<u64> {
-    [2, 0, 2].to_vec(alloc).expect(rt, "memory")
-}
-
-#[test]
-fn a_text_in_pieces(rt: HostRuntime) {
-    let a = rt.alloc();
-    reads_pieces(&rt, &mut TextSource::new(text(&rt, a), refused(&rt, a)));
-}
-
-// Whether this is a refusal of the device, with no text.
-fn is_refusal(fault: &IoFault) -> bool {
-    fault.kind == IoKind::Device && fault.text.is_empty()
-}
-
-// Whether a put was refused by the device, with no text.
-fn is_refused<S: Sink>(sink: &mut S, bytes: &[u8]) -> bool {
-    match sink.put(bytes) {
-        Ok(()) => false,
-        Err(fault) => is_refusal(&fault),
-    }
-}
-
-// Bytes that are put, whether that is refused, and what was taken and how much refused by then.
-type Put = (&'static [u8], bool, &'static [u8], u64);
-
-const PUTS: &[Put] = &[
-    (b"abc", false, b"abc", 0),
-    (b"def", true, b"abc", 1),
-    (b"de", false, b"abcde", 1),
-    (b"", false, b"abcde", 1),
-    (b"f", true, b"abcde", 2),
-];
-
-fn assert_put(rt: &impl Abort, sink: &mut VecSink, row: Put) {
-    let (bytes, refused, taken, faults) = row;
-    assert_eq!(rt; is_refused(sink, bytes), refused);
-    assert_eq!(rt; sink.faults(), faults);
-    are_bytes(rt, sink.as_slice(), taken);
-}
-
-fn assert_puts(rt: &impl Abort, sink: &mut VecSink) {
-    for row in PUTS {
-        assert_put(rt, sink, *row);
-    }
-}
-
-#[test]
-fn what_has_no_room_is_refused(rt: HostRuntime) {
-    let mut sink = VecSink::new(rt.alloc(), 5).expect(&rt, "memory");
-    assert_puts(&rt, &mut sink);
 }
 
 #[test]

@@ -1,5 +1,5 @@
 //! Calls on the files of a directory.
-ghost use Rattle.std.specs.Prelude.{◌≡◌, true, false, OnOk};
+ghost use Rattle.std.specs.Prelude.{◌≡◌, true, false};
 ghost use Rattle.tv_model.specs.Names.{is_file_name};
 
 use crate::answers::{Answer, Want, ends};
@@ -14,16 +14,14 @@ pub(crate) enum Call {
     GetFileHandle,
     AtomicRead,
     AtomicWrite,
-    /// Makes a file, writes, flushes and seals it: four calls of the device.
+    /// Makes a file, and writes and flushes it.
+    Flush,
+    /// The same, and seals it: four calls of the device.
     Seal,
     /// Makes a file, deletes it, and flushes and seals it: four calls, too.
     Lose,
     /// The same, and the file is written before it is deleted.
     Outlive,
-    /// Makes a file, and writes and flushes it as a `DirWriter` does.
-    Flush,
-    /// The same, and seals it.
-    Finish,
     Delete,
     Sync,
     /// Takes a lock and gives it back.
@@ -35,33 +33,38 @@ pub(crate) enum Call {
 /// A call, the name of its file, a text to write, and what it is to answer.
 pub(crate) type Step = (Call, &'static str, &'static str, Want);
 
-// Writes a text, and flushes it.
-fn write_out<D: Directory>(
-    directory: &mut D,
-    writer: &mut D::Writer,
+// Writes and flushes a text, and seals it where it is to be sealed.
+fn write_out<W: TerminatingWrite>(
+    writer: &mut W,
     text: &str,
+    is_sealed: bool,
 ) -> Result<(), IoError>
-    requires { (D.view directory.old).opened writer.old ≡ true }
-    ensures { OnOk result ((D.view directory.new).opened writer.new ≡ true) }
+    requires { (W.view writer.old).ended ≡ false }
 {
-    directory.write(writer, text.as_bytes())?;
-    directory.flush(writer)
+    writer.write_all(text.as_bytes())?;
+    writer.flush()?;
+    if is_sealed {
+        writer.terminate()
+    } else {
+        Ok(())
+    }
 }
 
-// Writes, flushes and seals a file.
-fn fill<D: Directory>(directory: &mut D, writer: D::Writer, text: &str) -> Result<(), IoError>
-    requires { (D.view directory.old).opened writer ≡ true }
-{
-    let mut writer = writer;
-    write_out(directory, &mut writer, text)?;
-    directory.terminate(writer)
-}
-
-fn seal<D: Directory>(directory: &mut D, name: &str, text: &str, want: Want) -> bool
+// Makes a file of this text.
+fn make<D: Directory>(
+    directory: &mut D,
+    name: &str,
+    text: &str,
+    is_sealed: bool,
+    want: Want,
+) -> bool
     requires { is_file_name name.now ≡ true }
 {
     match directory.open_write(name) {
-        Ok(writer) => ends(fill(directory, writer, text), name, want),
+        Ok(writer) => {
+            let mut writer = DirWriter::new(directory, writer);
+            ends(write_out(&mut writer, text, is_sealed), name, want)
+        }
         Err(error) => error.is(name, want),
     }
 }
@@ -92,31 +95,6 @@ fn write_and_lose<R: Abort, D: Directory>(rt: &R, directory: &mut D, name: &str,
         .write(&mut writer, text.as_bytes())
         .expect(rt, "written");
     outlive(rt, directory, writer, name);
-}
-
-fn put<R: Abort, W: TerminatingWrite + Drop>(rt: &R, writer: W, text: &str, is_sealed: bool)
-    requires { (W.view writer).ended ≡ false }
-{
-    let mut writer = writer;
-    writer.write_all(text.as_bytes()).expect(rt, "written");
-    writer.flush().expect(rt, "flushed");
-    if is_sealed {
-        writer.terminate().expect(rt, "sealed");
-    }
-}
-
-fn stream<R: Abort, D: Directory>(
-    rt: &R,
-    directory: &mut D,
-    name: &str,
-    text: &str,
-    is_sealed: bool,
-) -> bool
-    requires { is_file_name name.now ≡ true }
-{
-    let writer = directory.open_write(name).expect(rt, "a new file");
-    put(rt, DirWriter::new(directory, writer), text, is_sealed);
-    true
 }
 
 fn lock<D: Directory>(directory: &mut D, want: Want) -> bool {
@@ -159,7 +137,8 @@ pub(crate) fn take<R: Abort, D: Directory>(rt: &R, directory: &mut D, step: Step
         Call::GetFileHandle => ends(directory.get_file_handle(name), name, want),
         Call::AtomicRead => ends(directory.atomic_read(name), name, want),
         Call::AtomicWrite => ends(directory.atomic_write(name, text.as_bytes()), name, want),
-        Call::Seal => seal(directory, name, text, want),
+        Call::Flush => make(directory, name, text, false, want),
+        Call::Seal => make(directory, name, text, true, want),
         Call::Lose => {
             lose(rt, directory, name);
             true
@@ -168,8 +147,6 @@ pub(crate) fn take<R: Abort, D: Directory>(rt: &R, directory: &mut D, step: Step
             write_and_lose(rt, directory, name, text);
             true
         }
-        Call::Flush => stream(rt, directory, name, text, false),
-        Call::Finish => stream(rt, directory, name, text, true),
         Call::Delete => ends(directory.delete(name), name, want),
         Call::Sync => ends(directory.sync_directory(), name, want),
         Call::Lock => lock(directory, want),

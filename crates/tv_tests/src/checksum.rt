@@ -4,12 +4,15 @@ ghost use Rattle.std.specs.Prelude.{◌≤◌, length};
 use std::process::Abort;
 use tv_checksum::{Checksum, Crc32};
 
-// The checksum of these pieces, one behind the other.
-fn checksum_of<C: Checksum>(pieces: &[&[u8]]) -> u32 {
+// The checksum of a message that is cut in two, with no bytes in between.
+fn checksum_of<C: Checksum>(message: &[u8], cut: usize) -> u32
+    requires { cut ≤ length message.now }
+{
+    let (front, back) = message.split_at(cut);
     let mut checksum = C::start();
-    for piece in pieces {
-        checksum.update(piece);
-    }
+    checksum.update(front);
+    checksum.update(b"");
+    checksum.update(back);
     checksum.finish()
 }
 
@@ -17,9 +20,8 @@ fn checksum_of<C: Checksum>(pieces: &[&[u8]]) -> u32 {
 fn has_checksum<R: Abort>(rt: &R, message: &[u8], cut: usize, want: u32)
     requires { cut ≤ length message.now }
 {
-    let (front, back) = message.split_at(cut);
-    let found = checksum_of::<Crc32>(&[front, b"", back]);
-    assert_eq!(rt; found, want, "cut at {cut}");
+    let found = checksum_of::<Crc32>(message, cut);
+    assert!(rt; found == want, "of {} bytes, cut at {cut}", message.len());
 }
 
 const KNOWN: &[(&str, u32)] = &[("", 0), ("123456789", 0xCBF4_3926), ("abc", 0x3524_41C2)];

@@ -1,9 +1,7 @@
 //! Collections of a managed directory: what they delete, what stays listed, and refused calls.
 
 use crate::answers::Want;
-use crate::managed::{Call, Step, faults_of};
-use std::alloc::Global;
-use std::process::Abort;
+use crate::managed::{Call, Step, take_refused};
 
 // The first file stays while its name lives.
 const LIVING_AND_NOT: &[Step] = &[
@@ -38,7 +36,7 @@ const LIVING_AND_NOT: &[Step] = &[
 
 #[test]
 fn a_collection_deletes_what_does_not_live(rt: HostRuntime) {
-    assert_eq!(rt; faults_of(&rt, rt.alloc(), &[], &[], LIVING_AND_NOT), 0);
+    take_refused(&rt, rt.alloc(), &[], &[], LIVING_AND_NOT, 0);
 }
 
 // Four files, of which the last one isn't there any more, by the calls 1 to 13 of the device, behind a read
@@ -140,16 +138,10 @@ const COLLECTIONS: &[(&[u64], &[Step], u64)] = &[
     (&[22], FAILS_SAVING, 1),
 ];
 
-// Takes the steps behind `FOUR`, and looks how many of the refused calls weren't deletes.
-fn goes_on<R: Abort>(rt: &R, alloc: Global, refused: &[u64], steps: &[Step], faults: u64) {
-    let found = faults_of(rt, alloc, refused, FOUR, steps);
-    assert_eq!(rt; found, faults, "where {refused:?} are refused");
-}
-
 #[test]
 fn collections_go_on_after_refused_deletes_alone(rt: HostRuntime) {
     for (refused, steps, faults) in COLLECTIONS {
-        goes_on(&rt, rt.alloc(), refused, steps, *faults);
+        take_refused(&rt, rt.alloc(), refused, FOUR, steps, *faults);
     }
 }
 
@@ -192,7 +184,7 @@ const OVERLAPPING: &[Step] = &[
 
 #[test]
 fn collections_in_steps_overlap(rt: HostRuntime) {
-    assert_eq!(rt; faults_of(&rt, rt.alloc(), &[], FOUR, OVERLAPPING), 0);
+    take_refused(&rt, rt.alloc(), &[], FOUR, OVERLAPPING, 0);
 }
 
 // Behind these four: the call 16 is the first delete, and 18 to 20 are the sync, the write of the list and the sync
@@ -219,8 +211,5 @@ const REFUSED_STEPS: &[Step] = &[
 
 #[test]
 fn a_refused_end_holds_its_names(rt: HostRuntime) {
-    assert_eq!(rt;
-        faults_of(&rt, rt.alloc(), &[16, 20], FOUR, REFUSED_STEPS),
-        1
-    );
+    take_refused(&rt, rt.alloc(), &[16, 20], FOUR, REFUSED_STEPS, 1);
 }

@@ -10,6 +10,10 @@ pub(crate) fn are_bytes<R: Abort>(rt: &R, bytes: &[u8], want: &[u8]) {
     assert_eq!(rt; bytes, want);
 }
 
+pub(crate) fn is_number<R: Abort>(rt: &R, number: u64, want: u64) {
+    assert_eq!(rt; number, want);
+}
+
 /// Looks whether there was memory for a text, and it is this one.
 pub(crate) fn is_made<R: Abort>(rt: &R, text: Result<String, Memory>, want: &str) {
     is_text(rt, text.expect(rt, "memory").as_str(), want);

@@ -105,22 +105,22 @@ fn is_listed<D: Directory>(managed: &mut ManagedDirectory<D>, name: &str) -> boo
     is_gone(managed, name) || managed.list_managed_files().contains(name)
 }
 
-// Collects all files, which are on the list before, and gone behind it.
-fn collect_all<R: Abort, D: Directory>(rt: &R, alloc: Global, managed: &mut ManagedDirectory<D>) {
-    for name in NAMES {
-        assert!(rt; is_listed(managed, name), "{name} is listed");
-    }
-    assert!(rt; is_ok(collect(rt, managed, alloc, &[])), "a collection");
-    for name in NAMES {
-        assert!(rt; is_gone(managed, name), "{name} is gone");
-    }
+// Whether all files are on the list, and gone after a collection.
+fn collects_all<R: Abort, D: Directory>(
+    rt: &R,
+    alloc: Global,
+    managed: &mut ManagedDirectory<D>,
+) -> bool {
+    NAMES.iter().all(|name| is_listed(managed, name))
+        && is_ok(collect(rt, managed, alloc, &[]))
+        && NAMES.iter().all(|name| is_gone(managed, name))
 }
 
-// Wraps what a crash left, and collects all of it.
-fn emptied<R: Abort, D: Empty>(rt: &R, alloc: Global, left: D) -> D {
+// Wraps what a crash left, and collects all of it. Whether that goes well.
+fn emptied<R: Abort, D: Empty>(rt: &R, alloc: Global, left: D) -> (bool, D) {
     let mut managed = wrapped(rt, alloc, left);
-    collect_all(rt, alloc, &mut managed);
-    managed.into_directory()
+    let is_emptied = collects_all(rt, alloc, &mut managed);
+    (is_emptied, managed.into_directory())
 }
 
 // Crashes at this moment, by each of three choices for all files.
@@ -128,7 +128,8 @@ fn crash_at<R: Abort>(rt: &R, alloc: Global, bench: &TestBench, moment: u64) {
     for choice in 0..3 {
         if moment <= bench.moment() {
             let left = bench.crash(moment, &[choice; 4]).expect(rt, "memory");
-            assert!(rt; emptied(rt, alloc, left).faults() == 0);
+            let (is_emptied, left) = emptied(rt, alloc, left);
+            assert!(rt; is_emptied && left.faults() == 0, "at {moment} by {choice}");
         }
     }
 }

@@ -4,6 +4,7 @@ ghost use Rattle.tv_model.specs.Lines.{has_no_feed};
 
 use crate::answers::is_ok;
 use crate::calls::take_all;
+use crate::compare::is_number;
 use crate::empty::TestRam;
 use crate::ram::FILES;
 use std::process::Abort;
@@ -29,5 +30,6 @@ fn lines_are_told_to_the_sink_and_files_written_to_the_directory(rt: HostRuntime
     assert!(rt; tell(&rt, &mut desk, b"gc"));
     let (mut directory, sink) = desk.split();
     assert!(rt; sink.as_slice() == b"open\ngc\n".as_slice());
+    is_number(&rt, sink.faults(), 1);
     assert!(rt; directory.exists("other").expect(&rt, "asked"));
 }

@@ -2,9 +2,10 @@
 
 use crate::answers::{Want, ends};
 use crate::calls::{Call, Step, take_all};
+use crate::closing::closed;
+use crate::compare::is_number;
 use crate::failures::Failure;
 use crate::index::schema;
-use crate::indexes::close;
 use crate::ram::FILES;
 use crate::watches::{boxed, watch_both};
 use std::alloc::Global;
@@ -77,7 +78,7 @@ fn a_folder_does_what_a_directory_in_memory_does(rt: HostRuntime) {
 const WRITTEN: &[Step] = &[
     (Call::AtomicWrite, "meta.json", "first", Want::Done),
     (Call::AtomicWrite, "meta.json", "second", Want::Done),
-    (Call::Finish, "sealed", "text", Want::Done),
+    (Call::Seal, "sealed", "text", Want::Done),
     (Call::LockBoth, "any", "", Want::Done),
     (Call::Sync, "any", "", Want::Done),
 ];
@@ -241,7 +242,7 @@ fn look_at_all<R: Files<File = File> + Drop + Abort>(rt: &R, watcher: &mut Watch
     for (at, (bytes, want)) in LOOKS.iter().enumerate() {
         change(rt, *bytes);
         let answer = watcher.look().expect(rt, "looked");
-        assert_eq!(rt; answer, *want, "look {at}");
+        assert!(rt; answer == *want, "look {at}");
     }
 }
 
@@ -250,7 +251,7 @@ fn a_watched_file_is_looked_at_line_by_line(rt: HostRuntime) {
     let number = Arc::new(rt.alloc(), AtomicU64::new(0)).expect(&rt, "memory");
     let mut watcher = watching(&rt, rt.alloc(), &number);
     look_at_all(&rt, &mut watcher);
-    assert_eq!(rt; number.load(Ordering::SeqCst), 3);
+    is_number(&rt, number.load(Ordering::SeqCst), 3);
     remove_file(&rt, "watched");
 }
 
@@ -271,14 +272,14 @@ fn a_notice_reaches_those_who_watch_a_folder(rt: HostRuntime) {
     make_folder(&rt, rt.alloc(), "watchers");
     let number = Arc::new(rt.alloc(), AtomicU64::new(0)).expect(&rt, "memory");
     watch_folder(&rt, rt.alloc(), &number);
-    assert_eq!(rt; number.load(Ordering::SeqCst), 211);
+    is_number(&rt, number.load(Ordering::SeqCst), 211);
     remove_folder(&rt, "watchers");
 }
 
 // Puts nothing, of which no fault is counted.
 fn put_nothing<R: Abort + Print + Drop>(rt: &R, sink: &mut StdoutSink<R>) {
     sink.put(b"").expect(rt, "taken");
-    assert_eq!(rt; sink.faults(), 0);
+    is_number(rt, sink.faults(), 0);
 }
 
 #[test]
@@ -292,16 +293,16 @@ fn standard_input_and_output_answer(rt: HostRuntime) {
 type InFolder<R> = Index<MmapDirectory<R, NoWatch>>;
 
 // Makes an index without fields in the folder, or opens the one that is there, and closes it.
-fn outcome<R: Files<File = File> + Clone + Drop + Abort>(
+fn make_or_open<R: Files<File = File> + Clone + Drop + Abort>(
     rt: &R,
     alloc: Global,
     is_new: bool,
 ) -> Result<(), TantivyError> {
     if is_new {
         let schema = schema(rt, alloc, "[]");
-        return close(InFolder::create_in_dir(handle(rt), alloc, "index", schema));
+        return closed(InFolder::create_in_dir(handle(rt), alloc, "index", schema));
     }
-    close(InFolder::open_in_dir(handle(rt), alloc, "index"))
+    closed(InFolder::open_in_dir(handle(rt), alloc, "index"))
 }
 
 // Whether an index in the folder is made, or opened, and what comes of that.
@@ -316,9 +317,9 @@ const INDEXES: &[(bool, Want)] = &[
 fn an_index_is_made_in_a_folder_and_opened_again(rt: HostRuntime) {
     make_folder(&rt, rt.alloc(), "index");
     for (is_new, want) in INDEXES {
-        assert!(rt; ends(outcome(&rt, rt.alloc(), *is_new), "", *want));
+        assert!(rt; ends(make_or_open(&rt, rt.alloc(), *is_new), "", *want));
     }
     remove_folder(&rt, "index");
     let want = Want::Fails(Failure::NoFolder);
-    assert!(rt; ends(outcome(&rt, rt.alloc(), true), "", want));
+    assert!(rt; ends(make_or_open(&rt, rt.alloc(), true), "", want));
 }

@@ -1,6 +1,6 @@
 //! Schemas and commits: texts in several spellings, texts that are refused, and what is printed.
 use crate::answers::{Want, ends};
-use crate::compare::{are_bytes, are_made, is_made, is_text};
+use crate::compare::{are_bytes, are_made, is_made, is_number, is_text};
 use crate::failures::{Failure, is_failure};
 use std::alloc::Global;
 use std::process::Abort;
@@ -304,7 +304,7 @@ fn has_three<R: Abort>(rt: &R, alloc: Global, meta: &SegmentMeta) {
 // Looks how many files a segment has.
 fn has_files<R: Abort>(rt: &R, alloc: Global, meta: &SegmentMeta) {
     let files = meta.list_files(alloc).expect(rt, "memory");
-    assert_eq!(rt; files.len(), 7);
+    is_number(rt, files.len() as u64, 7);
 }
 
 // Looks at another share of a segment, and gives it back.
@@ -331,7 +331,7 @@ fn a_delete_of_no_document_has_a_file_name(rt: HostRuntime) {
 
 // Looks how many documents a segment has, and gives it back.
 fn has_five<R: Abort>(rt: &R, inventory: &mut SegmentMetaInventory, meta: SegmentMeta) {
-    assert_eq!(rt; meta.num_docs(), 5);
+    is_number(rt, u64::from(meta.num_docs()), 5);
     inventory.release(meta);
 }
 

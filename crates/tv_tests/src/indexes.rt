@@ -2,11 +2,11 @@
 ghost use Rattle.std.specs.Prelude.{◌≡◌, None};
 
 use crate::answers::{Want, ends};
-use crate::compare::{are_bytes, are_made, is_made};
+use crate::closing::{Close, outcome};
+use crate::compare::{are_bytes, are_made, is_made, is_number};
 use crate::empty::{Empty, TestRam};
 use crate::failures::Failure;
 use crate::index::{FIRST, T, schema};
-use crate::managed::error_of;
 use std::alloc::Global;
 use std::process::Abort;
 use tv_base::{META_FILEPATH, Opstamp, TantivyError};
@@ -77,25 +77,6 @@ fn directory<R: Abort, D: Empty>(rt: &R, alloc: Global, meta: Option<&str>) -> D
     directory
 }
 
-/// What came of an opening. The index is closed again.
-pub(crate) fn close<D: Directory + Drop, E>(opened: Result<Index<D>, E>) -> Result<(), E> {
-    match opened {
-        Ok(index) => {
-            drop(index.into_directory());
-            Ok(())
-        }
-        Err(error) => Err(error),
-    }
-}
-
-// What came of an opening that gives the directory back where it is refused.
-fn outcome<D: Directory + Drop>(opened: Result<Index<D>, Refused<D>>) -> Result<(), TantivyError> {
-    match close(opened) {
-        Ok(()) => Ok(()),
-        Err(refused) => Err(error_of(refused)),
-    }
-}
-
 // Opens what stands, or makes an index, which ends as it is to end.
 fn opens<R: Abort, D: Empty>(rt: &R, alloc: Global, opening: &Opening) {
     let directory: D = directory(rt, alloc, opening.meta);
@@ -120,7 +101,7 @@ fn is_open<R: Abort, D: Directory + Drop>(rt: &R, opened: Result<Index<D>, Refus
     match opened {
         Ok(index) => {
             are_bytes(rt, index.schema().text(), SORTED.as_bytes());
-            drop(index.into_directory());
+            index.close();
         }
         Err(_) => panic!(rt; "it is opened"),
     }
@@ -132,22 +113,9 @@ fn stands<R: Abort, D: Empty>(rt: &R, alloc: Global, meta: &str) {
     is_open(rt, Index::open(alloc, directory));
 }
 
-// Opens a directory in which nothing stands.
-fn finds_nothing<R: Abort, D: Empty>(rt: &R, alloc: Global) {
-    let directory: D = directory(rt, alloc, None);
-    assert!(rt;
-        ends(
-            outcome(Index::open(alloc, directory)),
-            "",
-            Want::Fails(Failure::Missing(META_FILEPATH))
-        )
-    );
-}
-
 #[test]
 fn what_stands_is_opened(rt: HostRuntime) {
     stands::<_, TestRam>(&rt, rt.alloc(), FIRST);
-    finds_nothing::<_, TestRam>(&rt, rt.alloc());
 }
 
 // Adds a segment of five documents.
@@ -296,7 +264,7 @@ fn keeps_shares<R: Abort, D: Directory>(rt: &R, alloc: Global, index: &mut Index
 // Sets the size of a block, in memory.
 fn sets_blocksize<R: Abort, D: Directory>(rt: &R, index: &mut Index<D>) {
     index.settings_mut().docstore_blocksize = 100;
-    assert_eq!(rt; index.settings().docstore_blocksize, 100);
+    is_number(rt, index.settings().docstore_blocksize, 100);
 }
 
 // Makes two commits, and looks at what stands then.
@@ -320,7 +288,7 @@ fn shows_commits<R: Abort, D: Directory + Drop>(
 ) {
     let mut index = made.expect(rt, "memory");
     commit_twice(rt, alloc, &mut index);
-    drop(index.into_directory());
+    index.close();
 }
 
 // A new index in memory, as a builder makes it.
@@ -360,7 +328,7 @@ fn shows_first<R: Abort, D: Directory + Drop>(
 ) {
     let mut index = made.expect(rt, "memory");
     stands_first(rt, alloc, &mut index);
-    drop(index.into_directory());
+    index.close();
 }
 
 #[test]

@@ -13,6 +13,8 @@ mod calls;
 #[cfg(test)]
 mod checksum;
 #[cfg(test)]
+mod closing;
+#[cfg(test)]
 mod collections;
 #[cfg(test)]
 mod compare;

@@ -1,16 +1,17 @@
 //! The list of managed files, in spellings that JSON allows, and what is no list.
 
 use crate::answers::{Want, ends};
+use crate::closing::{Close, outcome};
 use crate::empty::{Empty, TestBench};
 use crate::failures::Failure;
-use crate::managed::{are_managed, error_of, wrapped};
+use crate::managed::{are_managed, wrapped};
 use crate::sealed_files::{Bytes, slice_of};
 use std::alloc::Global;
 use std::process::Abort;
-use tv_base::{MANAGED_FILEPATH, TantivyError};
+use tv_base::MANAGED_FILEPATH;
 use tv_managed::ManagedDirectory;
 
-// A text, and the names that it lists.
+// A text, and the names that it lists, in their order.
 const LISTS: &[(&str, &[&str])] = &[
     ("[]", &[]),
     ("\n[ ]", &[]),
@@ -57,26 +58,15 @@ fn lists<R: Abort, D: Empty>(rt: &R, alloc: Global, text: &str, names: &[&str]) 
     let directory: D = with_list(rt, alloc, text.as_bytes());
     let managed = wrapped(rt, alloc, directory);
     let is_so = are_managed(&managed, names);
-    drop(managed.into_directory());
+    managed.close();
     is_so
-}
-
-// What comes of wrapping a directory.
-fn outcome<D: Empty>(alloc: Global, directory: D) -> Result<(), TantivyError> {
-    match ManagedDirectory::wrap(alloc, directory) {
-        Ok(managed) => {
-            drop(managed.into_directory());
-            Ok(())
-        }
-        Err(refused) => Err(error_of(refused)),
-    }
 }
 
 // Whether a directory whose list reads these bytes is refused, since the file of its list is none.
 fn is_damaged<R: Abort, D: Empty>(rt: &R, alloc: Global, bytes: &[u8]) -> bool {
     let directory: D = with_list(rt, alloc, bytes);
     ends(
-        outcome(alloc, directory),
+        outcome(ManagedDirectory::wrap(alloc, directory)),
         "",
         Want::Fails(Failure::Corrupt(MANAGED_FILEPATH)),
     )

@@ -10,7 +10,7 @@ use std::collections::BTreeSet;
 use std::process::Abort;
 use tv_base::{IoError, MANAGED_FILEPATH, TantivyError, is_plain_name};
 use tv_directory::{Directory, meta_lock, what_reads_is_an_image};
-use tv_managed::{GarbageCollectionResult, ManagedDirectory, ManagedWriter, Refused};
+use tv_managed::{GarbageCollectionResult, ManagedDirectory, ManagedWriter};
 
 /// A call on a file.
 #[derive(Clone, Copy)]
@@ -40,7 +40,7 @@ pub(crate) enum Step {
     Deliver,
     /// The stored list.
     List(&'static str),
-    /// The managed names, in any order.
+    /// The managed names, in their order.
     Names(&'static [&'static str]),
     /// A collection that spares these names.
     Collect(&'static [&'static str], Want),
@@ -153,11 +153,11 @@ fn watch<R: Abort, D: Empty>(rt: &R, managed: &mut ManagedDirectory<D>) {
     managed.unwatch(handle);
 }
 
-/// Whether these names are managed, and no others.
+/// Whether these names are managed, in this order, and no others.
 pub(crate) fn are_managed<D: Directory>(managed: &ManagedDirectory<D>, names: &[&str]) -> bool {
     let managed = managed.list_managed_files();
-    for name in names {
-        if !managed.contains(*name) {
+    for (name, want) in managed.iter().zip(names) {
+        if name.as_str() != *want {
             return false;
         }
     }
@@ -279,15 +279,6 @@ pub(crate) fn take_all<R: Abort, D: Empty>(
     }
 }
 
-/// The error of a refusal.
-pub(crate) fn error_of<D: Drop>(refused: Refused<D>) -> TantivyError {
-    let Refused {
-        error,
-        directory: _,
-    } = refused;
-    error
-}
-
 /// The managed directory over this one.
 pub(crate) fn wrapped<R: Abort, D: Empty>(
     rt: &R,
@@ -315,19 +306,20 @@ pub(crate) fn taken<R: Abort, D: Empty>(
     managed.into_directory()
 }
 
-/// Takes the steps in a directory without files, whose device refuses the calls with these numbers, and
-/// counts the refused ones that weren't deletes.
-pub(crate) fn faults_of<R: Abort>(
+/// Takes the steps in a directory without files, whose device refuses the calls with these numbers. So many of the
+/// refused ones aren't deletes.
+pub(crate) fn take_refused<R: Abort>(
     rt: &R,
     alloc: Global,
     refused: &[u64],
     given: &[Step],
     steps: &[Step],
-) -> u64 {
+    faults: u64,
+) {
     let empty = refusing(rt, alloc, Vec::new(alloc), refused);
     let bench = taken(rt, alloc, empty, given, steps);
     what_reads_is_an_image(&bench);
-    bench.faults()
+    assert!(rt; bench.faults() == faults, "where {refused:?} are refused");
 }
 
 // The checksum of `123456789` is CBF43926.
@@ -365,7 +357,7 @@ const FILES: &[Step] = &[
 
 #[test]
 fn a_file_is_listed_and_sealed(rt: HostRuntime) {
-    assert_eq!(rt; faults_of(&rt, rt.alloc(), &[], &[], FILES), 0);
+    take_refused(&rt, rt.alloc(), &[], &[], FILES, 0);
 }
 
 // A name is registered by a write of the list and a sync.
@@ -389,5 +381,5 @@ const REFUSED: &[Step] = &[
 // making.
 #[test]
 fn a_refused_registration_manages_no_name(rt: HostRuntime) {
-    assert_eq!(rt; faults_of(&rt, rt.alloc(), &[1, 4, 9], &[], REFUSED), 3);
+    take_refused(&rt, rt.alloc(), &[1, 4, 9], &[], REFUSED, 3);
 }

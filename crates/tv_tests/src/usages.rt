@@ -1,6 +1,7 @@
 //! Reports of how much space files take.
 ghost use Rattle.std.specs.Prelude.{◌≤◌};
 
+use crate::compare::{is_number, is_text};
 use std::alloc::Global;
 use std::process::Abort;
 use tv_base::ByteCount;
@@ -62,15 +63,15 @@ fn three_fields(rt: &impl Abort, alloc: Global) -> Vec<FieldUsage> {
 }
 
 fn assert_total(rt: &impl Abort, field: &FieldUsage, name: &str, total: u64) {
-    assert_eq!(rt; field.field_name(), name);
-    assert_eq!(rt; field.total().get_bytes(), total);
+    is_text(rt, field.field_name(), name);
+    is_number(rt, field.total().get_bytes(), total);
 }
 
 // A field, and how much it takes.
 const TOTALS: &[(&str, u64)] = &[("body", 10), ("title", 307)];
 
 fn assert_totals(rt: &impl Abort, usage: &PerFieldSpaceUsage) {
-    assert_eq!(rt; usage.total().get_bytes(), 317);
+    is_number(rt, usage.total().get_bytes(), 317);
     for (field, (name, total)) in usage.fields().zip(TOTALS) {
         assert_total(rt, field, name, *total);
     }
@@ -122,7 +123,7 @@ fn assert_component(
     size: u64,
 ) {
     let usage = segment.component(kind).expect(rt, "memory");
-    assert_eq!(rt; total_of(&usage).get_bytes(), size);
+    is_number(rt, total_of(&usage).get_bytes(), size);
 }
 
 #[test]
@@ -135,7 +136,7 @@ fn sizes_of_each_kind_of_file(rt: HostRuntime) {
 }
 
 fn assert_segment(rt: &impl Abort, segment: &SegmentSpaceUsage) {
-    assert_eq!(rt; segment.num_docs(), 3);
+    is_number(rt, u64::from(segment.num_docs()), 3);
     let sizes = [
         segment.termdict().total().get_bytes(),
         segment.postings().total().get_bytes(),
@@ -158,8 +159,8 @@ fn sizes_of_a_searcher(rt: HostRuntime) {
     for segment in searcher.segments() {
         assert_segment(&rt, segment);
     }
-    assert_eq!(rt; searcher.segments().len(), 1);
-    assert_eq!(rt; searcher.total().get_bytes(), 255);
+    is_number(&rt, searcher.segments().len() as u64, 1);
+    is_number(&rt, searcher.total().get_bytes(), 255);
 }
 
 // A column of 100 bytes with a dictionary of 7, as its field tells it and as it tells itself.
@@ -181,7 +182,7 @@ fn assert_field(rt: &impl Abort, field: &FieldUsage, column: &ColumnSpaceUsage) 
     ];
     are(rt, sizes.as_slice(), COLUMN);
     assert!(rt; field.column_space_usage() == Some(column));
-    assert_eq!(rt; field.total().get_bytes(), 110);
+    is_number(rt, field.total().get_bytes(), 110);
 }
 
 #[test]
