@@ -137,10 +137,15 @@ fn push_number(numbers: &mut Vec<u64>, word: &str) -> anyhow::Result<()> {
 
 /// The name and the text of `NAME = TEXT`. Where the text is empty, the line can end with the sign.
 pub(crate) fn named(text: &str) -> anyhow::Result<(&str, &str)> {
-    let without_text = text.strip_suffix(" =").map(|name| (name, ""));
-    text.split_once(" = ")
-        .or(without_text)
-        .context("this line needs NAME = TEXT")
+    split_name(text).context("this line needs NAME = TEXT")
+}
+
+// The name and the text, if there is a sign between them.
+fn split_name(text: &str) -> Option<(&str, &str)> {
+    match text.split_once(" = ") {
+        Some(named) => Some(named),
+        None => Some((text.strip_suffix(" =")?, "")),
+    }
 }
 
 /// The name of a file.
