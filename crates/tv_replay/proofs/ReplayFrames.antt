@@ -24,9 +24,9 @@ notes_then (inr a) (inl b) = inr (b ∙ a)
 notes_then {first} (inr a) (inr b) = inr (b ∙ ap (noted meta_name) a ∙ noted_twice first)
 
 -- a notice that stood after the opening stands at the end
-pub noted_since : {first opened run last : WatchState} → opened ≡ noted meta_name first → MayNote meta_name opened run → last ≡ run → last ≡ noted meta_name first
-noted_since is (inl same) end = end ∙ same ∙ is
-noted_since {first} is (inr again) end = end ∙ again ∙ ap (noted meta_name) is ∙ noted_twice first
+pub noted_since : (first : WatchState) {opened run last : WatchState} → opened ≡ noted meta_name first → MayNote meta_name opened run → last ≡ run → last ≡ noted meta_name first
+noted_since first made (inl same) end = end ∙ same ∙ made
+noted_since first made (inr again) end = end ∙ again ∙ ap (noted meta_name) made ∙ noted_twice first
 
 -- each event may leave a notice, or none does
 pub may_note : (event : Event) (old new : WatchState) → MayNoteAt event old new → MayNote meta_name old new

@@ -101,7 +101,7 @@ returns-clause-done g c =
     replays D c.args.outside c.args.schema.now c.in-Ok.store c.apply_all-outcome.new.store c.into_outside.result text left tally opened.opens opened.tells.ok opened.frame.ok.deletes_none.refusals
     freed.holds freed.frees.frame.tells_none.heard freed.frees.frame.tells_none.deletes_none.goes_on.clock freed.frees.frame.tells_none.deletes_none.refusals
     (λ locks held. meta_since (D.view c.args.outside).locks (D.view c.in-Ok.store.outside).locks (opened.locks.ok locks) ∙ held)
-    (λ tells none. noted_since (opened.frame.made tells none) c.apply_all-outcome.ensures.frame.watched freed.frees.frame.watched) runs)
+    (λ tells none. noted_since (D.view c.args.outside).watched (opened.frame.made tells none) c.apply_all-outcome.ensures.frame.watched freed.frees.frame.watched) runs)
     c.apply_all-outcome.ensures.done
 
 pub returns-clause-read_out : goal.returns-clause-read_out
