@@ -28,3 +28,4 @@ pub mod Damages
 pub mod PlainFiles
 pub mod Named
 pub mod SavedSafely
+pub mod OpenedSafely

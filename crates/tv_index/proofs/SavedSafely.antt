@@ -109,3 +109,8 @@ module _ {A B E F D W C : Type 0} (g : Ghosts D W C) {old new : D × ManagedName
   saves_ok a b is safe =
       let states = subst (λ t. SavesStates {E = F} (g.disk old.0) (g.disk new.0) old.1 t (Ok b)) is safe.states in
       record { tracks = safe.tracks; states = record { moments = states.moments; now = states.now; kept = states.kept } }
+
+-- the same answer, about the same text
+pub saves_as : {A E D W C : Type 0} (g : Ghosts D W C) {old new : D × ManagedNames} {text same : List ℕ} {result : Result A E} → text ≡ same → LeavesSafely g (SavesStates (g.disk old.0) (g.disk new.0) old.1 text result) old new
+    → LeavesSafely g (SavesStates (g.disk old.0) (g.disk new.0) old.1 same result) old new
+saves_as g {old} {new} {result = result} is safe = subst (λ t. LeavesSafely g (SavesStates (g.disk old.0) (g.disk new.0) old.1 t result) old new) is safe

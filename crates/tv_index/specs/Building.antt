@@ -1,15 +1,18 @@
 -- A builder of an index, and why it builds none.
-use Rattle.std.specs.Prelude.{◌≡◌, ℕ, List, codes, Option, None, string_bytes}
+use Rattle.std.specs.Prelude.{◌≡◌, ℕ, List, codes, Option, None, string_bytes, Result, IfErr, MatchOption}
 use Rattle.tv_base.specs.declared.error.TantivyError.{TantivyError}
 use Rattle.tv_base.specs.declared.error.TantivyError.TheVariants as errors
 use Rattle.tv_directory.specs.View.{OnlyReads}
 use Rattle.tv_directory.specs.declared.directory.Directory.{Ghosts}
 use Rattle.tv_managed.specs.Reading.{ReadsSuch}
+use Rattle.tv_managed.specs.declared.managed_directory.Refused.{Refused}
 use Rattle.tv_model.specs.Commits.{Commit, Settings}
 use Rattle.tv_model.specs.Files.{Reads, Rose}
 use Rattle.tv_model.specs.Meaning.{Means}
 use Rattle.tv_model.specs.Names.{list_name, meta_name}
-use Rattle.tv_index.specs.Indexes.{StandingCause}
+use Rattle.tv_index.specs.Crashes.{MakesSafely, OnlyLooks}
+use Rattle.tv_index.specs.Indexes.{IndexState, StandingCause}
+use Rattle.tv_index.specs.NewForms.{form_with, new_text}
 use Rattle.tv_index.specs.Opening.{ListsSome}
 use Rattle.tv_index.specs.declared.index_settings.IndexSettings.{IndexSettings}
 
@@ -55,3 +58,8 @@ SchemalessCause tells reads refused quiet other = StandingCause tells reads refu
 pub record OpensNone {D W C : Type 0} (g : Ghosts D W C) (before now : D) (error : TantivyError) : Type 0 where
   pub cause : SchemalessCause g.told.content (g.view before).reads (Rose (g.view before).faults (g.view now).faults) ((g.view now).faults ≡ (g.view before).faults) error
   pub frame : OnlyReads g.told (g.view before) (g.view now)
+
+-- A builder opens an index or makes one, whatever it answers, as `Index` does with its settings and its schema. Where no schema was passed it makes nothing.
+abbrev pub BuildsSafely : {D W C : Type 0} → Ghosts D W C → (made : Type 0) → Builder → (before : D) → Result (IndexState D) (Refused D) → Type 0
+BuildsSafely g made builder before result =
+    MatchOption builder.schema (IfErr result (λ refused. OnlyLooks g before refused.directory)) (λ schema. MakesSafely g made (new_text (form_with builder.settings schema)) before (λ index. index.directory) result)

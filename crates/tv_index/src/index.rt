@@ -4,15 +4,17 @@ ghost use Rattle.std.specs.Borrow.{sem};
 ghost use Rattle.std.specs.List.{list_any};
 ghost use Rattle.tv_base.specs.Entries.{is_full, one_more};
 ghost use Rattle.tv_directory.specs.Calls.{AskFaults};
+ghost use Rattle.tv_directory.specs.Images.{KeepsDisk};
 ghost use Rattle.tv_directory.specs.View.{OnlyReads};
 ghost use Rattle.tv_model.specs.Commits.{new_form};
 ghost use Rattle.tv_model.specs.Names.{meta_name};
 ghost use Rattle.tv_model.specs.SegmentEvents.{fresh_segment};
+ghost use Rattle.tv_index.specs.Crashes.{LacksMeta, LooksSafely, MakesSafely};
 ghost use Rattle.tv_index.specs.Indexes.{CreatesIndex, IsNewInRam, KeepsForm, KeepsIndex, LoadsCommit, LoadsShares, MeansSuch};
 ghost use Rattle.tv_index.specs.Indexes.{NewSegmentCause, is_id_used};
 ghost use Rattle.tv_index.specs.Indexes.{NotCreated, NotStanding, OpensIndexOf, OpensStanding};
 ghost use Rattle.tv_index.specs.Lending.{lends_directory, lends_inventory, lends_settings};
-ghost use Rattle.tv_index.specs.NewForms.{NotOpenedForm, form_with};
+ghost use Rattle.tv_index.specs.NewForms.{NotOpenedForm, form_with, new_text};
 ghost use Rattle.tv_index.specs.Settings.{default_index_settings};
 ghost use Rattle.tv_index.specs.Standing.{LoadsMeta, MetaFaults};
 ghost use Rattle.tv_index.specs.Tracked.{ShareAllCause, Tracks, share_of};
@@ -74,6 +76,7 @@ impl<D: Directory> Index<D> {
             (λ found. found ≡ is_some ((D.view directory.old).reads meta_name)) }
         ensures faults { AskFaults (D.view directory.old) (D.view directory.new) meta_name result }
         ensures frame { OnlyReads D.told (D.view directory.old) (D.view directory.new) }
+        ensures images { D.tells_images → KeepsDisk (D.disk directory.old) (D.disk directory.new) }
     {
         directory.exists(META_FILEPATH)
     }
@@ -103,7 +106,7 @@ impl<D: Directory> Index<D> {
 
     /// Opens the index that stands in a directory. Its schema is the one that `meta.json` spells,
     /// with the keys in the order of their bytes and without blanks. A refusal gives the directory
-    /// back.
+    /// back. A crash within the call leaves what it might have left before.
     ///
     /// `DataCorruption` comes for the list of managed files; then `OpenReadError` with
     /// `FileDoesNotExist` where there is no `meta.json`, or `DataCorruption` where it means no
@@ -112,6 +115,8 @@ impl<D: Directory> Index<D> {
         ensures opened { IfOk result (OpensStanding D.Directory directory) }
         ensures refused { IfErr result (λ refused.
             NotStanding D.Directory directory refused.directory refused.error) }
+        ensures safe { D.tells_images → LooksSafely D.Directory directory
+            (λ index. index.directory) result }
     {
         let mut directory = settled(alloc, directory)?;
         match load_meta(alloc, &mut directory, None) {
@@ -127,6 +132,9 @@ impl<D: Directory> Index<D> {
     /// replaced by the first commit of the new index; no other file is changed but the list of
     /// managed files. A refusal gives the directory back.
     ///
+    /// Where each file that a crash may leave is on the list, no crash within the call leaves one
+    /// that isn't, and the directory goes on so.
+    ///
     /// `DataCorruption` comes for the list of managed files.
     pub fn create(
         alloc: Global,
@@ -137,6 +145,8 @@ impl<D: Directory> Index<D> {
         ensures created { IfOk result (CreatesIndex D.Directory directory settings schema) }
         ensures refused { IfErr result (λ refused. NotCreated D.Directory directory
             (form_with settings schema) refused.directory refused.error) }
+        ensures safe { D.tells_images → MakesSafely D.Directory (Unit {0})
+            (new_text (form_with settings schema)) directory (λ index. index.directory) result }
     {
         let mut directory = settled(alloc, directory)?;
         match create(alloc, &mut directory, &schema, &settings) {
@@ -150,7 +160,9 @@ impl<D: Directory> Index<D> {
 
     /// Opens the index that stands in a directory, or makes one with this schema where there is no
     /// `meta.json`. A refusal gives the directory back. Where there is a `meta.json`, no notice of it
-    /// comes.
+    /// comes, and a crash within the call leaves what it might have left before, or what stood then.
+    /// Where each file that a crash may leave is on the list, no crash within the call leaves one that
+    /// isn't, and the directory goes on so.
     ///
     /// `DataCorruption` comes for the list of managed files and for `meta.json`, `SchemaError`
     /// where `meta.json` has another schema.
@@ -162,6 +174,8 @@ impl<D: Directory> Index<D> {
         ensures opened { IfOk result (OpensIndexOf D.Directory directory (new_form schema)) }
         ensures refused { IfErr result (λ refused. NotOpenedForm D.Directory directory
             (new_form schema) refused.directory refused.error) }
+        ensures safe { D.tells_images → MakesSafely D.Directory (LacksMeta D.Directory directory)
+            (new_text (new_form schema)) directory (λ index. index.directory) result }
     {
         Index::open_or_create_with(alloc, directory, schema, IndexSettings::new())
     }
@@ -177,6 +191,8 @@ impl<D: Directory> Index<D> {
             (OpensIndexOf D.Directory directory (form_with settings schema)) }
         ensures refused { IfErr result (λ refused. NotOpenedForm D.Directory directory
             (form_with settings schema) refused.directory refused.error) }
+        ensures safe { D.tells_images → MakesSafely D.Directory (LacksMeta D.Directory directory)
+            (new_text (form_with settings schema)) directory (λ index. index.directory) result }
     {
         let (directory, meta) = open_or_create_with(alloc, directory, &schema, settings)?;
         Ok(Index::from_parts(alloc, directory, meta.index_settings, meta.schema))
@@ -260,6 +276,8 @@ impl<D: Directory> Index<D> {
         ensures faults { MetaFaults D.Directory self.old.directory.0 self.new.directory.0
             (Some self.old.schema) result }
         ensures frame { KeepsIndex (OnlyReads D.told) D.view self.old self.new }
+        ensures images { D.tells_images
+            → KeepsDisk (D.disk self.old.directory.0) (D.disk self.new.directory.0) }
     {
         load_meta(alloc, &mut self.directory, Some(&self.schema))
     }
@@ -272,6 +290,8 @@ impl<D: Directory> Index<D> {
         ensures faults { MetaFaults D.Directory self.old.directory.0 self.new.directory.0
             (Some self.old.schema) result }
         ensures frame { KeepsForm (OnlyReads D.told) D.view self.old self.new }
+        ensures images { D.tells_images
+            → KeepsDisk (D.disk self.old.directory.0) (D.disk self.new.directory.0) }
     {
         let meta = self.load_untracked_metas(alloc)?;
         let meta = meta.track(&mut self.inventory)?;
@@ -290,6 +310,8 @@ impl<D: Directory> Index<D> {
         ensures faults { MetaFaults D.Directory self.old.directory.0 self.new.directory.0
             (Some self.old.schema) result }
         ensures frame { KeepsForm (OnlyReads D.told) D.view self.old self.new }
+        ensures images { D.tells_images
+            → KeepsDisk (D.disk self.old.directory.0) (D.disk self.new.directory.0) }
     {
         let meta = self.load_metas(alloc)?;
         Ok(meta.segments)
@@ -303,6 +325,8 @@ impl<D: Directory> Index<D> {
         ensures faults { MetaFaults D.Directory self.old.directory.0 self.new.directory.0
             (Some self.old.schema) result }
         ensures frame { KeepsForm (OnlyReads D.told) D.view self.old self.new }
+        ensures images { D.tells_images
+            → KeepsDisk (D.disk self.old.directory.0) (D.disk self.new.directory.0) }
     {
         let meta = load_meta(alloc, &mut self.directory, Some(&self.schema))?;
         let segments = track_segments(alloc, meta.segments.as_slice(), &mut self.inventory)?;
@@ -318,6 +342,8 @@ impl<D: Directory> Index<D> {
         ensures faults { MetaFaults D.Directory self.old.directory.0 self.new.directory.0
             (Some self.old.schema) result }
         ensures frame { KeepsIndex (OnlyReads D.told) D.view self.old self.new }
+        ensures images { D.tells_images
+            → KeepsDisk (D.disk self.old.directory.0) (D.disk self.new.directory.0) }
     {
         let meta = load_meta(alloc, &mut self.directory, Some(&self.schema))?;
         let ids = ids_of(alloc, meta.segments.as_slice())?;

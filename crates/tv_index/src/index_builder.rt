@@ -1,7 +1,8 @@
 //! How an index is made, or opened, with settings and a schema that are passed one by one.
 ghost use Rattle.std.specs.Prelude.{◌≡◌, None, Some, IfOk, IfErr, MatchOption};
 ghost use Rattle.std.specs.Option.{IsSomeAnd};
-ghost use Rattle.tv_index.specs.Building.{IsMissing, IsUnpassed, LacksSchema, OpensNone};
+ghost use Rattle.tv_index.specs.Building.{BuildsSafely, IsMissing, IsUnpassed, LacksSchema, OpensNone};
+ghost use Rattle.tv_index.specs.Crashes.{LacksMeta, OnlyLooks};
 ghost use Rattle.tv_index.specs.Indexes.{CreatesIndex, IsNewInRam, NotCreated, NotStanding, OpensIndexOf};
 ghost use Rattle.tv_index.specs.NewForms.{NotOpenedForm, form_with};
 ghost use Rattle.tv_index.specs.Settings.{default_index_settings};
@@ -90,6 +91,8 @@ impl IndexBuilder {
             (LacksSchema directory refused.directory refused.error)
             (λ schema. NotCreated D.Directory directory (form_with self.settings schema)
             refused.directory refused.error)) }
+        ensures safe { D.tells_images
+            → BuildsSafely D.Directory (Unit {0}) self directory result }
     {
         let IndexBuilder { settings, schema } = self;
         match schema {
@@ -119,6 +122,8 @@ impl IndexBuilder {
             (OpensNone D.Directory directory refused.directory refused.error)
             (λ schema. NotOpenedForm D.Directory directory (form_with self.settings schema)
             refused.directory refused.error)) }
+        ensures safe { D.tells_images
+            → BuildsSafely D.Directory (LacksMeta D.Directory directory) self directory result }
     {
         let IndexBuilder { settings, schema } = self;
         match schema {
@@ -150,8 +155,9 @@ fn missing_schema(alloc: Global) -> TantivyError
 
 // The refusal of a builder without a schema, where the index that stands there isn't opened.
 fn unopened<D: Directory>(alloc: Global, refused: Refused<D>) -> Refused<D>
-    ensures { (before : D) → NotStanding D.Directory before refused.directory refused.error
+    ensures error { (before : D) → NotStanding D.Directory before refused.directory refused.error
         → OpensNone D.Directory before result.directory result.error }
+    ensures directory { result.directory ≡ refused.directory }
 {
     let Refused { error, directory } = refused;
     match error {
@@ -166,7 +172,8 @@ fn unopened<D: Directory>(alloc: Global, refused: Refused<D>) -> Refused<D>
 
 // The refusal of a builder without a schema, by what stands in the directory.
 fn opened_without_schema<D: Directory>(alloc: Global, directory: D) -> Refused<D>
-    ensures { OpensNone D.Directory directory result.directory result.error }
+    ensures error { OpensNone D.Directory directory result.directory result.error }
+    ensures safe { D.tells_images → OnlyLooks D.Directory directory result.directory }
 {
     match Index::open(alloc, directory) {
         Ok(index) => Refused {

@@ -2,15 +2,19 @@
 ghost use Rattle.std.specs.Prelude.{◌≡◌, ◌<◌, ◌^◌, IfOk, IfErr, IfSome, IsErrAnd, OnOk, false, option_map};
 ghost use Rattle.tv_model.specs.Collections.{held};
 ghost use Rattle.tv_model.specs.Commits.{first_commit};
+ghost use Rattle.tv_model.specs.Disk.{Throughout};
 ghost use Rattle.tv_model.specs.Names.{has, meta_name};
 ghost use Rattle.tv_directory.specs.Calls.{IoFaults};
+ghost use Rattle.tv_directory.specs.Images.{KeepsDisk};
 ghost use Rattle.tv_directory.specs.View.{OnlyReads};
+ghost use Rattle.tv_managed.specs.Crashes.{LeavesSafely};
 ghost use Rattle.tv_managed.specs.Frames.{KeepsNames};
 ghost use Rattle.tv_managed.specs.Managed.{KeepsOtherFiles};
 ghost use Rattle.tv_managed.specs.Wrapping.{NotWrapped, Wraps};
+ghost use Rattle.tv_index.specs.Crashes.{IsOldOrMade, LacksMeta, LooksSafely, MakesSafely, SavesStates};
 ghost use Rattle.tv_index.specs.Metas.{commit_of};
 ghost use Rattle.tv_index.specs.NewForms.{IsFirst, LoadsOrCreates, NotLoaded, NotOpenedForm, OpensForm, form_with, new_text};
-ghost use Rattle.tv_index.specs.Opening.{HasCommit, LoadFaults, Loads, NoneIfAbsent, NotOpened, OpensIndex};
+ghost use Rattle.tv_index.specs.Opening.{HasCommit, LoadFaults, Loads, NoneIfAbsent, NotOpened, OpensIndex, first_text};
 ghost use Rattle.tv_index.specs.Saving.{FrameNotesUnless, LeavesText, SavesMeta};
 ghost use Rattle.tv_index.specs.Standing.{LoadsMeta, MetaFaults, UnreadAs};
 
@@ -53,6 +57,8 @@ pub(crate) fn load_meta<D: Directory>(
     ensures faults { MetaFaults D.Directory directory.old.0 directory.new.0
         (option_map (λ s. s.now) expected.entry) result }
     ensures frame { KeepsNames (OnlyReads D.told) D.view directory.old directory.new }
+    ensures images { D.tells_images
+        → KeepsDisk (D.disk directory.old.0) (D.disk directory.new.0) }
 {
     match directory.atomic_read(META_FILEPATH) {
         Ok(bytes) => UntrackedIndexMeta::parse(alloc, bytes.as_slice(), expected),
@@ -81,6 +87,8 @@ pub(crate) fn load<D: Directory>(
     ensures commit { IfOk result (λ found. IfSome found (HasCommit schema.now)) }
     ensures faults { LoadFaults D.Directory directory.old.0 directory.new.0 schema.now result }
     ensures frame { KeepsNames (OnlyReads D.told) D.view directory.old directory.new }
+    ensures images { D.tells_images
+        → KeepsDisk (D.disk directory.old.0) (D.disk directory.new.0) }
 {
     match load_meta(alloc, directory, Some(schema)) {
         Ok(meta) => Ok(Some(meta)),
@@ -134,6 +142,9 @@ pub(crate) fn create<D: Directory>(
     ensures faults { IoFaults (D.view directory.old.0) (D.view directory.new.0) result }
     ensures frame { FrameNotesUnless D.told (IsErrAnd result (λ error. error ≡ IoError.Memory))
         (D.view directory.old.0) (D.view directory.new.0) }
+    ensures safe { D.tells_images → LeavesSafely D.Directory
+        (SavesStates (D.disk directory.old.0) (D.disk directory.new.0) directory.old.1
+        (new_text (form_with settings.now schema.now)) result) directory.old directory.new }
 {
     let mut text = print_meta(alloc, settings, schema, &[], 0, None)?;
     text.push(b'\n')?;
@@ -152,6 +163,10 @@ fn load_or_create<D: Directory>(
         (form_with settings schema.now)) }
     ensures err { IfErr result (NotLoaded D.Directory directory.old directory.new.0
         (form_with settings schema.now)) }
+    ensures safe { D.tells_images → LeavesSafely D.Directory
+        (Throughout (IsOldOrMade (LacksMeta D.Directory directory.old.0) (D.disk directory.old.0)
+        (new_text (form_with settings schema.now)))
+        (D.disk directory.old.0) (D.disk directory.new.0)) directory.old directory.new }
 {
     if let Some(meta) = load(alloc, directory, schema)? {
         return Ok(meta);
@@ -169,6 +184,8 @@ pub(crate) fn settled<D: Directory>(
     ensures wraps { IfOk result (Wraps D.Directory directory) }
     ensures refused { IfErr result (λ refused.
         NotWrapped D.Directory directory refused.directory refused.error) }
+    ensures safe { D.tells_images
+        → LooksSafely D.Directory directory (λ settled. settled) result }
 {
     let mut directory = directory;
     match directory.sync_directory() {
@@ -192,6 +209,8 @@ pub(crate) fn open_or_create_with<D: Directory>(
     ensures refused { IfErr result (λ refused.
         NotOpenedForm D.Directory directory (form_with settings schema.now)
         refused.directory refused.error) }
+    ensures safe { D.tells_images → MakesSafely D.Directory (LacksMeta D.Directory directory)
+        (new_text (form_with settings schema.now)) directory (λ opened. opened.0) result }
 {
     let mut directory = settled(alloc, directory)?;
     match load_or_create(alloc, &mut directory, schema, settings) {
@@ -207,6 +226,9 @@ pub(crate) fn open_or_create_with<D: Directory>(
 /// `meta.json`. Gives the directory with its managed names, and the commit that the index shows. A
 /// refusal gives the directory back. Where there is a `meta.json`, no notice of it comes.
 ///
+/// Where each file that a crash may leave is on the list, no crash within the call leaves one that
+/// isn't, and the directory goes on so.
+///
 /// `DataCorruption` comes for the list of managed files and for `meta.json`, `SchemaError` where
 /// `meta.json` has another schema.
 pub fn open_or_create<D: Directory>(
@@ -218,6 +240,8 @@ pub fn open_or_create<D: Directory>(
         OpensIndex D.Directory directory schema.now opened.0 opened.1) }
     ensures refused { IfErr result (λ refused.
         NotOpened D.Directory directory schema.now refused.directory refused.error) }
+    ensures safe { D.tells_images → MakesSafely D.Directory (LacksMeta D.Directory directory)
+        (first_text schema.now) directory (λ opened. opened.0) result }
 {
     open_or_create_with(alloc, directory, schema, IndexSettings::new())
 }

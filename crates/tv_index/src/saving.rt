@@ -21,8 +21,9 @@ use tv_managed::ManagedDirectory;
 use tv_model::Memory;
 
 /// Makes these bytes the text of `meta.json`, by one atomic write. The directory is synced before and
-/// afterwards, so that a crash leaves the old text or this one, and at Ok this one. After an error
-/// `meta.json` may be managed, where it wasn't before. No unfinished collection may have it.
+/// afterwards: a crash leaves what it might have left before the call, or the text that stood then or
+/// this one, and at Ok this one. After an error `meta.json` may be managed, where it wasn't before. No
+/// unfinished collection may have it.
 pub fn save_meta_text<D: Directory>(
     directory: &mut ManagedDirectory<D>,
     text: &[u8],
@@ -84,10 +85,10 @@ fn saved_text(alloc: Global, meta: &IndexMeta) -> Result<Vec<u8>, Memory>
 /// the segments in the order of their ids, and a line feed, which mean that commit. Of two shares with
 /// one id nothing is said.
 ///
-/// The directory is synced before and afterwards, so that a crash leaves the old commit or this one,
-/// and at Ok this one. An `IoError` comes where the device refused a call, and `Memory` where memory
-/// was wanted; then `meta.json` has what it had. After an error `meta.json` may be managed, where it
-/// wasn't before. No unfinished collection may have it.
+/// The directory is synced before and afterwards: a crash leaves what it might have left before the
+/// call, or the commit that stood then or this one, and at Ok this one. An `IoError` comes where the
+/// device refused a call, and `Memory` where memory was wanted; then `meta.json` has what it had. After
+/// an error `meta.json` may be managed, where it wasn't before. No unfinished collection may have it.
 pub fn save_metas<D: Directory>(
     alloc: Global,
     meta: &IndexMeta,

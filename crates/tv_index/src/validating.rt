@@ -1,6 +1,7 @@
 //! Which files of the last commit are damaged.
 ghost use Rattle.std.specs.Prelude.{◌≡◌, ◌||◌, ◌&&◌, ◌++◌, ℕ, List, Some, true, IfOk, OnOk, filter, map, not, string_bytes};
 ghost use Rattle.std.specs.List.{flat_map, list_all};
+ghost use Rattle.tv_directory.specs.Images.{KeepsDisk};
 ghost use Rattle.tv_directory.specs.View.{OnlyReads};
 ghost use Rattle.tv_managed.specs.Frames.{KeepsNames};
 ghost use Rattle.tv_model.specs.Living.{segment_names};
@@ -34,6 +35,8 @@ impl<D: Directory> Index<D> {
         ensures faults { ValidateFaults D.Directory self.old.directory self.new.directory.0
             self.old.schema result }
         ensures frame { KeepsIndex (OnlyReads D.told) D.view self.old self.new }
+        ensures images { D.tells_images
+            → KeepsDisk (D.disk self.old.directory.0) (D.disk self.new.directory.0) }
     {
         let meta = load_meta(alloc, &mut self.directory, Some(&self.schema))?;
         let managed = self.directory.list_managed_files();
@@ -110,6 +113,8 @@ fn damaged_among<D: Directory>(
         AreDamaged (D.view directory.old.0).reads names.now (map string_bytes damaged.keys)) }
     ensures faults { UnreadFaults D.Directory directory.old.0 directory.new.0 names.now result }
     ensures frame { KeepsNames (OnlyReads D.told) D.view directory.old directory.new }
+    ensures images { D.tells_images
+        → KeepsDisk (D.disk directory.old.0) (D.disk directory.new.0) }
 {
     let mut damaged = BTreeSet::new(alloc);
     for name in names {

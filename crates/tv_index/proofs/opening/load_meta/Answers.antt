@@ -10,6 +10,7 @@ returns-in-Ok g c =
       meta = parsed_meta g.D.Directory c.args.directory.now.0 c.atomic_read.new.self.0 (option_map (λ s. s.now) c.args.expected) c.parse.result c.as_slice.result.now (λ t. read.bytes t ∙ ap Some (sym c.as_slice.ensures.value)) c.parse.ensures.ok c.parse.ensures.schema;
       faults = parsed_faults g.D.Directory c.args.directory.now.0 c.atomic_read.new.self.0 (option_map (λ s. s.now) c.args.expected) c.parse.result c.as_slice.result.now read.faults.quiet (λ t. read.bytes t ∙ ap Some (sym c.as_slice.ensures.value)) c.parse.ensures.err;
       frame = read.frame;
+      images = read.images;
     }
 
 pub returns-in-Err-clause-faults : goal.returns-in-Err-clause-faults

@@ -3,6 +3,7 @@ use Rattle.std.proofs.lemmas.List.{take_more}
 use Rattle.tv_base.specs.Errors.{of_open_read}
 use Rattle.tv_managed.specs.Reading.{FooterFaults}
 use Rattle.tv_directory.specs.ViewLaws.{reads_then}
+use Rattle.tv_managed.proofs.Touching.{reads_then as disk_then}
 use Rattle.tv_index.specs.Checksums.{AreDamaged}
 use Rattle.tv_index.proofs.Damages.{one_further, unread_cause, unread_faults}
 use Rattle.tv_index.proofs.validating.damaged_among.Goals as goal
@@ -37,5 +38,6 @@ loop-name-preserved g c =
           c.in_ok-put_damaged.ensures
           (r.0, sym (so_far.frame.below.content t name) ∙ ap (D.view c.loop-name.directory.0).reads (sym c.as_str.ensures.text) ∙ r.1, r.2) (so_far.damaged t));
       frame = record { names = asked.frame.names ∙ so_far.frame.names; below = reads_then so_far.frame.below asked.frame.below };
+      images = λ t. disk_then (so_far.images t) (asked.images t);
       quiet = asked.faults.quiet ∙ so_far.quiet;
     }
