@@ -4,7 +4,7 @@ use Rattle.std.specs.List.{flat_map}
 use Rattle.tv_model.specs.Checksum.{bits, shift_in, register_after}
 use Rattle.tv_checksum.specs.declared.crc32.Crc32.{Crc32}
 
--- it took these bytes
+-- a checksum has taken these bytes
 abbrev pub HasTaken : Crc32 → List ℕ → Type 0
 HasTaken c taken = c.register ≡ register_after taken
 

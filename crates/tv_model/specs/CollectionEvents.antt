@@ -65,6 +65,7 @@ abbrev pub ended : State → ℕ → Collection → StepResult State
 ended s number c =
     (line (codes "gc") (decimal number ∷ codes "end" ∷ []), record s { managed = without c.done s.managed; collections = without_collection s.collections number })
 
+-- the event that ends a collection, where it is unfinished
 abbrev pub gc_end_step : State → ℕ → StepResult State
 gc_end_step s number = given s (collection_at s.collections number) (codes "unknown-collection") (ended s number)
 

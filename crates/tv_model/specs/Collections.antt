@@ -13,7 +13,7 @@ done_of (name ∷ names) [] = name ∷ names
 done_of (name ∷ names) (true ∷ outcomes) = name ∷ done_of names outcomes
 done_of (name ∷ names) (false ∷ outcomes) = done_of names outcomes
 
--- and those that failed
+-- the names whose delete was refused, where the outcomes say which (names without an outcome are done)
 abbrev pub failed_of : List (List ℕ) → List Bool → List (List ℕ)
 failed_of [] outcomes = []
 failed_of (name ∷ names) [] = []

@@ -17,6 +17,7 @@ last_stamp = 18446744073709551615
 abbrev pub chosen : Catalog → List (List ℕ) → List (List ℕ × LiveSegment)
 chosen c ids = filter (λ e. has ids e.0 && nat_lt 0 (num_docs e.1)) c.live
 
+-- whether a file is sealed
 abbrev pub is_sealed : Option FileState → Bool
 is_sealed None = false
 is_sealed (Some (Open body)) = false

@@ -41,6 +41,7 @@ pub record Settings : Type 0 where
   pub dedicated_thread : Bool
   pub blocksize : ℕ
 
+-- the settings of an index for which none were chosen
 abbrev pub default_settings : Settings
 default_settings = record { dedicated_thread = true; blocksize = 16384 }
 
@@ -49,7 +50,7 @@ pub record IndexForm : Type 0 where
   pub settings : Settings
   pub schema : List ℕ
 
--- of a new index with this schema
+-- how a new index with this schema is made: with the settings for which none were chosen
 abbrev pub new_form : List ℕ → IndexForm
 new_form schema = record { settings = default_settings; schema = schema }
 
@@ -58,14 +59,17 @@ abbrev pub thread_text : Bool → List ℕ
 thread_text true = []
 thread_text false = codes ",\"docstore_compress_dedicated_thread\":false"
 
+-- the settings, as `meta.json` has them
 abbrev pub settings_text : Settings → List ℕ
 settings_text settings =
     codes "{\"docstore_compression\":\"none\"" ++ thread_text settings.dedicated_thread ++ codes ",\"docstore_blocksize\":" ++ decimal settings.blocksize ++ codes "}"
 
+-- the deletes of a segment, as `meta.json` has them
 abbrev pub deletes_text : Option DeleteMeta → List ℕ
 deletes_text None = codes "null"
 deletes_text (Some meta) = codes "{\"num_deleted_docs\":" ++ decimal meta.num_deleted_docs ++ codes ",\"opstamp\":" ++ decimal meta.opstamp ++ codes "}"
 
+-- a segment with its id, as `meta.json` has it
 abbrev pub segment_text : List ℕ × LiveSegment → List ℕ
 segment_text e =
     codes "{\"segment_id\":\"" ++ hyphenated_text lower e.0 ++ codes "\",\"max_doc\":" ++ decimal e.1.max_doc ++ codes ",\"deletes\":" ++ deletes_text e.1.deletes ++ codes "}"
@@ -87,9 +91,11 @@ escaped_byte b =
     else if nat_lt b 32 then codes "\\u00" ++ hex_digit (b / 16) ∷ hex_digit (b % 16) ∷ []
     else b ∷ []
 
+-- a text as it stands between the quotes of a JSON string
 abbrev pub escaped : List ℕ → List ℕ
 escaped text = flat_map escaped_byte text
 
+-- the payload, as `meta.json` has it: left out where there is none
 abbrev pub payload_text : Option (List ℕ) → List ℕ
 payload_text None = []
 payload_text (Some text) = codes ",\"payload\":\"" ++ escaped text ++ codes "\""

@@ -44,7 +44,7 @@ having_deleted_docs s id n segment = (
   },
 )
 
--- so many documents of a live segment are deleted
+-- the event by which so many documents of a live segment are deleted
 abbrev pub deletes_step : State → List ℕ → ℕ → StepResult State
 deletes_step s id n = given s (live_at s.catalog id) (codes "unknown-segment") (λ segment.
     unless s (

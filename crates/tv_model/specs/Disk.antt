@@ -8,7 +8,7 @@ pub data DiskState : Type 0 where
   Unsealed : DiskState
   Sealed : List ℕ → DiskState
 
--- there is a file
+-- a name in this state has a file
 abbrev pub IsThere : DiskState → Type 0
 IsThere Absent = ⊥
 IsThere Unsealed = Unit {0}
@@ -68,7 +68,7 @@ pub record Adds (old new : Possible) (name : List ℕ) (state : DiskState) : Typ
 abbrev pub IsSettledAt : Disk → List ℕ → Type 0
 IsSettledAt disk n = (s : DiskState) → possible_now disk n s → s ≡ disk.now n
 
--- so has each name
+-- each name has one possible state, that in which it is
 pub record IsSettled (disk : Disk) : Type 0 where
   pub each : (n : List ℕ) → IsSettledAt disk n
 

@@ -14,10 +14,11 @@ use Rattle.tv_model.specs.Lines.{line, unless, given}
 abbrev pub opened : State → List ℕ → StepResult State
 opened s name = (line (codes "opened") (name ∷ []), record (with_file s name (Open [])) { managed = insert_key byte_cmp s.managed name })
 
--- it is the delete file of a segment without deletes
+-- a component is the delete file of a segment without deletes
 abbrev pub lacks_deletes : LiveSegment → SegmentComponent → Bool
 lacks_deletes segment component = is_delete component && not (nat_lt 0 (num_deleted segment.deletes))
 
+-- a file of a live segment is made under this name, unless there is one
 abbrev pub open_name : State → LiveSegment → SegmentComponent → List ℕ → StepResult State
 open_name s segment component name =
     unless s ((lacks_deletes segment component, codes "no-deletes" ∷ []) ∷ (is_some (file_at s name), codes "exists" ∷ []) ∷ [])
@@ -39,6 +40,7 @@ written_to (Some Left) = None
 abbrev pub wrote : State → List ℕ → (bytes body : List ℕ) → StepResult State
 wrote s name bytes body = (line (codes "wrote") (name ∷ decimal (length (body ++ bytes)) ∷ []), with_file s name (Open (body ++ bytes)))
 
+-- more bytes of the file of this name, where it is open
 abbrev pub write_name : State → List ℕ → List ℕ → StepResult State
 write_name s name bytes = given s (written_to (file_at s name)) (codes "not-open") (wrote s name bytes)
 
@@ -51,6 +53,7 @@ write_step s id component bytes =
 abbrev pub sealed_as : State → List ℕ → (body : List ℕ) → StepResult State
 sealed_as s name body = (line (codes "sealed") (name ∷ decimal (length body) ∷ []), with_file s name (Sealed (sealed body)))
 
+-- the file of this name is sealed, where it is open
 abbrev pub seal_name : State → List ℕ → StepResult State
 seal_name s name = given s (written_to (file_at s name)) (codes "not-open") (sealed_as s name)
 

@@ -53,7 +53,8 @@ pub record IsSoundStart (schema : List ℕ) (reads : Reads) (held : List ℕ →
   pub image : IsSoundImage schema reads
   pub free : (lock : List ℕ) → held lock ≡ false
 
--- The same of a directory that tells what a crash may leave: every image that a crash now may leave is sound, and no lock is held.
+-- A sound directory, where it is told what a crash may leave: every image that a crash now may leave is
+-- sound, and no lock is held.
 pub record IsSoundDirectory (schema : List ℕ) (disk : Disk) (held : List ℕ → Bool) : Type 0 where
   pub images : (image : Reads) → IsImage (possible_now disk) image → IsSoundImage schema image
   pub free : (lock : List ℕ) → held lock ≡ false
@@ -107,7 +108,7 @@ pub record FoundIndex (schema : List ℕ) (reads : Reads) : Type 0 where
 abbrev pub opened_catalog : Commit → Catalog
 opened_catalog commit = record { live = commit.segments; next = next_after commit.opstamp; commit = commit; reading = no_readers }
 
--- and of one that was just made
+-- the catalog of an index that was just made
 abbrev pub first_catalog : Catalog
 first_catalog = record { live = []; next = 1; commit = first_commit; reading = no_readers }
 

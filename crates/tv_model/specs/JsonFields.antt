@@ -30,9 +30,11 @@ abbrev pub or_default : {A : Type 0} → A → (Data → Option A) → Option Da
 or_default a f None = Some a
 or_default a f (Some d) = f d
 
+-- a field of a truth value, or what stands for it where it is missing
 abbrev pub bool_or : Bool → List ℕ → Data → Option Bool
 bool_or b key d = or_default b as_bool (get key d)
 
+-- a field of a number below 2 ^ 64, or what stands for it where it is missing
 abbrev pub u64_or : ℕ → List ℕ → Data → Option ℕ
 u64_or n key d = or_default n u64_of (get key d)
 

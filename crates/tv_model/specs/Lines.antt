@@ -33,6 +33,7 @@ words_of (Some word) = word ∷ []
 abbrev pub opening_of : Commit → List ℕ
 opening_of commit = line (codes "open") (decimal commit.opstamp ∷ decimal (length commit.segments) ∷ [])
 
+-- the first line that is told of an index which opens in this state
 abbrev pub opening_line : State → List ℕ
 opening_line s = opening_of s.catalog.commit
 

@@ -5,11 +5,11 @@ use Rattle.tv_model.specs.Files.{Reads}
 use Rattle.tv_model.specs.Listing.{IsOnList, Lists}
 use Rattle.tv_model.specs.Names.{is_undotted, list_name}
 
--- it is a list, whatever is read of it in this state
+-- a file in this state is a list, whatever is read of it
 abbrev pub IsAList : DiskState → Type 0
 IsAList state = (read : Option (List ℕ)) → MayRead state read → (names : List (List ℕ)) × Lists read names
 
--- and this name is on it
+-- this name is on whatever list is read of a file in this state
 abbrev pub IsOnEach : DiskState → List ℕ → Type 0
 IsOnEach state name = (read : Option (List ℕ)) → MayRead state read → IsOnList read name
 

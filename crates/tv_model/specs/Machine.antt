@@ -87,7 +87,7 @@ events_of turns = map (λ turn. turn.0) turns
 abbrev pub refused_in : List Bool → ℕ
 refused_in outcomes = length (filter not outcomes)
 
--- and how many of a run
+-- how many deletes of a run were refused
 abbrev pub all_refused : List Turn → ℕ
 all_refused [] = 0
 all_refused (turn ∷ turns) = refused_in turn.1 + all_refused turns

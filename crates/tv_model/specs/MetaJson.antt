@@ -30,6 +30,7 @@ abbrev pub AreSettingsAt : Option Data → Settings → Type 0
 AreSettingsAt None settings = settings ≡ default_settings
 AreSettingsAt (Some d) settings = AreSettings d settings
 
+-- an object with the parts of a segment's deletes
 pub record IsDeleteMeta (d : Data) (meta : DeleteMeta) : Type 0 where
   pub num_deleted_docs : field u32_of (codes "num_deleted_docs") d ≡ Some meta.num_deleted_docs
   pub opstamp : field u64_of (codes "opstamp") d ≡ Some meta.opstamp

@@ -13,7 +13,7 @@ use Rattle.tv_model.specs.Machine.{Turn, step}
 abbrev pub IsGoodFile : State → List ℕ → Type 0
 IsGoodFile s name = (bytes : List ℕ) × (file_at s name ≡ Some (Sealed bytes)) × IsGood bytes
 
--- so is each of these files
+-- each of these files is sealed, and has a body and a footer
 pub record AreGoodFiles (s : State) (names : List (List ℕ)) : Type 0 where
   pub each : (n : List ℕ) → has names n ≡ true → IsGoodFile s n
 
@@ -31,7 +31,7 @@ read_by s other = None
 abbrev pub ReadsGood : State → Event → Type 0
 ReadsGood s event = IfSome (read_by s event) (λ commit. AreGoodFiles s (all_required commit.segments))
 
--- so can each event of a run
+-- each event of a run that reads a commit's files can do so
 abbrev pub AllReadGood : State → List Turn → Type 0
 AllReadGood s [] = Unit {0}
 AllReadGood s (turn ∷ turns) = ReadsGood s turn.0 × AllReadGood (step s turn.0 turn.1).1 turns

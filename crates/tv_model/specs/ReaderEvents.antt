@@ -48,6 +48,7 @@ with_reloaded c number reader shown = record c {
   reading = record c.reading { readers = insert_entry nat_cmp c.reading.readers number (record reader { next = reader.next + 1; shown = shown }) };
 }
 
+-- a reader shows the current commit under its next number, with these bodies
 abbrev pub reloaded : Catalog → ℕ → (bodies : List (List (List ℕ))) → Reader → StepResult Catalog
 reloaded c number bodies reader = (
   line (codes "published") (decimal number ∷ decimal reader.next ∷ decimal c.commit.opstamp ∷ []),
@@ -58,6 +59,7 @@ reloaded c number bodies reader = (
 abbrev pub reload_step : Catalog → ℕ → (bodies : List (List (List ℕ))) → StepResult Catalog
 reload_step c number bodies = given c (reader_at c number) (codes "unknown-reader") (reloaded c number bodies)
 
+-- the catalog without this reader
 abbrev pub without_reader : Catalog → ℕ → Catalog
 without_reader c number = record c { reading = record c.reading { readers = remove_entry (is_at (nat_cmp number)) c.reading.readers } }
 

@@ -14,5 +14,6 @@ all_left files = map (λ e. (e.0, left e.1)) files
 abbrev pub reopened : State → State
 reopened s = record { catalog = opened_catalog s.catalog.commit; files = all_left s.files; managed = s.managed; collections = no_collections }
 
+-- the index is opened again, and its opening line is told
 abbrev pub reopen_step : State → StepResult State
 reopen_step s = (opening_line s, reopened s)

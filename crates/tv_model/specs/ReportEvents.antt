@@ -26,6 +26,7 @@ intact_at (Some Left) = None
 abbrev pub first_unreadable : State → List (List ℕ) → Option (List ℕ)
 first_unreadable s names = find (λ name. is_none (intact_at (file_at s name))) names
 
+-- whether it is known that a checksum isn't that of its body
 abbrev pub is_damaged : Option Bool → Bool
 is_damaged None = false
 is_damaged (Some intact) = not intact
@@ -34,11 +35,13 @@ is_damaged (Some intact) = not intact
 abbrev pub damaged_files : State → List (List ℕ) → List (List ℕ)
 damaged_files s names = filter (λ name. is_damaged (intact_at (file_at s name))) names
 
+-- the report on the checksums of these files: the damaged ones, or the first of which nothing can be said
 abbrev pub validated : State → List (List ℕ) → StepResult State
 validated s names =
     unless s ((is_some (first_unreadable s names), codes "unreadable" ∷ words_of (first_unreadable s names)) ∷ [])
     (line (codes "damaged") (damaged_files s names), s)
 
--- which managed files of the current commit have another checksum than that of their body
+-- the event that reports which managed files of the current commit have another checksum than that of their
+-- body
 abbrev pub validate_step : State → StepResult State
 validate_step s = validated s (committed_names s.catalog s.managed)

@@ -64,6 +64,7 @@ abbrev pub body_among : Option (List (List ℕ)) → SegmentComponent → Option
 body_among None component = None
 body_among (Some bodies) component = slice_get bodies (place_of component)
 
+-- the body of a component of a segment that a snapshot shows
 abbrev pub body_at : Snapshot → ℕ → SegmentComponent → Option (List ℕ)
 body_at shown ord component = body_among (slice_get shown.bodies ord) component
 
@@ -82,6 +83,7 @@ bytes_step c number ord component =
     given c (searcher_at c number) (codes "unknown-searcher") (λ shown.
     given c (body_at shown ord component) (codes "unknown-file") (λ body. (bytes_line number ord component body, c)))
 
+-- the catalog without this searcher
 abbrev pub without_searcher : Catalog → ℕ → Catalog
 without_searcher c number = record c { reading = record c.reading { searchers = remove_entry (is_at (nat_cmp number)) c.reading.searchers } }
 

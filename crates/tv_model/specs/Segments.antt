@@ -22,6 +22,7 @@ extension Delete = codes "del"
 abbrev pub components : List SegmentComponent
 components = Postings ∷ Positions ∷ FastFields ∷ FieldNorms ∷ Terms ∷ Store ∷ Delete ∷ []
 
+-- whether a component is the one of deleted documents
 abbrev pub is_delete : SegmentComponent → Bool
 is_delete Postings = false
 is_delete Positions = false

@@ -43,7 +43,8 @@ pub record Serves (s : State) (turns : List Turn) : Type 0 where
       → reader_at (after s front).catalog n ≡ Some reader
       → searcher_at (after s (front ++ (events.Searcher n, outcomes) ∷ [])).catalog (after s front).catalog.reading.next_searcher ≡ Some reader.shown
 
--- and each state of a run, whose commit readers may come to show, shows bodies so
+-- In each state of a run, whose commit readers may come to show, what is shown of a file is the body before
+-- its footer.
 abbrev pub ServesAsSealed : State → List Turn → Type 0
 ServesAsSealed s turns = (front rest : List Turn) → turns ≡ front ++ rest
     → ShowsAsSealed (after s front)

@@ -60,15 +60,19 @@ StepResult S = List ℕ × S
 abbrev pub at : {X : Type 0} → List (List ℕ × X) → List ℕ → Option X
 at entries key = lookup (is_at (byte_cmp key)) entries
 
+-- the live segment of an id, where there is one
 abbrev pub live_at : Catalog → List ℕ → Option LiveSegment
 live_at c id = at c.live id
 
+-- the file of a name, where there is one
 abbrev pub file_at : State → List ℕ → Option FileState
 file_at s name = at s.files name
 
+-- the catalog with this live segment under its id
 abbrev pub with_live : Catalog → List ℕ → LiveSegment → Catalog
 with_live c id segment = record c { live = insert_entry byte_cmp c.live id segment }
 
+-- the state with this file under its name
 abbrev pub with_file : State → List ℕ → FileState → State
 with_file s name file = record s { files = insert_entry byte_cmp s.files name file }
 
@@ -76,9 +80,11 @@ with_file s name file = record s { files = insert_entry byte_cmp s.files name fi
 abbrev pub at_number : {X : Type 0} → List (ℕ × X) → ℕ → Option X
 at_number entries number = lookup (is_at (nat_cmp number)) entries
 
+-- the reader of a number, where there is one
 abbrev pub reader_at : Catalog → ℕ → Option Reader
 reader_at c number = at_number c.reading.readers number
 
+-- what the searcher of a number shows, where there is one
 abbrev pub searcher_at : Catalog → ℕ → Option Snapshot
 searcher_at c number = at_number c.reading.searchers number
 

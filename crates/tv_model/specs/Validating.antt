@@ -22,7 +22,7 @@ pub record IsReadable (s : State) (n : List ℕ) : Type 0 where
   pub body : List ℕ
   pub framed : IsFramed bytes footer body
 
--- and the checksum in the footer isn't that of the body
+-- a sealed file that has a body and a footer, in which the checksum isn't that of the body
 abbrev pub IsDamaged : State → List ℕ → Type 0
 IsDamaged s n = (file : IsReadable s n) × (file.footer.crc ≢ crc32 file.body)
 
