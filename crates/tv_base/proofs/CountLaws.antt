@@ -3,7 +3,7 @@ use Rattle.std.proofs.Common.{◌≡◌, ℕ, ◌<◌, ◌||◌, Bool, true, fal
 use Rattle.std.proofs.lemmas.List.Elements.{All-map}
 use Rattle.std.specs.List.{AllZip, list_any}
 use Rattle.tv_base.specs.declared.inventory.Entry.{Entry}
-use Rattle.tv_base.specs.Entries.{MayCount, is_full, one_more}
+use Rattle.tv_base.specs.Entries.{InventoryState, MayCount, is_full, one_more}
 
 neither : (a b : Bool) → (a || b) ≡ false → (a ≡ false) × (b ≡ false)
 neither true b h = absurd cc
@@ -17,6 +17,10 @@ all_counted (e ∷ es) [] none both = absurd both
 all_counted {T} (e ∷ es) (f ∷ fs) none both =
     let h = neither (is_full e) (list_any is_full es) none in
     ap (λ (x : Entry T). x ∷ fs) (both.0 h.0) ∙ ap (λ (xs : List (Entry T)). one_more e ∷ xs) (all_counted es fs h.1 both.1)
+
+-- the same of an inventory whose entries these are
+pub all_counted_in : {T : Type 0} (next : ℕ) (es fs : List (Entry T)) (state : InventoryState T) → record { next = next; entries = es } ≡ state → fs ≡ map one_more es → record { next = next; entries = fs } ≡ record state { entries = map one_more state.entries }
+all_counted_in next es fs state is all = rw (← is, all) refl
 
 -- the numbers stay
 pub numbers_counted : {T : Type 0} (next : ℕ) (es fs : List (Entry T)) → fs ≡ map one_more es → All (λ e. e.number < next) es → All (λ e. e.number < next) fs

@@ -3,6 +3,11 @@ use Rattle.std.specs.Prelude.{ℕ, ◌≡◌, ◌+◌, ◌-◌, ◌==◌, Bool, 
 use Rattle.tv_base.specs.declared.inventory.Entry.{Entry}
 use Rattle.tv_base.specs.Places.{change_at, take_out}
 
+-- what an inventory keeps, and the number that the next value gets
+pub record InventoryState (T : Type 0) : Type 0 where
+  pub next : ℕ
+  pub entries : List (Entry T)
+
 -- an entry of this number
 abbrev pub is_at : {T : Type 0} → ℕ → Entry T → Bool
 is_at number e = eqb e.number number
@@ -15,13 +20,15 @@ tracked number value es = es ++ record { number = number; count = 1; value = val
 abbrev pub IsFull : {T : Type 0} → Entry T → Type 0
 IsFull e = e.count ≡ 18446744073709551615
 
+-- whether as many shares of an entry are out as can be counted
 abbrev pub is_full : {T : Type 0} → Entry T → Bool
 is_full e = e.count == 18446744073709551615
 
--- one more, and one fewer, share of an entry
+-- one more share of an entry
 abbrev pub one_more : {T : Type 0} → Entry T → Entry T
 one_more e = record e { count = e.count + 1 }
 
+-- one fewer share of an entry
 abbrev pub one_fewer : {T : Type 0} → Entry T → Entry T
 one_fewer e = record e { count = e.count - 1 }
 

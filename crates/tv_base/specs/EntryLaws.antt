@@ -11,6 +11,7 @@ none_at n (e ∷ es) below =
     let no : eqb e.number n ≡ false = grind (arith, below 0 e (grind arith)) in
     rw no (none_at n es (λ k d lt. below (suc k) d (grind (arith, lt))))
 
+-- An entry of which more than one share is out isn't at its last share.
 pub place_count : {T : Type 0} (n : ℕ) (es : List (Entry T)) (i : ℕ) (d : Entry T) → IsPlace (is_at n) es i → d ≡ slice_index_or es i d → nat_lt d.count 2 ≡ false → is_last (find (is_at n) es) ≡ false
 place_count n es i d place is more = rw (place.found d, ← is) more
 
@@ -31,5 +32,6 @@ last_is_found [] n e is =
     rw (is, same) refl
 last_is_found (first ∷ old) n e is = either_found n first (old ++ e ∷ []) (eqb first.number n) (last_is_found old n e is)
 
+-- What was taken in last is found under its number.
 pub last_found : {T : Type 0} (es old : List (Entry T)) (n : ℕ) (value : T) → es ≡ old ++ record { number = n; count = 1; value = value } ∷ [] → IsSome (find (is_at n) es)
 last_found es old n value is = rw is (last_is_found old n (record { number = n; count = 1; value = value }) refl)

@@ -17,5 +17,7 @@ is_answered (Finished answer) = false
 is_answered (InProgress receiver message) = false
 is_answered Answered = true
 
+-- what a contract sees of a result of the future: its answer where it is finished, and whether it was given
+-- already
 abbrev pub promise_of : {T : Type 0} → State (Result T TantivyError) → Promise T
 promise_of state = record { finished = finished_in state; answered = is_answered state }

@@ -11,3 +11,4 @@ pub mod Visits
 pub mod Futures
 pub mod FutureStates
 pub mod Bytes
+pub mod Versions

@@ -26,15 +26,19 @@ some_place p [] i is = grind (arith, is)
 some_place p (x ∷ xs) i is =
     let at = position-Some p (x ∷ xs) i x is in place_of p (x ∷ xs) i x at.0 at.1 at.2
 
+-- A look-up that finds nothing was past the end.
 pub past_end : (a n : ℕ) → cond (nat_lt a n) (Some a) None ≡ None → n ≤ a
 past_end a n is = grind (arith, is)
 
+-- Where no place is found, nothing passes the test.
 pub no_place : {X : Type 0} (p : X → Bool) (xs : List X) → position p xs ≡ None → find p xs ≡ None
 no_place p xs is = find_at p xs ∙ slice_get_past xs _ (past_end _ _ is)
 
+-- Where the first one fails the test and nothing is found, nothing is found among the others.
 pub passed : {X : Type 0} (p : X → Bool) (x : X) (xs : List X) → p x ≡ false → find p (x ∷ xs) ≡ None → find p xs ≡ None
 passed p x xs is none = cc
 
+-- A change of what isn't there changes nothing, first one by first one.
 pub by_test : {X : Type 0} (p : X → Bool) (f : X → X) (x : X) (xs : List X) (b : Bool) → p x ≡ b → find p (x ∷ xs) ≡ None → (find p xs ≡ None → change_at p f xs ≡ xs) → change_at p f (x ∷ xs) ≡ x ∷ xs
 by_test p f x xs true is none rest = cc
 by_test p f x xs false is none rest = rw is (ap (λ ys. x ∷ ys) (rest (passed p x xs is none)))
@@ -44,6 +48,7 @@ pub stays : {X : Type 0} (p : X → Bool) (f : X → X) (xs : List X) → find p
 stays p f [] is = refl
 stays p f (x ∷ xs) is = by_test p f x xs (p x) refl is (λ none. stays p f xs none)
 
+-- A removal of what isn't there takes nothing out, first one by first one.
 pub kept_by_test : {X : Type 0} (p : X → Bool) (x : X) (xs : List X) (b : Bool) → p x ≡ b → find p (x ∷ xs) ≡ None → (find p xs ≡ None → take_out p xs ≡ xs) → take_out p (x ∷ xs) ≡ x ∷ xs
 kept_by_test p x xs true is none rest = cc
 kept_by_test p x xs false is none rest = rw is (ap (λ ys. x ∷ ys) (rest (passed p x xs is none)))
@@ -53,9 +58,12 @@ pub keeps : {X : Type 0} (p : X → Bool) (xs : List X) → find p xs ≡ None �
 keeps p [] is = refl
 keeps p (x ∷ xs) is = kept_by_test p x xs (p x) refl is (λ none. keeps p xs none)
 
+-- What a search for a place tells: nothing passes the test, or the first that does stands there.
 pub answered : {X : Type 0} (p : X → Bool) (xs : List X) (o : Option ℕ) → position p xs ≡ o → MatchOption o (IsAbsent p xs) (λ i. IsPlace p xs i)
 answered p xs None is = let none = no_place p xs is in record { missing = none; unchanged = λ f. stays p f xs none; kept = keeps p xs none }
 answered p xs (Some i) is = some_place p xs i is
 
+-- The same from the equation read the other way: nothing passes the test, or the first that does stands
+-- there.
 pub places : {X : Type 0} (p : X → Bool) (xs : List X) (o : Option ℕ) → o ≡ position p xs → MatchOption o (IsAbsent p xs) (λ i. IsPlace p xs i)
 places p xs o is = answered p xs o (sym is)

@@ -30,7 +30,7 @@ Keeps before after = (left : List ℕ) → before ≡ Some left → after ≡ So
 abbrev pub Takes : List ℕ → Option (List ℕ) → Option (List ℕ) → Type 0
 Takes piece before after = (taken : List ℕ) → before ≡ Some taken → after ≡ Some (taken ++ piece)
 
--- the same of a first part of the piece, which may be empty
+-- a first part of the piece, which may be empty, came to the end of what was taken, where that is told
 abbrev pub TakesPart : List ℕ → Option (List ℕ) → Option (List ℕ) → Type 0
 TakesPart piece before after =
     (taken : List ℕ) → before ≡ Some taken → (part : List ℕ) × (rest : List ℕ) × (piece ≡ part ++ rest) × (after ≡ Some (taken ++ part))

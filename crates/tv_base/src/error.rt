@@ -6,8 +6,8 @@ use crate::io::{IoError, IoFault};
 use crate::open_errors::{LockError, OpenDirectoryError, OpenReadError, OpenWriteError};
 use crate::versions::Incompatibility;
 use std::alloc::{AllocError, AllocFailed};
+use std::error::Error;
 use std::fmt;
-use thiserror::Error;
 use tv_model::Memory;
 
 /// Bytes that are not what they should be, and in which file.
@@ -56,66 +56,126 @@ impl fmt::Debug for DataCorruption {
 ///
 /// The variants and their texts are those of tantivy, but for the last three. Some of tantivy's are made by no
 /// call here, and stay so that a `match` which names them stays right.
-#[derive(Debug, Drop, Error)]
+#[derive(Debug, Drop)]
 pub enum TantivyError {
     /// A directory was not opened.
-    #[error("Failed to open the directory: '{0:?}'")]
     OpenDirectoryError(OpenDirectoryError),
     /// A file was not read: it is absent, its footer is not read, or the device refused it.
-    #[error("Failed to open file for read: '{0:?}'")]
     OpenReadError(OpenReadError),
     /// A file was not made.
-    #[error("Failed to open file for write: '{0:?}'")]
     OpenWriteError(OpenWriteError),
     /// An index stands where one was to be made.
-    #[error("Index already exists")]
     IndexAlreadyExists,
     /// A lock was not taken. The text is `None`; tantivy has one here.
-    #[error("Failed to acquire Lockfile: {0:?}. {1:?}")]
     LockFailure(LockError, Option<String>),
     /// The device refused a call, or bytes can't be read, where no file is named.
-    #[error("An IO error occurred: '{0}'")]
     IoError(IoFault),
     /// A file of an index is not of its form.
-    #[error("Data corrupted: '{0:?}'")]
     DataCorruption(DataCorruption),
     /// A thread panicked. No call makes it: none panics.
-    #[error("A thread holding the locked panicked and poisoned the lock")]
     Poisoned,
     /// The schema lacks the field of this name. No call makes it.
-    #[error("The field does not exist: '{0}'")]
     FieldNotFound(String),
     /// An argument is not of its form, and what is wrong with it.
-    #[error("An invalid argument was passed: '{0}'")]
     InvalidArgument(String),
     /// A thread failed. No call makes it.
-    #[error("An error occurred in a thread: '{0}'")]
     ErrorInThread(String),
     /// The argument of this name is missing.
-    #[error("Missing required index builder argument when open/create index: '{0}'")]
     IndexBuilderMissingArgument(String),
     /// The schema of an index is another one.
-    #[error("Schema error: '{0}'")]
     SchemaError(String),
     /// The sender of a `FutureResult` is gone: the message with which that was made.
-    #[error("System error.'{0}'")]
     SystemError(String),
     /// A file of another version. No call makes it: a read answers `OpenReadError`.
-    #[error("{0:?}")]
     IncompatibleIndex(Incompatibility),
     /// The library contradicts itself. No call makes it.
-    #[error("Internal error: '{0}'")]
     InternalError(String),
     /// The segment id that was handed in is used already.
-    #[error("IdInUse")]
     IdInUse(String),
     /// A number can't be counted further, or a script has more lines than can be counted.
-    #[error("Exhausted")]
     Exhausted,
     /// Memory was wanted. The call says what it left.
-    #[error("Memory")]
     Memory,
 }
+
+impl TantivyError {
+    // The text before what it holds.
+    fn before(&self) -> &'static str {
+        match self {
+            TantivyError::OpenDirectoryError(_) => "Failed to open the directory: '",
+            TantivyError::OpenReadError(_) => "Failed to open file for read: '",
+            TantivyError::OpenWriteError(_) => "Failed to open file for write: '",
+            TantivyError::IndexAlreadyExists => "Index already exists",
+            TantivyError::LockFailure(_, _) => "Failed to acquire Lockfile: ",
+            TantivyError::IoError(_) => "An IO error occurred: '",
+            TantivyError::DataCorruption(_) => "Data corrupted: '",
+            TantivyError::Poisoned => "A thread holding the locked panicked and poisoned the lock",
+            TantivyError::FieldNotFound(_) => "The field does not exist: '",
+            TantivyError::InvalidArgument(_) => "An invalid argument was passed: '",
+            TantivyError::ErrorInThread(_) => "An error occurred in a thread: '",
+            TantivyError::IndexBuilderMissingArgument(_) => {
+                "Missing required index builder argument when open/create index: '"
+            }
+            TantivyError::SchemaError(_) => "Schema error: '",
+            TantivyError::SystemError(_) => "System error.'",
+            TantivyError::IncompatibleIndex(_) => "",
+            TantivyError::InternalError(_) => "Internal error: '",
+            TantivyError::IdInUse(_) => "IdInUse",
+            TantivyError::Exhausted => "Exhausted",
+            TantivyError::Memory => "Memory",
+        }
+    }
+
+    // The text that it holds, where it shows one as it stands.
+    fn text(&self) -> Option<&String> {
+        match self {
+            TantivyError::FieldNotFound(text)
+            | TantivyError::InvalidArgument(text)
+            | TantivyError::ErrorInThread(text)
+            | TantivyError::IndexBuilderMissingArgument(text)
+            | TantivyError::SchemaError(text)
+            | TantivyError::SystemError(text)
+            | TantivyError::InternalError(text) => Some(text),
+            _ => None,
+        }
+    }
+
+    // Whether what it holds stands in quotes.
+    fn is_quoted(&self) -> bool {
+        matches!(
+            self,
+            TantivyError::OpenDirectoryError(_)
+                | TantivyError::OpenReadError(_)
+                | TantivyError::OpenWriteError(_)
+                | TantivyError::IoError(_)
+                | TantivyError::DataCorruption(_)
+        ) || self.text().is_some()
+    }
+
+    // Writes what it holds.
+    fn held<W: fmt::Write>(&self, f: &mut fmt::Formatter<W>) -> fmt::Result {
+        match self {
+            TantivyError::OpenDirectoryError(error) => fmt::Debug::fmt(error, f),
+            TantivyError::OpenReadError(error) => fmt::Debug::fmt(error, f),
+            TantivyError::OpenWriteError(error) => fmt::Debug::fmt(error, f),
+            TantivyError::LockFailure(error, text) => write!(f, "{error:?}. {text:?}"),
+            TantivyError::IoError(fault) => fmt::Display::fmt(fault, f),
+            TantivyError::DataCorruption(error) => fmt::Debug::fmt(error, f),
+            TantivyError::IncompatibleIndex(error) => fmt::Debug::fmt(error, f),
+            other => f.write_str(other.text().map_or("", |text| text.as_str())),
+        }
+    }
+}
+
+impl fmt::Display for TantivyError {
+    fn fmt<W: fmt::Write>(&self, f: &mut fmt::Formatter<W>) -> fmt::Result {
+        f.write_str(self.before())?;
+        self.held(f)?;
+        f.write_str(if self.is_quoted() { "'" } else { "" })
+    }
+}
+
+impl Error for TantivyError {}
 
 impl From<AllocError> for TantivyError {
     ghost use Rattle.tv_base.specs.declared.error.TantivyError.TheVariants.{Memory};

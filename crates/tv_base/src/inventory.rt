@@ -1,5 +1,5 @@
 //! Values that are kept as long as a ticket of theirs is out.
-ghost use Rattle.std.specs.Prelude.{◌≡◌, ◌<◌, ℕ, [], ◌↔◌, None, true, All, IfOk, IfSome, IsSome, IsErr, OnOk, OnErr, MatchOption, find, map, position, vec_len};
+ghost use Rattle.std.specs.Prelude.{◌≡◌, ◌<◌, ◌+◌, ℕ, [], ◌↔◌, None, true, All, IfOk, IfSome, IsSome, IsErr, OnOk, OnErr, MatchOption, find, map, position, vec_len};
 ghost use Rattle.std.specs.List.{AllZip, list_any};
 ghost use Rattle.std.specs.Option.{IsSomeAnd};
 ghost use Rattle.tv_base.specs.Entries.{IsFull, MayCount, is_at, is_full, one_more, released, tracked};
@@ -56,7 +56,8 @@ impl Ticket {
 /// A value, its number, and how many tickets of it are out.
 #[derive(Drop)]
 pub struct Entry<T> {
-    /// Its number, which no other value of the inventory has or had.
+    /// Its number, which no other value of the inventory has or had: it is below the number of the
+    /// next value, and that only rises.
     pub number: u64,
     /// How many tickets of it are out, at least one.
     pub count: u64,
@@ -64,7 +65,8 @@ pub struct Entry<T> {
     pub value: T,
 }
 
-/// Values in the order in which they were tracked. To a contract it is the list of its entries.
+/// Values in the order in which they were tracked. To a contract it is the list of its entries, and
+/// the number that the next value gets.
 #[derive(Drop)]
 pub struct Inventory<T> {
     next: u64,
@@ -72,12 +74,12 @@ pub struct Inventory<T> {
 }
 
 impl<T> Model for Inventory<T> {
-    ghost use Rattle.std.specs.Prelude.{◌<◌, All, List};
-    ghost use Rattle.tv_base.specs.declared.inventory.Entry.{Entry};
+    ghost use Rattle.std.specs.Prelude.{◌<◌, All};
+    ghost use Rattle.tv_base.specs.Entries.{InventoryState};
 
-    ghost Value = { List (Entry T) };
+    ghost Value = { InventoryState T };
 
-    ghost view = { λ a. a.entries.items };
+    ghost view = { λ a. record { next = a.next; entries = a.entries.items } };
 
     ghost invariant = { λ a. All (λ e. e.number < a.next) a.entries.items };
 }
@@ -85,7 +87,7 @@ impl<T> Model for Inventory<T> {
 impl<T> Inventory<T> {
     /// No values. Takes no memory.
     pub fn new(alloc: Global) -> Inventory<T>
-        ensures empty { result ≡ [] }
+        ensures empty { result ≡ record { next = 0; entries = [] } }
     {
         Inventory {
             next: 0,
@@ -95,11 +97,15 @@ impl<T> Inventory<T> {
 }
 
 impl<T: Drop> Inventory<T> {
-    /// Takes a value in, and answers its first ticket, with a number that no entry has. Where memory is
-    /// wanted, or no number is left, nothing changes and the value is dropped.
+    /// Takes a value in, and answers its first ticket, with the next number, which no value has or
+    /// had. Where memory is wanted, or no number is left, nothing changes and the value is dropped.
     pub fn track(&mut self, value: T) -> Result<Ticket, Memory>
-        ensures fresh { IfOk result (λ ticket. find (is_at ticket) self.old ≡ None) }
-        ensures ok { IfOk result (λ ticket. self.new ≡ tracked ticket value self.old) }
+        ensures next { IfOk result (λ ticket. ticket ≡ self.old.next) }
+        ensures fresh { IfOk result (λ ticket. find (is_at ticket) self.old.entries ≡ None) }
+        ensures ok { IfOk result (λ ticket. self.new ≡ record {
+          next = ticket + 1;
+          entries = tracked ticket value self.old.entries;
+        }) }
         ensures err { OnErr result (self.new ≡ self.old) }
     {
         let number = self.next;
@@ -119,9 +125,11 @@ impl<T: Drop> Inventory<T> {
     /// entry has a further one without effect. Takes no memory.
     pub fn share(&mut self, t: &Ticket) -> Result<Ticket, Exhausted>
         ensures number { IfOk result (λ other. other ≡ t.now) }
-        ensures ok { IfOk result (λ _. self.new ≡ change_at (is_at t.now) one_more self.old) }
+        ensures ok { OnOk result (self.new ≡ record self.old {
+          entries = change_at (is_at t.now) one_more self.old.entries;
+        }) }
         ensures err { OnErr result (self.new ≡ self.old) }
-        ensures full { IsErr result ↔ IsSomeAnd (find (is_at t.now) self.old) IsFull }
+        ensures full { IsErr result ↔ IsSomeAnd (find (is_at t.now) self.old.entries) IsFull }
     {
         count_more(&mut self.entries, t.number)?;
         Ok(Ticket::new(t.number))
@@ -129,8 +137,8 @@ impl<T: Drop> Inventory<T> {
 
     /// The value of a ticket.
     pub fn get(&self, t: &Ticket) -> &T
-        requires here { IsSome (find (is_at t.now) self.now) }
-        ensures value { IfSome (find (is_at t.now) self.now) (λ e. result.now ≡ e.value) }
+        requires here { IsSome (find (is_at t.now) self.now.entries) }
+        ensures value { IfSome (find (is_at t.now) self.now.entries) (λ e. result.now ≡ e.value) }
     {
         let number = t.number;
         let Some(i) = place_of(&self.entries, number) else {
@@ -139,10 +147,10 @@ impl<T: Drop> Inventory<T> {
         &self.entries[i].value
     }
 
-    /// Gives a ticket back. With the last one the value is dropped. A ticket of no entry is dropped
-    /// without effect. Takes no memory.
+    /// Gives a ticket back. With the last one the value is dropped; its number isn't given again. A
+    /// ticket of no entry is dropped without effect. Takes no memory.
     pub fn release(&mut self, t: Ticket)
-        ensures released { self.new ≡ released t self.old }
+        ensures released { self.new ≡ record self.old { entries = released t self.old.entries } }
     {
         count_less(&mut self.entries, t.number);
     }
@@ -150,7 +158,7 @@ impl<T: Drop> Inventory<T> {
     /// The values, in the order in which they were tracked.
     pub fn list(&self) -> Result<Vec<&T>, Memory>
         ensures values { IfOk result
-            (λ values. map (λ v. v.now) values.items ≡ map (λ e. e.value) self.now) }
+            (λ values. map (λ v. v.now) values.items ≡ map (λ e. e.value) self.now.entries) }
     {
         let mut values = Vec::new(*self.entries.allocator());
         for e in &self.entries {
@@ -160,9 +168,10 @@ impl<T: Drop> Inventory<T> {
     }
 
     /// The values with their numbers, and how many tickets of each are out, in the order in which
-    /// they were tracked. Takes no memory.
+    /// they were tracked. Each number is below the next one. Takes no memory.
     pub fn entries(&self) -> &[Entry<T>]
-        ensures entries { result.now ≡ self.now }
+        ensures entries { result.now ≡ self.now.entries }
+        ensures below { All (λ e. e.number < self.now.next) self.now.entries }
     {
         self.entries.as_slice()
     }
@@ -170,9 +179,11 @@ impl<T: Drop> Inventory<T> {
     /// One more ticket of each value is out. Where one has as many as can be counted, none has a
     /// further one. Takes no memory.
     pub fn share_all(&mut self) -> Result<(), Exhausted>
-        ensures ok { OnOk result (self.new ≡ map one_more self.old) }
+        ensures ok { OnOk result (self.new ≡ record self.old {
+          entries = map one_more self.old.entries;
+        }) }
         ensures err { OnErr result (self.new ≡ self.old) }
-        ensures full { IsErr result ↔ (list_any is_full self.old ≡ true) }
+        ensures full { IsErr result ↔ (list_any is_full self.old.entries ≡ true) }
     {
         if has_full(&self.entries) {
             return Err(Exhausted);
@@ -185,7 +196,8 @@ impl<T: Drop> Inventory<T> {
 impl<T: Visit> Inventory<T> {
     /// Visits each value once, in the order in which they were tracked.
     pub fn visit_all(&mut self)
-        ensures visited { AllZip (IsVisited T.visited) self.old self.new }
+        ensures visited { AllZip (IsVisited T.visited) self.old.entries self.new.entries }
+        ensures next { self.new.next ≡ self.old.next }
     {
         visit_entries(&mut self.entries);
     }

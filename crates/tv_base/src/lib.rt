@@ -8,6 +8,7 @@ mod exhausted;
 mod future_result;
 mod inventory;
 mod io;
+pub mod laws;
 mod library;
 mod names;
 mod open_errors;

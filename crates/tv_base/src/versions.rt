@@ -1,4 +1,7 @@
 //! The version of the library and of its files.
+ghost use Rattle.std.specs.Prelude.{Some};
+ghost use Rattle.tv_base.specs.Versions.{version_text};
+
 use std::fmt;
 
 /// The format of the files that are written.
@@ -21,6 +24,8 @@ pub struct Version {
 }
 
 impl fmt::Display for Version {
+    ghost output = { λ version. Some (version_text version) };
+
     fn fmt<W: fmt::Write>(&self, f: &mut fmt::Formatter<W>) -> fmt::Result {
         let major = self.major;
         let minor = self.minor;
@@ -34,6 +39,8 @@ impl fmt::Display for Version {
 }
 
 impl fmt::Debug for Version {
+    ghost debug_output = { λ version. Some (version_text version) };
+
     fn fmt<W: fmt::Write>(&self, f: &mut fmt::Formatter<W>) -> fmt::Result {
         fmt::Display::fmt(self, f)
     }

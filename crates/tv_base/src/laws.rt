@@ -1,0 +1,108 @@
+//! Laws on which a user of this crate may rely. Each function makes the calls of which it speaks; its
+//! contract is the law.
+ghost use Rattle.std.specs.Prelude.{◌≡◌, ◌≤◌, ◌<◌, false, None, IfOk, IfSome, OnOk};
+ghost use Rattle.std.specs.Prelude.{codes, length, string_bytes, take};
+ghost use Rattle.std.specs.Ordering.{nat_cmp, ordering_then};
+ghost use Rattle.futures.specs.Poll.{OnPending};
+ghost use Rattle.futures.specs.Task.{IsArmed};
+
+use crate::address::DocAddress;
+use crate::error::TantivyError;
+use crate::future_result::FutureResult;
+use crate::inventory::{Inventory, Ticket};
+use crate::library::version;
+use crate::names::is_plain_name;
+use crate::vint::VInt;
+use futures::task::{Context, Poll};
+use std::alloc::{AllocError, Global};
+use std::cmp::Ordering;
+use tv_model::Memory;
+
+/// An inventory gives a number once: that of a value which is taken in is no smaller than the next
+/// one was, and smaller than the next one is.
+pub fn gives_a_number_once<T: Drop>(
+    inventory: &mut Inventory<T>,
+    value: T,
+) -> Result<Ticket, Memory>
+    ensures unused { IfOk result (λ ticket. inventory.old.next ≤ ticket) }
+    ensures used { IfOk result (λ ticket. ticket < inventory.new.next) }
+{
+    inventory.track(value)
+}
+
+/// A number isn't given again once its last ticket came back: a value that is taken in afterwards
+/// gets a larger one.
+pub fn gives_no_number_again<T: Drop>(
+    inventory: &mut Inventory<T>,
+    ticket: Ticket,
+    value: T,
+) -> Result<Ticket, Memory>
+    ensures { ticket < inventory.old.next → IfOk result (λ other. ticket < other) }
+{
+    inventory.release(ticket);
+    inventory.track(value)
+}
+
+/// A value goes with its last ticket: one that is taken in and whose ticket is given back leaves the
+/// others as they were.
+pub fn drops_a_value_with_its_last_ticket<T: Drop>(
+    inventory: &mut Inventory<T>,
+    value: T,
+) -> Result<(), Memory>
+    ensures { OnOk result (inventory.new.entries ≡ inventory.old.entries) }
+{
+    let ticket = inventory.track(value)?;
+    inventory.release(ticket);
+    Ok(())
+}
+
+/// No file may have a name of more than 255 bytes.
+pub fn refuses_a_long_name(name: &str) -> bool
+    ensures { 255 < length name.now → result ≡ false }
+{
+    is_plain_name(name)
+}
+
+/// A result that a poll answers isn't there yet is still to come: neither is it there, nor was it
+/// answered, and the task is woken.
+pub fn waits_until_the_result_is_there<T: Drop>(
+    future: &mut FutureResult<T>,
+    cx: &mut Context<'_>,
+) -> Poll<Result<T, TantivyError>>
+    requires unanswered { future.old.answered ≡ false }
+    ensures coming { OnPending result (future.new.finished ≡ None) }
+    ensures unanswered { OnPending result (future.new.answered ≡ false) }
+    ensures registered { OnPending result (IsArmed cx.new) }
+{
+    future.poll(cx)
+}
+
+/// A number has one spelling: what is read is what would be written of it.
+pub fn reads_what_is_written(
+    alloc: Global,
+    bytes: &[u8],
+) -> Result<Option<(Vec<u8>, usize)>, Memory>
+    ensures { IfOk result (λ read. IfSome read (λ r. r.0.items ≡ take r.1 bytes.now)) }
+{
+    let Some((number, size)) = VInt::deserialize(bytes) else {
+        return Ok(None);
+    };
+    let mut written = Vec::new(alloc);
+    number.serialize(&mut written)?;
+    Ok(Some((written, size)))
+}
+
+/// Addresses are in order of their segments, and those of one segment in order of their documents.
+pub fn orders_addresses(one: &DocAddress, other: &DocAddress) -> Ordering
+    ensures { result ≡ ordering_then (nat_cmp one.now.segment_ord other.now.segment_ord)
+        (nat_cmp one.now.doc_id other.now.doc_id) }
+{
+    one.cmp(other)
+}
+
+/// The version is shown as `version_string` has it.
+pub fn shows_the_version(alloc: Global) -> Result<String, AllocError>
+    ensures { IfOk result (λ text. string_bytes text ≡ codes "tantivy v0.26.2, index_format v7") }
+{
+    version().to_string(alloc)
+}
