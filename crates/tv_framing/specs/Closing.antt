@@ -34,6 +34,7 @@ pub record EndFaults {W A : Type 0} (w : Ghosts W) (long : Type 0) (old new : W)
 abbrev pub SealsList : {W A : Type 0} → Ghosts W → List Start → W → W → Result A IoError → Type 0
 SealsList w starts old new result = SealsAll w old new ((w.view old).taken ++ list_text starts) result
 
+-- why the list of these starts isn't written: it is too long, or the writer refused it, or memory was wanted
 abbrev pub ListFaults : {W A : Type 0} → Ghosts W → List Start → W → W → Result A IoError → Type 0
 ListFaults w starts old new result =
     EndFaults w (2 ^ 32 ≤ length (footing_text starts)) old new ((w.view old).taken ++ list_text starts) result

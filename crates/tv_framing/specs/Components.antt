@@ -5,6 +5,7 @@ use Rattle.tv_framing.specs.Segments.{SegmentSpace}
 use Rattle.tv_framing.specs.declared.component_usage.ComponentSpaceUsage.{ComponentSpaceUsage}
 use Rattle.tv_framing.specs.declared.component_usage.ComponentSpaceUsage.TheVariants.{PerField, Store, Basic}
 
+-- the space of a component in the report of a segment
 abbrev pub component_of : SegmentComponent → SegmentSpace → ComponentSpaceUsage
 component_of components.Postings s = PerField s.postings
 component_of components.Positions s = PerField s.positions

@@ -13,7 +13,7 @@ pub record Composing (W : Type 0) : Type 0 where
   pub before : List ℕ
   pub parts : List Part
 
--- the same with one more body, which is empty
+-- the parts so far with one more body, which is empty
 abbrev pub begun : {W : Type 0} → Composing W → (field idx : ℕ) → Composing W
 begun c field idx = record c { parts = c.parts ++ record { addr = address field idx; body = [] } ∷ [] }
 
@@ -22,14 +22,15 @@ pub record GrowsComposite {W A : Type 0} (old new : Composing W) (bytes : List �
   pub ok : OnOk result ((new.parts ≡ grown old.parts bytes) × (new.before ≡ old.before))
   pub memory : IfErr result (IoCause (Unit {0}) ((new.parts ≡ old.parts) × (new.before ≡ old.before)))
 
--- of what the writer took, all but the last ones, and the last ones
+-- what the writer took, without the last bytes, so many
 abbrev pub before_last : ℕ → List ℕ → List ℕ
 before_last n taken = take (length taken - n) taken
 
+-- the last bytes, so many, of what the writer took
 abbrev pub the_last : ℕ → List ℕ → List ℕ
 the_last n taken = drop (length taken - n) taken
 
--- so many bytes of what was taken are those of the bodies, which begin there
+-- so many bytes of what was taken are those of the bodies, which begin at these starts
 pub record IsBegun (starts : List Start) (written : ℕ) (taken : List ℕ) : Type 0 where
   pub within : written ≤ length taken
   pub fill : Fill starts written

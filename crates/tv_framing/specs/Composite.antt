@@ -10,6 +10,7 @@ pub record Part : Type 0 where
   pub addr : FileAddr
   pub body : List ℕ
 
+-- the address of a body of a field
 abbrev pub address : (field idx : ℕ) → FileAddr
 address field idx = record { field = field; idx = idx }
 
@@ -36,6 +37,7 @@ composite parts = bodies parts ++ (footing parts ++ four_bytes (length (footing 
 abbrev pub IsAddress : FileAddr → Type 0
 IsAddress addr = (addr.field < 2 ^ 32) × (addr.idx < 2 ^ 64)
 
+-- whether an address is this one
 abbrev pub is_at : FileAddr → FileAddr → Bool
 is_at addr other = (other.field == addr.field) && (other.idx == addr.idx)
 
@@ -44,6 +46,7 @@ abbrev pub AreDistinct : List FileAddr → Type 0
 AreDistinct [] = Unit {0}
 AreDistinct (addr ∷ addrs) = (list_any (is_at addr) addrs ≡ false) × AreDistinct addrs
 
+-- the addresses of parts, in their order
 abbrev pub addresses : List Part → List FileAddr
 addresses parts = map (λ part. part.addr) parts
 
@@ -54,11 +57,11 @@ pub record IsComposite (bytes : List ℕ) (parts : List Part) : Type 0 where
   pub short : length (footing parts) < 2 ^ 32
   pub whole : bytes ≡ composite parts
 
--- it is made of no other ones
+-- a file is made of these parts, if of any
 abbrev pub AreTheParts : List ℕ → List Part → Type 0
 AreTheParts bytes parts = (others : List Part) → IsComposite bytes others → others ≡ parts
 
--- it is made of none
+-- a file is made of no parts
 abbrev pub IsNotComposite : List ℕ → Type 0
 IsNotComposite bytes = (parts : List Part) → IsComposite bytes parts → ⊥
 
@@ -67,7 +70,7 @@ abbrev pub body_at : FileAddr → List Part → Option (List ℕ)
 body_at addr [] = None
 body_at addr (part ∷ parts) = if is_at addr part.addr then Some part.body else body_at addr parts
 
--- there is a body of this address
+-- whether one of the parts has this address
 abbrev pub has_address : FileAddr → List Part → Bool
 has_address addr parts = list_any (is_at addr) (addresses parts)
 

@@ -11,6 +11,7 @@ use Rattle.tv_framing.specs.Composite.{AreDistinct}
 abbrev pub entry_text : Entry → List ℕ
 entry_text entry = vint entry.gap ++ (four_bytes entry.addr.field ++ vint entry.addr.idx)
 
+-- the spelling of entries, one behind the other
 abbrev pub entries_text : List Entry → List ℕ
 entries_text [] = []
 entries_text (entry ∷ entries) = entry_text entry ++ entries_text entries
@@ -20,6 +21,7 @@ abbrev pub starts_after : ℕ → List Entry → List Start
 starts_after offset [] = []
 starts_after offset (entry ∷ entries) = record { addr = entry.addr; offset = offset + entry.gap } ∷ starts_after (offset + entry.gap) entries
 
+-- the addresses of entries, in their order
 abbrev pub entry_addresses : List Entry → List FileAddr
 entry_addresses entries = map (λ entry. entry.addr) entries
 

@@ -10,6 +10,7 @@ pub record FieldSpace : Type 0 where
   pub parts : List (Option ByteCount)
   pub column : Option ColumnSpaceUsage
 
+-- how many bytes the columns of a field take: none where it has none
 abbrev pub column_bytes : Option ColumnSpaceUsage → ℕ
 column_bytes None = 0
 column_bytes (Some usage) = column_sum usage
@@ -30,6 +31,7 @@ with_part idx size parts = slice_set (up_to idx parts) idx (Some size)
 abbrev pub with_joined : ℕ → ByteCount → List (Option ByteCount) → List (Option ByteCount)
 with_joined idx size parts = slice_set (up_to idx parts) idx (together (get_or parts idx None) (Some size))
 
+-- a field with one part more, at this index
 abbrev pub with_usage : ℕ → ByteCount → FieldSpace → FieldSpace
 with_usage idx size field = record field { parts = with_part idx size field.parts }
 

@@ -3,7 +3,7 @@ use Rattle.std.specs.Prelude.{ℕ, ◌≡◌, ◌≤◌, ◌<◌, ◌+◌, ◌^�
 use Rattle.tv_model.specs.Footer.{four_bytes, footer_magic, stated}
 use Rattle.tv_framing.specs.Footers.{last_four, stated_json}
 
--- so many bytes stand before the last eight, which are these two numbers
+-- the bytes end in eight that are these two numbers, and so many stand before them
 pub record EndsIn (bytes : List ℕ) (front json magic : ℕ) : Type 0 where
   pub size : front + 8 ≡ length bytes
   pub text : drop front bytes ≡ four_bytes json ++ four_bytes magic

@@ -34,10 +34,11 @@ Spells json footer = form.Spells json (numbers_of footer)
 abbrev pub own_version : Version
 own_version = record { major = 0; minor = 26; patch = 2; index_format_version = 7 }
 
+-- the footer that this library writes for a body of this checksum
 abbrev pub own_footer : ℕ → Footer
 own_footer crc = record { version = own_version; crc = crc }
 
--- its numbers fit 32 bits
+-- the numbers of a footer fit 32 bits
 abbrev pub FooterFits : Footer → Type 0
 FooterFits footer = form.FooterFits (numbers_of footer)
 
@@ -53,6 +54,7 @@ IsNotFramed bytes = (footer : Footer) (body : List ℕ) → IsFramed bytes foote
 abbrev pub last_four : List ℕ → List ℕ
 last_four bytes = drop (length bytes - 4) bytes
 
+-- the bytes that stand for the footer's JSON: as many as the stated length says, before the last eight
 abbrev pub stated_json : List ℕ → List ℕ
 stated_json bytes = take (stated bytes) (drop (length bytes - (stated bytes + 8)) bytes)
 
@@ -61,17 +63,20 @@ pub record IsTooSmall (bytes : List ℕ) (fault : IoFault) : Type 0 where
   pub small : length bytes < 8
   pub is : IsFault UnexpectedEof (codes "File corrupted. The file is smaller than 8 bytes (len=" ++ (decimal (length bytes) ++ codes ").")) fault
 
+-- A file is refused whose last four bytes aren't the magic number of footers.
 pub record HasOtherMagic (bytes : List ℕ) (fault : IoFault) : Type 0 where
   pub large : 8 ≤ length bytes
   pub other : last_four bytes ≢ four_bytes footer_magic
   pub is : IsFault InvalidData (codes "Footer magic byte mismatch. File corrupted or index was created using old an tantivy version which is not supported anymore. Please use tantivy 0.15 or above to recreate the index.") fault
 
+-- A file is refused that states a footer of more than 50,000 bytes.
 pub record StatesTooMuch (bytes : List ℕ) (fault : IoFault) : Type 0 where
   pub large : 8 ≤ length bytes
   pub magic : last_four bytes ≡ four_bytes footer_magic
   pub long : 50000 < stated bytes
   pub is : IsFault InvalidData (codes "Footer seems invalid as it suggests a footer len of " ++ (decimal (stated bytes) ++ codes ". File is corrupted, or the index was created with a different & old version of tantivy.")) fault
 
+-- A file is refused that is shorter than the footer which it states.
 pub record IsCutOff (bytes : List ℕ) (fault : IoFault) : Type 0 where
   pub large : 8 ≤ length bytes
   pub magic : last_four bytes ≡ four_bytes footer_magic
@@ -79,6 +84,7 @@ pub record IsCutOff (bytes : List ℕ) (fault : IoFault) : Type 0 where
   pub cut : length bytes < stated bytes + 8
   pub is : IsFault UnexpectedEof (codes "File corrupted. The file is smaller than it's footer bytes (len=" ++ (decimal (stated bytes + 8) ++ codes ").")) fault
 
+-- A file is refused whose footer isn't spelled as JSON of the footer's form.
 pub record IsNoFooter (bytes : List ℕ) (fault : IoFault) : Type 0 where
   pub magic : last_four bytes ≡ four_bytes footer_magic
   pub short : stated bytes ≤ 50000
@@ -86,6 +92,7 @@ pub record IsNoFooter (bytes : List ℕ) (fault : IoFault) : Type 0 where
   pub other : (footer : Footer) → Spells (stated_json bytes) footer → ⊥
   pub is : IsFault InvalidData (codes "Footer is not of the stated form.") fault
 
+-- Why a file isn't read as one with a footer: the first of five reasons that holds, each with its fault.
 abbrev pub Refuses : List ℕ → IoFault → Type 0
 Refuses bytes fault =
     IsTooSmall bytes fault ⊎ (HasOtherMagic bytes fault ⊎ (StatesTooMuch bytes fault ⊎ (IsCutOff bytes fault ⊎ IsNoFooter bytes fault)))
@@ -94,5 +101,6 @@ Refuses bytes fault =
 abbrev pub footer_json : Footer → List ℕ
 footer_json footer = form.written_json (numbers_of footer)
 
+-- the footer as it stands at a file's end: its JSON, the length of that, and the magic number
 abbrev pub footer_text : Footer → List ℕ
 footer_text footer = footer_json footer ++ (four_bytes (length (footer_json footer)) ++ four_bytes footer_magic)

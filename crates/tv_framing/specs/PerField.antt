@@ -13,6 +13,7 @@ use Rattle.tv_framing.specs.Fields.{FieldSpace, field_sum}
 abbrev pub joined_parts : List (Option ByteCount) → List (Option ByteCount) → List (Option ByteCount)
 joined_parts parts others = map (λ i. together (get_or parts i None) (get_or others i None)) (range_with_len 0 (max (length parts) (length others)))
 
+-- the columns of two usages together
 abbrev pub joined_columns : Option ColumnSpaceUsage → Option ColumnSpaceUsage → Option ColumnSpaceUsage
 joined_columns None other = other
 joined_columns (Some one) None = Some one
@@ -22,6 +23,7 @@ joined_columns (Some one) (Some other) = Some (merged_columns one other)
 abbrev pub joined : FieldSpace → FieldSpace → FieldSpace
 joined one other = record { name = one.name; parts = joined_parts one.parts other.parts; column = joined_columns one.column other.column }
 
+-- whether a usage is that of the field of this name
 abbrev pub is_named : List ℕ → FieldSpace → Bool
 is_named name field = is_eq (byte_cmp name field.name)
 
@@ -34,6 +36,7 @@ gathered (Some one) field = Some (joined one field)
 abbrev pub all_of : List ℕ → List FieldSpace → Option FieldSpace
 all_of name fields = fold gathered None (filter (is_named name) fields)
 
+-- the name of one field comes before that of another
 abbrev pub IsBelow : FieldSpace → FieldSpace → Type 0
 IsBelow one other = byte_cmp one.name other.name ≡ Less
 

@@ -20,7 +20,7 @@ pub record IsPlace (name : List ℕ) (fields : List FieldSpace) (i : ℕ) : Type
   pub inside : i < length fields
   pub joins : (more one : FieldSpace) → more.name ≡ name → one ≡ slice_index_or fields i one → slice_set fields i (joined one more) ≡ with_field fields more
 
--- there is none, and it would stand there
+-- no usage of this name is there, and at this place it would stand
 pub record IsGap (name : List ℕ) (fields : List FieldSpace) (i : ℕ) : Type 0 where
   pub inside : i ≤ length fields
   pub goes_in : (more : FieldSpace) → more.name ≡ name → insert fields i more ≡ with_field fields more

@@ -50,7 +50,8 @@ abbrev pub SealedWithFooter : {W C : Type 0} → Ghosts W → Sum C → Proxied 
 SealedWithFooter w c old new bytes =
     (body : List ℕ) → SumsUp c.has_taken old.sum body → SealedAfter w old.writer new.writer (bytes ++ footer (c.checksum body))
 
--- the same of all that the proxy was given
+-- What the proxy was given, and behind it the footer of the body, is all that the writer below was given
+-- when its end was told.
 abbrev pub SealsProxy : {W C : Type 0} → Ghosts W → Sum C → Proxied W C → Proxied W C → Type 0
 SealsProxy w c old new = SealedWithFooter w c old new (seen w.view old).taken
 

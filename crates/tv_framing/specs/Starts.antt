@@ -27,6 +27,7 @@ abbrev pub Fill : List Start → ℕ → Type 0
 Fill [] end = end ≡ 0
 Fill (start ∷ starts) end = (start.offset ≡ 0) × Ascend 0 starts end
 
+-- the addresses of starts, in their order
 abbrev pub start_addresses : List Start → List FileAddr
 start_addresses starts = map (λ start. start.addr) starts
 
@@ -36,10 +37,10 @@ listed_from before [] = []
 listed_from before (start ∷ starts) =
     vint (start.offset - before) ++ (four_bytes start.addr.field ++ (vint start.addr.idx ++ listed_from start.offset starts))
 
--- their number and their list
+-- the list of a composite file's bodies as it is written: their number, and then each start
 abbrev pub footing_text : List Start → List ℕ
 footing_text starts = vint (length starts) ++ listed_from 0 starts
 
--- and how long that is
+-- the list of a composite file's bodies, and behind it how long it is
 abbrev pub list_text : List Start → List ℕ
 list_text starts = footing_text starts ++ four_bytes (length (footing_text starts))

@@ -34,5 +34,6 @@ pub record StoreSpace : Type 0 where
   pub body : ByteCount
   pub offsets : ByteCount
 
+-- how many bytes the stored documents take, with where they begin
 abbrev pub store_sum : StoreSpace → ℕ
 store_sum store = store.body.0 + store.offsets.0
