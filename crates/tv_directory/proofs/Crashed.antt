@@ -80,7 +80,7 @@ module _ {C : Type 0} (bench : Bench C) (moment : ℕ) (choice : List ℕ) (imag
 
   left_unknown : (n : List ℕ) → has left.names n ≡ false → (s : DiskState) × Contains (states n) s × MayRead s (image n)
   left_unknown n e =
-      let t = or_parts (is_some (ram_reads bench.ram n)) (list_any (changes n) bench.recorded.calls) (sym (left.those n) ∙ e) in
+      let t = or_parts (is_some (ram_reads bench.ram n)) (list_any (changes n) bench.recorded.calls) (sym (left.known.those n) ∙ e) in
       let last = stood_still (drop moment bench.recorded.calls) n (ram_states bench.ram n) (none_later bench.recorded.calls moment n t.1) ∙ no_file (at bench.ram.files.map.entries n) t.0 in
       let found = flat_map (found_by n) (since_sync (take moment bench.recorded.calls)) in
       (Absent, subst (λ (s : DiskState). Contains (found ++ s ∷ []) Absent) (sym last) (Contains-push found Absent), left.others n e)
@@ -197,8 +197,7 @@ leaves_all bench moment choice choices all rest image left none those =
     let past : length all ≤ left.i = omega (arith, length-drop left.i all, ap length (sym left.rest_is ∙ none)) in
     record {
       names = all;
-      sorted = left.sorted;
-      those = those;
+      known = record { sorted = left.sorted; those = those };
       each = λ j n lt at. left.each j n (omega (arith, past, lt)) lt at;
       others = λ n isnt. left.others n (ap (λ (l : List (List ℕ)). has l n) (take_all left.i all past) ∙ isnt);
     }

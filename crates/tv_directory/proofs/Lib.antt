@@ -6,6 +6,8 @@ pub mod WatchLists
 pub mod PersistedFiles
 pub mod TouchedNames
 pub mod Recorded
+pub mod ShowsNothing
 pub mod Benches
+pub mod BenchCalls
 pub mod Resting
 pub mod Crashed

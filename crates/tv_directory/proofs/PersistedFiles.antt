@@ -1,5 +1,5 @@
 -- Files that are written to another directory, one after the other.
-use Rattle.std.proofs.Common.{◌≡◌, ◌≢◌, ℕ, Bool, true, false, cond, List, [], ◌∷◌, ◌++◌, Option, Some, None, refl, sym, ap, subst, ◌∙◌, append_assoc}
+use Rattle.std.proofs.Common.{◌≡◌, ◌≢◌, ℕ, Bool, true, false, cond, List, [], ◌∷◌, ◌++◌, Option, Some, None, refl, sym, ap, subst, ◌∙◌, append_assoc, true≢false}
 use Rattle.std.specs.BTreeMap.{is_at}
 use Rattle.tv_model.specs.Names.{byte_cmp}
 use Rattle.tv_model.specs.State.{at}
@@ -19,6 +19,14 @@ pub record PersistsRest (told : Type 0) (all rest : List (List ℕ × List ℕ))
   pub before : List (List ℕ × List ℕ)
   pub split : all ≡ before ++ rest
   pub persisted : told → Persists before old new
+
+-- none was written yet
+pub persists_none : (reads : Reads) → Persists [] reads reads
+persists_none reads = record {
+  absent = λ n among. absurd (true≢false (sym among));
+  written = λ n bytes is. absurd cc;
+  others = λ n none. refl;
+}
 
 -- they begin with this one
 pub split_at : {told : Type 0} {all rest others : List (List ℕ × List ℕ)} {old new : Reads} {file : List ℕ × List ℕ} (r : PersistsRest told all rest old new) → rest ≡ file ∷ others → all ≡ r.before ++ file ∷ others

@@ -1,5 +1,5 @@
 -- What one more recorded call makes of what a crash may leave.
-use Rattle.std.proofs.Common.{◌≡◌, ◌≢◌, ◌≤◌, ◌<◌, ◌+◌, ℕ, Bool, true, false, List, [], ◌∷◌, ◌++◌, Option, None, Some, inl, inr, refl, sym, ap, subst, ◌∙◌, drop, take, length, true≢false, arith, nat_eq, if◌then◌else◌, ⊎_elim, append_assoc}
+use Rattle.std.proofs.Common.{IsSome, ◌≡◌, ◌≢◌, ◌≤◌, ◌<◌, ◌+◌, ℕ, Bool, true, false, List, [], ◌∷◌, ◌++◌, Option, None, Some, inl, inr, refl, sym, ap, subst, ◌∙◌, drop, take, length, true≢false, arith, nat_eq, if◌then◌else◌, ⊎_elim, append_assoc}
 use Rattle.std.proofs.Math.Path.{fun_ext}
 use Rattle.std.proofs.lemmas.Bool.{eqb-true}
 use Rattle.std.proofs.lemmas.Grind.{flat_map-append}
@@ -7,7 +7,7 @@ use Rattle.std.proofs.lemmas.List.{take-append-le, drop-append-le, length-append
 use Rattle.std.proofs.lemmas.List.Elements.{Contains-append_left, Contains-push, Contains-push_cases}
 use Rattle.std.proofs.lemmas.List.Sums.{fold-append}
 use Rattle.std.specs.List.{Contains, flat_map}
-use Rattle.tv_model.specs.Disk.{Disk, DiskState, IsThere, Possible, possible_now, Within, SamePossible, MayAdd, IsSettled, Elapses}
+use Rattle.tv_model.specs.Disk.{Disk, DiskState, Absent, IsThere, Possible, possible_now, Within, SamePossible, MayAdd, IsSettled, Elapses}
 use Rattle.tv_model.specs.Names.{is}
 use Rattle.tv_model.proofs.DiskLaws.{same}
 use Rattle.tv_model.proofs.Entries.{is_itself, is_text, isnt_text}
@@ -21,7 +21,7 @@ use Rattle.tv_model.specs.State.{at}
 use Rattle.tv_directory.specs.Images.{KeepsDisk, SetsState}
 use Rattle.tv_directory.specs.Record.{AddsAtMost, RecordState, RecordedRefused, has_line_room, and_since, disk_by, found_by, is_settled, since_sync, settled_by, states_at, stood_before}
 use Rattle.tv_directory.specs.RecordLaws.{stands_now, states_now}
-use Rattle.tv_directory.specs.StoredFiles.{StandsAs, States, is_made, is_number, state_of, states_of}
+use Rattle.tv_directory.specs.StoredFiles.{StandsAs, States, bytes_of, is_made, is_number, reads_of, state_of, states_of}
 
 -- A call was recorded that gave this name this state.
 pub record Recorded (old new : Disk) (name : List ℕ) (state : DiskState) : Type 0 where
@@ -297,3 +297,22 @@ file_there number (Some file) e = content_there file.content
 
 pub made_there : (files : List (List ℕ × StoredFile)) (name : List ℕ) (number : ℕ) → is_made files name number ≡ true → IsThere (states_of files name)
 made_there files name number is_it = file_there number (at files name) is_it
+
+-- so is one that its name reads, and a name that reads nothing has none
+file_read : (file : Option StoredFile) → IsSome (option_map (λ file. bytes_of file.content) file)
+    → IsThere (state_of (option_map (λ file. file.content) file))
+file_read None read = absurd (true≢false (sym read))
+file_read (Some file) read = content_there file.content
+
+pub read_there : (files : List (List ℕ × StoredFile)) (name : List ℕ) → IsSome (reads_of files name)
+    → IsThere (states_of files name)
+read_there files name read = file_read (at files name) read
+
+file_unread : (file : Option StoredFile) → option_map (λ file. bytes_of file.content) file ≡ None
+    → state_of (option_map (λ file. file.content) file) ≡ Absent
+file_unread None none = refl
+file_unread (Some file) none = absurd cc
+
+pub unread_absent : (files : List (List ℕ × StoredFile)) (name : List ℕ) → reads_of files name ≡ None
+    → states_of files name ≡ Absent
+unread_absent files name none = file_unread (at files name) none

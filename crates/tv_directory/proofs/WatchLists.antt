@@ -44,14 +44,14 @@ released_seen calls_of n es =
     rw (last_seen calls_of n es, taken_in (has_number n) (seen calls_of) es, less_seen calls_of n es)
     (cond_both (is_last (find (is_at n) es)) _ _ (λ l. map (seen calls_of) (released n es) ≡ l) (λ b. rw b refl) (λ b. rw b refl))
 
-pub unwatched : {C : Type 0} (calls_of : C → ℕ) (w v : Watchers C) (handle : Option ℕ) → v.list ≡ released_by handle w.list → v.notice ≡ w.notice → state_of calls_of v ≡ unsubscribed handle (state_of calls_of w)
+pub unwatched : {C : Type 0} (calls_of : C → ℕ) (w v : Watchers C) (handle : Option ℕ) → v.list.entries ≡ released_by handle w.list.entries → v.notice ≡ w.notice → state_of calls_of v ≡ unsubscribed handle (state_of calls_of w)
 unwatched calls_of w v None list notice = rw (list, notice) refl
-unwatched calls_of w v (Some n) list notice = rw (list, notice, released_seen calls_of n w.list) refl
+unwatched calls_of w v (Some n) list notice = rw (list, notice, released_seen calls_of n w.list.entries) refl
 
 -- one more who registered
-pub watched : {C : Type 0} (calls_of : C → ℕ) (w v : Watchers C) (n : ℕ) (callback : C) → v.list ≡ w.list ++ record { number = n; count = 1; value = record { callback = callback } } ∷ [] → v.notice ≡ w.notice → state_of calls_of v ≡ subscribed n (calls_of callback) (state_of calls_of w)
+pub watched : {C : Type 0} (calls_of : C → ℕ) (w v : Watchers C) (n : ℕ) (callback : C) → v.list.entries ≡ w.list.entries ++ record { number = n; count = 1; value = record { callback = callback } } ∷ [] → v.notice ≡ w.notice → state_of calls_of v ≡ subscribed n (calls_of callback) (state_of calls_of w)
 watched calls_of w v n callback list notice =
-    rw (list, notice, map-append (seen calls_of) w.list (record { number = n; count = 1; value = record { callback = callback } } ∷ [])) refl
+    rw (list, notice, map-append (seen calls_of) w.list.entries (record { number = n; count = 1; value = record { callback = callback } } ∷ [])) refl
 
 pub none_seen : {C : Type 0} (calls_of : C → ℕ) (n : ℕ) (es : List (Entry (Watcher C))) → find (is_at n) es ≡ None → find (has_number n) (map (seen calls_of) es) ≡ None
 none_seen calls_of n es none = found_in (has_number n) (seen calls_of) es ∙ ap (option_map (seen calls_of)) none

@@ -27,7 +27,7 @@ view_in calls bench = record (ram_view calls bench.ram) {
   refusals = bench.device.refusals;
 }
 
--- its disk: what a crash may leave, by what was recorded
+-- what a crash of a bench may leave, by what was recorded
 abbrev pub disk_in : {C : Type 0} → Bench C → Disk
 disk_in bench = disk_by bench.recorded.calls (ram_states bench.ram)
 
@@ -40,11 +40,12 @@ pub record IsAtRest (files : Reads) (disk : Disk) : Type 0 where
 abbrev pub IsSoundWhere : Reads → Disk → Locks → Type 0
 IsSoundWhere files disk locks = (schema : List ℕ) → IsSoundImage schema files → IsSoundDirectory schema disk locks
 
--- its device
+-- the device of a bench: which calls it refuses, and how many there were
 abbrev pub device_in : {C : Type 0} → Bench C → DeviceState
 device_in bench = bench.device
 
--- It reads these files; no writer was opened, no lock is held, nobody watches it, the clock and the counts are 0, and nothing was told.
+-- A new bench reads these files; no writer was opened, no lock is held, nobody watches it, the clock and the
+-- counts are 0, and nothing was told.
 pub record IsNewBench {W : Type 0} (files : Reads) (view : View W) : Type 0 where
   pub reads : Same files view.reads
   pub unopened : (w : W) → view.opened w ≡ false
@@ -83,7 +84,8 @@ OnlyRecords old new = new ≡ record old { recorded = new.recorded }
 abbrev pub Below : {C : Type 0} → (RamDirectory C → RamDirectory C → Type 0) → Bench C → Bench C → Type 0
 Below keeps old new = (new ≡ record old { ram = new.ram }) × keeps old.ram new.ram
 
--- the same of a call that has a number: the device changed too
+-- nothing changed but the device, which took the call's number, and the files, locks and watchers as the
+-- directory below says
 abbrev pub NumberedBelow : {C : Type 0} → (RamDirectory C → RamDirectory C → Type 0) → Bench C → Bench C → Type 0
 NumberedBelow keeps old new = (new ≡ record old { device = new.device; ram = new.ram }) × keeps old.ram new.ram
 
@@ -104,7 +106,8 @@ pub record Numbered {A C E : Type 0} (keeps : Bench C → Bench C → Type 0) (w
   pub cause : IfErr result (why (Untouched old new × Passed old.device new.device) (Timed old new × Faulted old.device new.device) (new.device ≡ after_call old.device))
   pub kept : keeps old new
 
--- the same of a call that deletes, which is counted as a refusal, and then nothing is recorded
+-- A delete takes its number, and is refused exactly where that one is listed: then it is counted as a
+-- refusal, and nothing else changes.
 pub record NumberedDelete {A C : Type 0} (old new : Bench C) (name : List ℕ) (result : Result A DeleteError) : Type 0 where
   pub passed : OnOk result (Passed old.device new.device)
   pub cause : IfErr result (DeleteCause name (Passed old.device new.device) (Untouched old new × Refused old.device new.device) (new.device ≡ after_call old.device))
@@ -114,10 +117,10 @@ pub record NumberedDelete {A C : Type 0} (old new : Bench C) (name : List ℕ) (
 abbrev pub of_io : (passed refused quiet : Type 0) → IoError → Type 0
 of_io passed refused quiet error = IoCause refused quiet error
 
--- the same of a write: where it is refused, the writer is what it was
+-- why a write gives an error: the device refused it, and the writer is what it was; or memory was wanted
 abbrev pub of_write : RamWriter → RamWriter → (passed refused quiet : Type 0) → IoError → Type 0
 of_write before after passed refused quiet error = IoCause ((after ≡ before) × refused) quiet error
 
--- the same of a call that takes no memory: where it is refused, nothing is recorded
+-- why a call that takes no memory gives an error: the device refused it, and nothing was recorded
 abbrev pub of_device : {C : Type 0} → Bench C → Bench C → (passed refused quiet : Type 0) → IoFault → Type 0
 of_device old new passed refused quiet fault = IsDevice fault × Untouched old new × refused

@@ -18,34 +18,41 @@ pub record IoFaults {A W : Type 0} (old new : View W) (result : Result A IoError
   pub quiet : OnOk result (new.faults ≡ old.faults)
   pub cause : IfErr result (IoCause (Rose old.faults new.faults) (new.faults ≡ old.faults))
 
--- the same of a call that takes no memory
+-- A call that takes no memory fails only where the device refused it, and the count rose; at Ok the count
+-- stands still.
 pub record DeviceFaults {A W : Type 0} (old new : View W) (result : Result A IoFault) : Type 0 where
   pub quiet : OnOk result (new.faults ≡ old.faults)
   pub cause : IfErr result (λ fault. IsDevice fault × Rose old.faults new.faults)
 
--- the same of a call that asks whether this name reads: it never answers that there is no file, and its error names the file
+-- A call that asks whether this name reads fails where the device refused it, and the count rose, or where
+-- memory was wanted; never because there is no file. The error names the file.
 pub record AskFaults {A W : Type 0} (old new : View W) (name : List ℕ) (result : Result A OpenReadError) : Type 0 where
   pub quiet : OnOk result (new.faults ≡ old.faults)
   pub cause : IfErr result (OpenReadCause name ⊥ (Rose old.faults new.faults) (new.faults ≡ old.faults))
 
--- the same of a call that reads it: that there is no file it answers only where there is none
+-- A call that reads this name fails where the device refused it, and the count rose; where memory was
+-- wanted; or where there is no such file, as far as that is told. The error names the file.
 pub record ReadFaults {A W : Type 0} (told : Told) (old new : View W) (name : List ℕ) (result : Result A OpenReadError) : Type 0 where
   pub quiet : OnOk result (new.faults ≡ old.faults)
   pub cause : IfErr result (OpenReadCause name ((told.content → old.reads name ≡ None) × (new.faults ≡ old.faults)) (Rose old.faults new.faults) (new.faults ≡ old.faults))
 
--- the same of a call that makes it: that the file is there it answers only where it is
+-- A call that makes this file fails where the device refused it, and the count rose; where memory was
+-- wanted; or where the file is there, as far as that is told. The error names the file.
 pub record OpenFaults {A W : Type 0} (told : Told) (old new : View W) (name : List ℕ) (result : Result A OpenWriteError) : Type 0 where
   pub quiet : OnOk result (new.faults ≡ old.faults)
   pub cause : IfErr result (OpenWriteCause name ((told.content → IsSome (old.reads name)) × (new.faults ≡ old.faults)) (Rose old.faults new.faults) (new.faults ≡ old.faults))
 
--- the same of a call that deletes it, whose refusals have a count of their own, of 64 bits; that there is no file it answers only where there is none
+-- A call that deletes this file fails where the device refused it, and the count of refusals, of 64 bits,
+-- rose; where memory was wanted; or where there is no such file, as far as that is told. The error names the
+-- file.
 pub record DeleteFaults {A W : Type 0} (told : Told) (old new : View W) (name : List ℕ) (result : Result A DeleteError) : Type 0 where
   pub quiet : OnOk result (new.refusals ≡ old.refusals)
   pub cause : IfErr result (DeleteCause name ((told.content → old.reads name ≡ None) × (new.refusals ≡ old.refusals)) (Rose old.refusals new.refusals) (new.refusals ≡ old.refusals))
   pub fits : new.refusals ≤ 18446744073709551615
   pub faults : new.faults ≡ old.faults
 
--- the same of a call that takes the lock of this name: where it isn't given it is held, or the device refused the call
+-- A call that takes the lock of this name fails where the lock is held, as far as that is told; where the
+-- device refused it, and the count rose; or where memory was wanted.
 pub record LockFaults {A W : Type 0} (told : Told) (old new : View W) (name : List ℕ) (result : Result A LockError) : Type 0 where
   pub quiet : OnOk result (new.faults ≡ old.faults)
   pub busy : told.locks → IfErr result (LockCause (old.locks name ≡ true) (Unit {0}) (Unit {0}))

@@ -28,7 +28,7 @@ as_heard (Some taken) = (0, taken) ∷ []
 abbrev pub at_desk : {W : Type 0} → (taken : Option (List ℕ)) (room sink : ℕ) → View W → View W
 at_desk taken room sink view = record view { heard = as_heard taken; room = room; faults = both view.faults sink }
 
--- the same, by what is said of a directory and of a sink
+-- all that is said of a desk, by what is said of its directory and of its sink
 abbrev pub desk_view : {D S W : Type 0} → (D → View W) → (taken : S → Option (List ℕ)) → (faults : S → ℕ) → DeskState D S → View W
 desk_view view taken faults desk = at_desk (taken desk.sink) desk.room (faults desk.sink) (view desk.directory)
 

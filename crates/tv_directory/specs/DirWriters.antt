@@ -13,7 +13,7 @@ abbrev pub told_by : {W : Type 0} → (W → List ℕ) → Option W → List ℕ
 told_by tells None = []
 told_by tells (Some w) = tells w
 
--- there is a writer of which this holds
+-- whether there is a writer, and this holds of it
 abbrev pub holds : {W : Type 0} → (W → Bool) → Option W → Bool
 holds is None = false
 holds is (Some w) = is w
@@ -26,6 +26,7 @@ held_view g w = g.view w.directory.now
 abbrev pub held_name : {D W C : Type 0} → Ghosts D W C → DirWriter D W C → List ℕ
 held_name g w = told_by (λ writer. (g.state_of writer).name) w.writer
 
+-- what was written so far to the file of a writer
 abbrev pub held_bytes : {D W C : Type 0} → Ghosts D W C → DirWriter D W C → List ℕ
 held_bytes g w = told_by (λ writer. (g.state_of writer).written) w.writer
 
@@ -41,8 +42,8 @@ writer_view g w = record {
   ended = not (holds (held_view g w).opened w.writer);
 }
 
--- It holds the same directory, of which nothing but the file may read something else; where its name was deleted, nothing changed. As long as it goes on, it writes
--- the same file.
+-- The writer holds the same directory, of which nothing but the file may read something else; where its name
+-- was deleted, nothing changed. As long as it goes on, it writes the same file.
 pub record HeldStays {D W C : Type 0} (g : Ghosts D W C) (old new : DirWriter D W C) : Type 0 where
   pub same_reference : new.directory.ghost_name ≡ old.directory.ghost_name
   pub frame : Kept g.told (held_view g old) (held_view g new)

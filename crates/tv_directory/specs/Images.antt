@@ -27,7 +27,7 @@ pub record KeepsStates (old new : Disk) : Type 0 where
   pub now : SameStates old new
   pub possible : SamePossible (possible_now old) (possible_now new)
 
--- the same of a call: the clock may have run on
+-- no call changed a state, nor what a crash may leave; the clock may have run on
 pub record KeepsDisk (old new : Disk) : Type 0 where
   pub states : KeepsStates old new
   pub time : Elapses old new
@@ -38,7 +38,8 @@ pub record SetsState (old new : Disk) (name : List ℕ) (state : DiskState) : Ty
   pub others : KeepsOtherStates old new name
   pub possible : Adds (possible_now old) (possible_now new) name state
 
--- the same of a call that the device refused: this name is in this state or as it was, and a crash may leave either
+-- the device refused a call that would have given the name this state: it is in this state or as it was, and
+-- a crash may leave either
 pub record MaySetState (old new : Disk) (name : List ℕ) (state : DiskState) : Type 0 where
   pub now : (new.now name ≡ state) ⊎ (new.now name ≡ old.now name)
   pub others : KeepsOtherStates old new name

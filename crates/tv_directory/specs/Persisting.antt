@@ -42,6 +42,7 @@ of_open_write name there refused (write.IoError fault path) = (string_bytes path
 of_open_write name there refused (write.Leaving path) = ⊥
 of_open_write name there refused write.Memory = ⊥
 
+-- Why a file isn't persisted: the destination has its name, or it refused a call, or memory was wanted.
 abbrev pub PersistCause : (name : List ℕ) (there refused quiet : Type 0) → TantivyError → Type 0
 PersistCause name there refused quiet (error.OpenWriteError e) = of_open_write name there refused e
 PersistCause name there refused quiet (error.IoError fault) = IsDevice fault × refused
@@ -58,7 +59,7 @@ pub record PersistsFile {A W : Type 0} (told : Told) (old new : View W) (name by
   pub absent : told.content → OnOk result (old.reads name ≡ None)
   pub ok : told.content → OnOk result (Sets old.reads new.reads name (Some bytes))
 
--- and why it isn't
+-- why one file isn't written to the destination
 pub record FileFaults {A W : Type 0} (told : Told) (old new : View W) (name : List ℕ) (result : Result A TantivyError) : Type 0 where
   pub quiet : OnOk result (new.faults ≡ old.faults)
   pub cause : IfErr result (Refuses told old new old.reads name)

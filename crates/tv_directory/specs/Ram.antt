@@ -28,7 +28,7 @@ ram_opened ram w = nat_lt (w.number - 1) ram.files.last
 abbrev pub ram_lives : {C : Type 0} → RamDirectory C → RamWriter → Bool
 ram_lives ram w = is_made ram.files.map.entries w.name w.number
 
--- which locks are held
+-- which locks of a directory in memory are held
 abbrev pub ram_locks : {C : Type 0} → RamDirectory C → Locks
 ram_locks ram = held_in ram.held.entries
 
@@ -90,7 +90,7 @@ pub record MakesRamFile {A C : Type 0} (old new : RamDirectory C) (name : List �
   pub there : IfErr result (OpenWriteCause name (new ≡ old) ⊥ (Unit {0}))
   pub others : OnlyFiles old new
 
--- It reads these files; no writer was opened, no lock is held, and nobody watches it.
+-- A new directory in memory reads these files; no writer was opened, no lock is held, and nobody watches it.
 pub record IsNewRam {C : Type 0} (calls : C → ℕ) (files : Reads) (ram : RamDirectory C) : Type 0 where
   pub reads : Same files (ram_reads ram)
   pub unopened : (w : RamWriter) → ram_opened ram w ≡ false

@@ -13,6 +13,7 @@ pub record RecordState : Type 0 where
   pub calls : List Call
   pub free : ℕ
 
+-- whether a recorded call is a sync
 abbrev pub is_sync : Call → Bool
 is_sync (Replaced name before) = false
 is_sync (Refused name before after) = false
@@ -62,7 +63,8 @@ disk_by calls states = record {
   possible = λ moment name state. Contains (states_at calls moment name (states name)) state;
 }
 
--- there is room for a told line and a sync after it, and for a sync before it where there is something to settle
+-- whether the record has room for a told line and a sync after it, and for a sync before it where there is
+-- something to settle
 abbrev pub has_line_room : RecordState → Bool
 has_line_room r = nat_le (if is_settled r.calls then 2 else 3) r.free
 
@@ -80,7 +82,7 @@ pub record RecordedRefused (old new : Disk) (name : List ℕ) (state : DiskState
   pub sets : MaySetState old new name state
   pub adds : AddsAtMost old new name state
 
--- The same of a call that would have made a file, where there was none.
+-- A call was recorded that the device refused, and that would have made a file, where there was none.
 pub record RefusedOpening (old new : Disk) (name : List ℕ) : Type 0 where
   pub opens : MayOpen old new name
   pub adds : AddsAtMost old new name Unsealed

@@ -19,7 +19,7 @@ states_now calls name now =
     ap (λ (l : List Call). flat_map (found_by name) (since_sync l) ++ stood_before (drop (length calls) calls) name now ∷ []) (take-length calls)
     ∙ ap (λ (l : List Call). flat_map (found_by name) (since_sync calls) ++ stood_before l name now ∷ []) (drop-length calls)
 
--- its state now is one of them
+-- The state in which a name stands now is one of those in which a crash now may leave it.
 pub stands_now : (calls : List Call) (name : List ℕ) (now : DiskState) → Contains (states_at calls (length calls) name now) now
 stands_now calls name now = subst (λ (l : List DiskState). Contains l now) (sym (states_now calls name now)) (Contains-push (flat_map (found_by name) (since_sync calls)) now)
 
@@ -32,6 +32,6 @@ file_reads : (file : Option StoredFile) → MayRead (state_of (option_map (λ fi
 file_reads None = refl
 file_reads (Some file) = content_reads (Some file.content)
 
--- in its state now a name may read what it reads
+-- In the state in which a name stands now it may read what it reads.
 pub reads_now : (files : List (List ℕ × StoredFile)) (name : List ℕ) → MayRead (states_of files name) (reads_of files name)
 reads_now files name = file_reads (at files name)

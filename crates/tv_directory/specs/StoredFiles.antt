@@ -28,6 +28,7 @@ state_of (Some (Sealed bytes)) = disk.Sealed bytes
 abbrev pub States : Type 0
 States = List ℕ → DiskState
 
+-- how each name stands among these files
 abbrev pub states_of : List (List ℕ × StoredFile) → States
 states_of files name = state_of (option_map (λ file. file.content) (at files name))
 
@@ -45,7 +46,8 @@ pub record StandsAs (old new : States) (name : List ℕ) (state : DiskState) : T
   pub changed : new name ≡ state
   pub others : (n : List ℕ) → n ≢ name → new n ≡ old n
 
--- The same of a call. After an error each name stands as it stood.
+-- At Ok a call left this name in this state, and every other one as it stood; after an error each name
+-- stands as it stood.
 pub record PutsState {A E : Type 0} (old new : States) (name : List ℕ) (state : DiskState) (result : Result A E) : Type 0 where
   pub ok : OnOk result (StandsAs old new name state)
   pub err : OnErr result ((n : List ℕ) → new n ≡ old n)
@@ -58,6 +60,7 @@ is_there files name = is_some (at files name)
 abbrev pub number_at : List (List ℕ × StoredFile) → List ℕ → Option ℕ
 number_at files name = option_map (λ file. file.number) (at files name)
 
+-- whether a name's file was made under this number
 abbrev pub is_number : ℕ → Option ℕ → Bool
 is_number number None = false
 is_number number (Some other) = other == number

@@ -3,7 +3,7 @@ use Rattle.std.specs.Prelude.{ℕ, ◌≡◌, ◌<◌, ◌≤◌, Result, OnOk, 
 use Rattle.std.specs.List.{sum_by}
 use Rattle.tv_model.specs.Files.{Heard}
 
--- of a line whose telling was refused: nothing, or a first part of the line without its line feed
+-- Of a line whose telling was refused nothing was told, or a first part without its line feed.
 abbrev pub TellsPart : Heard → Heard → ℕ → List ℕ → Type 0
 TellsPart before now moment line =
     (now ≡ before) ⊎ ((part : List ℕ) × (rest : List ℕ) × (line ≡ part ++ rest) × (now ≡ before ++ (moment, part) ∷ []))
@@ -16,7 +16,8 @@ bytes_heard heard = flat_map (λ piece. piece.1) heard
 abbrev pub room_of : (pieces places prepared : ℕ) → ℕ
 room_of pieces places prepared = if nat_lt pieces places then prepared else 0
 
--- there is room for a line of this length and its line feed, and nothing was told
+-- At Ok there is room for a line of this length and its line feed; nothing was told, and the room didn't
+-- shrink.
 pub record ReservesRoom {A E : Type 0} (len : ℕ) (old new : Heard × ℕ) (result : Result A E) : Type 0 where
   pub made : OnOk result (len < new.1)
   pub pieces : new.0 ≡ old.0

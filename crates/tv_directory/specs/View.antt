@@ -52,29 +52,32 @@ pub record GoesOn {W : Type 0} (told : Told) (old new : View W) : Type 0 where
   pub clock : old.moment ≤ new.moment
   pub refusals : old.refusals ≤ new.refusals
 
--- and no writer lost its file, and no delete was refused
+-- What every call keeps, and no writer lost its file, and no delete was refused.
 pub record DeletesNone {W : Type 0} (told : Told) (old new : View W) : Type 0 where
   pub goes_on : GoesOn told old new
   pub refusals : new.refusals ≡ old.refusals
   pub alive : told.content → (w : W) → old.lives w ≡ true → new.lives w ≡ true
 
--- and nothing was told, and the room for a line didn't shrink
+-- No writer lost its file, no delete was refused, nothing was told, and the room for a line didn't shrink.
 pub record TellsNone {W : Type 0} (told : Told) (old new : View W) : Type 0 where
   pub deletes_none : DeletesNone told old new
   pub heard : new.heard ≡ old.heard
   pub room : old.room ≤ new.room
 
--- and no lock was taken or freed
+-- No writer lost its file, no delete was refused, nothing was told, the room for a line didn't shrink, and
+-- no lock was taken or freed.
 pub record Frame {W : Type 0} (told : Told) (old new : View W) : Type 0 where
   pub tells_none : TellsNone told old new
   pub locks : told.locks → SameLocks old.locks new.locks
 
--- and nobody was registered or called, and no notice came
+-- No writer lost its file, no delete was refused, nothing was told, no lock was taken or freed, nobody was
+-- registered or called, and no notice came.
 pub record Kept {W : Type 0} (told : Told) (old new : View W) : Type 0 where
   pub frame : Frame told old new
   pub watched : new.watched ≡ old.watched
 
--- and each name reads what it read
+-- No writer lost its file, no delete was refused, nothing was told, no lock was taken or freed, nobody was
+-- registered or called, no notice came, and each name reads what it read.
 pub record OnlyReads {W : Type 0} (told : Told) (old new : View W) : Type 0 where
   pub kept : Kept told old new
   pub content : told.content → Same old.reads new.reads

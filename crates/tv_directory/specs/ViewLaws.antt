@@ -59,7 +59,7 @@ kept_then before after = record {
   watched = after.watched ∙ before.watched;
 }
 
--- and each name reads what it read
+-- Two calls in a row that only read only read.
 pub reads_then : {W : Type 0} {told : Told} {first next last : View W} → OnlyReads told first next → OnlyReads told next last → OnlyReads told first last
 reads_then before after = record {
   kept = kept_then before.kept after.kept;

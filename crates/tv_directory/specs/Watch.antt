@@ -18,6 +18,7 @@ pub record WatchState : Type 0 where
   pub registered : List Registration
   pub notice : Bool
 
+-- whether a registration has this number
 abbrev pub has_number : ℕ → Registration → Bool
 has_number number r = eqb r.number number
 

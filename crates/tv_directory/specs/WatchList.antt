@@ -14,13 +14,14 @@ seen calls_of e = record { number = e.number; count = e.count; calls = calls_of 
 
 -- the watchers of a directory
 abbrev pub state_of : {C : Type 0} → (C → ℕ) → Watchers C → WatchState
-state_of calls_of w = record { registered = map (seen calls_of) w.list; notice = w.notice }
+state_of calls_of w = record { registered = map (seen calls_of) w.list.entries; notice = w.notice }
 
 -- one more handle, and one fewer; a handle that names nobody is without effect
 abbrev pub shared_by : {T : Type 0} → Option ℕ → List (Entry T) → List (Entry T)
 shared_by None es = es
 shared_by (Some number) es = change_at (is_at number) one_more es
 
+-- one fewer handle of whom the number names; a handle that names nobody is without effect
 abbrev pub released_by : {T : Type 0} → Option ℕ → List (Entry T) → List (Entry T)
 released_by None es = es
 released_by (Some number) es = released number es

@@ -1,9 +1,18 @@
-//! Laws of directories. Each function does nothing: its contract is the law.
-ghost use Rattle.std.specs.Prelude.{ℕ, List};
-ghost use Rattle.tv_model.specs.Disk.{Left};
+//! Laws of directories: what the clauses of their calls come to for those who use them.
+ghost use Rattle.std.specs.Prelude.{◌≡◌, ◌<◌, ◌≤◌, ℕ, List, [], None, Some, true, IsErr, IsSome, IfErr, IfOk, OnOk, get_or, length};
+ghost use Rattle.tv_base.specs.Causes.{IoCause};
+ghost use Rattle.tv_directory.specs.Crashes.{AreKnown, left_in};
+ghost use Rattle.tv_model.specs.Disk.{Left, Sealed, possible_now};
+ghost use Rattle.tv_model.specs.Files.{Reads, Same};
 ghost use Rattle.tv_model.specs.Index.{IsSoundDirectory, IsSoundStart};
+ghost use Rattle.tv_model.specs.Names.{is_file_name};
 
+use crate::bench::Bench;
 use crate::directory::Directory;
+use crate::lock::{DirectoryLock, Lock};
+use crate::watch::WatchCall;
+use tv_base::{DeleteError, IoError, LockError, OpenWriteError};
+use tv_model::Memory;
 
 /// Where it is told what a crash may leave, what a directory reads is one of the images that a crash now
 /// may leave. So a sound directory is a sound start.
@@ -14,3 +23,133 @@ pub fn what_reads_is_an_image<D: Directory>(directory: &D)
         (D.disk directory.now) (D.view directory.now).locks
         → IsSoundStart schema (D.view directory.now).reads (D.view directory.now).locks }
 {}
+
+/// Where a name reads, opening it to write answers an error, and each name reads what it read.
+pub fn open_write_spares_a_file_that_is_there<D: Directory>(
+    directory: &mut D,
+    name: &str,
+) -> Result<D::Writer, OpenWriteError>
+    requires { is_file_name name.now ≡ true }
+    ensures refused { D.told.content → IsSome ((D.view directory.old).reads name.now)
+        → IsErr result }
+    ensures spared { D.told.content → IsSome ((D.view directory.old).reads name.now)
+        → Same (D.view directory.old).reads (D.view directory.new).reads }
+{
+    directory.open_write(name)
+}
+
+/// A flush by a writer whose file was deleted doesn't bring the file back, whatever it answers.
+pub fn flush_brings_no_deleted_file_back<D: Directory>(
+    directory: &mut D,
+    name: &str,
+    writer: &mut D::Writer,
+) -> Result<Result<(), IoError>, DeleteError>
+    requires name { is_file_name name.now ≡ true }
+    requires opened { (D.view directory.old).opened writer.old ≡ true }
+    ensures { D.told.content → (D.state_of writer.old).name ≡ name.now
+        → OnOk result ((D.view directory.new).reads name.now ≡ None) }
+{
+    directory.delete(name)?;
+    Ok(directory.flush(writer))
+}
+
+/// Nor does sealing it.
+pub fn terminate_brings_no_deleted_file_back<D: Directory>(
+    directory: &mut D,
+    name: &str,
+    writer: D::Writer,
+) -> Result<Result<(), IoError>, DeleteError>
+    requires name { is_file_name name.now ≡ true }
+    requires opened { (D.view directory.old).opened writer ≡ true }
+    ensures { D.told.content → (D.state_of writer).name ≡ name.now
+        → OnOk result ((D.view directory.new).reads name.now ≡ None) }
+{
+    directory.delete(name)?;
+    Ok(directory.terminate(writer))
+}
+
+/// A lock that was taken isn't given a second time before it is released.
+pub fn a_lock_is_given_once<D: Directory>(
+    directory: &mut D,
+    lock: &Lock,
+) -> Result<Result<DirectoryLock, LockError>, LockError>
+    requires { is_file_name lock.now.filepath.now ≡ true }
+    ensures { D.told.locks → IfOk result IsErr }
+{
+    let _token = directory.acquire_lock(lock)?;
+    Ok(directory.acquire_lock(lock))
+}
+
+/// Whatever a write answers, a crash may leave the name as it was before, until the next sync.
+pub fn a_crash_may_undo_a_write<D: Directory>(
+    directory: &mut D,
+    name: &str,
+    bytes: &[u8],
+) -> Result<(), IoError>
+    requires { is_file_name name.now ≡ true }
+    ensures { D.tells_images → possible_now (D.disk directory.new) name.now
+        ((D.disk directory.old).now name.now) }
+{
+    directory.atomic_write(name, bytes)
+}
+
+/// Where the device refuses a write, a crash may leave its bytes all the same.
+pub fn a_refused_write_may_land<D: Directory>(
+    directory: &mut D,
+    name: &str,
+    bytes: &[u8],
+) -> Result<(), IoError>
+    requires { is_file_name name.now ≡ true }
+    ensures { D.tells_images → IfErr result (IoCause
+        (possible_now (D.disk directory.new) name.now (Sealed bytes.now)) (Unit {0})) }
+{
+    directory.atomic_write(name, bytes)
+}
+
+/// What was written and then synced outlives a crash.
+pub fn a_synced_write_outlives_a_crash<D: Directory>(
+    directory: &mut D,
+    name: &str,
+    bytes: &[u8],
+) -> Result<(), IoError>
+    requires { is_file_name name.now ≡ true }
+    ensures { D.tells_images → OnOk result ((image : Reads)
+        → Left (D.disk directory.new) (D.disk directory.new).moment image
+        → image name.now ≡ Some bytes.now) }
+{
+    directory.atomic_write(name, bytes)?;
+    directory.sync_directory()?;
+    Ok(())
+}
+
+/// A crash at the moment before a write leaves what a crash might have left then: nothing of the write.
+pub fn a_crash_before_a_write_leaves_nothing_of_it<C: WatchCall>(
+    bench: &mut Bench<C>,
+    name: &str,
+    bytes: &[u8],
+    choice: &[u32],
+) -> Result<Bench<C>, Memory>
+    requires { is_file_name name.now ≡ true }
+    ensures { IfOk result (λ left. Left (⟦<Bench<C> as Directory>⟧.disk bench.old)
+        (⟦<Bench<C> as Directory>⟧.view bench.old).moment
+        (⟦<Bench<C> as Directory>⟧.view left).reads) }
+{
+    let moment = bench.moment();
+    let _answer = bench.atomic_write(name, bytes);
+    bench.crash(moment, choice)
+}
+
+/// A crash leaves each known name by the number at its own place of the choice, whatever the others are.
+pub fn a_crash_leaves_each_name_by_its_own_number<C: WatchCall>(
+    bench: &Bench<C>,
+    moment: u64,
+    choice: &[u32],
+) -> Result<Bench<C>, Memory>
+    requires { moment ≤ (⟦<Bench<C> as Directory>⟧.view bench.now).moment }
+    ensures { IfOk result (λ left. (names : List (List ℕ)) → AreKnown bench.now names
+        → (i : ℕ) (n : List ℕ) → i < length names → n ≡ get_or names i []
+        → (⟦<Bench<C> as Directory>⟧.view left).reads n
+        ≡ left_in bench.now moment n (get_or choice.now i 0)) }
+{
+    bench.crash(moment, choice)
+}

@@ -112,9 +112,9 @@ impl<C> Model for CallbackList<C> {
 
     ghost Value = { List (Entry (Watcher C)) };
 
-    ghost view = { λ a. a.entries };
+    ghost view = { λ a. a.entries.entries };
 
-    ghost invariant = { λ a. AreApart a.entries };
+    ghost invariant = { λ a. AreApart a.entries.entries };
 }
 
 impl<C> CallbackList<C> {
@@ -189,7 +189,7 @@ impl<C: WatchCall> CallbackList<C> {
 
 // Calls everybody once, in order.
 fn call_all<C: WatchCall>(entries: &mut Inventory<Watcher<C>>)
-    ensures { CallsAll C.calls entries.old entries.new }
+    ensures { CallsAll C.calls entries.old.entries entries.new.entries }
 {
     entries.visit_all();
 }

@@ -1,4 +1,5 @@
 use Rattle.std.proofs.Common.{◌∙◌, ap}
+use Rattle.tv_directory.specs.ViewLaws.{kept_then}
 use Rattle.tv_model.proofs.DiskLaws.{touches_then}
 use Rattle.tv_directory.proofs.TouchedNames.{reads_touch, touches_opened, touches_written}
 use Rattle.tv_directory.proofs.persist.persist_file.Goals as goal
@@ -14,3 +15,14 @@ returns-in_err-terminate-clause-images g c = λ tells. touches_then (touches_the
 
 pub returns-clause-images : goal.returns-clause-images
 returns-clause-images g c = λ tells. touches_then (touches_then (touches_opened (c.in_ok-writer.ensures.images tells)) (reads_touch _ (c.in_ok-write.ensures.images tells))) (touches_written (c.in_ok-write.ensures.appends.name ∙ ap (λ s. s.name) c.in_ok-writer.ensures.writer.state) (c.in_ok-terminate.ensures.images tells))
+
+pub returns-in_err-write-clause-frame : goal.returns-in_err-write-clause-frame
+returns-in_err-write-clause-frame g c = kept_then c.in_ok-writer.ensures.frame c.in_err-write.ensures.frame
+
+pub returns-in_err-terminate-clause-frame : goal.returns-in_err-terminate-clause-frame
+returns-in_err-terminate-clause-frame g c =
+    kept_then (kept_then c.in_ok-writer.ensures.frame c.in_ok-write.ensures.frame) c.in_err-terminate.ensures.frame
+
+pub returns-clause-frame : goal.returns-clause-frame
+returns-clause-frame g c =
+    kept_then (kept_then c.in_ok-writer.ensures.frame c.in_ok-write.ensures.frame) c.in_ok-terminate.ensures.frame

@@ -1,8 +1,23 @@
-use Rattle.std.proofs.Common.{◌∙◌, ap}
+use Rattle.std.proofs.Common.{◌∙◌, ap, length, rules}
 use Rattle.tv_directory.specs.Record.{since_sync}
 use Rattle.tv_directory.specs.StoredFiles.{at_rest, states_of}
 use Rattle.tv_directory.proofs.Recorded.{settled}
 use Rattle.tv_directory.proofs.bench.Bench.with_files.Goals as goal
+
+pub returns-clause-new : goal.returns-clause-new
+returns-clause-new g c image same last = record {
+  reads = search rules;
+  unopened = search rules;
+  free = search rules;
+  watched = c.with_files.ensures.watchers _;
+  moment = ap length c.new-2.ensures;
+  heard = c.new.ensures;
+  faults = ap (λ d. d.faults) c.new-3.ensures;
+  refusals = ap (λ d. d.refusals) c.new-3.ensures;
+}
+
+pub returns-clause-device : goal.returns-clause-device
+returns-clause-device g c = c.new-3.ensures
 
 pub returns-clause-rests : goal.returns-clause-rests
 returns-clause-rests g c image same sealed = record {

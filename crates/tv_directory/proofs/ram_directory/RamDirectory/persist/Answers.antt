@@ -1,10 +1,18 @@
-use Rattle.std.proofs.Common.{rules, ◌∙◌}
+use Rattle.std.proofs.Common.{rules, ◌∙◌, [], refl}
 use Rattle.tv_directory.specs.Persisting.{contents}
-use Rattle.tv_directory.specs.ViewLaws.{kept_then}
-use Rattle.tv_directory.proofs.PersistedFiles.{first_of, rest_next, split_at, stops_at}
-use Rattle.tv_model.proofs.DiskLaws.{touches_then}
+use Rattle.tv_directory.specs.ViewLaws.{kept_itself, kept_then}
+use Rattle.tv_directory.proofs.PersistedFiles.{first_of, persists_none, rest_next, split_at, stops_at}
+use Rattle.tv_model.proofs.DiskLaws.{touches_same, touches_then}
 use Rattle.tv_directory.proofs.TouchedNames.{touches_among}
 use Rattle.tv_directory.proofs.ram_directory.RamDirectory.persist.Goals as goal
+
+pub loop-name-init : goal.loop-name-init
+loop-name-init g c = record {
+  persisting = record { before = []; split = search rules; persisted = λ t. persists_none _ };
+  faults = refl;
+  kept = kept_itself _ _;
+  images = λ tells. touches_same _ _;
+}
 
 pub loop-name-preserved : goal.loop-name-preserved
 loop-name-preserved g c =
@@ -33,3 +41,6 @@ returns-in_err-persist_file-clause-images g c =
     let inv = c.loop-name.invariant in
     let first = first_of c.loop-name.name-iterator c.next.new.self (c.in-Some.name.now, c.in-Some.file.now) c.as_str.result.now c.as_slice.result.now (search rules) c.as_str.ensures.text c.as_slice.ensures in
     λ tells. touches_then (inv.images tells) (touches_among _ inv.persisting.before _ _ _ (split_at inv.persisting first) (c.in_err-persist_file.ensures.images tells))
+
+pub returns-in_err-persist_file-clause-frame : goal.returns-in_err-persist_file-clause-frame
+returns-in_err-persist_file-clause-frame g c = kept_then c.loop-name.invariant.kept c.in_err-persist_file.ensures.frame
