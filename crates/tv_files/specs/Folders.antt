@@ -33,6 +33,7 @@ folder_view calls folder = record {
 abbrev pub after_fault : {C : Type 0} → FolderState C → FolderState C
 after_fault folder = record folder { faults = counted folder.faults }
 
+-- a folder after a refused delete
 abbrev pub after_refusal : {C : Type 0} → FolderState C → FolderState C
 after_refusal folder = record folder { refusals = counted folder.refusals }
 

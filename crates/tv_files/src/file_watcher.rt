@@ -82,7 +82,7 @@ impl<R: Files + Drop, C: WatchCall> FileWatcher<R, C> {
             return Ok(false);
         }
         self.seen = Some(checksum);
-        let _all = self.callbacks.broadcast();
+        drop(self.callbacks.broadcast());
         Ok(true)
     }
 
@@ -110,7 +110,7 @@ impl<R: Files + Drop, C: WatchCall> FileWatcher<R, C> {
 }
 
 // The checksum of the lines of a text, without their ends.
-fn checksum_of_lines(text: &str) -> u32
+pub(crate) fn checksum_of_lines(text: &str) -> u32
     ensures { result ≡ crc32 (flat_map (λ line. line) (lines text.now)) }
 {
     let mut checksum = Crc32::start();

@@ -3,14 +3,13 @@ ghost use Rattle.tv_model.specs.Disk.{no_disk};
 ghost use Rattle.tv_directory.specs.View.{tells_nothing};
 ghost use Rattle.tv_files.specs.Folders.{folder_view};
 
-use crate::mmap_directory::{HeldLock, MmapDirectory, file_name};
+use crate::mmap_directory::{MmapDirectory, file_name};
 use crate::mmap_writer::MmapWriter;
-use std::fs::{File, TryLockError};
+use std::fs::File;
 use std::io::ErrorKind;
 use std::rt::Files;
 use tv_base::{
-    DeleteError, FileSlice, IoError, IoFault, LockError, META_FILEPATH, OpenReadError,
-    OpenWriteError, OwnedBytes,
+    DeleteError, FileSlice, IoError, IoFault, LockError, OpenReadError, OpenWriteError, OwnedBytes,
 };
 use tv_directory::{Directory, DirectoryLock, Lock, WatchCall, WatchHandle};
 use tv_model::Memory;
@@ -53,16 +52,7 @@ impl<R: Files<File = File> + Drop, C: WatchCall> Directory for MmapDirectory<R, 
         let key = file_name(self.alloc, name)?;
         match self.folder.create(name) {
             Ok(file) => Ok(MmapWriter::new(self.alloc, key, file)),
-            Err(error) => match error.kind() {
-                ErrorKind::OutOfMemory => Err(OpenWriteError::Memory),
-                ErrorKind::AlreadyExists => {
-                    Err(OpenWriteError::FileAlreadyExists(key.into_string()))
-                }
-                _ => Err(OpenWriteError::IoError {
-                    io_error: self.fault(&error),
-                    filepath: key.into_string(),
-                }),
-            },
+            Err(error) => Err(self.not_made(key, &error)),
         }
     }
 
@@ -90,22 +80,18 @@ impl<R: Files<File = File> + Drop, C: WatchCall> Directory for MmapDirectory<R, 
     fn atomic_read(&mut self, name: &str) -> Result<Vec<u8>, OpenReadError> {
         match self.folder.read(name) {
             Ok(bytes) => Ok(bytes),
-            Err(error) if error.kind() == ErrorKind::NotFound => {
-                let name = file_name(self.alloc, name)?;
-                Err(OpenReadError::FileDoesNotExist(name.into_string()))
-            }
-            Err(error) => Err(self.refused_read(name, &error)),
+            Err(error) => Err(self.not_read(name, &error)),
         }
     }
 
     fn atomic_write(&mut self, name: &str, bytes: &[u8]) -> Result<(), IoError> {
-        if let Err(error) = self.folder.replace(name, bytes) {
-            return Err(self.refused_call(&error));
+        match self.folder.replace(name, bytes) {
+            Ok(()) => {
+                self.note(name);
+                Ok(())
+            }
+            Err(error) => Err(self.refused_call(&error)),
         }
-        if name == META_FILEPATH {
-            self.watchers.note();
-        }
-        Ok(())
     }
 
     fn delete(&mut self, name: &str) -> Result<(), DeleteError> {
@@ -114,14 +100,7 @@ impl<R: Files<File = File> + Drop, C: WatchCall> Directory for MmapDirectory<R, 
         };
         match self.folder.remove(name) {
             Ok(()) => Ok(()),
-            Err(error) => match error.kind() {
-                ErrorKind::OutOfMemory => Err(DeleteError::Memory),
-                ErrorKind::NotFound => Err(DeleteError::FileDoesNotExist(key.into_string())),
-                _ => Err(DeleteError::IoError {
-                    io_error: self.refusal(&error),
-                    filepath: key.into_string(),
-                }),
-            },
+            Err(error) => Err(self.not_deleted(key, &error)),
         }
     }
 
@@ -132,34 +111,13 @@ impl<R: Files<File = File> + Drop, C: WatchCall> Directory for MmapDirectory<R, 
         }
     }
 
-    // A lock that this directory holds itself isn't waited for, since nobody else can free it.
     fn acquire_lock(&mut self, lock: &Lock) -> Result<DirectoryLock, LockError> {
-        let (Ok(name), Ok(text)) = (
-            file_name(self.alloc, lock.filepath),
-            String::from_str(self.alloc, lock.filepath),
-        ) else {
+        let Ok(name) = file_name(self.alloc, lock.filepath) else {
             return Err(LockError::Memory);
         };
-        if self.held.reserve(1).is_err() {
-            return Err(LockError::Memory);
-        }
-        if self.holds(lock.filepath) {
-            let _busy = self.silent_fault();
-            return Err(LockError::LockBusy);
-        }
-        match self.folder.lock(lock) {
-            Ok(file) => {
-                self.held.push(HeldLock { name: text, file }).unwrap();
-                Ok(DirectoryLock::new(name.into_string()))
-            }
-            Err(TryLockError::WouldBlock) => {
-                let _busy = self.silent_fault();
-                Err(LockError::LockBusy)
-            }
-            Err(TryLockError::Error(error)) => match self.refused_call(&error) {
-                IoError::Fault(fault) => Err(LockError::IoError(fault)),
-                IoError::Memory => Err(LockError::Memory),
-            },
+        match self.take(lock) {
+            Ok(()) => Ok(DirectoryLock::new(name.into_string())),
+            Err(error) => Err(self.not_locked(&error)),
         }
     }
 

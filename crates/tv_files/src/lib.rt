@@ -5,9 +5,11 @@
 //! what files hold. Their contracts say why they fail, and what they keep.
 #![tactic(auto)]
 
+mod file_id;
 mod file_watcher;
 mod folder;
 mod folder_directory;
+pub mod laws;
 mod mmap_directory;
 mod mmap_writer;
 mod source;

@@ -1,8 +1,10 @@
 //! A directory of plain files.
 ghost use Rattle.std.specs.Prelude.{◌≡◌, [], true, false, IfOk, IfErr};
 ghost use Rattle.tv_model.specs.Names.{is_file_name};
-ghost use Rattle.tv_base.specs.Causes.{IoCause, IsDevice, OpenReadCause};
+ghost use Rattle.tv_base.specs.Causes.{DeleteCause, IoCause, IsDevice, OpenReadCause, OpenWriteCause};
 ghost use Rattle.tv_directory.specs.Device.{IsSilent};
+ghost use Rattle.tv_directory.specs.Locks.{LockCause};
+ghost use Rattle.tv_directory.specs.Watch.{noted};
 ghost use Rattle.tv_directory.specs.WatchList.{state_of};
 ghost use Rattle.tv_files.specs.Folders.{OpenCause, after_fault, after_refusal};
 
@@ -13,15 +15,18 @@ use std::io;
 use std::io::ErrorKind;
 use std::marker::Model;
 use std::rt::Files;
-use tv_base::{IoError, IoFault, IoKind, OpenDirectoryError, OpenReadError};
-use tv_directory::{DirectoryLock, WatchCall, Watchers};
+use tv_base::{
+    DeleteError, IoError, IoFault, IoKind, LockError, META_FILEPATH, OpenDirectoryError,
+    OpenReadError, OpenWriteError,
+};
+use tv_directory::{DirectoryLock, Lock, WatchCall, Watchers, index_writer_lock};
 use tv_model::{FileName, Memory};
 
 /// A lock that this directory holds: its lock file, locked while it is open.
 #[derive(Drop)]
 pub(crate) struct HeldLock {
-    pub name: String,
-    pub file: File,
+    name: String,
+    file: File,
 }
 
 /// The plain files of a folder. A file is read whole. `R` is the runtime, and `C` is who may watch
@@ -87,6 +92,41 @@ impl<R: Files<File = File> + Drop, C: WatchCall> MmapDirectory<R, C> {
             Err(error) => Err(not_opened(alloc, &error, directory_path)),
         }
     }
+
+    // Leaves a notice for those who watch, where the file of this name is the current commit.
+    pub(crate) fn note(&mut self, name: &str)
+        ensures watched { state_of C.calls self.new.watchers
+            ≡ noted name.now (state_of C.calls self.old.watchers) }
+        ensures kept { self.new ≡ record self.old { watchers = self.new.watchers } }
+    {
+        if name == META_FILEPATH {
+            self.watchers.note();
+        }
+    }
+
+    // Takes a lock, and keeps its file. Where somebody else holds it, the error is `WouldBlock`, and
+    // so where this directory does: nobody else can free it, so it isn't waited for.
+    pub(crate) fn take(&mut self, lock: &Lock) -> io::Result<()>
+        ensures { self.new ≡ self.old }
+    {
+        if self.holds(lock.filepath) {
+            return Err(io::Error::from(ErrorKind::WouldBlock));
+        }
+        let name = String::from_str(self.alloc, lock.filepath)?;
+        self.held.reserve(1)?;
+        let file = self.folder.lock(lock)?;
+        self.remove_left(lock);
+        self.held.push(HeldLock { name, file }).unwrap();
+        Ok(())
+    }
+
+    // Removes what earlier processes left in the folder. Only who has the lock of the writer may do
+    // that, so at another lock nothing is done.
+    fn remove_left(&self, lock: &Lock) {
+        if lock.filepath == index_writer_lock().filepath {
+            let _stays = self.folder.remove_left();
+        }
+    }
 }
 
 impl<R: Drop, C> MmapDirectory<R, C> {
@@ -120,10 +160,11 @@ impl<R: Drop, C> MmapDirectory<R, C> {
         fault_of(self.alloc, error)
     }
 
-    // Why a call that reads this name fails, where the name is there.
+    // Why a call that asks for this name fails, unless there is no such file.
     pub(crate) fn refused_read(&mut self, name: &str, error: &io::Error) -> OpenReadError
-        ensures { OpenReadCause name.now ⊥ (self.new ≡ after_fault self.old)
+        ensures cause { OpenReadCause name.now ⊥ (self.new ≡ after_fault self.old)
             (self.new ≡ self.old) result }
+        ensures kept { self.new ≡ record self.old { faults = self.new.faults } }
     {
         if error.kind() == ErrorKind::OutOfMemory {
             return OpenReadError::Memory;
@@ -137,9 +178,57 @@ impl<R: Drop, C> MmapDirectory<R, C> {
         }
     }
 
+    // Why the file of this name isn't read.
+    pub(crate) fn not_read(&mut self, name: &str, error: &io::Error) -> OpenReadError
+        ensures cause { OpenReadCause name.now (self.new ≡ self.old)
+            (self.new ≡ after_fault self.old) (self.new ≡ self.old) result }
+        ensures kept { self.new ≡ record self.old { faults = self.new.faults } }
+    {
+        if error.kind() != ErrorKind::NotFound {
+            return self.refused_read(name, error);
+        }
+        match String::from_str(self.alloc, name) {
+            Ok(path) => OpenReadError::FileDoesNotExist(path),
+            Err(_) => OpenReadError::Memory,
+        }
+    }
+
+    // Why no file of this name is made.
+    pub(crate) fn not_made(&mut self, name: FileName, error: &io::Error) -> OpenWriteError
+        ensures cause { OpenWriteCause name (self.new ≡ self.old) (self.new ≡ after_fault self.old)
+            (self.new ≡ self.old) result }
+        ensures kept { self.new ≡ record self.old { faults = self.new.faults } }
+    {
+        match error.kind() {
+            ErrorKind::OutOfMemory => OpenWriteError::Memory,
+            ErrorKind::AlreadyExists => OpenWriteError::FileAlreadyExists(name.into_string()),
+            _ => OpenWriteError::IoError {
+                io_error: self.fault(error),
+                filepath: name.into_string(),
+            },
+        }
+    }
+
+    // Why the file of this name isn't deleted.
+    pub(crate) fn not_deleted(&mut self, name: FileName, error: &io::Error) -> DeleteError
+        ensures cause { DeleteCause name (self.new ≡ self.old) (self.new ≡ after_refusal self.old)
+            (self.new ≡ self.old) result }
+        ensures kept { self.new ≡ record self.old { refusals = self.new.refusals } }
+    {
+        match error.kind() {
+            ErrorKind::OutOfMemory => DeleteError::Memory,
+            ErrorKind::NotFound => DeleteError::FileDoesNotExist(name.into_string()),
+            _ => DeleteError::IoError {
+                io_error: self.refusal(error),
+                filepath: name.into_string(),
+            },
+        }
+    }
+
     // Why a call fails that reads no name.
     pub(crate) fn refused_call(&mut self, error: &io::Error) -> IoError
-        ensures { IoCause (self.new ≡ after_fault self.old) (self.new ≡ self.old) result }
+        ensures cause { IoCause (self.new ≡ after_fault self.old) (self.new ≡ self.old) result }
+        ensures kept { self.new ≡ record self.old { faults = self.new.faults } }
     {
         if error.kind() == ErrorKind::OutOfMemory {
             return IoError::Memory;
@@ -147,8 +236,24 @@ impl<R: Drop, C> MmapDirectory<R, C> {
         IoError::Fault(self.fault(error))
     }
 
+    // Why a lock isn't taken.
+    pub(crate) fn not_locked(&mut self, error: &io::Error) -> LockError
+        ensures cause { LockCause (self.new ≡ after_fault self.old)
+            (self.new ≡ after_fault self.old) (self.new ≡ self.old) result }
+        ensures kept { self.new ≡ record self.old { faults = self.new.faults } }
+    {
+        match error.kind() {
+            ErrorKind::OutOfMemory => LockError::Memory,
+            ErrorKind::WouldBlock => {
+                let _busy = self.silent_fault();
+                LockError::LockBusy
+            }
+            _ => LockError::IoError(self.fault(error)),
+        }
+    }
+
     // Whether this directory holds the lock of this name.
-    pub(crate) fn holds(&self, name: &str) -> bool {
+    fn holds(&self, name: &str) -> bool {
         self.held.iter().any(|held| held.name.as_str() == name)
     }
 
