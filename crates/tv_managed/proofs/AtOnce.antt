@@ -19,7 +19,7 @@ use Rattle.tv_model.proofs.Numbered.{put_found}
 use Rattle.tv_managed.proofs.Results.{on_err}
 use Rattle.tv_directory.specs.View.{Kept, OnlyReads}
 use Rattle.tv_directory.specs.declared.directory.Directory.{Ghosts}
-use Rattle.tv_managed.specs.Collecting.{Begins, Ended, EndsCollection, FailsAtMost, Leaves, OnlyDeletes, Tried, Tries, TriesSome, ending, names_of, standing}
+use Rattle.tv_managed.specs.Collecting.{Begins, Ended, EndsCollection, FailsAtMost, Leaves, OnlyDeletes, TellsApart, Tried, Tries, TriesSome, ending, names_of, standing}
 use Rattle.tv_managed.specs.Crashes.{AnyOrList, CollectsNames, EndsSafely, Forgets, IsCovered, LeavesSafely, LosesNames, SettlesStates, ShortensStates}
 use Rattle.tv_managed.specs.Managed.{Covers}
 use Rattle.tv_managed.specs.Names.{ManagedNames, done_names}
@@ -89,8 +89,8 @@ leaves_of g taken front rest deleted failed {old} {new} result split t ok err =
     }
 
 tries_of : {D W C : Type 0} (g : Ghosts D W C) (taken : List (List ℕ)) (old new : D × ManagedNames) (result : GarbageCollectionResult)
-    → new.1 ≡ record old.1 { managed = without (names_of result.deleted_files.items) old.1.managed } → Tried g taken old new (names_of result.deleted_files.items) (names_of result.failed_to_delete_files.items) → Tries g taken old new result
-tries_of g taken old new result left t = record {
+    → new.1 ≡ record old.1 { managed = without (names_of result.deleted_files.items) old.1.managed } → Tried g taken old new (names_of result.deleted_files.items) (names_of result.failed_to_delete_files.items) → TellsApart result → Tries g taken old new result
+tries_of g taken old new result left t apart = record {
   outcomes = t.outcomes;
   each = t.each;
   deleted = t.deleted_is;
@@ -102,6 +102,7 @@ tries_of g taken old new result left t = record {
   ended = t.ended;
   counted = t.counted;
   calm = t.calm;
+  apart = apart;
 }
 
 -- where nothing was deleted, each name reads what it read
@@ -304,7 +305,7 @@ collects_all g taken number {old} {mid} {new} {now} {last} result same f all bac
     let managed : last.managed ≡ now.managed = ap (λ v. v.managed) last_is ∙ sym (ap (λ v. v.managed) is) in
     record {
       leaves = leaves_of g taken taken [] f.deleted f.failed (Ok result) (sym (append-nil taken)) tried last_is tt;
-      tries = tries_of g taken old (new, last) result (rw told.deleted last_is) (rw (told.deleted, told.failed) tried);
+      tries = tries_of g taken old (new, last) result (rw told.deleted last_is) (rw (told.deleted, told.failed) tried) told.apart;
       saves = record {
         list = λ tells was. subst (Lists ((g.view new).reads list_name)) (sym managed) (ends.saves.list tells (subst (Lists ((g.view mid.0).reads list_name)) (sym (ap (λ v. v.managed) f.names)) (subst (λ r. Lists r old.1.managed) (sym (f.list tells)) was)));
         covers = λ tells was.

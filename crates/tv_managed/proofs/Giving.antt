@@ -8,7 +8,7 @@ use Rattle.tv_model.specs.Names.{has, is, is_undotted, list_name}
 use Rattle.tv_model.proofs.Entries.{is_itself, is_text}
 use Rattle.tv_base.specs.declared.open_errors.DeleteError.{DeleteError}
 use Rattle.tv_base.specs.declared.open_errors.DeleteError.TheVariants as delete
-use Rattle.tv_directory.specs.Images.{DeletesState, KeepsDisk, KeepsOtherStates}
+use Rattle.tv_directory.specs.Images.{DeletesState, KeepsDisk, KeepsOtherStates, Settles}
 use Rattle.tv_directory.specs.declared.directory.Directory.{Ghosts}
 use Rattle.tv_managed.specs.Crashes.{GivesSafely, IsCovered, IsTracked, KeepsTrack, ListsName, SettlesStates, LeavesSafely}
 use Rattle.tv_managed.specs.Managed.{registering}
@@ -77,6 +77,10 @@ settles_asked asks settles = record { moments = within_then (within_step asks.ti
 
 pub settles_none : {A E : Type 0} {old asked : Disk} {result : Result A E} → KeepsDisk old asked → OnOk result (IsSettled asked) → SettlesStates old asked result
 settles_none asks ok = record { moments = within_step asks.time asks.states.possible.no_more; now = asks.states.now; ok = ok }
+
+-- behind a sync
+pub settled_so : {A E B F : Type 0} {old new : Disk} {synced : Result B F} {result : Result A E} → Settles old new synced → OnOk result (IsSettled new) → SettlesStates old new result
+settled_so sync ok = record { moments = within_step sync.time sync.no_more; now = sync.now; ok = ok }
 
 -- and track is kept
 pub track_settles : {A E D W C : Type 0} (g : Ghosts D W C) {old new : D × ManagedNames} {result : Result A E} → SettlesStates (g.disk old.0) (g.disk new.0) result → IsCovered (possible_now (g.disk new.0)) (g.disk new.0).now new.1 → IsTracked g old → KeepsTrack g old new

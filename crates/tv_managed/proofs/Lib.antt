@@ -11,10 +11,16 @@ pub mod Synced
 pub mod Saves
 pub mod Results
 pub mod Making
+pub mod Creating
+pub mod Saving
+pub mod Writing
 pub mod Listing
 pub mod Giving
 pub mod AtOnce
 pub mod Beginning
+pub mod Spared
+pub mod Deleting
+pub mod Failing
 pub mod Stepping
 pub mod PlainManaged
 pub mod Cutting

@@ -8,6 +8,11 @@ pub handed_on : {A E : Type 0} (result : Result A E) (error : E) (P : E → Type
 handed_on (Ok x) error P is p = tt
 handed_on (Err e) error P is p = subst P (sym is) p
 
+-- a result that hands an error on is that error
+pub handed : {A E : Type 0} (P : Result A E → Type 0) (result : Result A E) (error : E) → IsErrAnd result (λ e. e ≡ error) → P (Err error) → P result
+handed P (Ok x) error is p = absurd is
+handed P (Err e) error is p = subst (λ x. P (Err x)) (sym is) p
+
 -- what holds anyway holds at an error
 pub on_err : {A E P : Type 0} (result : Result A E) → P → OnErr result P
 on_err (Ok x) p = tt

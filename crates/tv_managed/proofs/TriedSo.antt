@@ -1,13 +1,14 @@
 -- What a collection's outcomes say of its names.
-use Rattle.std.proofs.Common.{◌≡◌, ℕ, ◌<◌, ◌≤◌, ◌+◌, suc, Bool, true, false, ◌||◌, List, [], ◌∷◌, ◌++◌, length, drop, take, get_or, drop-cons, length-drop, set, string_bytes, String, Global, refl, sym, ap, ◌∙◌, arith}
-use Rattle.std.proofs.lemmas.Bool.{both_ways, true_from_ne_false}
+use Rattle.std.proofs.Common.{◌≡◌, ℕ, ◌<◌, ◌≤◌, ◌+◌, suc, Bool, true, false, true≢false, ◌||◌, ⊎_elim, List, [], ◌∷◌, ◌++◌, length, drop, take, get_or, drop-cons, length-drop, set, string_bytes, String, Global, refl, sym, ap, ◌∙◌, arith}
+use Rattle.std.proofs.lemmas.Bool.{both_ways, false_from_ne_true, or_cases, or_left, or_right, true_from_ne_false}
 use Rattle.std.proofs.lemmas.List.Folds.{list_all_at}
 use Rattle.std.proofs.lemmas.List.{length-take-le, map-append, take_more, take_more_set}
 use Rattle.std.specs.Prelude.{if◌then◌else◌}
 use Rattle.std.specs.List.{list_all}
 use Rattle.tv_model.specs.Names.{has, is, is_plain}
 use Rattle.tv_model.proofs.CollectionStates.{has_append}
-use Rattle.tv_model.specs.Collections.{Collection, having_tried, taken}
+use Rattle.tv_model.proofs.Entries.{is_text}
+use Rattle.tv_model.specs.Collections.{AreOnce, Collection, having_tried, taken}
 use Rattle.tv_managed.specs.Collecting.{names_of}
 use Rattle.tv_managed.specs.Names.{IsCollection, tried_so, trying_first}
 
@@ -86,3 +87,34 @@ outcome_more names outcomes i d b lt le = ap (tried_so names) (take_more outcome
 -- a managed name is plain
 pub plain_at : (names : List (List ℕ)) (i : ℕ) (d : List ℕ) → i < length names → list_all is_plain names ≡ true → is_plain (get_or names i d) ≡ true
 plain_at names i d lt h = true_from_ne_false _ (λ e. both_ways _ (list_all_at is_plain names i d lt e) h)
+
+-- ---- none is told as both
+
+-- what is done was taken
+done_among : (names : List (List ℕ)) (outcomes : List Bool) (n : List ℕ) → has (tried_so names outcomes).done n ≡ true → has names n ≡ true
+done_among names [] n h = absurd (true≢false (sym h))
+done_among [] (o ∷ outcomes) n h = absurd (true≢false (sym h))
+done_among (name ∷ names) (true ∷ outcomes) n h = ⊎_elim (λ it. or_left _ _ it) (λ later. or_right _ _ (done_among names outcomes n later)) (or_cases _ _ h)
+done_among (name ∷ names) (false ∷ outcomes) n h = or_right _ _ (done_among names outcomes n h)
+
+-- and so was what failed
+failed_among : (names : List (List ℕ)) (outcomes : List Bool) (n : List ℕ) → has (tried_so names outcomes).failed n ≡ true → has names n ≡ true
+failed_among names [] n h = absurd (true≢false (sym h))
+failed_among [] (o ∷ outcomes) n h = absurd (true≢false (sym h))
+failed_among (name ∷ names) (true ∷ outcomes) n h = or_right _ _ (failed_among names outcomes n h)
+failed_among (name ∷ names) (false ∷ outcomes) n h = ⊎_elim (λ it. or_left _ _ it) (λ later. or_right _ _ (failed_among names outcomes n later)) (or_cases _ _ h)
+
+-- where names stand once, what failed isn't done
+pub tried_apart : (names : List (List ℕ)) (outcomes : List Bool) (n : List ℕ) → AreOnce names → has (tried_so names outcomes).failed n ≡ true → has (tried_so names outcomes).done n ≡ false
+tried_apart names [] n once h = refl
+tried_apart [] (o ∷ outcomes) n once h = refl
+tried_apart (name ∷ names) (true ∷ outcomes) n once h =
+    elim (is name n) as (λ b. is name n ≡ b → (b || has (tried_so names outcomes).done n) ≡ false) [
+      | true ↦ λ e. let absent : has names n ≡ false = rw (sym (is_text name n e)) once.0 in absurd (true≢false (sym (failed_among names outcomes n h) ∙ absent))
+      | false ↦ λ e. tried_apart names outcomes n once.1 h
+    ] refl
+tried_apart (name ∷ names) (false ∷ outcomes) n once h =
+    elim (is name n) as (λ b. is name n ≡ b → (b || has (tried_so names outcomes).failed n) ≡ true → has (tried_so names outcomes).done n ≡ false) [
+      | true ↦ λ e k. let absent : has names n ≡ false = rw (sym (is_text name n e)) once.0 in false_from_ne_true _ (λ d. true≢false (sym (done_among names outcomes n d) ∙ absent))
+      | false ↦ λ e k. tried_apart names outcomes n once.1 k
+    ] refl h

@@ -6,8 +6,8 @@ use Rattle.std.specs.BTreeMap.{insert_entry}
 use Rattle.std.specs.Ordering.{nat_cmp}
 use Rattle.tv_model.specs.Names.{has, is_plain, list_name}
 use Rattle.tv_model.specs.Listing.{Lists}
-use Rattle.tv_model.specs.Collections.{Collection, Collections, collectable, collection_at, done_of, failed_of, having_tried, held, with_begun, with_collection, without, without_collection}
-use Rattle.tv_model.specs.Files.{Same, KeepsOthers, Rose}
+use Rattle.tv_model.specs.Collections.{Collection, Collections, collectable, collection_at, done_of, failed_of, having_tried, held, taken, with_begun, with_collection, without, without_collection}
+use Rattle.tv_model.specs.Files.{Reads, Same, KeepsOthers, Rose}
 use Rattle.tv_base.specs.Causes.{IsDevice}
 use Rattle.tv_base.specs.declared.error.TantivyError.{TantivyError}
 use Rattle.tv_base.specs.declared.error.TantivyError.TheVariants as errors
@@ -74,6 +74,12 @@ pub record Leaves {A E D W C : Type 0} (g : Ghosts D W C) (names : List (List �
   -- the count of refused deletes is one of 64 bits
   pub fits : (g.view old.0).refusals ≤ 18446744073709551615 → (g.view new.0).refusals ≤ 18446744073709551615
 
+-- no name that is told as failed is told as deleted too
+abbrev pub TellsApart : GarbageCollectionResult → Type 0
+TellsApart result =
+    (n : List ℕ) → has (names_of result.failed_to_delete_files.items) n ≡ true
+    → has (names_of result.deleted_files.items) n ≡ false
+
 -- What trying these names gave where all were tried: each is told as done or as failed, in their order.
 pub record Tries {D W C : Type 0} (g : Ghosts D W C) (names : List (List ℕ)) (old new : D × ManagedNames) (result : GarbageCollectionResult) : Type 0 where
   pub outcomes : List Bool
@@ -92,6 +98,8 @@ pub record Tries {D W C : Type 0} (g : Ghosts D W C) (names : List (List ℕ)) (
   -- no more names failed than deletes were refused; and where none failed, none was
   pub counted : FailsAtMost (length (names_of result.failed_to_delete_files.items)) (g.view old.0).refusals (g.view new.0).refusals
   pub calm : names_of result.failed_to_delete_files.items ≡ [] → (g.view new.0).refusals ≡ (g.view old.0).refusals
+  -- no name is told as both
+  pub apart : TellsApart result
 
 -- What trying a name gave: it doesn't read any more, or all is as it was, and the device refused its delete.
 pub record TriesName {D W C : Type 0} (g : Ghosts D W C) (name : List ℕ) (old new : D × ManagedNames) (is_gone : Bool) : Type 0 where
@@ -130,6 +138,7 @@ abbrev pub is_done : CollectStep → Bool
 is_done (steps.Done name) = true
 is_done (steps.Failed name) = false
 
+-- the name that a step tried
 abbrev pub tried_name : CollectStep → List ℕ
 tried_name (steps.Done name) = string_bytes name
 tried_name (steps.Failed name) = string_bytes name
@@ -165,6 +174,8 @@ pub record Ended (number : ℕ) (c : Collection) (old new : ManagedNames) (resul
   pub deleted : names_of result.deleted_files.items ≡ c.done
   pub failed : names_of result.failed_to_delete_files.items ≡ c.failed
   pub names : new ≡ ending old number c
+  -- no name is told as both
+  pub apart : TellsApart result
 
 -- where nothing was deleted, each name reads what it read, the list's too
 abbrev pub SavesNone : {D W C E : Type 0} → Ghosts D W C → (old new : D × ManagedNames) → Result GarbageCollectionResult E → Type 0
@@ -228,7 +239,7 @@ pub record CollectFaults {A D W C : Type 0} (g : Ghosts D W C) (old new : D × M
       ((g.view new.0).faults ≡ (g.view old.0).faults))
   pub unchanged : IfErr result (λ e. is_unbegun e ≡ true → KeepsNames (OnlyReads g.told) g.view old new)
 
--- it isn't the error of a lock
+-- the error isn't that of a lock
 abbrev pub TakesNoLock : TantivyError → Type 0
 TakesNoLock (errors.LockFailure why text) = ⊥
 TakesNoLock other = Unit {0}
@@ -238,6 +249,25 @@ pub record EndFaults {A D W C : Type 0} (g : Ghosts D W C) (old new : D × Manag
   pub quiet : OnOk result ((g.view new.0).faults ≡ (g.view old.0).faults)
   pub unlocked : IfErr result TakesNoLock
   pub cause : IfErr result (CollectCause ⊥ ⊥ (Rose (g.view old.0).faults (g.view new.0).faults) ((g.view new.0).faults ≡ (g.view old.0).faults))
+
+-- What follows is cited by laws alone.
+
+-- the collection of this number isn't finished, and took none of these names
+abbrev pub TookNoneOf : (spared : List (List ℕ)) → ManagedNames → ℕ → Type 0
+TookNoneOf spared names number =
+    (c : Collection) × (collection_at names.collections number ≡ Some c)
+    × ((n : List ℕ) → has spared n ≡ true → has (taken c) n ≡ false)
+
+-- each of these names but the list's reads what it read
+abbrev pub Spares : (spared : List (List ℕ)) → Reads → Reads → Type 0
+Spares spared old new =
+    (n : List ℕ) → has spared n ≡ true → n ≢ list_name → new n ≡ old n
+
+-- each managed name that is told as failed is still managed
+abbrev pub KeepsFailed : (old new : ManagedNames) → GarbageCollectionResult → Type 0
+KeepsFailed old new result =
+    (n : List ℕ) → has old.managed n ≡ true
+    → has (names_of result.failed_to_delete_files.items) n ≡ true → has new.managed n ≡ true
 
 -- What follows is cited by private functions alone.
 

@@ -26,7 +26,8 @@ pub record IsCovered (possible : Possible) (now : List ℕ → DiskState) (names
   pub listed : (n : List ℕ) → has names.managed n ≡ true → has (done_names names.collections) n ≡ false → (l : DiskState) → possible list_name l → IsOnEach l n
   pub gone : (n : List ℕ) → is_undotted n ≡ true → has (done_names names.collections) n ≡ true → now n ≡ Absent
 
--- that is so of a managed directory now
+-- The list of a managed directory forgets no file that a crash now may leave, and memory knows each of them
+-- (`IsCovered`).
 abbrev pub IsTracked : {D W C : Type 0} → Ghosts D W C → D × ManagedNames → Type 0
 IsTracked g managed = IsCovered (possible_now (g.disk managed.0)) (g.disk managed.0).now managed.1
 
@@ -34,7 +35,8 @@ IsTracked g managed = IsCovered (possible_now (g.disk managed.0)) (g.disk manage
 abbrev pub AreListed : {D W C : Type 0} → Ghosts D W C → D × ManagedNames → Type 0
 AreListed g managed = (n : List ℕ) → has managed.1.managed n ≡ true → (l : DiskState) → possible_now (g.disk managed.0) list_name l → IsOnEach l n
 
--- it is so after a call, and at each moment of it the list forgets no file
+-- The list of a managed directory forgets no file at any moment of a call, and afterwards memory knows each
+-- file that a crash may leave.
 pub record KeepsTrack {D W C : Type 0} (g : Ghosts D W C) (old new : D × ManagedNames) : Type 0 where
   pub tracked : IsTracked g new
   pub moments : Throughout ListsEachFile (g.disk old.0) (g.disk new.0)
@@ -66,7 +68,8 @@ pub record Gains (extra : List ℕ → DiskState → Type 0) (old new : Possible
 abbrev pub IsToList : ManagedNames → (name n : List ℕ) → Type 0
 IsToList names name n = (n ≡ list_name) × (NeedsNoListing names name → ⊥)
 
--- and it has the text of the managed names with this one
+-- this is the list, with the text of the managed names and this one, which has no dot in front and isn't
+-- managed
 abbrev pub IsNewList : ManagedNames → (name n : List ℕ) → DiskState → Type 0
 IsNewList names name n s = IsToList names name n × (s ≡ Sealed (list_text (registered names.managed name)))
 
@@ -85,6 +88,7 @@ pub record GivesStates {A E : Type 0} (old new : Disk) (names : ManagedNames) (n
   pub now : OnlyMoves (OrItsList names name) old new
   pub stands : OnOk result (new.now name ≡ state)
 
+-- A name is given this state as `GivesStates` says, and where the list forgot no file it never does.
 abbrev pub GivesSafely : {A E D W C : Type 0} → Ghosts D W C → (name : List ℕ) → DiskState → (old new : D × ManagedNames) → Result A E → Type 0
 GivesSafely g name state old new result = LeavesSafely g (GivesStates (g.disk old.0) (g.disk new.0) old.1 name state result) old new
 
@@ -113,7 +117,8 @@ pub record TriesStates {E : Type 0} (old new : Disk) (name : List ℕ) (result :
   pub now : OnlyMoves (λ n. n ≡ name) old new
   pub gone : IfOk result (λ step. is_done step ≡ true → new.now name ≡ Absent)
 
--- that is so of the first name left of a collection
+-- A collection tries the first name that it has left: at each moment that file may be absent besides, and is
+-- where it is told as done. No other name is touched.
 abbrev pub StepsSafely : {E D W C : Type 0} → Ghosts D W C → (number : ℕ) → (old new : D × ManagedNames) → Result CollectStep E → Type 0
 StepsSafely g number old new result =
     (c : Collection) (name : List ℕ) (left : List (List ℕ)) → collection_at old.1.collections number ≡ Some c → c.untried ≡ name ∷ left
@@ -125,7 +130,8 @@ pub record ShortensStates {D W C : Type 0} (g : Ghosts D W C) (left : List (List
   pub now : OnlyMoves (λ n. n ≡ list_name) (g.disk old.0) (g.disk new.0)
   pub forgets : IsTracked g old → Forgets g old new
 
--- that is so of the names that a collection's end leaves
+-- A collection ends: the list may have the shorter names besides. No file is touched. A name that is managed
+-- no more has no file after any crash.
 abbrev pub EndsSafely : {D W C : Type 0} → Ghosts D W C → (number : ℕ) → (old new : D × ManagedNames) → Type 0
 EndsSafely g number old new =
     (c : Collection) → collection_at old.1.collections number ≡ Some c → LeavesSafely g (ShortensStates g (without c.done old.1.managed) old new) old new

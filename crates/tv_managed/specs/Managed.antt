@@ -1,5 +1,5 @@
 -- What the calls of a managed directory do to what it reads.
-use Rattle.std.specs.Prelude.{◌≡◌, ◌≢◌, ◌⊎◌, ℕ, true, false, List, [], Option, Some, None, IsSome, if◌then◌else◌, string_bytes, Result, IfErr, OnOk, OnErr}
+use Rattle.std.specs.Prelude.{◌≡◌, ◌≢◌, ◌⊎◌, ℕ, Bool, true, false, List, [], Option, Some, None, IsSome, if◌then◌else◌, string_bytes, Result, IfErr, OnOk, OnErr}
 use Rattle.std.specs.BTreeSet.{insert_key}
 use Rattle.tv_model.specs.Names.{byte_cmp, has, is_undotted, list_name}
 use Rattle.tv_model.specs.Collections.{held}
@@ -23,7 +23,7 @@ use Rattle.tv_managed.specs.declared.writer.ManagedWriter.{ManagedWriter}
 abbrev pub registered : List (List ℕ) → List ℕ → List (List ℕ)
 registered names name = if is_undotted name then insert_key byte_cmp names name else names
 
--- the same of all that is kept in memory
+-- what is kept in memory after a name was registered; a dotted one isn't managed
 abbrev pub registering : ManagedNames → List ℕ → ManagedNames
 registering names name = record names { managed = registered names.managed name }
 
@@ -45,7 +45,7 @@ pub record MakesFile (old new : Reads) (name : List ℕ) : Type 0 where
 abbrev pub ListsNew : Reads → Reads → Type 0
 ListsNew old new = (n : List ℕ) → is_undotted n ≡ true → IsSome (new n) → old n ≡ None → IsOnList (new list_name) n
 
--- each of them is one of these names
+-- each undotted name that reads now and didn't before is one of these names
 abbrev pub ManagesNew : Reads → Reads → List (List ℕ) → Type 0
 ManagesNew old new names = (n : List ℕ) → is_undotted n ≡ true → IsSome (new n) → old n ≡ None → has names n ≡ true
 
@@ -79,8 +79,9 @@ pub record SavesList {A E D W C : Type 0} (g : Ghosts D W C) (old new : D × Man
 abbrev pub SavesNew : {D W C : Type 0} → Ghosts D W C → (old new : D × ManagedNames) → (name : List ℕ) → Type 0
 SavesNew g old new name = g.told.content → NeedsNoListing old.1 name → (g.view new.0).reads list_name ≡ (g.view old.0).reads list_name
 
--- The same of a step that lists a name: at Ok the name is managed, and, unless an unfinished collection has done it, on the list, if it has no dot in front; after an
--- error all names are as they were. Nothing but the list and these names was changed, and the list only for a name without a dot in front that wasn't managed.
+-- A step that lists a name: at Ok the name is managed, and, unless an unfinished collection has done it, on
+-- the list, if it has no dot in front; after an error all names are as they were. Nothing but the list and
+-- these names was changed.
 pub record HasListed {A E D W C : Type 0} (g : Ghosts D W C) (old new : D × ManagedNames) (name : List ℕ) (result : Result A E) : Type 0 where
   pub saves : SavesList g old new result
   pub on_list : g.told.content → Covers ((g.view old.0).reads list_name) old.1 → has (done_names old.1.collections) name ≡ false → is_undotted name ≡ true → OnOk result (IsOnList ((g.view new.0).reads list_name) name)
@@ -109,8 +110,14 @@ CreateCause name there held refused quiet (write.Leaving path) = (string_bytes p
 CreateCause name there held refused quiet (write.IoError fault path) = (string_bytes path ≡ name) × IsDevice fault × refused
 CreateCause name there held refused quiet write.Memory = quiet
 
--- It is refused where the file is there; where it isn't, and an unfinished collection has the name; where the device refused a call; or where memory was wanted. At Ok
--- no unfinished collection has the name.
+-- whether the error says that the name is taken: by a file, or by an unfinished collection
+abbrev pub is_taken : OpenWriteError → Bool
+is_taken (write.FileAlreadyExists path) = true
+is_taken (write.Leaving path) = true
+is_taken other = false
+
+-- A file isn't made where it is there; where it isn't, and an unfinished collection has the name; where the
+-- device refused a call; or where memory was wanted. At Ok no unfinished collection has the name.
 pub record CreateFaults {A D W C : Type 0} (g : Ghosts D W C) (old new : D × ManagedNames) (name : List ℕ) (result : Result A OpenWriteError) : Type 0 where
   pub quiet : OnOk result ((g.view new.0).faults ≡ (g.view old.0).faults)
   pub free : OnOk result (has (held old.1.collections) name ≡ false)

@@ -51,6 +51,7 @@ ReadsOther was why = ReadsSuch was (λ bytes. HasOtherFormat bytes why)
 abbrev pub SomeRefused : IoFault → Type 0
 SomeRefused fault = (bytes : List ℕ) × Refuses bytes fault
 
+-- some bytes end in a footer of another format, which this error tells
 abbrev pub SomeOther : Incompatibility → Type 0
 SomeOther why = (bytes : List ℕ) × HasOtherFormat bytes why
 
@@ -84,7 +85,9 @@ pub record FooterFaults {A D W C : Type 0} (g : Ghosts D W C) (old new : D) (nam
   pub err : g.told.content → IfErr result (OpenBodyCause ((g.view old).reads name ≡ None) (ReadsRefused ((g.view old).reads name)) (λ why. ⊥) (Unit {0}) (Unit {0}))
   pub outside : g.told.content → IfErr result (OpenBodyCause (Unit {0}) (λ fault. ReadsSuch ((g.view old).reads name) HasNoFooter) (λ why. ⊥) (Unit {0}) (Unit {0}))
 
--- The same of a call that reads a body: a footer of another format is refused.
+-- A call that reads a file's body fails where there is no such file, where it ends in no footer or in one of
+-- another format, where the device refused the call, or where memory was wanted; and the error names the
+-- file.
 pub record BodyFaults {A D W C : Type 0} (g : Ghosts D W C) (old new : D) (name : List ℕ) (result : Result A OpenReadError) : Type 0 where
   pub quiet : OnOk result ((g.view new).faults ≡ (g.view old).faults)
   pub path : IfErr result (NamesFile name)

@@ -39,7 +39,7 @@ pub record Wraps {D W C : Type 0} (g : Ghosts D W C) (directory : D) (managed : 
   pub quiet : (g.view managed.0).faults ≡ (g.view directory).faults
   pub frame : OnlyReads g.told (g.view directory) (g.view managed.0)
 
--- It was only read from, and comes back, since its list wasn't read.
+-- The directory was only read from, and comes back, since its list wasn't read.
 pub record NotWrapped {D W C : Type 0} (g : Ghosts D W C) (directory now : D) (error : TantivyError) : Type 0 where
   pub cause : ListRefusal g.told (g.view directory) (g.view now) error
   pub frame : OnlyReads g.told (g.view directory) (g.view now)

@@ -146,6 +146,7 @@ impl Collection {
         ensures deleted { IfOk result (λ r. names_of r.deleted_files.items ≡ self.now.done) }
         ensures failed { IfOk result (λ r.
             names_of r.failed_to_delete_files.items ≡ self.now.failed) }
+        ensures apart { (n : List ℕ) → has self.now.failed n ≡ true → has self.now.done n ≡ false }
     {
         outcomes_of(alloc, self.names.as_slice(), &self.outcomes[..self.tried])
     }
@@ -288,9 +289,11 @@ impl Collections {
         number: u64,
     ) -> Result<GarbageCollectionResult, Memory>
         requires { IsSome (collection_at self.now number) }
-        ensures { (c : CollectionState) → collection_at self.now number ≡ Some c
+        ensures told { (c : CollectionState) → collection_at self.now number ≡ Some c
             → IfOk result (λ r. (names_of r.deleted_files.items ≡ c.done)
             × (names_of r.failed_to_delete_files.items ≡ c.failed)) }
+        ensures apart { (c : CollectionState) → collection_at self.now number ≡ Some c
+            → (n : List ℕ) → has c.failed n ≡ true → has c.done n ≡ false }
     {
         self.unfinished[&number].result(alloc)
     }

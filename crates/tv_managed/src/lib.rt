@@ -3,6 +3,7 @@
 
 mod collecting;
 mod collection;
+pub mod laws;
 mod list;
 mod list_json;
 mod managed_directory;

@@ -1,10 +1,15 @@
-use Rattle.std.proofs.Common.{refl, ap, subst, inr}
+use Rattle.std.proofs.Common.{refl, ap, subst, inr, ◌∙◌}
 use Rattle.std.proofs.lemmas.Result.{IfOk-from_err, on_ok_weaker}
 use Rattle.tv_model.specs.Files.{KeepsOthers}
 use Rattle.tv_managed.proofs.Collections.{done_held}
 use Rattle.tv_managed.proofs.Making.{manages_by, manages_unlisted, others_written}
 use Rattle.tv_managed.proofs.Giving.{given_safely}
 use Rattle.tv_managed.proofs.Touching.{gained_more, others_given}
+use Rattle.tv_directory.specs.Calls.{IoFaults}
+use Rattle.tv_managed.specs.Frames.{KeptButNotes}
+use Rattle.tv_managed.specs.Managed.{GivesFile}
+use Rattle.tv_managed.proofs.Writing.{gives_listed, gives_written, io_then, notes_listed, notes_written}
+use Rattle.tv_managed.proofs.Results.{handed}
 use Rattle.tv_managed.proofs.managed_directory.ManagedDirectory.atomic_write.Goals as goal
 
 pub returns-clause-manages : goal.returns-clause-manages
@@ -34,3 +39,32 @@ returns-clause-safe g c = λ tells.
     let gives = c.atomic_write.ensures.images tells in
     given_safely D (c.in_ok-register_file_as_managed.ensures.images tells) c.self.view_is c.in_ok-register_file_as_managed.ensures.list.names c.requires.other
     (λ undotted. done_held c.args.self.now.1.collections.unfinished c.args.name.now (c.requires.free undotted)) gives.time gives.no_more (others_given c.atomic_write.result gives) (on_ok_weaker c.atomic_write.result (λ sets. sets.now) gives.ok)
+
+pub returns-in_err-register_file_as_managed-clause-gives : goal.returns-in_err-register_file_as_managed-clause-gives
+returns-in_err-register_file_as_managed-clause-gives g c =
+    let e = c.in_err-register_file_as_managed.ensures in
+    handed (GivesFile g.D.Directory c.args.self.now.0 c.register_file_as_managed.new.self.0 c.args.name.now c.args.bytes.now) c.from_residual.result _ c.from_residual.ensures.1
+    (gives_listed g.D.Directory {old = c.args.self.now} {new = c.register_file_as_managed.new.self} c.requires.other e.list e.faults)
+
+pub returns-in_err-register_file_as_managed-clause-faults : goal.returns-in_err-register_file_as_managed-clause-faults
+returns-in_err-register_file_as_managed-clause-faults g c =
+    let D = g.D.Directory in
+    handed (IoFaults (D.view c.args.self.now.0) (D.view c.register_file_as_managed.new.self.0)) c.from_residual.result _ c.from_residual.ensures.1 (record { quiet = tt; cause = c.in_err-register_file_as_managed.ensures.faults.cause })
+
+pub returns-in_err-register_file_as_managed-clause-frame : goal.returns-in_err-register_file_as_managed-clause-frame
+returns-in_err-register_file_as_managed-clause-frame g c =
+    let D = g.D.Directory in
+    let e = c.in_err-register_file_as_managed.ensures in
+    handed (KeptButNotes D.told (D.view c.args.self.now.0) (D.view c.register_file_as_managed.new.self.0) c.args.name.now) c.from_residual.result _ c.from_residual.ensures.1
+    (notes_listed D c.args.self.now c.register_file_as_managed.new.self e.list.frame e.faults)
+
+pub returns-clause-gives : goal.returns-clause-gives
+returns-clause-gives g c = gives_written g.D.Directory {old = c.args.self.now} c.atomic_write.result c.requires.other c.in_ok-register_file_as_managed.ensures.list c.self.view_is c.atomic_write.ensures.gives
+
+pub returns-clause-faults : goal.returns-clause-faults
+returns-clause-faults g c =
+    let D = g.D.Directory in
+    io_then c.atomic_write.result (ap (λ v. (D.view v.0).faults) c.self.view_is ∙ c.in_ok-register_file_as_managed.ensures.faults.quiet) c.atomic_write.ensures.faults
+
+pub returns-clause-frame : goal.returns-clause-frame
+returns-clause-frame g c = notes_written g.D.Directory c.args.self.now c.atomic_write.result c.in_ok-register_file_as_managed.ensures.list.frame c.self.view_is c.atomic_write.ensures.frame c.atomic_write.ensures.notes

@@ -1,12 +1,16 @@
-use Rattle.std.proofs.Common.{rules, ◌≡◌, Bool, List, ℕ, true, sym, ap, subst, ◌∙◌, map, string_bytes, Ok, Err}
-use Rattle.tv_model.specs.Names.{is_plain}
+use Rattle.std.proofs.Common.{rules, ◌≡◌, Bool, List, ℕ, true, sym, ap, subst, ◌∙◌, map, string_bytes, Ok, Err, refl}
+use Rattle.tv_model.specs.Names.{is_plain, list_name}
 use Rattle.tv_model.specs.Collections.{Collection, Collections, collection_at, having_tried, with_collection}
 use Rattle.tv_model.specs.declared.memory.Memory.{Memory}
 use Rattle.tv_base.specs.declared.error.TantivyError.{TantivyError}
-use Rattle.tv_managed.specs.Collecting.{TriesName, is_done}
+use Rattle.tv_managed.specs.Collecting.{TriesName, is_done, Steps}
 use Rattle.tv_managed.specs.Crashes.{LeavesSafely, TriesState, TriesStates}
 use Rattle.tv_managed.specs.Names.{ManagedNames}
 use Rattle.tv_managed.proofs.Stepping.{step_none, step_safely, tries_named}
+use Rattle.tv_directory.specs.View.{MayDelete}
+use Rattle.tv_directory.specs.ViewLaws.{kept_itself}
+use Rattle.tv_managed.proofs.Deleting.{changes_none, steps_wanted}
+use Rattle.tv_managed.proofs.Results.{handed}
 use Rattle.tv_managed.proofs.managed_directory.ManagedDirectory.collect_delete.Goals as goal
 
 -- so stand the names after a name of this collection was tried
@@ -57,3 +61,21 @@ returns-clause-safe g c = λ tells d name left at next.
     let tries = subst (λ n. TriesState {E = Memory} (D.disk c.args.self.now.0) (D.disk c.delete_managed.new.self.0) n (Ok gone)) same (c.in_ok-is_done.ensures.images tells) in
     subst (λ x. LeavesSafely D (TriesStates {E = TantivyError} (D.disk c.args.self.now.0) (D.disk x) name (Ok c.new.result)) c.args.self.now (x, With c.mark.new.self)) (sym (ap (λ v. v.0) c.self-2.view_is))
     (step_safely D c.args.id d name left gone c.new.result tries plain at (ap With marked ∙ ap (λ v. after v c.args.id d name left gone) names) c.new.ensures.done)
+
+pub returns-in_err-name-clause-steps : goal.returns-in_err-name-clause-steps
+returns-in_err-name-clause-steps g c =
+    handed (Steps g.D.Directory c.args.id c.args.self.now c.args.self.now) c.from_residual.result _ c.from_residual.ensures.1 (steps_wanted g.D.Directory c.args.id (changes_none g.D.Directory c.args.self.now))
+
+pub returns-in_err-is_done-clause-steps : goal.returns-in_err-is_done-clause-steps
+returns-in_err-is_done-clause-steps g c =
+    handed (Steps g.D.Directory c.args.id c.args.self.now c.delete_managed.new.self) c.from_residual-in_err-is_done.result _ c.from_residual-in_err-is_done.ensures.1 (steps_wanted g.D.Directory c.args.id c.in_err-is_done.ensures.err)
+
+pub returns-clause-only : goal.returns-clause-only
+returns-clause-only g c =
+    let D = g.D.Directory in
+    let only = c.delete_managed.ensures.only in
+    record {
+      list = λ tells. ap (λ v. (D.view v.0).reads list_name) c.self-2.view_is ∙ only.list tells;
+      faults = ap (λ v. (D.view v.0).faults) c.self-2.view_is ∙ only.faults;
+      frame = subst (λ v. MayDelete D.told (D.view c.args.self.now.0) (D.view v.0)) (sym c.self-2.view_is) only.frame;
+    }

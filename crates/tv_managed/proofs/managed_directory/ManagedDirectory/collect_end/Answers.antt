@@ -1,6 +1,6 @@
 use Rattle.std.proofs.Common.{rules, ◌≡◌, ℕ, Some, Ok, refl, ap, sym, subst, ◌∙◌, map, string_bytes}
 use Rattle.tv_managed.proofs.Results.{is_there}
-use Rattle.tv_model.specs.Names.{list_name}
+use Rattle.tv_model.specs.Names.{has, list_name}
 use Rattle.tv_model.specs.Collections.{Collection, Collections, collection_at, without, without_collection}
 use Rattle.tv_model.specs.Files.{Same}
 use Rattle.tv_model.specs.Listing.{Lists}
@@ -21,7 +21,7 @@ returns-in_err-take_out-clause-ends g c =
     let D = g.D.Directory in
     let some = is_there _ c.requires in
     let d = some.0 in
-    let found = c.in_ok-result.ensures d (ap (λ v. collection_at v.1.collections c.args.id) c.self.view_is ∙ some.1) in
+    let found = c.in_ok-result.ensures.told d (ap (λ v. collection_at v.1.collections c.args.id) c.self.view_is ∙ some.1) in
     let done : names_of c.as_slice.result.now ≡ d.done = ap names_of c.as_slice.ensures.value ∙ found.0 in
     let cut = subst (λ l. Shortens D (without l c.args.self.now.1.managed) c.args.self.now c.take_out.new.self c.take_out.result) done c.take_out.ensures.shortens in
     let covers : D.told.content → Covers ((D.view c.args.self.now.0).reads list_name) c.args.self.now.1 → Covers ((D.view c.take_out.new.self.0).reads list_name) c.take_out.new.self.1 = λ tells was.
@@ -43,7 +43,7 @@ returns-clause-ends g c =
     let some = is_there _ c.requires in
     let With : Collections → ManagedNames = λ cs. record { managed = map string_bytes c.self-2.inside.managed.keys; collections = cs } in
     let found : (d : Collection) → collection_at old.collections c.args.id ≡ Some d → (names_of c.in_ok-result.result.deleted_files.items ≡ d.done) × (names_of c.in_ok-result.result.failed_to_delete_files.items ≡ d.failed) =
-    λ d at. c.in_ok-result.ensures d (ap (λ v. collection_at v.1.collections c.args.id) c.self.view_is ∙ at) in
+    λ d at. c.in_ok-result.ensures.told d (ap (λ v. collection_at v.1.collections c.args.id) c.self.view_is ∙ at) in
     let cut : (d : Collection) → collection_at old.collections c.args.id ≡ Some d → Shortens D (without d.done old.managed) c.args.self.now c.take_out.new.self (Ok (tt {0})) =
     λ d at. subst (λ l. Shortens D (without l old.managed) c.args.self.now c.take_out.new.self (Ok (tt {0}))) (ap names_of c.as_slice.ensures.value ∙ (found d at).0) c.in_ok-take_out.ensures.shortens in
     let now : (d : Collection) → collection_at old.collections c.args.id ≡ Some d → With c.finish.new.self ≡ ending old c.args.id d =
@@ -54,7 +54,12 @@ returns-clause-ends g c =
     let list : D.told.content → Lists ((D.view c.args.self.now.0).reads list_name) old.managed → Lists reads (With c.finish.new.self).managed = λ tells was.
     subst (Lists reads) (sym (ap (λ v. v.managed) (now d some.1))) ((cut d some.1).lists tells was) in
     subst (λ x. EndsCollection {E = TantivyError} D c.args.id c.args.self.now (x, With c.finish.new.self) (Ok c.in_ok-result.result)) (sym (ap (λ v. v.0) c.self-2.view_is)) (record {
-      ok = λ d at. record { deleted = (found d at).0; failed = (found d at).1; names = now d at };
+      ok = λ d at. record {
+        deleted = (found d at).0;
+        failed = (found d at).1;
+        names = now d at;
+        apart = λ n h. ap (λ l. has l n) (found d at).0 ∙ c.in_ok-result.ensures.apart d (ap (λ v. collection_at v.1.collections c.args.id) c.self.view_is ∙ at) n (ap (λ l. has l n) (sym (found d at).1) ∙ h);
+      };
       err = tt;
       saves = record { list = list; covers = covers };
       saves_none = λ tells none. subst (λ v. Same (D.view c.args.self.now.0).reads (D.view v.0).reads) (sym (c.take_out.ensures.saves_none (c.as_slice.ensures.value ∙ none))) (λ n. refl);
@@ -64,7 +69,7 @@ returns-clause-ends g c =
 pub returns-in_err-take_out-clause-safe : goal.returns-in_err-take_out-clause-safe
 returns-in_err-take_out-clause-safe g c = λ tells d at.
     let D = g.D.Directory in
-    let found = c.in_ok-result.ensures d (ap (λ v. collection_at v.1.collections c.args.id) c.self.view_is ∙ at) in
+    let found = c.in_ok-result.ensures.told d (ap (λ v. collection_at v.1.collections c.args.id) c.self.view_is ∙ at) in
     let done : names_of c.as_slice.result.now ≡ d.done = ap names_of c.as_slice.ensures.value ∙ found.0 in
     (subst (λ l. CutsList D (without l c.args.self.now.1.managed) c.args.self.now c.take_out.new.self) done (c.take_out.ensures.safe tells)) (lacks_done c.args.self.now.1 c.args.id d at)
 
@@ -73,7 +78,7 @@ unfolding finished
 returns-clause-safe g c = λ tells d at.
     let D = g.D.Directory in
     let left = without d.done c.args.self.now.1.managed in
-    let found = c.in_ok-result.ensures d (ap (λ v. collection_at v.1.collections c.args.id) c.self.view_is ∙ at) in
+    let found = c.in_ok-result.ensures.told d (ap (λ v. collection_at v.1.collections c.args.id) c.self.view_is ∙ at) in
     let done : names_of c.as_slice.result.now ≡ d.done = ap names_of c.as_slice.ensures.value ∙ found.0 in
     let safe = (subst (λ l. CutsList D (without l c.args.self.now.1.managed) c.args.self.now c.take_out.new.self) done (c.take_out.ensures.safe tells)) (lacks_done c.args.self.now.1 c.args.id d at) in
     let ok = (subst (λ l. Shortens D (without l c.args.self.now.1.managed) c.args.self.now c.take_out.new.self (Ok (tt {0}))) done c.in_ok-take_out.ensures.shortens).ok in

@@ -1,13 +1,17 @@
-use Rattle.std.proofs.Common.{Err, ap, subst, ◌∙◌, inr}
+use Rattle.std.proofs.Common.{Err, ap, subst, ◌∙◌, inr, ◌≡◌, refl, sym}
 use Rattle.std.proofs.lemmas.Result.{IfOk-from_err}
 use Rattle.tv_model.specs.Files.{KeepsOthers}
-use Rattle.tv_managed.specs.Managed.{registering}
+use Rattle.tv_managed.specs.Managed.{registering, CreateFaults, Creates}
 use Rattle.tv_managed.proofs.Collections.{done_held}
 use Rattle.tv_managed.proofs.Making.{manages_by, manages_none, manages_unlisted, others_of_refused}
 use Rattle.tv_managed.proofs.Listing.{lists_asked}
 use Rattle.tv_managed.proofs.Giving.{given_safely}
 use Rattle.tv_managed.proofs.Tracking.{track_read}
 use Rattle.tv_managed.proofs.Touching.{gained_more, gained_none, others_opened}
+use Rattle.tv_directory.specs.ViewLaws.{kept_then}
+use Rattle.tv_directory.specs.View.{Kept}
+use Rattle.tv_managed.proofs.Creating.{IsFree, creates_asked, creates_listed, creates_made, creates_refused, faults_made, faults_opened, is_free}
+use Rattle.tv_managed.proofs.Results.{handed}
 use Rattle.tv_managed.proofs.managed_directory.ManagedDirectory.open_write.Goals as goal
 
 pub returns-in_err-refuse_taken-clause-manages : goal.returns-in_err-refuse_taken-clause-manages
@@ -75,3 +79,74 @@ returns-clause-safe g c = λ tells.
     let opens = c.in_ok-writer.ensures.images tells in
     given_safely D lists c.self.view_is (c.in_ok-list.ensures.list.names ∙ ap (λ v. registering v name) asks.frame.names) c.requires.other
     (λ _. done_held c.args.self.now.1.collections.unfinished name asks.faults.free) opens.time opens.no_more opens.ok.1.others opens.ok.1.now
+
+-- ---- what was made, and why none
+
+pub returns-in_err-refuse_taken-clause-creates : goal.returns-in_err-refuse_taken-clause-creates
+returns-in_err-refuse_taken-clause-creates g c =
+    let D = g.D.Directory in
+    let asks = c.in_err-refuse_taken.ensures.asks in
+    handed (Creates D c.args.self.now c.refuse_taken.new.self c.args.name.now) c.from_residual.result _ c.from_residual.ensures.1
+    (creates_asked D asks.frame (record { quiet = tt; free = tt; cause = asks.faults.cause }))
+
+pub returns-in_err-refuse_taken-clause-faults : goal.returns-in_err-refuse_taken-clause-faults
+returns-in_err-refuse_taken-clause-faults g c =
+    handed (CreateFaults g.D.Directory c.args.self.now c.refuse_taken.new.self c.args.name.now) c.from_residual.result _ c.from_residual.ensures.1
+    (record { quiet = tt; free = tt; cause = c.in_err-refuse_taken.ensures.asks.faults.cause })
+
+pub returns-in_err-refuse_taken-clause-frame : goal.returns-in_err-refuse_taken-clause-frame
+returns-in_err-refuse_taken-clause-frame g c = c.in_err-refuse_taken.ensures.asks.frame.below.kept
+
+pub returns-in_err-list-clause-creates : goal.returns-in_err-list-clause-creates
+returns-in_err-list-clause-creates g c =
+    let D = g.D.Directory in
+    let asks = c.in_ok-refuse_taken.ensures.asks in
+    handed (Creates D c.args.self.now c.list.new.self c.args.name.now) c.from_residual-in_err-list.result _ c.from_residual-in_err-list.ensures.1
+    (creates_listed D c.requires.other (is_free D c.in_ok-refuse_taken.ensures.absent asks c.in_err-list.ensures.list.others) (faults_made D c.refuse_taken.new.self asks.faults.quiet c.in_err-list.ensures.faults))
+
+pub returns-in_err-list-clause-faults : goal.returns-in_err-list-clause-faults
+returns-in_err-list-clause-faults g c =
+    let D = g.D.Directory in
+    handed (CreateFaults D c.args.self.now c.list.new.self c.args.name.now) c.from_residual-in_err-list.result _ c.from_residual-in_err-list.ensures.1
+    (faults_made D c.refuse_taken.new.self c.in_ok-refuse_taken.ensures.asks.faults.quiet c.in_err-list.ensures.faults)
+
+pub returns-in_err-list-clause-frame : goal.returns-in_err-list-clause-frame
+returns-in_err-list-clause-frame g c = kept_then c.in_ok-refuse_taken.ensures.asks.frame.below.kept c.in_err-list.ensures.list.frame
+
+pub returns-in_err-writer-clause-faults : goal.returns-in_err-writer-clause-faults
+returns-in_err-writer-clause-faults g c =
+    let D = g.D.Directory in
+    let asks = c.in_ok-refuse_taken.ensures.asks in
+    handed (CreateFaults D c.args.self.now (c.open_write.new.self, _) c.args.name.now) c.from_residual-in_err-writer.result _ c.from_residual-in_err-writer.ensures.1
+    (faults_opened D c.requires.other (is_free D c.in_ok-refuse_taken.ensures.absent asks c.in_ok-list.ensures.list.others) c.self.view_is (c.in_ok-list.ensures.faults.quiet ∙ asks.faults.quiet) c.in_err-writer.ensures.faults)
+
+pub returns-in_err-writer-clause-creates : goal.returns-in_err-writer-clause-creates
+returns-in_err-writer-clause-creates g c =
+    let D = g.D.Directory in
+    let asks = c.in_ok-refuse_taken.ensures.asks in
+    let free : IsFree D c.args.self.now c.list.new.self c.args.name.now = is_free D c.in_ok-refuse_taken.ensures.absent asks c.in_ok-list.ensures.list.others in
+    handed (Creates D c.args.self.now (c.open_write.new.self, _) c.args.name.now) c.from_residual-in_err-writer.result _ c.from_residual-in_err-writer.ensures.1
+    (creates_refused D c.requires.other free c.self.view_is c.in_err-writer.ensures.makes
+    (faults_opened D c.requires.other free c.self.view_is (c.in_ok-list.ensures.faults.quiet ∙ asks.faults.quiet) c.in_err-writer.ensures.faults))
+
+pub returns-in_err-writer-clause-frame : goal.returns-in_err-writer-clause-frame
+returns-in_err-writer-clause-frame g c =
+    let D = g.D.Directory in
+    kept_then (kept_then c.in_ok-refuse_taken.ensures.asks.frame.below.kept c.in_ok-list.ensures.list.frame) (subst (λ v. Kept D.told (D.view v.0) (D.view c.open_write.new.self)) c.self.view_is c.in_err-writer.ensures.frame)
+
+pub returns-clause-creates : goal.returns-clause-creates
+returns-clause-creates g c = creates_made g.D.Directory _ (is_free g.D.Directory c.in_ok-refuse_taken.ensures.absent c.in_ok-refuse_taken.ensures.asks c.in_ok-list.ensures.list.others) c.self.view_is c.in_ok-writer.ensures.makes
+
+pub returns-clause-faults : goal.returns-clause-faults
+returns-clause-faults g c =
+    let asks = c.in_ok-refuse_taken.ensures.asks in
+    record {
+      quiet = c.in_ok-writer.ensures.faults.quiet ∙ ap (λ v. (g.D.Directory.view v.0).faults) c.self.view_is ∙ c.in_ok-list.ensures.faults.quiet ∙ asks.faults.quiet;
+      free = asks.faults.free;
+      cause = tt;
+    }
+
+pub returns-clause-frame : goal.returns-clause-frame
+returns-clause-frame g c =
+    let D = g.D.Directory in
+    kept_then (kept_then c.in_ok-refuse_taken.ensures.asks.frame.below.kept c.in_ok-list.ensures.list.frame) (subst (λ v. Kept D.told (D.view v.0) (D.view c.open_write.new.self)) c.self.view_is c.in_ok-writer.ensures.frame)

@@ -12,6 +12,12 @@ use Rattle.tv_managed.specs.Names.{ManagedNames}
 use Rattle.tv_managed.proofs.Tracking.{track_from, track_read, track_same, track_then}
 use Rattle.tv_model.proofs.DiskLaws.{touches_more, touches_same, touches_then}
 use Rattle.tv_managed.proofs.Touching.{added_written, adds_run, gained_more, gained_none, gained_one, gained_same, gained_then, keeps_same, reads_then, reads_touch, time_written, touches_written, track_written}
+use Rattle.tv_directory.specs.Calls.{IoFaults}
+use Rattle.tv_directory.specs.View.{Kept}
+use Rattle.tv_directory.specs.ViewLaws.{kept_itself, kept_then}
+use Rattle.tv_managed.specs.Managed.{SealsBody}
+use Rattle.tv_managed.proofs.Writing.{io_none, io_on, io_then, names_kept, seals_none, seals_unwritten}
+use Rattle.tv_managed.proofs.Results.{handed}
 use Rattle.tv_managed.proofs.managed_directory.ManagedDirectory.terminate.Goals as goal
 
 pub returns-clause-seals : goal.returns-clause-seals
@@ -82,3 +88,38 @@ returns-clause-safe g c = λ tells other.
         gone = λ lives. reads_then keeps (seals.gone (c.in_ok-write.ensures.hands_back.lives content ∙ lives));
       });
     }
+
+-- ---- why it failed, and what it leaves alone
+
+pub returns-in_err-footer-clause-seals : goal.returns-in_err-footer-clause-seals
+returns-in_err-footer-clause-seals g c =
+    handed (SealsBody g.D.Directory c.args.self.now.0 c.args.self.now.0 c.args.writer) c.from_residual.result _ c.from_residual.ensures.1 (seals_none g.D.Directory c.args.self.now.0 c.args.writer _)
+
+pub returns-in_err-footer-clause-faults : goal.returns-in_err-footer-clause-faults
+returns-in_err-footer-clause-faults g c =
+    let view = g.D.Directory.view c.args.self.now.0 in
+    handed (IoFaults view view) c.from_residual.result _ c.from_residual.ensures.1 (io_none view)
+
+pub returns-in_err-footer-clause-frame : goal.returns-in_err-footer-clause-frame
+returns-in_err-footer-clause-frame g c = record { names = refl; below = kept_itself g.D.Directory.told (g.D.Directory.view c.args.self.now.0) }
+
+pub returns-in_err-write-clause-seals : goal.returns-in_err-write-clause-seals
+returns-in_err-write-clause-seals g c =
+    handed (SealsBody g.D.Directory c.args.self.now.0 c.write.new.self c.args.writer) c.from_residual-in_err-write.result _ c.from_residual-in_err-write.ensures.1
+    (seals_unwritten g.D.Directory _ c.self.view_is c.write.ensures.touches)
+
+pub returns-in_err-write-clause-faults : goal.returns-in_err-write-clause-faults
+returns-in_err-write-clause-faults g c =
+    let D = g.D.Directory in
+    handed (IoFaults (D.view c.args.self.now.0) (D.view c.write.new.self)) c.from_residual-in_err-write.result _ c.from_residual-in_err-write.ensures.1 (io_on D c.self.view_is c.in_err-write.ensures.faults)
+
+pub returns-in_err-write-clause-frame : goal.returns-in_err-write-clause-frame
+returns-in_err-write-clause-frame g c = names_kept g.D.Directory c.self.view_is c.write.ensures.frame
+
+pub returns-clause-faults : goal.returns-clause-faults
+returns-clause-faults g c =
+    let D = g.D.Directory in
+    io_then c.terminate.result (c.in_ok-write.ensures.faults.quiet ∙ ap (λ v. (D.view v.0).faults) c.self.view_is) c.terminate.ensures.faults
+
+pub returns-clause-frame : goal.returns-clause-frame
+returns-clause-frame g c = names_kept g.D.Directory c.self.view_is (kept_then c.write.ensures.frame c.terminate.ensures.frame)
