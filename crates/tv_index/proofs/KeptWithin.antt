@@ -4,7 +4,7 @@ use Rattle.std.specs.Prelude.{OnErr, OnOk, find}
 use Rattle.std.specs.List.{AllByRecursion}
 use Rattle.std.proofs.lemmas.List.Elements.{All-from_recursion, All-map, recursion_from_All}
 use Rattle.tv_base.specs.declared.inventory.Entry.{Entry}
-use Rattle.tv_base.specs.Entries.{is_at, is_last, one_fewer, one_more, released}
+use Rattle.tv_base.specs.Entries.{InventoryState, is_at, is_last, one_fewer, one_more, released}
 use Rattle.tv_base.specs.Places.{change_at, take_out}
 use Rattle.tv_index.specs.Tracked.{IsWithin, Kept}
 use Rattle.tv_index.specs.declared.segment_meta.InnerSegmentMeta.{InnerSegmentMeta}
@@ -47,6 +47,8 @@ within_shared number es h =
 pub within_all_shared : (es : Kept) → All IsWithin es → All IsWithin (map one_more es)
 within_all_shared es h = All-map IsWithin one_more es h
 
-pub within_shares : {U E : Type 0} (result : Result U E) (old new : Kept) → OnOk result (new ≡ map one_more old) → OnErr result (new ≡ old) → All IsWithin old → All IsWithin new
-within_shares (Ok u) old new ok err h = subst (λ (es : Kept). All IsWithin es) (sym ok) (within_all_shared old h)
-within_shares (Err e) old new ok err h = subst (λ (es : Kept). All IsWithin es) (sym err) h
+pub within_shares : {U E : Type 0} (result : Result U E) (old new : InventoryState InnerSegmentMeta) → OnOk result (new ≡ record old { entries = map one_more old.entries })
+    → OnErr result (new ≡ old) → All IsWithin old.entries → All IsWithin new.entries
+within_shares (Ok u) old new ok err h =
+    subst (λ (state : InventoryState InnerSegmentMeta). All IsWithin state.entries) (sym ok) (within_all_shared old.entries h)
+within_shares (Err e) old new ok err h = subst (λ (state : InventoryState InnerSegmentMeta). All IsWithin state.entries) (sym err) h

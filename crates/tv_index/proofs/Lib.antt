@@ -29,3 +29,5 @@ pub mod PlainFiles
 pub mod Named
 pub mod SavedSafely
 pub mod OpenedSafely
+pub mod Promised
+pub mod Openables

@@ -1,20 +1,17 @@
 -- What a crash may leave at each moment of an opening: a sync, a wrap, a read, and a save where an index is made.
-use Rattle.std.proofs.Common.{◌≡◌, ◌∙◌, ⊎_elim, inl, inr, ℕ, List, Result, Ok, Err, subst, sym}
+use Rattle.std.proofs.Common.{◌≡◌, ⊎_elim, inl, inr, ℕ, List, Result, Ok, Err, subst, sym}
 use Rattle.std.specs.Prelude.{IfErr, IfOk, IsErrAnd, MatchResult}
-use Rattle.tv_model.specs.Disk.{Disk, possible_now, Throughout, Within}
+use Rattle.tv_model.specs.Disk.{possible_now, Throughout}
 use Rattle.tv_model.specs.Listed.{ListsEachFile}
 use Rattle.tv_model.specs.Names.{list_name}
-use Rattle.tv_model.proofs.DiskLaws.{HoldsOfFewer, at_end, fewer_listed, fewer_within, goes_on_run, started, weaker, within_step}
-use Rattle.tv_directory.specs.Images.{KeepsDisk, SameStates, Settles}
+use Rattle.tv_model.proofs.DiskLaws.{fewer_listed, goes_on_run, started, weaker, within_step}
+use Rattle.tv_directory.specs.Images.{KeepsDisk, Settles}
 use Rattle.tv_directory.specs.declared.directory.Directory.{Ghosts}
 use Rattle.tv_managed.specs.Crashes.{LeavesSafely, WrapsDisk}
 use Rattle.tv_managed.specs.Names.{ManagedNames}
 use Rattle.tv_managed.proofs.Tracking.{track_read}
+use Rattle.tv_index.specs.CrashLaws.{fewer_made, looks_kept, looks_make, looks_settled, looks_then, made_behind}
 use Rattle.tv_index.specs.Crashes.{IsOldOrMade, MayMake, OnlyLooks, SavesStates, TracksFrom}
-
-fewer_made : (made : Type 0) (old : Disk) (text : List ℕ) → HoldsOfFewer (IsOldOrMade made old text)
-fewer_made made old text before after within was =
-    ⊎_elim (λ no_more. inl (fewer_within (possible_now old) before after within no_more)) (λ gains. inr (record { each = λ n s is. gains.each n s (within.each n s is) })) was
 
 -- an error that is handed on
 pub failed_match : {A E : Type 0} (result : Result A E) (given : E) (P : A → Type 0) (Q : E → Type 0) → IsErrAnd result (λ e. e ≡ given) → Q given → MatchResult result P Q
@@ -23,26 +20,16 @@ failed_match (Err e) given P Q h q = subst Q (sym h) q
 
 -- ---- a sync, a wrap and reads
 
--- no state is possible besides, twice
-within_then : {old mid new : Disk} → Throughout (Within (possible_now old)) old mid → Throughout (Within (possible_now mid)) mid new → Throughout (Within (possible_now old)) old new
-within_then {old} {mid} first second = goes_on_run _ (fewer_within (possible_now old)) first (weaker second (λ p within. fewer_within (possible_now old) (possible_now mid) p within (at_end first)))
-
 module _ {D W C : Type 0} (g : Ghosts D W C) {before mid : D} where
-  pub looks_synced : {A E : Type 0} {result : Result A E} → Settles (g.disk before) (g.disk mid) result → OnlyLooks g before mid
-  looks_synced settles = record { moments = within_step settles.time settles.no_more; stands = settles.now }
-
   pub looks_further : {now : D} → OnlyLooks g before mid → KeepsDisk (g.disk mid) (g.disk now) → OnlyLooks g before now
-  looks_further looks keeps = record {
-    moments = within_then looks.moments (within_step keeps.time keeps.states.possible.no_more);
-    stands = λ n. keeps.states.now n ∙ looks.stands n;
-  }
+  looks_further looks keeps = looks_then g looks (looks_kept g keeps)
 
   -- a directory is wrapped behind a sync that succeeded, or comes back
   pub looks_wrapped : {A E F : Type 0} (back : F → D) (x : A) → Settles {E = E} (g.disk before) (g.disk mid) (Ok x) → (result : Result (D × ManagedNames) F) → IfOk result (WrapsDisk g mid) → IfErr result (λ f. KeepsDisk (g.disk mid) (g.disk (back f)))
       → MatchResult result (λ managed. OnlyLooks g before managed.0 × TracksFrom g before managed) (λ f. OnlyLooks g before (back f))
   looks_wrapped {E = E} back x settles (Ok managed) wraps refused =
-      (looks_further (looks_synced settles) wraps.keeps, λ lists. wraps.tracked (λ s is. settles.ok.each list_name s is) (fewer_listed _ _ settles.no_more lists))
-  looks_wrapped back x settles (Err f) wraps refused = looks_further (looks_synced settles) refused
+      (looks_further (looks_settled g settles) wraps.keeps, λ lists. wraps.tracked (λ s is. settles.ok.each list_name s is) (fewer_listed _ _ settles.no_more lists))
+  looks_wrapped back x settles (Err f) wraps refused = looks_further (looks_settled g settles) refused
 
 -- what the managed directory reads behind that
 pub looks_read : {D W C : Type 0} (g : Ghosts D W C) {before : D} {mid now : D × ManagedNames} → OnlyLooks g before mid.0 × TracksFrom g before mid → now.1 ≡ mid.1 → KeepsDisk (g.disk mid.0) (g.disk now.0) → OnlyLooks g before now.0 × TracksFrom g before now
@@ -73,35 +60,24 @@ module _ {D W C : Type 0} (g : Ghosts D W C) (text : List ℕ) where
         (λ gains. inr (record { each = λ n s is. ⊎_elim inl (λ given. inr (is_so, ⊎_elim inl (λ listed. inr listed.0.0) given)) (gains.each n s is) })) states);
   }
 
-  -- what is made behind calls that make nothing
-  made_behind : {old mid new : Disk} (made making : Type 0) → (made → making) → Throughout (Within (possible_now old)) old mid → SameStates old mid → Throughout (IsOldOrMade made mid text) mid new → Throughout (IsOldOrMade making old text) old new
-  made_behind {old} {mid} made making so first stands second =
-      goes_on_run _ (fewer_made making old text) (weaker first (λ p within. inl within))
-      (weaker second (λ p states. ⊎_elim
-      (λ within. inl (fewer_within (possible_now old) (possible_now mid) p within (at_end first)))
-      (λ gains. inr (record { each = λ n s is. ⊎_elim (λ standing. inl (standing ∙ stands n)) (λ given. inr (so given.0, given.1)) (gains.each n s is) })) states))
-
   -- and what is made behind a read of the managed directory
   pub makes_behind : {old mid new : D × ManagedNames} (made making : Type 0) → (made → making) → mid.1 ≡ old.1 → KeepsDisk (g.disk old.0) (g.disk mid.0) → LeavesSafely g (Throughout (IsOldOrMade made (g.disk mid.0) text) (g.disk mid.0) (g.disk new.0)) mid new
       → LeavesSafely g (Throughout (IsOldOrMade making (g.disk old.0) text) (g.disk old.0) (g.disk new.0)) old new
   makes_behind made making so names keeps safe = record {
     tracks = λ was. let first = track_read g names keeps was in let later = safe.tracks first.tracked in record { tracked = later.tracked; moments = goes_on_run ListsEachFile fewer_listed first.moments later.moments };
-    states = made_behind made making so (within_step keeps.time keeps.states.possible.no_more) keeps.states.now safe.states;
+    states = made_behind text made making so (within_step keeps.time keeps.states.possible.no_more) keeps.states.now safe.states;
   }
 
   -- the opening made nothing
   pub made_none : {before now : D} (made : Type 0) → OnlyLooks g before now → MayMake g made text before now
-  made_none {before} made looks = record {
-    moments = weaker looks.moments (λ p within. inl within);
-    listed = λ lists. weaker looks.moments (λ p within. fewer_listed (possible_now (g.disk before)) p within lists);
-  }
+  made_none made looks = looks_make g text made looks
 
   -- the directory was wrapped, and then an index may have been made
   pub made_opened : {before : D} {mid new : D × ManagedNames} (made making : Type 0) → (made → making) → OnlyLooks g before mid.0 → TracksFrom g before mid → LeavesSafely g (Throughout (IsOldOrMade made (g.disk mid.0) text) (g.disk mid.0) (g.disk new.0)) mid new
       → MayMake g making text before new.0 × TracksFrom g before new
   made_opened {before} made making so looks tracks safe = (
     record {
-      moments = made_behind made making so looks.moments looks.stands safe.states;
+      moments = made_behind text made making so looks.moments looks.stands safe.states;
       listed = λ lists. goes_on_run ListsEachFile fewer_listed (weaker looks.moments (λ p within. fewer_listed (possible_now (g.disk before)) p within lists)) (safe.tracks (tracks lists)).moments;
     },
     λ lists. (safe.tracks (tracks lists)).tracked,

@@ -124,7 +124,7 @@ pub loads_none : (schema : List ℕ) (read : Option (List ℕ)) (found : Option 
 loads_none schema None found is h = refl
 loads_none schema (Some bytes) found is h = absurd (subst (Loads schema (Some bytes)) is h)
 
-no_bytes : (error : IoError) → IsRefusedBytes (of_io error) → ⊥
+pub no_bytes : (error : IoError) → IsRefusedBytes (of_io error) → ⊥
 no_bytes (io.Fault fault) h = h
 no_bytes io.Memory h = h
 
@@ -193,19 +193,21 @@ module _ {D W C : Type 0} (g : Ghosts D W C) (before mid : D) (synced : OnlyRead
   not_wrapped_later now error h = record { cause = refusal_later now error h.cause; frame = reads_then synced h.frame }
 
 module _ {D W C : Type 0} (g : Ghosts D W C) (before : D) (form : IndexForm) where
+  -- why the list isn't read, as a cause of an opening
+  pub unlisted_cause : (now : D) (e : TantivyError) → ListRefusal g.told (g.view before) (g.view now) e
+      → OpenCause g.told.content form.schema (g.view before).reads (Rose (g.view before).faults (g.view now).faults) ((g.view now).faults ≡ (g.view before).faults) e
+  unlisted_cause now (errors.DataCorruption why) k = inl (k.1.1, k.0, k.1.0)
+  unlisted_cause now (errors.IoError fault) k = k
+  unlisted_cause now errors.Memory k = k
+  unlisted_cause now other k = absurd k
+
   not_wrapped : (now : D) (error : TantivyError) → NotWrapped g before now error → NotOpenedForm g before form now error
   not_wrapped now error h = record {
     left = λ t. same_unmade (g.view before).reads (g.view now).reads (new_text form) (h.frame.content t);
     unchanged = λ t bytes. h.frame.content t;
-    cause = cause error h.cause;
+    cause = unlisted_cause now error h.cause;
     frame = reads_unless h.frame;
-  } where
-    cause : (e : TantivyError) → ListRefusal g.told (g.view before) (g.view now) e
-        → OpenCause g.told.content form.schema (g.view before).reads (Rose (g.view before).faults (g.view now).faults) ((g.view now).faults ≡ (g.view before).faults) e
-    cause (errors.DataCorruption why) k = inl (k.1.1, k.0, k.1.0)
-    cause (errors.IoError fault) k = k
-    cause errors.Memory k = k
-    cause other k = absurd k
+  }
 
   pub wrap_fails : {A : Type 0} (result : Result A (Refused D)) (refused : Refused D) → IsErrAnd result (λ r. r ≡ refused) → NotWrapped g before refused.directory refused.error
       → IfErr result (λ r. NotOpenedForm g before form r.directory r.error)
@@ -215,7 +217,8 @@ module _ {D W C : Type 0} (g : Ghosts D W C) (before : D) (form : IndexForm) whe
     lists_some : g.told.content → ListsSome ((g.view before).reads list_name)
     lists_some t = (wrapped.1.managed, w.names t)
 
-    loaded_cause : (now : D) (error : TantivyError)
+    -- and why `meta.json` isn't
+    pub loaded_cause : (now : D) (error : TantivyError)
         → LoadCause g.told.content form.schema ((g.view wrapped.0).reads meta_name) (Rose (g.view wrapped.0).faults (g.view now).faults) ((g.view now).faults ≡ (g.view wrapped.0).faults) error
         → OpenCause g.told.content form.schema (g.view before).reads (Rose (g.view before).faults (g.view now).faults) ((g.view now).faults ≡ (g.view before).faults) error
     loaded_cause now (errors.DataCorruption why) k =

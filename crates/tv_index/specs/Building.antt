@@ -33,7 +33,7 @@ IsMissing (errors.IndexBuilderMissingArgument text) = string_bytes text ≡ code
 IsMissing errors.Memory = Unit {0}
 IsMissing other = ⊥
 
--- It isn't made, since no schema was passed, and the directory comes back as it was handed in.
+-- An index isn't made, since no schema was passed, and the directory comes back as it was handed in.
 pub record LacksSchema {D : Type 0} (before now : D) (error : TantivyError) : Type 0 where
   pub same : now ≡ before
   pub cause : IsUnpassed error

@@ -44,7 +44,7 @@ UnreadCause g old new names (errors.OpenReadError why) = UnreadFile g old new na
 UnreadCause g old new names errors.Memory = (g.view new).faults ≡ (g.view old).faults
 UnreadCause g old new names other = ⊥
 
--- it fails for one of these causes
+-- a reading of some files fails where not all of them are read, and at Ok the device refused no call
 pub record UnreadFaults {A D W C : Type 0} (g : Ghosts D W C) (old new : D) (names : List (List ℕ)) (result : Result A TantivyError) : Type 0 where
   pub quiet : OnOk result ((g.view new).faults ≡ (g.view old).faults)
   pub cause : IfErr result (UnreadCause g old new names)
@@ -62,7 +62,8 @@ ValidateCause g old new schema refused quiet (errors.OpenReadError why) =
     MetaCause g.told.content (Some schema) ((g.view old.0).reads meta_name) refused quiet (errors.OpenReadError why) ⊎ UnreadCommit g old new schema why
 ValidateCause g old new schema refused quiet other = MetaCause g.told.content (Some schema) ((g.view old.0).reads meta_name) refused quiet other
 
--- it fails for one of these causes
+-- a validation fails where `meta.json` isn't read, or a file of its commit, and at Ok the device refused no
+-- call
 pub record ValidateFaults {A D W C : Type 0} (g : Ghosts D W C) (old : D × ManagedNames) (new : D) (schema : List ℕ) (result : Result A TantivyError) : Type 0 where
   pub quiet : OnOk result ((g.view new).faults ≡ (g.view old.0).faults)
   pub cause : IfErr result (ValidateCause g old new schema (Rose (g.view old.0).faults (g.view new).faults) ((g.view new).faults ≡ (g.view old.0).faults))

@@ -37,7 +37,7 @@ RefusedIn g path why error = IsNoFolder path error ⊎ IsRefused g why error
 abbrev pub IsOpenIn : {D W C : Type 0} → Ghosts D W C → IndexState D → Type 0
 IsOpenIn {D} g index = (before : D) × IsJustOpened g before × OpensStanding g before index
 
--- it isn't open, for the folder's cause or that of the directory
+-- the index in a folder isn't open, for the folder's cause or that of the directory
 abbrev pub NotOpenIn : {D W C : Type 0} → Ghosts D W C → (path : List ℕ) → TantivyError → Type 0
 NotOpenIn g path error = RefusedIn g path (NotStanding g) error
 
@@ -65,7 +65,7 @@ pub record IsUnsaid {D W C : Type 0} (g : Ghosts D W C) (before now : D) (error 
   pub quiet : (g.view now).faults ≡ (g.view before).faults
   pub frame : OnlyReads g.told (g.view before) (g.view now)
 
--- it isn't made of what a builder has: no schema was passed, or the directory refused it
+-- an index isn't made of what a builder has: no schema was passed, or the directory refused it
 abbrev pub UnmadeCause : {D W C : Type 0} → Ghosts D W C → Builder → (schema : Option (List ℕ)) → (before now : D) → TantivyError → Type 0
 UnmadeCause g builder None before now error = IsUnsaid g before now error
 UnmadeCause g builder (Some schema) before now error = NotCreated g before (form_with builder.settings schema) now error
@@ -79,7 +79,8 @@ pub record IsUnmade {D W C : Type 0} (g : Ghosts D W C) (builder : Builder) (bef
 abbrev pub NotMade : {D W C : Type 0} → Ghosts D W C → Builder → (before now : D) → TantivyError → Type 0
 NotMade g builder before now error = HasIndex g before now error ⊎ IsUnmade g builder before now error
 
--- the same of a directory that was just opened
+-- why no index is made in a folder: it wasn't opened; one stands there, or that isn't known; or none does,
+-- and none is made
 abbrev pub NotMadeIn : {D W C : Type 0} → Ghosts D W C → (path : List ℕ) → Builder → TantivyError → Type 0
 NotMadeIn g path builder error = RefusedIn g path (NotMade g builder) error
 
@@ -88,6 +89,6 @@ pub record Makes {D W C : Type 0} (g : Ghosts D W C) (builder : Builder) (before
   pub absent : g.told.content → (g.view before).reads meta_name ≡ None
   pub creates : IsSomeAnd builder.schema (λ schema. CreatesIndex g before builder.settings schema index)
 
--- the same in a directory that was just opened
+-- a new index of what a builder has stands in a folder that was just opened, in which none stood
 abbrev pub IsMadeOf : {D W C : Type 0} → Ghosts D W C → Builder → IndexState D → Type 0
 IsMadeOf {D} g builder index = (before : D) × IsJustOpened g before × Makes g builder before index

@@ -39,7 +39,7 @@ pub record IndexState (D : Type 0) : Type 0 where
   pub schema : List ℕ
   pub kept : Kept
 
--- it shows this commit's settings and schema, and keeps no segment so far
+-- an index shows this commit's settings and schema, and keeps no segment so far
 pub record Shows {D : Type 0} (meta : UntrackedIndexMeta) (index : IndexState D) : Type 0 where
   pub settings : index.settings ≡ meta.index_settings
   pub schema : index.schema ≡ meta.schema
@@ -67,7 +67,7 @@ StandingCause tells reads refused quiet (errors.IoError fault) = IsDevice fault 
 StandingCause tells reads refused quiet errors.Memory = quiet
 StandingCause tells reads refused quiet other = ⊥
 
--- It isn't open, and the directory comes back. Nothing was changed.
+-- The index isn't open, and the directory comes back. Nothing was changed.
 pub record NotStanding {D W C : Type 0} (g : Ghosts D W C) (before now : D) (error : TantivyError) : Type 0 where
   pub cause : StandingCause g.told.content (g.view before).reads (Rose (g.view before).faults (g.view now).faults) ((g.view now).faults ≡ (g.view before).faults) error
   pub frame : OnlyReads g.told (g.view before) (g.view now)
@@ -121,7 +121,8 @@ pub record KeepsForm {D W : Type 0} (keeps : View W → View W → Type 0) (view
   pub settings : new.settings ≡ old.settings
   pub schema : new.schema ≡ old.schema
 
--- and the segments that are kept
+-- The managed names, the unfinished collections, the settings, the schema and the segments that are kept
+-- stay, and of the directory below what such a call keeps.
 pub record KeepsIndex {D W : Type 0} (keeps : View W → View W → Type 0) (view : D → View W) (old new : IndexState D) : Type 0 where
   pub form : KeepsForm keeps view old new
   pub kept : new.kept ≡ old.kept

@@ -9,9 +9,11 @@ pub mod MetaReading
 pub mod Parsing
 pub mod Choosing
 pub mod Opening
+pub mod Openable
 pub mod Saving
 pub mod SavingLaws
 pub mod Crashes
+pub mod CrashLaws
 pub mod Tracked
 pub mod TrackedMetas
 pub mod NewForms
@@ -21,3 +23,4 @@ pub mod Building
 pub mod Checksums
 pub mod Lending
 pub mod Folders
+pub mod Laws

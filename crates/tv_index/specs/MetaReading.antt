@@ -18,9 +18,11 @@ use Rattle.tv_index.specs.Settings.{default_index_settings, settings_view}
 abbrev pub compressor_of : Data → Option Compressor
 compressor_of d = option_and_then (λ text. if bytes_eq text (codes "none") then Some compressors.None else None) (as_str d)
 
+-- the compressor that settings name, which may be left out
 abbrev pub compressor_or : Data → Option Compressor
 compressor_or d = or_default compressors.None compressor_of (get (codes "docstore_compression") d)
 
+-- the settings that an object spells
 abbrev pub index_settings_of : Data → Option IndexSettings
 index_settings_of d =
     option_and_then (λ _. option_and_then (λ compression. option_and_then (λ thread. option_map (λ blocksize. record {
@@ -29,9 +31,11 @@ index_settings_of d =
       docstore_blocksize = blocksize;
     }) (u64_or 16384 (codes "docstore_blocksize") d)) (bool_or true (codes "docstore_compress_dedicated_thread") d)) (compressor_or d)) (as_object d)
 
+-- the settings, which may be left out
 abbrev pub index_settings_or : Option Data → Option IndexSettings
 index_settings_or found = or_default default_index_settings index_settings_of found
 
+-- the segments of a commit, in the order of their ids
 abbrev pub segments_at : Data → Option (List (List ℕ × LiveSegment))
 segments_at d = option_and_then (gathered []) (field as_array (codes "segments") d)
 
@@ -45,6 +49,7 @@ pub record Held : Type 0 where
   pub commit : Commit
   pub schema : Data
 
+-- what an object of a commit holds, where it is one
 abbrev pub held_of : Data → Option Held
 held_of d =
     option_and_then (λ settings. option_and_then (λ segments. option_and_then (λ schema. option_and_then (λ opstamp. option_map (λ payload. record {
@@ -54,7 +59,7 @@ held_of d =
     }) (optional as_str (get (codes "payload") d))) (field u64_of (codes "opstamp") d)) (schema_at d)) (segments_at d))
     (index_settings_or (get (codes "index_settings") d))
 
--- the same of what was read, with a tree of the schema
+-- what was read of a commit, with a tree of the schema
 abbrev pub held_by : Body → Data → Held
 held_by body schema = record {
   settings = settings_view body.index_settings;

@@ -10,8 +10,10 @@ use Rattle.tv_index.specs.Segments.{entry_of}
 abbrev pub text_of : Option (String Global) → Option (List ℕ)
 text_of text = option_map string_bytes text
 
+-- the settings that were read, as definitions see them
 abbrev pub settings_of : UntrackedIndexMeta → Settings
 settings_of meta = settings_view meta.index_settings
 
+-- the commit that was read, as definitions see it
 abbrev pub commit_of : UntrackedIndexMeta → Commit
 commit_of meta = record { opstamp = meta.opstamp; payload = text_of meta.payload; segments = map entry_of meta.segments.items }

@@ -62,7 +62,7 @@ pub record OpensForm {D W C : Type 0} (g : Ghosts D W C) (before : D) (form : In
   pub notes : NotesMade g.told (g.view before) (g.view now.0)
   pub frame : FrameNotesFirst g.told (g.view before) (g.view now.0)
 
--- It isn't open, and the directory comes back. Where bytes were refused, nothing was changed.
+-- The index isn't open, and the directory comes back. Where bytes were refused, nothing was changed.
 pub record NotOpenedForm {D W C : Type 0} (g : Ghosts D W C) (before : D) (form : IndexForm) (now : D) (error : TantivyError) : Type 0 where
   pub left : g.told.content → LeavesUnmade (g.view before).reads (g.view now).reads (new_text form)
   pub unchanged : g.told.content → IsRefusedBytes error → Same (g.view before).reads (g.view now).reads
@@ -75,7 +75,8 @@ pub record IsFirst (form : IndexForm) (meta : UntrackedIndexMeta) : Type 0 where
   pub commit : commit_of meta ≡ first_commit
   pub has : HasCommit form.schema meta
 
--- The same behind the list of managed names, which was read: the index that stood there, or a new one, and its managed names.
+-- Behind the list of managed names, which was read: the index that stood there, or a new one, and its
+-- managed names.
 pub record LoadsOrCreates {D W C : Type 0} (g : Ghosts D W C) (old new : D × ManagedNames) (form : IndexForm) (meta : UntrackedIndexMeta) : Type 0 where
   pub has : HasCommit form.schema meta
   pub found : g.told.content → FindsOrMakes form ((g.view old.0).reads meta_name) (settings_of meta) (commit_of meta)
@@ -87,7 +88,8 @@ pub record LoadsOrCreates {D W C : Type 0} (g : Ghosts D W C) (old new : D × Ma
   pub notes : NotesMade g.told (g.view old.0) (g.view new.0)
   pub frame : FrameNotesFirst g.told (g.view old.0) (g.view new.0)
 
--- it wasn't opened
+-- Behind the list of managed names, which was read: no index was opened, for one of these causes, and none
+-- took a commit away.
 pub record NotLoaded {D W C : Type 0} (g : Ghosts D W C) (old : D × ManagedNames) (now : D) (form : IndexForm) (error : TantivyError) : Type 0 where
   pub left : g.told.content → LeavesUnmade (g.view old.0).reads (g.view now).reads (new_text form)
   pub unchanged : g.told.content → IsRefusedBytes error → Same (g.view old.0).reads (g.view now).reads

@@ -25,7 +25,7 @@ pub record FrameNotesUnless {W : Type 0} (told : Told) (none : Type 0) (old new 
   pub notes : FrameNotes told old new
   pub unless : none → new.watched ≡ old.watched
 
--- it is another error than IoError, which is what these calls answer where the device refused one
+-- an error other than `IoError`, which is what these calls answer where the device refused one
 abbrev pub IsUnrefused : TantivyError → Type 0
 IsUnrefused (errors.IoError fault) = ⊥
 IsUnrefused other = Unit {0}
@@ -52,7 +52,8 @@ SaveCause refused quiet (errors.IoError fault) = IsDevice fault × refused
 SaveCause refused quiet errors.Memory = quiet
 SaveCause refused quiet other = ⊥
 
--- it fails for one of these causes
+-- a save fails where the device refused a call, and the count rose, or where memory was wanted; at Ok the
+-- count stands still
 pub record SaveFaults {A W : Type 0} (old new : View W) (result : Result A TantivyError) : Type 0 where
   pub quiet : OnOk result (new.faults ≡ old.faults)
   pub cause : IfErr result (SaveCause (Rose old.faults new.faults) (new.faults ≡ old.faults))

@@ -18,6 +18,7 @@ names_in (item d ds) =
     option_and_then (λ name. option_and_then (λ _. option_map (λ names. name ∷ names) (names_in ds)) (field as_str (codes "type") d))
     (field as_str (codes "name") d)
 
+-- the names, where none of them stands twice
 abbrev pub if_distinct : List (List ℕ) → Option (List (List ℕ))
 if_distinct names = if are_distinct names then Some names else None
 

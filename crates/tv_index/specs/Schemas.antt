@@ -12,13 +12,13 @@ pub record HasSchemaTree (text : List ℕ) : Type 0 where
   pub tree : Data
   pub text_is : IsSchemaText text tree
 
--- the same, with fields of these names
+-- the text is a schema's, with fields of these names
 pub record HasNames (text : List ℕ) (names : List (List ℕ)) : Type 0 where
   pub tree : Data
   pub text_is : IsSchemaText text tree
   pub form : IsSchemaTree tree names
 
--- it is no schema's
+-- the text is no schema's
 abbrev pub IsNoSchemaText : List ℕ → Type 0
 IsNoSchemaText text = (tree : Data) → IsSchemaText text tree → ⊥
 

@@ -19,10 +19,12 @@ entry_of segment = (segment.segment_id, record { max_doc = segment.max_doc; dele
 abbrev pub unless_null : {A : Type 0} → (Data → Option A) → Data → Option (Option A)
 unless_null f d = if is_some (as_null d) then Some None else option_map Some (f d)
 
+-- a field that may be missing or null
 abbrev pub optional : {A : Type 0} → (Data → Option A) → Option Data → Option (Option A)
 optional f None = Some None
 optional f (Some d) = unless_null f d
 
+-- the deletes that an object spells
 abbrev pub delete_meta_of : Data → Option DeleteMeta
 delete_meta_of d =
     option_and_then (λ n. option_map (λ opstamp. record { num_deleted_docs = n; opstamp = opstamp }) (field u64_of (codes "opstamp") d))
@@ -32,6 +34,7 @@ delete_meta_of d =
 abbrev pub if_within : List ℕ → ℕ → Option DeleteMeta → Option (List ℕ × LiveSegment)
 if_within id max_doc deletes = if nat_le (num_deleted deletes) max_doc then Some (id, record { max_doc = max_doc; deletes = deletes }) else None
 
+-- the segment that an object spells, with its id
 abbrev pub segment_of : Data → Option (List ℕ × LiveSegment)
 segment_of d =
     option_and_then (λ id. option_and_then (λ max_doc. option_and_then (if_within id max_doc)

@@ -4,7 +4,7 @@ use Rattle.tv_model.specs.Commits.{Settings}
 use Rattle.tv_index.specs.declared.index_settings.Compressor.TheVariants as compressors
 use Rattle.tv_index.specs.declared.index_settings.IndexSettings.{IndexSettings}
 
--- there is one compressor only, so that it says nothing
+-- the settings as definitions see them: there is one compressor only, so that it says nothing
 abbrev pub settings_view : IndexSettings → Settings
 settings_view settings = record { dedicated_thread = settings.docstore_compress_dedicated_thread; blocksize = settings.docstore_blocksize }
 

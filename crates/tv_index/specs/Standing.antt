@@ -37,7 +37,7 @@ MetaCause tells expected read refused quiet (errors.IoError fault) = IsDevice fa
 MetaCause tells expected read refused quiet errors.Memory = quiet
 MetaCause tells expected read refused quiet other = ⊥
 
--- it fails for one of these causes
+-- a load of `meta.json` fails for one of the causes of `MetaCause`, and at Ok the device refused no call
 pub record MetaFaults {A D W C : Type 0} (g : Ghosts D W C) (old new : D) (expected : Option (List ℕ)) (result : Result A TantivyError) : Type 0 where
   pub quiet : OnOk result ((g.view new).faults ≡ (g.view old).faults)
   pub cause : IfErr result (MetaCause g.told.content expected ((g.view old).reads meta_name) (Rose (g.view old).faults (g.view new).faults) ((g.view new).faults ≡ (g.view old).faults))

@@ -21,6 +21,7 @@ Share = ℕ × (List ℕ × LiveSegment)
 abbrev pub Kept : Type 0
 Kept = List (Entry InnerSegmentMeta)
 
+-- a live segment with its id, as it is kept in an inventory
 abbrev pub inner_of : List ℕ × LiveSegment → InnerSegmentMeta
 inner_of e = record { segment_id = e.0; max_doc = e.1.max_doc; deletes = e.1.deletes }
 
@@ -52,7 +53,8 @@ pub record Tracks (segment : List ℕ × LiveSegment) (old new : Kept) (share : 
   pub entries : new ≡ tracked share.0 (inner_of segment) old
   pub same : share.1 ≡ segment
 
--- the same, and a share of the former segment was given back
+-- the segment was taken in, under a number that no entry had, and a share of the former segment was given
+-- back
 pub record Retracks (former : ℕ) (segment : List ℕ × LiveSegment) (old new : Kept) (share : Share) : Type 0 where
   pub fresh : find (is_at share.0) old ≡ None
   pub entries : new ≡ released former (tracked share.0 (inner_of segment) old)

@@ -9,14 +9,15 @@ use Rattle.tv_index.specs.declared.tracked_meta.IndexMeta.{IndexMeta}
 use Rattle.tv_index.specs.Metas.{text_of}
 use Rattle.tv_index.specs.Settings.{settings_view}
 
+-- the settings of a tracked commit, as definitions see them
 abbrev pub tracked_settings : IndexMeta → Settings
 tracked_settings meta = settings_view meta.index_settings
 
--- with the segments in the order in which they stand there
+-- a tracked commit as definitions see it, with the segments in the order in which they stand there
 abbrev pub tracked_commit : IndexMeta → Commit
 tracked_commit meta = record { opstamp = meta.opstamp; payload = text_of meta.payload; segments = map (λ s. s.1) meta.segments.items }
 
--- the same commit with its segments in the order of their ids, none of which stands twice
+-- a commit has the same segments as another one, in the order of their ids, none of which stands twice
 pub record IsInOrder (commit ordered : Commit) : Type 0 where
   pub opstamp : ordered.opstamp ≡ commit.opstamp
   pub payload : ordered.payload ≡ commit.payload

@@ -1,5 +1,5 @@
 //! How an index is opened, or made where there is none.
-ghost use Rattle.std.specs.Prelude.{◌≡◌, ◌<◌, ◌^◌, IfOk, IfErr, IfSome, IsErrAnd, OnOk, false, option_map};
+ghost use Rattle.std.specs.Prelude.{◌≡◌, ◌<◌, ◌^◌, IfOk, IfErr, IfSome, IsErrAnd, MatchResult, OnOk, false, option_map};
 ghost use Rattle.tv_model.specs.Collections.{held};
 ghost use Rattle.tv_model.specs.Commits.{first_commit};
 ghost use Rattle.tv_model.specs.Disk.{Throughout};
@@ -11,10 +11,11 @@ ghost use Rattle.tv_managed.specs.Crashes.{LeavesSafely};
 ghost use Rattle.tv_managed.specs.Frames.{KeepsNames};
 ghost use Rattle.tv_managed.specs.Managed.{KeepsOtherFiles};
 ghost use Rattle.tv_managed.specs.Wrapping.{NotWrapped, Wraps};
-ghost use Rattle.tv_index.specs.Crashes.{IsOldOrMade, LacksMeta, LooksSafely, MakesSafely, SavesStates};
+ghost use Rattle.tv_index.specs.Crashes.{IsOldOrMade, LacksMeta, LooksSafely, MakesSafely, OnlyLooks, SavesStates};
 ghost use Rattle.tv_index.specs.Metas.{commit_of};
 ghost use Rattle.tv_index.specs.NewForms.{IsFirst, LoadsOrCreates, NotLoaded, NotOpenedForm, OpensForm, form_with, new_text};
-ghost use Rattle.tv_index.specs.Opening.{HasCommit, LoadFaults, Loads, NoneIfAbsent, NotOpened, OpensIndex, first_text};
+ghost use Rattle.tv_index.specs.Opening.{HasCommit, IsRefusedBytes, LoadFaults, Loads, NoneIfAbsent, NotOpened, OpensIndex, first_text};
+ghost use Rattle.tv_index.specs.Openable.{FindsOpenable, NotOpenable};
 ghost use Rattle.tv_index.specs.Saving.{FrameNotesUnless, LeavesText, SavesMeta};
 ghost use Rattle.tv_index.specs.Standing.{LoadsMeta, MetaFaults, UnreadAs};
 
@@ -167,6 +168,8 @@ fn load_or_create<D: Directory>(
         (Throughout (IsOldOrMade (LacksMeta D.Directory directory.old.0) (D.disk directory.old.0)
         (new_text (form_with settings schema.now)))
         (D.disk directory.old.0) (D.disk directory.new.0)) directory.old directory.new }
+    ensures spares { D.tells_images → IfErr result (λ error. IsRefusedBytes error
+        → KeepsDisk (D.disk directory.old.0) (D.disk directory.new.0)) }
 {
     if let Some(meta) = load(alloc, directory, schema)? {
         return Ok(meta);
@@ -211,6 +214,8 @@ pub(crate) fn open_or_create_with<D: Directory>(
         refused.directory refused.error) }
     ensures safe { D.tells_images → MakesSafely D.Directory (LacksMeta D.Directory directory)
         (new_text (form_with settings schema.now)) directory (λ opened. opened.0) result }
+    ensures spares { D.tells_images → IfErr result (λ refused. IsRefusedBytes refused.error
+        → OnlyLooks D.Directory directory refused.directory) }
 {
     let mut directory = settled(alloc, directory)?;
     match load_or_create(alloc, &mut directory, schema, settings) {
@@ -242,6 +247,36 @@ pub fn open_or_create<D: Directory>(
         NotOpened D.Directory directory schema.now refused.directory refused.error) }
     ensures safe { D.tells_images → MakesSafely D.Directory (LacksMeta D.Directory directory)
         (first_text schema.now) directory (λ opened. opened.0) result }
+    // Where bytes are refused, nothing is written.
+    ensures spares { D.tells_images → IfErr result (λ refused. IsRefusedBytes refused.error
+        → OnlyLooks D.Directory directory refused.directory) }
 {
     open_or_create_with(alloc, directory, schema, IndexSettings::new())
+}
+
+/// Sees whether an index can be opened in a directory under this schema, or made, where
+/// `open_or_create` isn't to be called, since somebody else holds the writer lock. It does neither:
+/// nothing is written, and no commit is handed out. The directory comes back.
+///
+/// Where an index can't be opened, the error is the one of `open_or_create`: `DataCorruption` for the
+/// list of managed files and for `meta.json`, `SchemaError` where `meta.json` has another schema.
+pub fn check_openable<D: Directory>(
+    alloc: Global,
+    directory: D,
+    schema: &Schema,
+) -> Result<D, Refused<D>>
+    ensures openable { IfOk result (FindsOpenable D.Directory directory schema.now) }
+    ensures refused { IfErr result (λ refused. NotOpenable D.Directory directory schema.now
+        refused.directory refused.error) }
+    ensures safe { D.tells_images → MatchResult result (OnlyLooks D.Directory directory)
+        (λ refused. OnlyLooks D.Directory directory refused.directory) }
+{
+    let mut directory = ManagedDirectory::wrap(alloc, directory)?;
+    match load(alloc, &mut directory, schema) {
+        Ok(_) => Ok(directory.into_directory()),
+        Err(error) => Err(Refused {
+            error,
+            directory: directory.into_directory(),
+        }),
+    }
 }

@@ -215,9 +215,9 @@ impl Model for SegmentMetaInventory {
 
     ghost Value = { Kept };
 
-    ghost view = { λ a. a.segments };
+    ghost view = { λ a. a.segments.entries };
 
-    ghost invariant = { λ a. All IsWithin a.segments };
+    ghost invariant = { λ a. All IsWithin a.segments.entries };
 }
 
 impl SegmentMetaInventory {

@@ -17,5 +17,6 @@ returns g c =
       safe = subst (λ (form : IndexForm). g.D.Directory.tells_images → MatchResult c.open_or_create_with.result
           (λ opened. MayMake g.D.Directory (LacksMeta g.D.Directory c.args.directory) (new_text form) c.args.directory opened.0.0 × TracksFrom g.D.Directory c.args.directory opened.0)
           (λ refused. MayMake g.D.Directory (LacksMeta g.D.Directory c.args.directory) (new_text form) c.args.directory refused.directory)) is c.open_or_create_with.ensures.safe;
+      spares = c.open_or_create_with.ensures.spares;
       refused = IfErr-weaker c.open_or_create_with.result _ _ (λ refused h. not_opened_default g.D.Directory c.args.directory schema form is refused.directory refused.error h) c.open_or_create_with.ensures.refused;
     }

@@ -1,9 +1,9 @@
 use Rattle.std.proofs.Common.{◌∙◌, subst, sym}
 use Rattle.tv_model.specs.Names.{meta_name}
-use Rattle.tv_index.specs.Crashes.{LacksMeta, MayMake}
+use Rattle.tv_index.specs.Crashes.{LacksMeta, MayMake, OnlyLooks}
 use Rattle.tv_index.specs.NewForms.{form_with, new_text}
-use Rattle.tv_index.proofs.OpenedSafely.{failed_match, made_none, made_opened}
-use Rattle.tv_index.proofs.Openings.{not_loaded, wrap_fails}
+use Rattle.tv_index.proofs.OpenedSafely.{failed_match, looks_further, made_none, made_opened}
+use Rattle.tv_index.proofs.Openings.{failed_as, not_loaded, wrap_fails}
 use Rattle.tv_index.proofs.opening.open_or_create_with.Goals as goal
 
 pub returns-in_err-directory-clause-refused : goal.returns-in_err-directory-clause-refused
@@ -30,3 +30,12 @@ returns-in-Err-clause-safe g c t =
     let settled = c.in_ok-directory.ensures in
     subst (λ directory. MayMake g.D.Directory (LacksMeta g.D.Directory c.args.directory) (new_text (form_with c.args.settings c.args.schema.now)) c.args.directory directory) (sym c.into_directory.ensures)
     (made_opened g.D.Directory _ (LacksMeta g.D.Directory c.in_ok-directory.directory.0) _ (λ absent told. sym (settled.wraps.frame.content told meta_name) ∙ absent told) (settled.safe t).0 (settled.safe t).1 (c.in-Err.ensures.safe t)).0
+
+pub returns-in_err-directory-clause-spares : goal.returns-in_err-directory-clause-spares
+returns-in_err-directory-clause-spares g c t =
+    failed_as c.from_residual.result c.in_err-directory.field-0.0 _ c.from_residual.ensures.1 (λ bytes. c.in_err-directory.ensures.safe t)
+
+pub returns-in-Err-clause-spares : goal.returns-in-Err-clause-spares
+returns-in-Err-clause-spares g c t bytes =
+    subst (λ directory. OnlyLooks g.D.Directory c.args.directory directory) (sym c.into_directory.ensures)
+    (looks_further g.D.Directory (c.in_ok-directory.ensures.safe t).0 (c.in-Err.ensures.spares t bytes))

@@ -1,5 +1,6 @@
 use Rattle.std.proofs.lemmas.Result.{IfOk-weaker, IfErr-weaker}
-use Rattle.tv_index.proofs.OpenedSafely.{looks_synced, looks_wrapped}
+use Rattle.tv_index.specs.CrashLaws.{looks_settled}
+use Rattle.tv_index.proofs.OpenedSafely.{looks_wrapped}
 use Rattle.tv_index.proofs.Openings.{not_wrapped_later, wraps_later}
 use Rattle.tv_index.proofs.opening.settled.Goals as goal
 
@@ -13,4 +14,4 @@ returns-in-Ok g c =
     }
 
 pub returns-in-Err-clause-safe : goal.returns-in-Err-clause-safe
-returns-in-Err-clause-safe g c t = looks_synced g.D.Directory (c.in-Err.ensures.images t)
+returns-in-Err-clause-safe g c t = looks_settled g.D.Directory (c.in-Err.ensures.images t)

@@ -1,0 +1,191 @@
+-- What the laws follow from.
+use Rattle.std.proofs.Common.{◌≡◌, inl, inr, ℕ, zero, suc, ◌<◌, ◌^◌, Bool, true, false, List, [], ◌∷◌, ◌++◌, codes, length, map, Option, Some, None, Result, Ok, Err, refl, sym, ap, ◌∙◌, subst, arith, append_assoc, append-nil}
+use Rattle.std.specs.Prelude.{Contains, IfErr, IfOk, IsErrAnd, IsSome, MatchResult, OnOk}
+use Rattle.std.specs.Fmt.{decimal}
+use Rattle.std.specs.List.{join_with_byte, slice_index_or}
+use Rattle.std.specs.Str.Iter.{HasSubslice}
+use Rattle.std.proofs.lemmas.Bool.{or_parts, true≢false}
+use Rattle.std.proofs.lemmas.Option.{same_Some}
+use Rattle.hex.specs.Hex.{encode_lower}
+use Rattle.serde_json.specs.Data.{Data, null, array, Items, no_items, item}
+use Rattle.serde_json.specs.Find.{at, get, get_item}
+use Rattle.tv_base.specs.declared.error.TantivyError.{TantivyError}
+use Rattle.tv_base.specs.declared.error.TantivyError.TheVariants as errors
+use Rattle.tv_directory.specs.declared.directory.Directory.{Ghosts}
+use Rattle.tv_managed.specs.declared.managed_directory.Refused.{Refused}
+use Rattle.tv_model.specs.declared.segment.DeleteMeta.{DeleteMeta}
+use Rattle.tv_model.specs.declared.segment.LiveSegment.{LiveSegment}
+use Rattle.tv_model.specs.Commits.{Commit, IndexForm, IsCommit, Settings, deletes_text, payload_text, printed, segment_text, settings_text}
+use Rattle.tv_model.specs.Files.{Same}
+use Rattle.tv_model.specs.JsonFields.{IsOptional, field, u32_of}
+use Rattle.tv_model.specs.Meaning.{Means, MeansNothing}
+use Rattle.tv_model.specs.MetaJson.{IsDeleteMeta, SpellEach, SpellsMeta, SpellsSegment}
+use Rattle.tv_model.specs.Names.{has, meta_name}
+use Rattle.tv_model.specs.SegmentEvents.{is_named}
+use Rattle.tv_model.specs.Segments.{num_deleted}
+use Rattle.tv_model.proofs.OneMeaning.{means_one, one_meaning}
+use Rattle.tv_model.proofs.ReadPrinted.{printed_means}
+use Rattle.tv_model.proofs.Required.{begins_named}
+use Rattle.tv_index.specs.Laws.{DeletesTooMany, ReadsBack, SaysCorrupt}
+use Rattle.tv_index.specs.Indexes.{IndexState, NewSegmentCause, OpensIndexOf, OpensStanding, is_id_used}
+use Rattle.tv_index.specs.Metas.{commit_of, settings_of}
+use Rattle.tv_index.specs.NewForms.{NotOpenedForm}
+use Rattle.tv_index.specs.Parsing.{ParseCause}
+use Rattle.tv_index.specs.Schemas.{HasSchemaTree}
+use Rattle.tv_index.specs.Settings.{settings_view}
+use Rattle.tv_index.specs.Tracked.{has_id}
+use Rattle.tv_index.specs.declared.index_meta.UntrackedIndexMeta.{UntrackedIndexMeta}
+
+-- ---- bytes that mean no commit
+
+-- the segment that an item spells
+item_spells : (items : Items) (found : List (List ℕ × LiveSegment)) (place : ℕ) (d : Data) → SpellEach items found → get_item place items ≡ Some d → (e : List ℕ × LiveSegment) × SpellsSegment d e
+item_spells no_items found place d each is = absurd cc
+item_spells (item first items) [] place d each is = absurd each
+item_spells (item first items) (e ∷ found) zero d each is = (e, subst (λ (x : Data). SpellsSegment x e) (same_Some first d is) each.0)
+item_spells (item first items) (e ∷ found) (suc place) d each is = item_spells items found place d each.1 is
+
+-- how many documents are deleted
+deleted_is : (o : Option Data) (deletes : Option DeleteMeta) (d : Data) (n : ℕ) → IsOptional IsDeleteMeta o deletes → o ≡ Some d → field u32_of (codes "num_deleted_docs") d ≡ Some n
+    → num_deleted deletes ≡ n
+deleted_is o None d n (inl none) is at = absurd cc
+deleted_is o None d n (inr is_null) is at =
+    let same : d ≡ null = same_Some d null (sym is ∙ is_null) in
+    let two : None ≡ Some n = ap (field u32_of (codes "num_deleted_docs")) (sym same) ∙ at in absurd cc
+deleted_is o (Some meta) d n (e, found, spelled) is at =
+    let same : e ≡ d = same_Some e d (sym found ∙ is) in
+    same_Some meta.num_deleted_docs n (sym spelled.num_deleted_docs ∙ ap (field u32_of (codes "num_deleted_docs")) same ∙ at)
+
+pub deletes_mean_nothing : (bytes : List ℕ) → DeletesTooMany bytes → MeansNothing bytes
+deletes_mean_nothing bytes h settings commit schema s =
+    let same : s.tree ≡ h.tree = same_Some s.tree h.tree (sym s.parsed ∙ h.parsed) in
+    let list : array s.form.items ≡ h.segments = same_Some (array s.form.items) h.segments (sym s.form.list ∙ ap (get (codes "segments")) same ∙ h.segments_at) in
+    let there = item_spells s.form.items s.form.segments.found h.place h.segment s.form.segments.each (ap (at h.place) list ∙ h.segment_at) in
+    let documents : there.0.1.max_doc ≡ h.max_doc = same_Some there.0.1.max_doc h.max_doc (sym there.1.max_doc ∙ h.max_doc_at) in
+    let deleted : num_deleted there.0.1.deletes ≡ h.num_deleted = deleted_is (get (codes "deletes") h.segment) there.0.1.deletes h.deletes h.num_deleted there.1.deletes h.deletes_at h.num_deleted_at in
+    omega (arith, there.1.within, documents, deleted, h.more)
+
+says_corrupt : (expected : Option (List ℕ)) (bytes : List ℕ) (error : TantivyError) → MeansNothing bytes → ParseCause expected bytes error → SaysCorrupt error
+says_corrupt expected bytes (errors.DataCorruption why) nothing cause = cause.0
+says_corrupt None bytes (errors.SchemaError text) nothing cause = cause.1
+says_corrupt (Some schema) bytes (errors.SchemaError text) nothing cause = nothing cause.1.settings cause.1.commit cause.1.tree cause.1.spelled
+says_corrupt expected bytes errors.Memory nothing cause = tt
+says_corrupt expected bytes _ nothing cause = absurd cause
+
+-- such bytes are refused
+pub refused_as_corrupt : (expected : Option (List ℕ)) (bytes : List ℕ) (result : Result UntrackedIndexMeta TantivyError) → MeansNothing bytes
+    → IfOk result (λ meta. Means (settings_of meta) meta.schema bytes (commit_of meta)) → IfErr result (ParseCause expected bytes) → IsErrAnd result SaysCorrupt
+refused_as_corrupt expected bytes (Ok meta) nothing means cause = absurd (nothing (settings_of meta) (commit_of meta) means.tree means.spelled)
+refused_as_corrupt expected bytes (Err error) nothing means cause = says_corrupt expected bytes error nothing cause
+
+-- ---- names
+
+not_true : (b : Bool) → (b ≡ true → ⊥) → b ≡ false
+not_true true h = absurd (h refl)
+not_true false h = refl
+
+-- no managed name begins with the id of a new segment
+pub begins_no_name : {D A : Type 0} (index : IndexState D) (id : List ℕ) (result : Result A TantivyError) → MatchResult result (λ _. is_id_used index id ≡ false) (NewSegmentCause index id)
+    → OnOk result ((rest : List ℕ) → has index.directory.1.managed (encode_lower id ++ rest) ≡ false)
+begins_no_name index id (Ok a) unused = λ rest.
+    let none = (or_parts (has_id index.kept id) (is_named index.directory.1.managed id) unused).1 in
+    not_true _ (λ there. true≢false (sym (begins_named index.directory.1.managed id (encode_lower id ++ rest) (rest, refl) there) ∙ none))
+begins_no_name index id (Err error) cause = tt
+
+-- ---- what is printed
+
+-- a text that occurs in a part occurs in the whole
+in_back : (text front back : List ℕ) → HasSubslice back text → HasSubslice (front ++ back) text
+in_back text front back (a, b, is) = (front ++ a, b, ap (λ (l : List ℕ). front ++ l) is ∙ sym (append_assoc front a (text ++ b)))
+
+in_part : (text part whole : List ℕ) → HasSubslice part text → HasSubslice whole part → HasSubslice whole text
+in_part text part whole (a, b, is) (front, back, within) = (front ++ a, b ++ back, within ∙ ap (λ (l : List ℕ). front ++ (l ++ back)) is ∙ simp append_assoc)
+
+in_commit : (text front segments b schema c opstamp payload end : List ℕ) → HasSubslice segments text → HasSubslice (front ++ segments ++ b ++ schema ++ c ++ opstamp ++ payload ++ end) text
+in_commit text front segments b schema c opstamp payload end (before, after, is) = (
+  front ++ before,
+  after ++ b ++ schema ++ c ++ opstamp ++ payload ++ end,
+  ap (λ (l : List ℕ). front ++ l ++ b ++ schema ++ c ++ opstamp ++ payload ++ end) is ∙ simp append_assoc,
+)
+
+abbrev Entry : Type 0
+Entry = List ℕ × LiveSegment
+
+-- the text of a segment among those of all
+joined_at : (es : List Entry) (e : Entry) (k : ℕ) → k < length es → slice_index_or es k e ≡ e → HasSubslice (join_with_byte 44 (map segment_text es)) (segment_text e)
+joined_at [] e k lt is = absurd (omega (arith, lt))
+joined_at (x ∷ []) e zero lt is = ([], [], ap segment_text is ∙ sym (append-nil (segment_text e)))
+joined_at (x ∷ []) e (suc k) lt is = absurd (omega (arith, lt))
+joined_at (x ∷ y ∷ es) e zero lt is =
+    let rest = join_with_byte 44 (map segment_text (y ∷ es)) in ([], 44 ∷ rest, ap (λ (z : Entry). segment_text z ++ (44 ∷ rest)) is)
+joined_at (x ∷ y ∷ es) e (suc k) lt is =
+    in_back (segment_text e) (segment_text x) (44 ∷ join_with_byte 44 (map segment_text (y ∷ es)))
+    (in_back (segment_text e) (44 ∷ []) (join_with_byte 44 (map segment_text (y ∷ es))) (joined_at (y ∷ es) e k (omega (arith, lt)) is))
+
+pieces : (front quote name number word value end : List ℕ)
+    → ((((front ++ (quote ++ name)) ++ number) ++ word) ++ value) ++ end ≡ (front ++ quote) ++ (((name ++ number) ++ (word ++ (value ++ end))) ++ [])
+pieces front quote name number word value end = simp (append_assoc, append-nil)
+
+null_among : (id number : List ℕ)
+    → HasSubslice (codes "{\"segment_id\":\"" ++ id ++ codes "\",\"max_doc\":" ++ number ++ codes ",\"deletes\":" ++ codes "null" ++ codes "}") (codes ",\"max_doc\":" ++ number ++ codes ",\"deletes\":null}")
+null_among id number = (
+  codes "{\"segment_id\":\"" ++ id ++ codes "\"",
+  [],
+  pieces (codes "{\"segment_id\":\"" ++ id) (codes "\"") (codes ",\"max_doc\":") number (codes ",\"deletes\":") (codes "null") (codes "}"),
+)
+
+-- without deletes it has `null`
+null_in : (e : Entry) → e.1.deletes ≡ None → HasSubslice (segment_text e) (codes ",\"max_doc\":" ++ decimal e.1.max_doc ++ codes ",\"deletes\":null}")
+null_in e none =
+    subst (λ (deletes : Option DeleteMeta). HasSubslice (segment_text (e.0, record e.1 { deletes = deletes })) (codes ",\"max_doc\":" ++ decimal e.1.max_doc ++ codes ",\"deletes\":null}")) (sym none) (null_among _ (decimal e.1.max_doc))
+
+-- so has what is printed of a commit with such a segment
+pub printed_null : (settings : Settings) (schema : List ℕ) (commit : Commit) (e : Entry) → Contains commit.segments e → e.1.deletes ≡ None
+    → HasSubslice (printed settings schema commit) (codes ",\"max_doc\":" ++ decimal e.1.max_doc ++ codes ",\"deletes\":null}")
+printed_null settings schema commit e (k, lt, is) none =
+    in_part (codes ",\"max_doc\":" ++ decimal e.1.max_doc ++ codes ",\"deletes\":null}") (segment_text e) (printed settings schema commit) (null_in e none)
+    (in_commit (segment_text e) (codes "{\"index_settings\":" ++ settings_text settings ++ codes ",\"segments\":[") (join_with_byte 44 (map segment_text commit.segments))
+    (codes "],\"schema\":") schema (codes ",\"opstamp\":") (decimal commit.opstamp) (payload_text commit.payload) (codes "}") (joined_at commit.segments e k lt is))
+
+-- why the text of a commit is refused: for want of memory alone
+only_memory : (settings : Settings) (schema bytes : List ℕ) (commit : Commit) (error : TantivyError) → Means settings schema bytes commit → ParseCause (Some schema) bytes error → error ≡ errors.Memory
+only_memory settings schema bytes commit (errors.DataCorruption why) means cause = absurd (cause.1 settings commit means.tree means.spelled)
+only_memory settings schema bytes commit (errors.SchemaError text) means cause =
+    let one = one_meaning bytes settings cause.1.settings commit cause.1.commit means.tree cause.1.tree means.spelled cause.1.spelled in
+    absurd (cause.1.other (means.schema_is.parsed ∙ ap Some one.2))
+only_memory settings schema bytes commit errors.Memory means cause = refl
+only_memory settings schema bytes commit _ means cause = absurd cause
+
+-- what was printed is read as the same commit
+pub reads_back : (meta : UntrackedIndexMeta) (bytes : List ℕ) (result : Result UntrackedIndexMeta TantivyError) → HasSchemaTree meta.schema → (settings_of meta).blocksize < 2 ^ 64
+    → bytes ≡ printed (settings_of meta) meta.schema (commit_of meta) ++ 10 ∷ []
+    → IfOk result (λ other. Means (settings_of other) other.schema bytes (commit_of other)) → IfOk result (λ other. other.schema ≡ meta.schema)
+    → IfErr result (ParseCause (Some meta.schema) bytes) → IsCommit (commit_of meta) → MatchResult result (ReadsBack meta) (λ error. error ≡ errors.Memory)
+reads_back meta bytes result has small is means schema cause commit =
+    let own : Means (settings_of meta) meta.schema bytes (commit_of meta) =
+    subst (λ (l : List ℕ). Means (settings_of meta) meta.schema l (commit_of meta)) (sym is) (printed_means (settings_of meta) meta.schema has.tree (commit_of meta) commit small has.text_is) in
+    elim result as (λ r. IfOk r (λ other. Means (settings_of other) other.schema bytes (commit_of other)) → IfOk r (λ other. other.schema ≡ meta.schema) → IfErr r (ParseCause (Some meta.schema) bytes) → MatchResult r (ReadsBack meta) (λ error. error ≡ errors.Memory)) [
+      | Ok other ↦ λ m s e.
+          let one = means_one (settings_of other) (settings_of meta) meta.schema bytes (commit_of other) (commit_of meta) (subst (λ (l : List ℕ). Means (settings_of other) l bytes (commit_of other)) s m) own in
+          record { settings = one.0; schema = s; commit = one.1 }
+      | Err error ↦ λ m s e. only_memory (settings_of meta) meta.schema bytes (commit_of meta) error own e
+    ] means schema cause
+
+-- ---- openings
+
+module _ {D W C : Type 0} (g : Ghosts D W C) (before : D) where
+  -- where an index stands, each name reads what it read
+  pub spares : (form : IndexForm) (result : Result (IndexState D) (Refused D)) → IfOk result (OpensIndexOf g before form)
+      → IfErr result (λ refused. NotOpenedForm g before form refused.directory refused.error) → g.told.content → IsSome ((g.view before).reads meta_name)
+      → MatchResult result (λ index. Same (g.view before).reads (g.view index.directory.0).reads) (λ refused. Same (g.view before).reads (g.view refused.directory).reads)
+  spares form (Ok index) opens fails tells there = (opens.opens.left tells).stood there
+  spares form (Err refused) opens fails tells there = (fails.left tells).stood there
+
+  -- its settings are those that are stored
+  pub stored_settings : (index : IndexState D) → OpensStanding g before index → g.told.content → (bytes : List ℕ) (settings : Settings) (commit : Commit) (schema : Data) → (g.view before).reads meta_name ≡ Some bytes
+      → SpellsMeta bytes settings commit schema → settings_view index.settings ≡ settings
+  stored_settings index opens tells bytes settings commit schema reads spells =
+      let means = opens.loads.means tells in
+      let same : means.0 ≡ bytes = same_Some means.0 bytes (sym means.1 ∙ reads) in
+      let own = subst (λ (l : List ℕ). SpellsMeta l (settings_of opens.meta) (commit_of opens.meta) means.2.tree) same means.2.spelled in
+      ap settings_view opens.shows.settings ∙ (one_meaning bytes (settings_of opens.meta) settings (commit_of opens.meta) commit means.2.tree schema own spells).0

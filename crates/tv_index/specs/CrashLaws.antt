@@ -1,0 +1,106 @@
+-- What calls leave to a crash, one after the other, where at most one of them makes an index.
+use Rattle.std.proofs.Common.{◌∙◌, ⊎_elim, inl, inr, ℕ, List, Result, refl}
+use Rattle.tv_model.specs.Disk.{Disk, possible_now, Throughout, Within}
+use Rattle.tv_model.specs.Listed.{ListsEachFile}
+use Rattle.tv_model.specs.Names.{list_name}
+use Rattle.tv_model.proofs.DiskLaws.{HoldsOfFewer, at_end, fewer_listed, fewer_within, goes_on_run, started, weaker, within_step}
+use Rattle.tv_directory.specs.Images.{KeepsDisk, SameStates, Settles}
+use Rattle.tv_directory.specs.declared.directory.Directory.{Ghosts}
+use Rattle.tv_managed.specs.Crashes.{IsTracked}
+use Rattle.tv_managed.specs.Names.{ManagedNames}
+use Rattle.tv_index.specs.Crashes.{IsOldOrMade, MayMake, OnlyLooks, TracksFrom}
+
+pub fewer_made : (made : Type 0) (old : Disk) (text : List ℕ) → HoldsOfFewer (IsOldOrMade made old text)
+fewer_made made old text before after within was =
+    ⊎_elim (λ no_more. inl (fewer_within (possible_now old) before after within no_more))
+    (λ gains. inr (record { each = λ n s is. gains.each n s (within.each n s is) })) was
+
+-- no state is possible besides, twice
+pub within_then : {old mid new : Disk} → Throughout (Within (possible_now old)) old mid
+    → Throughout (Within (possible_now mid)) mid new → Throughout (Within (possible_now old)) old new
+within_then {old} {mid} first second =
+    goes_on_run _ (fewer_within (possible_now old)) first
+    (weaker second (λ p within. fewer_within (possible_now old) (possible_now mid) p within (at_end first)))
+
+-- what is made behind calls that make nothing
+pub made_behind : {old mid new : Disk} (text : List ℕ) (made making : Type 0) → (made → making)
+    → Throughout (Within (possible_now old)) old mid → SameStates old mid
+    → Throughout (IsOldOrMade made mid text) mid new → Throughout (IsOldOrMade making old text) old new
+made_behind {old} {mid} text made making so first stands second =
+    goes_on_run _ (fewer_made making old text) (weaker first (λ p within. inl within))
+    (weaker second (λ p states. ⊎_elim
+    (λ within. inl (fewer_within (possible_now old) (possible_now mid) p within (at_end first)))
+    (λ gains. inr (record {
+      each = λ n s is. ⊎_elim (λ standing. inl (standing ∙ stands n)) (λ given. inr (so given.0, given.1)) (gains.each n s is);
+    })) states))
+
+module _ {D W C : Type 0} (g : Ghosts D W C) where
+  -- nothing was done
+  pub looks_none : (d : D) → OnlyLooks g d d
+  looks_none d = record {
+    moments = started _ (fewer_within (possible_now (g.disk d))) (g.disk d) (record { each = λ n s is. is });
+    stands = λ n. refl;
+  }
+
+  -- a call that only reads
+  pub looks_kept : {before now : D} → KeepsDisk (g.disk before) (g.disk now) → OnlyLooks g before now
+  looks_kept keeps = record {
+    moments = within_step keeps.time keeps.states.possible.no_more;
+    stands = keeps.states.now;
+  }
+
+  -- a sync
+  pub looks_settled : {A E : Type 0} {before now : D} {result : Result A E} → Settles (g.disk before) (g.disk now) result → OnlyLooks g before now
+  looks_settled settles = record { moments = within_step settles.time settles.no_more; stands = settles.now }
+
+  -- nothing was made, and then nothing was
+  pub looks_then : {before mid now : D} → OnlyLooks g before mid → OnlyLooks g mid now → OnlyLooks g before now
+  looks_then first second = record {
+    moments = within_then first.moments second.moments;
+    stands = λ n. second.stands n ∙ first.stands n;
+  }
+
+  module _ (text : List ℕ) (made : Type 0) where
+    -- nothing was made
+    pub looks_make : {before now : D} → OnlyLooks g before now → MayMake g made text before now
+    looks_make {before} looks = record {
+      moments = weaker looks.moments (λ p within. inl within);
+      listed = λ lists. weaker looks.moments (λ p within. fewer_listed (possible_now (g.disk before)) p within lists);
+    }
+
+    -- nothing was, and then an index may have been
+    pub makes_behind : {before mid now : D} (making : Type 0) → (made → making) → OnlyLooks g before mid
+        → MayMake g made text mid now → MayMake g making text before now
+    makes_behind {before} {mid} making so looks makes = record {
+      moments = made_behind text made making so looks.moments looks.stands makes.moments;
+      listed = λ lists.
+          let first = weaker looks.moments (λ p within. fewer_listed (possible_now (g.disk before)) p within lists) in
+          goes_on_run ListsEachFile fewer_listed first (makes.listed (at_end first));
+    }
+
+    -- an index may have been made, and then nothing was
+    pub makes_then : {before mid now : D} → MayMake g made text before mid → OnlyLooks g mid now → MayMake g made text before now
+    makes_then {before} {mid} makes looks = record {
+      moments = goes_on_run _ (fewer_made made (g.disk before) text) makes.moments
+          (weaker looks.moments (λ p within. fewer_made made (g.disk before) text (possible_now (g.disk mid)) p within (at_end makes.moments)));
+      listed = λ lists.
+          let first = makes.listed lists in
+          goes_on_run ListsEachFile fewer_listed first
+          (weaker looks.moments (λ p within. fewer_listed (possible_now (g.disk mid)) p within (at_end first)));
+    }
+
+  -- track is kept behind calls that make nothing
+  pub tracks_behind : {before mid : D} {now : D × ManagedNames} → OnlyLooks g before mid → TracksFrom g mid now → TracksFrom g before now
+  tracks_behind {before} looks tracks lists = tracks (fewer_listed (possible_now (g.disk before)) _ (at_end looks.moments) lists)
+
+  -- and it is kept on by such calls
+  pub tracks_then : {before mid now : D} (names : ManagedNames) → TracksFrom g before (mid, names) → OnlyLooks g mid now → TracksFrom g before (now, names)
+  tracks_then {mid = mid} {now = now} names tracks looks lists =
+      let was : IsTracked g (mid, names) = tracks lists in
+      let within : Within (possible_now (g.disk mid)) (possible_now (g.disk now)) = at_end looks.moments in
+      record {
+        forgets_none = fewer_listed (possible_now (g.disk mid)) (possible_now (g.disk now)) within was.forgets_none;
+        covers = λ n undotted s is there. was.covers n undotted s (within.each n s is) there;
+        listed = λ n has free l of_list. was.listed n has free l (within.each list_name l of_list);
+        gone = λ n undotted done. looks.stands n ∙ was.gone n undotted done;
+      }
