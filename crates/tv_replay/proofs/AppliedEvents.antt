@@ -28,7 +28,7 @@ use Rattle.tv_model.specs.Index.{FileReads, DirectoryHolds, FoundIndex, OpenedIn
 use Rattle.tv_model.specs.CommitEvents.{is_sealed}
 use Rattle.tv_model.specs.Readable.{CanRead}
 use Rattle.tv_model.proofs.SoundOpenings.{sound_index, opens_managed_sorted}
-use Rattle.tv_store.specs.OpeningCauses.{IsSomeSchema}
+use Rattle.tv_store.specs.OpeningCauses.{CallFacts, IsSomeSchema}
 use Rattle.tv_model.proofs.OpenedStates.{opens_sound}
 use Rattle.tv_model.specs.Script.{line_limit, lines_of, Fits}
 use Rattle.tv_model.specs.SoundStates.{IsWhole}
@@ -367,22 +367,23 @@ module _ (c : Causes) where
   end_cause other h f q k = absurd h
 
 -- a run's, as a replay's
-pub run_cause : {O W C : Type 0} (g : Ghosts O W C) (old new : StoreState O) (script script_now : SourceView) (tells : Type 0) (schema : List ℕ) (reads : Reads) (busy more all : Type 0) (error : TantivyError) → FailsRun g old new script script_now error
-    → IsSomeSchema schema → (tells → FoundIndex schema reads) → ((run_causes g old new script script_now).busy → busy) → ((run_causes g old new script script_now).refused → more) → ((run_causes g old new script script_now).quiet → all)
-    → (tells → OpenedIndex schema reads → (run_causes g old new script script_now).unread → ⊥)
-    → ReplayCause tells schema reads script.left busy more all error
-run_cause g old new script script_now tells schema reads busy more all (errors.InvalidArgument t) h is none y f q u = (q h.0, inr (is, none, h.1))
-run_cause g old new script script_now tells schema reads busy more all (errors.DataCorruption why) h is none y f q u = (is.0, is.1, inr (h.1, (q h.0, none, λ t index. u t index h.2)))
-run_cause g old new script script_now tells schema reads busy more all (errors.SchemaError text) h is none y f q u = (is.0, is.1, inr (h.1, (q h.0, none, λ t index. u t index h.2)))
-run_cause g old new script script_now tells schema reads busy more all (errors.IoError fault) h is none y f q u = (is, h.0, f h.1)
-run_cause g old new script script_now tells schema reads busy more all (errors.OpenWriteError error) h is none y f q u = (is, none, write_fault error f h)
-run_cause g old new script script_now tells schema reads busy more all (errors.OpenReadError error) h is none y f q u = (is, none, read_fault {bad = λ e. Unit {0}} {absent = λ path. Unit {0}} error f q (λ e b. b) (λ path a. a) h)
-run_cause g old new script script_now tells schema reads busy more all (errors.LockFailure lock.LockBusy t) h is none y f q u = (is, none, y h.0, h.1)
-run_cause g old new script script_now tells schema reads busy more all (errors.LockFailure (lock.IoError fault) t) h is none y f q u = (is, none, (h.0.0, f h.0.1), h.1)
-run_cause g old new script script_now tells schema reads busy more all (errors.LockFailure lock.Memory t) h is none y f q u = absurd h.0
-run_cause g old new script script_now tells schema reads busy more all errors.Exhausted h is none y f q u = (q h.0, is, none, h.1)
-run_cause g old new script script_now tells schema reads busy more all errors.Memory h is none y f q u = q h
-run_cause g old new script script_now tells schema reads busy more all other h is none y f q u = absurd h
+pub run_cause : {O W C : Type 0} (g : Ghosts O W C) (old new : StoreState O) (script script_now : SourceView) (facts : CallFacts) (schema : List ℕ) (reads : Reads) (error : TantivyError) → FailsRun g old new script script_now error
+    → IsSomeSchema schema → (facts.tells → FoundIndex schema reads) → ((run_causes g old new script script_now).busy → facts.busy) → ((run_causes g old new script script_now).refused → facts.refused) → ((run_causes g old new script script_now).quiet → facts.quiet)
+    → (facts.refused → facts.refused_behind) → (facts.quiet → facts.quiet_behind)
+    → (facts.tells → OpenedIndex schema reads → (run_causes g old new script script_now).unread → ⊥)
+    → ReplayCause facts schema reads script.left error
+run_cause g old new script script_now facts schema reads (errors.InvalidArgument t) h is none y f q fb qb u = (q h.0, inr (is, none, h.1))
+run_cause g old new script script_now facts schema reads (errors.DataCorruption why) h is none y f q fb qb u = (is.0, is.1, inr (h.1, (q h.0, none, λ t index. u t index h.2)))
+run_cause g old new script script_now facts schema reads (errors.SchemaError text) h is none y f q fb qb u = (is.0, is.1, inr (h.1, (q h.0, none, λ t index. u t index h.2)))
+run_cause g old new script script_now facts schema reads (errors.IoError fault) h is none y f q fb qb u = (is, h.0, fb (f h.1))
+run_cause g old new script script_now facts schema reads (errors.OpenWriteError error) h is none y f q fb qb u = (is, none, write_fault error f h)
+run_cause g old new script script_now facts schema reads (errors.OpenReadError error) h is none y f q fb qb u = (is, none, read_fault {bad = λ e. Unit {0}} {absent = λ path. Unit {0}} error f q (λ e b. b) (λ path a. a) h)
+run_cause g old new script script_now facts schema reads (errors.LockFailure lock.LockBusy t) h is none y f q fb qb u = (is, none, y h.0, h.1)
+run_cause g old new script script_now facts schema reads (errors.LockFailure (lock.IoError fault) t) h is none y f q fb qb u = (is, h.0.0, f h.0.1, h.1)
+run_cause g old new script script_now facts schema reads (errors.LockFailure lock.Memory t) h is none y f q fb qb u = absurd h.0
+run_cause g old new script script_now facts schema reads errors.Exhausted h is none y f q fb qb u = (q h.0, is, none, h.1)
+run_cause g old new script script_now facts schema reads errors.Memory h is none y f q fb qb u = qb (q h)
+run_cause g old new script script_now facts schema reads other h is none y f q fb qb u = absurd h
 
 -- a count that rose from a later place rose from an earlier one, where it was the same
 pub rose_from : (old now new : ℕ) → now ≡ old → Rose now new → Rose old new

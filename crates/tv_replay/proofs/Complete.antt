@@ -37,13 +37,13 @@ use Rattle.tv_model.proofs.Serving.{sound_after}
 use Rattle.tv_replay.specs.ScriptLines.{IsNoEvent, IsTooLong}
 use Rattle.tv_index.specs.Opening.{OfBytes, OpenCause}
 use Rattle.tv_store.specs.StoreCauses.{WriteFault, writer_lock_name}
-use Rattle.tv_store.specs.OpeningCauses.{IndexMissing, IndexRefused, IsFirstBad, OpeningCause}
+use Rattle.tv_store.specs.OpeningCauses.{CallFacts, IndexMissing, IndexRefused, IsFirstBad, OpeningCause}
 use Rattle.tv_store.specs.ReadCauses.{ReadFault}
 use Rattle.tv_managed.specs.Collecting.{meta_lock_name}
 use Rattle.tv_directory.specs.declared.directory.Directory.{Ghosts}
 use Rattle.tv_base.specs.Streams.{SourceView}
 use Rattle.tv_store.specs.Applying.{MeetsBadAt}
-use Rattle.tv_replay.specs.Replays.{ReplayCause, RefusesOpening, StopsFor, StopsReplay, StopsRunning, StopsAtLine, LineRefusal}
+use Rattle.tv_replay.specs.Replays.{ReplayCause, told_facts, RefusesOpening, StopsFor, StopsReplay, StopsRunning, StopsAtLine, LineRefusal}
 use Rattle.tv_replay.specs.Completeness.{IsScript, IsReady}
 use Rattle.tv_replay.proofs.Progress.{AreLines-length}
 use Rattle.tv_replay.proofs.AppliedEvents.{mapped}
@@ -151,7 +151,7 @@ module _ (schema form : List ℕ) (reads : Reads) (spelled : IsSchema schema for
         other.other (ap json.read is ∙ m.2.schema_is.parsed ∙ ap (λ (d : Data). Some d) one.2)
 
   no_opening_fault : (refused quiet busy free : Type 0) (error : OpenReadError) → (refused → ⊥) → ReadFault refused quiet (λ e. Unit {0}) (λ path. Unit {0}) error
-      → OpeningCause (Unit {0}) schema reads busy free (Unit {0}) (Unit {0}) (errors.OpenReadError error) → ⊥
+      → OpeningCause (told_facts busy free) schema reads (errors.OpenReadError error) → ⊥
   no_opening_fault refused quiet busy free (read.IoError fault path) f (inl h) opening = f h.1
   no_opening_fault refused quiet busy free (read.IoError fault path) f (inr h) opening = met opening.3 where
     met : ReadFault (Unit {0}) (Unit {0}) (λ e. Unit {0} → IndexRefused schema reads e) (λ path. Unit {0} → IndexMissing schema reads path) (read.IoError fault path) → ⊥
@@ -202,24 +202,24 @@ no_write_fault : (refused : Type 0) (error : OpenWriteError) → (refused → �
 no_write_fault refused (write.IoError fault path) f h = f h.1
 no_write_fault refused other f h = h
 
-pub only_memory : {O W C : Type 0} (g : Ghosts O W C) (before now : O) (schema : List ℕ) (script script_now : SourceView) (busy refused quiet : Type 0) (error : TantivyError) → g.told.content → IsReady schema script.left (g.view before).reads (g.view before).locks → (busy → ⊥) → (refused → ⊥)
-    → ReplayCause g.told.content schema (g.view before).reads script.left busy refused quiet error → StopsReplay g before now schema script script_now error → error ≡ errors.Memory
-only_memory g before now schema script script_now busy refused quiet (errors.InvalidArgument text) t ready y f (_, inl h) stops = absurd (h.0 ready.form ready.spelled)
-only_memory g before now schema script script_now busy refused quiet (errors.InvalidArgument text) t ready y f (_, inr h) stops =
+pub only_memory : {O W C : Type 0} (g : Ghosts O W C) (before now : O) (schema : List ℕ) (script script_now : SourceView) (facts : CallFacts) (error : TantivyError) → facts.tells → g.told.content → IsReady schema script.left (g.view before).reads (g.view before).locks → (facts.busy → ⊥) → (facts.refused → ⊥) → (facts.refused_behind → ⊥)
+    → ReplayCause facts schema (g.view before).reads script.left error → StopsReplay g before now schema script script_now error → error ≡ errors.Memory
+only_memory g before now schema script script_now facts (errors.InvalidArgument text) t told ready y f fb (_, inl h) stops = absurd (h.0 ready.form ready.spelled)
+only_memory g before now schema script script_now facts (errors.InvalidArgument text) t told ready y f fb (_, inr h) stops =
     absurd (no_line_refusal schema script.left (g.view before).reads (g.view before).locks (string_bytes text) ready h.2)
-only_memory g before now schema script script_now busy refused quiet (errors.DataCorruption why) t ready y f (_, _, inr (_, none)) stops =
+only_memory g before now schema script script_now facts (errors.DataCorruption why) t told ready y f fb (_, _, inr (_, none)) stops =
     absurd (none.2 t (sound_index schema ready.form (g.view before).reads ready.spelled ready.sound.image))
-only_memory g before now schema script script_now busy refused quiet (errors.DataCorruption why) t ready y f (text, is, inl h) stops =
-    absurd (no_damage schema ready.form (g.view before).reads ready.spelled ready.sound.image g.told.content refused quiet why text t h)
-only_memory g before now schema script script_now busy refused quiet (errors.SchemaError text) t ready y f (_, _, inr (_, none)) stops =
+only_memory g before now schema script script_now facts (errors.DataCorruption why) t told ready y f fb (text, is, inl h) stops =
+    absurd (no_damage schema ready.form (g.view before).reads ready.spelled ready.sound.image facts.tells facts.refused_behind facts.quiet_behind why text t h)
+only_memory g before now schema script script_now facts (errors.SchemaError text) t told ready y f fb (_, _, inr (_, none)) stops =
     absurd (none.2 t (sound_index schema ready.form (g.view before).reads ready.spelled ready.sound.image))
-only_memory g before now schema script script_now busy refused quiet (errors.SchemaError text) t ready y f (own, is, inl h) stops =
-    absurd (no_other_schema schema ready.form (g.view before).reads ready.spelled ready.sound.image g.told.content refused quiet text own t (is.text_is ∙ sym ready.spelled.text_is) h)
-only_memory g before now schema script script_now busy refused quiet (errors.IoError fault) t ready y f h stops = absurd (f h.2)
-only_memory g before now schema script script_now busy refused quiet (errors.OpenWriteError error) t ready y f h stops = absurd (no_write_fault refused error f h.2)
-only_memory g before now schema script script_now busy refused quiet (errors.OpenReadError error) t ready y f h stops = absurd (met (stops t)) where
+only_memory g before now schema script script_now facts (errors.SchemaError text) t told ready y f fb (own, is, inl h) stops =
+    absurd (no_other_schema schema ready.form (g.view before).reads ready.spelled ready.sound.image facts.tells facts.refused_behind facts.quiet_behind text own t (is.text_is ∙ sym ready.spelled.text_is) h)
+only_memory g before now schema script script_now facts (errors.IoError fault) t told ready y f fb h stops = absurd (fb h.2)
+only_memory g before now schema script script_now facts (errors.OpenWriteError error) t told ready y f fb h stops = absurd (no_write_fault facts.refused error f h.2)
+only_memory g before now schema script script_now facts (errors.OpenReadError error) t told ready y f fb h stops = absurd (met (stops told)) where
   met : RefusesOpening g.told schema (g.view before) (g.view now) script script_now (errors.OpenReadError error) ⊎ StopsRunning g before now schema script script_now (errors.OpenReadError error) → ⊥
-  met (inl opening) = no_opening_fault schema ready.form (g.view before).reads ready.spelled ready.sound.image refused quiet (g.told.locks → (g.view before).locks writer_lock_name ≡ true) (g.told.locks → (g.view before).locks writer_lock_name ≡ false) error f h.2 opening.cause
+  met (inl opening) = no_opening_fault schema ready.form (g.view before).reads ready.spelled ready.sound.image facts.refused facts.quiet (g.told.locks → (g.view before).locks writer_lock_name ≡ true) (g.told.locks → (g.view before).locks writer_lock_name ≡ false) error f h.2 opening.cause
   met (inr run) =
       let index = sound_index schema ready.form (g.view before).reads ready.spelled ready.sound.image in
       let stop = run.stops index in
@@ -227,13 +227,13 @@ only_memory g before now schema script script_now busy refused quiet (errors.Ope
       let fit : AllByRecursion Fits (events_of stop.turns) = prefix_fits stop.turns stop.ahead (lines_fit begun.texts (events_of (stop.turns ++ stop.ahead)) begun.each) in
       let as_text : IsSoundImage index.form.schema (g.view before).reads = subst (λ (x : List ℕ). IsSoundImage x (g.view before).reads) (ready.spelled.text_is ∙ sym index.spelled.text_is) ready.sound.image in
       let start = opens_sound index.form.settings index.form.schema (g.view before).reads index.state as_text index.opens in
-      no_read_fault refused quiet script.left index.state stop.turns (g.told.locks → (g.view before).locks meta_lock_name ≡ true) (g.told.locks → (g.view before).locks meta_lock_name ≡ false) error f
+      no_read_fault facts.refused facts.quiet script.left index.state stop.turns (g.told.locks → (g.view before).locks meta_lock_name ≡ true) (g.told.locks → (g.view before).locks meta_lock_name ≡ false) error f
       (sound_after index.state stop.turns fit start) h.2 stop.cause
-only_memory g before now schema script script_now busy refused quiet (errors.LockFailure lock.LockBusy text) t ready y f h stops = absurd (y h.2)
-only_memory g before now schema script script_now busy refused quiet (errors.LockFailure (lock.IoError fault) text) t ready y f h stops = absurd (f h.2.1)
-only_memory g before now schema script script_now busy refused quiet (errors.LockFailure lock.Memory text) t ready y f h stops = absurd h.2
-only_memory g before now schema script script_now busy refused quiet errors.Exhausted t ready y f h stops =
+only_memory g before now schema script script_now facts (errors.LockFailure lock.LockBusy text) t told ready y f fb h stops = absurd (y h.2)
+only_memory g before now schema script script_now facts (errors.LockFailure (lock.IoError fault) text) t told ready y f fb h stops = absurd (f h.2)
+only_memory g before now schema script script_now facts (errors.LockFailure lock.Memory text) t told ready y f fb h stops = absurd h
+only_memory g before now schema script script_now facts errors.Exhausted t told ready y f fb h stops =
     let stop = h.3 ready.text ready.told in
     absurd (no_more_lines ready.text stop.0 ready.valid stop.1 stop.2)
-only_memory g before now schema script script_now busy refused quiet errors.Memory t ready y f h stops = refl
-only_memory g before now schema script script_now busy refused quiet other t ready y f h stops = absurd h
+only_memory g before now schema script script_now facts errors.Memory t told ready y f fb h stops = refl
+only_memory g before now schema script script_now facts other t told ready y f fb h stops = absurd h

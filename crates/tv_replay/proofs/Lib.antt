@@ -1,5 +1,5 @@
 pub mod Numbers
-pub mod Laws
+pub mod GrammarLaws
 pub mod Feeds
 pub mod LineLemmas
 pub mod Progress
@@ -16,3 +16,4 @@ pub mod StandingIndexes
 pub mod FirstRuns
 pub mod CommandWords
 pub mod CommandRuns
+pub mod LineLaws

@@ -29,14 +29,15 @@ use Rattle.tv_base.specs.declared.error.TantivyError.{TantivyError}
 use Rattle.tv_base.specs.declared.error.TantivyError.TheVariants as errors
 use Rattle.tv_base.specs.declared.open_errors.OpenWriteError.{OpenWriteError}
 use Rattle.tv_base.specs.declared.open_errors.OpenWriteError.TheVariants as write
+use Rattle.tv_store.specs.OpeningCauses.{CallFacts}
 use Rattle.tv_store.specs.StoreCauses.{WriteFault}
 use Rattle.tv_replay.specs.ErrorLines.{argument_line, corrupt_line, io_line, fault_line, format_line, lock_line, read_line, write_line, error_line}
 use Rattle.tv_store.specs.ReadCauses.{ReadFault}
 use Rattle.tv_replay.specs.PlaceView.{PlaceTold, PlaceView, KeepsTexts, KeepsFolders, PlaceKept, LendCause, Says, SayFaults, SaysPart}
-use Rattle.tv_replay.specs.Replays.{ReplayCause, LineRefusal, IsLockBusy, IsRefusedAt, IsQuietAt}
+use Rattle.tv_replay.specs.Replays.{ReplayCause, LineRefusal, replay_facts}
 use Rattle.tv_replay.specs.Completeness.{IsReady}
 use Rattle.tv_replay.proofs.Complete.{only_memory}
-use Rattle.tv_replay.proofs.Stopping.{none_met}
+use Rattle.tv_replay.proofs.Stopping.{none_behind, none_met}
 use Rattle.tv_replay.specs.Commands.{replay_words}
 use Rattle.tv_replay.specs.Runs.{SaysLine, OnlySays, SaysError, PlaceRefuses, AskedReplay, Scene, KeepsScript, RefusesReplay, Reports, ReportsError, Stops, EndsReplay, IsUndisturbedRun, schema_line, folder_line}
 
@@ -107,17 +108,17 @@ corrupt_no_feed None name is h = refl
 corrupt_no_feed (Some path) name is h = let same : string_bytes path ≡ name = cc in no_feed_append (codes "error corrupt ") (string_bytes path) refl (rw same h)
 
 -- no line feed stands in the line of an error that a replay answers
-pub error_no_feed : (tells : Type 0) (schema : List ℕ) (reads : Reads) (script : _) (busy refused quiet : Type 0) (error : TantivyError) → ReplayCause tells schema reads script busy refused quiet error → has_no_feed (error_line error) ≡ true
-error_no_feed tells schema reads script busy refused quiet (errors.InvalidArgument text) (_, inl (_, is)) = argument_no_feed (string_bytes text) (rw is refl)
-error_no_feed tells schema reads script busy refused quiet (errors.InvalidArgument text) (_, inr (_, _, line)) = argument_no_feed (string_bytes text) (line_no_feed script (string_bytes text) line)
-error_no_feed tells schema reads script busy refused quiet (errors.OpenReadError error) (_, _, fault) = read_no_feed refused quiet (λ e. Unit {0}) (λ path. Unit {0}) error fault
-error_no_feed tells schema reads script busy refused quiet (errors.LockFailure why text) h = lock_no_feed why
-error_no_feed tells schema reads script busy refused quiet (errors.IoError fault) h = io_no_feed fault.kind
-error_no_feed tells schema reads script busy refused quiet (errors.OpenWriteError error) (_, _, fault) = write_no_feed refused error fault
-error_no_feed tells schema reads script busy refused quiet (errors.DataCorruption why) (_, _, inl (inl (_, is, _))) = corrupt_no_feed why.filepath list_name is refl
-error_no_feed tells schema reads script busy refused quiet (errors.DataCorruption why) (_, _, inl (inr (_, (_, is, _)))) = corrupt_no_feed why.filepath meta_name is refl
-error_no_feed tells schema reads script busy refused quiet (errors.DataCorruption why) (_, _, inr (is, _)) = corrupt_no_feed why.filepath meta_name is refl
-error_no_feed tells schema reads script busy refused quiet other h = refl
+pub error_no_feed : (facts : CallFacts) (schema : List ℕ) (reads : Reads) (script : _) (error : TantivyError) → ReplayCause facts schema reads script error → has_no_feed (error_line error) ≡ true
+error_no_feed facts schema reads script (errors.InvalidArgument text) (_, inl (_, is)) = argument_no_feed (string_bytes text) (rw is refl)
+error_no_feed facts schema reads script (errors.InvalidArgument text) (_, inr (_, _, line)) = argument_no_feed (string_bytes text) (line_no_feed script (string_bytes text) line)
+error_no_feed facts schema reads script (errors.OpenReadError error) (_, _, fault) = read_no_feed facts.refused facts.quiet (λ e. Unit {0}) (λ path. Unit {0}) error fault
+error_no_feed facts schema reads script (errors.LockFailure why text) h = lock_no_feed why
+error_no_feed facts schema reads script (errors.IoError fault) h = io_no_feed fault.kind
+error_no_feed facts schema reads script (errors.OpenWriteError error) (_, _, fault) = write_no_feed facts.refused error fault
+error_no_feed facts schema reads script (errors.DataCorruption why) (_, _, inl (inl (_, is, _))) = corrupt_no_feed why.filepath list_name is refl
+error_no_feed facts schema reads script (errors.DataCorruption why) (_, _, inl (inr (_, (_, is, _)))) = corrupt_no_feed why.filepath meta_name is refl
+error_no_feed facts schema reads script (errors.DataCorruption why) (_, _, inr (is, _)) = corrupt_no_feed why.filepath meta_name is refl
+error_no_feed facts schema reads script other h = refl
 
 -- why a schema wasn't had: a device refused it, or memory was wanted
 pub schema_cause : (refused quiet : Type 0) (error : IoError) → IoCause refused quiet error → refused ⊎ (quiet × (of_io error ≡ errors.Memory))
@@ -136,6 +137,11 @@ lend_cause refused quiet directory.Memory h = inr (h, refl)
 pub schema_line_is : (refused quiet : Type 0) (error : IoError) → IoCause refused quiet error → (of_io error ≡ errors.Memory → ⊥) → error_line (of_io error) ≡ schema_line
 schema_line_is refused quiet (io.Fault fault) (device, _) other = ap io_line device
 schema_line_is refused quiet io.Memory h other = absurd (other refl)
+
+-- a schema that was refused isn't there
+pub schema_absent : (there : Option (List ℕ)) (error : IoError) → IoCause (there ≡ None) (Unit {0}) error → of_io error ≢ errors.Memory → there ≡ None
+schema_absent there (io.Fault fault) h other = h.1
+schema_absent there io.Memory h other = absurd (other refl)
 
 pub folder_line_is : (error : OpenDirectoryError) → (of_open_directory error ≡ errors.Memory → ⊥) → error_line (of_open_directory error) ≡ folder_line
 folder_line_is directory.Memory other = absurd (other refl)
@@ -224,10 +230,10 @@ not_done n (inr three) none = omega arith
 -- a replay that didn't begin, since there is no schema or no folder
 pub not_begun : {O W C : Type 0} {g : Ghosts O W C} {told : PlaceTold} (asked : AskedReplay O) {mid : PlaceView O} {error : TantivyError} {status : ℕ} {line : List ℕ} → PlaceKept told asked.old.place mid
     → Rose asked.old.place.faults mid.faults ⊎ ((mid.faults ≡ asked.old.place.faults) × (error ≡ errors.Memory)) → (error ≢ errors.Memory → error_line error ≡ line) → SaysError told mid asked.new.place error status
-    → KeepsScript asked.old asked.new → (PlaceRefuses told asked.old.place asked.new.place line → RefusesReplay told asked) → EndsReplay g told asked status
+    → KeepsScript asked.old asked.new → (error ≢ errors.Memory → PlaceRefuses told asked.old.place asked.new.place line → RefusesReplay told asked) → EndsReplay g told asked status
 not_begun asked {error = error} kept why line_is says unread refused = record {
   done = λ zero. absurd (not_done _ says.statuses zero);
-  failed = λ one. let said = says.other one in inl (refused (refuses (error ≡ errors.Memory) kept why said.0 (line_is said.0) said.1), unread);
+  failed = λ one. let said = says.other one in inl (refused said.0 (refuses (error ≡ errors.Memory) kept why said.0 (line_is said.0) said.1), unread);
   memory = λ three. inl (wants (error ≡ errors.Memory) kept why (says.memory three), unread);
   statuses = inr says.statuses;
 }
@@ -294,10 +300,10 @@ module _ {O W C : Type 0} (g : Ghosts O W C) (told : PlaceTold) (words : List (L
       (subst (λ (d : O). IsReady u.schema old.script.left (g.view d).reads (g.view d).locks) is_before u.ready) in
       let still : (g.view stop.reports.now).faults ≡ (g.view stop.before).faults = ap (λ (d : O). (g.view d).faults) (sym is_now) ∙ u.still ∙ ap (λ (d : O). (g.view d).faults) is_before in
       let below : (g.view stop.reports.now).faults < 18446744073709551615 = subst (λ (d : O). (g.view d).faults < 18446744073709551615) is_now u.not_last in
-      other (only_memory g stop.before stop.stopped stop.schema old.script new.script (IsLockBusy g.told.locks (g.view stop.before).locks (Rose (g.view stop.before).faults (g.view stop.stopped).faults))
-      (IsRefusedAt (g.view stop.before) (g.view stop.stopped) old.script new.script) (IsQuietAt (g.view stop.before) (g.view stop.stopped) old.script new.script) error u.content ready
-      (none_met g.told.locks (g.view stop.before).locks (Rose (g.view stop.before).faults (g.view stop.stopped).faults) u.locks ready.sound.free)
-      (none_amiss (g.view stop.before).faults (g.view stop.stopped).faults (g.view stop.reports.now).faults stop.reports.faults still below) stop.cause stop.stops)
+      let amiss = none_amiss (g.view stop.before).faults (g.view stop.stopped).faults (g.view stop.reports.now).faults stop.reports.faults still below in
+      other (only_memory g stop.before stop.stopped stop.schema old.script new.script (replay_facts g stop.before (g.view stop.stopped).faults old.script new.script) error u.content u.content ready
+      (none_met g.told.locks (g.view stop.before).locks (Rose (g.view stop.before).faults (g.view stop.stopped).faults) u.locks ready.sound.free) amiss
+      (none_behind g stop.before (g.view stop.stopped).faults (Rose old.script.faults new.script.faults) u.locks ready.sound.free amiss) stop.cause stop.stops)
 
   pub comes_to_end : (status : ℕ) → EndsReplay g told asked status → (status ≡ 0) ⊎ (status ≡ 3)
   comes_to_end status ends = told_of ends.statuses where
@@ -306,7 +312,7 @@ module _ {O W C : Type 0} (g : Ghosts O W C) (told : PlaceTold) (words : List (L
     told_of (inr (inr three)) = inr three
     told_of (inr (inl failing)) = absurd (failed (ends.failed failing)) where
       failed : (RefusesReplay told asked × KeepsScript old new) ⊎ ((error : TantivyError) × (error ≢ errors.Memory) × Stops g told asked error (error_line error)) → ⊥
-      failed (inl (inl refused, unread)) = u.place_still refused.refused
+      failed (inl (inl refused, unread)) = u.place_still refused.1.refused
       failed (inl (inr refused, unread)) = u.place_still refused.1.refused
       failed (inr (error, other, stop)) = no_stop error (error_line error) other stop
 

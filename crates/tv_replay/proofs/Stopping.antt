@@ -28,8 +28,8 @@ use Rattle.tv_store.specs.Applying.{LeavesCommit, LeavesOldOrNew, MeetsBadAt}
 use Rattle.tv_index.specs.Standing.{MetaCause, OfRead}
 use Rattle.tv_store.specs.ReadCauses.{LoadingCause, IsReadError, TakesMetaLock}
 use Rattle.tv_index.specs.Opening.{OpenCause}
-use Rattle.tv_store.specs.OpeningCauses.{IndexMissing, IndexRefused, OpeningCause}
-use Rattle.tv_store.specs.StoreCauses.{IsBusy, IsRefusal, writer_lock_name}
+use Rattle.tv_store.specs.OpeningCauses.{CallFacts, IndexMissing, IndexRefused, IsLockedOut, OpeningCause}
+use Rattle.tv_store.specs.StoreCauses.{IsBusy, IsRefusal, RefusedBehind, writer_lock_name}
 use Rattle.tv_replay.specs.declared.next_event.ScriptError.{ScriptError}
 use Rattle.tv_replay.specs.declared.next_event.ScriptError.TheVariants as failed
 use Rattle.tv_replay.specs.declared.lines.LineError.TheVariants as line
@@ -38,7 +38,7 @@ use Rattle.tv_base.specs.Streams.{SourceView}
 use Rattle.tv_replay.specs.ScriptLines.{TakesNextEvent, IsNoEvent, IsTooLong, IsAhead, ReadsAhead, pending}
 use Rattle.tv_replay.proofs.LineLemmas.{pending_some}
 use Rattle.tv_replay.specs.AppliedEvents.{StopsRun, EndCause, IsErrorOf}
-use Rattle.tv_replay.specs.Replays.{BeginsWith, RunFrom, StopsFor, HearsTurns, StopsAt, TakesNoLock, IsNext, IsRefusedNext, IsLockBusy, ReplayCause, line_refusal, long_refusal}
+use Rattle.tv_replay.specs.Replays.{BeginsWith, RunFrom, StopsFor, HearsTurns, StopsAt, TakesNoLock, IsNext, IsRefusedNext, IsLockBusy, ReplayCause, told_facts, line_refusal, long_refusal}
 use Rattle.tv_replay.proofs.Progress.{after-last, events-last, HasRead, begins_next}
 use Rattle.tv_replay.proofs.AppliedEvents.{Progress, read_fault, tells_first}
 
@@ -279,50 +279,57 @@ stops_report told given form script script_now s first opened new now error form
 }
 
 -- why an opening is refused, where the directory tells its content
-pub opening_told : (tells tells_locks : Type 0) (schema : List ℕ) (reads : Reads) (held free refused quiet : Type 0) (error : TantivyError) → tells
-    → OpeningCause tells schema reads (IsBusy tells_locks held refused) free refused quiet error
-    → OpeningCause (Unit {0}) schema reads (tells_locks → held) free (Unit {0}) (Unit {0}) error
-opening_told tells tells_locks schema reads held free refused quiet (errors.InvalidArgument text) t h = (tt, h.1, h.2)
-opening_told tells tells_locks schema reads held free refused quiet (errors.LockFailure lock.LockBusy text) t h = (h.0, (λ u. h.1 t), h.2.told, h.3)
-opening_told tells tells_locks schema reads held free refused quiet (errors.LockFailure (lock.IoError fault) text) t h = (h.0, (λ u. h.1 t), (h.2.0, tt), h.3)
-opening_told tells tells_locks schema reads held free refused quiet (errors.LockFailure lock.Memory text) t h = absurd h.2
-opening_told tells tells_locks schema reads held free refused quiet (errors.OpenReadError error) t h = (
+pub opening_told : (facts : CallFacts) (held : Type 0) (schema : List ℕ) (reads : Reads) (error : TantivyError) → facts.tells → (facts.busy → held)
+    → OpeningCause facts schema reads error → OpeningCause (told_facts held facts.free) schema reads error
+opening_told facts held schema reads (errors.InvalidArgument text) t y h = (tt, h.1, h.2)
+opening_told facts held schema reads (errors.LockFailure lock.LockBusy text) t y h = (h.0, (λ u. h.1 t), y h.2, h.3)
+opening_told facts held schema reads (errors.LockFailure (lock.IoError fault) text) t y h = (h.0, h.1, tt, h.3)
+opening_told facts held schema reads (errors.LockFailure lock.Memory text) t y h = absurd h
+opening_told facts held schema reads (errors.OpenReadError error) t y h = (
   h.0,
   (λ u. h.1 t),
   h.2,
-  read_fault {bad = λ e. tells → IndexRefused schema reads e} {worse = λ e. Unit {0} → IndexRefused schema reads e} {absent = λ path. tells → IndexMissing schema reads path} {gone = λ path. Unit {0} → IndexMissing schema reads path}
+  read_fault {bad = λ e. facts.tells → IndexRefused schema reads e} {worse = λ e. Unit {0} → IndexRefused schema reads e} {absent = λ path. facts.tells → IndexMissing schema reads path} {gone = λ path. Unit {0} → IndexMissing schema reads path}
       error (λ r. tt) (λ q. tt) (λ e bad u. bad t) (λ path absent u. absent t) h.3,
 )
-opening_told tells tells_locks schema reads held free refused quiet (errors.IoError fault) t h = (h.0, h.1, (h.2.0, tt))
-opening_told tells tells_locks schema reads held free refused quiet (errors.DataCorruption why) t h = (h.0, h.1, damaged h.2) where
-  damaged : OpenCause tells h.0 reads refused quiet (errors.DataCorruption why) → OpenCause (Unit {0}) h.0 reads (Unit {0}) (Unit {0}) (errors.DataCorruption why)
+opening_told facts held schema reads (errors.IoError fault) t y h = (h.0, h.1, (h.2.0, tt))
+opening_told facts held schema reads (errors.DataCorruption why) t y h = (h.0, h.1, damaged h.2) where
+  damaged : OpenCause facts.tells h.0 reads facts.refused_behind facts.quiet_behind (errors.DataCorruption why) → OpenCause (Unit {0}) h.0 reads (Unit {0}) (Unit {0}) (errors.DataCorruption why)
   damaged (inl d) = inl (tt, d.1, λ u. d.2 t)
   damaged (inr d) = inr ((λ u. d.0 t), (tt, d.1.1, λ u. d.1.2 t))
-opening_told tells tells_locks schema reads held free refused quiet (errors.SchemaError text) t h = (h.0, h.1, ((λ u. h.2.0 t), (tt, h.2.1.1, λ u. h.2.1.2 t)))
-opening_told tells tells_locks schema reads held free refused quiet errors.Memory t h = tt
-opening_told tells tells_locks schema reads held free refused quiet other t h = absurd h.2
+opening_told facts held schema reads (errors.SchemaError text) t y h = (h.0, h.1, ((λ u. h.2.0 t), (tt, h.2.1.1, λ u. h.2.1.2 t)))
+opening_told facts held schema reads errors.Memory t y h = tt
+opening_told facts held schema reads other t y h = absurd h.2
+
+-- what is known of some calls, seen from further away
+pub record SeenAs (facts all : CallFacts) : Type 0 where
+  pub tells : all.tells → facts.tells
+  pub busy : facts.busy → all.busy
+  pub refused : facts.refused → all.refused
+  pub quiet : facts.quiet → all.quiet
+  pub refused_behind : facts.refused_behind → all.refused_behind
+  pub quiet_behind : facts.quiet_behind → all.quiet_behind
 
 -- and as a replay's
-pub opening_cause : (tells : Type 0) (schema : List ℕ) (reads : Reads) (script : Option (List ℕ)) (busy free refused quiet : Type 0) {held more all : Type 0} (error : TantivyError)
-    → (busy → held) → (refused → more) → (quiet → all) → OpeningCause tells schema reads busy free refused quiet error → ReplayCause tells schema reads script held more all error
-opening_cause tells schema reads script busy free refused quiet (errors.InvalidArgument text) y f q h = (q h.0, inl (h.1, h.2))
-opening_cause tells schema reads script busy free refused quiet (errors.LockFailure lock.LockBusy text) y f q h = (h.0, h.1, y h.2, h.3)
-opening_cause tells schema reads script busy free refused quiet (errors.LockFailure (lock.IoError fault) text) y f q h = (h.0, h.1, (h.2.0, f h.2.1), h.3)
-opening_cause tells schema reads script busy free refused quiet (errors.LockFailure lock.Memory text) y f q h = absurd h.2
-opening_cause tells schema reads script busy free refused quiet (errors.OpenReadError error) y f q h = (
+pub opening_cause : (facts all : CallFacts) (schema : List ℕ) (reads : Reads) (script : Option (List ℕ)) (error : TantivyError) → SeenAs facts all → OpeningCause facts schema reads error → ReplayCause all schema reads script error
+opening_cause facts all schema reads script (errors.InvalidArgument text) s h = (s.quiet h.0, inl (h.1, h.2))
+opening_cause facts all schema reads script (errors.LockFailure lock.LockBusy text) s h = (h.0, (λ t. h.1 (s.tells t)), s.busy h.2, h.3)
+opening_cause facts all schema reads script (errors.LockFailure (lock.IoError fault) text) s h = (h.0, h.1, s.refused h.2, h.3)
+opening_cause facts all schema reads script (errors.LockFailure lock.Memory text) s h = absurd h
+opening_cause facts all schema reads script (errors.OpenReadError error) s h = (
   h.0,
-  h.1,
-  read_fault {bad = λ e. tells → IndexRefused schema reads e} {worse = λ e. Unit {0}} {absent = λ path. tells → IndexMissing schema reads path} {gone = λ path. Unit {0}}
-      error f q (λ e bad. tt) (λ path absent. tt) h.3,
+  (λ t. h.1 (s.tells t)),
+  read_fault {bad = λ e. facts.tells → IndexRefused schema reads e} {worse = λ e. Unit {0}} {absent = λ path. facts.tells → IndexMissing schema reads path} {gone = λ path. Unit {0}}
+      error s.refused s.quiet (λ e bad. tt) (λ path absent. tt) h.3,
 )
-opening_cause tells schema reads script busy free refused quiet (errors.IoError fault) y f q h = ((h.0, h.1), h.2.0, f h.2.1)
-opening_cause tells schema reads script busy free refused quiet {held} {more} {all} (errors.DataCorruption why) y f q h = (h.0, h.1, inl (damaged h.2)) where
-  damaged : OpenCause tells h.0 reads refused quiet (errors.DataCorruption why) → OpenCause tells h.0 reads more all (errors.DataCorruption why)
-  damaged (inl d) = inl (q d.0, d.1, d.2)
-  damaged (inr d) = inr (d.0, (q d.1.0, d.1.1, d.1.2))
-opening_cause tells schema reads script busy free refused quiet (errors.SchemaError text) y f q h = (h.0, h.1, inl (h.2.0, (q h.2.1.0, h.2.1.1, h.2.1.2)))
-opening_cause tells schema reads script busy free refused quiet errors.Memory y f q h = q h
-opening_cause tells schema reads script busy free refused quiet other y f q h = absurd h.2
+opening_cause facts all schema reads script (errors.IoError fault) s h = ((h.0, h.1), h.2.0, s.refused_behind h.2.1)
+opening_cause facts all schema reads script (errors.DataCorruption why) s h = (h.0, h.1, inl (damaged h.2)) where
+  damaged : OpenCause facts.tells h.0 reads facts.refused_behind facts.quiet_behind (errors.DataCorruption why) → OpenCause all.tells h.0 reads all.refused_behind all.quiet_behind (errors.DataCorruption why)
+  damaged (inl d) = inl (s.quiet_behind d.0, d.1, λ t. d.2 (s.tells t))
+  damaged (inr d) = inr ((λ t. d.0 (s.tells t)), (s.quiet_behind d.1.0, d.1.1, λ t. d.1.2 (s.tells t)))
+opening_cause facts all schema reads script (errors.SchemaError text) s h = (h.0, h.1, inl ((λ t. h.2.0 (s.tells t)), (s.quiet_behind h.2.1.0, h.2.1.1, λ t. h.2.1.2 (s.tells t))))
+opening_cause facts all schema reads script errors.Memory s h = s.quiet_behind h
+opening_cause facts all schema reads script other s h = absurd h.2
 
 -- ---- locks
 
@@ -345,3 +352,15 @@ none_met tells_locks start refused t free b = met (b.told t) where
   met : (start writer_lock_name ≡ true) ⊎ (start meta_lock_name ≡ true) → ⊥
   met (inl held) = true≢false (sym held ∙ free writer_lock_name)
   met (inr held) = true≢false (sym held ∙ free meta_lock_name)
+
+-- where no lock is held, and no call was refused, none was behind the lock of the writer either
+pub none_behind : {O W C : Type 0} (g : Ghosts O W C) (before : O) (now : ℕ) (more : Type 0) → g.told.locks → ((lock : List ℕ) → (g.view before).locks lock ≡ false) → (Rose (g.view before).faults now ⊎ more → ⊥)
+    → RefusedBehind (IsLockedOut g before) (g.view before).faults now ⊎ more → ⊥
+none_behind g before now more t free quiet (inl (inl rose)) = quiet (inl rose)
+none_behind g before now more t free quiet (inl (inr held)) = true≢false (sym (held.0 t) ∙ free writer_lock_name)
+none_behind g before now more t free quiet (inr other) = quiet (inr other)
+
+-- a call that was refused was, whether the lock of the writer was given or not
+pub either_behind : {held more : Type 0} (before now : ℕ) → Rose before now ⊎ more → RefusedBehind held before now ⊎ more
+either_behind before now (inl rose) = inl (inl rose)
+either_behind before now (inr other) = inr other

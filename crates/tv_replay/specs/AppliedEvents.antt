@@ -99,6 +99,8 @@ EndCause some refused quiet errors.Exhausted = quiet × some
 EndCause some refused quiet errors.Memory = quiet
 EndCause some refused quiet other = ⊥
 
+-- Why the end of a script isn't found: a line more was there, or the source refused a read, or memory was
+-- wanted; at Ok no read was refused.
 pub record ScriptEndFaults {A : Type 0} (ahead : Option (List ℕ)) (old new : SourceView) (result : Result A TantivyError) : Type 0 where
   pub quiet : OnOk result (new.faults ≡ old.faults)
   pub cause : IfErr result (EndCause ((rest : List ℕ) → ahead ≡ Some rest → rest ≢ []) (Rose old.faults new.faults) (new.faults ≡ old.faults))

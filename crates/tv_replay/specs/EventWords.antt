@@ -12,12 +12,14 @@ abbrev pub ◌>>=◌ : {A B : Type 0} → Option A → (A → Option B) → Opti
 None >>= f = None
 (Some x) >>= f = f x
 
+-- the words after `segment`: an id
 abbrev pub segment_in : List (List ℕ) → Option Event
 segment_in (id ∷ []) = do
   id ← id_at id
   Some (events.Segment id)
 segment_in args = None
 
+-- the words after `open`: an id and a component
 abbrev pub open_in : List (List ℕ) → Option Event
 open_in (id ∷ component ∷ []) = do
   id ← id_at id
@@ -25,6 +27,7 @@ open_in (id ∷ component ∷ []) = do
   Some (events.Open id component)
 open_in args = None
 
+-- the words after `write`: an id, a component and some bytes
 abbrev pub write_in : List (List ℕ) → Option Event
 write_in (id ∷ component ∷ digits ∷ []) = do
   id ← id_at id
@@ -33,6 +36,7 @@ write_in (id ∷ component ∷ digits ∷ []) = do
   Some (events.Write id component bytes)
 write_in args = None
 
+-- the words after `seal`: an id and a component
 abbrev pub seal_in : List (List ℕ) → Option Event
 seal_in (id ∷ component ∷ []) = do
   id ← id_at id
@@ -40,6 +44,7 @@ seal_in (id ∷ component ∷ []) = do
   Some (events.Seal id component)
 seal_in args = None
 
+-- the words after `docs`: an id and a number of documents
 abbrev pub docs_in : List (List ℕ) → Option Event
 docs_in (id ∷ n ∷ []) = do
   id ← id_at id
@@ -47,6 +52,7 @@ docs_in (id ∷ n ∷ []) = do
   Some (events.Docs id n)
 docs_in args = None
 
+-- the words after `deletes`: an id and a number of documents
 abbrev pub deletes_in : List (List ℕ) → Option Event
 deletes_in (id ∷ n ∷ []) = do
   id ← id_at id
@@ -66,6 +72,7 @@ ids_in (word ∷ words) = do
 abbrev pub commit_of : Option (List ℕ) → List (List ℕ) → Option Event
 commit_of payload ids = if are_distinct ids then Some (events.Commit payload ids) else None
 
+-- the words after `commit`: a payload and ids, none of them twice
 abbrev pub commit_in : List (List ℕ) → Option Event
 commit_in [] = None
 commit_in (word ∷ words) = do
@@ -78,29 +85,33 @@ abbrev pub alone_in : Event → List (List ℕ) → Option Event
 alone_in event [] = Some event
 alone_in event args = None
 
--- so far a reader reloads where it is asked to
+-- the words after `reader`: the policy `manual`
 abbrev pub reader_in : List (List ℕ) → Option Event
 reader_in (policy ∷ []) = if is policy (codes "manual") then Some (events.Reader Manual) else None
 reader_in args = None
 
+-- the words after `reload`: the number of a reader
 abbrev pub reload_in : List (List ℕ) → Option Event
 reload_in (number ∷ []) = do
   number ← number_at (2 ^ 64) number
   Some (events.Reload number)
 reload_in args = None
 
+-- the words after `searcher`: the number of a reader
 abbrev pub searcher_in : List (List ℕ) → Option Event
 searcher_in (number ∷ []) = do
   number ← number_at (2 ^ 64) number
   Some (events.Searcher number)
 searcher_in args = None
 
+-- the words after `show`: the number of a searcher
 abbrev pub show_in : List (List ℕ) → Option Event
 show_in (number ∷ []) = do
   number ← number_at (2 ^ 64) number
   Some (events.Show number)
 show_in args = None
 
+-- the words after `bytes`: the number of a searcher, the place of a segment and a component
 abbrev pub bytes_in : List (List ℕ) → Option Event
 bytes_in (number ∷ ord ∷ component ∷ []) = do
   number ← number_at (2 ^ 64) number
@@ -123,6 +134,7 @@ released_in kind subject =
       Some (events.ReleaseSearcher number))
     else None
 
+-- the words after `release`: what is released, and its id or number
 abbrev pub release_in : List (List ℕ) → Option Event
 release_in (kind ∷ subject ∷ []) = released_in kind subject
 release_in args = None
@@ -138,12 +150,14 @@ reader_event_in word args =
     else if is word (codes "release") then release_in args
     else None
 
+-- the words after `gc-step`: the number of a collection
 abbrev pub gc_step_in : List (List ℕ) → Option Event
 gc_step_in (number ∷ []) = do
   number ← number_at (2 ^ 64) number
   Some (events.GcStep number)
 gc_step_in args = None
 
+-- the words after `gc-end`: the number of a collection
 abbrev pub gc_end_in : List (List ℕ) → Option Event
 gc_end_in (number ∷ []) = do
   number ← number_at (2 ^ 64) number

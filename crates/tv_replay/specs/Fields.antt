@@ -34,6 +34,7 @@ some_bytes (Ok []) = None
 some_bytes (Ok (b ∷ bytes)) = Some (b ∷ bytes)
 some_bytes (Err e) = None
 
+-- the bytes that a word spells in digits of either case, at least one
 abbrev pub bytes_at : List ℕ → Option (List ℕ)
 bytes_at word = some_bytes (decode_of word)
 
@@ -42,6 +43,7 @@ abbrev pub some_text : Result (List ℕ) FromHexError → Option (List ℕ)
 some_text (Ok bytes) = if is_utf8 bytes then Some bytes else None
 some_text (Err e) = None
 
+-- the text that some digits of either case spell
 abbrev pub text_at : List ℕ → Option (List ℕ)
 text_at digits = some_text (decode_of digits)
 

@@ -33,7 +33,7 @@ pub record KeepsTexts {O : Type 0} (told : PlaceTold) (old new : PlaceView O) : 
   pub schemas : told.content → (path : List ℕ) → new.schemas path ≡ old.schemas path
   pub scripts : told.content → (path : List ℕ) → new.scripts path ≡ old.scripts path
 
--- and nothing was said; a directory may have been lent or given back
+-- The schemas and the scripts stay, and nothing was said; a directory may have been lent or given back.
 pub record OnlyLends {O : Type 0} (told : PlaceTold) (old new : PlaceView O) : Type 0 where
   pub texts : KeepsTexts told old new
   pub said : new.said ≡ old.said
@@ -44,7 +44,7 @@ pub record KeepsFolders {O : Type 0} (told : PlaceTold) (old new : PlaceView O) 
   pub folders : told.content → (folder : List ℕ) → new.kept folder ≡ old.kept folder
   pub lent : new.lent ≡ old.lent
 
--- and nothing was said
+-- The schemas, the scripts, what each folder holds and which one is lent stay, and nothing was said.
 pub record PlaceKept {O : Type 0} (told : PlaceTold) (old new : PlaceView O) : Type 0 where
   pub folders : KeepsFolders told old new
   pub said : new.said ≡ old.said

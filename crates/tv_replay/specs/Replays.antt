@@ -18,7 +18,7 @@ use Rattle.tv_model.specs.Script.{lines_of, AreLines}
 use Rattle.tv_model.specs.Index.{DirectoryHolds, FoundIndex, HasFiles, IsSoundImage, OpenedIndex}
 use Rattle.tv_base.specs.Causes.{IsDevice}
 use Rattle.tv_base.specs.Streams.{SourceView}
-use Rattle.tv_directory.specs.Locks.{Locks, LockCause, SameLocks}
+use Rattle.tv_directory.specs.Locks.{Locks, SameLocks}
 use Rattle.tv_directory.specs.View.{View, Told, GoesOn}
 use Rattle.tv_directory.specs.Watch.{MayNote}
 use Rattle.tv_directory.specs.declared.directory.Directory.{Ghosts}
@@ -31,8 +31,8 @@ use Rattle.tv_replay.specs.declared.replaying.Tally.{Tally}
 use Rattle.tv_replay.specs.ScriptLines.{IsNoEvent, IsTooLong, IsAhead}
 use Rattle.tv_store.specs.ReadCauses.{ReadFault, TakesMetaLock}
 use Rattle.tv_index.specs.Opening.{NotesMade, OpenCause}
-use Rattle.tv_store.specs.StoreCauses.{IsBusy, WriteFault, writer_lock_name}
-use Rattle.tv_store.specs.OpeningCauses.{IsSomeSchema, OpeningCause, schema_refusal}
+use Rattle.tv_store.specs.StoreCauses.{IsBusy, QuietBehind, RefusedBehind, WriteFault, writer_lock_name}
+use Rattle.tv_store.specs.OpeningCauses.{CallFacts, IsLockedOut, IsSomeSchema, OpeningCause, schema_refusal}
 use Rattle.tv_store.specs.Making.{IsRefusedFirst, LeavesRefused}
 use Rattle.tv_store.specs.Applying.{MeetsBadAt}
 use Rattle.tv_store.specs.Stays.{KeepsDotted}
@@ -96,6 +96,7 @@ pub record StopsAtLine (script : List ℕ) (number : ℕ) (rest : List ℕ) : Ty
 abbrev pub line_refusal : ℕ → List ℕ
 line_refusal number = codes "line " ++ decimal number ++ codes " is not of the event grammar"
 
+-- what is said of a line that is longer than a line may be
 abbrev pub long_refusal : ℕ → List ℕ
 long_refusal number = codes "line " ++ decimal number ++ codes " is longer than 1048576 bytes"
 
@@ -183,9 +184,24 @@ pub record StopsAt {W : Type 0} (told : Told) (run : RunFrom) (before now : View
   -- why the run stopped here
   pub cause : StopsFor run.script.left run.start turns (told.locks → before.locks meta_lock_name ≡ true) (told.locks → before.locks meta_lock_name ≡ false) error
 
--- What an opening that was refused leaves: no whole line was told, and nothing was read of the script. Where `meta.json` was there each name reads what it read, and
--- where it wasn't there may be the first commit of a new index; only of that a notice may have come. An argument and bytes that were refused changed nothing, and left
--- no notice. The error is the first that holds, in the order of an opening.
+-- what is known of the calls of an opening, where its content is told, and of refused calls it is said
+-- elsewhere
+abbrev pub told_facts : (held free : Type 0) → CallFacts
+told_facts held free = record {
+  tells = Unit {0};
+  busy = held;
+  free = free;
+  refused = Unit {0};
+  quiet = Unit {0};
+  refused_behind = Unit {0};
+  quiet_behind = Unit {0};
+}
+
+-- What an opening that was refused leaves: no whole line was told, and nothing was read of the script.
+-- Where `meta.json` was there each name reads what it read, and where it wasn't there may be the first
+-- commit of a new index; only of that a notice may have come. An argument, bytes and the lock that were
+-- refused changed nothing, and left no notice. The error is the first that holds, in the order of an
+-- opening.
 pub record RefusesOpening {W : Type 0} (told : Told) (schema : List ℕ) (before now : View W) (script script_now : SourceView) (error : TantivyError) : Type 0 where
   pub silent : told.heard → TellsNoLine before.heard now.heard
   pub unread : script_now ≡ script
@@ -193,7 +209,8 @@ pub record RefusesOpening {W : Type 0} (told : Told) (schema : List ℕ) (before
   pub stood : IsSome (before.reads meta_name) → now.watched ≡ before.watched
   pub unchanged : IsRefusedFirst error → Same before.reads now.reads
   pub unnoted : IsRefusedFirst error → now.watched ≡ before.watched
-  pub cause : OpeningCause (Unit {0}) schema before.reads (told.locks → before.locks writer_lock_name ≡ true) (told.locks → before.locks writer_lock_name ≡ false) (Unit {0}) (Unit {0}) error
+  pub cause : OpeningCause (told_facts (told.locks → before.locks writer_lock_name ≡ true)
+      (told.locks → before.locks writer_lock_name ≡ false)) schema before.reads error
 
 -- an index stood there, or was made, whose files can be read; and a run stopped that began at the state of each index to which the directory opened
 pub record StopsRunning {O W C : Type 0} (g : Ghosts O W C) (before now : O) (schema : List ℕ) (script script_now : SourceView) (error : TantivyError) : Type 0 where
@@ -210,33 +227,65 @@ StopsReplay g before now schema script script_now error =
 abbrev pub IsUnread : (tells : Type 0) → (schema : List ℕ) → Reads → (quiet : Type 0) → Type 0
 IsUnread tells schema reads quiet = quiet × (tells → FoundIndex schema reads) × (tells → OpenedIndex schema reads → ⊥)
 
--- Why a replay answers an error, of what is read where the content is told, of lines where the script is: `busy` where a lock isn't given, `refused` where a device refused a call, `quiet` where none did.
-abbrev pub ReplayCause : (tells : Type 0) → (schema : List ℕ) → Reads → (script : Option (List ℕ)) → (busy refused quiet : Type 0) → TantivyError → Type 0
-ReplayCause tells schema reads script busy refused quiet (errors.InvalidArgument text) =
-    quiet × ((IsNoSchema schema × (string_bytes text ≡ schema_refusal)) ⊎ (IsSomeSchema schema × (tells → FoundIndex schema reads) × LineRefusal script (string_bytes text)))
-ReplayCause tells schema reads script busy refused quiet (errors.DataCorruption why) =
-    (text : List ℕ) × IsSchema schema text × (OpenCause tells text reads refused quiet (errors.DataCorruption why) ⊎ ((option_map string_bytes why.filepath ≡ Some meta_name) × IsUnread tells schema reads quiet))
-ReplayCause tells schema reads script busy refused quiet (errors.SchemaError text) =
-    (own : List ℕ) × IsSchema schema own × (OpenCause tells own reads refused quiet (errors.SchemaError text) ⊎ ((string_bytes text ≡ codes "An index exists but the schema does not match.") × IsUnread tells schema reads quiet))
-ReplayCause tells schema reads script busy refused quiet (errors.LockFailure why text) = IsSomeSchema schema × (tells → FoundIndex schema reads) × LockCause busy refused ⊥ why × (text ≡ None)
-ReplayCause tells schema reads script busy refused quiet (errors.IoError fault) = IsSomeSchema schema × IsDevice fault × refused
-ReplayCause tells schema reads script busy refused quiet (errors.OpenWriteError error) = IsSomeSchema schema × (tells → FoundIndex schema reads) × WriteFault refused error
-ReplayCause tells schema reads script busy refused quiet (errors.OpenReadError error) =
-    IsSomeSchema schema × (tells → FoundIndex schema reads) × ReadFault refused quiet (λ e. Unit {0}) (λ path. Unit {0}) error
-ReplayCause tells schema reads script busy refused quiet errors.Exhausted = quiet × IsSomeSchema schema × (tells → FoundIndex schema reads) × IsTooMany script
-ReplayCause tells schema reads script busy refused quiet errors.Memory = quiet
-ReplayCause tells schema reads script busy refused quiet other = ⊥
+-- Why a replay answers an error, of what is read where the content is told, of lines where the script is:
+-- by what is known of the calls on the directory and of the reads of the script.
+abbrev pub ReplayCause : CallFacts → (schema : List ℕ) → Reads → (script : Option (List ℕ)) → TantivyError → Type 0
+ReplayCause facts schema reads script (errors.InvalidArgument text) =
+    facts.quiet
+    × ((IsNoSchema schema × (string_bytes text ≡ schema_refusal))
+    ⊎ (IsSomeSchema schema × (facts.tells → FoundIndex schema reads) × LineRefusal script (string_bytes text)))
+ReplayCause facts schema reads script (errors.DataCorruption why) =
+    (text : List ℕ) × IsSchema schema text
+    × (OpenCause facts.tells text reads facts.refused_behind facts.quiet_behind (errors.DataCorruption why)
+    ⊎ ((option_map string_bytes why.filepath ≡ Some meta_name) × IsUnread facts.tells schema reads facts.quiet))
+ReplayCause facts schema reads script (errors.SchemaError text) =
+    (own : List ℕ) × IsSchema schema own
+    × (OpenCause facts.tells own reads facts.refused_behind facts.quiet_behind (errors.SchemaError text)
+    ⊎ ((string_bytes text ≡ codes "An index exists but the schema does not match.")
+    × IsUnread facts.tells schema reads facts.quiet))
+ReplayCause facts schema reads script (errors.LockFailure lock.LockBusy text) =
+    IsSomeSchema schema × (facts.tells → FoundIndex schema reads) × facts.busy × (text ≡ None)
+ReplayCause facts schema reads script (errors.LockFailure (lock.IoError fault) text) =
+    IsSomeSchema schema × IsDevice fault × facts.refused × (text ≡ None)
+ReplayCause facts schema reads script (errors.LockFailure lock.Memory text) = ⊥
+ReplayCause facts schema reads script (errors.IoError fault) =
+    IsSomeSchema schema × IsDevice fault × facts.refused_behind
+ReplayCause facts schema reads script (errors.OpenWriteError error) =
+    IsSomeSchema schema × (facts.tells → FoundIndex schema reads) × WriteFault facts.refused error
+ReplayCause facts schema reads script (errors.OpenReadError error) =
+    IsSomeSchema schema × (facts.tells → FoundIndex schema reads)
+    × ReadFault facts.refused facts.quiet (λ e. Unit {0}) (λ path. Unit {0}) error
+ReplayCause facts schema reads script errors.Exhausted =
+    facts.quiet × IsSomeSchema schema × (facts.tells → FoundIndex schema reads) × IsTooMany script
+ReplayCause facts schema reads script errors.Memory = facts.quiet_behind
+ReplayCause facts schema reads script other = ⊥
 
 -- why a replay isn't given a lock: that of the writer, or the meta lock
 abbrev pub IsLockBusy : (tells_locks : Type 0) → Locks → (refused : Type 0) → Type 0
 IsLockBusy tells_locks locks refused = IsBusy tells_locks ((locks writer_lock_name ≡ true) ⊎ (locks meta_lock_name ≡ true)) refused
 
+-- what is known of the calls of a replay: on the directory that was handed in, whose count of refused
+-- calls is this by now, and on the script
+abbrev pub replay_facts : {O W C : Type 0} → Ghosts O W C → (before : O) → (faults : ℕ)
+    → (script script_now : SourceView) → CallFacts
+replay_facts g before faults script script_now = record {
+  tells = g.told.content;
+  busy = IsLockBusy g.told.locks (g.view before).locks (Rose (g.view before).faults faults);
+  free = g.told.locks → (g.view before).locks writer_lock_name ≡ false;
+  refused = Rose (g.view before).faults faults ⊎ Rose script.faults script_now.faults;
+  quiet = (faults ≡ (g.view before).faults) × (script_now.faults ≡ script.faults);
+  refused_behind = RefusedBehind (IsLockedOut g before) (g.view before).faults faults
+      ⊎ Rose script.faults script_now.faults;
+  quiet_behind = QuietBehind (IsLockedOut g before) (g.view before).faults faults
+      × (script_now.faults ≡ script.faults);
+}
+
 -- Why a replay failed, between these two directories and these two views of the script.
-abbrev pub FailsReplay : {O W C : Type 0} → Ghosts O W C → (before now : O) → (schema : List ℕ) → (script script_now : SourceView) → TantivyError → Type 0
+abbrev pub FailsReplay : {O W C : Type 0} → Ghosts O W C → (before now : O) → (schema : List ℕ)
+    → (script script_now : SourceView) → TantivyError → Type 0
 FailsReplay g before now schema script script_now =
-    ReplayCause g.told.content schema (g.view before).reads script.left
-    (IsLockBusy g.told.locks (g.view before).locks (Rose (g.view before).faults (g.view now).faults))
-    (IsRefusedAt (g.view before) (g.view now) script script_now) (IsQuietAt (g.view before) (g.view now) script script_now)
+    ReplayCause (replay_facts g before (g.view now).faults script script_now) schema
+    (g.view before).reads script.left
 
 -- Where a replay answers Ok no call but deletes was refused, and the lock of the writer was free; and why it answers an error.
 pub record ReplayFaults {O W C : Type 0} (g : Ghosts O W C) (before : O) (schema : List ℕ) (script script_now : SourceView) (result : Replayed O) : Type 0 where

@@ -24,6 +24,7 @@ usage_line = codes "usage: tv replay FOLDER SCHEMA | space FOLDER SCHEMA | gener
 abbrev pub schema_line : List ℕ
 schema_line = codes "error io"
 
+-- what is said of a folder that the place refused
 abbrev pub folder_line : List ℕ
 folder_line = codes "error folder"
 
@@ -79,7 +80,8 @@ pub record SaysSummary {O : Type 0} (told : PlaceTold) (n : ℕ) (old new : Plac
   pub said : told.said → new.said ≡ old.said ++ summary ++ 10 ∷ []
   pub quiet : new.faults ≡ old.faults
 
--- It was to be said, and the place refused that: a part of it was said at most. Then this line was said, or a part of it where the place refused that too.
+-- The summary of a generated script was to be said, and the place refused that: a part of it was said at
+-- most. Then this line was said, or a part of it where the place refused that too.
 pub record RefusesSummary {O : Type 0} (told : PlaceTold) (n : ℕ) (old new : PlaceView O) (line : List ℕ) : Type 0 where
   pub summary : List ℕ
   pub summary_is : IsSummaryOf n summary
@@ -122,10 +124,10 @@ pub record AskedReplay (O : Type 0) : Type 0 where
   pub old : Scene O
   pub new : Scene O
 
--- the place refused the schema, or had the schema and refused the folder, and the line of that was said
+-- the place has no schema there, or it has one and refused the folder; and the line of that was said
 abbrev pub RefusesReplay : {O : Type 0} → PlaceTold → AskedReplay O → Type 0
 RefusesReplay told asked =
-    PlaceRefuses told asked.old.place asked.new.place schema_line
+    ((told.content → asked.old.place.schemas asked.path ≡ None) × PlaceRefuses told asked.old.place asked.new.place schema_line)
     ⊎ ((told.content → IsSome (asked.old.place.schemas asked.path)) × PlaceRefuses told asked.old.place asked.new.place folder_line)
 
 -- memory was wanted for the schema or for the folder, or for the line of a refusal

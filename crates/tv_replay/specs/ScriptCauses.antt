@@ -31,12 +31,12 @@ abbrev pub UnlessFault : (known : Type 0) → LineError → Type 0
 UnlessFault known (line.Fault fault) = Unit {0}
 UnlessFault known other = known
 
--- the same of an event's error
+-- known of an event's error, unless a read was refused
 abbrev pub UnlessLineFault : (known : Type 0) → ScriptError → Type 0
 UnlessLineFault known (failed.Line error) = UnlessFault known error
 UnlessLineFault known failed.NotAnEvent = known
 
--- the same of the library's
+-- known of the library's error, unless a read was refused
 abbrev pub UnlessIoError : (known : Type 0) → TantivyError → Type 0
 UnlessIoError known (errors.IoError fault) = Unit {0}
 UnlessIoError known other = known
@@ -56,12 +56,12 @@ pub record LineReads {A : Type 0} (known : Type 0) (result : Result A LineError)
   pub ok : OnOk result known
   pub err : IfErr result (UnlessFault known)
 
--- The same of an event.
+-- What is known where an event was read, and where none was, unless a read was refused.
 pub record EventReads {A : Type 0} (known : Type 0) (result : Result A ScriptError) : Type 0 where
   pub ok : OnOk result known
   pub err : IfErr result (UnlessLineFault known)
 
--- The same of the end of a script.
+-- What is known where the end of a script was found, and where it wasn't, unless a read was refused.
 pub record EndReads {A : Type 0} (known : Type 0) (result : Result A TantivyError) : Type 0 where
   pub ok : OnOk result known
   pub err : IfErr result (UnlessIoError known)

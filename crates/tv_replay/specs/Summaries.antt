@@ -15,6 +15,7 @@ use Rattle.tv_replay.specs.Generated.{generated}
 abbrev pub has_file : State → List ℕ → Bool
 has_file s name = is name meta_name || is_some (file_at s name)
 
+-- the files of an index: the managed names that have a file
 abbrev pub files_of : State → List (List ℕ)
 files_of s = filter (has_file s) s.managed
 
@@ -29,7 +30,7 @@ deleted_in (first ∷ second ∷ names) =
     if is first (codes "gc") && is second (codes "deleted") then before_failed names else 0
 deleted_in other = 0
 
--- and how many the lines of a text say
+-- how many names the lines of a text say were deleted
 abbrev pub collected_in : List ℕ → ℕ
 collected_in text = sum_by (λ line. deleted_in (slice_split (λ b. b == 32) line)) (slice_split (λ b. b == 10) text)
 

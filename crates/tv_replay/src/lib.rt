@@ -8,6 +8,7 @@ mod command;
 mod error_line;
 mod folder_place;
 mod generating;
+pub mod laws;
 mod lines;
 mod next_event;
 mod place;

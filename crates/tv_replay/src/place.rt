@@ -1,5 +1,6 @@
 //! Where a run of the program finds its schemas, scripts and folders, and where it says what it has to say.
-ghost use Rattle.std.specs.Prelude.{◌≡◌, List, ℕ, None, Some, IsSome, IfOk};
+ghost use Rattle.std.specs.Prelude.{◌≡◌, List, ℕ, None, Some, IsSome, IfErr, IfOk};
+ghost use Rattle.tv_base.specs.Causes.{IoCause};
 ghost use Rattle.tv_replay.specs.PlaceView.{PlaceTold, PlaceView, PlaceKept, OnlyLends, KeepsFolders};
 ghost use Rattle.tv_replay.specs.PlaceView.{PlaceFaults, LendFaults, SayFaults, Lends, TakesBack, ScriptEnds, Says};
 
@@ -35,6 +36,9 @@ pub trait Place {
         requires { is_schema_path path.now }
         ensures bytes { told.content
             → IfOk result (λ bytes. (view self.old).schemas path.now ≡ Some bytes.items) }
+        // Where schemas are told, one is refused only where there is none.
+        ensures absent { told.content
+            → IfErr result (IoCause ((view self.old).schemas path.now ≡ None) (Unit {0})) }
         ensures faults { PlaceFaults (view self.old) (view self.new) result }
         ensures frame { PlaceKept told (view self.old) (view self.new) };
 

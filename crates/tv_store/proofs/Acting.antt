@@ -5,7 +5,7 @@ use Rattle.std.proofs.lemmas.Result.{on_err_weaker}
 use Rattle.tv_base.specs.declared.error.TantivyError.{TantivyError}
 use Rattle.tv_base.specs.declared.error.TantivyError.TheVariants as errors
 use Rattle.tv_directory.specs.View.{View, Told as ToldParts, Kept as KeptView, OnlyReads, MayDelete}
-use Rattle.tv_directory.specs.ViewLaws.{goes_on_itself}
+use Rattle.tv_directory.specs.ViewLaws.{goes_on_itself, kept_itself}
 use Rattle.tv_directory.specs.declared.directory.Directory.{Ghosts}
 use Rattle.tv_managed.specs.Collecting.{meta_lock_name}
 use Rattle.tv_model.specs.Names.{meta_name}
@@ -24,7 +24,7 @@ use Rattle.tv_store.specs.Exhausted.{IsExhausted, PassesEnd, number_after}
 use Rattle.tv_store.specs.ReaderNumbers.{FewNumbers}
 use Rattle.tv_store.specs.StoreCauses.{IsBusy}
 use Rattle.tv_store.specs.ReadCauses.{IsReadError, TakesMetaLock}
-use Rattle.tv_store.specs.Applying.{Stepped, ActCause, ApplyFaults, GoneAt, MayNoteAt, RefusedAt, UnloadedAt, written_by}
+use Rattle.tv_store.specs.Applying.{Stepped, ActCause, ApplyFaults, AsksNoFile, GoneAt, MayNoteAt, RefusedAt, UnloadedAt, written_by}
 use Rattle.tv_store.specs.Stays.{Asks, Stays, KeepsDotted, KeepsReaders, EventFaults}
 use Rattle.tv_store.specs.Committing.{Commits}
 use Rattle.tv_store.specs.FileCalls.{GcFaults}
@@ -275,6 +275,24 @@ acts_known g old mid new event known result steps fits kept outside is_open answ
       ok_result (Ok a) h = h
       ok_result (Err e) h = tt
 
+-- an event that touches no file is answered no error of a file that is read
+unread : (spent : Type 0) {P : Type 0} (error : TantivyError) → CatalogCause spent error → IsReadError error → P
+unread spent (errors.OpenReadError e) h r = absurd h
+unread spent (errors.DataCorruption why) h r = absurd h
+unread spent (errors.SchemaError text) h r = absurd h
+unread spent other h r = absurd r
+
+-- it asks for nothing but room for its answer, or, where it wasn't made, for nothing
+pub asks_known : {O W C : Type 0} (g : Ghosts O W C) (old mid new : StoreState O) (result : Result (List ℕ) TantivyError) → mid.outside ≡ old.outside
+    → EventFaults ⊥ (g.view mid.outside) (g.view new.outside) result → OnlyReads g.told (g.view mid.outside) (g.view new.outside) → AsksNoFile (OnlyReads g.told) g old new result
+asks_known g old mid new result same faults below = record {
+  below = subst (λ o. OnlyReads g.told (g.view o) (g.view new.outside)) same below;
+  error = reads_none (List ℕ) (Rose (g.view mid.outside).faults (g.view new.outside).faults) ((g.view new.outside).faults ≡ (g.view mid.outside).faults) ⊥ ⊥ result faults.cause;
+}
+
+pub asks_unknown : {O W C : Type 0} (g : Ghosts O W C) (spent : Type 0) (store : StoreState O) (error : TantivyError) → CatalogCause spent error → AsksNoFile (OnlyReads g.told) g store store (Err error)
+asks_unknown g spent store error why = record { below = record { kept = kept_itself g.told (g.view store.outside); content = λ tells n. refl }; error = unread spent error why }
+
 -- one that wasn't made, for want of memory or for a number that is spent
 pub acts_unknown : {O W C : Type 0} (g : Ghosts O W C) (store : StoreState O) (event : Event) (error : TantivyError) → CatalogCause (PassesEnd (number_after store.kept.catalog event)) error → Acts g store store event (Err error)
 acts_unknown g store event error why = record {
@@ -282,7 +300,7 @@ acts_unknown g store event error why = record {
   room = tt;
   lens = λ bound h. at_most bound (written_by event) store.kept h;
   numbers = λ bound few. tt;
-  faults = record { quiet = tt; free = λ told takes. tt; reads = λ told. unread error why; cause = cause error why };
+  faults = record { quiet = tt; free = λ told takes. tt; reads = λ told. unread (PassesEnd (number_after store.kept.catalog event)) error why; cause = cause error why };
   leaves = record { meta = λ tells s held whole. ([], inl refl); memory = λ tells wanted. refl };
   dotted = λ tells n dot other. refl;
   frame = record {
@@ -300,12 +318,6 @@ acts_unknown g store event error why = record {
   cause errors.Memory h = refl
   cause errors.Exhausted h = (refl, inl h)
   cause other h = absurd h
-
-  unread : (e : TantivyError) → CatalogCause (PassesEnd (number_after store.kept.catalog event)) e → IsReadError e → (g.view store.outside).locks meta_lock_name ≡ false
-  unread (errors.OpenReadError e) h r = absurd h
-  unread (errors.DataCorruption why) h r = absurd h
-  unread (errors.SchemaError text) h r = absurd h
-  unread other h r = absurd r
 
   quiet_notes : (e : Event) → MayNoteAt e (g.view store.outside).watched (g.view store.outside).watched
   quiet_notes (events.Commit payload ids) = inl refl

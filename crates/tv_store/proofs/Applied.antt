@@ -1,20 +1,23 @@
 -- What a store does that makes an event's step, and then tells its line.
 use Rattle.std.proofs.Common.{ℕ, ◌≡◌, ◌≤◌, ◌+◌, ◌∙◌, inl, inr, ◌++◌, ◌∷◌, true, false, true≢false, List, Option, Some, Ok, Err, refl, sym, ap, subst, arith}
-use Rattle.std.specs.Prelude.{IfSome}
+use Rattle.std.specs.Prelude.{IfErr, IfSome, IsSome, Result, is_ok}
 use Rattle.tv_base.specs.declared.error.TantivyError.{TantivyError}
 use Rattle.tv_base.specs.declared.error.TantivyError.TheVariants as errors
-use Rattle.tv_directory.specs.View.{OnlyTells}
+use Rattle.tv_directory.specs.View.{OnlyReads, OnlyTells, Told as ToldParts, View}
+use Rattle.tv_directory.specs.ViewLaws.{deletes_then, goes_then}
+use Rattle.tv_directory.specs.Watch.{WatchState}
 use Rattle.tv_directory.specs.declared.directory.Directory.{Ghosts}
 use Rattle.tv_model.specs.Files.{Heard, Rose, RoseBy}
 use Rattle.tv_base.specs.declared.io.IoFault.{IoFault}
-use Rattle.tv_model.specs.Machine.{step, refused_in}
+use Rattle.tv_model.specs.Machine.{catalog_step, step, refused_in}
 use Rattle.tv_model.specs.Meaning.{Means}
 use Rattle.tv_model.specs.declared.event.Event.{Event}
 use Rattle.tv_model.specs.declared.event.Event.TheVariants as events
 use Rattle.tv_store.specs.Kept.{Kept, StoreState, Holds, AtMost}
 use Rattle.tv_store.specs.ReaderNumbers.{FewNumbers}
 use Rattle.tv_store.specs.Acting.{Acts}
-use Rattle.tv_store.specs.Applying.{ActCause, Grows, ApplyFaults, IsUndisturbedEvent, LeavesMeta, MeetsBadAt, SavesAt, Stepped, written_by}
+use Rattle.tv_store.specs.Applying.{ActCause, AppliesFrame, AsksNoFile, Grows, ApplyFaults, IsUndisturbedEvent, LeavesMeta, MayNoteAt, MeetsBadAt, SavesAt, Stepped, written_by}
+use Rattle.tv_store.specs.ReadCauses.{IsReadError}
 use Rattle.tv_store.proofs.ReaderEvents.{has_middle}
 use Rattle.tv_base.specs.declared.open_errors.LockError.TheVariants as lock
 use Rattle.tv_base.specs.declared.open_errors.OpenReadError.{OpenReadError}
@@ -31,6 +34,7 @@ use Rattle.tv_store.specs.Telling.{TellsAnswer, TellsFirstPart, TellsNoLine, Tri
 use Rattle.tv_store.proofs.Holding.{same_holds}
 use Rattle.tv_store.proofs.LoadedCommits.{damaged_holds_none, other_holds_none}
 use Rattle.tv_store.proofs.FewNumbers.{few_below}
+use Rattle.tv_store.proofs.CheckedFiles.{reads_tells}
 use Rattle.tv_store.proofs.Steps.{longer}
 
 -- ---- an error of the step
@@ -44,6 +48,44 @@ module _ {O W C : Type 0} (g : Ghosts O W C) (old mid : StoreState O) (event : E
 
   pub faults_failed : ApplyFaults g old mid event (Err error)
   faults_failed = record { quiet = tt; free = λ told takes. tt; reads = acted.faults.reads; cause = acted.faults.cause }
+
+-- ---- what each event keeps
+
+-- a call that tells comes after one that only reads
+tells_after : {W : Type 0} {told : ToldParts} {first next last : View W} → OnlyReads told first next → OnlyTells told next last → OnlyTells told first last
+tells_after before after = record {
+  deletes_none = deletes_then before.kept.frame.tells_none.deletes_none after.deletes_none;
+  locks = λ t n. after.locks t n ∙ before.kept.frame.locks t n;
+  watched = after.watched ∙ before.kept.watched;
+  content = λ t n. after.content t n ∙ before.content t n;
+}
+
+module _ {O W C : Type 0} (g : Ghosts O W C) (old mid : StoreState O) (event : Event) (acted_result : Result (List ℕ) TantivyError) (acted : Acts g (record old { is_open = false }) mid event acted_result)
+    (alone : IsSome (catalog_step old.kept.catalog old.kept.managed event) → AsksNoFile (OnlyReads g.told) g (record old { is_open = false }) mid acted_result) where
+  -- the step wasn't made
+  pub frame_failed : (error : TantivyError) → acted_result ≡ Err error → AppliesFrame g old mid event (Err error)
+  frame_failed error is = record {
+    goes_on = acted.frame.below.goes_on;
+    locks = acted.frame.below.locks;
+    watched = acted.frame.below.watched;
+    form = acted.frame.form;
+    dotted = acted.dotted;
+    alone = λ some. record { below = reads_tells (alone some).below; error = subst (λ (r : Result (List ℕ) TantivyError). IfErr r (λ e. IsReadError e → ⊥)) is (alone some).error };
+    is_open = acted.frame.is_open;
+  }
+
+  -- its line was tried
+  pub frame_tried : (new : StoreState O) (result : Result (List ℕ) TantivyError) → new.kept ≡ mid.kept → new.is_open ≡ is_ok result → OnlyTells g.told (g.view mid.outside) (g.view new.outside)
+      → IfErr result (λ error. IsReadError error → ⊥) → AppliesFrame g old new event result
+  frame_tried new result kept is_open told unread = record {
+    goes_on = goes_then acted.frame.below.goes_on told.deletes_none.goes_on;
+    locks = λ t n. told.locks t n ∙ acted.frame.below.locks t n;
+    watched = subst (λ (w : WatchState). MayNoteAt event (g.view old.outside).watched w) (sym told.watched) acted.frame.below.watched;
+    form = ap (λ (k : Kept). k.form) kept ∙ acted.frame.form;
+    dotted = λ t n dot other. told.content t n ∙ acted.dotted t n dot other;
+    alone = λ some. record { below = tells_after (alone some).below told; error = unread };
+    is_open = is_open;
+  }
 
 -- ---- a step whose line is tried
 

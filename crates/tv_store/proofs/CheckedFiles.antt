@@ -1,18 +1,29 @@
--- The first of some files that can't be read.
-use Rattle.std.proofs.Common.{◌≡◌, ℕ, ◌+◌, ◌<◌, List, take, drop, length, get_or, true, None, Result, Ok, Err, sym, subst, ◌∙◌}
+-- The first of some files that can't be read, and an opening line that wasn't told.
+use Rattle.std.proofs.Common.{◌≡◌, ℕ, ◌+◌, ◌<◌, List, take, drop, length, get_or, inl, true, None, Result, Ok, Err, refl, sym, subst, ◌∙◌}
 use Rattle.std.specs.Result.{IsErrAnd}
+use Rattle.tv_base.specs.Errors.{of_open_read}
 use Rattle.tv_base.specs.declared.error.TantivyError.{TantivyError}
-use Rattle.tv_directory.specs.View.{OnlyReads}
+use Rattle.tv_base.specs.declared.open_errors.OpenReadError.{OpenReadError}
+use Rattle.tv_base.specs.declared.open_errors.OpenReadError.TheVariants as read
+use Rattle.tv_directory.specs.Calls.{MakesRoom}
+use Rattle.tv_directory.specs.View.{OnlyReads, OnlyTells, View, Told as ToldParts}
+use Rattle.tv_directory.specs.ViewLaws.{deletes_then, kept_itself}
 use Rattle.tv_directory.specs.declared.directory.Directory.{Ghosts}
-use Rattle.tv_model.specs.Files.{Reads, Rose, Same}
+use Rattle.tv_index.specs.Crashes.{OnlyLooks}
+use Rattle.tv_managed.specs.Collecting.{TakesNoLock}
+use Rattle.tv_model.specs.Commits.{Commit}
+use Rattle.tv_model.specs.Files.{Heard, Reads, Rose, Same}
+use Rattle.tv_model.specs.Lines.{opening_of}
 use Rattle.tv_model.specs.Names.{has}
+use Rattle.tv_model.specs.Segments.{all_required}
 use Rattle.tv_store.specs.Bodies.{ReadsGoodFile, RefusesAt}
-use Rattle.tv_store.specs.Kept.{StoreState}
-use Rattle.tv_store.specs.Making.{ChecksFiles}
+use Rattle.tv_store.specs.Kept.{FilesState}
+use Rattle.tv_store.specs.Making.{Begins, ChecksFiles, ReadingCause}
 use Rattle.tv_store.specs.OpeningCauses.{IsFirstBad, MeetsMissing, MeetsRefused}
 use Rattle.tv_store.specs.ReadCauses.{ApplyCause}
-use Rattle.tv_store.specs.Stays.{Asks}
+use Rattle.tv_store.specs.Stays.{KeepsFiles}
 use Rattle.tv_store.specs.StoreCauses.{MakesNoFile}
+use Rattle.tv_store.specs.Telling.{TellsFirstPart, TellsNoLine}
 use Rattle.tv_store.proofs.ReaderEvents.{cause_weaker, split_there}
 
 -- each before it was read
@@ -32,19 +43,103 @@ unread_here tells first now names i name start before after error same quiet wit
     (λ error b t. (name, first_bad first now names i name within at_i (so_far t), record { bytes = (b t).bytes; there = sym (same t name) ∙ (b t).there; why = (b t).why; no_body = (b t).no_body }))
     (λ path a t. (subst (IsFirstBad first names) (sym a.0) (first_bad first now names i name within at_i (so_far t)), sym (same t path) ∙ a.1 t)) h
 
--- nor are they all
-pub unchecked : {A O W C : Type 0} (g : Ghosts O W C) (old new : StoreState O) (names : List (List ℕ)) (result : Result A TantivyError) (given : TantivyError) → IsErrAnd result (λ e. e ≡ given)
-    → ApplyCause ⊥ (Rose (g.view old.outside).faults (g.view new.outside).faults) ((g.view new.outside).faults ≡ (g.view old.outside).faults) ⊥
-    (λ error. g.told.content → MeetsRefused (g.view old.outside).reads names error) (λ path. g.told.content → MeetsMissing (g.view old.outside).reads names path) given
-    → MakesNoFile given → Asks (OnlyReads g.told) g.view old new → ChecksFiles g old new names result
-unchecked g old new names (Ok a) given is cause file asks = absurd is
-unchecked g old new names (Err e) given is cause file asks = record {
-  good = λ t. tt;
-  quiet = tt;
-  cause = subst
-      (ApplyCause ⊥ (Rose (g.view old.outside).faults (g.view new.outside).faults) ((g.view new.outside).faults ≡ (g.view old.outside).faults) ⊥
-      (λ error. g.told.content → MeetsRefused (g.view old.outside).reads names error) (λ path. g.told.content → MeetsMissing (g.view old.outside).reads names path))
-      (sym is) cause;
-  file = subst MakesNoFile (sym is) file;
-  frame = asks;
+-- a call that reads takes no lock
+pub reads_take_none : (error : OpenReadError) → TakesNoLock (of_open_read error)
+reads_take_none (read.FileDoesNotExist path) = tt
+reads_take_none (read.IoError fault path) = tt
+reads_take_none (read.IncompatibleIndex why) = tt
+reads_take_none read.Memory = tt
+
+-- ---- what calls leave of the files of a store
+
+module _ {O W : Type 0} {keeps more : View W → View W → Type 0} {view : O → View W} where
+  managed_by : {old new : FilesState O} → (keeps (view old.outside) (view new.outside) → more (view old.outside) (view new.outside)) → KeepsFiles keeps view old new → KeepsFiles more view old new
+  managed_by by h = record {
+    managed = record { form = h.managed.form; names = h.managed.names; collections = h.managed.collections; left = h.managed.left; below = by h.managed.below };
+    open_files = h.open_files;
+  }
+
+  -- two calls, one after the other
+  pub files_then : {old mid new : FilesState O} → (keeps (view old.outside) (view mid.outside) → more (view mid.outside) (view new.outside) → more (view old.outside) (view new.outside))
+      → KeepsFiles keeps view old mid → KeepsFiles more view mid new → KeepsFiles more view old new
+  files_then both first second = record {
+    managed = record {
+      form = second.managed.form ∙ first.managed.form;
+      names = second.managed.names ∙ first.managed.names;
+      collections = second.managed.collections ∙ first.managed.collections;
+      left = second.managed.left ∙ first.managed.left;
+      below = both first.managed.below second.managed.below;
+    };
+    open_files = second.open_files ∙ first.open_files;
+  }
+
+-- none was made
+pub files_same : {O W : Type 0} (told : ToldParts) (view : O → View W) (files : FilesState O) → KeepsFiles (OnlyReads told) view files files
+files_same told view files = record {
+  managed = record { form = refl; names = refl; collections = refl; left = refl; below = record { kept = kept_itself told (view files.outside); content = λ t n. refl } };
+  open_files = refl;
 }
+
+-- a call that only reads tells nothing more than one that tells
+pub reads_tells : {W : Type 0} {told : ToldParts} {old new : View W} → OnlyReads told old new → OnlyTells told old new
+reads_tells h = record { deletes_none = h.kept.frame.tells_none.deletes_none; locks = h.kept.frame.locks; watched = h.kept.watched; content = h.content }
+
+-- room was made
+pub room_reads : {A E O W : Type 0} {told : ToldParts} {len : ℕ} {result : Result A E} {view : O → View W} {old new : FilesState O} → KeepsFiles (MakesRoom told len result) view old new → KeepsFiles (OnlyReads told) view old new
+room_reads h = managed_by (λ made. made.frame) h
+
+-- it was read from, and then something was told
+pub tells_behind : {W : Type 0} {told : ToldParts} {old mid new : View W} → OnlyReads told old mid → OnlyTells told mid new → OnlyTells told old new
+tells_behind first second = record {
+  deletes_none = deletes_then first.kept.frame.tells_none.deletes_none second.deletes_none;
+  locks = λ t n. second.locks t n ∙ first.kept.frame.locks t n;
+  watched = second.watched ∙ first.kept.watched;
+  content = λ t n. second.content t n ∙ first.content t n;
+}
+
+-- ---- what wasn't read, or told
+
+module _ {A O W C : Type 0} (g : Ghosts O W C) (old new : FilesState O) (result : Result A TantivyError) (given : TantivyError) (is : IsErrAnd result (λ e. e ≡ given)) (file : MakesNoFile given) (lock : TakesNoLock given)
+    (looks : g.tells_images → OnlyLooks g old.outside new.outside) where
+  -- not all of these files can be read
+  pub unchecked : (names : List (List ℕ)) → ReadingCause g old.outside new.outside names given → KeepsFiles (OnlyReads g.told) g.view old new → ChecksFiles g old new names result
+  unchecked names cause frame = by result is where
+    by : (r : Result A TantivyError) → IsErrAnd r (λ e. e ≡ given) → ChecksFiles g old new names r
+    by (Ok a) never = absurd never
+    by (Err e) same = record {
+      good = λ t. tt;
+      quiet = tt;
+      cause = subst (ReadingCause g old.outside new.outside names) (sym same) cause;
+      file = subst MakesNoFile (sym same) file;
+      lock = subst TakesNoLock (sym same) lock;
+      frame = frame;
+      looks = looks;
+    }
+
+  module _ (commit : Commit) (cause : ReadingCause g old.outside new.outside (all_required commit.segments) given) where
+    -- the line wasn't told
+    pub unbegun : (g.told.heard → TellsNoLine (g.view old.outside).heard (g.view new.outside).heard) → (g.told.heard → TellsFirstPart (g.view old.outside).heard (g.view new.outside).heard (opening_of commit))
+        → KeepsFiles (OnlyTells g.told) g.view old new → Begins g commit old new result
+    unbegun untold part frame = by result is where
+      by : (r : Result A TantivyError) → IsErrAnd r (λ e. e ≡ given) → Begins g commit old new r
+      by (Ok a) never = absurd never
+      by (Err e) same = record {
+        good = λ t. tt;
+        told = λ t. tt;
+        untold = untold;
+        part = part;
+        quiet = tt;
+        cause = subst (ReadingCause g old.outside new.outside (all_required commit.segments)) (sym same) cause;
+        file = subst MakesNoFile (sym same) file;
+        lock = subst TakesNoLock (sym same) lock;
+        frame = frame;
+        looks = looks;
+      }
+
+    -- nothing was
+    pub unasked : KeepsFiles (OnlyReads g.told) g.view old new → Begins g commit old new result
+    unasked frame =
+        let heard : (g.view new.outside).heard ≡ (g.view old.outside).heard = frame.managed.below.kept.frame.tells_none.heard in
+        unbegun (λ t. subst (TellsNoLine (g.view old.outside).heard) (sym heard) (inl refl))
+        (λ t. subst (λ (h : Heard). TellsFirstPart (g.view old.outside).heard h (opening_of commit)) (sym heard) (inl refl))
+        (managed_by reads_tells frame)

@@ -14,7 +14,7 @@ use Rattle.tv_model.specs.Listing.{Lists}
 use Rattle.tv_model.specs.Meaning.{Means}
 use Rattle.tv_model.specs.Names.{has, list_name, meta_name}
 use Rattle.tv_model.specs.Readable.{CanRead}
-use Rattle.tv_model.specs.Schemas.{IsSchemaText}
+use Rattle.tv_model.specs.Schemas.{IsSchema, IsSchemaText}
 use Rattle.tv_model.specs.Segments.{all_required}
 use Rattle.tv_model.specs.State.{Catalog, FileState, Sealed, file_at}
 use Rattle.tv_model.proofs.Entries.{has_inserted}
@@ -63,19 +63,20 @@ covers_meta (Some bytes) listed managed is covered = rw is (covered refl)
 sealed_good : (file : Option FileState) (old now : Option (List ℕ)) → file ≡ option_map Sealed old → now ≡ old → ReadsGoodFile now → (bytes : List ℕ) × (file ≡ Some (Sealed bytes)) × IsGood bytes
 sealed_good file old now is same (bytes, reads, good) = (bytes, is ∙ ap (option_map Sealed) (sym same ∙ reads), good)
 
-module _ {O W C : Type 0} (g : Ghosts O W C) (outside : O) (schema : List ℕ) (catalog : Catalog) (files : FilesState O) (f : FindsFiles g outside schema catalog files) (tells : g.told.content) where
+module _ {O W C : Type 0} (g : Ghosts O W C) (locked : O) (schema text : List ℕ) (catalog : Catalog) (files : FilesState O)
+    (spelled : IsSchema schema files.form.schema) (f : FindsFiles g locked text catalog files) (tells : g.told.content) where
   abbrev form : IndexForm
   form = files.form
 
   abbrev before : Reads
-  before = (g.view outside).reads
+  before = (g.view locked).reads
 
   abbrev now : Reads
   now = (g.view files.outside).reads
 
   -- it stood there, or is new
   abbrev pub the_found : FoundIndex schema before
-  the_found = let F = f.finds tells in record { form = form; commit = catalog.commit; listed = F.listed; spelled = f.spelled; listing = F.listing; found = F.found }
+  the_found = let F = f.finds tells in record { form = form; commit = catalog.commit; listed = F.listed; spelled = spelled; listing = F.listing; found = F.found }
 
   pub read_before : (n : List ℕ) → IsFileOf n → now n ≡ before n
   read_before n file = (f.leaves tells).others n file.1 (undotted_isnt_list n file.0)
@@ -92,13 +93,13 @@ module _ {O W C : Type 0} (g : Ghosts O W C) (outside : O) (schema : List ℕ) (
   pub commit_is : (index : FoundIndex schema before) → index.commit ≡ catalog.commit
   commit_is index =
       let F = f.finds tells in
-      let text : index.form.schema ≡ form.schema = index.spelled.text_is ∙ sym f.spelled.text_is in
+      let text : index.form.schema ≡ form.schema = index.spelled.text_is ∙ sym spelled.text_is in
       let found : FindsCommit form.schema (before meta_name) index.form.settings index.commit = subst (λ (x : List ℕ). FindsCommit x (before meta_name) index.form.settings index.commit) text index.found in
       (same_found form.schema (before meta_name) index.form.settings form.settings index.commit catalog.commit found F.found).1
 
   module _ (index : OpenedIndex schema before) where
     text_is : form.schema ≡ index.form.schema
-    text_is = f.spelled.text_is ∙ sym index.spelled.text_is
+    text_is = spelled.text_is ∙ sym index.spelled.text_is
 
     same : (form.settings ≡ index.form.settings) × (catalog.commit ≡ index.state.catalog.commit)
     same =
@@ -136,7 +137,7 @@ module _ {O W C : Type 0} (g : Ghosts O W C) (outside : O) (schema : List ℕ) (
         files = λ n file. sealed_holds (file_at index.state n) (now n) _ (sealed_is n file) (rw f.open_files refl);
         left = λ n file. left_is n;
         meta =
-            (let M = meta_means form.schema f.spelled.tree (before meta_name) (now meta_name) form.settings catalog.commit f.spelled.form (f.finds tells).found
+            (let M = meta_means form.schema spelled.tree (before meta_name) (now meta_name) form.settings catalog.commit spelled.form (f.finds tells).found
             (λ some. (f.leaves tells).stood some meta_name) (λ none. (f.leaves tells).made none) in
             (M.0, M.1, subst (λ (c : Commit). Means form.settings form.schema M.0 c) same.1 M.2));
         listing = subst (λ (names : List (List ℕ)). Lists (now list_name) names) managed_is (f.lists tells);

@@ -28,12 +28,14 @@ pub mod Acting
 pub mod Applied
 pub mod Opened
 pub mod FoundStates
-pub mod Unopened
 pub mod OpenedCatalogs
 pub mod CheckedFiles
-pub mod Starting
 pub mod Unfound
+pub mod Locking
+pub mod Unopened
 pub mod KeptFiles
 pub mod NewFiles
 pub mod AskedEvents
 pub mod AskedReads
+pub mod SavedFiles
+pub mod EventLaws

@@ -13,8 +13,17 @@ same_or {P} name n same other =
       | false ↦ λ e. other (λ is. true≢false (sym (at_itself name) ∙ ap (λ (k : List ℕ). is_at (byte_cmp name) k) (sym is) ∙ e))
     ] refl
 
-pub freed_again : (start made taken back : Locks) (name : List ℕ) → SameLocks start made → TakesLock made taken name → FreesLock taken back name → SameLocks start back
-freed_again start made taken back name same took freed n =
+-- it was taken, and kept for a while
+pub took_then : (start taken made : Locks) (name : List ℕ) → TakesLock start taken name → SameLocks taken made → TakesLock start made name
+took_then start taken made name took same = record {
+  was_free = took.was_free;
+  is_held = same name ∙ took.is_held;
+  others = λ n other. same n ∙ took.others n other;
+}
+
+-- and it was freed again
+pub freed_after : (start taken made back : Locks) (name : List ℕ) → TakesLock start taken name → SameLocks taken made → FreesLock made back name → SameLocks start back
+freed_after start taken made back name took same freed n =
     same_or name n
-    (λ is. ap back is ∙ freed.is_free ∙ sym took.was_free ∙ same name ∙ ap start (sym is))
-    (λ other. freed.others n other ∙ took.others n other ∙ same n)
+    (λ is. ap back is ∙ freed.is_free ∙ sym took.was_free ∙ ap start (sym is))
+    (λ other. freed.others n other ∙ same n ∙ took.others n other)

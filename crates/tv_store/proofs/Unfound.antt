@@ -1,44 +1,197 @@
 -- Why no index was found, as a cause of an opening, and what that leaves.
-use Rattle.std.proofs.Common.{◌≡◌, inl, inr, ℕ, List, sym, subst, ◌∙◌}
+use Rattle.std.proofs.Common.{◌≡◌, ◌⊎◌, inl, inr, ℕ, List, Option, Some, None, true≢false, refl, sym, subst, ◌∙◌}
+use Rattle.std.specs.Prelude.{IsSome}
 use Rattle.tv_base.specs.declared.error.TantivyError.{TantivyError}
 use Rattle.tv_base.specs.declared.error.TantivyError.TheVariants as errors
+use Rattle.tv_directory.specs.ViewLaws.{deletes_then, kept_itself}
+use Rattle.tv_directory.specs.Watch.{MayNote, WatchState}
 use Rattle.tv_directory.specs.declared.directory.Directory.{Ghosts}
-use Rattle.tv_index.specs.Opening.{IsRefusedBytes, LeavesUnopened, NotOpened, OpenCause}
-use Rattle.tv_index.specs.Saving.{IsUnrefused}
-use Rattle.tv_model.specs.Files.{Reads}
+use Rattle.tv_managed.specs.Names.{ManagedNames}
+use Rattle.tv_model.specs.Files.{Reads, Rose, Same}
+use Rattle.tv_model.specs.Meaning.{MeansNothing, MeansOther}
+use Rattle.tv_model.specs.Names.{list_name, meta_name}
 use Rattle.tv_model.specs.Schemas.{IsSchema}
-use Rattle.tv_store.specs.Making.{FindsNone, IsRefusedFirst}
-use Rattle.tv_store.specs.OpeningCauses.{OpeningCause}
+use Rattle.tv_managed.specs.Wrapping.{ListsNothing}
+use Rattle.tv_index.specs.CrashLaws.{looks_kept, looks_make, looks_none, looks_then, makes_behind, makes_then}
+use Rattle.tv_index.specs.Crashes.{LacksMeta, MayMake, OnlyLooks, TracksFrom}
+use Rattle.tv_index.specs.Opening.{IsRefusedBytes, LeavesFound, LeavesUnopened, ListsSome, NotOpened, OfBytes, OpenCause, OpensIndex, first_text}
+use Rattle.tv_index.specs.Saving.{IsUnrefused}
+use Rattle.tv_index.specs.Schemas.{SchemaCause}
+use Rattle.tv_index.specs.declared.index_meta.UntrackedIndexMeta.{UntrackedIndexMeta}
+use Rattle.tv_store.specs.Making.{FindsNone, GivesBack, IsRefusedFirst, LeavesRefused, WritesNone}
+use Rattle.tv_store.specs.OpeningCauses.{CallFacts, OpeningCause, opening_facts}
+use Rattle.tv_store.specs.StoreCauses.{writer_lock_name}
+use Rattle.tv_store.specs.UnderLock.{IsUnderLock, NotFound, NotUnderLock}
+use Rattle.tv_store.proofs.Holding.{dotted_others}
+use Rattle.tv_store.proofs.Opened.{from_lock, lacked}
+use Rattle.tv_store.proofs.StoreLocks.{freed_after}
 
--- behind the schema only bytes are refused
+-- ---- causes
+
+-- behind the schema and the lock only bytes are refused
 first_bytes : (tells : Type 0) (schema : List ℕ) (reads : Reads) (refused quiet : Type 0) (error : TantivyError) → IsRefusedFirst error → OpenCause tells schema reads refused quiet error → IsRefusedBytes error
 first_bytes tells schema reads refused quiet (errors.InvalidArgument text) first h = absurd h
 first_bytes tells schema reads refused quiet (errors.DataCorruption why) first h = tt
 first_bytes tells schema reads refused quiet (errors.SchemaError text) first h = tt
+first_bytes tells schema reads refused quiet (errors.LockFailure why text) first h = absurd h
 first_bytes tells schema reads refused quiet other first h = absurd first
 
 -- that the device refused a call is another error
-first_unrefused : (error : TantivyError) → IsRefusedFirst error → IsUnrefused error
-first_unrefused (errors.IoError fault) first = first
-first_unrefused other first = tt
+bytes_unrefused : (error : TantivyError) → IsRefusedBytes error → IsUnrefused error
+bytes_unrefused (errors.IoError fault) bytes = bytes
+bytes_unrefused other bytes = tt
 
-found_cause : (tells : Type 0) (schema text : List ℕ) (reads : Reads) (refused quiet : Type 0) (error : TantivyError) → IsSchema schema text → OpenCause tells text reads refused quiet error
-    → OpeningCause tells schema reads ⊥ ⊥ refused quiet error
-found_cause tells schema text reads refused quiet (errors.InvalidArgument why) is h = absurd h
-found_cause tells schema text reads refused quiet (errors.LockFailure why named) is h = absurd h
-found_cause tells schema text reads refused quiet (errors.OpenReadError why) is h = absurd h
-found_cause tells schema text reads refused quiet errors.Memory is h = h
-found_cause tells schema text reads refused quiet other is h = (text, is, h)
+-- a directory that reads the same isn't opened for the same cause
+pub open_cause_at : (tells : Type 0) (schema : List ℕ) (now before : Reads) (refused quiet more all : Type 0) (error : TantivyError) → (tells → Same before now) → (refused → more) → (quiet → all)
+    → OpenCause tells schema now refused quiet error → OpenCause tells schema before more all error
+open_cause_at tells schema now before refused quiet more all (errors.DataCorruption why) same r q (inl h) = inl (q h.0, h.1, λ t. subst ListsNothing (same t list_name) (h.2 t))
+open_cause_at tells schema now before refused quiet more all (errors.DataCorruption why) same r q (inr h) =
+    inr ((λ t. subst ListsSome (same t list_name) (h.0 t)), (q h.1.0, h.1.1, λ t. subst (OfBytes MeansNothing) (same t meta_name) (h.1.2 t)))
+open_cause_at tells schema now before refused quiet more all (errors.SchemaError text) same r q h =
+    ((λ t. subst ListsSome (same t list_name) (h.0 t)), (q h.1.0, h.1.1, λ t. subst (OfBytes (MeansOther schema)) (same t meta_name) (h.1.2 t)))
+open_cause_at tells schema now before refused quiet more all (errors.IoError fault) same r q h = (h.0, r h.1)
+open_cause_at tells schema now before refused quiet more all errors.Memory same r q h = q h
+open_cause_at tells schema now before refused quiet more all other same r q h = absurd h
 
-pub finds_none : {O W C : Type 0} (g : Ghosts O W C) (outside : O) (schema text : List ℕ) (now : O) (error : TantivyError) → IsSchema schema text → NotOpened g outside text now error → FindsNone g outside schema now error
-finds_none g outside schema text now error is n = record {
-  leaves = λ t. record {
-    spelled = λ other same. subst (LeavesUnopened (g.view outside).reads (g.view now).reads) (is.text_is ∙ sym same.text_is) (n.left t);
-    unspelled = λ none. absurd (none text is);
-  };
-  unchanged = λ t first. n.unchanged t (first_bytes g.told.content text (g.view outside).reads _ _ error first n.cause);
-  others = λ t. (n.left t).others;
-  cause = found_cause g.told.content schema text (g.view outside).reads _ _ error is n.cause;
-  unnoted = λ first. n.frame.unless (inr (first_unrefused error first));
-  frame = record { notes = n.frame.notes; unless = λ stood. n.frame.unless (inl stood) };
+pub found_cause : (facts : CallFacts) (schema text : List ℕ) (reads : Reads) (error : TantivyError) → IsSchema schema text → OpenCause facts.tells text reads facts.refused_behind facts.quiet_behind error → OpeningCause facts schema reads error
+found_cause facts schema text reads (errors.InvalidArgument why) is h = absurd h
+found_cause facts schema text reads (errors.LockFailure why named) is h = absurd h
+found_cause facts schema text reads (errors.OpenReadError why) is h = absurd h
+found_cause facts schema text reads errors.Memory is h = h
+found_cause facts schema text reads other is h = (text, is, h)
+
+-- ---- what is left
+
+same_refused : (old new : Reads) (schema : List ℕ) → Same old new → LeavesRefused old new schema
+same_refused old new schema same = record {
+  spelled = λ text is. record { stood = λ some. same; others = λ n other list. same n; made = λ none. inl (same meta_name ∙ none) };
+  unspelled = λ none. same;
 }
+
+unopened_then : (old mid new : Reads) (schema : List ℕ) → LeavesUnopened old mid schema → Same mid new → LeavesUnopened old new schema
+unopened_then old mid new schema h same = record {
+  stood = λ some n. same n ∙ h.stood some n;
+  others = λ n other list. same n ∙ h.others n other list;
+  made = λ none. subst (λ (read : Option (List ℕ)). (read ≡ None) ⊎ (read ≡ Some (first_text schema))) (sym (same meta_name)) (h.made none);
+}
+
+found_unopened : (old new : Reads) (schema : List ℕ) → LeavesFound old new schema → LeavesUnopened old new schema
+found_unopened old new schema h = record { stood = h.stood; others = h.others; made = λ none. inr (h.made none) }
+
+module _ {O W C : Type 0} (g : Ghosts O W C) (outside : O) (schema : List ℕ) where
+  -- the bytes spell no schema, or memory was wanted for it
+  pub unspelled : (error : TantivyError) → SchemaCause schema error → NotFound g outside schema outside error
+  unspelled error h = record {
+    leaves = λ t. same_refused (g.view outside).reads (g.view outside).reads schema (λ n. refl);
+    unchanged = λ t none n. refl;
+    heard = refl;
+    locks = λ t n. refl;
+    cause = cause error h;
+    frame = record { deletes_none = (kept_itself g.told (g.view outside)).frame.tells_none.deletes_none; dotted = λ t n dot other. refl; watched = inl refl };
+    stood = λ tells. refl;
+    unnoted = λ none. refl;
+    makes = λ t text is. looks_make g (first_text text) (LacksMeta g outside) (looks_none g outside);
+    looks = λ t none. looks_none g outside;
+  } where
+    cause : (e : TantivyError) → SchemaCause schema e → OpeningCause (opening_facts g outside outside) schema (g.view outside).reads e
+    cause (errors.InvalidArgument text) k = (refl, k.1, k.0)
+    cause errors.Memory k = inl refl
+    cause other k = absurd k
+
+  -- the lock wasn't given
+  pub not_locked : (text : List ℕ) (now : O) (error : TantivyError) → IsSchema schema text → NotUnderLock g outside text now error → NotFound g outside schema now error
+  not_locked text now error is h = record {
+    leaves = λ t. same_refused (g.view outside).reads (g.view now).reads schema (h.frame.content t);
+    unchanged = λ t none. h.frame.content t;
+    heard = h.frame.kept.frame.tells_none.heard;
+    locks = h.frame.kept.frame.locks;
+    cause = h.cause schema is;
+    frame = record { deletes_none = h.frame.kept.frame.tells_none.deletes_none; dotted = λ t n dot other. h.frame.content t n; watched = inl h.frame.kept.watched };
+    stood = λ tells. h.frame.kept.watched;
+    unnoted = λ none. h.frame.kept.watched;
+    makes = λ t own is. looks_make g (first_text own) (LacksMeta g outside) (h.looks t);
+    looks = λ t none. h.looks t;
+  }
+
+  -- none was found under the lock
+  module _ (locked : O) (text : List ℕ) (now : O) (error : TantivyError) (is : IsSchema schema text) (under : IsUnderLock g outside locked) (back : GivesBack g locked text now error) where
+    abbrev none : FindsNone g locked text back.found error
+    none = back.none
+
+    reads_back : g.told.content → Same (g.view back.found).reads (g.view now).reads
+    reads_back = back.frees.frame.content
+
+    -- a refusal that writes nothing is one of bytes
+    of_bytes : WritesNone g outside error → IsRefusedBytes error
+    of_bytes (inl first) = first_bytes g.told.content text (g.view locked).reads _ _ error first none.cause
+    of_bytes (inr held) = absurd (true≢false (sym held.1 ∙ (under.took held.0).was_free))
+
+    noted_back : MayNote meta_name (g.view outside).watched (g.view now).watched
+    noted_back =
+        subst (λ (w : WatchState). MayNote meta_name w (g.view now).watched) under.only.watched
+        (subst (λ (w : WatchState). MayNote meta_name (g.view locked).watched w) (sym back.frees.frame.watched) none.frame.notes.watched)
+
+    quiet_at : (g.view now).faults ≡ (g.view back.found).faults
+    quiet_at = back.frees.faults
+
+    -- why, as it is counted from before the lock on
+    counted : OpenCause g.told.content text (g.view locked).reads (Rose (g.view outside).faults (g.view now).faults) ((g.view now).faults ≡ (g.view outside).faults) error
+    counted =
+        subst (λ (n : ℕ). OpenCause g.told.content text (g.view locked).reads (Rose n (g.view now).faults) ((g.view now).faults ≡ n) error) under.quiet
+        (subst (λ (n : ℕ). OpenCause g.told.content text (g.view locked).reads (Rose (g.view locked).faults n) (n ≡ (g.view locked).faults) error) (sym quiet_at) none.cause)
+
+    pub given_back : NotFound g outside schema now error
+    given_back = record {
+      leaves = λ t. record {
+        spelled = λ own same.
+            subst (LeavesUnopened (g.view outside).reads (g.view now).reads) (is.text_is ∙ sym same.text_is)
+            (from_lock g under (λ reads. LeavesUnopened reads (g.view now).reads text) t (unopened_then (g.view locked).reads (g.view back.found).reads (g.view now).reads text (none.leaves t) (reads_back t)));
+        unspelled = λ never. absurd (never text is);
+      };
+      unchanged = λ t first n. reads_back t n ∙ none.unchanged t (of_bytes first) n ∙ under.only.content t n;
+      heard = back.frees.frame.tells_none.heard ∙ none.frame.notes.frame.tells_none.heard ∙ under.only.tells_none.heard;
+      locks = λ t. freed_after (g.view outside).locks (g.view locked).locks (g.view back.found).locks (g.view now).locks writer_lock_name (under.took t) (none.frame.notes.frame.locks t) (back.frees.freed t);
+      cause = found_cause (opening_facts g outside now) schema text (g.view outside).reads error is
+          (open_cause_at g.told.content text (g.view locked).reads (g.view outside).reads _ _ _ _ error under.only.content inl inl counted);
+      frame = record {
+        deletes_none = deletes_then under.only.tells_none.deletes_none (deletes_then none.frame.notes.frame.tells_none.deletes_none back.frees.frame.tells_none.deletes_none);
+        dotted = λ t n dot other. reads_back t n ∙ dotted_others (g.view locked).reads (g.view back.found).reads meta_name refl (none.leaves t).others n dot other ∙ under.only.content t n;
+        watched = noted_back;
+      };
+      stood = λ tells. back.frees.frame.watched ∙ none.frame.unless (tells.0, subst IsSome (sym (under.only.content tells.0 meta_name)) tells.1) ∙ under.only.watched;
+      unnoted = λ first. back.frees.frame.watched ∙ none.unnoted (of_bytes first) ∙ under.only.watched;
+      makes = λ t own same.
+          subst (λ (x : List ℕ). MayMake g (LacksMeta g outside) (first_text x) outside now) (is.text_is ∙ sym same.text_is)
+          (makes_behind g (first_text text) (LacksMeta g locked) (LacksMeta g outside) (lacked g under) (under.looks t)
+          (makes_then g (first_text text) (LacksMeta g locked) (none.makes t) (looks_kept g (back.keeps t))));
+      looks = λ t first. looks_then g (under.looks t) (looks_then g (none.spares t (of_bytes first)) (looks_kept g (back.keeps t)));
+    }
+
+-- ---- under the lock
+
+module _ {O W C : Type 0} (g : Ghosts O W C) (locked : O) (schema : List ℕ) where
+  -- it wasn't opened
+  pub finds_none : (now : O) (error : TantivyError) → NotOpened g locked schema now error → (g.tells_images → MayMake g (LacksMeta g locked) (first_text schema) locked now)
+      → (g.tells_images → IsRefusedBytes error → OnlyLooks g locked now) → FindsNone g locked schema now error
+  finds_none now error n makes spares = record {
+    leaves = n.left;
+    unchanged = n.unchanged;
+    cause = n.cause;
+    unnoted = λ bytes. n.frame.unless (inr (bytes_unrefused error bytes));
+    frame = record { notes = n.frame.notes; unless = λ stood. n.frame.unless (inl stood) };
+    makes = makes;
+    spares = spares;
+  }
+
+  -- it was, and then memory was wanted
+  pub wants_catalog : (opened : O × ManagedNames) (meta : UntrackedIndexMeta) (now : O) → now ≡ opened.0 → OpensIndex g locked schema opened meta
+      → (g.tells_images → MayMake g (LacksMeta g locked) (first_text schema) locked opened.0 × TracksFrom g locked opened) → FindsNone g locked schema now errors.Memory
+  wants_catalog opened meta now is o safe = subst (λ (d : O). FindsNone g locked schema d errors.Memory) (sym is) (record {
+    leaves = λ t. found_unopened (g.view locked).reads (g.view opened.0).reads schema (o.left t);
+    unchanged = λ t bytes. absurd bytes;
+    cause = o.quiet;
+    unnoted = λ bytes. absurd bytes;
+    frame = o.frame;
+    makes = λ t. (safe t).0;
+    spares = λ t bytes. absurd bytes;
+  })

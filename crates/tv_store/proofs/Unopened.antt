@@ -1,81 +1,43 @@
--- What a refused opening leaves, where no index was found or where the lock wasn't given.
-use Rattle.std.proofs.Common.{◌≡◌, ◌⊎◌, ℕ, true, false, List, Err, refl, sym, subst, ◌∙◌}
-use Rattle.std.proofs.Math.Logic.{⊎_map}
-use Rattle.tv_base.specs.Errors.{of_lock}
-use Rattle.tv_base.specs.declared.error.TantivyError.{TantivyError}
-use Rattle.tv_base.specs.declared.open_errors.LockError.{LockError}
-use Rattle.tv_base.specs.declared.open_errors.LockError.TheVariants as lock
-use Rattle.tv_directory.specs.Calls.{LockFaults}
-use Rattle.tv_directory.specs.Locks.{LockCause}
-use Rattle.tv_directory.specs.View.{OnlyLocks}
+-- What an opening is that is refused before its line, put together.
+use Rattle.std.proofs.Common.{◌≡◌, inl, List, ℕ, Result, Ok, Err, refl, sym, subst}
+use Rattle.std.specs.Prelude.{IfErr}
+use Rattle.std.specs.Result.{IsErrAnd}
 use Rattle.tv_directory.specs.declared.directory.Directory.{Ghosts}
 use Rattle.tv_managed.specs.declared.managed_directory.Refused.{Refused}
-use Rattle.tv_model.specs.Files.{Rose}
-use Rattle.tv_model.specs.State.{Catalog}
-use Rattle.tv_index.specs.Opening.{LeavesUnopened}
-use Rattle.tv_store.specs.Kept.{FilesState}
-use Rattle.tv_store.specs.Making.{FindsFiles, IsRefusedFirst}
-use Rattle.tv_store.specs.Opening.{LeavesIndex, OpeningFaults, OpeningFrame}
-use Rattle.tv_store.specs.OpeningCauses.{OpeningCause}
-use Rattle.tv_store.specs.Stays.{KeepsFiles}
-use Rattle.tv_store.specs.StoreCauses.{IsBusy, writer_lock_name}
-use Rattle.tv_store.proofs.FoundStates.{the_found}
-use Rattle.tv_store.proofs.Opened.{notified, same_unopened, unnoted}
+use Rattle.tv_model.specs.Files.{Heard}
+use Rattle.tv_model.specs.Lines.{opening_of}
+use Rattle.tv_store.specs.Kept.{StoreState}
+use Rattle.tv_store.specs.Opening.{LeavesIndex, OpeningFaults, OpeningFrame, OpensSafely, TakesWriterLock, TellsOpening}
+use Rattle.tv_store.specs.Telling.{TellsFirstPart, TellsNoLine}
+use Rattle.tv_store.specs.UnderLock.{NotFound}
 
--- the lock wasn't given
-module _ {O W C : Type 0} (g : Ghosts O W C) (outside : O) (schema : List ℕ) (catalog : Catalog) (files locked : FilesState O)
-    (f : FindsFiles g outside schema catalog files) (frame : KeepsFiles (OnlyLocks g.told) g.view files locked) (error : TantivyError) where
-  abbrev back : Refused O
-  back = record { error = error; directory = locked.outside }
+module _ {O W C : Type 0} (g : Ghosts O W C) (outside : O) (schema : List ℕ) (result : Result (StoreState O) (Refused O)) (refused : Refused O) (is : IsErrAnd result (λ r. r ≡ refused))
+    (n : NotFound g outside schema refused.directory refused.error) where
+  -- what holds of the refusal holds of the answer
+  answered : (P : Result (StoreState O) (Refused O) → Type 0) → P (Err refused) → P result
+  answered P h = by result is where
+    by : (r : Result (StoreState O) (Refused O)) → IsErrAnd r (λ e. e ≡ refused) → P r
+    by (Ok s) never = absurd never
+    by (Err e) same = subst (λ (x : Refused O). P (Err x)) (sym same) h
 
-  pub unlocked_leaves : (IsRefusedFirst error → ⊥) → LeavesIndex g outside schema back
-  unlocked_leaves other = record {
-    leaves = λ t. record {
-      spelled = λ text is.
-          subst (LeavesUnopened (g.view outside).reads (g.view locked.outside).reads) (f.spelled.text_is ∙ sym is.text_is)
-          (same_unopened (g.view outside).reads (g.view files.outside).reads (g.view locked.outside).reads files.form.schema (f.leaves t) (frame.managed.below.content t));
-      unspelled = λ none. absurd (none files.form.schema f.spelled);
-    };
-    unchanged = λ t first. absurd (other first);
-  }
+  pub unopened_leaves : IfErr result (LeavesIndex g outside schema)
+  unopened_leaves = answered (λ r. IfErr r (LeavesIndex g outside schema)) (record { leaves = n.leaves; unchanged = n.unchanged })
 
-  pub unlocked_stays : (IsRefusedFirst error → ⊥) → OpeningFrame g outside (Err back)
-  unlocked_stays other = record {
-    ok = tt;
-    err = notified g outside schema catalog files locked f frame;
-    stood = unnoted g outside schema catalog files locked f frame;
-    made = tt;
-    unnoted = λ first. absurd (other first);
-  }
+  pub unopened_tells : TellsOpening g outside schema result
+  unopened_tells = answered (TellsOpening g outside schema) (record {
+    ok = λ t. tt;
+    err = λ t. subst (TellsNoLine (g.view outside).heard) (sym n.heard) (inl refl);
+    part = λ t h index. subst (λ (now : Heard). TellsFirstPart (g.view outside).heard now (opening_of index.commit)) (sym n.heard) (inl refl);
+  })
 
-  -- why it wasn't
-  pub unlocked_fails : (why : LockError) → of_lock why ≡ error → LockFaults {A = Unit {0}} g.told (g.view files.outside) (g.view locked.outside) writer_lock_name (Err why) → OpeningFaults g outside schema (Err back)
-  unlocked_fails why is faults = record { quiet = tt; cause = subst Cause is (cause why faults.busy faults.cause) } where
-    Cause : TantivyError → Type 0
-    Cause = OpeningCause g.told.content schema (g.view outside).reads
-        (IsBusy g.told.locks ((g.view outside).locks writer_lock_name ≡ true) (Rose (g.view outside).faults (g.view locked.outside).faults)) (g.told.locks → (g.view outside).locks writer_lock_name ≡ false)
-        (Rose (g.view outside).faults (g.view locked.outside).faults) ((g.view locked.outside).faults ≡ (g.view outside).faults)
+  pub unopened_locks : TakesWriterLock g outside result
+  unopened_locks = answered (TakesWriterLock g outside) (record { ok = λ t. tt; under = tt; err = n.locks })
 
-    rose : Rose (g.view files.outside).faults (g.view locked.outside).faults → Rose (g.view outside).faults (g.view locked.outside).faults
-    rose r = subst (λ (n : ℕ). Rose n (g.view locked.outside).faults) f.quiet r
+  pub unopened_fails : OpeningFaults g outside schema result
+  unopened_fails = answered (OpeningFaults g outside schema) (record { quiet = tt; cause = n.cause })
 
-    cause : (why : LockError) → (g.told.locks → LockCause ((g.view files.outside).locks writer_lock_name ≡ true) (Unit {0}) (Unit {0}) why)
-        → LockCause ((g.told.locks × ((g.view locked.outside).faults ≡ (g.view files.outside).faults)) ⊎ Rose (g.view files.outside).faults (g.view locked.outside).faults) (Rose (g.view files.outside).faults (g.view locked.outside).faults) ((g.view locked.outside).faults ≡ (g.view files.outside).faults) why
-        → Cause (of_lock why)
-    cause lock.LockBusy busy h = (
-      (files.form.schema, f.spelled),
-      the_found g outside schema catalog files f,
-      record {
-        told = λ t. sym (f.frame.notes.frame.locks t writer_lock_name) ∙ busy t;
-        untold = ⊎_map (λ both. both.0) rose h;
-      },
-      refl,
-    )
-    cause (lock.IoError fault) busy h = ((files.form.schema, f.spelled), the_found g outside schema catalog files f, (h.0, rose h.1), refl)
-    cause lock.Memory busy h = h ∙ f.quiet
+  pub unopened_stays : OpeningFrame g outside result
+  unopened_stays = answered (OpeningFrame g outside) (record { ok = tt; err = n.frame; stood = n.stood; made = tt; unnoted = n.unnoted })
 
-  -- it is no refusal of an argument or of bytes
-  pub no_first : (why : LockError) → of_lock why ≡ error → IsRefusedFirst error → ⊥
-  no_first lock.LockBusy is first = subst IsRefusedFirst (sym is) first
-  no_first (lock.IoError fault) is first = subst IsRefusedFirst (sym is) first
-  no_first lock.Memory is first = subst IsRefusedFirst (sym is) first
+  pub unopened_safely : g.tells_images → OpensSafely g outside schema result
+  unopened_safely t = answered (OpensSafely g outside schema) (record { ok = tt; tracks = tt; err = n.makes t; looks = n.looks t })

@@ -24,12 +24,14 @@ abbrev pub StepsTo : {O W C : Type 0} (g : Ghosts O W C) (old new : StoreState O
 StepsTo g old new told result =
     g.told.content → (s : State) → Holds (g.view old.outside).reads old.kept s → IfOk result (λ answer. (answer ≡ (told s).0) × Holds (g.view new.outside).reads new.kept (told s).1)
 
--- the same of a step that reads files, where this is true of the state
+-- From each state that was held and in which the files can be read, the step's answer is given, and the
+-- state after it is held.
 abbrev pub StepsReading : {O W C : Type 0} (g : Ghosts O W C) (old new : StoreState O) (told : State → StepResult State) (good : State → Type 0) (result : Result (List ℕ) TantivyError) → Type 0
 StepsReading g old new told good result =
     g.told.content → (s : State) → Holds (g.view old.outside).reads old.kept s → IsWhole s → IfOk result (λ answer. (answer ≡ (told s).0) × Holds (g.view new.outside).reads new.kept (told s).1 × good s)
 
--- the same of a step that deletes, with some outcomes of its deletes: no more were refused than their count rose
+-- From each state that was held, the step's answer is given and the state after it is held, with some
+-- outcomes of its deletes: no more were refused than their count rose.
 abbrev pub StepsDeleting : {O W C : Type 0} (g : Ghosts O W C) (old new : StoreState O) (told : State → List Bool → StepResult State) (answer : List ℕ) → Type 0
 StepsDeleting g old new told answer =
     (outcomes : List Bool) × RoseBy (refused_in outcomes) (g.view old.outside).refusals (g.view new.outside).refusals
@@ -39,7 +41,7 @@ StepsDeleting g old new told answer =
 abbrev pub reader_event : ReloadPolicy → State → StepResult State
 reader_event policy s = on_catalog s (reader_step s.catalog policy (bodies_in s s.catalog.commit))
 
--- and that of a reload
+-- the step of a reload, which reads the files of the current commit
 abbrev pub reload_event : ℕ → State → StepResult State
 reload_event number s = on_catalog s (reload_step s.catalog number (bodies_in s s.catalog.commit))
 

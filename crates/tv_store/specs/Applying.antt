@@ -1,10 +1,10 @@
 -- An event, applied to a store that is open.
-use Rattle.std.specs.Prelude.{ℕ, ◌≡◌, ◌≢◌, ◌≤◌, ◌+◌, ◌⊎◌, Bool, true, false, List, length, Option, Some, Result, IfErr, OnOk, OnErr, is_ok}
+use Rattle.std.specs.Prelude.{ℕ, ◌≡◌, ◌≢◌, ◌≤◌, ◌+◌, ◌⊎◌, Bool, true, false, List, length, Option, Some, IsSome, Result, IfErr, OnOk, OnErr, is_ok}
 use Rattle.tv_base.specs.declared.error.TantivyError.{TantivyError}
 use Rattle.tv_base.specs.declared.error.TantivyError.TheVariants as errors
 use Rattle.tv_base.specs.declared.open_errors.OpenReadError.{OpenReadError}
 use Rattle.tv_directory.specs.Locks.{SameLocks}
-use Rattle.tv_directory.specs.View.{View, GoesOn}
+use Rattle.tv_directory.specs.View.{View, GoesOn, OnlyTells}
 use Rattle.tv_directory.specs.Watch.{WatchState, MayNote, noted}
 use Rattle.tv_directory.specs.declared.directory.Directory.{Ghosts}
 use Rattle.tv_index.specs.Saving.{saved_text}
@@ -18,7 +18,7 @@ use Rattle.tv_model.specs.State.{State}
 use Rattle.tv_model.specs.declared.event.Event.{Event}
 use Rattle.tv_model.specs.declared.event.Event.TheVariants as events
 use Rattle.tv_model.specs.SoundStates.{IsWhole}
-use Rattle.tv_model.specs.Machine.{step, refused_in}
+use Rattle.tv_model.specs.Machine.{catalog_step, step, refused_in}
 use Rattle.tv_model.specs.Readable.{ReadsGood, read_by}
 use Rattle.tv_managed.specs.Collecting.{meta_lock_name}
 use Rattle.tv_store.specs.Kept.{Kept, StoreState, Holds, AtMost}
@@ -88,11 +88,11 @@ abbrev pub UnloadedAt : {O W C : Type 0} → Ghosts O W C → (old new : StoreSt
 UnloadedAt g old new event error =
     ReadsCommit old.kept.catalog event × MetaCause g.told.content (Some old.kept.form.schema) ((g.view old.outside).reads meta_name) (Rose (g.view old.outside).faults (g.view new.outside).faults) ((g.view new.outside).faults ≡ (g.view old.outside).faults) error
 
--- it does, and a file of the commit is refused with this error
+-- the event reads the current commit, and a file of the commit is refused with this error
 abbrev pub RefusedAt : {O W C : Type 0} → Ghosts O W C → (old : StoreState O) → Event → OpenReadError → Type 0
 RefusedAt g old event error = ReadsCommit old.kept.catalog event × BadIn g.told.content (g.view old.outside).reads old.kept event error
 
--- it does, and a file isn't there
+-- the event reads the current commit, and a file of the commit isn't there
 abbrev pub GoneAt : {O W C : Type 0} → Ghosts O W C → (old : StoreState O) → Event → Type 0
 GoneAt g old event = ReadsCommit old.kept.catalog event × HoldsNone g.told.content (g.view old.outside).reads old.kept
 
@@ -132,14 +132,23 @@ abbrev pub MayNoteAt : Event → WatchState → WatchState → Type 0
 MayNoteAt (events.Commit payload ids) old new = MayNote meta_name old new
 MayNoteAt other old new = new ≡ old
 
+-- What an event does that needs the catalog and the managed names alone: it asks the directory for no file, of which it keeps what
+-- such a call keeps, and is answered no error of a file that is read.
+pub record AsksNoFile {O W C : Type 0} (keeps : View W → View W → Type 0) (g : Ghosts O W C)
+    (old new : StoreState O) (result : Result (List ℕ) TantivyError) : Type 0 where
+  pub below : keeps (g.view old.outside) (g.view new.outside)
+  pub error : IfErr result (λ error. IsReadError error → ⊥)
+
 -- What each event keeps: the locks, who watches, the settings and the schema, and the files with a dot in front, the list apart. A writer that may be handed in
--- still may. The store is open unless an error came.
+-- still may. An event that needs no file asks the directory only to tell its line. The store is open unless an error came.
 pub record AppliesFrame {O W C : Type 0} (g : Ghosts O W C) (old new : StoreState O) (event : Event) (result : Result (List ℕ) TantivyError) : Type 0 where
   pub goes_on : GoesOn g.told (g.view old.outside) (g.view new.outside)
   pub locks : g.told.locks → SameLocks (g.view old.outside).locks (g.view new.outside).locks
   pub watched : MayNoteAt event (g.view old.outside).watched (g.view new.outside).watched
   pub form : new.kept.form ≡ old.kept.form
   pub dotted : g.told.content → KeepsDotted (g.view old.outside).reads (g.view new.outside).reads
+  pub alone : IsSome (catalog_step old.kept.catalog old.kept.managed event)
+      → AsksNoFile (OnlyTells g.told) g old new result
   pub is_open : new.is_open ≡ is_ok result
 
 -- An event that nothing disturbs, from a state that is held: what is read is told, and the locks are; the files that it reads can be read, the lock that it takes is

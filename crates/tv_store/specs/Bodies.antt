@@ -73,7 +73,8 @@ pub record MeetsBadFile (s : State) (names : List (List ℕ)) (error : OpenReadE
   pub why : RefusesFile bytes path error
   pub no_body : HasNoBody bytes
 
--- the same of what the names read, where that is told
+-- Of these files, one after the other, the first that can't be read is refused with this error, by what the
+-- names read, where that is told.
 pub record RefusesFirst (tells : Type 0) (reads : Reads) (names : List (List ℕ)) (error : OpenReadError) : Type 0 where
   pub front : List (List ℕ)
   pub path : List ℕ

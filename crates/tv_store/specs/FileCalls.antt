@@ -8,7 +8,8 @@ use Rattle.tv_base.specs.declared.open_errors.OpenWriteError.{OpenWriteError}
 use Rattle.tv_base.specs.declared.open_errors.OpenWriteError.TheVariants as write
 use Rattle.tv_directory.specs.View.{View, Told}
 use Rattle.tv_directory.specs.declared.directory.Directory.{Ghosts}
-use Rattle.tv_managed.specs.Collecting.{FailsAtMost, meta_lock_name}
+use Rattle.tv_managed.specs.Collecting.{FailsAtMost, TakesNoLock, meta_lock_name}
+use Rattle.tv_managed.specs.Crashes.{LeavesSafely}
 use Rattle.tv_managed.specs.Managed.{MakesFile}
 use Rattle.tv_model.specs.Collections.{collectable, done_of, failed_of, held, without}
 use Rattle.tv_model.specs.Files.{Reads, Rose, Same}
@@ -17,8 +18,9 @@ use Rattle.tv_model.specs.Listing.{Lists}
 use Rattle.tv_model.specs.Names.{byte_cmp, has, list_name, meta_name}
 use Rattle.tv_model.specs.State.{at}
 use Rattle.tv_store.specs.Bodies.{RefusesAt}
-use Rattle.tv_store.specs.Kept.{FilesState}
+use Rattle.tv_store.specs.Kept.{FilesState, names_below}
 use Rattle.tv_store.specs.ReadCauses.{ApplyCause}
+use Rattle.tv_index.specs.Crashes.{SavesStates}
 use Rattle.tv_index.specs.Saving.{FrameNotes}
 use Rattle.tv_store.specs.StoreCauses.{IsBusy, LockingCause, MakesNoFile}
 
@@ -63,6 +65,7 @@ pub record ReadBodyFaults {A O W C : Type 0} (g : Ghosts O W C) (old new : O) (n
   pub quiet : OnOk result ((g.view new).faults ≡ (g.view old).faults)
   pub cause : IfErr result (ApplyCause ⊥ (Rose (g.view old).faults (g.view new).faults) ((g.view new).faults ≡ (g.view old).faults) ⊥ (λ error. g.told.content → RefusesAt (g.view old).reads name error) (λ path. (path ≡ name) × (g.told.content → (g.view old).reads path ≡ None)))
   pub file : IfErr result MakesNoFile
+  pub lock : IfErr result TakesNoLock
 
 -- What trying these names gave: each is told as done or as failed, in their order.
 pub record Tried (names before after deleted failed : List (List ℕ)) (tells : Type 0) (old new : Reads) : Type 0 where
@@ -97,6 +100,15 @@ pub record GcFaults {A O W C : Type 0} (g : Ghosts O W C) (spent : Type 0) (old 
 pub record LeavesText {A O W C : Type 0} (g : Ghosts O W C) (old new : O) (text : List ℕ) (result : Result A TantivyError) : Type 0 where
   pub either : g.told.content → OnErr result (((g.view new).reads meta_name ≡ Some text) ⊎ ((g.view new).reads meta_name ≡ (g.view old).reads meta_name))
   pub memory : g.told.content → IfErr result (λ error. error ≡ errors.Memory → (g.view new).reads meta_name ≡ (g.view old).reads meta_name)
+
+-- What a crash may leave of a save: at each moment what it might leave before, or each name as it stood, but
+-- that `meta.json` may have the new text; at Ok that text alone. Track is kept of the files.
+abbrev pub SavesSafely : {A O W C : Type 0} → Ghosts O W C → (old new : FilesState O) → (text : List ℕ)
+    → Result A TantivyError → Type 0
+SavesSafely g old new text result =
+    LeavesSafely g
+    (SavesStates (g.disk old.outside) (g.disk new.outside) (names_below old).1 text result)
+    (names_below old) (names_below new)
 
 -- The settings and the schema stay, and the unfinished collections; no file was opened, written, closed or left, and no lock was taken or freed; a notice of a commit may stand.
 pub record KeepsOpenFiles {O W : Type 0} (told : Told) (view : O → View W) (old new : FilesState O) : Type 0 where

@@ -41,6 +41,11 @@ pub record FilesState (O : Type 0) : Type 0 where
 abbrev pub names_below : {O : Type 0} → FilesState O → O × ManagedNames
 names_below files = (files.outside, record { managed = files.managed; collections = files.collections })
 
+-- the same of a store
+abbrev pub kept_below : {O : Type 0} → StoreState O → O × ManagedNames
+kept_below store =
+    (store.outside, record { managed = store.kept.managed; collections = store.kept.collections })
+
 -- what a store keeps of an index, with this catalog and these files
 abbrev pub kept_of : {O : Type 0} → Catalog → FilesState O → Kept
 kept_of catalog files = record { form = files.form; catalog = catalog; managed = files.managed; collections = files.collections; open_files = files.open_files; left = files.left }

@@ -19,4 +19,7 @@ pub mod SnapshotCalls
 pub mod Acting
 pub mod OpeningCauses
 pub mod Making
+pub mod UnderLock
+pub mod Saving
 pub mod Opening
+pub mod EventLaws

@@ -1,17 +1,20 @@
 -- Why an opening fails.
-use Rattle.std.specs.Prelude.{ℕ, ◌≡◌, ◌++◌, ◌∷◌, true, List, None, codes, string_bytes}
+use Rattle.std.specs.Prelude.{ℕ, ◌≡◌, ◌++◌, ◌∷◌, true, false, List, None, codes, string_bytes}
+use Rattle.tv_base.specs.Causes.{IsDevice}
 use Rattle.tv_base.specs.declared.error.TantivyError.{TantivyError}
 use Rattle.tv_base.specs.declared.error.TantivyError.TheVariants as errors
+use Rattle.tv_base.specs.declared.open_errors.LockError.TheVariants as lock
 use Rattle.tv_base.specs.declared.open_errors.OpenReadError.{OpenReadError}
-use Rattle.tv_directory.specs.Locks.{LockCause}
+use Rattle.tv_directory.specs.declared.directory.Directory.{Ghosts}
 use Rattle.tv_index.specs.Opening.{OpenCause}
-use Rattle.tv_model.specs.Files.{Reads}
+use Rattle.tv_model.specs.Files.{Reads, Rose}
 use Rattle.tv_model.specs.Index.{FoundIndex}
 use Rattle.tv_model.specs.Names.{has}
 use Rattle.tv_model.specs.Schemas.{IsSchema, IsNoSchema}
 use Rattle.tv_model.specs.Segments.{all_required}
 use Rattle.tv_store.specs.Bodies.{ReadsGoodFile, RefusesAt}
 use Rattle.tv_store.specs.ReadCauses.{ReadFault}
+use Rattle.tv_store.specs.StoreCauses.{IsBusy, QuietBehind, RefusedBehind, writer_lock_name}
 
 -- the text of a schema that is refused
 abbrev pub schema_refusal : List ℕ
@@ -36,22 +39,64 @@ MeetsRefused reads names error = (path : List ℕ) × IsFirstBad reads names pat
 abbrev pub MeetsMissing : Reads → List (List ℕ) → List ℕ → Type 0
 MeetsMissing reads names path = IsFirstBad reads names path × (reads path ≡ None)
 
--- the same of the files that the index requires which stands there
+-- of the files that the index requires which stands there, the first that can't be read is refused with this
+-- error
 abbrev pub IndexRefused : (schema : List ℕ) → Reads → OpenReadError → Type 0
 IndexRefused schema reads error = (index : FoundIndex schema reads) × MeetsRefused reads (all_required index.commit.segments) error
 
+-- of the files that the index requires which stands there, this is the first that can't be read, and it
+-- isn't there
 abbrev pub IndexMissing : (schema : List ℕ) → Reads → List ℕ → Type 0
 IndexMissing schema reads path = (index : FoundIndex schema reads) × MeetsMissing reads (all_required index.commit.segments) path
 
--- Why an opening fails, in this order: the schema is refused; the index that stands there is; the lock of the writer isn't given, which is `busy`; or, where that is
--- free, a file of the commit can't be read, the first of those that it requires. Each is so, and none before it. A device may refuse a call, and memory may be wanted,
--- at any time. `tells` says that the content is told, `quiet` that no call was refused.
-abbrev pub OpeningCause : (tells : Type 0) → (schema : List ℕ) → Reads → (busy free refused quiet : Type 0) → TantivyError → Type 0
-OpeningCause tells schema reads busy free refused quiet (errors.InvalidArgument text) = quiet × IsNoSchema schema × (string_bytes text ≡ schema_refusal)
-OpeningCause tells schema reads busy free refused quiet (errors.LockFailure why text) =
-    IsSomeSchema schema × (tells → FoundIndex schema reads) × LockCause busy refused ⊥ why × (text ≡ None)
-OpeningCause tells schema reads busy free refused quiet (errors.OpenReadError error) =
-    IsSomeSchema schema × (tells → FoundIndex schema reads) × free
-    × ReadFault refused quiet (λ e. tells → IndexRefused schema reads e) (λ path. tells → IndexMissing schema reads path) error
-OpeningCause tells schema reads busy free refused quiet errors.Memory = quiet
-OpeningCause tells schema reads busy free refused quiet other = (text : List ℕ) × IsSchema schema text × OpenCause tells text reads refused quiet other
+-- What is known of some calls, by which an error is explained.
+pub record CallFacts : Type 1 where
+  -- the content is told
+  pub tells : Type 0
+  -- a lock isn't given; that of the writer was free
+  pub busy : Type 0
+  pub free : Type 0
+  -- a call was refused; none was
+  pub refused : Type 0
+  pub quiet : Type 0
+  -- the same where the lock of the writer may not have been given, which may count as a refused call
+  pub refused_behind : Type 0
+  pub quiet_behind : Type 0
+
+-- where locks are told, that of the writer is held
+abbrev pub IsLockedOut : {O W C : Type 0} → Ghosts O W C → (outside : O) → Type 0
+IsLockedOut g outside = g.told.locks → (g.view outside).locks writer_lock_name ≡ true
+
+-- what is known of the calls of an opening, of the directory handed in and as it is now
+abbrev pub opening_facts : {O W C : Type 0} → Ghosts O W C → (outside now : O) → CallFacts
+opening_facts g outside now = record {
+  tells = g.told.content;
+  busy = IsBusy g.told.locks ((g.view outside).locks writer_lock_name ≡ true)
+      (Rose (g.view outside).faults (g.view now).faults);
+  free = g.told.locks → (g.view outside).locks writer_lock_name ≡ false;
+  refused = Rose (g.view outside).faults (g.view now).faults;
+  quiet = (g.view now).faults ≡ (g.view outside).faults;
+  refused_behind = RefusedBehind (IsLockedOut g outside) (g.view outside).faults (g.view now).faults;
+  quiet_behind = QuietBehind (IsLockedOut g outside) (g.view outside).faults (g.view now).faults;
+}
+
+-- Why an opening fails, in this order: the schema is refused; the index that stands there is; the lock
+-- of the writer is held, which is `busy`; or, where it is free, a file of the commit can't be read, the
+-- first of those that it requires. Each is so, and none before it. A device may refuse a call, that of
+-- the lock too, and memory may be wanted, at any time.
+abbrev pub OpeningCause : CallFacts → (schema : List ℕ) → Reads → TantivyError → Type 0
+OpeningCause facts schema reads (errors.InvalidArgument text) =
+    facts.quiet × IsNoSchema schema × (string_bytes text ≡ schema_refusal)
+OpeningCause facts schema reads (errors.LockFailure lock.LockBusy text) =
+    IsSomeSchema schema × (facts.tells → FoundIndex schema reads) × facts.busy × (text ≡ None)
+OpeningCause facts schema reads (errors.LockFailure (lock.IoError fault) text) =
+    IsSomeSchema schema × IsDevice fault × facts.refused × (text ≡ None)
+OpeningCause facts schema reads (errors.LockFailure lock.Memory text) = ⊥
+OpeningCause facts schema reads (errors.OpenReadError error) =
+    IsSomeSchema schema × (facts.tells → FoundIndex schema reads) × facts.free
+    × ReadFault facts.refused facts.quiet (λ e. facts.tells → IndexRefused schema reads e)
+    (λ path. facts.tells → IndexMissing schema reads path) error
+OpeningCause facts schema reads errors.Memory = facts.quiet_behind
+OpeningCause facts schema reads other =
+    (text : List ℕ) × IsSchema schema text
+    × OpenCause facts.tells text reads facts.refused_behind facts.quiet_behind other

@@ -12,6 +12,8 @@ abbrev pub body_told : Option (List ℕ) → BodyAnswer
 body_told None = NoFile
 body_told (Some text) = Line text
 
+-- what is told of a body that a searcher shows: that there is no such searcher, that it shows no such file,
+-- or its line
 abbrev pub bytes_told : ℕ → ℕ → SegmentComponent → Option Snapshot → BodyAnswer
 bytes_told number ord component None = NoSearcher
 bytes_told number ord component (Some shown) = body_told (option_map (bytes_line number ord component) (body_at shown ord component))

@@ -29,14 +29,17 @@ pub record CommitFaults {A O W C : Type 0} (g : Ghosts O W C) (old new : StoreSt
   pub quiet : OnOk result ((g.view new.outside).faults ≡ (g.view old.outside).faults)
   pub cause : IfErr result (LoadingCause ⊥ (Rose (g.view old.outside).faults (g.view new.outside).faults) ((g.view new.outside).faults ≡ (g.view old.outside).faults) ⊥ (MetaCause g.told.content (Some old.kept.form.schema) ((g.view old.outside).reads meta_name) (Rose (g.view old.outside).faults (g.view new.outside).faults) ((g.view new.outside).faults ≡ (g.view old.outside).faults)) (LacksIn g.told.content (g.view old.outside).reads old.kept) (λ path. HoldsNone g.told.content (g.view old.outside).reads old.kept))
 
--- The same of a call that takes the meta lock, which was free if it is given; only then is `meta.json` read, or a file.
+-- A call that takes the meta lock and loads a commit with its files fails where the lock isn't given, the
+-- commit isn't loaded or a file isn't read. The lock was free if it is given; only then is `meta.json` read,
+-- or a file.
 pub record SnapshotFaults {A O W C : Type 0} (g : Ghosts O W C) (old new : StoreState O) (result : Result A TantivyError) : Type 0 where
   pub quiet : OnOk result ((g.view new.outside).faults ≡ (g.view old.outside).faults)
   pub free : g.told.locks → OnOk result ((g.view old.outside).locks meta_lock_name ≡ false)
   pub reads : g.told.locks → IfErr result (λ error. IsReadError error → (g.view old.outside).locks meta_lock_name ≡ false)
   pub cause : IfErr result (LoadingCause (IsBusy g.told.locks ((g.view old.outside).locks meta_lock_name ≡ true) (Rose (g.view old.outside).faults (g.view new.outside).faults)) (Rose (g.view old.outside).faults (g.view new.outside).faults) ((g.view new.outside).faults ≡ (g.view old.outside).faults) ⊥ (MetaCause g.told.content (Some old.kept.form.schema) ((g.view old.outside).reads meta_name) (Rose (g.view old.outside).faults (g.view new.outside).faults) ((g.view new.outside).faults ≡ (g.view old.outside).faults)) (LacksIn g.told.content (g.view old.outside).reads old.kept) (λ path. HoldsNone g.told.content (g.view old.outside).reads old.kept))
 
--- The same of an event that reads them, if it takes the lock; or its number is spent.
+-- An event that loads a commit with its files fails as such a call does, if it takes the lock; or where its
+-- number is spent.
 pub record ReadingFaults {A O W C : Type 0} (g : Ghosts O W C) (takes spent : Type 0) (old new : StoreState O) (event : Event) (result : Result A TantivyError) : Type 0 where
   pub quiet : OnOk result ((g.view new.outside).faults ≡ (g.view old.outside).faults)
   pub free : g.told.locks → takes → OnOk result ((g.view old.outside).locks meta_lock_name ≡ false)

@@ -66,7 +66,8 @@ pub record EventFaults {A W : Type 0} (spent : Type 0) (old new : View W) (resul
   pub quiet : OnOk result (new.faults ≡ old.faults)
   pub cause : IfErr result (EventCause (Rose old.faults new.faults) (new.faults ≡ old.faults) spent)
 
--- The same of a call that makes no file and spends no number.
+-- A call that makes no file and spends no number fails where the device refused one, or where memory was
+-- wanted; and the device refused none where it succeeds.
 pub record Faults {A W : Type 0} (old new : View W) (result : Result A TantivyError) : Type 0 where
   pub quiet : OnOk result (new.faults ≡ old.faults)
   pub cause : IfErr result (EventCause (Rose old.faults new.faults) (new.faults ≡ old.faults) ⊥)
@@ -77,7 +78,8 @@ pub record AsksOrFails {A O W C : Type 0} (g : Ghosts O W C) (old new : StoreSta
   pub faults : EventFaults ⊥ (g.view old.outside) (g.view new.outside) result
   pub frame : Asks (OnlyReads g.told) g.view old new
 
--- The same of a call of which the device refuses nothing.
+-- A call that only asks, and of which the device refuses nothing: all that is kept stays, and so does the
+-- directory.
 pub record AsksQuietly {O W C : Type 0} (g : Ghosts O W C) (old new : StoreState O) : Type 0 where
   pub faults : (g.view new.outside).faults ≡ (g.view old.outside).faults
   pub frame : Asks (OnlyReads g.told) g.view old new

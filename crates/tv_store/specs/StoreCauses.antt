@@ -6,7 +6,9 @@ use Rattle.tv_base.specs.declared.open_errors.OpenWriteError.{OpenWriteError}
 use Rattle.tv_base.specs.declared.error.TantivyError.{TantivyError}
 use Rattle.tv_base.specs.declared.error.TantivyError.TheVariants as errors
 use Rattle.tv_directory.specs.Locks.{LockCause}
+use Rattle.tv_model.specs.Files.{Rose, RoseBy}
 
+-- a file that was to be made was refused by the device
 abbrev pub WriteFault : (refused : Type 0) → OpenWriteError → Type 0
 WriteFault refused (write.IoError fault path) = IsDevice fault × refused
 WriteFault refused other = ⊥
@@ -28,12 +30,21 @@ pub record IsBusy (tells_locks held refused : Type 0) : Type 0 where
   pub told : tells_locks → held
   pub untold : tells_locks ⊎ refused
 
+-- No call was refused; or that of a lock was, which isn't given, where this says that it is held.
+abbrev pub QuietBehind : (held : Type 0) → (before now : ℕ) → Type 0
+QuietBehind held before now = (now ≡ before) ⊎ (held × Rose before now)
+
+-- A call was refused. Behind a lock that isn't given, which may count as one more, the count rose from
+-- before that lock on.
+abbrev pub RefusedBehind : (held : Type 0) → (before now : ℕ) → Type 0
+RefusedBehind held before now = Rose before now ⊎ (held × RoseBy 1 before now)
+
 -- an event that takes a lock fails as others do, or because the lock isn't given
 abbrev pub LockingCause : (busy refused quiet spent : Type 0) → TantivyError → Type 0
 LockingCause busy refused quiet spent (errors.LockFailure why text) = LockCause busy refused ⊥ why × (text ≡ None)
 LockingCause busy refused quiet spent other = EventCause refused quiet spent other
 
--- it isn't the error of a file that was to be made
+-- the error isn't that of a file that was to be made
 abbrev pub MakesNoFile : TantivyError → Type 0
 MakesNoFile (errors.OpenWriteError error) = ⊥
 MakesNoFile other = Unit {0}

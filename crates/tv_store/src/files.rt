@@ -12,10 +12,11 @@ ghost use Rattle.tv_model.specs.Files.{Sets, KeepsOthers};
 ghost use Rattle.tv_model.specs.State.{at};
 ghost use Rattle.tv_model.specs.Lines.{has_no_feed};
 ghost use Rattle.tv_directory.specs.Calls.{DeviceFaults, Frees, LockFaults, Acquires, MakesRoom, TellsLineTo};
+ghost use Rattle.tv_directory.specs.Images.{KeepsDisk};
 ghost use Rattle.tv_directory.specs.View.{Kept, OnlyReads, OnlyLocks, OnlyTells};
 ghost use Rattle.tv_managed.specs.Managed.{KeepsOtherFiles};
 ghost use Rattle.tv_managed.specs.Reading.{ReadsBody};
-ghost use Rattle.tv_store.specs.FileCalls.{Asked, intact_in, LeavesFiles, OpensFile, FindsFile, ReadBodyFaults, LeavesText, KeepsOpenFiles, unless_taken};
+ghost use Rattle.tv_store.specs.FileCalls.{Asked, intact_in, LeavesFiles, OpensFile, FindsFile, ReadBodyFaults, LeavesText, KeepsOpenFiles, SavesSafely, unless_taken};
 ghost use Rattle.tv_index.specs.NewForms.{form_with};
 ghost use Rattle.tv_index.specs.Saving.{SavesMeta};
 ghost use Rattle.tv_index.specs.Settings.{settings_view};
@@ -183,6 +184,8 @@ impl<O: Outside> Files<O> {
     /// Makes room for a line of this length.
     pub(crate) fn ready(&mut self, len: usize) -> Result<(), Memory>
         ensures room { KeepsFiles (MakesRoom O.told len result) O.view self.old self.new }
+        ensures images { O.tells_images
+            → KeepsDisk (O.disk self.old.outside) (O.disk self.new.outside) }
     {
         self.index.directory_mut().ready(len)
     }
@@ -195,6 +198,8 @@ impl<O: Outside> Files<O> {
             line.now result }
         ensures faults { DeviceFaults (O.view self.old.outside) (O.view self.new.outside) result }
         ensures frame { KeepsFiles (OnlyTells O.told) O.view self.old self.new }
+        ensures images { O.tells_images
+            → KeepsDisk (O.disk self.old.outside) (O.disk self.new.outside) }
     {
         self.index.directory_mut().tell(line)
     }
@@ -366,12 +371,16 @@ impl<O: Outside> Files<O> {
         ensures faults { ReadBodyFaults O.Directory self.old.outside self.new.outside
             name.now result }
         ensures frame { KeepsFiles (OnlyReads O.told) O.view self.old self.new }
+        ensures images { O.tells_images
+            → KeepsDisk (O.disk self.old.outside) (O.disk self.new.outside) }
     {
         let body = self.index.directory_mut().open_read(name.as_str())?;
         Ok(body)
     }
 
-    /// Makes these bytes the text of `meta.json`. The directory is synced before and afterwards.
+    /// Makes these bytes the text of `meta.json`. The directory is synced before and afterwards: a crash
+    /// leaves what it might have left before the call, or the text that stood then or this one, and at Ok
+    /// this one.
     pub(crate) fn save_meta(&mut self, text: &[u8]) -> Result<(), TantivyError>
         ensures saves { OnOk result (SavesMeta O.Directory
             (names_below self.old) (names_below self.new) text.now) }
@@ -380,6 +389,7 @@ impl<O: Outside> Files<O> {
         ensures leaves { LeavesText O.Directory self.old.outside self.new.outside text.now result }
         ensures faults { Faults (O.view self.old.outside) (O.view self.new.outside) result }
         ensures frame { KeepsOpenFiles O.told O.view self.old self.new }
+        ensures safe { O.tells_images → SavesSafely O.Directory self.old self.new text.now result }
     {
         save_meta_text(self.index.directory_mut(), text)?;
         Ok(())

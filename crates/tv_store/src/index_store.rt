@@ -1,27 +1,26 @@
 //! An index that is open, under the lock of the one who writes it.
-ghost use Rattle.std.specs.Prelude.{◌≡◌, ◌<◌, is_ok, None, true, length, IfOk, IfErr};
+ghost use Rattle.std.specs.Prelude.{◌≡◌, ◌<◌, is_ok, None, true, length, IfOk, IfErr, IsSome};
 ghost use Rattle.tv_model.specs.Machine.{catalog_step};
 ghost use Rattle.tv_model.specs.State.{State};
 ghost use Rattle.tv_directory.specs.Calls.{DeviceFaults, Frees};
-ghost use Rattle.tv_directory.specs.View.{OnlyTells};
+ghost use Rattle.tv_directory.specs.Images.{KeepsDisk};
+ghost use Rattle.tv_directory.specs.View.{OnlyReads, OnlyTells};
 ghost use Rattle.tv_store.specs.Acting.{Acts};
-ghost use Rattle.tv_store.specs.Applying.{Stepped, LeavesMeta, Grows, ApplyFaults, AppliesFrame, IsUndisturbedEvent};
+ghost use Rattle.tv_store.specs.Applying.{Stepped, LeavesMeta, Grows, ApplyFaults, AppliesFrame, AsksNoFile, IsUndisturbedEvent};
 ghost use Rattle.tv_store.specs.Kept.{Holds};
-ghost use Rattle.tv_store.specs.Making.{Begins, ChecksFiles, NotBegun, Starts};
-ghost use Rattle.tv_store.specs.Opening.{Opens, LeavesIndex, TellsOpening, TakesWriterLock, OpeningFaults, OpeningFrame};
+ghost use Rattle.tv_store.specs.Opening.{Opens, LeavesIndex, TellsOpening, TakesWriterLock, OpeningFaults, OpeningFrame, OpensSafely};
 ghost use Rattle.tv_store.specs.StoreCauses.{writer_lock_name};
 ghost use Rattle.tv_store.specs.Telling.{TellsAnswer, TriesLine};
 
 use crate::catalog::Catalog;
 use crate::files::Files;
-use crate::names::required_files;
-use crate::opening::{Found, find, opening_line};
+use crate::opening::{Found, begin, find};
 use std::alloc::Global;
 use std::marker::Model;
 use tv_base::{IoFault, TantivyError};
-use tv_directory::{DirectoryLock, Outside, index_writer_lock};
+use tv_directory::{DirectoryLock, Outside};
 use tv_managed::Refused;
-use tv_model::{Answer, Event, FileName};
+use tv_model::{Answer, Event};
 
 /// An index over a directory, whose writer lock it holds. One event after the other is applied to it,
 /// and the line of each is told. To a contract it is what is kept in memory, the directory, and
@@ -50,15 +49,27 @@ impl<O: Outside> Model for IndexStore<O> {
     ghost invariant = { λ a. a.lock ≡ writer_lock_name };
 }
 
+// The directory of these files, with the lock of this token free.
+fn close<O: Outside>(files: Files<O>, lock: DirectoryLock) -> O
+    ensures frees { Frees O.told lock (O.view files.outside) (O.view result) }
+    ensures images { O.tells_images → KeepsDisk (O.disk files.outside) (O.disk result) }
+{
+    let mut directory = files.into_outside();
+    directory.release(lock);
+    directory
+}
+
 impl<O: Outside> IndexStore<O> {
     /// Opens the index that stands in a directory, or makes one with this schema where there is no
-    /// `meta.json`; takes the writer lock, sees that the files of the commit can be read, and tells the
-    /// opening line. A refusal gives the directory back, with the locks that it had. Where there is a
-    /// `meta.json`, no notice of it comes; of a new one a notice stands.
+    /// `meta.json`; sees that the files of the commit can be read, and tells the opening line. The writer
+    /// lock is taken first, so that nothing is found or made but under it. A refusal gives the directory
+    /// back, with the locks that it had. Where there is a `meta.json`, no notice of it comes; of a new one
+    /// a notice stands.
     ///
     /// Refusals come in this order: `InvalidArgument` for the schema, `DataCorruption` for the list of
-    /// managed files, `DataCorruption` and `SchemaError` for `meta.json`, `LockFailure` for the lock,
-    /// `OpenReadError` for the first file of the commit that can't be read.
+    /// managed files, `DataCorruption` and `SchemaError` for `meta.json`, `LockFailure` with `LockBusy`
+    /// for the lock, `OpenReadError` for the first file of the commit that can't be read. None of them
+    /// but the last one changes anything.
     pub fn open(alloc: Global, outside: O, schema: &[u8]) -> Result<IndexStore<O>, Refused<O>>
         ensures opens { IfOk result (Opens O.Directory outside schema.now) }
         ensures leaves { IfErr result (LeavesIndex O.Directory outside schema.now) }
@@ -66,60 +77,26 @@ impl<O: Outside> IndexStore<O> {
         ensures locks { TakesWriterLock O.Directory outside result }
         ensures faults { OpeningFaults O.Directory outside schema.now result }
         ensures frame { OpeningFrame O.Directory outside result }
+        ensures safe { O.tells_images → OpensSafely O.Directory outside schema.now result }
     {
-        let Found { catalog, mut files } = find(alloc, outside, schema)?;
-        match files.acquire_lock(&index_writer_lock()) {
-            Ok(lock) => IndexStore {
+        let Found {
+            catalog,
+            mut files,
+            lock,
+        } = find(alloc, outside, schema)?;
+        match begin(alloc, catalog.commit(), &mut files) {
+            Ok(()) => Ok(IndexStore {
                 alloc,
                 catalog,
                 files,
                 lock,
-                is_open: false,
-            }
-            .begin(),
-            Err(error) => Err(Refused {
-                error: TantivyError::from(error),
-                directory: files.into_outside(),
+                is_open: true,
             }),
-        }
-    }
-
-    // Tells the opening line of an index that was found, under its lock.
-    fn begin(self) -> Result<IndexStore<O>, Refused<O>>
-        ensures begun { IfOk result (Begins O.Directory self) }
-        ensures refused { IfErr result (λ refused.
-            NotBegun O.Directory self refused.directory refused.error) }
-    {
-        let mut store = self;
-        match store.start() {
-            Ok(()) => Ok(store),
             Err(error) => Err(Refused {
                 error,
-                directory: store.into_outside(),
+                directory: close(files, lock),
             }),
         }
-    }
-
-    // Sees that the files of the commit can be read, and tells the opening line.
-    fn start(&mut self) -> Result<(), TantivyError>
-        ensures { Starts O.Directory self.old self.new result }
-    {
-        let names = required_files(self.alloc, self.catalog.commit().by_id())?;
-        let line = opening_line(self.alloc, self.catalog.commit())?;
-        self.check_files(names.as_slice())?;
-        let line = self.ready(line)?;
-        self.tell(&line)?;
-        Ok(())
-    }
-
-    // Sees that each of these files can be read.
-    fn check_files(&mut self, names: &[FileName]) -> Result<(), TantivyError>
-        ensures { ChecksFiles O.Directory self.old self.new names.now result }
-    {
-        for name in names {
-            let _body = self.read_body(name)?;
-        }
-        Ok(())
     }
 
     /// Makes one step of the machine, and tells its line. A commit writes `meta.json`, unless it is
@@ -159,7 +136,9 @@ impl<O: Outside> IndexStore<O> {
 
     // One step of the machine, whose line is yet to be told, in room that was made for it.
     fn act(&mut self, event: &Event) -> Result<Answer, TantivyError>
-        ensures { Acts O.Directory self.old self.new event.now result }
+        ensures acts { Acts O.Directory self.old self.new event.now result }
+        ensures alone { IsSome (catalog_step self.old.kept.catalog self.old.kept.managed event.now)
+            → AsksNoFile (OnlyReads O.told) O.Directory self.old self.new result }
     {
         match self.catalog.act(self.files.managed(), event)? {
             Some(answer) => self.told(answer),
@@ -205,6 +184,7 @@ impl<O: Outside> IndexStore<O> {
         ensures holds { O.told.content → (s : State)
             → Holds (O.view self.outside).reads self.kept s
             → Holds (O.view result).reads self.kept s }
+        ensures images { O.tells_images → KeepsDisk (O.disk self.outside) (O.disk result) }
     {
         let IndexStore {
             alloc: _,
@@ -213,8 +193,6 @@ impl<O: Outside> IndexStore<O> {
             lock,
             is_open: _,
         } = self;
-        let mut directory = files.into_outside();
-        directory.release(lock);
-        directory
+        close(files, lock)
     }
 }

@@ -19,6 +19,7 @@ mod file_events;
 mod files;
 mod files_collecting;
 mod index_store;
+pub mod laws;
 mod names;
 mod opening;
 mod reader_events;

@@ -1,25 +1,43 @@
-//! How the index is found that stands in a directory, or is made where there is none.
-ghost use Rattle.std.specs.Prelude.{◌≡◌, IfOk, IfErr, map, option_map, string_bytes};
+//! How the index is found that stands in a directory, or is made where there is none: all of it under
+//! the lock of the one who writes the index, so that nobody else's commit is overwritten unread.
+ghost use Rattle.std.specs.Prelude.{◌≡◌, ◌<◌, true, ℕ, List, length, IfOk, IfErr, map, option_map, string_bytes};
 ghost use Rattle.tv_model.specs.Index.{next_after, opened_catalog};
 ghost use Rattle.tv_model.specs.Lines.{opening_of};
+ghost use Rattle.tv_directory.specs.Calls.{DeviceFaults};
+ghost use Rattle.tv_directory.specs.Images.{KeepsDisk};
+ghost use Rattle.tv_directory.specs.View.{OnlyTells};
 ghost use Rattle.tv_index.specs.Segments.{entry_of};
-ghost use Rattle.tv_store.specs.Making.{FindsFiles, FindsNone, IsSorted};
+ghost use Rattle.tv_store.specs.Making.{Begins, ChecksFiles, FindsFiles, FindsNone, GivesBack, IsSorted};
+ghost use Rattle.tv_store.specs.Stays.{KeepsFiles};
+ghost use Rattle.tv_store.specs.StoreCauses.{writer_lock_name};
+ghost use Rattle.tv_store.specs.Telling.{TriesLine};
+ghost use Rattle.tv_store.specs.UnderLock.{FindsUnderLock, IsUnderLock, LockedOut, NotFound, NotUnderLock, RefusesLock, Syncs};
 
 use crate::catalog::Catalog;
 use crate::commit::{Commit, text_of};
 use crate::files::Files;
+use crate::names::required_files;
 use std::alloc::Global;
 use std::collections::BTreeMap;
-use tv_base::TantivyError;
-use tv_directory::Outside;
-use tv_index::{Index, InnerSegmentMeta, Schema, UntrackedIndexMeta, open_or_create};
+use tv_base::{IoFault, LockError, TantivyError};
+use tv_directory::{DirectoryLock, Outside, index_writer_lock};
+use tv_index::{
+    Index, InnerSegmentMeta, Schema, UntrackedIndexMeta, check_openable, open_or_create,
+};
 use tv_managed::Refused;
-use tv_model::{Answer, LiveSegment, Memory, Opstamp, SegmentId};
+use tv_model::{Answer, FileName, LiveSegment, Memory, Opstamp, SegmentId};
 
-/// An index that was found: what is known of it, and its files.
+// A directory whose writer lock is held, with the token of that lock.
+struct LockedOutside<O: Outside> {
+    outside: O,
+    lock: DirectoryLock,
+}
+
+/// An index that was found: what is known of it, its files, and the token of its writer's lock.
 pub(crate) struct Found<O: Outside> {
     pub(crate) catalog: Catalog,
     pub(crate) files: Files<O>,
+    pub(crate) lock: DirectoryLock,
 }
 
 /// The opening line of a commit.
@@ -72,28 +90,20 @@ fn opened_catalog(
     Ok(Catalog::new(alloc, live, next_after(opstamp), commit))
 }
 
-/// Finds the index that stands in a directory, or makes one with this schema where there is none. A
-/// refusal gives the directory back.
-pub(crate) fn find<O: Outside>(
+// Opens the index that stands in a directory, or makes one with this schema where there is none. A
+// refusal gives the directory back. Where locks are told, the one of the writer must be held.
+fn find_files<O: Outside>(
     alloc: Global,
     outside: O,
-    schema: &[u8],
-) -> Result<Found<O>, Refused<O>>
+    schema: &Schema,
+) -> Result<(Catalog, Files<O>), Refused<O>>
+    requires { O.told.locks → (O.view outside).locks writer_lock_name ≡ true }
     ensures found { IfOk result (λ found.
-        FindsFiles O.Directory outside schema.now found.catalog found.files) }
+        FindsFiles O.Directory outside schema.now found.0 found.1) }
     ensures none { IfErr result (λ refused.
         FindsNone O.Directory outside schema.now refused.directory refused.error) }
 {
-    let schema = match Schema::from_bytes(alloc, schema) {
-        Ok(schema) => schema,
-        Err(error) => {
-            return Err(Refused {
-                error,
-                directory: outside,
-            });
-        }
-    };
-    let (directory, meta) = open_or_create(alloc, outside, &schema)?;
+    let (directory, meta) = open_or_create(alloc, outside, schema)?;
     let UntrackedIndexMeta {
         index_settings,
         segments,
@@ -104,12 +114,171 @@ pub(crate) fn find<O: Outside>(
     match opened_catalog(alloc, segments.as_slice(), opstamp, payload) {
         Ok(catalog) => {
             let index = Index::from_parts(alloc, directory, index_settings, schema);
-            let files = Files::new(alloc, index);
-            Ok(Found { catalog, files })
+            Ok((catalog, Files::new(alloc, index)))
         }
         Err(memory) => Err(Refused {
             error: TantivyError::from(memory),
             directory: directory.into_directory(),
         }),
     }
+}
+
+// The same in a directory whose writer lock is held. A refusal gives it back, with that lock free.
+fn find_under_lock<O: Outside>(
+    alloc: Global,
+    locked: LockedOutside<O>,
+    schema: &Schema,
+) -> Result<Found<O>, Refused<O>>
+    requires name { locked.lock ≡ writer_lock_name }
+    requires held { O.told.locks → (O.view locked.outside).locks writer_lock_name ≡ true }
+    ensures found { IfOk result (λ found.
+        FindsFiles O.Directory locked.outside schema.now found.catalog found.files) }
+    ensures lock { IfOk result (λ found. found.lock ≡ writer_lock_name) }
+    ensures none { IfErr result (λ refused.
+        GivesBack O.Directory locked.outside schema.now refused.directory refused.error) }
+{
+    let LockedOutside { outside, lock } = locked;
+    match find_files(alloc, outside, schema) {
+        Ok((catalog, files)) => Ok(Found {
+            catalog,
+            files,
+            lock,
+        }),
+        Err(Refused { error, directory }) => {
+            let mut directory = directory;
+            directory.release(lock);
+            Err(Refused { error, directory })
+        }
+    }
+}
+
+// Waits until the device has kept what was written.
+fn synced<O: Outside>(outside: O) -> Result<O, Refused<O>>
+    ensures synced { IfOk result (Syncs O.Directory outside) }
+    ensures refused { (text : List ℕ) → IfErr result (λ refused.
+        NotUnderLock O.Directory outside text refused.directory refused.error) }
+{
+    let mut outside = outside;
+    match outside.sync_directory() {
+        Ok(()) => Ok(outside),
+        Err(fault) => Err(Refused {
+            error: TantivyError::from(fault),
+            directory: outside,
+        }),
+    }
+}
+
+// The refusal of an opening while somebody else holds the writer lock: that of what stands there, which
+// comes first, and else that of the lock. Nothing is written.
+fn locked_out<O: Outside>(alloc: Global, outside: O, schema: &Schema) -> Refused<O>
+    ensures { LockedOut O.Directory outside schema.now result.directory result.error }
+{
+    match check_openable(alloc, outside, schema) {
+        Ok(directory) => Refused {
+            error: TantivyError::from(LockError::LockBusy),
+            directory,
+        },
+        Err(refused) => refused,
+    }
+}
+
+// The refusal of an opening to which the writer lock wasn't given.
+fn without_lock<O: Outside>(
+    alloc: Global,
+    outside: O,
+    schema: &Schema,
+    error: LockError,
+) -> Refused<O>
+    ensures { RefusesLock O.Directory outside schema.now error result.directory result.error }
+{
+    match error {
+        LockError::LockBusy => locked_out(alloc, outside, schema),
+        error => Refused {
+            error: TantivyError::from(error),
+            directory: outside,
+        },
+    }
+}
+
+// Takes the writer lock, once the device has kept what was written.
+fn lock_writer<O: Outside>(
+    alloc: Global,
+    outside: O,
+    schema: &Schema,
+) -> Result<LockedOutside<O>, Refused<O>>
+    ensures name { IfOk result (λ locked. locked.lock ≡ writer_lock_name) }
+    ensures locked { IfOk result (λ locked. IsUnderLock O.Directory outside locked.outside) }
+    ensures refused { IfErr result (λ refused.
+        NotUnderLock O.Directory outside schema.now refused.directory refused.error) }
+{
+    let mut outside = synced(outside)?;
+    match outside.acquire_lock(&index_writer_lock()) {
+        Ok(lock) => Ok(LockedOutside { outside, lock }),
+        Err(error) => Err(without_lock(alloc, outside, schema, error)),
+    }
+}
+
+/// Finds the index that stands in a directory, or makes one with this schema where there is none, all
+/// under the writer lock. A refusal gives the directory back, with the locks that it had.
+pub(crate) fn find<O: Outside>(
+    alloc: Global,
+    outside: O,
+    schema: &[u8],
+) -> Result<Found<O>, Refused<O>>
+    ensures found { IfOk result (λ found.
+        FindsUnderLock O.Directory outside schema.now found.catalog found.files) }
+    ensures lock { IfOk result (λ found. found.lock ≡ writer_lock_name) }
+    ensures none { IfErr result (λ refused.
+        NotFound O.Directory outside schema.now refused.directory refused.error) }
+{
+    let schema = match Schema::from_bytes(alloc, schema) {
+        Ok(schema) => schema,
+        Err(error) => {
+            return Err(Refused {
+                error,
+                directory: outside,
+            });
+        }
+    };
+    let locked = lock_writer(alloc, outside, &schema)?;
+    find_under_lock(alloc, locked, &schema)
+}
+
+// Sees that each of these files can be read.
+fn check_files<O: Outside>(files: &mut Files<O>, names: &[FileName]) -> Result<(), TantivyError>
+    ensures { ChecksFiles O.Directory files.old files.new names.now result }
+{
+    for name in names {
+        let _body = files.open_read(name)?;
+    }
+    Ok(())
+}
+
+// Tells the opening line, in the room that was made for it.
+fn tell_opening<O: Outside>(files: &mut Files<O>, line: &Answer) -> Result<(), IoFault>
+    requires { length line.now < (O.view files.old.outside).room }
+    ensures tells { TriesLine O.told (O.view files.old.outside) (O.view files.new.outside)
+        line.now result }
+    ensures faults { DeviceFaults (O.view files.old.outside) (O.view files.new.outside) result }
+    ensures frame { KeepsFiles (OnlyTells O.told) O.view files.old files.new }
+    ensures images { O.tells_images
+        → KeepsDisk (O.disk files.old.outside) (O.disk files.new.outside) }
+{
+    files.tell(line.as_slice())
+}
+
+/// Sees that the files of a commit can be read, and tells its opening line.
+pub(crate) fn begin<O: Outside>(
+    alloc: Global,
+    commit: &Commit,
+    files: &mut Files<O>,
+) -> Result<(), TantivyError>
+    ensures { Begins O.Directory commit.now files.old files.new result }
+{
+    let names = required_files(alloc, commit.by_id())?;
+    let line = opening_line(alloc, commit)?;
+    check_files(files, names.as_slice())?;
+    files.ready(line.as_slice().len())?;
+    tell_opening(files, &line)?;
+    Ok(())
 }

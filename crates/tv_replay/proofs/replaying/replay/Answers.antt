@@ -1,4 +1,4 @@
-use Rattle.std.proofs.Common.{◌≡◌, ◌⊎◌, ℕ, true, false, refl, sym, ap, ◌∙◌, inl, inr, subst}
+use Rattle.std.proofs.Common.{◌≡◌, ℕ, true, false, refl, sym, ap, ◌∙◌, inl, inr, subst}
 use Rattle.std.proofs.lemmas.Result.{IfOk-weaker, IfErr-weaker}
 use Rattle.tv_model.specs.Names.{meta_name}
 use Rattle.tv_model.specs.Files.{Rose}
@@ -6,13 +6,14 @@ use Rattle.tv_model.specs.Commits.{Commit}
 use Rattle.tv_model.specs.State.{Catalog}
 use Rattle.tv_model.specs.Lines.{opening_of}
 use Rattle.tv_store.specs.Telling.{TellsLine}
-use Rattle.tv_store.specs.StoreCauses.{IsBusy, writer_lock_name}
+use Rattle.tv_store.specs.OpeningCauses.{opening_facts}
+use Rattle.tv_store.specs.StoreCauses.{writer_lock_name}
 use Rattle.tv_replay.specs.AppliedEvents.{Runs, FailsRun, StopsRun}
-use Rattle.tv_replay.specs.Replays.{Replays, ReplayCause, IsLockBusy, IsRefusedAt, IsQuietAt, IsReadOut, FailsReplay, StopsReplay}
+use Rattle.tv_replay.specs.Replays.{Replays, ReplayCause, IsQuietAt, IsReadOut, FailsReplay, StopsReplay, replay_facts}
 use Rattle.tv_replay.proofs.AppliedEvents.{replays, run_cause, either_rose, reads_whole, if_err_both}
 use Rattle.tv_replay.proofs.Complete.{only_memory}
 use Rattle.tv_replay.proofs.ReplayFrames.{noted_since, run_frame}
-use Rattle.tv_replay.proofs.Stopping.{stops_report, opening_cause, opening_told, busy_since_opening, meta_since, none_met}
+use Rattle.tv_replay.proofs.Stopping.{stops_report, opening_cause, opening_told, busy_since_opening, either_behind, meta_since, none_behind, none_met}
 use Rattle.tv_replay.proofs.replaying.replay.Goals as goal
 
 pub returns-in-Err-clause-stops : goal.returns-in-Err-clause-stops
@@ -26,9 +27,9 @@ returns-in-Err-clause-stops g c tells =
       unread = refl;
       leaves = refused.leaves.leaves tells;
       stood = λ some. refused.frame.stood (tells, some);
-      unchanged = refused.leaves.unchanged tells;
-      unnoted = refused.frame.unnoted;
-      cause = opening_told D.told.content D.told.locks c.args.schema.now before.reads (before.locks writer_lock_name ≡ true) (D.told.locks → before.locks writer_lock_name ≡ false) (Rose before.faults now.faults) (now.faults ≡ before.faults) c.in-Err.field-0.error tells refused.faults.cause;
+      unchanged = λ first. refused.leaves.unchanged tells (inl first);
+      unnoted = λ first. refused.frame.unnoted (inl first);
+      cause = opening_told (opening_facts D c.args.outside c.in-Err.field-0.directory) (D.told.locks → before.locks writer_lock_name ≡ true) c.args.schema.now before.reads c.in-Err.field-0.error tells (λ busy. busy.told) refused.faults.cause;
     })
 
 pub returns-in-Err-clause-faults : goal.returns-in-Err-clause-faults
@@ -42,9 +43,16 @@ returns-in-Err-clause-faults g c =
       quiet = tt;
       free = λ t. tt;
       cause =
-          opening_cause D.told.content c.args.schema.now before.reads script.left
-          (IsBusy D.told.locks (before.locks writer_lock_name ≡ true) (Rose before.faults now.faults)) (D.told.locks → before.locks writer_lock_name ≡ false) (Rose before.faults now.faults) (now.faults ≡ before.faults) c.in-Err.field-0.error
-          (λ busy. record { told = λ t. inl (busy.told t); untold = busy.untold }) (λ rose. inl rose) (λ quiet. (quiet, refl)) refused.faults.cause;
+          opening_cause (opening_facts D c.args.outside c.in-Err.field-0.directory) (replay_facts D c.args.outside now.faults script script) c.args.schema.now before.reads script.left c.in-Err.field-0.error
+          (record {
+            tells = λ t. t;
+            busy = λ busy. record { told = λ t. inl (busy.told t); untold = busy.untold };
+            refused = inl;
+            quiet = λ quiet. (quiet, refl);
+            refused_behind = inl;
+            quiet_behind = λ quiet. (quiet, refl);
+          })
+          refused.faults.cause;
     }
 
 pub returns-in-Err-clause-complete : goal.returns-in-Err-clause-complete
@@ -53,8 +61,9 @@ returns-in-Err-clause-complete g c all =
     let before = D.view c.args.outside in
     let now = D.view c.in-Err.field-0.directory in
     let script = g.R.Source.view c.args.script.now in
-    only_memory D c.args.outside c.in-Err.field-0.directory c.args.schema.now script script (IsLockBusy D.told.locks before.locks (Rose before.faults now.faults)) (IsRefusedAt before now script script) (IsQuietAt before now script script) c.in-Err.field-0.error
-    all.content all.ready (none_met D.told.locks before.locks (Rose before.faults now.faults) all.locks all.ready.sound.free) all.quiet
+    only_memory D c.args.outside c.in-Err.field-0.directory c.args.schema.now script script (replay_facts D c.args.outside now.faults script script) c.in-Err.field-0.error
+    all.content all.content all.ready (none_met D.told.locks before.locks (Rose before.faults now.faults) all.locks all.ready.sound.free) all.quiet
+    (none_behind D c.args.outside now.faults (Rose script.faults script.faults) all.locks all.ready.sound.free all.quiet)
     (returns-in-Err-clause-faults g c).cause (returns-in-Err-clause-stops g c)
 
 pub returns-clause-frame : goal.returns-clause-frame
@@ -79,12 +88,12 @@ returns-clause-faults g c =
       cause =
           IfErr-weaker c.apply_all-outcome.result (FailsRun D c.in-Ok.store c.apply_all-outcome.new.store script script_now) (FailsReplay D c.args.outside c.into_outside.result c.args.schema.now script script_now)
           (λ error cause.
-          subst (λ (n : ℕ). ReplayCause D.told.content c.args.schema.now before.reads script.left (IsLockBusy D.told.locks before.locks (Rose before.faults n)) (Rose before.faults n ⊎ more) ((n ≡ before.faults) × same) error) (sym faults)
-          (run_cause D c.in-Ok.store c.apply_all-outcome.new.store script script_now D.told.content c.args.schema.now before.reads (IsLockBusy D.told.locks before.locks (Rose before.faults new.faults)) (IsRefusedAt before new script script_now) (IsQuietAt before new script script_now) error cause
+          subst (λ (n : ℕ). ReplayCause (replay_facts D c.args.outside n script script_now) c.args.schema.now before.reads script.left error) (sym faults)
+          (run_cause D c.in-Ok.store c.apply_all-outcome.new.store script script_now (replay_facts D c.args.outside new.faults script script_now) c.args.schema.now before.reads error cause
           (c.in-Ok.store.kept.form.schema, opened.opens.spelled) (λ tells. (opened.opens.found tells).0)
           (busy_since_opening D.told.locks before.locks mid.locks before.faults mid.faults new.faults opened.locks.ok opened.faults.quiet)
           (either_rose before.faults mid.faults new.faults more opened.faults.quiet)
-          (λ quiet. (quiet.0 ∙ opened.faults.quiet, quiet.1))
+          (λ quiet. (quiet.0 ∙ opened.faults.quiet, quiet.1)) (either_behind before.faults new.faults) (λ quiet. (inl quiet.0, quiet.1))
           (λ tells index none. let held = opened.opens.holds tells index in none tells index.state held.1 (reads_whole index held.2))))
           c.apply_all-outcome.ensures.faults.cause;
     }
@@ -146,6 +155,7 @@ returns-clause-complete g c all =
     let script_now = g.R.Source.view c.apply_all-outcome.new.script in
     if_err_both c.apply_all-outcome.result
     (λ error cause stops.
-    only_memory D c.args.outside c.into_outside.result c.args.schema.now script script_now (IsLockBusy D.told.locks before.locks (Rose before.faults now.faults)) (IsRefusedAt before now script script_now) (IsQuietAt before now script script_now) error
-    all.content all.ready (none_met D.told.locks before.locks (Rose before.faults now.faults) all.locks all.ready.sound.free) all.quiet cause stops)
+    only_memory D c.args.outside c.into_outside.result c.args.schema.now script script_now (replay_facts D c.args.outside now.faults script script_now) error
+    all.content all.content all.ready (none_met D.told.locks before.locks (Rose before.faults now.faults) all.locks all.ready.sound.free) all.quiet
+    (none_behind D c.args.outside now.faults (Rose script.faults script_now.faults) all.locks all.ready.sound.free all.quiet) cause stops)
     (returns-clause-faults g c).cause (returns-clause-stops g c)

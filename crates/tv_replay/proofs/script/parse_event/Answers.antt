@@ -1,7 +1,7 @@
 use Rattle.std.proofs.Common.{◌∙◌, ap, map, arith}
 use Rattle.std.proofs.lemmas.Result.{IfOk-weaker}
 use Rattle.tv_replay.specs.EventWords.{event_in}
-use Rattle.tv_replay.proofs.Laws.{line_found, line_only}
+use Rattle.tv_replay.proofs.GrammarLaws.{line_found, line_only}
 use Rattle.tv_replay.proofs.script.parse_event.Goals as goal
 
 pub returns-clause-found : goal.returns-clause-found

@@ -4,7 +4,7 @@ use Rattle.std.specs.Str.{is_utf8}
 use Rattle.std.proofs.lemmas.Str.{IsUtf8-from_is_utf8, IsUtf8-string_bytes}
 use Rattle.hex.specs.Hex.{decode_of}
 use Rattle.tv_replay.specs.Fields.{text_at}
-use Rattle.tv_replay.proofs.Laws.{text_again}
+use Rattle.tv_replay.proofs.GrammarLaws.{text_again}
 use Rattle.tv_replay.proofs.words.text_of.Goals as goal
 
 -- digits of bytes that are no text

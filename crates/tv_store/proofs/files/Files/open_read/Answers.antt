@@ -1,6 +1,8 @@
 use Rattle.std.proofs.Common.{◌≡◌, None, ap, rules, sym, subst, ◌∙◌}
 use Rattle.tv_base.specs.Errors.{of_open_read}
+use Rattle.tv_managed.specs.Collecting.{TakesNoLock}
 use Rattle.tv_model.specs.Files.{Rose}
+use Rattle.tv_store.proofs.CheckedFiles.{reads_take_none}
 use Rattle.tv_store.proofs.Results.{handed_on}
 use Rattle.tv_store.specs.Bodies.{RefusesAt}
 use Rattle.tv_store.specs.ReadCauses.{ApplyCause}
@@ -26,6 +28,7 @@ returns-in_err-body-clause-faults g c =
           (body_fails D.told.content (λ d. (D.view d).reads) (λ d. (D.view d).faults) c.directory_mut.result.now.0 value after c.args.name.now c.as_str.result.now c.in_err-body.field-0.0
           (ap (λ d. d.0) c.directory_mut.ensures.value ∙ ap (λ v. v.outside) c.self.view_is) c.as_str.ensures.text c.as_str.ensures.name why.cause why.path why.err why.outside);
       file = handed_on c.from_residual.result (of_open_read c.in_err-body.field-0.0) MakesNoFile c.from_residual.ensures.1 (reads_make_none c.in_err-body.field-0.0);
+      lock = handed_on c.from_residual.result (of_open_read c.in_err-body.field-0.0) TakesNoLock c.from_residual.ensures.1 (reads_take_none c.in_err-body.field-0.0);
     }
 
 pub invariant_of-self-2 : goal.invariant_of-self-2

@@ -3,15 +3,17 @@ use Rattle.std.specs.Prelude.{option_map}
 use Rattle.std.proofs.lemmas.Result.{err_from_is_err_and}
 use Rattle.tv_model.specs.Machine.{catalog_step}
 use Rattle.tv_model.specs.State.{Catalog, StepResult}
+use Rattle.tv_directory.specs.View.{OnlyReads}
 use Rattle.tv_store.specs.Acting.{Acts}
+use Rattle.tv_store.specs.Applying.{AsksNoFile}
 use Rattle.tv_store.specs.Exhausted.{PassesEnd, number_after}
 use Rattle.tv_store.specs.Catalogs.{CatalogCause}
 use Rattle.tv_store.specs.Kept.{kept_of}
-use Rattle.tv_store.proofs.Acting.{acts_known, acts_unknown}
+use Rattle.tv_store.proofs.Acting.{acts_known, acts_unknown, asks_known, asks_unknown}
 use Rattle.tv_store.proofs.index_store.IndexStore.act.Goals as goal
 
-pub returns-in_err-answer : goal.returns-in_err-answer
-returns-in_err-answer g c =
+pub returns-in_err-answer-clause-acts : goal.returns-in_err-answer-clause-acts
+returns-in_err-answer-clause-acts g c =
     let D = g.O.Directory in
     let event = c.args.event.now in
     let inside = c.self.inside in
@@ -21,8 +23,8 @@ returns-in_err-answer g c =
     rw (e.1, e.2) (subst (λ v. Acts D c.args.self.now v event (Err error)) (sym same)
     (acts_unknown D c.args.self.now event error (subst (λ v. CatalogCause (PassesEnd (number_after v.kept.catalog event)) error) c.self.view_is c.in_err-answer.ensures.cause)))
 
-pub returns-in-Some : goal.returns-in-Some
-returns-in-Some g c =
+pub returns-in-Some-clause-acts : goal.returns-in-Some-clause-acts
+returns-in-Some-clause-acts g c =
     let event = c.args.event.now in
     let inside = c.self.inside in
     let same = c.self.view_is in
@@ -34,3 +36,18 @@ returns-in-Some g c =
     (subst (λ v. catalog_step v.kept.catalog v.kept.managed event ≡ Some known) same steps) c.in_ok-answer.ensures.fits
     (ap (λ v. record v.kept { catalog = c.act.new.self }) same) (ap (λ v. v.outside) same) (ap (λ v. v.is_open) same)
     c.told.ensures.answer c.told.ensures.room c.told.ensures.asks.faults c.told.ensures.asks.frame
+
+pub returns-in_err-answer-clause-alone : goal.returns-in_err-answer-clause-alone
+returns-in_err-answer-clause-alone g c some =
+    let D = g.O.Directory in
+    let inside = c.self.inside in
+    let error = c.in_err-answer.field-0.0 in
+    let same = ap (λ (catalog : Catalog). record { kept = kept_of catalog inside.files; outside = inside.files.outside; is_open = inside.is_open }) c.in_err-answer.ensures.kept ∙ c.self.view_is in
+    let e = err_from_is_err_and c.from_residual.result c.from_residual.ensures.1 in
+    rw (e.1, e.2) (subst (λ v. AsksNoFile (OnlyReads D.told) D c.args.self.now v (Err error)) (sym same) (asks_unknown D (PassesEnd (number_after inside.catalog c.args.event.now)) c.args.self.now error c.in_err-answer.ensures.cause))
+
+pub returns-in-Some-clause-alone : goal.returns-in-Some-clause-alone
+returns-in-Some-clause-alone g c some =
+    let inside = c.self.inside in
+    asks_known g.O.Directory c.args.self.now (record { kept = kept_of c.act.new.self inside.files; outside = inside.files.outside; is_open = inside.is_open }) c.told.new.self c.told.result
+    (ap (λ v. v.outside) c.self.view_is) c.told.ensures.asks.faults c.told.ensures.asks.frame.below

@@ -1,0 +1,189 @@
+-- How the lock of the writer is taken, or isn't.
+use Rattle.std.proofs.Common.{◌≡◌, ◌⊎◌, inl, inr, ℕ, true, List, None, refl, sym, subst, ◌∙◌, arith}
+use Rattle.tv_base.specs.Errors.{of_lock}
+use Rattle.tv_base.specs.Causes.{IsDevice}
+use Rattle.tv_base.specs.declared.error.TantivyError.{TantivyError}
+use Rattle.tv_base.specs.declared.error.TantivyError.TheVariants as errors
+use Rattle.tv_base.specs.declared.io.IoFault.{IoFault}
+use Rattle.tv_base.specs.declared.open_errors.LockError.{LockError}
+use Rattle.tv_base.specs.declared.open_errors.LockError.TheVariants as lock
+use Rattle.tv_directory.specs.Images.{KeepsDisk}
+use Rattle.tv_directory.specs.Locks.{LockCause, SameLocks, TakesLock}
+use Rattle.tv_directory.specs.View.{OnlyLocks, OnlyReads}
+use Rattle.tv_directory.specs.ViewLaws.{reads_then, tells_then}
+use Rattle.tv_directory.specs.declared.directory.Directory.{Ghosts}
+use Rattle.tv_index.specs.CrashLaws.{looks_kept, looks_then}
+use Rattle.tv_index.specs.Crashes.{OnlyLooks}
+use Rattle.tv_index.specs.Openable.{FindsOpenable, IsOpenable, NotOpenable}
+use Rattle.tv_index.specs.Opening.{OpenCause}
+use Rattle.tv_model.specs.Files.{Reads, Rose, RoseBy, Same}
+use Rattle.tv_model.specs.Index.{FindsCommit, FoundIndex}
+use Rattle.tv_model.specs.Listing.{Lists}
+use Rattle.tv_model.specs.Names.{list_name, meta_name}
+use Rattle.tv_model.specs.Schemas.{IsSchema}
+use Rattle.tv_store.specs.OpeningCauses.{IsLockedOut, OpeningCause, opening_facts}
+use Rattle.tv_store.specs.StoreCauses.{QuietBehind, RefusedBehind, writer_lock_name}
+use Rattle.tv_store.specs.UnderLock.{IsUnderLock, LockedOut, LockedOutCause, NotUnderLock, RefusesLock, Syncs}
+use Rattle.tv_store.proofs.Unfound.{found_cause, open_cause_at}
+
+-- ---- counts, where the call of the lock may be counted as refused
+
+-- a count that rose twice
+rose_twice : (before mid now : ℕ) → Rose before mid → Rose mid now → RoseBy 1 before now
+rose_twice before mid now (inl first) (inl second) = inl (omega (arith, first, second))
+rose_twice before mid now (inl first) (inr end) = inr (omega (arith, end))
+rose_twice before mid now (inr end) (inl second) = inr (omega (arith, end, second))
+rose_twice before mid now (inr end) (inr last) = inr (omega (arith, last))
+
+refused_behind : (held tells : Type 0) (before mid now : ℕ) → held → (tells × (mid ≡ before)) ⊎ Rose before mid → Rose mid now → RefusedBehind held before now
+refused_behind held tells before mid now h (inl still) rose = inl (subst (λ (n : ℕ). Rose n now) still.1 rose)
+refused_behind held tells before mid now h (inr first) rose = inr (h, rose_twice before mid now first rose)
+
+quiet_behind : (held tells : Type 0) (before mid now : ℕ) → held → (tells × (mid ≡ before)) ⊎ Rose before mid → now ≡ mid → QuietBehind held before now
+quiet_behind held tells before mid now h (inl still) quiet = inl (quiet ∙ still.1)
+quiet_behind held tells before mid now h (inr first) quiet = inr (h, subst (λ (n : ℕ). Rose before n) (sym quiet) first)
+
+-- ---- an index that can be opened is found
+
+found_openable : (schema text : List ℕ) (reads : Reads) → IsSchema schema text → IsOpenable reads text → FoundIndex schema reads
+found_openable schema text reads is o = record {
+  form = o.form;
+  commit = o.commit;
+  listed = o.finds.listed;
+  spelled = subst (IsSchema schema) (sym o.schema_is) is;
+  listing = o.finds.listing;
+  found = o.finds.found;
+}
+
+found_before : (schema : List ℕ) (now before : Reads) → Same before now → FoundIndex schema now → FoundIndex schema before
+found_before schema now before same f = record {
+  form = f.form;
+  commit = f.commit;
+  listed = f.listed;
+  spelled = f.spelled;
+  listing = subst (λ read. Lists read f.listed) (same list_name) f.listing;
+  found = subst (λ read. FindsCommit f.form.schema read f.form.settings f.commit) (same meta_name) f.found;
+}
+
+-- ---- behind the sync
+
+module _ {O W C : Type 0} (g : Ghosts O W C) (outside synced : O) (s : Syncs g outside synced) where
+  -- the lock is taken
+  pub is_locked : (locked : O) → (g.told.locks → TakesLock (g.view synced).locks (g.view locked).locks writer_lock_name) → (g.view locked).faults ≡ (g.view synced).faults
+      → OnlyLocks g.told (g.view synced) (g.view locked) → (g.tells_images → KeepsDisk (g.disk synced) (g.disk locked)) → IsUnderLock g outside locked
+  is_locked locked took quiet only keeps = record {
+    took = λ t.
+        let k = took t in
+        record {
+          was_free = sym (s.frame.kept.frame.locks t writer_lock_name) ∙ k.was_free;
+          is_held = k.is_held;
+          others = λ n other. k.others n other ∙ s.frame.kept.frame.locks t n;
+        };
+    only = record {
+      tells_none = tells_then s.frame.kept.frame.tells_none only.tells_none;
+      watched = only.watched ∙ s.frame.kept.watched;
+      content = λ t n. only.content t n ∙ s.frame.content t n;
+    };
+    quiet = quiet ∙ s.quiet;
+    looks = λ t. looks_then g (s.looks t) (looks_kept g (keeps t));
+  }
+
+  -- it isn't given
+  module _ (mid : O) (err : g.told.locks → SameLocks (g.view synced).locks (g.view mid).locks) (only : OnlyLocks g.told (g.view synced) (g.view mid)) (keeps : g.tells_images → KeepsDisk (g.disk synced) (g.disk mid)) where
+    read_only : OnlyReads g.told (g.view outside) (g.view mid)
+    read_only = reads_then s.frame (record {
+      kept = record { frame = record { tells_none = only.tells_none; locks = err }; watched = only.watched };
+      content = only.content;
+    })
+
+    looked : g.tells_images → OnlyLooks g outside mid
+    looked t = looks_then g (s.looks t) (looks_kept g (keeps t))
+
+    -- since it is held
+    module _ (text : List ℕ) (busy : g.told.locks → (g.view synced).locks writer_lock_name ≡ true) (counts : (g.told.locks × ((g.view mid).faults ≡ (g.view synced).faults)) ⊎ Rose (g.view synced).faults (g.view mid).faults)
+        (now : O) (error : TantivyError) (out : LockedOut g mid text now error) where
+      held : IsLockedOut g outside
+      held t = sym (s.frame.kept.frame.locks t writer_lock_name) ∙ busy t
+
+      abbrev Counts : ℕ → Type 0
+      Counts start = (g.told.locks × ((g.view mid).faults ≡ start)) ⊎ Rose start (g.view mid).faults
+
+      counted : Counts (g.view outside).faults
+      counted = subst Counts s.quiet counts
+
+      cause : (schema : List ℕ) → IsSchema schema text → (e : TantivyError)
+          → LockedOutCause g.told.content text (g.view mid).reads (Rose (g.view mid).faults (g.view now).faults) ((g.view now).faults ≡ (g.view mid).faults) e
+          → OpeningCause (opening_facts g outside now) schema (g.view outside).reads e
+      cause schema spelled (errors.LockFailure lock.LockBusy named) k = (
+        (text, spelled),
+        (λ t. found_before schema (g.view mid).reads (g.view outside).reads (read_only.content t) (found_openable schema text (g.view mid).reads spelled (k.1 t))),
+        record { told = held; untold = told_or_rose counted },
+        k.2,
+      ) where
+        told_or_rose : Counts (g.view outside).faults → g.told.locks ⊎ Rose (g.view outside).faults (g.view now).faults
+        told_or_rose (inl still) = inl still.0
+        told_or_rose (inr rose) = inr (subst (λ (n : ℕ). Rose (g.view outside).faults n) (sym k.0) rose)
+      cause schema spelled (errors.LockFailure (lock.IoError fault) named) k = absurd k
+      cause schema spelled (errors.LockFailure lock.Memory named) k = absurd k
+      cause schema spelled other k =
+          found_cause (opening_facts g outside now) schema text (g.view outside).reads other spelled
+          (open_cause_at g.told.content text (g.view mid).reads (g.view outside).reads _ _ _ _ other read_only.content
+          (refused_behind (IsLockedOut g outside) g.told.locks (g.view outside).faults (g.view mid).faults (g.view now).faults held counted)
+          (quiet_behind (IsLockedOut g outside) g.told.locks (g.view outside).faults (g.view mid).faults (g.view now).faults held counted) k)
+
+      not_free : NotUnderLock g outside text now error
+      not_free = record {
+        cause = λ schema spelled. cause schema spelled error out.cause;
+        frame = reads_then read_only out.frame;
+        looks = λ t. looks_then g (looked t) (out.looks t);
+      }
+
+    -- for whatever reason
+    pub not_given : (text : List ℕ) (why : LockError) (now : O) (error : TantivyError) → (g.told.locks → LockCause ((g.view synced).locks writer_lock_name ≡ true) (Unit {0}) (Unit {0}) why)
+        → LockCause ((g.told.locks × ((g.view mid).faults ≡ (g.view synced).faults)) ⊎ Rose (g.view synced).faults (g.view mid).faults) (Rose (g.view synced).faults (g.view mid).faults) ((g.view mid).faults ≡ (g.view synced).faults) why
+        → RefusesLock g mid text why now error → NotUnderLock g outside text now error
+    not_given text lock.LockBusy now error busy counts r = not_free text busy counts now error r
+    not_given text (lock.IoError fault) now error busy h r = subst (λ (d : O). NotUnderLock g outside text d error) (sym r.0) (record {
+      cause = λ schema spelled.
+          subst (OpeningCause (opening_facts g outside mid) schema (g.view outside).reads) (sym r.1) ((text, spelled), h.0, subst (λ (n : ℕ). Rose n (g.view mid).faults) s.quiet h.1, refl);
+      frame = read_only;
+      looks = looked;
+    })
+    not_given text lock.Memory now error busy h r = subst (λ (d : O). NotUnderLock g outside text d error) (sym r.0) (record {
+      cause = λ schema spelled. subst (OpeningCause (opening_facts g outside mid) schema (g.view outside).reads) (sym r.1) (inl (h ∙ s.quiet));
+      frame = read_only;
+      looks = looked;
+    })
+
+-- the sync was refused
+pub not_synced : {O W C : Type 0} (g : Ghosts O W C) (outside now : O) (text : List ℕ) (fault : IoFault) (error : TantivyError) → error ≡ errors.IoError fault → IsDevice fault × Rose (g.view outside).faults (g.view now).faults
+    → OnlyReads g.told (g.view outside) (g.view now) → (g.tells_images → OnlyLooks g outside now) → NotUnderLock g outside text now error
+not_synced g outside now text fault error is h frame looks = record {
+  cause = λ schema spelled. subst (OpeningCause (opening_facts g outside now) schema (g.view outside).reads) (sym is) (text, spelled, (h.0, inl h.1));
+  frame = frame;
+  looks = looks;
+}
+
+-- it isn't that it is held
+pub refuses_lock : {O W C : Type 0} (g : Ghosts O W C) (outside : O) (text : List ℕ) (why : LockError) (error : TantivyError) → (why ≡ lock.LockBusy → ⊥) → error ≡ of_lock why → RefusesLock g outside text why outside error
+refuses_lock g outside text lock.LockBusy error other is = absurd (other refl)
+refuses_lock g outside text (lock.IoError fault) error other is = (refl, is)
+refuses_lock g outside text lock.Memory error other is = (refl, is)
+
+-- what was refused, told behind the lock, and the lock itself
+module _ {O W C : Type 0} (g : Ghosts O W C) (outside : O) (text : List ℕ) (now : O) where
+  pub out_openable : (error : TantivyError) → error ≡ errors.LockFailure lock.LockBusy None → FindsOpenable g outside text now → (g.tells_images → OnlyLooks g outside now) → LockedOut g outside text now error
+  out_openable error is found looks = record {
+    cause = subst (LockedOutCause g.told.content text (g.view outside).reads (Rose (g.view outside).faults (g.view now).faults) ((g.view now).faults ≡ (g.view outside).faults)) (sym is) (found.quiet, found.openable, refl);
+    frame = found.frame;
+    looks = looks;
+  }
+
+  pub out_refused : (error : TantivyError) → NotOpenable g outside text now error → (g.tells_images → OnlyLooks g outside now) → LockedOut g outside text now error
+  out_refused error refused looks = record { cause = cause error refused.cause; frame = refused.frame; looks = looks } where
+    cause : (e : TantivyError) → OpenCause g.told.content text (g.view outside).reads (Rose (g.view outside).faults (g.view now).faults) ((g.view now).faults ≡ (g.view outside).faults) e
+        → LockedOutCause g.told.content text (g.view outside).reads (Rose (g.view outside).faults (g.view now).faults) ((g.view now).faults ≡ (g.view outside).faults) e
+    cause (errors.LockFailure lock.LockBusy named) k = absurd k
+    cause (errors.LockFailure (lock.IoError fault) named) k = absurd k
+    cause (errors.LockFailure lock.Memory named) k = absurd k
+    cause other k = k

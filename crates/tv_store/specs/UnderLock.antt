@@ -1,0 +1,110 @@
+-- How a directory is taken under the lock of the one who writes its index, and what is found there.
+use Rattle.std.specs.Prelude.{◌≡◌, ℕ, List, None}
+use Rattle.tv_base.specs.Errors.{of_lock}
+use Rattle.tv_base.specs.declared.error.TantivyError.{TantivyError}
+use Rattle.tv_base.specs.declared.error.TantivyError.TheVariants as errors
+use Rattle.tv_base.specs.declared.open_errors.LockError.{LockError}
+use Rattle.tv_base.specs.declared.open_errors.LockError.TheVariants as lock
+use Rattle.tv_directory.specs.Locks.{SameLocks, TakesLock}
+use Rattle.tv_directory.specs.View.{OnlyLocks, OnlyReads}
+use Rattle.tv_directory.specs.declared.directory.Directory.{Ghosts}
+use Rattle.tv_index.specs.Crashes.{LacksMeta, MayMake, OnlyLooks}
+use Rattle.tv_index.specs.Openable.{IsOpenable}
+use Rattle.tv_index.specs.Opening.{Finds, LeavesFound, NotesNone, OpenCause, first_text}
+use Rattle.tv_model.specs.Files.{Reads, Rose, Same}
+use Rattle.tv_model.specs.Schemas.{IsSchema}
+use Rattle.tv_model.specs.State.{Catalog}
+use Rattle.tv_store.specs.Kept.{FilesState, StoreState}
+use Rattle.tv_store.specs.Making.{FindsFiles, LeavesRefused, WritesNone}
+use Rattle.tv_store.specs.OpeningCauses.{OpeningCause, opening_facts}
+use Rattle.tv_store.specs.Stays.{MayNotify}
+use Rattle.tv_store.specs.StoreCauses.{writer_lock_name}
+
+-- The directory was only read from, and no call was refused; a crash leaves no more than it might.
+pub record Syncs {O W C : Type 0} (g : Ghosts O W C) (outside synced : O) : Type 0 where
+  pub quiet : (g.view synced).faults ≡ (g.view outside).faults
+  pub frame : OnlyReads g.told (g.view outside) (g.view synced)
+  pub looks : g.tells_images → OnlyLooks g outside synced
+
+-- This is the directory that was handed in, under the lock of its writer, which was free. Nothing else
+-- changed, no call was refused, and a crash leaves no more than it might.
+pub record IsUnderLock {O W C : Type 0} (g : Ghosts O W C) (outside locked : O) : Type 0 where
+  pub took : g.told.locks
+      → TakesLock (g.view outside).locks (g.view locked).locks writer_lock_name
+  pub only : OnlyLocks g.told (g.view outside) (g.view locked)
+  pub quiet : (g.view locked).faults ≡ (g.view outside).faults
+  pub looks : g.tells_images → OnlyLooks g outside locked
+
+-- Why an index isn't opened while its lock is held: as it wouldn't be opened under the lock; and where
+-- it would, the lock is told.
+abbrev pub LockedOutCause : (tells : Type 0) → (schema : List ℕ) → Reads → (refused quiet : Type 0)
+    → TantivyError → Type 0
+LockedOutCause tells schema reads refused quiet (errors.LockFailure lock.LockBusy text) =
+    quiet × (tells → IsOpenable reads schema) × (text ≡ None)
+LockedOutCause tells schema reads refused quiet other = OpenCause tells schema reads refused quiet other
+
+-- A directory whose lock is held was looked at, and comes back.
+pub record LockedOut {O W C : Type 0} (g : Ghosts O W C) (outside : O) (schema : List ℕ) (now : O)
+    (error : TantivyError) : Type 0 where
+  pub cause : LockedOutCause g.told.content schema (g.view outside).reads
+      (Rose (g.view outside).faults (g.view now).faults)
+      ((g.view now).faults ≡ (g.view outside).faults) error
+  pub frame : OnlyReads g.told (g.view outside) (g.view now)
+  pub looks : g.tells_images → OnlyLooks g outside now
+
+-- The lock wasn't given, for this reason: where it is held, the directory was looked at; else it comes
+-- back at once.
+abbrev pub RefusesLock : {O W C : Type 0} → Ghosts O W C → (outside : O) → (schema : List ℕ) → LockError
+    → (now : O) → TantivyError → Type 0
+RefusesLock g outside schema lock.LockBusy now error = LockedOut g outside schema now error
+RefusesLock g outside schema why now error = (now ≡ outside) × (error ≡ of_lock why)
+
+-- The lock of the writer wasn't given. The directory was only read from, and comes back; why, is said
+-- of any bytes that spell this schema.
+pub record NotUnderLock {O W C : Type 0} (g : Ghosts O W C) (outside : O) (text : List ℕ) (now : O)
+    (error : TantivyError) : Type 0 where
+  pub cause : (schema : List ℕ) → IsSchema schema text
+      → OpeningCause (opening_facts g outside now) schema (g.view outside).reads error
+  pub frame : OnlyReads g.told (g.view outside) (g.view now)
+  pub looks : g.tells_images → OnlyLooks g outside now
+
+-- The index was found, or made, in the directory that was handed in, under the lock of its writer.
+pub record FindsUnderLock {O W C : Type 0} (g : Ghosts O W C) (outside : O) (schema : List ℕ)
+    (catalog : Catalog) (files : FilesState O) : Type 0 where
+  pub spelled : IsSchema schema files.form.schema
+  pub locked : O
+  pub under : IsUnderLock g outside locked
+  pub found : FindsFiles g locked files.form.schema catalog files
+
+-- None was, or the lock wasn't given, or the bytes spell no schema. The directory comes back, with the
+-- locks that it had.
+pub record NotFound {O W C : Type 0} (g : Ghosts O W C) (outside : O) (schema : List ℕ) (now : O)
+    (error : TantivyError) : Type 0 where
+  pub leaves : g.told.content → LeavesRefused (g.view outside).reads (g.view now).reads schema
+  pub unchanged : g.told.content → WritesNone g outside error
+      → Same (g.view outside).reads (g.view now).reads
+  pub heard : (g.view now).heard ≡ (g.view outside).heard
+  pub locks : g.told.locks → SameLocks (g.view outside).locks (g.view now).locks
+  pub cause : OpeningCause (opening_facts g outside now) schema (g.view outside).reads error
+  pub frame : MayNotify g.told (g.view outside) (g.view now)
+  pub stood : NotesNone g.told (g.view outside) (g.view now)
+  pub unnoted : WritesNone g outside error → (g.view now).watched ≡ (g.view outside).watched
+  pub makes : g.tells_images → (text : List ℕ) → IsSchema schema text
+      → MayMake g (LacksMeta g outside) (first_text text) outside now
+  pub looks : g.tells_images → WritesNone g outside error → OnlyLooks g outside now
+
+-- An opening reads all that it goes by, and writes all that it writes, under the lock of the writer:
+-- there is a directory that is the one handed in but for that lock, which was free. What the store
+-- holds was found there, with its settings, its commit and its list; from there on no more was written
+-- than the first commit of a new index, and the lock was kept.
+pub record OpensUnderLock {O W C : Type 0} (g : Ghosts O W C) (outside : O) (store : StoreState O)
+    : Type 0 where
+  pub locked : O
+  pub under : IsUnderLock g outside locked
+  pub finds : g.told.content
+      → Finds (g.view locked).reads store.kept.form store.kept.catalog.commit store.kept.managed
+  pub leaves : g.told.content
+      → LeavesFound (g.view locked).reads (g.view store.outside).reads store.kept.form.schema
+  pub makes : g.tells_images
+      → MayMake g (LacksMeta g locked) (first_text store.kept.form.schema) locked store.outside
+  pub keeps : g.told.locks → SameLocks (g.view locked).locks (g.view store.outside).locks
