@@ -31,8 +31,6 @@ import time
 
 import common
 
-# In the order of the names, as `commits.c` has them.
-EXTENSIONS = ["fast", "fieldnorm", "idx", "pos", "store", "term"]
 JARS = pathlib.Path("/usr/share/java")
 LIMIT = 0.9
 COUNTED = {
@@ -48,9 +46,9 @@ def script_of(commits, collects):
     """A script of this many commits, each of a new segment alone, and after each a collection if wanted."""
     lines = []
     for commit in range(1, commits + 1):
-        segment = f"{commit:032x}"
+        segment = common.segment(commit)
         lines.append(f"segment {segment}")
-        for extension in EXTENSIONS:
+        for extension in common.EXTENSIONS:
             lines.append(f"open {segment} {extension}")
             if extension == "idx":
                 lines.append(f"write {segment} {extension} 61")
