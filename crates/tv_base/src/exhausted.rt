@@ -2,6 +2,6 @@
 use thiserror::Error;
 
 /// The number or the count would pass `u64::MAX`.
-#[derive(Clone, Copy, Debug, PartialEq, Eq, Error)]
+#[derive(Debug, Drop, Error)]
 #[error("Exhausted")]
 pub struct Exhausted;

@@ -22,7 +22,7 @@ pub trait Visit {
 }
 
 /// A share of one value of an inventory. To a contract it is the value's number.
-#[derive(Debug, Drop, PartialEq, Eq)]
+#[derive(Drop)]
 pub struct Ticket {
     number: u64,
 }

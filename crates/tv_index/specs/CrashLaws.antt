@@ -10,6 +10,8 @@ use Rattle.tv_managed.specs.Crashes.{IsTracked}
 use Rattle.tv_managed.specs.Names.{ManagedNames}
 use Rattle.tv_index.specs.Crashes.{IsOldOrMade, MayMake, OnlyLooks, TracksFrom}
 
+-- Where a crash may leave what stood before a call, or what the call made, it may leave either of any states that are
+-- among those.
 pub fewer_made : (made : Type 0) (old : Disk) (text : List ℕ) → HoldsOfFewer (IsOldOrMade made old text)
 fewer_made made old text before after within was =
     ⊎_elim (λ no_more. inl (fewer_within (possible_now old) before after within no_more))

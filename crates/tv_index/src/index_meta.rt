@@ -23,7 +23,7 @@ use tv_base::{DataCorruption, META_FILEPATH, Opstamp, TantivyError};
 use tv_model::Memory;
 
 /// A commit, its settings and its schema, as `meta.json` has them.
-#[derive(Debug, Drop)]
+#[derive(Drop)]
 pub struct UntrackedIndexMeta {
     /// How the documents of the index are kept.
     pub index_settings: IndexSettings,

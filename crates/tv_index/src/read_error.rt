@@ -5,7 +5,7 @@ use std::alloc::{AllocError, AllocFailed};
 use tv_model::Memory;
 
 /// Why a text or a tree is not read.
-#[derive(Clone, Copy, PartialEq, Eq)]
+#[derive(Drop)]
 pub(crate) enum ReadError {
     /// It is not of its form.
     Corrupt,

@@ -22,7 +22,7 @@ use tv_model::Memory;
 const MAX_SIZE: usize = 1_048_576;
 
 /// The schema of an index. To a contract it is its text.
-#[derive(Debug, Drop)]
+#[derive(Drop)]
 pub struct Schema {
     text: Vec<u8>,
     names: Vec<String>,

@@ -8,7 +8,7 @@ use crate::tracked::{SegmentMeta, SegmentMetaInventory};
 use tv_model::{DeleteMeta, LiveSegment, Memory, SegmentId};
 
 /// What is known of a segment of a commit, as `meta.json` has it.
-#[derive(Clone, Copy, Debug, PartialEq, Eq)]
+#[derive(Clone, Copy)]
 pub struct InnerSegmentMeta {
     /// Its id.
     pub segment_id: SegmentId,

@@ -7,7 +7,7 @@ use std::alloc::Global;
 use tv_model::Memory;
 
 // Where a byte of a JSON text stands.
-#[derive(Clone, Copy, PartialEq, Eq)]
+#[derive(Clone, Copy)]
 enum Place {
     // Outside string literals.
     Outside,
