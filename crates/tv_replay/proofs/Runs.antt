@@ -303,7 +303,7 @@ module _ {O W C : Type 0} (g : Ghosts O W C) (told : PlaceTold) (words : List (L
       let amiss = none_amiss (g.view stop.before).faults (g.view stop.stopped).faults (g.view stop.reports.now).faults stop.reports.faults still below in
       other (only_memory g stop.before stop.stopped stop.schema old.script new.script (replay_facts g stop.before (g.view stop.stopped).faults old.script new.script) error u.content u.content ready
       (none_met g.told.locks (g.view stop.before).locks (Rose (g.view stop.before).faults (g.view stop.stopped).faults) u.locks ready.sound.free) amiss
-      (none_behind g stop.before (g.view stop.stopped).faults (Rose old.script.faults new.script.faults) u.locks ready.sound.free amiss) stop.cause stop.stops)
+      (none_behind g stop.before old.script new.script (g.view stop.stopped).faults (Rose old.script.faults new.script.faults) u.locks ready.sound.free amiss) stop.cause stop.stops)
 
   pub comes_to_end : (status : ℕ) → EndsReplay g told asked status → (status ≡ 0) ⊎ (status ≡ 3)
   comes_to_end status ends = told_of ends.statuses where

@@ -28,7 +28,7 @@ use Rattle.tv_store.specs.Applying.{LeavesCommit, LeavesOldOrNew, MeetsBadAt}
 use Rattle.tv_index.specs.Standing.{MetaCause, OfRead}
 use Rattle.tv_store.specs.ReadCauses.{LoadingCause, IsReadError, TakesMetaLock}
 use Rattle.tv_index.specs.Opening.{OpenCause}
-use Rattle.tv_store.specs.OpeningCauses.{CallFacts, IndexMissing, IndexRefused, IsLockedOut, OpeningCause}
+use Rattle.tv_store.specs.OpeningCauses.{CallFacts, IndexMissing, IndexRefused, OpeningCause}
 use Rattle.tv_store.specs.StoreCauses.{IsBusy, IsRefusal, RefusedBehind, writer_lock_name}
 use Rattle.tv_replay.specs.declared.next_event.ScriptError.{ScriptError}
 use Rattle.tv_replay.specs.declared.next_event.ScriptError.TheVariants as failed
@@ -38,7 +38,7 @@ use Rattle.tv_base.specs.Streams.{SourceView}
 use Rattle.tv_replay.specs.ScriptLines.{TakesNextEvent, IsNoEvent, IsTooLong, IsAhead, ReadsAhead, pending}
 use Rattle.tv_replay.proofs.LineLemmas.{pending_some}
 use Rattle.tv_replay.specs.AppliedEvents.{StopsRun, EndCause, IsErrorOf}
-use Rattle.tv_replay.specs.Replays.{BeginsWith, RunFrom, StopsFor, HearsTurns, StopsAt, TakesNoLock, IsNext, IsRefusedNext, IsLockBusy, ReplayCause, told_facts, line_refusal, long_refusal}
+use Rattle.tv_replay.specs.Replays.{BeginsWith, RunFrom, StopsFor, HearsTurns, StopsAt, TakesNoLock, IsNext, IsRefusedNext, IsLockBusy, ReplayCause, WasLockedOut, told_facts, line_refusal, long_refusal}
 use Rattle.tv_replay.proofs.Progress.{after-last, events-last, HasRead, begins_next}
 use Rattle.tv_replay.proofs.AppliedEvents.{Progress, read_fault, tells_first}
 
@@ -354,11 +354,11 @@ none_met tells_locks start refused t free b = met (b.told t) where
   met (inr held) = true≢false (sym held ∙ free meta_lock_name)
 
 -- where no lock is held, and no call was refused, none was behind the lock of the writer either
-pub none_behind : {O W C : Type 0} (g : Ghosts O W C) (before : O) (now : ℕ) (more : Type 0) → g.told.locks → ((lock : List ℕ) → (g.view before).locks lock ≡ false) → (Rose (g.view before).faults now ⊎ more → ⊥)
-    → RefusedBehind (IsLockedOut g before) (g.view before).faults now ⊎ more → ⊥
-none_behind g before now more t free quiet (inl (inl rose)) = quiet (inl rose)
-none_behind g before now more t free quiet (inl (inr held)) = true≢false (sym (held.0 t) ∙ free writer_lock_name)
-none_behind g before now more t free quiet (inr other) = quiet (inr other)
+pub none_behind : {O W C : Type 0} (g : Ghosts O W C) (before : O) (script script_now : SourceView) (now : ℕ) (more : Type 0) → g.told.locks → ((lock : List ℕ) → (g.view before).locks lock ≡ false) → (Rose (g.view before).faults now ⊎ more → ⊥)
+    → RefusedBehind (WasLockedOut g before script script_now) (g.view before).faults now ⊎ more → ⊥
+none_behind g before script script_now now more t free quiet (inl (inl rose)) = quiet (inl rose)
+none_behind g before script script_now now more t free quiet (inl (inr held)) = true≢false (sym (held.0.0 t) ∙ free writer_lock_name)
+none_behind g before script script_now now more t free quiet (inr other) = quiet (inr other)
 
 -- a call that was refused was, whether the lock of the writer was given or not
 pub either_behind : {held more : Type 0} (before now : ℕ) → Rose before now ⊎ more → RefusedBehind held before now ⊎ more

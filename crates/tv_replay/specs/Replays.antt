@@ -32,7 +32,7 @@ use Rattle.tv_replay.specs.ScriptLines.{IsNoEvent, IsTooLong, IsAhead}
 use Rattle.tv_store.specs.ReadCauses.{ReadFault, TakesMetaLock}
 use Rattle.tv_index.specs.Opening.{NotesMade, OpenCause}
 use Rattle.tv_store.specs.StoreCauses.{IsBusy, QuietBehind, RefusedBehind, WriteFault, writer_lock_name}
-use Rattle.tv_store.specs.OpeningCauses.{CallFacts, IsLockedOut, IsSomeSchema, OpeningCause, schema_refusal}
+use Rattle.tv_store.specs.OpeningCauses.{CallFacts, IsSomeSchema, OpeningCause, schema_refusal}
 use Rattle.tv_store.specs.Making.{IsRefusedFirst, LeavesRefused}
 use Rattle.tv_store.specs.Applying.{MeetsBadAt}
 use Rattle.tv_store.specs.Stays.{KeepsDotted}
@@ -197,18 +197,24 @@ told_facts held free = record {
   quiet_behind = Unit {0};
 }
 
+-- a refusal that writes nothing: that of an argument, of bytes or of the lock, and any while somebody else
+-- holds that lock
+abbrev pub IsUnwritten : {W : Type 0} → Told → (before : View W) → TantivyError → Type 0
+IsUnwritten told before error =
+    IsRefusedFirst error ⊎ (told.locks × (before.locks writer_lock_name ≡ true))
+
 -- What an opening that was refused leaves: no whole line was told, and nothing was read of the script.
 -- Where `meta.json` was there each name reads what it read, and where it wasn't there may be the first
 -- commit of a new index; only of that a notice may have come. An argument, bytes and the lock that were
--- refused changed nothing, and left no notice. The error is the first that holds, in the order of an
--- opening.
+-- refused changed nothing, and left no notice, nor did any refusal while somebody else held that lock.
+-- The error is the first that holds, in the order of an opening.
 pub record RefusesOpening {W : Type 0} (told : Told) (schema : List ℕ) (before now : View W) (script script_now : SourceView) (error : TantivyError) : Type 0 where
   pub silent : told.heard → TellsNoLine before.heard now.heard
   pub unread : script_now ≡ script
   pub leaves : LeavesRefused before.reads now.reads schema
   pub stood : IsSome (before.reads meta_name) → now.watched ≡ before.watched
-  pub unchanged : IsRefusedFirst error → Same before.reads now.reads
-  pub unnoted : IsRefusedFirst error → now.watched ≡ before.watched
+  pub unchanged : IsUnwritten told before error → Same before.reads now.reads
+  pub unnoted : IsUnwritten told before error → now.watched ≡ before.watched
   pub cause : OpeningCause (told_facts (told.locks → before.locks writer_lock_name ≡ true)
       (told.locks → before.locks writer_lock_name ≡ false)) schema before.reads error
 
@@ -264,6 +270,13 @@ ReplayCause facts schema reads script other = ⊥
 abbrev pub IsLockBusy : (tells_locks : Type 0) → Locks → (refused : Type 0) → Type 0
 IsLockBusy tells_locks locks refused = IsBusy tells_locks ((locks writer_lock_name ≡ true) ⊎ (locks meta_lock_name ≡ true)) refused
 
+-- the opening wasn't given the lock of the writer: where locks are told, it is held; and nothing was read
+-- of the script
+abbrev pub WasLockedOut : {O W C : Type 0} → Ghosts O W C → (before : O)
+    → (script script_now : SourceView) → Type 0
+WasLockedOut g before script script_now =
+    (g.told.locks → (g.view before).locks writer_lock_name ≡ true) × (script_now ≡ script)
+
 -- what is known of the calls of a replay: on the directory that was handed in, whose count of refused
 -- calls is this by now, and on the script
 abbrev pub replay_facts : {O W C : Type 0} → Ghosts O W C → (before : O) → (faults : ℕ)
@@ -274,9 +287,9 @@ replay_facts g before faults script script_now = record {
   free = g.told.locks → (g.view before).locks writer_lock_name ≡ false;
   refused = Rose (g.view before).faults faults ⊎ Rose script.faults script_now.faults;
   quiet = (faults ≡ (g.view before).faults) × (script_now.faults ≡ script.faults);
-  refused_behind = RefusedBehind (IsLockedOut g before) (g.view before).faults faults
+  refused_behind = RefusedBehind (WasLockedOut g before script script_now) (g.view before).faults faults
       ⊎ Rose script.faults script_now.faults;
-  quiet_behind = QuietBehind (IsLockedOut g before) (g.view before).faults faults
+  quiet_behind = QuietBehind (WasLockedOut g before script script_now) (g.view before).faults faults
       × (script_now.faults ≡ script.faults);
 }
 

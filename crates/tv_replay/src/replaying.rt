@@ -42,8 +42,8 @@ pub struct Replayed<O> {
 /// Ok means that the script was read to its end. The directory comes back after an error too. A stored
 /// commit is never taken away by an opening. Errors of the opening come in this order:
 /// `InvalidArgument` for the schema, `DataCorruption` for the list of managed files, `DataCorruption`
-/// and `SchemaError` for `meta.json`, `LockFailure` for the writer lock, `OpenReadError` for the first
-/// file of the commit that can't be read.
+/// and `SchemaError` for `meta.json`, `LockFailure` with `LockBusy` for the writer lock, `OpenReadError`
+/// for the first file of the commit that can't be read.
 pub fn replay<O: Outside, R: Source>(
     alloc: Global,
     outside: O,

@@ -102,8 +102,11 @@ module _ {O W C : Type 0} (g : Ghosts O W C) (outside synced : O) (s : Syncs g o
     -- since it is held
     module _ (text : List ℕ) (busy : g.told.locks → (g.view synced).locks writer_lock_name ≡ true) (counts : (g.told.locks × ((g.view mid).faults ≡ (g.view synced).faults)) ⊎ Rose (g.view synced).faults (g.view mid).faults)
         (now : O) (error : TantivyError) (out : LockedOut g mid text now error) where
-      held : IsLockedOut g outside
+      held : g.told.locks → (g.view outside).locks writer_lock_name ≡ true
       held t = sym (s.frame.kept.frame.locks t writer_lock_name) ∙ busy t
+
+      locked_out : IsLockedOut g outside now
+      locked_out = (held, reads_then read_only out.frame)
 
       abbrev Counts : ℕ → Type 0
       Counts start = (g.told.locks × ((g.view mid).faults ≡ start)) ⊎ Rose start (g.view mid).faults
@@ -128,8 +131,8 @@ module _ {O W C : Type 0} (g : Ghosts O W C) (outside synced : O) (s : Syncs g o
       cause schema spelled other k =
           found_cause (opening_facts g outside now) schema text (g.view outside).reads other spelled
           (open_cause_at g.told.content text (g.view mid).reads (g.view outside).reads _ _ _ _ other read_only.content
-          (refused_behind (IsLockedOut g outside) g.told.locks (g.view outside).faults (g.view mid).faults (g.view now).faults held counted)
-          (quiet_behind (IsLockedOut g outside) g.told.locks (g.view outside).faults (g.view mid).faults (g.view now).faults held counted) k)
+          (refused_behind (IsLockedOut g outside now) g.told.locks (g.view outside).faults (g.view mid).faults (g.view now).faults locked_out counted)
+          (quiet_behind (IsLockedOut g outside now) g.told.locks (g.view outside).faults (g.view mid).faults (g.view now).faults locked_out counted) k)
 
       not_free : NotUnderLock g outside text now error
       not_free = record {

@@ -222,6 +222,7 @@ module _ {O W C : Type 0} (g : Ghosts O W C) (outside : O) (schema : List ℕ) (
     opened_locks = record {
       ok = λ t. took_then (g.view outside).locks (g.view locked).locks (g.view started.outside).locks writer_lock_name (under.took t) (kept_locked t);
       under = record { locked = locked; under = under; finds = finds_begun; leaves = left_begun; makes = made_begun; keeps = kept_locked };
+      writes = tt;
       err = λ t. tt;
     }
 
@@ -306,6 +307,7 @@ module _ {O W C : Type 0} (g : Ghosts O W C) (outside : O) (schema : List ℕ) (
       ok = λ t. tt;
       under = tt;
       err = λ t. freed_after (g.view outside).locks (g.view locked).locks (g.view started.outside).locks (g.view now).locks writer_lock_name (under.took t) (λ n. tried.locks t n ∙ f.frame.notes.frame.locks t n) (frees.freed t);
+      writes = inr (locked, under);
     }
 
     -- why, as it is counted from before the opening on

@@ -86,6 +86,7 @@ module _ {O W C : Type 0} (g : Ghosts O W C) (outside : O) (schema : List ℕ) w
     unchanged = λ t none n. refl;
     heard = refl;
     locks = λ t n. refl;
+    writes = inl (record { kept = kept_itself g.told (g.view outside); content = λ t n. refl });
     cause = cause error h;
     frame = record { deletes_none = (kept_itself g.told (g.view outside)).frame.tells_none.deletes_none; dotted = λ t n dot other. refl; watched = inl refl };
     stood = λ tells. refl;
@@ -105,6 +106,7 @@ module _ {O W C : Type 0} (g : Ghosts O W C) (outside : O) (schema : List ℕ) w
     unchanged = λ t none. h.frame.content t;
     heard = h.frame.kept.frame.tells_none.heard;
     locks = h.frame.kept.frame.locks;
+    writes = inl h.frame;
     cause = h.cause schema is;
     frame = record { deletes_none = h.frame.kept.frame.tells_none.deletes_none; dotted = λ t n dot other. h.frame.content t n; watched = inl h.frame.kept.watched };
     stood = λ tells. h.frame.kept.watched;
@@ -151,6 +153,7 @@ module _ {O W C : Type 0} (g : Ghosts O W C) (outside : O) (schema : List ℕ) w
       unchanged = λ t first n. reads_back t n ∙ none.unchanged t (of_bytes first) n ∙ under.only.content t n;
       heard = back.frees.frame.tells_none.heard ∙ none.frame.notes.frame.tells_none.heard ∙ under.only.tells_none.heard;
       locks = λ t. freed_after (g.view outside).locks (g.view locked).locks (g.view back.found).locks (g.view now).locks writer_lock_name (under.took t) (none.frame.notes.frame.locks t) (back.frees.freed t);
+      writes = inr (locked, under);
       cause = found_cause (opening_facts g outside now) schema text (g.view outside).reads error is
           (open_cause_at g.told.content text (g.view locked).reads (g.view outside).reads _ _ _ _ error under.only.content inl inl counted);
       frame = record {

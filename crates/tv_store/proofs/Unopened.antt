@@ -31,7 +31,7 @@ module _ {O W C : Type 0} (g : Ghosts O W C) (outside : O) (schema : List ℕ) (
   })
 
   pub unopened_locks : TakesWriterLock g outside result
-  unopened_locks = answered (TakesWriterLock g outside) (record { ok = λ t. tt; under = tt; err = n.locks })
+  unopened_locks = answered (TakesWriterLock g outside) (record { ok = λ t. tt; under = tt; err = n.locks; writes = n.writes })
 
   pub unopened_fails : OpeningFaults g outside schema result
   unopened_fails = answered (OpeningFaults g outside schema) (record { quiet = tt; cause = n.cause })

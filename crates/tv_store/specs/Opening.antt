@@ -16,7 +16,7 @@ use Rattle.tv_store.specs.Kept.{StoreState, Holds, AtMost, kept_below}
 use Rattle.tv_store.specs.Making.{LeavesRefused, WritesNone}
 use Rattle.tv_store.specs.OpeningCauses.{OpeningCause, opening_facts}
 use Rattle.tv_store.specs.StoreCauses.{writer_lock_name}
-use Rattle.tv_store.specs.UnderLock.{OpensUnderLock}
+use Rattle.tv_store.specs.UnderLock.{OpensUnderLock, WritesUnderLock}
 use Rattle.tv_store.specs.Stays.{MayNotify}
 use Rattle.tv_store.specs.Telling.{TellsLine, TellsFirstPart, TellsNoLine}
 
@@ -52,7 +52,7 @@ pub record TellsOpening {O W C : Type 0} (g : Ghosts O W C) (outside : O) (schem
   pub part : g.told.content → g.told.heard → IfErr result (λ refused. (index : FoundIndex schema (g.view outside).reads) → TellsFirstPart (g.view outside).heard (g.view refused.directory).heard (opening_of index.commit))
 
 -- The writer lock was free, and is held, and all was read and written under it; after a refusal the
--- same locks are held as before.
+-- same locks are held as before, and nothing was written, or that lock was taken first.
 pub record TakesWriterLock {O W C : Type 0} (g : Ghosts O W C) (outside : O)
     (result : Result (StoreState O) (Refused O)) : Type 0 where
   pub ok : g.told.locks → IfOk result (λ store.
@@ -60,6 +60,7 @@ pub record TakesWriterLock {O W C : Type 0} (g : Ghosts O W C) (outside : O)
   pub under : IfOk result (OpensUnderLock g outside)
   pub err : g.told.locks → IfErr result (λ refused.
       SameLocks (g.view outside).locks (g.view refused.directory).locks)
+  pub writes : IfErr result (λ refused. WritesUnderLock g outside refused.directory)
 
 -- At Ok the device refused no call; and an opening fails for one of these causes, in their order.
 pub record OpeningFaults {O W C : Type 0} (g : Ghosts O W C) (outside : O) (schema : List ℕ)

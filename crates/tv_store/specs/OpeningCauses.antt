@@ -6,6 +6,7 @@ use Rattle.tv_base.specs.declared.error.TantivyError.TheVariants as errors
 use Rattle.tv_base.specs.declared.open_errors.LockError.TheVariants as lock
 use Rattle.tv_base.specs.declared.open_errors.OpenReadError.{OpenReadError}
 use Rattle.tv_directory.specs.declared.directory.Directory.{Ghosts}
+use Rattle.tv_directory.specs.View.{OnlyReads}
 use Rattle.tv_index.specs.Opening.{OpenCause}
 use Rattle.tv_model.specs.Files.{Reads, Rose}
 use Rattle.tv_model.specs.Index.{FoundIndex}
@@ -63,9 +64,12 @@ pub record CallFacts : Type 1 where
   pub refused_behind : Type 0
   pub quiet_behind : Type 0
 
--- where locks are told, that of the writer is held
-abbrev pub IsLockedOut : {O W C : Type 0} → Ghosts O W C → (outside : O) → Type 0
-IsLockedOut g outside = g.told.locks → (g.view outside).locks writer_lock_name ≡ true
+-- the lock of the writer wasn't given: where locks are told, it is held; and the directory was only read
+-- from
+abbrev pub IsLockedOut : {O W C : Type 0} → Ghosts O W C → (outside now : O) → Type 0
+IsLockedOut g outside now =
+    (g.told.locks → (g.view outside).locks writer_lock_name ≡ true)
+    × OnlyReads g.told (g.view outside) (g.view now)
 
 -- what is known of the calls of an opening, of the directory handed in and as it is now
 abbrev pub opening_facts : {O W C : Type 0} → Ghosts O W C → (outside now : O) → CallFacts
@@ -76,8 +80,8 @@ opening_facts g outside now = record {
   free = g.told.locks → (g.view outside).locks writer_lock_name ≡ false;
   refused = Rose (g.view outside).faults (g.view now).faults;
   quiet = (g.view now).faults ≡ (g.view outside).faults;
-  refused_behind = RefusedBehind (IsLockedOut g outside) (g.view outside).faults (g.view now).faults;
-  quiet_behind = QuietBehind (IsLockedOut g outside) (g.view outside).faults (g.view now).faults;
+  refused_behind = RefusedBehind (IsLockedOut g outside now) (g.view outside).faults (g.view now).faults;
+  quiet_behind = QuietBehind (IsLockedOut g outside now) (g.view outside).faults (g.view now).faults;
 }
 
 -- Why an opening fails, in this order: the schema is refused; the index that stands there is; the lock

@@ -1,5 +1,5 @@
 -- How a directory is taken under the lock of the one who writes its index, and what is found there.
-use Rattle.std.specs.Prelude.{◌≡◌, ℕ, List, None}
+use Rattle.std.specs.Prelude.{◌≡◌, ◌⊎◌, ℕ, List, None}
 use Rattle.tv_base.specs.Errors.{of_lock}
 use Rattle.tv_base.specs.declared.error.TantivyError.{TantivyError}
 use Rattle.tv_base.specs.declared.error.TantivyError.TheVariants as errors
@@ -76,8 +76,13 @@ pub record FindsUnderLock {O W C : Type 0} (g : Ghosts O W C) (outside : O) (sch
   pub under : IsUnderLock g outside locked
   pub found : FindsFiles g locked files.form.schema catalog files
 
+-- The directory was only read from; or the lock of its writer was taken first, which was free.
+abbrev pub WritesUnderLock : {O W C : Type 0} → Ghosts O W C → (outside now : O) → Type 0
+WritesUnderLock {O = O} g outside now =
+    OnlyReads g.told (g.view outside) (g.view now) ⊎ ((locked : O) × IsUnderLock g outside locked)
+
 -- None was, or the lock wasn't given, or the bytes spell no schema. The directory comes back, with the
--- locks that it had.
+-- locks that it had, and was written only once that of the writer was taken.
 pub record NotFound {O W C : Type 0} (g : Ghosts O W C) (outside : O) (schema : List ℕ) (now : O)
     (error : TantivyError) : Type 0 where
   pub leaves : g.told.content → LeavesRefused (g.view outside).reads (g.view now).reads schema
@@ -85,6 +90,7 @@ pub record NotFound {O W C : Type 0} (g : Ghosts O W C) (outside : O) (schema : 
       → Same (g.view outside).reads (g.view now).reads
   pub heard : (g.view now).heard ≡ (g.view outside).heard
   pub locks : g.told.locks → SameLocks (g.view outside).locks (g.view now).locks
+  pub writes : WritesUnderLock g outside now
   pub cause : OpeningCause (opening_facts g outside now) schema (g.view outside).reads error
   pub frame : MayNotify g.told (g.view outside) (g.view now)
   pub stood : NotesNone g.told (g.view outside) (g.view now)

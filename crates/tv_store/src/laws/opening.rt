@@ -1,5 +1,5 @@
 //! Laws of openings.
-ghost use Rattle.std.specs.Prelude.{◌≡◌, true, false, ℕ, List, None, IfOk, IfErr, IsErr};
+ghost use Rattle.std.specs.Prelude.{◌≡◌, ◌⊎◌, true, false, ℕ, List, None, IfOk, IfErr, IsErr};
 ghost use Rattle.tv_model.specs.Files.{Same};
 ghost use Rattle.tv_model.specs.Index.{FoundIndex};
 ghost use Rattle.tv_store.specs.StoreCauses.{writer_lock_name};
@@ -11,16 +11,21 @@ use tv_directory::Outside;
 use tv_managed::Refused;
 
 /// Nothing is written before the writer lock is held: of a store that is open there was a moment at which
-/// that lock was held, and each name still read what it reads in the directory that was handed in. So no
-/// index is made, and no list is written, without the lock.
+/// that lock was held, and each name still read what it reads in the directory that was handed in. The
+/// same is so of a refusal, unless each name reads what it read. So no index is made, and no list is
+/// written, without the lock.
 pub fn writes_nothing_before_its_lock<O: Outside>(
     alloc: Global,
     outside: O,
     schema: &[u8],
 ) -> Result<IndexStore<O>, Refused<O>>
-    ensures { IfOk result (λ store. (locked : O)
+    ensures opened { IfOk result (λ store. (locked : O)
         × (O.told.locks → (O.view locked).locks writer_lock_name ≡ true)
         × (O.told.content → Same (O.view outside).reads (O.view locked).reads)) }
+    ensures refused { IfErr result (λ refused.
+        (O.told.content → Same (O.view outside).reads (O.view refused.directory).reads)
+        ⊎ ((locked : O) × (O.told.locks → (O.view locked).locks writer_lock_name ≡ true)
+        × (O.told.content → Same (O.view outside).reads (O.view locked).reads))) }
 {
     IndexStore::open(alloc, outside, schema)
 }

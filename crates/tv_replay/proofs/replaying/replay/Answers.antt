@@ -1,4 +1,5 @@
 use Rattle.std.proofs.Common.{◌≡◌, ℕ, true, false, refl, sym, ap, ◌∙◌, inl, inr, subst}
+use Rattle.std.proofs.Math.Logic.{⊎_map}
 use Rattle.std.proofs.lemmas.Result.{IfOk-weaker, IfErr-weaker}
 use Rattle.tv_model.specs.Names.{meta_name}
 use Rattle.tv_model.specs.Files.{Rose}
@@ -27,8 +28,8 @@ returns-in-Err-clause-stops g c tells =
       unread = refl;
       leaves = refused.leaves.leaves tells;
       stood = λ some. refused.frame.stood (tells, some);
-      unchanged = λ first. refused.leaves.unchanged tells (inl first);
-      unnoted = λ first. refused.frame.unnoted (inl first);
+      unchanged = refused.leaves.unchanged tells;
+      unnoted = refused.frame.unnoted;
       cause = opening_told (opening_facts D c.args.outside c.in-Err.field-0.directory) (D.told.locks → before.locks writer_lock_name ≡ true) c.args.schema.now before.reads c.in-Err.field-0.error tells (λ busy. busy.told) refused.faults.cause;
     })
 
@@ -49,8 +50,8 @@ returns-in-Err-clause-faults g c =
             busy = λ busy. record { told = λ t. inl (busy.told t); untold = busy.untold };
             refused = inl;
             quiet = λ quiet. (quiet, refl);
-            refused_behind = inl;
-            quiet_behind = λ quiet. (quiet, refl);
+            refused_behind = λ behind. inl (⊎_map (λ rose. rose) (λ out. ((out.0.0, refl), out.1)) behind);
+            quiet_behind = λ behind. (⊎_map (λ quiet. quiet) (λ out. ((out.0.0, refl), out.1)) behind, refl);
           })
           refused.faults.cause;
     }
@@ -63,7 +64,7 @@ returns-in-Err-clause-complete g c all =
     let script = g.R.Source.view c.args.script.now in
     only_memory D c.args.outside c.in-Err.field-0.directory c.args.schema.now script script (replay_facts D c.args.outside now.faults script script) c.in-Err.field-0.error
     all.content all.content all.ready (none_met D.told.locks before.locks (Rose before.faults now.faults) all.locks all.ready.sound.free) all.quiet
-    (none_behind D c.args.outside now.faults (Rose script.faults script.faults) all.locks all.ready.sound.free all.quiet)
+    (none_behind D c.args.outside script script now.faults (Rose script.faults script.faults) all.locks all.ready.sound.free all.quiet)
     (returns-in-Err-clause-faults g c).cause (returns-in-Err-clause-stops g c)
 
 pub returns-clause-frame : goal.returns-clause-frame
@@ -157,5 +158,5 @@ returns-clause-complete g c all =
     (λ error cause stops.
     only_memory D c.args.outside c.into_outside.result c.args.schema.now script script_now (replay_facts D c.args.outside now.faults script script_now) error
     all.content all.content all.ready (none_met D.told.locks before.locks (Rose before.faults now.faults) all.locks all.ready.sound.free) all.quiet
-    (none_behind D c.args.outside now.faults (Rose script.faults script_now.faults) all.locks all.ready.sound.free all.quiet) cause stops)
+    (none_behind D c.args.outside script script_now now.faults (Rose script.faults script_now.faults) all.locks all.ready.sound.free all.quiet) cause stops)
     (returns-clause-faults g c).cause (returns-clause-stops g c)
