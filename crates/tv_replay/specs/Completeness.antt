@@ -24,7 +24,8 @@ pub record IsReady (schema : List ℕ) (script : Option (List ℕ)) (reads : Rea
   pub valid : IsScript text
   pub sound : IsSoundStart form reads held
 
--- All of that stands in a directory that tells its content and its locks, and no call but deletes is refused.
+-- A valid schema, a valid script, which is told, and a sound start stand before a directory that tells its content
+-- and its locks, and no call but deletes, and no read of the script, is refused.
 pub record IsUndisturbed {O W C : Type 0} (g : Ghosts O W C) (before : O) (schema : List ℕ) (script script_now : SourceView) (result : Replayed O) : Type 0 where
   pub content : g.told.content
   pub locks : g.told.locks

@@ -80,7 +80,7 @@ IsReadOut script script_now = (text : List ℕ) → script.left ≡ Some text �
 abbrev pub IsRefusedAt : {W : Type 0} → (old new : View W) → (script script_now : SourceView) → Type 0
 IsRefusedAt old new script script_now = Rose old.faults new.faults ⊎ Rose script.faults script_now.faults
 
--- no such call was
+-- no call of the directory but deletes, and no read of the script, was refused
 abbrev pub IsQuietAt : {W : Type 0} → (old new : View W) → (script script_now : SourceView) → Type 0
 IsQuietAt old new script script_now = (new.faults ≡ old.faults) × (script_now.faults ≡ script.faults)
 
@@ -92,7 +92,7 @@ pub record StopsAtLine (script : List ℕ) (number : ℕ) (rest : List ℕ) : Ty
   pub place : length texts + 1 ≡ number
   pub split : lines_of script ≡ texts ++ lines_of rest
 
--- what is said of a line that is no event's, and of one that is longer than a line may be
+-- what is said of a line that is no event's
 abbrev pub line_refusal : ℕ → List ℕ
 line_refusal number = codes "line " ++ decimal number ++ codes " is not of the event grammar"
 
@@ -224,7 +224,7 @@ pub record StopsRunning {O W C : Type 0} (g : Ghosts O W C) (before now : O) (sc
   pub files : HasFiles (g.view before).reads found.commit
   pub stops : (index : OpenedIndex schema (g.view before).reads) → StopsAt g.told (record { form = index.form; script = script; start = index.state; lines_of_turns = report index.state }) (g.view before) (g.view now) script_now error
 
--- where a replay stopped with this error: at its opening, or in its run
+-- where a replay stopped with this error: at its opening (`RefusesOpening`), or in its run (`StopsRunning`)
 abbrev pub StopsReplay : {O W C : Type 0} → Ghosts O W C → (before now : O) → (schema : List ℕ) → (script script_now : SourceView) → TantivyError → Type 0
 StopsReplay g before now schema script script_now error =
     g.told.content → RefusesOpening g.told schema (g.view before) (g.view now) script script_now error ⊎ StopsRunning g before now schema script script_now error

@@ -20,7 +20,7 @@ use Rattle.tv_replay.specs.Replays.{Replays, ReplayFrame, IsReadOut, IsQuietAt, 
 abbrev pub usage_line : List ℕ
 usage_line = codes "usage: tv replay FOLDER SCHEMA | space FOLDER SCHEMA | generate N | race FOLDER SCHEMA HANDLES SCRIPT.."
 
--- what is said of a schema that the place refused, and of a folder that it refused
+-- what is said of a schema that the place refused
 abbrev pub schema_line : List ℕ
 schema_line = codes "error io"
 
