@@ -17,3 +17,4 @@ pub mod FirstRuns
 pub mod CommandWords
 pub mod CommandRuns
 pub mod LineLaws
+pub mod Deriving

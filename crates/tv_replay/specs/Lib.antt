@@ -11,5 +11,6 @@ pub mod Generated
 pub mod Summaries
 pub mod Commands
 pub mod Runs
+pub mod Headline
 pub mod BenchPlace
 pub mod FolderPlace

@@ -4,9 +4,12 @@ ghost use Rattle.std.specs.Prelude.{◌≡◌, ◌≢◌, ◌≤◌, ◌++◌, [
 ghost use Rattle.std.specs.List.{join_with_byte};
 ghost use Rattle.hex.specs.Hex.{decode_of, encode_lower};
 ghost use Rattle.tv_model.specs.declared.event.Event.TheVariants as events;
+ghost use Rattle.tv_model.specs.Index.{IsSoundStart};
+ghost use Rattle.tv_model.specs.Schemas.{stripped};
 ghost use Rattle.tv_model.specs.Script.{Fits, line_limit, lines_of};
 ghost use Rattle.tv_replay.specs.Commands.{replay_words, IsNoCommand};
 ghost use Rattle.tv_replay.specs.Completeness.{IsUndisturbed};
+ghost use Rattle.tv_replay.specs.Headline.{Headline, RunsSoundly, StartsSoundly};
 ghost use Rattle.tv_replay.specs.Runs.{IsUndisturbedRun};
 
 use crate::place::Place;
@@ -17,6 +20,46 @@ use std::alloc::Global;
 use tv_base::{Source, TantivyError};
 use tv_directory::Outside;
 use tv_model::{Event, Memory};
+
+/// From a sound start, a replay that answers Ok has told, line by line, a run of the machine on the
+/// whole script, and left its files and its list.
+///
+/// It presumes a directory that tells its content, its lines and its locks, and a script that is told.
+/// A sound start is one where no lock is held, the list names each file without a dot in front, and
+/// `meta.json`, where there is one, means a commit of this schema whose files can be read; an empty
+/// directory is one. What is left is a sound start again. That the schema is valid isn't presumed: at
+/// Ok it is.
+pub fn tells_a_run_of_the_machine<O: Outside, R: Source>(
+    alloc: Global,
+    outside: O,
+    schema: &[u8],
+    script: &mut R,
+) -> Replayed<O>
+    ensures headline { O.told.content → O.told.heard → O.told.locks
+        → IsSoundStart (stripped schema.now) (O.view outside).reads (O.view outside).locks
+        → (text : List ℕ) → (R.view script.old).left ≡ Some text
+        → IfOk result.outcome (Headline O.Directory outside result.outside schema.now text) }
+{
+    replay(alloc, outside, schema, script)
+}
+
+/// A run for `replay FOLDER SCHEMA` that starts soundly and ends with 0 has done the same in its folder:
+/// the headline holds of the directory that the folder held and the one that it holds now.
+pub fn runs_the_machine_over_a_folder<P: Place, R: Source>(
+    alloc: Global,
+    words: &[String],
+    place: &mut P,
+    script: &mut R,
+) -> u8
+    requires free { (P.view place.old).lent ≡ None }
+    requires paths { (folder path : List ℕ) → map string_bytes words.now ≡ replay_words folder path
+        → P.is_folder_path folder × P.is_schema_path path }
+    ensures headline { (start : StartsSoundly P.Out.Directory P.told (map string_bytes words.now)
+        (record { place = P.view place.old; script = R.view script.old })) → result ≡ 0
+        → RunsSoundly start (record { place = P.view place.new; script = R.view script.new }) }
+{
+    run(alloc, words, place, script)
+}
 
 /// A line spells its event in one way: a number has no leading zero, one space alone stands between
 /// two words, and an id has lower-case digits.
