@@ -59,6 +59,8 @@ pub(crate) struct Left {
 #[derive(Drop)]
 pub(crate) struct Given {
     pub(crate) words: Vec<String>,
+    /// The one folder that is there, or None where every folder is.
+    pub(crate) folder: Option<String>,
     pub(crate) schemas: Vec<(String, Vec<u8>)>,
     pub(crate) files: Vec<(String, Vec<u8>)>,
     pub(crate) holds: Locks,
@@ -120,6 +122,7 @@ impl Given {
     fn new(alloc: Global) -> anyhow::Result<Given> {
         Ok(Given {
             words: replay_words(alloc)?,
+            folder: None,
             schemas: Vec::new(alloc),
             files: Vec::new(alloc),
             holds: NO_LOCKS,

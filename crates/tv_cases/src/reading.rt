@@ -311,7 +311,7 @@ fn tell_otherwise(run: &mut Run, piece: Piece) -> anyhow::Result<()> {
     Ok(())
 }
 
-// A file, a schema, or the words of the command line.
+// A file, a schema, a folder, or the words of the command line.
 fn take_file(
     alloc: Global,
     run: &mut Run,
@@ -321,6 +321,7 @@ fn take_file(
 ) -> anyhow::Result<()> {
     match word {
         "words" => take_words(alloc, run, rest),
+        "folder" => take_folder(alloc, run, rest),
         "schema" => take_schema(alloc, run, rest),
         "file" => take_start(alloc, run, rest),
         "left" | "like" | "gone" => take_left(alloc, run, at, word, rest),
@@ -344,10 +345,16 @@ fn push_word(alloc: Global, words: &mut Vec<String>, word: &str) -> anyhow::Resu
     Ok(())
 }
 
-// A word of the command line.
+// A word of the command line, or a path among them.
 fn word_of(alloc: Global, word: &str) -> anyhow::Result<String> {
     let word = String::from_utf8(text_of(alloc, word)?).ok();
     word.context("the words of a command line are UTF-8")
+}
+
+// The one folder that is there.
+fn take_folder(alloc: Global, run: &mut Run, rest: &str) -> anyhow::Result<()> {
+    run.given.folder = Some(word_of(alloc, rest)?);
+    Ok(())
 }
 
 // A schema, which stands under a path.

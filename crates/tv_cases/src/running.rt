@@ -77,7 +77,23 @@ fn place(alloc: Global, bench: CaseBench, given: &Given) -> anyhow::Result<Bench
     ensures { IfOk result (λ place. place.lent ≡ None) }
 {
     let schemas = schemas(alloc, given)?;
-    place_with(alloc, bench, schemas)
+    let place = place_with(alloc, bench, schemas)?;
+    in_folder(alloc, place, given)
+}
+
+// The same place, where the run has one folder alone.
+fn in_folder(
+    alloc: Global,
+    place: BenchPlace<CaseBench>,
+    given: &Given,
+) -> anyhow::Result<BenchPlace<CaseBench>>
+    requires { place.lent ≡ None }
+    ensures { IfOk result (λ place. place.lent ≡ None) }
+{
+    match &given.folder {
+        Some(folder) => Ok(place.in_folder(String::from_str(alloc, folder.as_str())?)),
+        None => Ok(place),
+    }
 }
 
 // A place with this directory and these schemas.

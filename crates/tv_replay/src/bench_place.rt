@@ -1,9 +1,9 @@
 //! A place in memory, for tests.
-ghost use Rattle.std.specs.Prelude.{◌≡◌, ◌≤◌, ◌-◌, ◌++◌, [], ◌∷◌, ◌↔◌, Some, None, IsSome, IsErr, option_map, length, IfOk, IfErr, OnOk};
+ghost use Rattle.std.specs.Prelude.{◌≡◌, ◌≤◌, ◌-◌, ◌++◌, [], ◌∷◌, ◌↔◌, List, ℕ, Some, None, IsSome, IsErr, option_map, length, string_bytes, IfOk, IfErr, OnOk};
 ghost use Rattle.tv_model.specs.State.{at};
 ghost use Rattle.tv_base.specs.Causes.{IsDevice};
 ghost use Rattle.tv_directory.specs.StoredFiles.{named};
-ghost use Rattle.tv_replay.specs.BenchPlace.{new_place, refused, TextCause};
+ghost use Rattle.tv_replay.specs.BenchPlace.{is_there, kept_in, new_place, refused, FolderCause, TextCause};
 
 use crate::place::Place;
 use std::alloc::Global;
@@ -12,14 +12,17 @@ use tv_base::{IoError, IoFault, IoKind, OpenDirectoryError, TextSource};
 use tv_directory::Outside;
 use tv_model::Memory;
 
-/// A place in memory, which lends its one directory for any folder.
+/// A place in memory, which lends its one directory for any folder, or for one folder alone.
 #[derive(Drop)]
 pub struct BenchPlace<O: Outside + Drop> {
     alloc: Global,
     schemas: Vec<(String, Vec<u8>)>,
     scripts: Vec<(String, Vec<u8>)>,
+    // The one folder that is there, or None where every folder is.
+    folder: Option<String>,
     // It is here exactly while nothing is lent.
     bench: Option<O>,
+    // A folder that is there.
     lent: Option<String>,
     // Has the capacity for `room` bytes.
     said: Vec<u8>,
@@ -28,21 +31,21 @@ pub struct BenchPlace<O: Outside + Drop> {
 }
 
 impl<O: Outside + Drop> Model for BenchPlace<O> {
-    ghost use Rattle.std.specs.Prelude.{◌≡◌, ◌≤◌, ◌↔◌, None, IsSome, option_map, string_bytes, vec_len, vec_capacity};
+    ghost use Rattle.std.specs.Prelude.{◌≡◌, ◌≤◌, ◌↔◌, List, ℕ, None, Some, true, IsSome, option_map, string_bytes, vec_len, vec_capacity};
     ghost use Rattle.tv_directory.specs.StoredFiles.{named};
-    ghost use Rattle.tv_replay.specs.BenchPlace.{PlaceState};
+    ghost use Rattle.tv_replay.specs.BenchPlace.{PlaceState, is_there};
 
     ghost Value = { PlaceState O };
 
-    ghost view = { λ a. record { schemas = named a.schemas.items; scripts = named a.scripts.items; bench = a.bench; lent = option_map string_bytes a.lent; said = a.said.items; room = a.room; faults = a.faults } };
+    ghost view = { λ a. record { schemas = named a.schemas.items; scripts = named a.scripts.items; folder = option_map string_bytes a.folder; bench = a.bench; lent = option_map string_bytes a.lent; said = a.said.items; room = a.room; faults = a.faults } };
 
-    ghost invariant = { λ a. record { bench : IsSome a.bench ↔ (a.lent ≡ None); said : vec_len a.said ≤ a.room; capacity : a.room ≤ vec_capacity a.said } };
+    ghost invariant = { λ a. record { bench : IsSome a.bench ↔ (a.lent ≡ None); there : (path : List ℕ) → option_map string_bytes a.lent ≡ Some path → is_there (option_map string_bytes a.folder) path ≡ true; said : vec_len a.said ≤ a.room; capacity : a.room ≤ vec_capacity a.said } };
 }
 
 impl<O: Outside + Drop> BenchPlace<O> {
-    /// A place with these schemas and scripts, each under its path, and this directory. Where a path
-    /// stands in several pairs, the first one counts. At most `room` bytes can be said. Nothing is
-    /// lent, nothing was said, and no call was refused.
+    /// A place with these schemas and scripts, each under its path, and this directory, which it lends
+    /// for any folder. Where a path stands in several pairs, the first one counts. At most `room`
+    /// bytes can be said. Nothing is lent, nothing was said, and no call was refused.
     pub fn new(
         alloc: Global,
         schemas: Vec<(String, Vec<u8>)>,
@@ -58,6 +61,7 @@ impl<O: Outside + Drop> BenchPlace<O> {
                 alloc,
                 schemas,
                 scripts,
+                folder: None,
                 bench: Some(bench),
                 lent: None,
                 said,
@@ -66,6 +70,17 @@ impl<O: Outside + Drop> BenchPlace<O> {
             }),
             Err(_) => Err(Memory),
         }
+    }
+
+    /// The same place, of which this folder alone is there: for any other one a call that lends its
+    /// directory is refused.
+    pub fn in_folder(self, folder: String) -> BenchPlace<O>
+        requires { self.lent ≡ None }
+        ensures { result ≡ record self { folder = Some (string_bytes folder) } }
+    {
+        let mut place = self;
+        place.folder = Some(folder);
+        place
     }
 
     /// The directory, where it isn't lent, and what was said. Takes no memory.
@@ -78,6 +93,7 @@ impl<O: Outside + Drop> BenchPlace<O> {
             alloc: _,
             schemas: _,
             scripts: _,
+            folder: _,
             bench,
             lent: _,
             said,
@@ -85,6 +101,16 @@ impl<O: Outside + Drop> BenchPlace<O> {
             faults: _,
         } = self;
         (bench.unwrap(), said)
+    }
+
+    // Whether a folder of this path is there.
+    fn has_folder(&self, path: &str) -> bool
+        ensures { result ≡ is_there self.now.folder path.now }
+    {
+        match &self.folder {
+            Some(folder) => folder.as_str() == path,
+            None => true,
+        }
     }
 
     // Counts a refused call.
@@ -125,7 +151,7 @@ impl<O: Outside + Drop> Place for BenchPlace<O> {
 
     ghost told = { record { content = Unit {0}; said = Unit {0} } };
 
-    ghost view = { λ p. record { schemas = at p.schemas; scripts = at p.scripts; kept = λ folder. p.bench; lent = p.lent; said = p.said; faults = p.faults } };
+    ghost view = { λ p. record { schemas = at p.schemas; scripts = at p.scripts; kept = kept_in p; lent = p.lent; said = p.said; faults = p.faults } };
 
     ghost is_schema_path = { λ path. Unit {0} };
 
@@ -164,18 +190,21 @@ impl<O: Outside + Drop> Place for BenchPlace<O> {
 
     fn lend(&mut self, folder: &str) -> Result<O, OpenDirectoryError>
         requires free { self.old.lent ≡ None }
-        ensures given { IfOk result (λ bench. self.old.bench ≡ Some bench) }
+        ensures given { IfOk result (λ bench. kept_in self.old folder.now ≡ Some bench) }
         ensures lends { OnOk result
             (self.new ≡ record self.old { bench = None; lent = Some folder.now }) }
-        ensures faults { IfErr result
-            (λ error. (error ≡ OpenDirectoryError.Memory) × (self.new ≡ self.old)) }
+        ensures faults { IfErr result (FolderCause folder.now self.old self.new) }
     {
-        let Ok(folder) = String::from_str(self.alloc, folder) else {
+        let Ok(path) = String::from_str(self.alloc, folder) else {
             return Err(OpenDirectoryError::Memory);
         };
+        if !self.has_folder(folder) {
+            self.count_refusal();
+            return Err(OpenDirectoryError::DoesNotExist(path));
+        }
         match self.bench.take() {
             Some(bench) => {
-                self.lent = Some(folder);
+                self.lent = Some(path);
                 Ok(bench)
             }
             None => unreachable!(),
@@ -193,7 +222,10 @@ impl<O: Outside + Drop> Place for BenchPlace<O> {
 
     fn give_back(&mut self, outside: O)
         requires { IsSome self.old.lent }
-        ensures { self.new ≡ record self.old { bench = Some outside; lent = None } }
+        ensures back { self.new ≡ record self.old { bench = Some outside; lent = None } }
+        // What was lent is kept in its folder again, which is there.
+        ensures kept { (path : List ℕ) → self.old.lent ≡ Some path
+            → kept_in self.new path ≡ Some outside }
     {
         self.bench = Some(outside);
         self.lent = None;

@@ -65,8 +65,8 @@ pub(crate) fn replayed<R: Abort, O: Outside + Drop>(
     (outside, outcome.expect(rt, "replayed").events)
 }
 
-// A copy of a text.
-fn owned<R: Abort>(rt: &R, alloc: Global, text: &str) -> String {
+/// A copy of a text.
+pub(crate) fn owned<R: Abort>(rt: &R, alloc: Global, text: &str) -> String {
     String::from_str(alloc, text).expect(rt, "memory")
 }
 

@@ -1,9 +1,9 @@
 //! Places in memory: what is under a path, what is lent, and what is said.
 ghost use Rattle.std.specs.Prelude.{◌≡◌, None};
 
-use crate::fixtures::{Shows, are_bytes, empty_bench, has_heard, place};
+use crate::fixtures::{Shows, are_bytes, empty_bench, has_heard, owned, place};
 use std::process::Abort;
-use tv_base::{IoError, Source};
+use tv_base::{IoError, OpenDirectoryError, Source};
 use tv_directory::Outside;
 use tv_replay::{BenchPlace, Place};
 
@@ -136,4 +136,22 @@ fn a_place_answers_with_what_it_has(rt: HostRuntime) {
     let (bench, said) = place.into_parts();
     are_bytes(&rt, said.as_slice(), "four\n4444\n");
     has_heard(&rt, &bench, "told\ntold\n");
+}
+
+// Whether a folder of this path is refused as one that isn't there.
+fn is_absent<O: Outside + Drop>(place: &mut BenchPlace<O>, path: &str) -> bool
+    requires { place.old.lent ≡ None }
+{
+    match place.lend(path) {
+        Err(OpenDirectoryError::DoesNotExist(named)) => named.as_str() == path,
+        _ => false,
+    }
+}
+
+#[test]
+fn a_place_of_one_folder_has_no_other(rt: HostRuntime) {
+    let place = place(&rt, rt.alloc(), empty_bench(&rt, rt.alloc()), 10);
+    let mut place = place.in_folder(owned(&rt, rt.alloc(), "folder"));
+    lend(&rt, &mut place, "folder", Some("told\n"));
+    assert!(rt; is_absent(&mut place, "another folder"));
 }
