@@ -3,12 +3,11 @@
 ghost use Rattle.std.specs.Prelude.{◌≡◌, true, string_bytes};
 ghost use Rattle.std.specs.List.{AllByRecursion};
 ghost use Rattle.tv_model.specs.Names.{is_file_name};
-ghost use Rattle.tv_model.specs.Lines.{has_no_feed};
 
-use crate::answers::{Want, ends};
-use crate::calls::{Call, take};
+use crate::calls::{Call, take, tell};
 use crate::compare::{are_made, is_number};
 use crate::empty::{TestBench, refusing};
+use crate::told::told;
 use std::alloc::Global;
 use std::process::Abort;
 use tv_directory::Outside;
@@ -22,28 +21,17 @@ enum Turn {
 
 use Turn::{On, Tell};
 
-fn tell<R: Abort, O: Outside>(rt: &R, outside: &mut O, line: &[u8], want: Want) -> bool
-    requires { has_no_feed line.now ≡ true }
-{
-    outside.ready(line.len()).expect(rt, "memory");
-    ends(outside.tell(line), "", want)
-}
-
-// What a call is to answer.
-fn wanted(is_refused: bool) -> Want {
-    if is_refused {
-        Want::Refused
-    } else {
-        Want::Done
-    }
-}
-
-// Whether the device refuses a call where it is to.
-fn take_turn<R: Abort, O: Outside>(rt: &R, outside: &mut O, turn: Turn, is_refused: bool) -> bool {
-    let want = wanted(is_refused);
+// Whether a turn ends as it is to end. What is written is `new`.
+fn take_turn<R: Abort + Eprint, O: Outside>(
+    rt: &R,
+    alloc: Global,
+    outside: &mut O,
+    turn: Turn,
+    want: &'static str,
+) -> bool {
     match turn {
-        On(call, name) => take(rt, outside, (call, name, "new", want)),
-        Tell => tell(rt, outside, b"line", want),
+        On(call, name) => take(rt, alloc, outside, (call, name, "new", want)),
+        Tell => told(rt, alloc, tell(rt, outside, b"line"), want),
     }
 }
 
@@ -61,62 +49,78 @@ fn one_file<R: Abort>(rt: &R, alloc: Global) -> Vec<(String, Vec<u8>)>
 // The calls of the device that are refused. It numbers them from 0 on.
 const REFUSED: &[u64] = &[38, 20, 21, 22, 23, 24, 25, 27, 30, 34, 35, 36, 37];
 
-// A call, whether it is refused, and the clock afterwards.
-type Row = (Turn, bool, u64);
+// What a refused call on `b.idx` answers, one that names no file, and one of several calls of the device.
+const REFUSED_B: &str =
+    r#"Err(IoError { io_error: IoFault { kind: Device, text: "" }, filepath: "b.idx" })"#;
+
+const REFUSED_ALL: &str = r#"Err(IoFault { kind: Device, text: "" })"#;
+
+const REFUSED_LATE: &str = r#"Err(IoError(IoFault { kind: Device, text: "" }))"#;
+
+// A call, what it answers, and the clock afterwards.
+type Row = (Turn, &'static str, u64);
 
 const ROWS: &[Row] = &[
     // Nothing is to be settled.
-    (On(Call::Sync, "a.idx"), false, 0),
-    (On(Call::AtomicRead, "a.idx"), false, 0),
-    (On(Call::AtomicWrite, "a.idx"), false, 1),
-    (On(Call::Sync, "a.idx"), false, 2),
-    (On(Call::Sync, "a.idx"), false, 2),
-    (On(Call::Seal, "b.idx"), false, 5),
-    (On(Call::Lose, "c.idx"), false, 7),
-    (On(Call::Exists, "c.idx"), false, 7),
-    (On(Call::OpenRead, "a.idx"), false, 7),
-    (On(Call::GetFileHandle, "a.idx"), false, 7),
-    (On(Call::Sync, "a.idx"), false, 8),
-    (Tell, false, 9),
-    (On(Call::Delete, "a.idx"), false, 10),
-    (On(Call::Lock, "a.idx"), false, 10),
+    (On(Call::Sync, "a.idx"), "Ok(())", 0),
+    (On(Call::AtomicRead, "a.idx"), "first", 0),
+    (On(Call::AtomicWrite, "a.idx"), "Ok(())", 1),
+    (On(Call::Sync, "a.idx"), "Ok(())", 2),
+    (On(Call::Sync, "a.idx"), "Ok(())", 2),
+    (On(Call::Seal, "b.idx"), "Ok(())", 5),
+    (On(Call::Lose, "c.idx"), "()", 7),
+    (On(Call::Exists, "c.idx"), "Ok(false)", 7),
+    (On(Call::OpenRead, "a.idx"), "new", 7),
+    (On(Call::GetFileHandle, "a.idx"), "new", 7),
+    (On(Call::Sync, "a.idx"), "Ok(())", 8),
+    (Tell, "Ok(())", 9),
+    (On(Call::Delete, "a.idx"), "Ok(())", 10),
+    (On(Call::Lock, "a.idx"), "Ok(())", 10),
     // From here on calls are refused, the first one with the number 20.
-    (On(Call::Exists, "b.idx"), true, 10),
-    (On(Call::OpenRead, "b.idx"), true, 10),
-    (On(Call::GetFileHandle, "b.idx"), true, 10),
-    (On(Call::AtomicRead, "b.idx"), true, 10),
-    (On(Call::AtomicWrite, "b.idx"), true, 11),
-    (On(Call::Seal, "c.idx"), true, 12),
-    (On(Call::Seal, "c.idx"), true, 13),
-    (On(Call::Seal, "d.idx"), true, 15),
-    (On(Call::Seal, "e.idx"), true, 18),
-    (On(Call::Delete, "b.idx"), true, 18),
-    (On(Call::Lock, "b.idx"), true, 18),
-    (On(Call::Sync, "b.idx"), true, 18),
-    (Tell, true, 18),
-    (On(Call::Lock, "b.idx"), false, 18),
-    (On(Call::AtomicRead, "b.idx"), false, 18),
-    (Tell, false, 19),
-    (On(Call::Sync, "b.idx"), false, 20),
+    (On(Call::Exists, "b.idx"), REFUSED_B, 10),
+    (On(Call::OpenRead, "b.idx"), REFUSED_B, 10),
+    (On(Call::GetFileHandle, "b.idx"), REFUSED_B, 10),
+    (On(Call::AtomicRead, "b.idx"), REFUSED_B, 10),
+    (
+        On(Call::AtomicWrite, "b.idx"),
+        r#"Err(Fault(IoFault { kind: Device, text: "" }))"#,
+        11,
+    ),
+    // The making of the file is refused, and then its write, its flush and its sealing.
+    (
+        On(Call::Seal, "c.idx"),
+        r#"Err(OpenWriteError(IoError { io_error: IoFault { kind: Device, text: "" }, filepath: "c.idx" }))"#,
+        12,
+    ),
+    (On(Call::Seal, "c.idx"), REFUSED_LATE, 13),
+    (On(Call::Seal, "d.idx"), REFUSED_LATE, 15),
+    (On(Call::Seal, "e.idx"), REFUSED_LATE, 18),
+    (On(Call::Delete, "b.idx"), REFUSED_B, 18),
+    (On(Call::Lock, "b.idx"), REFUSED_LATE, 18),
+    (On(Call::Sync, "b.idx"), REFUSED_ALL, 18),
+    (Tell, REFUSED_ALL, 18),
+    (On(Call::Lock, "b.idx"), "Ok(())", 18),
+    (On(Call::AtomicRead, "b.idx"), "new", 18),
+    (Tell, "Ok(())", 19),
+    (On(Call::Sync, "b.idx"), "Ok(())", 20),
 ];
 
-fn take_row<R: Abort>(rt: &R, bench: &mut TestBench, number: usize, row: Row) {
-    let (turn, is_refused, moment) = row;
-    let is_so = take_turn(rt, bench, turn, is_refused) && bench.moment() == moment;
-    assert!(rt; is_so, "row {number}");
+// Whether a row ends as it is to end.
+fn take_row<R: Abort + Eprint>(rt: &R, alloc: Global, bench: &mut TestBench, row: Row) -> bool {
+    let (turn, want, moment) = row;
+    take_turn(rt, alloc, bench, turn, want) && bench.moment() == moment
 }
 
-// Looks at each row.
-fn take_rows<R: Abort>(rt: &R, bench: &mut TestBench) {
+fn take_rows<R: Abort + Eprint>(rt: &R, alloc: Global, bench: &mut TestBench) {
     for (number, row) in ROWS.iter().enumerate() {
-        take_row(rt, bench, number, *row);
+        assert!(rt; take_row(rt, alloc, bench, *row), "row {number}");
     }
 }
 
 #[test]
 fn recorded_calls_take_a_moment_and_listed_ones_are_refused(rt: HostRuntime) {
     let mut bench = refusing(&rt, rt.alloc(), one_file(&rt, rt.alloc()), REFUSED);
-    take_rows(&rt, &mut bench);
+    take_rows(&rt, rt.alloc(), &mut bench);
     are_made(&rt, bench.heard_lines(), b"line\nline\n");
     is_number(&rt, bench.faults(), 12);
     is_number(&rt, bench.refusals(), 1);

@@ -2,12 +2,13 @@
 //! refused.
 ghost use Rattle.std.specs.Prelude.{◌≡◌, [], false};
 
-use crate::answers::{Want, ends};
 use crate::compare::is_file;
-use crate::written::{Content, file_of, is_written, written};
+use crate::fixtures::all_owned;
+use crate::told::{done, told};
+use crate::written::{Content, file_of, written};
 use std::alloc::Global;
 use std::process::Abort;
-use tv_base::{ByteCount, Field, IoKind, TerminatingWrite};
+use tv_base::{ByteCount, Field, TerminatingWrite};
 use tv_framing::{CompositeFile, CompositeWrite};
 
 // The spelling of 32431123, of 2 and of 1000000 as numbers of variable length.
@@ -95,18 +96,12 @@ pub(crate) fn write_no_fields<W: TerminatingWrite + Drop>(rt: &impl Abort, alloc
         .expect(rt, "closed");
 }
 
-const WRITTEN: &[(Content, &[u8])] = &[
+/// What files are to have.
+pub(crate) const WRITTEN: &[(Content, &[u8])] = &[
     (Content::TwoFields, TWO_FIELDS),
     (Content::TwoBodiesOfOneField, TWO_BODIES_OF_ONE_FIELD),
     (Content::NoFields, NO_FIELDS),
 ];
-
-#[test]
-fn composite_files_are_written(rt: HostRuntime) {
-    for (content, want) in WRITTEN {
-        assert!(rt; is_written(&rt, rt.alloc(), *content, want));
-    }
-}
 
 // A file, an address, and the body that is read there, if there is one.
 type Row<'a> = (&'a [u8], u32, u64, Option<&'a [u8]>);
@@ -156,25 +151,19 @@ fn composite_files_are_read(rt: HostRuntime) {
         assert_read(&rt, rt.alloc(), *row);
     }
     assert_body_at(&rt, &CompositeFile::empty(rt.alloc()), 0, 0, None);
-}
-
-#[test]
-fn composite_files_are_read_back(rt: HostRuntime) {
     let bytes = written(&rt, rt.alloc(), Content::TwoFields);
     assert_read(&rt, rt.alloc(), (bytes.as_slice(), 0, 0, Some(LARGE)));
     assert_read(&rt, rt.alloc(), (bytes.as_slice(), 4, 0, Some(TWO)));
 }
 
+// What a file answers that isn't of the form.
+const OTHER_FORM: &str =
+    r#"Err(Fault(IoFault { kind: InvalidData, text: "Composite file is not of the stated form." }))"#;
+
 // Whether a file of these bytes is refused.
-fn is_refused(rt: &impl Abort, alloc: Global, bytes: &[u8]) -> bool {
-    ends(
-        CompositeFile::open(alloc, &file_of(rt, alloc, bytes)),
-        "",
-        Want::Fault(
-            IoKind::InvalidData,
-            "Composite file is not of the stated form.",
-        ),
-    )
+fn is_refused<R: Abort + Eprint>(rt: &R, alloc: Global, bytes: &[u8]) -> bool {
+    let opened = CompositeFile::open(alloc, &file_of(rt, alloc, bytes));
+    told(rt, alloc, done(opened), OTHER_FORM)
 }
 
 const REFUSED: &[&[u8]] = &[
@@ -207,20 +196,6 @@ fn refused_composite_files(rt: HostRuntime) {
     }
 }
 
-fn push_name(rt: &impl Abort, alloc: Global, names: &mut Vec<String>, name: &str) {
-    let name = String::from_str(alloc, name).expect(rt, "memory");
-    names.push(name).expect(rt, "memory");
-}
-
-// The names of five fields.
-fn five_names(rt: &impl Abort, alloc: Global) -> Vec<String> {
-    let mut names = Vec::new(alloc);
-    for name in ["f0", "f1", "f2", "f3", "f4"] {
-        push_name(rt, alloc, &mut names, name);
-    }
-    names
-}
-
 // Looks at how many bytes the bodies of five fields take.
 fn assert_size(rt: &impl Abort, file: &CompositeFile, names: &[String]) {
     assert!(rt; names.len() == 5 && file.fields_below(5));
@@ -231,7 +206,7 @@ fn assert_size(rt: &impl Abort, file: &CompositeFile, names: &[String]) {
 #[test]
 fn sizes_of_the_bodies_of_five_fields(rt: HostRuntime) {
     let file = opened(&rt, rt.alloc(), TWO_FIELDS);
-    let names = five_names(&rt, rt.alloc());
+    let names = all_owned(&rt, rt.alloc(), &["f0", "f1", "f2", "f3", "f4"]);
     assert_size(&rt, &file, names.as_slice());
     assert_body(&rt, &file, 4, TWO);
 }

@@ -1,5 +1,6 @@
-//! The texts of errors: a table a type, each row an error and what it prints.
-use crate::printing::{debugs, prints, text};
+//! The texts of errors: a list a type, and what each of them prints.
+use crate::fixtures::owned;
+use crate::told::{prints, told};
 use std::alloc::Global;
 use std::fmt::Display;
 use std::process::Abort;
@@ -10,13 +11,13 @@ use tv_base::{
 };
 
 fn x<R: Abort>(rt: &R, alloc: Global) -> String {
-    text(rt, alloc, "x")
+    owned(rt, alloc, "x")
 }
 
 fn fault<R: Abort>(rt: &R, alloc: Global) -> IoFault {
     IoFault {
         kind: IoKind::Device,
-        text: text(rt, alloc, "bad disk"),
+        text: owned(rt, alloc, "bad disk"),
     }
 }
 
@@ -36,223 +37,170 @@ fn mismatch() -> Incompatibility {
     }
 }
 
+// Looks whether `Display` prints these texts, in this order.
+fn print_all<R: Abort, E: Display>(rt: &R, alloc: Global, errors: &[E], texts: &[&str]) {
+    assert_eq!(rt; errors.len(), texts.len());
+    for (error, text) in errors.iter().zip(texts) {
+        prints(rt, alloc, error, text);
+    }
+}
+
+const PLAIN: &[&str] = &[
+    "Index already exists",
+    "A thread holding the locked panicked and poisoned the lock",
+    "The field does not exist: 'x'",
+    "An invalid argument was passed: 'x'",
+    "An error occurred in a thread: 'x'",
+    "Missing required index builder argument when open/create index: 'x'",
+    "Schema error: 'x'",
+    "System error.'x'",
+    "Internal error: 'x'",
+    "IdInUse",
+    "Exhausted",
+    "Memory",
+];
+
 #[test]
 fn texts_of_the_plain_errors(rt: HostRuntime) {
     let a = rt.alloc();
-    prints(
-        &rt,
-        a,
+    let errors = [
         TantivyError::IndexAlreadyExists,
-        "Index already exists",
-    );
-    prints(
-        &rt,
-        a,
         TantivyError::Poisoned,
-        "A thread holding the locked panicked and poisoned the lock",
-    );
-    prints(
-        &rt,
-        a,
         TantivyError::FieldNotFound(x(&rt, a)),
-        "The field does not exist: 'x'",
-    );
-    prints(
-        &rt,
-        a,
         TantivyError::InvalidArgument(x(&rt, a)),
-        "An invalid argument was passed: 'x'",
-    );
-    prints(
-        &rt,
-        a,
         TantivyError::ErrorInThread(x(&rt, a)),
-        "An error occurred in a thread: 'x'",
-    );
-    prints(
-        &rt,
-        a,
         TantivyError::IndexBuilderMissingArgument(x(&rt, a)),
-        "Missing required index builder argument when open/create index: 'x'",
-    );
-    prints(
-        &rt,
-        a,
         TantivyError::SchemaError(x(&rt, a)),
-        "Schema error: 'x'",
-    );
-    prints(
-        &rt,
-        a,
         TantivyError::SystemError(x(&rt, a)),
-        "System error.'x'",
-    );
-    prints(
-        &rt,
-        a,
         TantivyError::InternalError(x(&rt, a)),
-        "Internal error: 'x'",
-    );
-    prints(&rt, a, TantivyError::IdInUse(x(&rt, a)), "IdInUse");
-    prints(&rt, a, TantivyError::Exhausted, "Exhausted");
-    prints(&rt, a, TantivyError::Memory, "Memory");
+        TantivyError::IdInUse(x(&rt, a)),
+        TantivyError::Exhausted,
+        TantivyError::Memory,
+    ];
+    print_all(&rt, a, &errors, PLAIN);
 }
+
+const WITHIN: &[&str] = &[
+    "Failed to open the directory: 'DoesNotExist(\"x\")'",
+    "Failed to open file for read: 'FileDoesNotExist(\"x\")'",
+    "Failed to open file for write: 'Leaving(\"x\")'",
+    "Failed to acquire Lockfile: LockBusy. None",
+    "Failed to acquire Lockfile: LockBusy. Some(\"x\")",
+    "An IO error occurred: 'bad disk'",
+    "Data corrupted: 'Data corruption: x.'",
+];
 
 #[test]
 fn texts_of_errors_within_errors(rt: HostRuntime) {
     let a = rt.alloc();
-    prints(
-        &rt,
-        a,
+    let errors = [
         TantivyError::OpenDirectoryError(OpenDirectoryError::DoesNotExist(x(&rt, a))),
-        "Failed to open the directory: 'DoesNotExist(\"x\")'",
-    );
-    prints(
-        &rt,
-        a,
         TantivyError::OpenReadError(OpenReadError::FileDoesNotExist(x(&rt, a))),
-        "Failed to open file for read: 'FileDoesNotExist(\"x\")'",
-    );
-    prints(
-        &rt,
-        a,
         TantivyError::OpenWriteError(OpenWriteError::Leaving(x(&rt, a))),
-        "Failed to open file for write: 'Leaving(\"x\")'",
-    );
-    prints(
-        &rt,
-        a,
         TantivyError::LockFailure(LockError::LockBusy, None),
-        "Failed to acquire Lockfile: LockBusy. None",
-    );
-    prints(
-        &rt,
-        a,
         TantivyError::LockFailure(LockError::LockBusy, Some(x(&rt, a))),
-        "Failed to acquire Lockfile: LockBusy. Some(\"x\")",
-    );
-    prints(
-        &rt,
-        a,
         TantivyError::IoError(fault(&rt, a)),
-        "An IO error occurred: 'bad disk'",
-    );
-    prints(
-        &rt,
-        a,
         TantivyError::DataCorruption(DataCorruption::comment_only(x(&rt, a))),
-        "Data corrupted: 'Data corruption: x.'",
-    );
+    ];
+    print_all(&rt, a, &errors, WITHIN);
 }
+
+const OF_DIRECTORIES: &[&str] = &[
+    "Directory does not exist: 'x'.",
+    "Path exists but is not a directory: 'x'.",
+    "Failed to create a temporary directory: 'bad disk'.",
+    "IoError 'IoFault { kind: Device, text: \"bad disk\" }' while create directory in: '\"x\"'.",
+    "Memory",
+];
 
 #[test]
 fn texts_of_directory_errors(rt: HostRuntime) {
     let a = rt.alloc();
-    prints(
-        &rt,
-        a,
+    let errors = [
         OpenDirectoryError::DoesNotExist(x(&rt, a)),
-        "Directory does not exist: 'x'.",
-    );
-    prints(
-        &rt,
-        a,
         OpenDirectoryError::NotADirectory(x(&rt, a)),
-        "Path exists but is not a directory: 'x'.",
-    );
-    prints(
-        &rt,
-        a,
         OpenDirectoryError::FailedToCreateTempDir(fault(&rt, a)),
-        "Failed to create a temporary directory: 'bad disk'.",
-    );
-    prints(
-        &rt,
-        a,
         OpenDirectoryError::wrap_io_error(fault(&rt, a), x(&rt, a)),
-        "IoError 'IoFault { kind: Device, text: \"bad disk\" }' while create directory in: '\"x\"'.",
-    );
-    prints(&rt, a, OpenDirectoryError::Memory, "Memory");
+        OpenDirectoryError::Memory,
+    ];
+    print_all(&rt, a, &errors, OF_DIRECTORIES);
 }
+
+const OF_WRITES: &[&str] = &[
+    "File already exists: 'x'",
+    "Leaving",
+    "IoError 'IoFault { kind: Device, text: \"bad disk\" }' while opening file for write: 'x'.",
+    "Memory",
+];
 
 #[test]
 fn texts_of_write_errors(rt: HostRuntime) {
     let a = rt.alloc();
-    prints(
-        &rt,
-        a,
+    let errors = [
         OpenWriteError::FileAlreadyExists(x(&rt, a)),
-        "File already exists: 'x'",
-    );
-    prints(&rt, a, OpenWriteError::Leaving(x(&rt, a)), "Leaving");
-    prints(
-        &rt,
-        a,
+        OpenWriteError::Leaving(x(&rt, a)),
         OpenWriteError::wrap_io_error(fault(&rt, a), x(&rt, a)),
-        "IoError 'IoFault { kind: Device, text: \"bad disk\" }' while opening file for write: 'x'.",
-    );
-    prints(&rt, a, OpenWriteError::Memory, "Memory");
+        OpenWriteError::Memory,
+    ];
+    print_all(&rt, a, &errors, OF_WRITES);
 }
+
+const OF_READS: &[&str] = &[
+    "Files does not exist: \"x\"",
+    "IoError: 'IoFault { kind: Device, text: \"bad disk\" }' happened while opening the following file for Read: x.",
+    "Memory",
+];
 
 #[test]
 fn texts_of_read_errors(rt: HostRuntime) {
     let a = rt.alloc();
-    prints(
-        &rt,
-        a,
+    let errors = [
         OpenReadError::FileDoesNotExist(x(&rt, a)),
-        "Files does not exist: \"x\"",
-    );
-    prints(
-        &rt,
-        a,
         OpenReadError::wrap_io_error(fault(&rt, a), x(&rt, a)),
-        "IoError: 'IoFault { kind: Device, text: \"bad disk\" }' happened while opening the following file for Read: x.",
-    );
-    prints(&rt, a, OpenReadError::Memory, "Memory");
+        OpenReadError::Memory,
+    ];
+    print_all(&rt, a, &errors, OF_READS);
 }
+
+const OF_DELETES: &[&str] = &[
+    "File does not exist: 'x'.",
+    "The following IO error happened while deleting file 'x': 'IoFault { kind: Device, text: \"bad disk\" }'.",
+    "Memory",
+];
 
 #[test]
 fn texts_of_delete_errors(rt: HostRuntime) {
     let a = rt.alloc();
-    prints(
-        &rt,
-        a,
-        DeleteError::FileDoesNotExist(x(&rt, a)),
-        "File does not exist: 'x'.",
-    );
-    let io_error = DeleteError::IoError {
+    let refused = DeleteError::IoError {
         io_error: fault(&rt, a),
         filepath: x(&rt, a),
     };
-    prints(
-        &rt,
-        a,
-        io_error,
-        "The following IO error happened while deleting file 'x': 'IoFault { kind: Device, text: \"bad disk\" }'.",
-    );
-    prints(&rt, a, DeleteError::Memory, "Memory");
+    let errors = [
+        DeleteError::FileDoesNotExist(x(&rt, a)),
+        refused,
+        DeleteError::Memory,
+    ];
+    print_all(&rt, a, &errors, OF_DELETES);
 }
+
+const OF_LOCKS: &[&str] = &[
+    "Could not acquire lock as it is already held, possibly by a different process.",
+    "Failed to acquire the lock due to an io:Error.",
+    "Memory",
+];
 
 #[test]
 fn texts_of_locks_and_devices(rt: HostRuntime) {
     let a = rt.alloc();
-    prints(
-        &rt,
-        a,
+    let of_locks = [
         LockError::LockBusy,
-        "Could not acquire lock as it is already held, possibly by a different process.",
-    );
-    prints(
-        &rt,
-        a,
         LockError::wrap_io_error(fault(&rt, a)),
-        "Failed to acquire the lock due to an io:Error.",
-    );
-    prints(&rt, a, LockError::Memory, "Memory");
+        LockError::Memory,
+    ];
+    print_all(&rt, a, &of_locks, OF_LOCKS);
+    let of_devices = [IoError::Fault(fault(&rt, a)), IoError::Memory];
+    print_all(&rt, a, &of_devices, &["bad disk", "Memory"]);
     prints(&rt, a, fault(&rt, a), "bad disk");
-    prints(&rt, a, IoError::Fault(fault(&rt, a)), "bad disk");
-    prints(&rt, a, IoError::Memory, "Memory");
     prints(&rt, a, Memory, "Memory");
     prints(&rt, a, Exhausted, "Exhausted");
 }
@@ -261,19 +209,18 @@ fn texts_of_locks_and_devices(rt: HostRuntime) {
 fn texts_of_versions_and_corruption(rt: HostRuntime) {
     let a = rt.alloc();
     prints(&rt, a, version(7), "tantivy v0.26.2, index_format v7");
-    debugs(&rt, a, version(7), version_string());
-    debugs(
-        &rt,
-        a,
-        DataCorruption::new(text(&rt, a, "meta.json"), text(&rt, a, "no json")),
-        "Data corruption (in file `\"meta.json\"`): no json.",
+    let in_file = DataCorruption::new(owned(&rt, a, "meta.json"), owned(&rt, a, "no json"));
+    let in_none = DataCorruption::comment_only(owned(&rt, a, "no json"));
+    assert!(rt; told(&rt, a, version(7), version_string()));
+    assert!(rt;
+        told(
+            &rt,
+            a,
+            in_file,
+            "Data corruption (in file `\"meta.json\"`): no json."
+        )
     );
-    debugs(
-        &rt,
-        a,
-        DataCorruption::comment_only(text(&rt, a, "no json")),
-        "Data corruption: no json.",
-    );
+    assert!(rt; told(&rt, a, in_none, "Data corruption: no json."));
 }
 
 // `Display` prints these words, and behind them the debug form of the incompatibility.
@@ -286,11 +233,7 @@ fn prints_why<R: Abort, E: Display + Drop>(rt: &R, alloc: Global, shown: E, word
 #[test]
 fn texts_with_incompatibilities(rt: HostRuntime) {
     let a = rt.alloc();
+    let of_read = OpenReadError::from(mismatch());
     prints_why(&rt, a, TantivyError::IncompatibleIndex(mismatch()), "");
-    prints_why(
-        &rt,
-        a,
-        OpenReadError::from(mismatch()),
-        "Index version unsupported: ",
-    );
+    prints_why(&rt, a, of_read, "Index version unsupported: ");
 }

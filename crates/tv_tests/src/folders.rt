@@ -1,40 +1,23 @@
 //! Folders of the file system, which the tests make where they run.
 
-use crate::answers::{Want, ends};
 use crate::calls::{Call, Step, take_all};
 use crate::closing::closed;
 use crate::compare::is_number;
-use crate::failures::Failure;
+use crate::fixtures::{folder, handle, make_folder, remove_folder};
 use crate::index::schema;
 use crate::ram::FILES;
+use crate::told::{done, told};
 use crate::watches::{boxed, watch_both};
 use std::alloc::Global;
-use std::fs::File;
+use std::fs::{self, File};
 use std::process::Abort;
 use std::rt::Files;
 use std::sync::Arc;
 use std::sync::atomic::{AtomicU64, Ordering};
-use std::{fs, io};
-use tv_base::{OpenDirectoryError, Sink, Source, TantivyError};
+use tv_base::{LockError, OpenDirectoryError, Sink, Source, TantivyError};
 use tv_directory::{Directory, NoWatch, WatchCall, WatchCallback, index_writer_lock};
 use tv_files::{FileWatcher, MmapDirectory, StdinSource, StdoutSink};
 use tv_index::Index;
-
-// Makes a folder of this path without files. What an earlier run left there goes.
-fn make_anew<R: Files>(rt: &R, alloc: Global, path: &str) -> io::Result<()> {
-    if fs::exists(rt, path)? {
-        rt.remove_dir_all(alloc, path)?;
-    }
-    fs::create_dir(rt, path)
-}
-
-fn make_folder<R: Files + Abort>(rt: &R, alloc: Global, path: &str) {
-    make_anew(rt, alloc, path).expect(rt, "a new folder");
-}
-
-fn remove_folder<R: Files + Alloc + Abort>(rt: &R, path: &str) {
-    fs::remove_dir_all(rt, path).expect(rt, "removed");
-}
 
 fn write_file<R: Files<File = File> + Abort>(rt: &R, path: &str, bytes: &[u8]) {
     fs::write(rt, path, bytes).expect(rt, "written");
@@ -44,52 +27,56 @@ fn remove_file<R: Files + Abort>(rt: &R, path: &str) {
     fs::remove_file(rt, path).expect(rt, "removed");
 }
 
-fn handle<R: Clone + Abort>(rt: &R) -> R {
-    rt.clone().expect(rt, "memory")
-}
-
-// The directory of a folder.
-fn folder<R: Files<File = File> + Clone + Drop + Abort, C: WatchCall>(
-    rt: &R,
-    alloc: Global,
-    path: &str,
-) -> MmapDirectory<R, C> {
-    MmapDirectory::open(handle(rt), alloc, path).expect(rt, "a folder")
-}
-
 // Takes the steps in the directory of a folder.
-fn take_all_in<R: Files<File = File> + Clone + Drop + Abort>(
+fn take_all_in<R: Files<File = File> + Clone + Drop + Abort + Eprint>(
     rt: &R,
     alloc: Global,
     path: &str,
     steps: &[Step],
 ) {
     let mut directory: MmapDirectory<R, NoWatch> = folder(rt, alloc, path);
-    take_all(rt, &mut directory, steps);
+    take_all(rt, alloc, &mut directory, steps);
 }
+
+// A file that was only opened and flushed is empty.
+const TOUCHED: &[Step] = &[
+    (Call::Touch, "some_path", "", "Ok(())"),
+    (Call::OpenRead, "some_path", "", ""),
+];
 
 #[test]
 fn a_folder_does_what_a_directory_in_memory_does(rt: HostRuntime) {
     make_folder(&rt, rt.alloc(), "calls");
-    take_all_in(&rt, rt.alloc(), "calls", FILES);
+    for steps in [FILES, TOUCHED] {
+        take_all_in(&rt, rt.alloc(), "calls", steps);
+    }
     remove_folder(&rt, "calls");
 }
 
 const WRITTEN: &[Step] = &[
-    (Call::AtomicWrite, "meta.json", "first", Want::Done),
-    (Call::AtomicWrite, "meta.json", "second", Want::Done),
-    (Call::Seal, "sealed", "text", Want::Done),
-    (Call::LockBoth, "any", "", Want::Done),
-    (Call::Sync, "any", "", Want::Done),
+    (Call::AtomicWrite, "meta.json", "first", "Ok(())"),
+    (Call::AtomicWrite, "meta.json", "second", "Ok(())"),
+    (Call::Seal, "sealed", "text", "Ok(())"),
+    (Call::LockBoth, "any", "", "true"),
+    (Call::Sync, "any", "", "Ok(())"),
 ];
 
+// What the operating system answers of a folder where a file is wanted.
+const NO_FILE: &str =
+    r#"Err(IoError { io_error: IoFault { kind: Device, text: ".." }, filepath: "folder" })"#;
+
 const READ: &[Step] = &[
-    (Call::AtomicRead, "meta.json", "", Want::Text("second")),
-    (Call::OpenRead, "sealed", "", Want::Text("text")),
-    (Call::Seal, "sealed", "", Want::Taken),
-    (Call::Exists, "folder", "", Want::Is(true)),
-    (Call::AtomicRead, "folder", "", Want::Refused),
-    (Call::Delete, "folder", "", Want::Refused),
+    (Call::AtomicRead, "meta.json", "", "second"),
+    (Call::OpenRead, "sealed", "", "text"),
+    (
+        Call::Seal,
+        "sealed",
+        "",
+        r#"Err(OpenWriteError(FileAlreadyExists("sealed")))"#,
+    ),
+    (Call::Exists, "folder", "", "Ok(true)"),
+    (Call::AtomicRead, "folder", "", NO_FILE),
+    (Call::Delete, "folder", "", NO_FILE),
 ];
 
 // Whether the temporary file of another run is as it was, and the next one is gone.
@@ -106,92 +93,68 @@ fn what_was_left_in_a_folder_stays_and_is_in_nobodys_way(rt: HostRuntime) {
     make_folder(&rt, rt.alloc(), "left/folder");
     write_file(&rt, "left/.new-0", b"left");
     write_file(&rt, "left/.tantivy-writer.lock", b"");
-    take_all_in(&rt, rt.alloc(), "left", WRITTEN);
-    take_all_in(&rt, rt.alloc(), "left", READ);
+    for steps in [WRITTEN, READ] {
+        take_all_in(&rt, rt.alloc(), "left", steps);
+    }
     assert!(rt; keeps_temporary(&rt));
     remove_folder(&rt, "left");
 }
 
-// Whether the lock of the writer is held by somebody else.
-fn is_busy<D: Directory>(directory: &mut D) -> bool {
-    ends(directory.acquire_lock(&index_writer_lock()), "", Want::Busy)
-}
-
 // Takes the lock of the writer for good.
-fn take_lock<R: Abort, D: Directory>(rt: &R, directory: &mut D) {
-    directory
-        .acquire_lock(&index_writer_lock())
-        .expect(rt, "free");
+fn lock_writer<D: Directory>(directory: &mut D) -> Result<(), LockError> {
+    done(directory.acquire_lock(&index_writer_lock()))
 }
 
-// Takes the lock in a directory that goes at once. Whether the other one found it busy meanwhile.
-fn is_busy_meanwhile<R: Abort, D: Directory + Drop>(rt: &R, first: D, second: &mut D) -> bool {
+// Takes the lock in a directory that goes at once. What the other one answers meanwhile.
+fn lock_meanwhile<R: Abort, D: Directory + Drop>(
+    rt: &R,
+    first: D,
+    second: &mut D,
+) -> Result<(), LockError> {
     let mut first = first;
-    take_lock(rt, &mut first);
-    is_busy(second)
+    lock_writer(&mut first).expect(rt, "free");
+    lock_writer(second)
+}
+
+// Takes the lock in two directories of one folder, of which the first goes.
+fn lock_both<R: Files<File = File> + Clone + Drop + Abort + Eprint>(rt: &R, alloc: Global) {
+    let first: MmapDirectory<R, NoWatch> = folder(rt, alloc, "locks");
+    let mut second = folder(rt, alloc, "locks");
+    let meanwhile = lock_meanwhile(rt, first, &mut second);
+    assert!(rt; told(rt, alloc, meanwhile, "Err(LockBusy)"));
+    assert!(rt; told(rt, alloc, lock_writer(&mut second), "Ok(())"));
 }
 
 #[test]
 fn a_lock_is_free_once_its_directory_is_gone(rt: HostRuntime) {
     make_folder(&rt, rt.alloc(), "locks");
-    let first: MmapDirectory<_, NoWatch> = folder(&rt, rt.alloc(), "locks");
-    let mut second = folder(&rt, rt.alloc(), "locks");
-    assert!(rt; is_busy_meanwhile(&rt, first, &mut second));
-    assert!(rt; !is_busy(&mut second));
+    lock_both(&rt, rt.alloc());
     remove_folder(&rt, "locks");
 }
 
-// Whether a folder wasn't opened for this cause.
-fn is_cause<T: Drop>(opened: &Result<T, OpenDirectoryError>, path: &str, is_there: bool) -> bool {
-    match opened {
-        Err(OpenDirectoryError::DoesNotExist(text)) => !is_there && text.as_str() == path,
-        Err(OpenDirectoryError::NotADirectory(text)) => is_there && text.as_str() == path,
-        _ => false,
-    }
-}
-
-// Whether no folder is opened here, for this cause.
-fn is_refused<R: Files<File = File> + Clone + Drop + Abort>(
+// What comes of the opening of a folder.
+fn opened<R: Files<File = File> + Clone + Drop + Abort>(
     rt: &R,
     alloc: Global,
     path: &str,
-    is_there: bool,
-) -> bool {
-    is_cause(
-        &MmapDirectory::<R, NoWatch>::open(handle(rt), alloc, path),
-        path,
-        is_there,
-    )
+) -> Result<(), OpenDirectoryError> {
+    done(MmapDirectory::<R, NoWatch>::open(handle(rt), alloc, path))
 }
+
+// Paths that no folder has, and what comes of their opening.
+const NO_FOLDERS: &[(&str, &str)] = &[
+    ("./nowhere", r#"Err(DoesNotExist("./nowhere"))"#),
+    ("a_file", r#"Err(NotADirectory("a_file"))"#),
+    ("a_file/nowhere", r#"Err(DoesNotExist("a_file/nowhere"))"#),
+];
 
 #[test]
 fn what_is_no_folder_is_not_opened(rt: HostRuntime) {
     write_file(&rt, "a_file", b"");
-    assert!(rt; is_refused(&rt, rt.alloc(), "./nowhere", false));
-    assert!(rt; is_refused(&rt, rt.alloc(), "a_file", true));
-    assert!(rt; is_refused(&rt, rt.alloc(), "a_file/nowhere", false));
+    for (path, want) in NO_FOLDERS {
+        assert!(rt; told(&rt, rt.alloc(), opened(&rt, rt.alloc(), path), want));
+    }
     remove_file(&rt, "a_file");
-}
-
-// Makes a file, and flushes it without a write.
-fn open_and_flush<R: Abort, D: Directory>(rt: &R, directory: &mut D) {
-    let mut writer = directory.open_write("some_path").expect(rt, "a new file");
-    directory.flush(&mut writer).expect(rt, "flushed");
-}
-
-#[test]
-fn a_file_that_was_only_opened_and_flushed_is_empty(rt: HostRuntime) {
-    make_folder(&rt, rt.alloc(), "empty");
-    let mut directory: MmapDirectory<_, NoWatch> = folder(&rt, rt.alloc(), "empty");
-    open_and_flush(&rt, &mut directory);
-    assert!(rt;
-        ends(
-            directory.open_read("some_path"),
-            "some_path",
-            Want::Text("")
-        )
-    );
-    remove_folder(&rt, "empty");
 }
 
 // What a watched file is given before a look, and what the look answers. Nothing: the file is
@@ -306,20 +269,37 @@ fn make_or_open<R: Files<File = File> + Clone + Drop + Abort>(
 }
 
 // Whether an index in the folder is made, or opened, and what comes of that.
-const INDEXES: &[(bool, Want)] = &[
-    (false, Want::Fails(Failure::Missing("meta.json"))),
-    (true, Want::Done),
-    (true, Want::Fails(Failure::IndexExists)),
-    (false, Want::Done),
+const INDEXES: &[(bool, &str)] = &[
+    (
+        false,
+        r#"Err(OpenReadError(FileDoesNotExist("meta.json")))"#,
+    ),
+    (true, "Ok(())"),
+    (true, "Err(IndexAlreadyExists)"),
+    (false, "Ok(())"),
 ];
 
 #[test]
 fn an_index_is_made_in_a_folder_and_opened_again(rt: HostRuntime) {
     make_folder(&rt, rt.alloc(), "index");
     for (is_new, want) in INDEXES {
-        assert!(rt; ends(make_or_open(&rt, rt.alloc(), *is_new), "", *want));
+        assert!(rt;
+            told(
+                &rt,
+                rt.alloc(),
+                make_or_open(&rt, rt.alloc(), *is_new),
+                want
+            )
+        );
     }
     remove_folder(&rt, "index");
-    let want = Want::Fails(Failure::NoFolder);
-    assert!(rt; ends(make_or_open(&rt, rt.alloc(), true), "", want));
+    let no_folder = r#"Err(OpenDirectoryError(DoesNotExist("index")))"#;
+    assert!(rt;
+        told(
+            &rt,
+            rt.alloc(),
+            make_or_open(&rt, rt.alloc(), true),
+            no_folder
+        )
+    );
 }

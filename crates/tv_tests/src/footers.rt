@@ -1,12 +1,12 @@
 //! The footers of files: their bytes, what is read of them, and what is refused.
 ghost use Rattle.std.specs.Prelude.{◌≡◌, false};
 
-use crate::answers::{Want, ends, is_ok};
 use crate::compare::{is_file, is_number};
-use crate::written::{Content, file_of, is_written};
+use crate::told::{done, told};
+use crate::written::{Content, file_of};
 use std::alloc::Global;
 use std::process::Abort;
-use tv_base::{IoKind, TerminatingWrite};
+use tv_base::TerminatingWrite;
 use tv_checksum::Crc32;
 use tv_framing::{Footer, FooterProxy};
 
@@ -72,97 +72,78 @@ pub(crate) fn flush_four_bytes<W: TerminatingWrite + Drop>(
     proxy.flush().expect(rt, "flushed");
 }
 
-const WRITTEN: &[(Content, &[u8])] = &[
+/// What files are to have.
+pub(crate) const WRITTEN: &[(Content, &[u8])] = &[
     (Content::Footer, FOOTER_OF_123),
     (Content::FourBytes, b"1234"),
     (Content::NineBytes, NINE_BYTES),
 ];
 
-#[test]
-fn footers_are_written(rt: HostRuntime) {
-    for (content, want) in WRITTEN {
-        assert!(rt; is_written(&rt, rt.alloc(), *content, want));
-    }
-}
+// What is read of a file: its body, and its footer with whether the format of that is good.
+type Row<'a> = (&'a [u8], &'a [u8], &'a str);
 
-// What is read of a file: its body, the checksum, and whether its format is good.
-type Row<'a> = (&'a [u8], &'a [u8], u32, bool);
-
-// Whether the format of a file with this footer is good.
-fn is_good(footer: &Footer) -> bool {
-    is_ok(footer.is_compatible())
-}
-
-fn assert_footer(rt: &impl Abort, footer: &Footer, crc: u32, is_compatible: bool) {
-    is_number(rt, u64::from(footer.crc()), u64::from(crc));
-    assert!(rt; is_good(footer) == is_compatible);
-}
-
-fn assert_read(rt: &impl Abort, alloc: Global, row: Row<'_>) {
-    let (bytes, want, crc, is_compatible) = row;
+fn assert_read<R: Abort + Eprint>(rt: &R, alloc: Global, row: Row<'_>) {
+    let (bytes, want, of_footer) = row;
     let file = file_of(rt, alloc, bytes);
     let (footer, body) = Footer::extract_footer(alloc, file).expect(rt, "a footer");
-    assert_footer(rt, &footer, crc, is_compatible);
+    assert!(rt; told(rt, alloc, (footer, footer.is_compatible()), of_footer));
+    is_number(rt, u64::from(footer.crc()), u64::from(footer.crc));
     is_file(rt, &body, want);
 }
 
 const READ: &[Row<'static>] = &[
-    (FOOTER_OF_123, b"", 123, true),
-    (NINE_BYTES, b"123456789", 3_421_780_262, true),
-    (OTHER_SPELLING, b"body", 5, false),
+    (
+        FOOTER_OF_123,
+        b"",
+        "(Footer { version: tantivy v0.26.2, index_format v7, crc: 123 }, Ok(()))",
+    ),
+    (
+        NINE_BYTES,
+        b"123456789",
+        "(Footer { version: tantivy v0.26.2, index_format v7, crc: 3421780262 }, Ok(()))",
+    ),
+    (
+        OTHER_SPELLING,
+        b"body",
+        "(Footer { version: tantivy v1.2.3, index_format v8, crc: 5 }, Err(IndexMismatch { library_version: tantivy v0.26.2, index_format v7, index_version: tantivy v1.2.3, index_format v8 }))",
+    ),
 ];
 
-#[test]
-fn footers_are_read(rt: HostRuntime) {
-    for row in READ {
-        assert_read(&rt, rt.alloc(), *row);
-    }
-}
-
-// Whether a file of these bytes is refused in this way.
-fn is_refused(rt: &impl Abort, alloc: Global, bytes: &[u8], want: Want) -> bool {
-    ends(
-        Footer::extract_footer(alloc, file_of(rt, alloc, bytes)),
-        "",
-        want,
-    )
-}
-
-// Bytes, and the kind and the text of the fault.
-const REFUSED: &[(&[u8], IoKind, &str)] = &[
+// Bytes that aren't read, and what is answered.
+const REFUSED: &[(&[u8], &str)] = &[
     (
         &[0, 0, 0, 0, 0x39, 0x05, 0],
-        IoKind::UnexpectedEof,
-        "File corrupted. The file is smaller than 8 bytes (len=7).",
+        r#"Err(Fault(IoFault { kind: UnexpectedEof, text: "File corrupted. The file is smaller than 8 bytes (len=7)." }))"#,
     ),
     (
         &[0, 0, 0, 0, 0xb3, 0x15, 0, 0],
-        IoKind::InvalidData,
-        "Footer magic byte mismatch. File corrupted or index was created using old an tantivy version which is not supported anymore. Please use tantivy 0.15 or above to recreate the index.",
+        r#"Err(Fault(IoFault { kind: InvalidData, text: "Footer magic byte mismatch. File corrupted or index was created using old an tantivy version which is not supported anymore. Please use tantivy 0.15 or above to recreate the index." }))"#,
     ),
     (
         &[0x64, 0, 0, 0, 0x39, 0x05, 0, 0],
-        IoKind::UnexpectedEof,
-        "File corrupted. The file is smaller than it's footer bytes (len=108).",
+        r#"Err(Fault(IoFault { kind: UnexpectedEof, text: "File corrupted. The file is smaller than it's footer bytes (len=108)." }))"#,
     ),
     (
         &[0x51, 0xc3, 0, 0, 0x39, 0x05, 0, 0],
-        IoKind::InvalidData,
-        "Footer seems invalid as it suggests a footer len of 50001. File is corrupted, or the index was created with a different & old version of tantivy.",
+        r#"Err(Fault(IoFault { kind: InvalidData, text: "Footer seems invalid as it suggests a footer len of 50001. File is corrupted, or the index was created with a different & old version of tantivy." }))"#,
     ),
     (
         &[b'{', b'}', 2, 0, 0, 0, 0x39, 0x05, 0, 0],
-        IoKind::InvalidData,
-        "Footer is not of the stated form.",
+        r#"Err(Fault(IoFault { kind: InvalidData, text: "Footer is not of the stated form." }))"#,
     ),
 ];
 
+fn assert_refused<R: Abort + Eprint>(rt: &R, alloc: Global, bytes: &[u8], want: &str) {
+    let refused = done(Footer::extract_footer(alloc, file_of(rt, alloc, bytes)));
+    assert!(rt; told(rt, alloc, refused, want));
+}
+
 #[test]
-fn refused_footers(rt: HostRuntime) {
-    for (bytes, kind, text) in REFUSED {
-        assert!(rt;
-            is_refused(&rt, rt.alloc(), bytes, Want::Fault(*kind, text)),
-            "{text}"
-        );
+fn footers_are_read_or_refused(rt: HostRuntime) {
+    for row in READ {
+        assert_read(&rt, rt.alloc(), *row);
+    }
+    for (bytes, want) in REFUSED {
+        assert_refused(&rt, rt.alloc(), bytes, want);
     }
 }

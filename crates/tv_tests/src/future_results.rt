@@ -1,8 +1,7 @@
 //! Results that come later: by which way they come, and who looks at them.
 ghost use Rattle.std.specs.Prelude.{◌≡◌, false};
 
-use crate::answers::{Want, ends, is_ok};
-use crate::failures::Failure;
+use crate::told::told;
 use futures::executor::block_on;
 use futures::future::Future;
 use futures::task::{Context, Poll};
@@ -27,6 +26,10 @@ fn is_sent(sender: Sender<u64>, answer: Result<u64, TantivyError>) -> bool {
     is_ok(sender.send(answer))
 }
 
+fn is_ok<T: Drop, E: Drop>(answer: Result<T, E>) -> bool {
+    answer.is_ok()
+}
+
 // Whether a sender reaches its future. One that goes always does.
 fn reaches(sender: Sender<u64>, way: Way) -> bool {
     match way {
@@ -36,32 +39,26 @@ fn reaches(sender: Sender<u64>, way: Way) -> bool {
     }
 }
 
-// The answer on a way that sends an error, and on one that sends none.
-const POISONED: Want = Want::Fails(Failure::Poisoned);
-
-const FAILED: Want = Want::Fails(Failure::System("failed"));
-
 // A future, and its sender, which goes its way once the future was looked at without an answer.
 #[derive(Drop)]
 struct Look {
     future: FutureResult<u64>,
     sender: Option<Sender<u64>>,
     way: Way,
-    want: Want,
     // How often it was looked at before.
     looks: u8,
 }
 
 impl Future for Look {
-    type Output = (u8, bool);
+    type Output = (u8, Result<u64, TantivyError>);
 
     ghost use Rattle.std.specs.Prelude.{◌≡◌, false};
 
     ghost can_poll = { λ l. l.future.answered ≡ false };
 
-    fn poll(&mut self, cx: &mut Context<'_>) -> Poll<(u8, bool)> {
+    fn poll(&mut self, cx: &mut Context<'_>) -> Poll<(u8, Result<u64, TantivyError>)> {
         match self.future.poll(cx) {
-            Poll::Ready(answer) => Poll::Ready((self.looks, ends(answer, "", self.want))),
+            Poll::Ready(answer) => Poll::Ready((self.looks, answer)),
             Poll::Pending => {
                 self.looks = self.looks.saturating_add(1);
                 self.sender.take().map(|sender| reaches(sender, self.way));
@@ -80,78 +77,65 @@ fn kept(sender: Sender<u64>, way: Way, is_later: bool) -> Option<Sender<u64>> {
     None
 }
 
-// How often a future was looked at without an answer, and whether the answer is wanted.
+// How often a future was looked at without an answer, and the answer.
 fn polled<R: Wait + RandomSource + AllocGlobal>(
     rt: &R,
     way: Way,
     is_later: bool,
-    want: Want,
-) -> Result<Option<(u8, bool)>, Memory> {
+) -> Result<Option<(u8, Result<u64, TantivyError>)>, Memory> {
     let (future, sender) = FutureResult::create(rt.alloc(), "failed")?;
     let look = Look {
         future,
         sender: kept(sender, way, is_later),
         way,
-        want,
         looks: 0,
     };
     Ok(block_on(rt, look).ok())
 }
 
-// A way, whether it is gone once the future was looked at, how often it was, and the answer.
-type Row = (Way, bool, u8, Want);
-
-const POLLED: &[Row] = &[
-    (Way::Sends(2), false, 0, Want::Number(2)),
-    (Way::SendsError, false, 0, POISONED),
-    (Way::Goes, false, 0, FAILED),
-    (Way::Sends(2), true, 1, Want::Number(2)),
-    (Way::Goes, true, 1, FAILED),
+// A way, whether it is gone once the future was looked at, and what comes of that.
+const POLLED: &[(Way, bool, &str)] = &[
+    (Way::Sends(2), false, "Ok(Some((0, Ok(2))))"),
+    (Way::SendsError, false, "Ok(Some((0, Err(Poisoned))))"),
+    (
+        Way::Goes,
+        false,
+        r#"Ok(Some((0, Err(SystemError("failed")))))"#,
+    ),
+    (Way::Sends(2), true, "Ok(Some((1, Ok(2))))"),
+    (
+        Way::Goes,
+        true,
+        r#"Ok(Some((1, Err(SystemError("failed")))))"#,
+    ),
 ];
-
-fn assert_polled<R: Wait + RandomSource + AllocGlobal + Abort>(rt: &R, row: Row) {
-    let (way, is_later, looks, want) = row;
-    let polled = polled(rt, way, is_later, want).expect(rt, "memory");
-    assert_eq!(rt; polled, Some((looks, true)));
-}
 
 #[test]
 fn answers_are_polled(rt: HostRuntime) {
-    for row in POLLED {
-        assert_polled(&rt, *row);
+    for (way, is_later, want) in POLLED {
+        assert!(rt; told(&rt, rt.alloc(), polled(&rt, *way, *is_later), want));
     }
 }
 
-// Whether another thread's sender reaches the future, and the answer that is waited for is the
-// wanted one.
+// Whether another thread's sender reaches the future, and the answer that is waited for.
 fn waited<R: Threads + Wait + AllocGlobal>(
     rt: &R,
     way: Way,
-    want: Want,
-) -> Result<(bool, bool), Memory> {
+) -> Result<(bool, Result<u64, TantivyError>), Memory> {
     let (future, sender) = FutureResult::create(rt.alloc(), "failed")?;
-    Ok(thread::join(
-        rt,
-        move || reaches(sender, way),
-        move || ends(future.wait(rt), "", want),
-    ))
+    Ok(thread::join(rt, move || reaches(sender, way), move || future.wait(rt)))
 }
 
-const WAITED: &[(Way, Want)] = &[
-    (Way::Sends(2), Want::Number(2)),
-    (Way::SendsError, POISONED),
-    (Way::Goes, FAILED),
+const WAITED: &[(Way, &str)] = &[
+    (Way::Sends(2), "Ok((true, Ok(2)))"),
+    (Way::SendsError, "Ok((true, Err(Poisoned)))"),
+    (Way::Goes, r#"Ok((true, Err(SystemError("failed"))))"#),
 ];
-
-fn assert_waited<R: Threads + Wait + AllocGlobal + Abort>(rt: &R, way: Way, want: Want) {
-    let (is_reached, is_wanted) = waited(rt, way, want).expect(rt, "memory");
-    assert!(rt; is_reached && is_wanted);
-}
 
 #[test]
 fn answers_are_waited_for(rt: HostRuntime) {
     for (way, want) in WAITED {
-        assert_waited(&rt, *way, *want);
+        assert!(rt; told(&rt, rt.alloc(), waited(&rt, *way), want));
     }
 }
 
@@ -164,7 +148,7 @@ fn reaches_nobody(alloc: Global) -> Result<bool, Memory> {
 
 #[test]
 fn one_that_nobody_waits_for(rt: HostRuntime) {
-    assert!(rt; !reaches_nobody(rt.alloc()).expect(&rt, "memory"));
+    assert!(rt; told(&rt, rt.alloc(), reaches_nobody(rt.alloc()), "Ok(false)"));
     let future: FutureResult<u64> = FutureResult::from(TantivyError::Poisoned);
-    assert!(rt; ends(future.wait(&rt), "", POISONED));
+    assert!(rt; told(&rt, rt.alloc(), future.wait(&rt), "Err(Poisoned)"));
 }

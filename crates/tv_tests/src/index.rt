@@ -1,7 +1,6 @@
 //! Schemas and commits: texts in several spellings, texts that are refused, and what is printed.
-use crate::answers::{Want, ends};
-use crate::compare::{are_bytes, are_made, is_made, is_number, is_text};
-use crate::failures::{Failure, is_failure};
+use crate::compare::{are_bytes, is_made, is_number, is_text};
+use crate::told::{done, reads, told};
 use std::alloc::Global;
 use std::process::Abort;
 use tv_base::{Opstamp, TantivyError};
@@ -23,23 +22,17 @@ pub(crate) const FIRST: &str =
 const WITH_BLANKS: &str =
     "{ \"x\":1,\n\"index_settings\" : {\"docstore_compression\":\"none\" , \"docstore_blocksize\":16384},\n\t\"segments\": [ ] ,\"schema\":\n[ {\"name\" : \"text\",\"type\":\"text\",\"options\":{\"indexing\":{\"record\":\"position\",\"fieldnorms\":true,\"tokenizer\":\"default\"},\"stored\":false,\"fast\":false}}],\r\"opstamp\" :0}\n";
 
-/// What becomes of the bytes of `meta.json`.
-#[derive(Clone, Copy)]
-enum Becomes {
-    /// A commit that is printed like this.
-    Printed(&'static str),
-    /// The error that says this.
-    Fails(Failure<'static>),
-}
+/// What is answered where the bytes of `meta.json` mean no commit.
+pub(crate) const CORRUPT: &str =
+    r#"Err(DataCorruption(Data corruption (in file `"meta.json"`): ..))"#;
 
-const CORRUPT: Becomes = Becomes::Fails(Failure::Corrupt("meta.json"));
+/// What is answered where they mean one of another schema.
+pub(crate) const OTHER_SCHEMA: &str =
+    r#"Err(SchemaError("An index exists but the schema does not match."))"#;
 
-const OTHER_SCHEMA: Becomes = Becomes::Fails(Failure::Schema(
-    "An index exists but the schema does not match.",
-));
-
-// Bytes, and what becomes of them where the schema without fields is expected.
-const METAS: &[(&str, Becomes)] = &[
+// Bytes, and what becomes of them where the schema without fields is expected: a commit that is printed so, or an
+// error.
+const METAS: &[(&str, &str)] = &[
     ("{", CORRUPT),
     (FIRST, OTHER_SCHEMA),
     // A segment twice, and one of whose three documents four are deleted.
@@ -84,42 +77,30 @@ const METAS: &[(&str, Becomes)] = &[
     // Of a repeated key the last counts, and what is left out has its default.
     (
         "{\"opstamp\":1,\"schema\":{},\"schema\":[ ],\"opstamp\":2,\"segments\":[],\"payload\":null}",
-        Becomes::Printed(
-            "{\"index_settings\":{\"docstore_compression\":\"none\",\"docstore_blocksize\":16384},\"segments\":[],\"schema\":[],\"opstamp\":2}",
-        ),
+        "{\"index_settings\":{\"docstore_compression\":\"none\",\"docstore_blocksize\":16384},\"segments\":[],\"schema\":[],\"opstamp\":2}",
     ),
     (
         "{\"index_settings\":{\"docstore_blocksize\":5,\"docstore_compress_dedicated_thread\":false},\"schema\":[],\"opstamp\":18446744073709551615,\"segments\":[]}",
-        Becomes::Printed(
-            "{\"index_settings\":{\"docstore_compression\":\"none\",\"docstore_compress_dedicated_thread\":false,\"docstore_blocksize\":5},\"segments\":[],\"schema\":[],\"opstamp\":18446744073709551615}",
-        ),
+        "{\"index_settings\":{\"docstore_compression\":\"none\",\"docstore_compress_dedicated_thread\":false,\"docstore_blocksize\":5},\"segments\":[],\"schema\":[],\"opstamp\":18446744073709551615}",
     ),
     // Segments in another order than that of their ids.
     (
         "{\"schema\":[],\"opstamp\":1,\"segments\":[{\"segment_id\":\"A5C4DFCBDFE645089129E308E26D5523\",\"max_doc\":3,\"deletes\":null},{\"max_doc\":9,\"segment_id\":\"{00000000-0000-0000-0000-000000000001}\",\"deletes\":{\"opstamp\":7,\"num_deleted_docs\":9}}]}",
-        Becomes::Printed(
-            "{\"index_settings\":{\"docstore_compression\":\"none\",\"docstore_blocksize\":16384},\"segments\":[{\"segment_id\":\"00000000-0000-0000-0000-000000000001\",\"max_doc\":9,\"deletes\":{\"num_deleted_docs\":9,\"opstamp\":7}},{\"segment_id\":\"a5c4dfcb-dfe6-4508-9129-e308e26d5523\",\"max_doc\":3,\"deletes\":null}],\"schema\":[],\"opstamp\":1}",
-        ),
+        "{\"index_settings\":{\"docstore_compression\":\"none\",\"docstore_blocksize\":16384},\"segments\":[{\"segment_id\":\"00000000-0000-0000-0000-000000000001\",\"max_doc\":9,\"deletes\":{\"num_deleted_docs\":9,\"opstamp\":7}},{\"segment_id\":\"a5c4dfcb-dfe6-4508-9129-e308e26d5523\",\"max_doc\":3,\"deletes\":null}],\"schema\":[],\"opstamp\":1}",
     ),
     // A delete of no document.
     (
         "{\"schema\":[],\"opstamp\":8,\"segments\":[{\"segment_id\":\"a5c4dfcbdfe645089129e308e26d5523\",\"max_doc\":3,\"deletes\":{\"num_deleted_docs\":0,\"opstamp\":7}}]}",
-        Becomes::Printed(
-            "{\"index_settings\":{\"docstore_compression\":\"none\",\"docstore_blocksize\":16384},\"segments\":[{\"segment_id\":\"a5c4dfcb-dfe6-4508-9129-e308e26d5523\",\"max_doc\":3,\"deletes\":{\"num_deleted_docs\":0,\"opstamp\":7}}],\"schema\":[],\"opstamp\":8}",
-        ),
+        "{\"index_settings\":{\"docstore_compression\":\"none\",\"docstore_blocksize\":16384},\"segments\":[{\"segment_id\":\"a5c4dfcb-dfe6-4508-9129-e308e26d5523\",\"max_doc\":3,\"deletes\":{\"num_deleted_docs\":0,\"opstamp\":7}}],\"schema\":[],\"opstamp\":8}",
     ),
     // A payload, and one with characters that are escaped.
     (
         "{\"schema\":[],\"opstamp\":2,\"segments\":[],\"payload\":\"\\u0068i\"}",
-        Becomes::Printed(
-            "{\"index_settings\":{\"docstore_compression\":\"none\",\"docstore_blocksize\":16384},\"segments\":[],\"schema\":[],\"opstamp\":2,\"payload\":\"hi\"}",
-        ),
+        "{\"index_settings\":{\"docstore_compression\":\"none\",\"docstore_blocksize\":16384},\"segments\":[],\"schema\":[],\"opstamp\":2,\"payload\":\"hi\"}",
     ),
     (
         "{\"schema\":[],\"opstamp\":2,\"segments\":[],\"payload\":\"\\u0022\\u005c\\u0008\\u000C\\u000a\\u000d\\u0009\\u001f\\u007f\\/\\u00e9\"}",
-        Becomes::Printed(
-            "{\"index_settings\":{\"docstore_compression\":\"none\",\"docstore_blocksize\":16384},\"segments\":[],\"schema\":[],\"opstamp\":2,\"payload\":\"\\\"\\\\\\b\\f\\n\\r\\t\\u001f\u{7f}/\u{e9}\"}",
-        ),
+        "{\"index_settings\":{\"docstore_compression\":\"none\",\"docstore_blocksize\":16384},\"segments\":[],\"schema\":[],\"opstamp\":2,\"payload\":\"\\\"\\\\\\b\\f\\n\\r\\t\\u001f\u{7f}/\u{e9}\"}",
     ),
 ];
 
@@ -128,34 +109,21 @@ pub(crate) fn schema<R: Abort>(rt: &R, alloc: Global, bytes: &str) -> Schema {
     Schema::from_bytes(alloc, bytes.as_bytes()).expect(rt, "a schema")
 }
 
-// Whether that came of the bytes.
-fn is_outcome<R: Abort>(
-    rt: &R,
-    alloc: Global,
-    parsed: &Result<UntrackedIndexMeta, TantivyError>,
-    want: Becomes,
-) {
-    match (parsed, want) {
-        (Ok(meta), Becomes::Printed(text)) => are_made(rt, meta.print(alloc), text.as_bytes()),
-        (Err(error), Becomes::Fails(failure)) => assert!(rt; is_failure(error, failure)),
-        _ => panic!(rt; "another outcome"),
-    }
-}
+// A commit whose schema is another spelling of the one that is printed.
+const SPELLED: &str =
+    "{\"schema\":[ {\"type\":\"t\", \"name\":\"\\u0061\"}],\"opstamp\":2,\"segments\":[]}";
 
-// Whether that comes of these bytes.
-fn is_read_as<R: Abort>(
-    rt: &R,
+const SPELLED_PRINTED: &str =
+    "{\"index_settings\":{\"docstore_compression\":\"none\",\"docstore_blocksize\":16384},\"segments\":[],\"schema\":[{\"name\":\"a\",\"type\":\"t\"}],\"opstamp\":2}";
+
+// What is printed of the commit that these bytes mean.
+fn printed(
     alloc: Global,
     bytes: &[u8],
     expected: Option<&Schema>,
-    want: Becomes,
-) {
-    is_outcome(
-        rt,
-        alloc,
-        &UntrackedIndexMeta::parse(alloc, bytes, expected),
-        want,
-    );
+) -> Result<Vec<u8>, TantivyError> {
+    let meta = UntrackedIndexMeta::parse(alloc, bytes, expected)?;
+    Ok(meta.print(alloc)?)
 }
 
 #[test]
@@ -163,32 +131,21 @@ fn metas_are_read_and_printed(rt: HostRuntime) {
     let a = rt.alloc();
     let none = schema(&rt, a, "[]");
     for (bytes, want) in METAS {
-        is_read_as(&rt, a, bytes.as_bytes(), Some(&none), *want);
+        assert!(rt; reads(&rt, a, printed(a, bytes.as_bytes(), Some(&none)), want));
     }
-    is_read_as(&rt, a, b"{\"\xff\":1}", Some(&none), CORRUPT);
+    assert!(rt; reads(&rt, a, printed(a, b"{\"\xff\":1}", Some(&none)), CORRUPT));
     let text = schema(&rt, a, T);
     for bytes in [FIRST, WITH_BLANKS] {
-        is_read_as(
+        assert!(rt; reads(&rt, a, printed(a, bytes.as_bytes(), Some(&text)), FIRST));
+    }
+    // Where no schema is expected, the commit has its own.
+    assert!(rt;
+        reads(
             &rt,
             a,
-            bytes.as_bytes(),
-            Some(&text),
-            Becomes::Printed(FIRST),
-        );
-    }
-}
-
-#[test]
-fn a_meta_without_expected_schema_has_its_own(rt: HostRuntime) {
-    let a = rt.alloc();
-    is_read_as(
-        &rt,
-        a,
-        b"{\"schema\":[ {\"type\":\"t\", \"name\":\"\\u0061\"}],\"opstamp\":2,\"segments\":[]}",
-        None,
-        Becomes::Printed(
-            "{\"index_settings\":{\"docstore_compression\":\"none\",\"docstore_blocksize\":16384},\"segments\":[],\"schema\":[{\"name\":\"a\",\"type\":\"t\"}],\"opstamp\":2}",
-        ),
+            printed(a, SPELLED.as_bytes(), None),
+            SPELLED_PRINTED
+        )
     );
 }
 
@@ -205,13 +162,20 @@ const NO_SCHEMAS: &[&str] = &[
     "[{\"name\":\"a\",\"type\":\"t\",\"x\":1 2}]",
 ];
 
-const NO_SCHEMA: Want = Want::Fails(Failure::Argument("the schema is not of the stated form"));
+const NO_SCHEMA: &str = r#"Err(InvalidArgument("the schema is not of the stated form"))"#;
 
 #[test]
 fn schemas_are_refused(rt: HostRuntime) {
     let a = rt.alloc();
     for bytes in NO_SCHEMAS {
-        assert!(rt; ends(Schema::from_bytes(a, bytes.as_bytes()), "", NO_SCHEMA));
+        assert!(rt;
+            told(
+                &rt,
+                a,
+                done(Schema::from_bytes(a, bytes.as_bytes())),
+                NO_SCHEMA
+            )
+        );
     }
 }
 

@@ -1,12 +1,11 @@
 //! Indexes: how they are opened, and the commits that they show.
 ghost use Rattle.std.specs.Prelude.{◌≡◌, None};
 
-use crate::answers::{Want, ends};
 use crate::closing::{Close, outcome};
 use crate::compare::{are_bytes, are_made, is_made, is_number};
 use crate::empty::{Empty, TestRam};
-use crate::failures::Failure;
-use crate::index::{FIRST, T, schema};
+use crate::index::{CORRUPT, FIRST, OTHER_SCHEMA, T, schema};
+use crate::told::{done, told};
 use std::alloc::Global;
 use std::process::Abort;
 use tv_base::{META_FILEPATH, Opstamp, TantivyError};
@@ -18,44 +17,20 @@ use tv_index::{
 use tv_managed::Refused;
 use tv_model::SegmentComponent;
 
-/// What stands as `meta.json`, the schema that is passed, and how the opening ends.
-struct Opening {
-    meta: Option<&'static str>,
-    schema: Option<&'static str>,
-    ends: Want,
-}
+// What stands as `meta.json`, the schema that is passed, and what comes of the opening.
+type Opening = (Option<&'static str>, Option<&'static str>, &'static str);
 
 const OPENINGS: &[Opening] = &[
-    Opening {
-        meta: None,
-        schema: None,
-        ends: Want::Fails(Failure::Argument("no schema passed")),
-    },
-    Opening {
-        meta: Some(FIRST),
-        schema: None,
-        ends: Want::Fails(Failure::Unbuilt("schema")),
-    },
-    Opening {
-        meta: Some(FIRST),
-        schema: Some("[]"),
-        ends: Want::Fails(Failure::Schema("An index exists but the schema does not match.")),
-    },
-    Opening {
-        meta: Some("{"),
-        schema: None,
-        ends: Want::Fails(Failure::Corrupt(META_FILEPATH)),
-    },
-    Opening {
-        meta: Some(FIRST),
-        schema: Some(T),
-        ends: Want::Done,
-    },
-    Opening {
-        meta: None,
-        schema: Some(T),
-        ends: Want::Done,
-    },
+    (None, None, r#"Err(InvalidArgument("no schema passed"))"#),
+    (
+        Some(FIRST),
+        None,
+        r#"Err(IndexBuilderMissingArgument("schema"))"#,
+    ),
+    (Some(FIRST), Some("[]"), OTHER_SCHEMA),
+    (Some("{"), None, CORRUPT),
+    (Some(FIRST), Some(T), "Ok(())"),
+    (None, Some(T), "Ok(())"),
 ];
 
 // A builder with this schema, if there is one.
@@ -78,23 +53,16 @@ fn directory<R: Abort, D: Empty>(rt: &R, alloc: Global, meta: Option<&str>) -> D
 }
 
 // Opens what stands, or makes an index, which ends as it is to end.
-fn opens<R: Abort, D: Empty>(rt: &R, alloc: Global, opening: &Opening) {
-    let directory: D = directory(rt, alloc, opening.meta);
-    let opened = builder(rt, alloc, opening.schema).open_or_create(alloc, directory);
-    assert!(rt; ends(outcome(opened), "", opening.ends));
+fn opens<R: Abort + Eprint, D: Empty>(rt: &R, alloc: Global, opening: Opening) -> bool {
+    let (meta, schema, want) = opening;
+    let directory: D = directory(rt, alloc, meta);
+    let opened = builder(rt, alloc, schema).open_or_create(alloc, directory);
+    told(rt, alloc, outcome(opened), want)
 }
 
 // T with its keys in the order of their bytes.
 const SORTED: &str =
     "[{\"name\":\"text\",\"options\":{\"fast\":false,\"indexing\":{\"fieldnorms\":true,\"record\":\"position\",\"tokenizer\":\"default\"},\"stored\":false},\"type\":\"text\"}]";
-
-#[test]
-fn builders_open_or_refuse(rt: HostRuntime) {
-    let a = rt.alloc();
-    for opening in OPENINGS {
-        opens::<_, TestRam>(&rt, a, opening);
-    }
-}
 
 // Whether an index was opened that has this schema.
 fn is_open<R: Abort, D: Directory + Drop>(rt: &R, opened: Result<Index<D>, Refused<D>>) {
@@ -114,7 +82,13 @@ fn stands<R: Abort, D: Empty>(rt: &R, alloc: Global, meta: &str) {
 }
 
 #[test]
-fn what_stands_is_opened(rt: HostRuntime) {
+fn what_stands_is_opened_or_refused(rt: HostRuntime) {
+    for (number, opening) in OPENINGS.iter().enumerate() {
+        assert!(rt;
+            opens::<_, TestRam>(&rt, rt.alloc(), *opening),
+            "opening {number}"
+        );
+    }
     stands::<_, TestRam>(&rt, rt.alloc(), FIRST);
 }
 
@@ -220,10 +194,15 @@ fn is_undamaged<R: Abort, D: Directory>(rt: &R, alloc: Global, index: &mut Index
 }
 
 // Whether the id of a new segment is in use.
-fn is_in_use<R: Abort, D: Directory>(rt: &R, alloc: Global, index: &mut Index<D>, id: SegmentId) {
-    let again = index.new_segment(alloc, id);
-    let in_use = Failure::InUse("09090909090909090909090909090909");
-    assert!(rt; ends(again, "", Want::Fails(in_use)));
+fn is_in_use<R: Abort + Eprint, D: Directory>(
+    rt: &R,
+    alloc: Global,
+    index: &mut Index<D>,
+    id: SegmentId,
+) {
+    let again = done(index.new_segment(alloc, id));
+    let in_use = r#"Err(IdInUse("09090909090909090909090909090909"))"#;
+    assert!(rt; told(rt, alloc, again, in_use));
 }
 
 // Deletes one of three documents of a new segment.
@@ -244,7 +223,7 @@ fn names_deletes<R: Abort>(rt: &R, alloc: Global, segment: &Segment) {
 }
 
 // Makes a segment, whose id is in use from then on.
-fn adds_one<R: Abort, D: Directory>(rt: &R, alloc: Global, index: &mut Index<D>) {
+fn adds_one<R: Abort + Eprint, D: Directory>(rt: &R, alloc: Global, index: &mut Index<D>) {
     let id = SegmentId::from_bytes([9; 16]);
     let segment = index.new_segment(alloc, id).expect(rt, "a free id");
     assert!(rt; segment.id() == id && segment.meta().max_doc() == 0);
@@ -268,7 +247,7 @@ fn sets_blocksize<R: Abort, D: Directory>(rt: &R, index: &mut Index<D>) {
 }
 
 // Makes two commits, and looks at what stands then.
-fn commit_twice<R: Abort, D: Directory>(rt: &R, alloc: Global, index: &mut Index<D>) {
+fn commit_twice<R: Abort + Eprint, D: Directory>(rt: &R, alloc: Global, index: &mut Index<D>) {
     commit(rt, alloc, index, 1, 7);
     commit(rt, alloc, index, 2, 3);
     shows_two(rt, alloc, index);
@@ -281,7 +260,7 @@ fn commit_twice<R: Abort, D: Directory>(rt: &R, alloc: Global, index: &mut Index
 }
 
 // Makes two commits in a new index, and closes it.
-fn shows_commits<R: Abort, D: Directory + Drop>(
+fn shows_commits<R: Abort + Eprint, D: Directory + Drop>(
     rt: &R,
     alloc: Global,
     made: Result<Index<D>, TantivyError>,
@@ -297,11 +276,6 @@ fn built<R: Abort>(rt: &R, alloc: Global) -> Result<Index<TestRam>, TantivyError
         .schema(schema(rt, alloc, T))
         .settings(IndexSettings::new())
         .create_in_ram(alloc)
-}
-
-#[test]
-fn an_index_shows_its_commits(rt: HostRuntime) {
-    shows_commits(&rt, rt.alloc(), built(&rt, rt.alloc()));
 }
 
 // Whether a commit is printed like the first one.
@@ -332,8 +306,9 @@ fn shows_first<R: Abort, D: Directory + Drop>(
 }
 
 #[test]
-fn commits_with_shares_are_printed(rt: HostRuntime) {
+fn an_index_shows_its_commits(rt: HostRuntime) {
     let a = rt.alloc();
     is_first(&rt, a, &IndexMeta::with_schema(a, schema(&rt, a, T)));
     shows_first(&rt, a, in_ram(&rt, a));
+    shows_commits(&rt, a, built(&rt, a));
 }

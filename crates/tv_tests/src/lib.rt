@@ -1,9 +1,7 @@
-//! Tests of what no clause says: values from outside, printed texts, threads, and that each call succeeds where
-//! there is memory.
+//! Tests of what no clause says: values from outside, printed texts, threads, folders of the file system, and that
+//! each call succeeds where there is memory.
 #![tactic(auto)]
 
-#[cfg(test)]
-mod answers;
 #[cfg(test)]
 mod base;
 #[cfg(test)]
@@ -29,7 +27,7 @@ mod empty;
 #[cfg(test)]
 mod error_texts;
 #[cfg(test)]
-mod failures;
+mod fixtures;
 #[cfg(test)]
 mod folders;
 #[cfg(test)]
@@ -38,6 +36,8 @@ mod footers;
 mod future_results;
 #[cfg(test)]
 mod index;
+#[cfg(test)]
+mod index_crashes;
 #[cfg(test)]
 mod indexes;
 #[cfg(test)]
@@ -49,11 +49,21 @@ mod managed;
 #[cfg(test)]
 mod model;
 #[cfg(test)]
-mod printing;
+mod places;
 #[cfg(test)]
 mod ram;
 #[cfg(test)]
+mod replayed_folders;
+#[cfg(test)]
+mod replays;
+#[cfg(test)]
+mod runs;
+#[cfg(test)]
 mod sealed_files;
+#[cfg(test)]
+mod stores;
+#[cfg(test)]
+mod told;
 #[cfg(test)]
 mod usages;
 #[cfg(test)]

@@ -1,47 +1,50 @@
 //! The list of managed files, in spellings that JSON allows, and what is no list.
 
-use crate::answers::{Want, ends};
-use crate::closing::{Close, outcome};
+use crate::closing::Close;
 use crate::empty::{Empty, TestBench};
-use crate::failures::Failure;
-use crate::managed::{are_managed, wrapped};
 use crate::sealed_files::{Bytes, slice_of};
+use crate::told::told;
 use std::alloc::Global;
 use std::process::Abort;
-use tv_base::MANAGED_FILEPATH;
-use tv_managed::ManagedDirectory;
+use tv_base::{MANAGED_FILEPATH, TantivyError};
+use tv_managed::{ManagedDirectory, Refused};
 
-// A text, and the names that it lists, in their order.
-const LISTS: &[(&str, &[&str])] = &[
-    ("[]", &[]),
-    ("\n[ ]", &[]),
+const DAMAGED: &str = r#"Err(DataCorruption(Data corruption (in file `".managed.json"`): ..))"#;
+
+// What stands as the list, and the names that it lists, in their order, or what the opening answers.
+const LISTS: &[(Bytes, &str)] = &[
+    (Bytes::Text("[]"), "{}"),
+    (Bytes::Text("\n[ ]"), "{}"),
     (
-        " [\r\n\t\"a.idx\" ,\n\"meta.json\"\n]\n\n",
-        &["a.idx", "meta.json"],
+        Bytes::Text(" [\r\n\t\"a.idx\" ,\n\"meta.json\"\n]\n\n"),
+        r#"{"a.idx", "meta.json"}"#,
     ),
-    ("[\"b\",\"c\",\"a\",\"b\"]", &["a", "b", "c"]),
-    ("[\"a\\u0062\",\"a\\u00e9\",\"aé\"]", &["ab", "aé"]),
-];
-
-const DAMAGED: &[Bytes] = &[
-    Bytes::Text("[\".x\"]"),
-    Bytes::Text("[\"meta.json\",\"failed\"]"),
-    Bytes::Text("[\"\"]"),
-    Bytes::Text("[\"a b\"]"),
-    Bytes::Text("[\"a\\u002fb\"]"),
-    Bytes::Text("[\"a\",1]"),
-    Bytes::Text("[null]"),
-    Bytes::Text("[[\"a\"]]"),
-    Bytes::Text("{}"),
-    Bytes::Text("{\"a\":\"b\"}"),
-    Bytes::Text("\"a\""),
-    Bytes::Text(""),
-    Bytes::Text("[\"a\""),
-    Bytes::Text("[\"a\",]"),
-    Bytes::Text("[\"a\"][]"),
-    Bytes::Text("[\"\\ud800\"]"),
-    Bytes::Raw(b"\xff"),
-    Bytes::Raw(b"[\"\xff\"]"),
+    (
+        Bytes::Text("[\"b\",\"c\",\"a\",\"b\"]"),
+        r#"{"a", "b", "c"}"#,
+    ),
+    (
+        Bytes::Text("[\"a\\u0062\",\"a\\u00e9\",\"aé\"]"),
+        r#"{"ab", "aé"}"#,
+    ),
+    (Bytes::Text("[\".x\"]"), DAMAGED),
+    (Bytes::Text("[\"meta.json\",\"failed\"]"), DAMAGED),
+    (Bytes::Text("[\"\"]"), DAMAGED),
+    (Bytes::Text("[\"a b\"]"), DAMAGED),
+    (Bytes::Text("[\"a\\u002fb\"]"), DAMAGED),
+    (Bytes::Text("[\"a\",1]"), DAMAGED),
+    (Bytes::Text("[null]"), DAMAGED),
+    (Bytes::Text("[[\"a\"]]"), DAMAGED),
+    (Bytes::Text("{}"), DAMAGED),
+    (Bytes::Text("{\"a\":\"b\"}"), DAMAGED),
+    (Bytes::Text("\"a\""), DAMAGED),
+    (Bytes::Text(""), DAMAGED),
+    (Bytes::Text("[\"a\""), DAMAGED),
+    (Bytes::Text("[\"a\",]"), DAMAGED),
+    (Bytes::Text("[\"a\"][]"), DAMAGED),
+    (Bytes::Text("[\"\\ud800\"]"), DAMAGED),
+    (Bytes::Raw(b"\xff"), DAMAGED),
+    (Bytes::Raw(b"[\"\xff\"]"), DAMAGED),
 ];
 
 // A directory whose list reads these bytes.
@@ -53,41 +56,30 @@ fn with_list<R: Abort, D: Empty>(rt: &R, alloc: Global, bytes: &[u8]) -> D {
     directory
 }
 
-// Whether a directory whose list reads this text has these names.
-fn lists<R: Abort, D: Empty>(rt: &R, alloc: Global, text: &str, names: &[&str]) -> bool {
-    let directory: D = with_list(rt, alloc, text.as_bytes());
-    let managed = wrapped(rt, alloc, directory);
-    let is_so = are_managed(&managed, names);
-    managed.close();
-    is_so
-}
-
-// Whether a directory whose list reads these bytes is refused, since the file of its list is none.
-fn is_damaged<R: Abort, D: Empty>(rt: &R, alloc: Global, bytes: &[u8]) -> bool {
+// Whether a directory whose list reads these bytes has the wanted names, or is refused as it is wanted.
+fn lists<R: Abort + Eprint, D: Empty>(rt: &R, alloc: Global, bytes: &[u8], want: &str) -> bool {
     let directory: D = with_list(rt, alloc, bytes);
-    ends(
-        outcome(ManagedDirectory::wrap(alloc, directory)),
-        "",
-        Want::Fails(Failure::Corrupt(MANAGED_FILEPATH)),
-    )
-}
-
-#[test]
-fn a_list_is_read_in_any_spelling(rt: HostRuntime) {
-    for (text, names) in LISTS {
-        assert!(rt;
-            lists::<_, TestBench>(&rt, rt.alloc(), text, names),
-            "{text}"
-        );
+    match ManagedDirectory::wrap(alloc, directory) {
+        Ok(managed) => {
+            let is_so = told(rt, alloc, managed.list_managed_files(), want);
+            managed.close();
+            is_so
+        }
+        Err(
+            Refused {
+                error,
+                directory: _,
+            },
+        ) => told(rt, alloc, Err::<(), TantivyError>(error), want),
     }
 }
 
 #[test]
-fn what_is_no_list_is_refused(rt: HostRuntime) {
-    for (number, bytes) in DAMAGED.iter().enumerate() {
+fn a_list_is_read_in_any_spelling_and_what_is_none_is_refused(rt: HostRuntime) {
+    for (number, (bytes, want)) in LISTS.iter().enumerate() {
         assert!(rt;
-            is_damaged::<_, TestBench>(&rt, rt.alloc(), slice_of(*bytes)),
-            "{number}"
+            lists::<_, TestBench>(&rt, rt.alloc(), slice_of(*bytes), want),
+            "list {number}"
         );
     }
 }

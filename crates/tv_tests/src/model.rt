@@ -1,6 +1,6 @@
 //! Ids, and the names of a segment's files.
 use crate::compare::{is_made, is_text};
-use crate::printing::{debugs, prints};
+use crate::told::{prints, told};
 use std::alloc::Global;
 use std::process::Abort;
 use tv_model::{DeleteMeta, IdList, SegmentComponent, SegmentId, laws, segment_file_name};
@@ -20,7 +20,7 @@ fn id() -> SegmentId {
 fn an_id_is_printed(rt: HostRuntime) {
     let a = rt.alloc();
     prints(&rt, a, id(), "Seg(\"a5c4dfcb\")");
-    debugs(&rt, a, id(), "Seg(\"a5c4dfcb\")");
+    assert!(rt; told(&rt, a, id(), "Seg(\"a5c4dfcb\")"));
     is_made(&rt, id().uuid_string(a), "a5c4dfcbdfe645089129e308e26d5523");
     is_made(
         &rt,

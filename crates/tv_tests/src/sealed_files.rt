@@ -1,15 +1,14 @@
 //! Files with footers of all kinds in a managed directory: what their bodies are, and which checksums
 //! agree.
 
-use crate::answers::Want;
 use crate::compare::is_file;
 use crate::composites::assert_body;
 use crate::empty::{Empty, TestBench};
-use crate::managed::{Call, Step, on_file, take_refused, wrapped};
+use crate::managed::{Call, Run, Step, on_file, take_runs, wrapped};
 use crate::written::{Content, written};
 use std::alloc::Global;
 use std::process::Abort;
-use tv_base::{FileSlice, IoKind};
+use tv_base::FileSlice;
 use tv_directory::Directory;
 use tv_framing::CompositeFile;
 use tv_managed::ManagedDirectory;
@@ -25,82 +24,80 @@ pub(crate) enum Bytes {
 const SEALED: &str =
     "123456789{\"version\":{\"major\":0,\"minor\":26,\"patch\":2,\"index_format_version\":7},\"crc\":3421780262}\x56\x00\x00\x00\x39\x05\x00\x00";
 
-const EMPTY: Want = Want::Fault(
-    IoKind::UnexpectedEof,
-    "File corrupted. The file is smaller than 8 bytes (len=0).",
-);
+const EMPTY: &str =
+    r#"Err(IoError { io_error: IoFault { kind: UnexpectedEof, text: "File corrupted. The file is smaller than 8 bytes (len=0)." }, filepath: "a.idx" })"#;
 
-const OTHER_MAGIC: Want = Want::Fault(
-    IoKind::InvalidData,
-    "Footer magic byte mismatch. File corrupted or index was created using old an tantivy version which is not supported anymore. Please use tantivy 0.15 or above to recreate the index.",
-);
+const OTHER_MAGIC: &str =
+    r#"Err(IoError { io_error: IoFault { kind: InvalidData, text: "Footer magic byte mismatch. File corrupted or index was created using old an tantivy version which is not supported anymore. Please use tantivy 0.15 or above to recreate the index." }, filepath: "a.idx" })"#;
 
-const LONG: Want = Want::Fault(
-    IoKind::InvalidData,
-    "Footer seems invalid as it suggests a footer len of 50001. File is corrupted, or the index was created with a different & old version of tantivy.",
-);
+const LONG: &str =
+    r#"Err(IoError { io_error: IoFault { kind: InvalidData, text: "Footer seems invalid as it suggests a footer len of 50001. File is corrupted, or the index was created with a different & old version of tantivy." }, filepath: "a.idx" })"#;
 
-const TOO_SHORT: Want = Want::Fault(
-    IoKind::UnexpectedEof,
-    "File corrupted. The file is smaller than it's footer bytes (len=94).",
-);
+const TOO_SHORT: &str =
+    r#"Err(IoError { io_error: IoFault { kind: UnexpectedEof, text: "File corrupted. The file is smaller than it's footer bytes (len=94)." }, filepath: "a.idx" })"#;
 
-const JUST_TOO_SHORT: Want = Want::Fault(
-    IoKind::UnexpectedEof,
-    "File corrupted. The file is smaller than it's footer bytes (len=86).",
-);
+const JUST_TOO_SHORT: &str =
+    r#"Err(IoError { io_error: IoFault { kind: UnexpectedEof, text: "File corrupted. The file is smaller than it's footer bytes (len=86)." }, filepath: "a.idx" })"#;
 
-const OTHER_FORM: Want = Want::Fault(IoKind::InvalidData, "Footer is not of the stated form.");
+const OTHER_FORM: &str =
+    r#"Err(IoError { io_error: IoFault { kind: InvalidData, text: "Footer is not of the stated form." }, filepath: "a.idx" })"#;
+
+// Of a format that isn't read.
+const OF_FORMAT_3: &str =
+    "Err(IncompatibleIndex(IndexMismatch { library_version: tantivy v0.26.2, index_format v7, index_version: tantivy v0.26.2, index_format v3 }))";
+
+const OF_FORMAT_8: &str =
+    "Err(IncompatibleIndex(IndexMismatch { library_version: tantivy v0.26.2, index_format v7, index_version: tantivy v0.26.2, index_format v8 }))";
 
 /// The bytes of a file, what it reads, and whether its checksum agrees.
-pub(crate) type Row = (Bytes, Want, Want);
+pub(crate) type Row = (Bytes, &'static str, &'static str);
 
 const FILES: &[Step] = &[
-    Step::Footer(&(Bytes::Text(SEALED), Want::Text("123456789"), Want::Is(true))),
+    Step::Footer(&(Bytes::Text(SEALED), "123456789", "Ok(true)")),
     // The oldest format, and another spelling.
     Step::Footer(&(
         Bytes::Text(
             "body{\"version\":{\"major\":0,\"minor\":26,\"patch\":2,\"index_format_version\":4},\"crc\":7}\x4d\x00\x00\x00\x39\x05\x00\x00",
         ),
-        Want::Text("body"),
-        Want::Is(false),
+        "body",
+        "Ok(false)",
     )),
     Step::Footer(&(
         Bytes::Text(
             " { \"crc\":1, \"x\":[], \"crc\":0, \"version\":{\"patch\":1,\"minor\":2,\"major\":3,\"index_format_version\":5}}\x60\x00\x00\x00\x39\x05\x00\x00",
         ),
-        Want::Text(""),
-        Want::Is(true),
+        "",
+        "Ok(true)",
     )),
     // Formats that aren't read, whose checksums are compared all the same.
     Step::Footer(&(
         Bytes::Text(
             "body{\"version\":{\"major\":0,\"minor\":26,\"patch\":2,\"index_format_version\":3},\"crc\":7}\x4d\x00\x00\x00\x39\x05\x00\x00",
         ),
-        Want::Format(3),
-        Want::Is(false),
+        OF_FORMAT_3,
+        "Ok(false)",
     )),
     Step::Footer(&(
         Bytes::Text(
             "123456789{\"version\":{\"major\":0,\"minor\":26,\"patch\":2,\"index_format_version\":8},\"crc\":3421780262}\x56\x00\x00\x00\x39\x05\x00\x00",
         ),
-        Want::Format(8),
-        Want::Is(true),
+        OF_FORMAT_8,
+        "Ok(true)",
     )),
     // Another checksum, and another body.
     Step::Footer(&(
         Bytes::Text(
             "123456789{\"version\":{\"major\":0,\"minor\":26,\"patch\":2,\"index_format_version\":7},\"crc\":3421780263}\x56\x00\x00\x00\x39\x05\x00\x00",
         ),
-        Want::Text("123456789"),
-        Want::Is(false),
+        "123456789",
+        "Ok(false)",
     )),
     Step::Footer(&(
         Bytes::Text(
             "12345678{\"version\":{\"major\":0,\"minor\":26,\"patch\":2,\"index_format_version\":7},\"crc\":3421780262}\x56\x00\x00\x00\x39\x05\x00\x00",
         ),
-        Want::Text("12345678"),
-        Want::Is(false),
+        "12345678",
+        "Ok(false)",
     )),
     Step::Footer(&(Bytes::Text(""), EMPTY, EMPTY)),
     Step::Footer(&(Bytes::Text("123456789"), OTHER_MAGIC, OTHER_MAGIC)),
@@ -149,21 +146,31 @@ pub(crate) fn slice_of(bytes: Bytes) -> &'static [u8] {
 }
 
 /// Whether a file of these bytes is read and checked as it is wanted.
-pub(crate) fn takes<D: Directory>(
+pub(crate) fn takes<R: Eprint, D: Directory>(
+    rt: &R,
+    alloc: Global,
     managed: &mut ManagedDirectory<D>,
     (bytes, read, checked): Row,
 ) -> bool {
-    let bytes = slice_of(bytes);
-    let name = "a.idx";
-    on_file(managed, Call::AtomicWrite, name, bytes, Want::Done)
-        && on_file(managed, Call::OpenRead, name, b"", read)
-        && on_file(managed, Call::GetFileHandle, name, b"", read)
-        && on_file(managed, Call::ValidateChecksum, name, b"", checked)
+    let steps = [
+        (Call::AtomicWrite, slice_of(bytes), "Ok(())"),
+        (Call::OpenRead, b"".as_slice(), read),
+        (Call::GetFileHandle, b"".as_slice(), read),
+        (Call::ValidateChecksum, b"".as_slice(), checked),
+    ];
+    for (call, bytes, want) in steps {
+        if !on_file(rt, alloc, managed, (call, "a.idx", bytes, want)) {
+            return false;
+        }
+    }
+    true
 }
+
+const RUNS: &[Run] = &[(&[], &[], FILES, 0)];
 
 #[test]
 fn footers_are_taken_or_refused(rt: HostRuntime) {
-    take_refused(&rt, rt.alloc(), &[], &[], FILES, 0);
+    take_runs(&rt, rt.alloc(), RUNS);
 }
 
 fn read_back<R: Abort, D: Directory>(

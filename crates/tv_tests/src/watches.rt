@@ -142,11 +142,6 @@ const SUMS: &[Step] = &[
     Step::Is(32),
 ];
 
-#[test]
-fn callbacks_of_1_and_10_give_22_and_32_and_32(rt: HostRuntime) {
-    take_all(&rt, rt.alloc(), SUMS);
-}
-
 // Each writes its digit behind the others.
 const DIGITS: &[Step] = &[
     Step::Subscribe { times: 10, plus: 2 },
@@ -158,11 +153,6 @@ const DIGITS: &[Step] = &[
     Step::Broadcast,
     Step::Is(213_234),
 ];
-
-#[test]
-fn callbacks_are_called_in_the_order_of_their_subscription(rt: HostRuntime) {
-    take_all(&rt, rt.alloc(), DIGITS);
-}
 
 const SHARED: &[Step] = &[
     Step::Subscribe { times: 1, plus: 1 },
@@ -183,8 +173,10 @@ const SHARED: &[Step] = &[
 ];
 
 #[test]
-fn a_shared_handle_keeps_its_callback(rt: HostRuntime) {
-    take_all(&rt, rt.alloc(), SHARED);
+fn callbacks_are_called_in_their_order_as_long_as_a_handle_is_out(rt: HostRuntime) {
+    for steps in [SUMS, DIGITS, SHARED] {
+        take_all(&rt, rt.alloc(), steps);
+    }
 }
 
 // Whether there is a notice to deliver, and one alone.

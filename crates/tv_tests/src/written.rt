@@ -1,9 +1,10 @@
 //! Files that are written over a directory in memory, and read back.
 ghost use Rattle.std.specs.Prelude.{◌≡◌, false};
 
-use crate::composites::{write_no_fields, write_two_bodies_of_one_field, write_two_fields};
+use crate::compare::are_bytes;
+use crate::composites::{self, write_no_fields, write_two_bodies_of_one_field, write_two_fields};
 use crate::empty::{Empty, TestBench};
-use crate::footers::{flush_four_bytes, write_footer, write_nine_bytes};
+use crate::footers::{self, flush_four_bytes, write_footer, write_nine_bytes};
 use std::alloc::Global;
 use std::process::Abort;
 use tv_base::{FileSlice, OwnedBytes, TerminatingWrite};
@@ -41,24 +42,18 @@ fn write<W: TerminatingWrite + Drop>(rt: &impl Abort, alloc: Global, writer: W, 
     }
 }
 
-fn write_file<D: Directory>(rt: &impl Abort, alloc: Global, directory: &mut D, content: Content) {
-    let writer = directory.open_write("a.idx").expect(rt, "a new file");
-    write(rt, alloc, DirWriter::new(directory, writer), content);
-}
-
-fn read_file<D: Directory>(rt: &impl Abort, directory: &mut D) -> Vec<u8> {
-    directory.atomic_read("a.idx").expect(rt, "the file")
-}
-
-// Writes a file with this content, and reads it.
+// Writes a file with this content, reads it, and deletes it.
 fn write_and_read<D: Directory>(
     rt: &impl Abort,
     alloc: Global,
     directory: &mut D,
     content: Content,
 ) -> Vec<u8> {
-    write_file(rt, alloc, directory, content);
-    read_file(rt, directory)
+    let writer = directory.open_write("a.idx").expect(rt, "a new file");
+    write(rt, alloc, DirWriter::new(directory, writer), content);
+    let bytes = directory.atomic_read("a.idx").expect(rt, "the file");
+    directory.delete("a.idx").expect(rt, "the file");
+    bytes
 }
 
 /// The bytes of a file with this content.
@@ -67,9 +62,24 @@ pub(crate) fn written(rt: &impl Abort, alloc: Global, content: Content) -> Vec<u
     write_and_read(rt, alloc, &mut bench, content)
 }
 
-/// Whether a file with this content has these bytes.
-pub(crate) fn is_written(rt: &impl Abort, alloc: Global, content: Content, want: &[u8]) -> bool {
-    written(rt, alloc, content).as_slice() == want
+// Looks whether files with these contents have these bytes.
+fn are_written<D: Directory>(
+    rt: &impl Abort,
+    alloc: Global,
+    directory: &mut D,
+    rows: &[(Content, &[u8])],
+) {
+    for (content, want) in rows {
+        let bytes = write_and_read(rt, alloc, directory, *content);
+        are_bytes(rt, bytes.as_slice(), want);
+    }
+}
+
+#[test]
+fn footers_and_composite_files_are_written(rt: HostRuntime) {
+    let mut bench = TestBench::empty(rt.alloc()).expect(&rt, "memory");
+    are_written(&rt, rt.alloc(), &mut bench, footers::WRITTEN);
+    are_written(&rt, rt.alloc(), &mut bench, composites::WRITTEN);
 }
 
 /// The file of these bytes.

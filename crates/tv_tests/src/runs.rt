@@ -1,7 +1,8 @@
 //! Runs in a place to which little can be said.
 ghost use Rattle.std.specs.Prelude.{◌≡◌, None};
 
-use crate::fixtures::{all_owned, are_bytes, empty_bench, place, source};
+use crate::compare::are_bytes;
+use crate::fixtures::{all_owned, empty_bench, place, source};
 use std::alloc::Global;
 use std::process::Abort;
 use tv_base::TextSource;
@@ -91,7 +92,7 @@ fn assert_run<R: Abort>(
 ) {
     let (status, said) = found(rt, alloc, empty_bench(rt, alloc), words, room);
     assert!(rt; status == want, "at {words:?} and {room}");
-    are_bytes(rt, said.as_slice(), line);
+    are_bytes(rt, said.as_slice(), line.as_bytes());
 }
 
 #[test]

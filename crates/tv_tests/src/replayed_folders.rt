@@ -1,8 +1,9 @@
 //! The example, replayed over a folder of the file system.
 ghost use Rattle.std.specs.Prelude.{◌≡◌, None};
 
+use crate::compare::are_bytes;
 use crate::fixtures::{
-    all_owned, are_bytes, folder_desk, handle, make_folder, remove_folder, replayed, source,
+    all_owned, folder_desk, handle, make_folder, remove_folder, replayed, source,
 };
 use std::alloc::Global;
 use std::fs::{self, File};
@@ -67,7 +68,7 @@ fn is_told<R: Files<File = File> + Clone + Drop + Abort>(
     let desk = folder_desk(rt, alloc, "replayed");
     let (desk, _events) = replayed(rt, alloc, desk, SCHEMA, script);
     let (_directory, sink) = desk.split();
-    are_bytes(rt, sink.as_slice(), want);
+    are_bytes(rt, sink.as_slice(), want.as_bytes());
 }
 
 // Runs the program over the folder, with a script of no lines, and the schema of a file.

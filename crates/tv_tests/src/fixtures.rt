@@ -1,17 +1,17 @@
 //! Directories, scripts and places, and what was told to a directory.
 ghost use Rattle.std.specs.Prelude.{◌≡◌, None};
 
+use crate::compare::are_bytes;
+use crate::empty::{Empty, TestBench};
 use std::alloc::Global;
 use std::fs::File;
 use std::process::Abort;
 use std::rt::Files;
 use std::{fs, io};
 use tv_base::{Memory, TextSource, VecSink};
-use tv_directory::{Bench, Desk, NoWatch, Outside};
+use tv_directory::{Desk, NoWatch, Outside, WatchCall};
 use tv_files::MmapDirectory;
 use tv_replay::{BenchPlace, Replayed, replay};
-
-pub(crate) type TestBench = Bench<NoWatch>;
 
 // The directory of a folder, with a sink for its lines.
 type FolderDesk<R> = Desk<MmapDirectory<R, NoWatch>, VecSink>;
@@ -29,17 +29,13 @@ impl Shows for TestBench {
 
 /// A directory without files.
 pub(crate) fn empty_bench<R: Abort>(rt: &R, alloc: Global) -> TestBench {
-    Bench::new(alloc, Vec::new(alloc)).expect(rt, "memory")
-}
-
-pub(crate) fn are_bytes<R: Abort>(rt: &R, bytes: &[u8], want: &str) {
-    assert_eq!(rt; bytes, want.as_bytes());
+    TestBench::empty(alloc).expect(rt, "memory")
 }
 
 /// Looks at all that was told to a directory.
 pub(crate) fn has_heard<R: Abort, O: Shows>(rt: &R, outside: &O, want: &str) {
     let heard = outside.heard().expect(rt, "memory");
-    are_bytes(rt, heard.as_slice(), want);
+    are_bytes(rt, heard.as_slice(), want.as_bytes());
 }
 
 // The bytes of a text.
@@ -127,12 +123,12 @@ pub(crate) fn handle<R: Clone + Abort>(rt: &R) -> R {
     rt.clone().expect(rt, "memory")
 }
 
-// The directory of a folder, which nobody watches.
-fn folder<R: Files<File = File> + Clone + Drop + Abort>(
+/// The directory of a folder.
+pub(crate) fn folder<R: Files<File = File> + Clone + Drop + Abort, C: WatchCall>(
     rt: &R,
     alloc: Global,
     path: &str,
-) -> MmapDirectory<R, NoWatch> {
+) -> MmapDirectory<R, C> {
     MmapDirectory::open(handle(rt), alloc, path).expect(rt, "a folder")
 }
 

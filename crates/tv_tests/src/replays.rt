@@ -1,5 +1,6 @@
 //! The tally of a replay, and the script that is generated.
-use crate::fixtures::{Shows, are_bytes, empty_bench, has_heard, replayed};
+use crate::compare::are_bytes;
+use crate::fixtures::{Shows, empty_bench, has_heard, replayed};
 use std::alloc::Global;
 use std::process::Abort;
 use tv_replay::generate;
@@ -95,6 +96,6 @@ const GENERATED: &[(u32, &str)] = &[(0, ""), (2, TWO_COMMITS)];
 fn a_script_is_generated(rt: HostRuntime) {
     for (n, want) in GENERATED {
         let script = generate(rt.alloc(), *n).expect(&rt, "memory");
-        are_bytes(&rt, script.as_slice(), want);
+        are_bytes(&rt, script.as_slice(), want.as_bytes());
     }
 }

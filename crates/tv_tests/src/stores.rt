@@ -1,5 +1,8 @@
 //! Events that are applied to an open index, one by one.
-use crate::fixtures::{are_bytes, empty_bench, folder_desk, has_heard, make_folder, remove_folder};
+use crate::compare::are_bytes;
+use crate::fixtures::{empty_bench, folder_desk, has_heard, make_folder, remove_folder};
+use crate::index::{CORRUPT, OTHER_SCHEMA};
+use crate::told::{done, told};
 use std::alloc::Global;
 use std::fs::{self, File};
 use std::process::Abort;
@@ -66,7 +69,7 @@ fn open<R: Abort, O: Outside + Drop>(rt: &R, alloc: Global, outside: O) -> Index
 fn apply<R: Abort, O: Outside>(rt: &R, store: &mut IndexStore<O>, event: &Event, want: &str) {
     assert!(rt; store.is_open());
     let answer = store.apply(event).expect(rt, "applied");
-    are_bytes(rt, answer.as_slice(), want);
+    are_bytes(rt, answer.as_slice(), want.as_bytes());
 }
 
 // Applies the event of a line, and looks at its answer.
@@ -153,36 +156,27 @@ fn reads<R: Files<File = File> + Abort, O: Outside + Drop>(
     answer
 }
 
-// What is written, and whether it is a commit of another schema, and not bytes that mean none.
-const REFUSED: &[(&str, bool)] = &[("{", false), (OTHER, true)];
-
-// Whether a reader is refused for that.
-fn is_refused(answer: &Result<Answer, TantivyError>, is_commit: bool) -> bool {
-    match answer {
-        Err(TantivyError::DataCorruption(_)) => !is_commit,
-        Err(TantivyError::SchemaError(_)) => is_commit,
-        _ => false,
-    }
-}
+// What is written, and for what a reader is refused: bytes that mean no commit, and a commit of another schema.
+const REFUSED: &[(&str, &str)] = &[("{", CORRUPT), (OTHER, OTHER_SCHEMA)];
 
 // Opens the index that stands in the folder, and then looks at what a reader answers.
-fn tells_apart<R: Files<File = File> + Clone + Drop + Abort>(
+fn is_refused<R: Files<File = File> + Clone + Drop + Abort + Eprint>(
     rt: &R,
     alloc: Global,
     text: &str,
-    is_commit: bool,
+    want: &str,
 ) {
     overwrite(rt, EIGHTH);
     let answer = reads(rt, alloc, folder_desk(rt, alloc, FOLDER), text);
-    assert!(rt; is_refused(&answer, is_commit), "{text} is read");
+    assert!(rt; told(rt, alloc, done(answer), want));
 }
 
 #[test]
 fn a_reader_loads_what_was_written(rt: HostRuntime) {
     make_folder(&rt, rt.alloc(), FOLDER);
     shows_what_was_written(&rt, rt.alloc(), folder_desk(&rt, rt.alloc(), FOLDER));
-    for (text, is_commit) in REFUSED {
-        tells_apart(&rt, rt.alloc(), text, *is_commit);
+    for (text, want) in REFUSED {
+        is_refused(&rt, rt.alloc(), text, want);
     }
     remove_folder(&rt, FOLDER);
 }
