@@ -79,24 +79,56 @@ const READ: &[Step] = &[
     (Call::Delete, "folder", "", NO_FILE),
 ];
 
-// Whether the temporary file of another run is as it was, and the next one is gone.
-fn keeps_temporary<R: Files<File = File> + Alloc + Abort>(rt: &R) -> bool {
-    let left = fs::read(rt, "left/.new-0").expect(rt, "read");
-    left.as_slice() == b"left".as_slice() && !fs::exists(rt, "left/.new-1").expect(rt, "asked")
+// Files in the folder, whether they lie there before, and whether they do behind the lock of the
+// writer. The temporary files of a run that was killed go, and so do those of this one. That of a run
+// which still runs stays, and so does what isn't named as a temporary file is.
+const LEFT: &[(&str, bool, bool)] = &[
+    ("left/.tantivy-writer.lock", true, true),
+    ("left/.new 0", true, false),
+    ("left/.new 17", true, false),
+    (RUNNING, true, true),
+    ("left/.new 1", false, false),
+    ("left/.new 2", false, false),
+    ("left/.new-0", true, true),
+    ("left/.new ", true, true),
+    ("left/.new 4x", true, true),
+];
+
+// The temporary file of a run that still runs.
+const RUNNING: &str = "left/.new 3";
+
+fn leave_each<R: Files<File = File> + Abort>(rt: &R) {
+    for (path, is_left, _) in LEFT {
+        if *is_left {
+            write_file(rt, path, b"left");
+        }
+    }
 }
 
-// A run that was killed leaves a temporary file and a lock file, of which neither is in the way of
-// the next.
+fn stays_or_goes<R: Files + Abort>(rt: &R) {
+    for (path, _, stays) in LEFT {
+        let is_there = fs::exists(rt, *path).expect(rt, "asked");
+        assert!(rt; is_there == *stays, "{path}");
+    }
+}
+
+// The file that a run has locked which still runs.
+fn locked<R: Files<File = File> + Abort>(rt: &R) -> File {
+    let file = File::open(rt, RUNNING).expect(rt, "opened");
+    assert!(rt; file.try_lock().is_ok());
+    file
+}
+
 #[test]
-fn what_was_left_in_a_folder_stays_and_is_in_nobodys_way(rt: HostRuntime) {
+fn what_was_left_in_a_folder_is_in_nobodys_way(rt: HostRuntime) {
     make_folder(&rt, rt.alloc(), "left");
     make_folder(&rt, rt.alloc(), "left/folder");
-    write_file(&rt, "left/.new-0", b"left");
-    write_file(&rt, "left/.tantivy-writer.lock", b"");
+    leave_each(&rt);
+    let _running = locked(&rt);
     for steps in [WRITTEN, READ] {
         take_all_in(&rt, rt.alloc(), "left", steps);
     }
-    assert!(rt; keeps_temporary(&rt));
+    stays_or_goes(&rt);
     remove_folder(&rt, "left");
 }
 

@@ -27,7 +27,15 @@ mod empty;
 #[cfg(test)]
 mod error_texts;
 #[cfg(test)]
+mod failing;
+#[cfg(test)]
 mod fixtures;
+#[cfg(test)]
+mod folder_faults;
+#[cfg(test)]
+mod folder_places;
+#[cfg(test)]
+mod folder_steps;
 #[cfg(test)]
 mod folders;
 #[cfg(test)]
@@ -48,6 +56,8 @@ mod lists;
 mod managed;
 #[cfg(test)]
 mod model;
+#[cfg(test)]
+mod moved_folders;
 #[cfg(test)]
 mod places;
 #[cfg(test)]
