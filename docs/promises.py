@@ -2,7 +2,7 @@
 """Prints what each public call promises, in the words of its clauses' definitions.
 
     python3 docs/promises.py [CRATE] [NAME]     the calls of all crates, of one, or those of this name
-    python3 docs/promises.py --definitions      the files of definitions, in the order in which to read them
+    python3 docs/promises.py --definitions      the files of definitions, lowest crate first
     python3 docs/promises.py --check            only what has no words
 
 For each call: its signature, its doc comment, and for each clause the comment of the definition that it names, or the clause
@@ -17,7 +17,7 @@ import re
 import sys
 
 CRATES = pathlib.Path(__file__).resolve().parent.parent / "crates"
-TESTS = ("tv_tests", "tv_replay_tests", "tv_cases", "tv_timings", "tv")
+TESTS = ("tv_tests", "tv_cases", "tv_timings", "tv")
 
 # Each or some value of a type.
 EACH = r"\([\w ,]+ : .*\)"
