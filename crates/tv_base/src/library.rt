@@ -1,16 +1,12 @@
 //! Which library this is.
 ghost use Rattle.std.specs.Prelude.{◌≡◌, codes};
+ghost use Rattle.tv_base.specs.Versions.{library_version};
 
 use crate::versions::{INDEX_FORMAT_VERSION, Version};
 
 /// The version of this library.
 pub fn version() -> Version
-    ensures version { result ≡ record {
-      major = 0;
-      minor = 26;
-      patch = 2;
-      index_format_version = 7;
-    } }
+    ensures version { result ≡ library_version }
 {
     Version {
         major: 0,

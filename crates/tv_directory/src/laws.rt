@@ -5,24 +5,43 @@ ghost use Rattle.tv_directory.specs.Crashes.{AreKnown, left_in};
 ghost use Rattle.tv_model.specs.Disk.{Left, Sealed, possible_now};
 ghost use Rattle.tv_model.specs.Files.{Reads, Same};
 ghost use Rattle.tv_model.specs.Index.{IsSoundDirectory, IsSoundStart};
+ghost use Rattle.tv_model.specs.Listed.{ImagesListTheirFiles, IsListSettled, ListsEachFile};
 ghost use Rattle.tv_model.specs.Names.{is_file_name};
 
 use crate::bench::Bench;
 use crate::directory::Directory;
 use crate::lock::{DirectoryLock, Lock};
 use crate::watch::WatchCall;
+use std::alloc::Global;
 use tv_base::{DeleteError, IoError, LockError, OpenWriteError};
 use tv_model::Memory;
 
 /// Where it is told what a crash may leave, what a directory reads is one of the images that a crash now
-/// may leave. So a sound directory is a sound start.
+/// may leave. So a sound directory is a sound start. Each of its images lists its files; and where a crash leaves
+/// the list as it is, and each image lists its files, the list forgets none.
 pub fn what_reads_is_an_image<D: Directory>(directory: &D)
     ensures image { D.tells_images → Left (D.disk directory.now) (D.disk directory.now).moment
         (D.view directory.now).reads }
     ensures sound { D.tells_images → (schema : List ℕ) → IsSoundDirectory schema
         (D.disk directory.now) (D.view directory.now).locks
         → IsSoundStart schema (D.view directory.now).reads (D.view directory.now).locks }
+    ensures listed { D.tells_images → IsListSettled (D.disk directory.now)
+        → ImagesListTheirFiles (possible_now (D.disk directory.now))
+        → ListsEachFile (possible_now (D.disk directory.now)) }
+    ensures lists { D.tells_images → (schema : List ℕ) → IsSoundDirectory schema
+        (D.disk directory.now) (D.view directory.now).locks
+        → ImagesListTheirFiles (possible_now (D.disk directory.now)) }
 {}
+
+/// A bench without files is a sound directory under each schema: whatever image a crash may leave of it is sound,
+/// and no lock is held.
+pub fn an_empty_bench_is_sound<C: WatchCall>(alloc: Global) -> Result<Bench<C>, Memory>
+    ensures { IfOk result (λ bench. (schema : List ℕ) → IsSoundDirectory schema
+        (⟦<Bench<C> as Directory>⟧.disk bench) (⟦<Bench<C> as Directory>⟧.view bench).locks) }
+{
+    let files = Vec::new(alloc);
+    Bench::new(alloc, files)
+}
 
 /// Where a name reads, opening it to write answers an error, and each name reads what it read.
 pub fn open_write_spares_a_file_that_is_there<D: Directory>(

@@ -2,8 +2,8 @@
 use Rattle.std.proofs.Common.{◌≡◌, ◌≢◌, ◌≤◌, ◌<◌, ◌+◌, ◌-◌, ◌^◌, ⊎_elim, inr, ℕ, List, ◌++◌, length, take, drop, slice_range, codes, Result, Ok, Err, refl, sym, ap, subst, ◌∙◌, arith, append_assoc, length-append, length-drop}
 use Rattle.std.specs.Prelude.{IfErr, MatchResult}
 use Rattle.std.proofs.lemmas.List.{drop_at, take_at, drop-drop, length-take-le, take-append-drop}
-use Rattle.tv_model.specs.Footer.{four_bytes, footer_magic, number_of, stated}
-use Rattle.tv_model.proofs.Bodies.{four_spell}
+use Rattle.tv_model.specs.Footer.{body_of, four_bytes, footer_magic, number_of, stated}
+use Rattle.tv_model.proofs.Bodies.{body_of_framed, four_spell}
 use Rattle.tv_base.specs.declared.io.IoFault.{IoFault}
 use Rattle.tv_base.specs.declared.io.IoError.{IoError}
 use Rattle.tv_base.specs.declared.io.IoError.TheVariants as io
@@ -11,7 +11,7 @@ use Rattle.tv_framing.specs.declared.footer.Footer.{Footer}
 use Rattle.tv_base.specs.declared.io.IoKind.TheVariants.{InvalidData}
 use Rattle.tv_framing.specs.Faults.{IsFault, OfFault}
 use Rattle.tv_framing.specs.FooterEnds.{EndsIn, HasEnd}
-use Rattle.tv_framing.specs.Footers.{HasOtherMagic, IsCutOff, IsFramed, IsNoFooter, IsTooSmall, Refuses, Spells, StatesTooMuch, last_four, stated_json}
+use Rattle.tv_framing.specs.Footers.{HasOtherMagic, IsCutOff, IsFramed, IsNoFooter, IsTooSmall, Refuses, Spells, StatesTooMuch, last_four, numbers_of, stated_json}
 
 pub stated_is : (bytes : List ℕ) (front json magic : ℕ) → EndsIn bytes front json magic → stated bytes ≡ json
 stated_is bytes front json magic e =
@@ -83,11 +83,14 @@ pub not_refused : (bytes : List ℕ) (footer : Footer) (body : List ℕ) (fault 
 not_refused bytes footer body fault h r =
     let e = ends_of bytes footer body h in
     let n = stated_is bytes (length body + length h.json) (length h.json) footer_magic e in
+    let front : body_of bytes ≡ body = body_of_framed bytes (numbers_of footer) body h in
+    let spells : Spells h.json (length (body_of bytes)) footer = subst (λ (l : List ℕ). Spells h.json (length l) footer) (sym front) h.spells in
     ⊎_elim (λ (a : IsTooSmall bytes fault). absurd (omega (arith, a.small, e.size)))
     (⊎_elim (λ (a : HasOtherMagic bytes fault). a.other (last_is bytes (length body + length h.json) (length h.json) footer_magic e))
     (⊎_elim (λ (a : StatesTooMuch bytes fault). absurd (omega (arith, a.long, n, h.short)))
     (⊎_elim (λ (a : IsCutOff bytes fault). absurd (omega (arith, a.cut, n, e.size)))
-    (λ (a : IsNoFooter bytes fault). a.other footer (subst (λ (l : List ℕ). Spells l footer) (sym (json_is bytes footer body h)) h.spells))))) r
+    (λ (a : IsNoFooter bytes fault).
+    a.other footer (subst (λ (l : List ℕ). Spells l (length (body_of bytes)) footer) (sym (json_is bytes footer body h)) spells))))) r
 
 pub exactly : {T : Type 0} (P : T → Type 0) (bytes : List ℕ) (r : Result T IoError) → MatchResult r P (OfFault (Refuses bytes)) → IfErr r (OfFault (λ _. (footer : Footer) (body : List ℕ) → IsFramed bytes footer body → ⊥))
 exactly P bytes (Ok x) h = tt
@@ -95,12 +98,21 @@ exactly P bytes (Err e) h = of_fault e h (λ f refused footer body framed. not_r
 
 -- ---- a file whose end was found
 
-pub no_footer : (file : List ℕ) (start end : ℕ) (fault : IoFault) → HasEnd file start end → ((footer : Footer) → Spells (slice_range file start end) footer → ⊥) → IsFault InvalidData (codes "Footer is not of the stated form.") fault → Refuses file fault
+-- the body is what stands before the JSON
+pub framed_at : (file : List ℕ) (start end : ℕ) (footer : Footer) → HasEnd file start end → Spells (slice_range file start end) (length (take start file)) footer → IsFramed file footer (take start file)
+framed_at file start end footer e s = record {
+  json = slice_range file start end;
+  whole = e.whole ∙ ap (λ k. take start file ++ (slice_range file start end ++ (four_bytes k ++ four_bytes footer_magic))) (sym e.long);
+  short = omega (arith, e.long, e.short);
+  spells = s;
+}
+
+pub no_footer : (file : List ℕ) (start end : ℕ) (fault : IoFault) → HasEnd file start end → ((footer : Footer) → Spells (slice_range file start end) (length (body_of file)) footer → ⊥) → IsFault InvalidData (codes "Footer is not of the stated form.") fault → Refuses file fault
 no_footer file start end fault e none is =
     inr (inr (inr (inr (record {
       magic = e.magic;
       short = e.short;
       whole = omega (arith, e.size);
-      other = λ footer s. none footer (subst (λ (l : List ℕ). Spells l footer) (sym e.json) s);
+      other = λ footer s. none footer (subst (λ (l : List ℕ). Spells l (length (body_of file)) footer) (sym e.json) s);
       is = is;
     }))))

@@ -4,11 +4,11 @@ use Rattle.std.specs.Fmt.{decimal}
 use Rattle.serde_json.specs.Data.{Data}
 use Rattle.tv_model.specs.FooterForm.{FooterNumbers}
 use Rattle.tv_model.specs.FooterForm as form
-use Rattle.tv_model.specs.Footer.{four_bytes, footer_magic, stated}
+use Rattle.tv_model.specs.Footer.{body_of, four_bytes, footer_magic, stated}
 use Rattle.tv_model.specs.Footer as model
 use Rattle.tv_base.specs.declared.io.IoKind.TheVariants.{InvalidData, UnexpectedEof}
 use Rattle.tv_base.specs.declared.io.IoFault.{IoFault}
-use Rattle.tv_base.specs.declared.versions.Version.{Version}
+use Rattle.tv_base.specs.Versions.{library_version}
 use Rattle.tv_framing.specs.Faults.{IsFault}
 use Rattle.tv_framing.specs.declared.footer.Footer.{Footer}
 
@@ -22,21 +22,19 @@ numbers_of footer = record {
   crc = footer.crc;
 }
 
--- the tree is an object that has the fields of the footer, whatever else it has
-abbrev pub IsFooter : Data → Footer → Type 0
-IsFooter d footer = form.IsFooter d (numbers_of footer)
+-- The tree is an object that has the fields of the footer of a body of this length, whatever else it has. The
+-- formats that are read so far don't look at the length.
+abbrev pub IsFooter : Data → (length : ℕ) → Footer → Type 0
+IsFooter d length footer = form.IsFooter d length (numbers_of footer)
 
--- the JSON text spells the footer
-abbrev pub Spells : List ℕ → Footer → Type 0
-Spells json footer = form.Spells json (numbers_of footer)
-
--- the version of this library, and its footer of this checksum
-abbrev pub own_version : Version
-own_version = record { major = 0; minor = 26; patch = 2; index_format_version = 7 }
+-- The JSON text spells the footer of a body of this length. The formats that are read so far don't look at the
+-- length.
+abbrev pub Spells : List ℕ → (length : ℕ) → Footer → Type 0
+Spells json length footer = form.Spells json length (numbers_of footer)
 
 -- the footer that this library writes for a body of this checksum
 abbrev pub own_footer : ℕ → Footer
-own_footer crc = record { version = own_version; crc = crc }
+own_footer crc = record { version = library_version; crc = crc }
 
 -- the numbers of a footer fit 32 bits
 abbrev pub FooterFits : Footer → Type 0
@@ -84,12 +82,13 @@ pub record IsCutOff (bytes : List ℕ) (fault : IoFault) : Type 0 where
   pub cut : length bytes < stated bytes + 8
   pub is : IsFault UnexpectedEof (codes "File corrupted. The file is smaller than it's footer bytes (len=" ++ (decimal (stated bytes + 8) ++ codes ").")) fault
 
--- A file is refused whose footer isn't spelled as JSON of the footer's form.
+-- A file is refused whose footer isn't spelled as JSON of the footer's form, for a body of the length of the
+-- one before it. The formats that are read so far don't look at the length.
 pub record IsNoFooter (bytes : List ℕ) (fault : IoFault) : Type 0 where
   pub magic : last_four bytes ≡ four_bytes footer_magic
   pub short : stated bytes ≤ 50000
   pub whole : stated bytes + 8 ≤ length bytes
-  pub other : (footer : Footer) → Spells (stated_json bytes) footer → ⊥
+  pub other : (footer : Footer) → Spells (stated_json bytes) (length (body_of bytes)) footer → ⊥
   pub is : IsFault InvalidData (codes "Footer is not of the stated form.") fault
 
 -- Why a file isn't read as one with a footer: the first of five reasons that holds, each with its fault.

@@ -1,10 +1,11 @@
 //! The footer of a file.
 ghost use Rattle.std.specs.Prelude.{◌≡◌, ◌≤◌, ℕ, false, IfOk, IfErr, MatchResult, OnOk, length, take};
 ghost use Rattle.tv_model.specs.Footer.{IsOtherFormat, IsReadFormat, footer};
+ghost use Rattle.tv_base.specs.Versions.{library_version};
 ghost use Rattle.tv_base.specs.Writers.{TakesAll, WriteFaults};
 ghost use Rattle.tv_framing.specs.Faults.{OfFault};
 ghost use Rattle.tv_framing.specs.declared.footer.Footer.{Footer};
-ghost use Rattle.tv_framing.specs.Footers.{IsFramed, IsNotFramed, Refuses, footer_text, own_footer, own_version};
+ghost use Rattle.tv_framing.specs.Footers.{IsFramed, IsNotFramed, Refuses, footer_text, own_footer};
 ghost use Rattle.tv_framing.specs.Sealing.{Steps};
 
 use crate::faults::refusal;
@@ -89,7 +90,7 @@ impl Footer {
     pub fn is_compatible(&self) -> Result<(), Incompatibility>
         ensures ok { OnOk result (IsReadFormat self.now.version.index_format_version) }
         ensures err { IfErr result (λ e.
-            e ≡ Incompatibility.IndexMismatch own_version self.now.version) }
+            e ≡ Incompatibility.IndexMismatch library_version self.now.version) }
         ensures outside { IfErr result (λ _. IsOtherFormat self.now.version.index_format_version) }
     {
         let format = self.version.index_format_version;

@@ -1,5 +1,5 @@
 //! The JSON of a footer.
-ghost use Rattle.std.specs.Prelude.{◌≡◌, IfOk, MatchOption};
+ghost use Rattle.std.specs.Prelude.{◌≡◌, ℕ, IfOk, MatchOption};
 ghost use Rattle.serde_json.specs.View.{view};
 ghost use Rattle.tv_model.specs.FooterForm.{u32_at};
 ghost use Rattle.tv_framing.specs.declared.footer.Footer.{Footer};
@@ -11,10 +11,12 @@ use serde_json::Value;
 use std::alloc::Global;
 use tv_base::{Memory, Version};
 
-/// The footer that the bytes spell, and nothing for all other bytes.
+/// The footer that the bytes spell, whatever the length of the body is, and nothing for all other
+/// bytes.
 pub(crate) fn read_footer(alloc: Global, bytes: &[u8]) -> Result<Option<Footer>, Memory>
     ensures { IfOk result (λ found. MatchOption found
-        ((footer : Footer) → Spells bytes.now footer → ⊥) (Spells bytes.now)) }
+        ((footer : Footer) (length : ℕ) → Spells bytes.now length footer → ⊥)
+        (λ footer. (length : ℕ) → Spells bytes.now length footer)) }
 {
     match Value::from_slice(alloc, bytes) {
         Ok(tree) => Ok(footer_of(&tree)),
@@ -28,10 +30,11 @@ pub(crate) fn read_footer(alloc: Global, bytes: &[u8]) -> Result<Option<Footer>,
     }
 }
 
-// The footer that a tree holds, if it has its fields.
+// The footer that a tree holds, whatever the length of the body is, if it has its fields.
 fn footer_of(tree: &Value) -> Option<Footer>
-    ensures { MatchOption result ((footer : Footer) → IsFooter (view tree.now) footer → ⊥)
-        (IsFooter (view tree.now)) }
+    ensures { MatchOption result
+        ((footer : Footer) (length : ℕ) → IsFooter (view tree.now) length footer → ⊥)
+        (λ footer. (length : ℕ) → IsFooter (view tree.now) length footer) }
 {
     Some(Footer {
         version: version_of(tree.get("version")?)?,

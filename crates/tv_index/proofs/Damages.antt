@@ -1,6 +1,6 @@
 -- The damaged files among some, one file further.
 use Rattle.std.proofs.Common.{◌≡◌, ◌⊎◌, inl, inr, ℕ, suc, zero, ◌<◌, ◌&&◌, ◌||◌, Bool, true, false, true≢false, cond, not, List, [], ◌∷◌, ◌++◌, length, take, get_or, Some, None, Result, Ok, Err, refl, sym, ap, subst, ◌∙◌, arith, map, string_bytes, String, Global}
-use Rattle.std.specs.Prelude.{IsErrAnd, OnOk}
+use Rattle.std.specs.Prelude.{IfOk, IsErr, IsErrAnd, OnOk}
 use Rattle.std.specs.BTreeSet.{insert_key}
 use Rattle.std.specs.List.{filter}
 use Rattle.std.proofs.lemmas.Bool.{or_parts}
@@ -25,7 +25,7 @@ use Rattle.tv_model.proofs.TextSets.{texts_inserted}
 use Rattle.tv_index.specs.Checksums.{AreDamaged, TellsFile, UnreadCause, UnreadFaults, UnreadFile, ValidateCause, ValidateFaults, looked_at}
 use Rattle.tv_index.specs.Indexes.{MeansSuch}
 use Rattle.tv_index.specs.Metas.{commit_of, settings_of}
-use Rattle.tv_index.specs.Standing.{LoadsMeta}
+use Rattle.tv_index.specs.Standing.{LoadsMeta, MetaCause}
 use Rattle.tv_index.specs.declared.index_meta.UntrackedIndexMeta.{UntrackedIndexMeta}
 
 -- ---- names
@@ -141,6 +141,11 @@ damaged_before old mid names damaged same h = record {
   others = λ n e none. tells_before old mid n true same (h.others n e none);
 }
 
+-- an error tells nothing of what is answered at Ok
+pub untold : {A E : Type 0} (result : Result A E) (P : A → Type 0) → IsErr result → IfOk result P
+untold (Ok a) P failed = absurd cc
+untold (Err e) P failed = tt
+
 pub unread_faults : {A D W C : Type 0} (g : Ghosts D W C) (old new : D) (names : List (List ℕ)) (result : Result A TantivyError) (error : TantivyError) → IsErrAnd result (λ e. e ≡ error)
     → UnreadCause g old new names error → UnreadFaults g old new names result
 unread_faults g old new names (Ok a) error h cause = absurd h
@@ -203,6 +208,16 @@ module _ {D W C : Type 0} (g : Ghosts D W C) (directory : D × ManagedNames) (sc
       cause (errors.OpenReadError why) k = inr (record { settings = settings_of meta; commit = commit_of meta; means = means; file = file_before why k })
       cause errors.Memory k = k ∙ still
       cause other k = absurd k
+
+-- `meta.json` wasn't read, or memory was wanted
+pub validate_fails : {A D W C : Type 0} (g : Ghosts D W C) (directory : D × ManagedNames) (new : D) (schema : List ℕ) (result : Result A TantivyError) (error : TantivyError) → IsErrAnd result (λ e. e ≡ error)
+    → MetaCause g.told.content (Some schema) ((g.view directory.0).reads meta_name) (Rose (g.view directory.0).faults (g.view new).faults) ((g.view new).faults ≡ (g.view directory.0).faults) error → ValidateFaults g directory new schema result
+validate_fails g directory new schema (Ok a) error h cause = absurd h
+validate_fails g directory new schema (Err e) error h cause = record { quiet = tt; cause = subst (ValidateCause g directory new schema _ _) (sym h) (unloaded error cause) } where
+  unloaded : (why : TantivyError) → MetaCause g.told.content (Some schema) ((g.view directory.0).reads meta_name) (Rose (g.view directory.0).faults (g.view new).faults) ((g.view new).faults ≡ (g.view directory.0).faults) why
+      → ValidateCause g directory new schema (Rose (g.view directory.0).faults (g.view new).faults) ((g.view new).faults ≡ (g.view directory.0).faults) why
+  unloaded (errors.OpenReadError why) k = inl k
+  unloaded other k = k
 
 -- ---- the names that are looked at
 

@@ -7,14 +7,14 @@ use Rattle.tv_directory.specs.View.{OnlyReads}
 use Rattle.tv_directory.specs.Watch.{noted}
 use Rattle.tv_directory.specs.declared.directory.Directory.{Ghosts}
 use Rattle.tv_model.specs.Commits.{IndexForm}
-use Rattle.tv_model.specs.Listing.{Lists}
-use Rattle.tv_model.specs.Names.{list_name, meta_name}
+use Rattle.tv_model.specs.Names.{meta_name}
 use Rattle.tv_index.specs.Building.{Builder, LacksSchema}
 use Rattle.tv_index.specs.Folders.{IsUnmade, Makes, UnmadeCause}
 use Rattle.tv_index.specs.Indexes.{CreatesIndex, IndexState, NotCreated}
 use Rattle.tv_index.specs.NewForms.{form_with, new_text}
 use Rattle.tv_index.specs.SavingLaws.{notes_later}
 use Rattle.tv_index.specs.declared.index_settings.IndexSettings.{IndexSettings}
+use Rattle.tv_index.proofs.Listings.{listing_before}
 use Rattle.tv_index.proofs.Openings.{refusal_later, unless_later}
 
 module _ {D W C : Type 0} (g : Ghosts D W C) (before mid : D) (asked : OnlyReads g.told (g.view before) (g.view mid)) (still : (g.view mid).faults ≡ (g.view before).faults) where
@@ -25,7 +25,7 @@ module _ {D W C : Type 0} (g : Ghosts D W C) (before mid : D) (asked : OnlyReads
     kept = h.kept;
     saved = h.saved;
     others = λ t n other list. h.others t n other list ∙ asked.content t n;
-    listed = λ t. let l = h.listed t in (l.0, subst (λ (read : Option (List ℕ)). Lists read l.0) (asked.content t list_name) l.1, l.2);
+    listed = λ t. let l = h.listed t in (l.0, listing_before (g.view before).reads (g.view mid).reads l.0 (asked.content t) l.1, l.2);
     lists = h.lists;
     collections = h.collections;
     quiet = h.quiet ∙ still;

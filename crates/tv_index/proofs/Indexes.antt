@@ -3,18 +3,22 @@ use Rattle.std.proofs.Common.{◌≡◌, ℕ, ◌≤◌, List, [], ◌∷◌, ma
 use Rattle.std.specs.Prelude.{All}
 use Rattle.std.specs.List.{AllByRecursion}
 use Rattle.std.proofs.lemmas.List.Elements.{All-from_recursion}
+use Rattle.tv_directory.specs.View.{View}
 use Rattle.tv_directory.specs.declared.directory.Directory.{Ghosts}
+use Rattle.tv_managed.specs.Frames.{KeepsNames}
 use Rattle.tv_managed.specs.Wrapping.{Wraps}
 use Rattle.tv_managed.specs.Names.{ManagedNames}
 use Rattle.tv_model.specs.Commits.{Commit, IsCommit, IsSegment, Settings}
 use Rattle.tv_model.specs.Meaning.{Means}
 use Rattle.tv_model.specs.Names.{meta_name}
 use Rattle.tv_model.specs.Segments.{num_deleted}
-use Rattle.tv_index.specs.Indexes.{MeansSuch}
+use Rattle.tv_index.specs.Indexes.{KeepsIndex, MeansSuch}
 use Rattle.tv_index.specs.Metas.{commit_of, settings_of}
 use Rattle.tv_index.specs.Segments.{entry_of}
 use Rattle.tv_index.specs.Standing.{LoadsMeta}
+use Rattle.tv_index.specs.Tracked.{Kept}
 use Rattle.tv_index.specs.declared.index_meta.UntrackedIndexMeta.{UntrackedIndexMeta}
+use Rattle.tv_index.specs.declared.index_settings.IndexSettings.{IndexSettings}
 use Rattle.tv_index.specs.declared.segment_meta.InnerSegmentMeta.{InnerSegmentMeta}
 
 -- ---- segments of a commit
@@ -61,3 +65,8 @@ module _ {D W C : Type 0} (g : Ghosts D W C) (before : D) (wrapped : D × Manage
     schema = h.schema;
     means = λ t. let m = h.means t in (m.0, sym (w.frame.content t meta_name) ∙ m.1, m.2);
   }
+
+-- an index keeps all else where its directory's names stay
+pub keeps_index : {D W : Type 0} {keeps : View W → View W → Type 0} {view : D → View W} {old now : D × ManagedNames} (settings : IndexSettings) (schema : List ℕ) (kept : Kept) → KeepsNames keeps view old now
+    → KeepsIndex keeps view (record { directory = old; settings = settings; schema = schema; kept = kept }) (record { directory = now; settings = settings; schema = schema; kept = kept })
+keeps_index settings schema kept h = record { form = record { directory = h; settings = refl; schema = refl }; kept = refl }

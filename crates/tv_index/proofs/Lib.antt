@@ -1,4 +1,5 @@
 pub mod Options
+pub mod Listings
 pub mod HandedOn
 pub mod BoundedTrees
 pub mod Inside
@@ -29,5 +30,6 @@ pub mod PlainFiles
 pub mod Named
 pub mod SavedSafely
 pub mod OpenedSafely
+pub mod Created
 pub mod Promised
 pub mod Openables

@@ -5,8 +5,9 @@ use Rattle.std.proofs.lemmas.Result.{on_err_weaker, on_ok_weaker}
 use Rattle.tv_directory.specs.declared.directory.Directory.{Ghosts}
 use Rattle.tv_managed.specs.Managed.{Covers, ManagesFile, registering}
 use Rattle.tv_managed.specs.Names.{ManagedNames}
-use Rattle.tv_model.specs.Listing.{IsOnList, Lists}
+use Rattle.tv_model.specs.Listing.{IsOnList, Listing}
 use Rattle.tv_model.specs.Names.{has, list_name, meta_name}
+use Rattle.tv_index.proofs.Listings.{listing_after}
 use Rattle.tv_index.proofs.Options.{no_some}
 
 -- ---- another answer
@@ -53,11 +54,13 @@ module _ {D W C : Type 0} (g : Ghosts D W C) (old mid now new : D × ManagedName
   names_or (inl h) = inl (names_after ∙ h ∙ names_before)
   names_or (inr h) = inr (names h)
 
-  lists_in : g.told.content → Lists ((g.view old.0).reads list_name) old.1.managed → Lists ((g.view mid.0).reads list_name) mid.1.managed
-  lists_in t h = subst (λ (ns : ManagedNames). Lists ((g.view mid.0).reads list_name) ns.managed) (sym names_before) (subst (λ (read : Option (List ℕ)). Lists read old.1.managed) (sym (reads_before t list_name)) h)
+  lists_in : g.told.content → Listing (g.view old.0).reads old.1.managed → Listing (g.view mid.0).reads mid.1.managed
+  lists_in t h =
+      subst (λ (ns : ManagedNames). Listing (g.view mid.0).reads ns.managed) (sym names_before) (listing_after (g.view old.0).reads (g.view mid.0).reads old.1.managed (reads_before t) h)
 
-  lists_out : g.told.content → Lists ((g.view now.0).reads list_name) now.1.managed → Lists ((g.view new.0).reads list_name) new.1.managed
-  lists_out t h = subst (λ (ns : ManagedNames). Lists ((g.view new.0).reads list_name) ns.managed) (sym names_after) (subst (λ (read : Option (List ℕ)). Lists read now.1.managed) (sym (reads_after t list_name)) h)
+  lists_out : g.told.content → Listing (g.view now.0).reads now.1.managed → Listing (g.view new.0).reads new.1.managed
+  lists_out t h =
+      subst (λ (ns : ManagedNames). Listing (g.view new.0).reads ns.managed) (sym names_after) (listing_after (g.view now.0).reads (g.view new.0).reads now.1.managed (reads_after t) h)
 
   covers_in : g.told.content → Covers ((g.view old.0).reads list_name) old.1 → Covers ((g.view mid.0).reads list_name) mid.1
   covers_in t h = subst (λ (ns : ManagedNames). Covers ((g.view mid.0).reads list_name) ns) (sym names_before) (subst (λ (read : Option (List ℕ)). Covers read old.1) (sym (reads_before t list_name)) h)

@@ -15,22 +15,22 @@ use Rattle.tv_directory.specs.Watch.{WatchState, MayNote}
 use Rattle.tv_directory.specs.declared.directory.Directory.{Ghosts}
 use Rattle.tv_managed.specs.Frames.{KeptButNotes}
 use Rattle.tv_managed.specs.Managed.{KeepsOtherFiles}
-use Rattle.tv_managed.specs.Wrapping.{ListsNothing, ListRefusal, NotWrapped, Wraps}
+use Rattle.tv_managed.specs.Wrapping.{ListRefusal, NotWrapped, Wraps}
 use Rattle.tv_managed.specs.declared.managed_directory.Refused.{Refused}
 use Rattle.tv_managed.specs.Names.{ManagedNames}
 use Rattle.tv_model.specs.Commits.{Commit, IndexForm, Settings, IsCommit, first_commit, new_form}
 use Rattle.tv_model.specs.Files.{Reads, Rose, Same}
 use Rattle.tv_model.specs.Index.{FindsCommit}
-use Rattle.tv_model.specs.Listing.{Lists}
 use Rattle.tv_model.specs.Meaning.{Means, MeansNothing, MeansOther}
-use Rattle.tv_model.specs.Names.{list_name, meta_name}
+use Rattle.tv_model.specs.Names.{meta_name}
 use Rattle.tv_model.proofs.SpelledCommits.{spells_commit}
 use Rattle.tv_index.specs.Metas.{commit_of, settings_of}
 use Rattle.tv_index.specs.NewForms.{FindsOrMakes, IsFirst, LeavesUnmade, NotLoaded, NotOpenedForm, OpensForm, new_text}
-use Rattle.tv_index.specs.Opening.{FrameNotesRefused, HasCommit, IsRefusedBytes, ListsSome, LoadCause, Loads, NotOpened, OfBytes, OpenCause, OpensIndex, TellsMeta}
+use Rattle.tv_index.specs.Opening.{FrameNotesRefused, HasCommit, HasList, IsRefusedBytes, LoadCause, Loads, NotOpened, OfBytes, OpenCause, OpensIndex, TellsMeta}
 use Rattle.tv_index.specs.Saving.{FrameNotesUnless, IsUnrefused, LeavesText}
 use Rattle.tv_index.specs.SavingLaws.{notes_later}
 use Rattle.tv_index.specs.declared.index_meta.UntrackedIndexMeta.{UntrackedIndexMeta}
+use Rattle.tv_index.proofs.Listings.{listing_after, listing_before}
 use Rattle.tv_index.proofs.Options.{no_some}
 
 -- ---- commits
@@ -177,14 +177,14 @@ later_unmade old mid new text same h = record {
 module _ {D W C : Type 0} (g : Ghosts D W C) (before mid : D) (synced : OnlyReads g.told (g.view before) (g.view mid)) (still : (g.view mid).faults ≡ (g.view before).faults) where
   pub wraps_later : (wrapped : D × ManagedNames) → Wraps g mid wrapped → Wraps g before wrapped
   wraps_later wrapped w = record {
-    names = λ t. subst (λ (read : Option (List ℕ)). Lists read wrapped.1.managed) (synced.content t list_name) (w.names t);
+    names = λ t. listing_before (g.view before).reads (g.view mid).reads wrapped.1.managed (synced.content t) (w.names t);
     collections = w.collections;
     quiet = w.quiet ∙ still;
     frame = reads_then synced w.frame;
   }
 
   pub refusal_later : (now : D) (error : TantivyError) → ListRefusal g.told (g.view mid) (g.view now) error → ListRefusal g.told (g.view before) (g.view now) error
-  refusal_later now (errors.DataCorruption why) k = (k.0, (λ t. subst ListsNothing (synced.content t list_name) (k.1.0 t), k.1.1 ∙ still))
+  refusal_later now (errors.DataCorruption why) k = (k.0, (λ t names list. k.1.0 t names (listing_after (g.view before).reads (g.view mid).reads names (synced.content t) list), k.1.1 ∙ still))
   refusal_later now (errors.IoError fault) k = (k.0, subst (λ (n : ℕ). Rose n (g.view now).faults) still k.1)
   refusal_later now errors.Memory k = k ∙ still
   refusal_later now other k = absurd k
@@ -214,17 +214,17 @@ module _ {D W C : Type 0} (g : Ghosts D W C) (before : D) (form : IndexForm) whe
   wrap_fails result refused h none = failed_as result refused (λ r. NotOpenedForm g before form r.directory r.error) h (not_wrapped refused.directory refused.error none)
 
   module _ (wrapped : D × ManagedNames) (w : Wraps g before wrapped) where
-    lists_some : g.told.content → ListsSome ((g.view before).reads list_name)
-    lists_some t = (wrapped.1.managed, w.names t)
+    has_list : g.told.content → HasList (g.view before).reads
+    has_list t = (wrapped.1.managed, w.names t)
 
     -- and why `meta.json` isn't
     pub loaded_cause : (now : D) (error : TantivyError)
         → LoadCause g.told.content form.schema ((g.view wrapped.0).reads meta_name) (Rose (g.view wrapped.0).faults (g.view now).faults) ((g.view now).faults ≡ (g.view wrapped.0).faults) error
         → OpenCause g.told.content form.schema (g.view before).reads (Rose (g.view before).faults (g.view now).faults) ((g.view now).faults ≡ (g.view before).faults) error
     loaded_cause now (errors.DataCorruption why) k =
-        inr (lists_some, (k.0 ∙ w.quiet, k.1, λ t. subst (OfBytes MeansNothing) (w.frame.content t meta_name) (k.2 t)))
+        inr (has_list, (k.0 ∙ w.quiet, k.1, λ t. subst (OfBytes MeansNothing) (w.frame.content t meta_name) (k.2 t)))
     loaded_cause now (errors.SchemaError text) k =
-        (lists_some, (k.0 ∙ w.quiet, k.1, λ t. subst (OfBytes (MeansOther form.schema)) (w.frame.content t meta_name) (k.2 t)))
+        (has_list, (k.0 ∙ w.quiet, k.1, λ t. subst (OfBytes (MeansOther form.schema)) (w.frame.content t meta_name) (k.2 t)))
     loaded_cause now (errors.IoError fault) k = (k.0, subst (λ (n : ℕ). Rose n (g.view now).faults) w.quiet k.1)
     loaded_cause now errors.Memory k = k ∙ w.quiet
     loaded_cause now other k = absurd k

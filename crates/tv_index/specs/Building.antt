@@ -9,11 +9,11 @@ use Rattle.tv_managed.specs.declared.managed_directory.Refused.{Refused}
 use Rattle.tv_model.specs.Commits.{Commit, Settings}
 use Rattle.tv_model.specs.Files.{Reads, Rose}
 use Rattle.tv_model.specs.Meaning.{Means}
-use Rattle.tv_model.specs.Names.{list_name, meta_name}
+use Rattle.tv_model.specs.Names.{meta_name}
 use Rattle.tv_index.specs.Crashes.{MakesSafely, OnlyLooks}
 use Rattle.tv_index.specs.Indexes.{IndexState, StandingCause}
 use Rattle.tv_index.specs.NewForms.{form_with, new_text}
-use Rattle.tv_index.specs.Opening.{ListsSome}
+use Rattle.tv_index.specs.Opening.{HasList}
 use Rattle.tv_index.specs.declared.index_settings.IndexSettings.{IndexSettings}
 
 -- the settings of a new index, and the text of the schema that was passed, if one was
@@ -40,7 +40,7 @@ pub record LacksSchema {D : Type 0} (before now : D) (error : TantivyError) : Ty
 
 -- an index stands there: the list is one of some names, and `meta.json` means a commit, of whatever schema
 pub record IsIndex (reads : Reads) : Type 0 where
-  pub lists : ListsSome (reads list_name)
+  pub lists : HasList reads
   pub settings : Settings
   pub schema : List ℕ
   pub commit : Commit
@@ -49,7 +49,7 @@ pub record IsIndex (reads : Reads) : Type 0 where
 -- Why nothing is opened without a schema: none was passed, and no index stands there; or an index stands there; or, as of any index that stands, it can't be opened.
 abbrev pub SchemalessCause : (tells : Type 0) → Reads → (refused quiet : Type 0) → TantivyError → Type 0
 SchemalessCause tells reads refused quiet (errors.InvalidArgument text) =
-    quiet × (string_bytes text ≡ codes "no schema passed") × (tells → ListsSome (reads list_name) × (reads meta_name ≡ None))
+    quiet × (string_bytes text ≡ codes "no schema passed") × (tells → HasList reads × (reads meta_name ≡ None))
 SchemalessCause tells reads refused quiet (errors.IndexBuilderMissingArgument text) = quiet × (string_bytes text ≡ codes "schema") × (tells → IsIndex reads)
 SchemalessCause tells reads refused quiet (errors.OpenReadError why) = ⊥
 SchemalessCause tells reads refused quiet other = StandingCause tells reads refused quiet other

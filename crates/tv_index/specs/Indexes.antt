@@ -14,16 +14,16 @@ use Rattle.tv_managed.specs.Frames.{KeepsNames}
 use Rattle.tv_managed.specs.Managed.{KeepsOtherFiles}
 use Rattle.tv_managed.specs.Names.{ManagedNames}
 use Rattle.tv_managed.specs.Reading.{ReadsSuch}
-use Rattle.tv_managed.specs.Wrapping.{ListCause, ListRefusal, ListsNothing}
+use Rattle.tv_managed.specs.Wrapping.{ListCause, ListRefusal}
 use Rattle.tv_model.specs.Collections.{no_collections}
 use Rattle.tv_model.specs.Commits.{Commit, IndexForm, Settings}
 use Rattle.tv_model.specs.Files.{Reads, Rose, Same}
-use Rattle.tv_model.specs.Listing.{Lists}
+use Rattle.tv_model.specs.Listing.{IsListFile, Listing}
 use Rattle.tv_model.specs.Meaning.{Means}
-use Rattle.tv_model.specs.Names.{byte_cmp, list_name, meta_name}
+use Rattle.tv_model.specs.Names.{byte_cmp, meta_name}
 use Rattle.tv_model.specs.SegmentEvents.{is_named}
 use Rattle.tv_index.specs.NewForms.{OpensForm, form_with, new_text}
-use Rattle.tv_index.specs.Opening.{IsRefusedBytes, ListsSome}
+use Rattle.tv_index.specs.Opening.{HasList, HasNoList, IsRefusedBytes}
 use Rattle.tv_index.specs.Saving.{FrameNotes, FrameNotesUnless, IsUnrefused}
 use Rattle.tv_index.specs.Standing.{LoadsMeta, MetaCause}
 use Rattle.tv_index.specs.Tracked.{Kept, Share, TrackAll, has_id}
@@ -50,7 +50,7 @@ pub record OpensStanding {D W C : Type 0} (g : Ghosts D W C) (before : D) (index
   pub meta : UntrackedIndexMeta
   pub loads : LoadsMeta g before None meta
   pub shows : Shows meta index
-  pub lists : g.told.content → Lists ((g.view before).reads list_name) index.directory.1.managed
+  pub lists : g.told.content → Listing (g.view before).reads index.directory.1.managed
   pub collections : index.directory.1.collections ≡ no_collections
   pub quiet : (g.view index.directory.0).faults ≡ (g.view before).faults
   pub frame : OnlyReads g.told (g.view before) (g.view index.directory.0)
@@ -59,10 +59,11 @@ pub record OpensStanding {D W C : Type 0} (g : Ghosts D W C) (before : D) (index
 -- may refuse a call, and memory may be wanted, at any time.
 abbrev pub StandingCause : (tells : Type 0) → Reads → (refused quiet : Type 0) → TantivyError → Type 0
 StandingCause tells reads refused quiet (errors.DataCorruption why) =
-    ListCause ((tells → ListsNothing (reads list_name)) × quiet) refused quiet (errors.DataCorruption why)
-    ⊎ ((tells → ListsSome (reads list_name)) × MetaCause tells None (reads meta_name) refused quiet (errors.DataCorruption why))
+    ListCause ((tells → HasNoList reads) × quiet) refused quiet (errors.DataCorruption why)
+    ⊎ ((tells → HasList reads)
+    × MetaCause tells None (reads meta_name) refused quiet (errors.DataCorruption why))
 StandingCause tells reads refused quiet (errors.OpenReadError why) =
-    (tells → ListsSome (reads list_name)) × MetaCause tells None (reads meta_name) refused quiet (errors.OpenReadError why)
+    (tells → HasList reads) × MetaCause tells None (reads meta_name) refused quiet (errors.OpenReadError why)
 StandingCause tells reads refused quiet (errors.IoError fault) = IsDevice fault × refused
 StandingCause tells reads refused quiet errors.Memory = quiet
 StandingCause tells reads refused quiet other = ⊥
@@ -86,8 +87,9 @@ pub record CreatesIndex {D W C : Type 0} (g : Ghosts D W C) (before : D) (settin
   pub kept : index.kept ≡ []
   pub saved : g.told.content → (g.view index.directory.0).reads meta_name ≡ Some (new_text (form_with settings schema))
   pub others : g.told.content → KeepsOtherFiles (g.view before).reads (g.view index.directory.0).reads meta_name
-  pub listed : g.told.content → (names : List (List ℕ)) × Lists ((g.view before).reads list_name) names × (index.directory.1.managed ≡ insert_key byte_cmp names meta_name)
-  pub lists : g.told.content → Lists ((g.view index.directory.0).reads list_name) index.directory.1.managed
+  pub listed : g.told.content → (names : List (List ℕ)) × Listing (g.view before).reads names
+      × (index.directory.1.managed ≡ insert_key byte_cmp names meta_name)
+  pub lists : g.told.content → Listing (g.view index.directory.0).reads index.directory.1.managed
   pub collections : index.directory.1.collections ≡ no_collections
   pub quiet : (g.view index.directory.0).faults ≡ (g.view before).faults
   pub notes : (g.view index.directory.0).watched ≡ noted meta_name (g.view before).watched
@@ -102,8 +104,8 @@ pub record IsNewInRam {C : Type 0} (settings : IndexSettings) (schema : List ℕ
   pub managed : index.directory.1.managed ≡ meta_name ∷ []
   pub collections : index.directory.1.collections ≡ no_collections
   pub saved : ram_reads index.directory.0 meta_name ≡ Some (new_text (form_with settings schema))
-  pub lists : Lists (ram_reads index.directory.0 list_name) index.directory.1.managed
-  pub others : (n : List ℕ) → n ≢ meta_name → n ≢ list_name → ram_reads index.directory.0 n ≡ None
+  pub lists : Listing (ram_reads index.directory.0) index.directory.1.managed
+  pub others : (n : List ℕ) → n ≢ meta_name → (IsListFile n → ⊥) → ram_reads index.directory.0 n ≡ None
 
 -- It doesn't stand, and the directory comes back. `meta.json` has the text of the first commit, or what it had; after want of memory what it had. Where the list was
 -- refused, nothing was changed. A notice may have come where the device refused a call.

@@ -1,10 +1,11 @@
 -- What the laws speak of: bytes that are no commit, and commits that are read back.
-use Rattle.std.specs.Prelude.{◌≡◌, ◌≢◌, ◌<◌, ℕ, List, codes, Some, option_map, string_bytes}
+use Rattle.std.specs.Prelude.{◌≡◌, ◌≢◌, ◌⊎◌, ◌<◌, ℕ, List, codes, Some, option_map, string_bytes}
 use Rattle.serde_json.specs.Data.{Data, string}
 use Rattle.serde_json.specs.Find.{at, get}
 use Rattle.serde_json.specs.Read.{read}
 use Rattle.tv_base.specs.declared.error.TantivyError.{TantivyError}
 use Rattle.tv_base.specs.declared.error.TantivyError.TheVariants as errors
+use Rattle.tv_model.specs.Disk.{Disk, DiskState, Possible, possible_now}
 use Rattle.tv_model.specs.JsonFields.{field, u32_of}
 use Rattle.tv_model.specs.Names.{meta_name}
 use Rattle.tv_index.specs.Metas.{commit_of, settings_of}
@@ -48,3 +49,8 @@ pub record ReadsBack (meta other : UntrackedIndexMeta) : Type 0 where
   pub settings : settings_of other ≡ settings_of meta
   pub schema : other.schema ≡ meta.schema
   pub commit : commit_of other ≡ commit_of meta
+
+-- `meta.json` has no possible state but those that it had, and the one in which it stood
+abbrev pub HoldsNoOtherMeta : Disk → Possible → Type 0
+HoldsNoOtherMeta old possible =
+    (s : DiskState) → possible meta_name s → possible_now old meta_name s ⊎ (s ≡ old.now meta_name)

@@ -8,9 +8,9 @@ use Rattle.tv_model.specs.Collections.{no_collections}
 use Rattle.tv_model.specs.Commits.{Commit, IndexForm, Settings, first_commit, printed}
 use Rattle.tv_model.specs.Files.{Reads, Rose, Same}
 use Rattle.tv_model.specs.Index.{managed_with}
-use Rattle.tv_model.specs.Listing.{Lists}
+use Rattle.tv_model.specs.Listing.{Listing}
 use Rattle.tv_model.specs.Meaning.{Means}
-use Rattle.tv_model.specs.Names.{list_name, meta_name}
+use Rattle.tv_model.specs.Names.{meta_name}
 use Rattle.tv_index.specs.Metas.{commit_of, settings_of}
 use Rattle.tv_index.specs.Opening.{FrameNotesFirst, FrameNotesRefused, HasCommit, IsRefusedBytes, LoadCause, NotesMade, OpenCause, form_of}
 use Rattle.tv_index.specs.Settings.{settings_view}
@@ -34,7 +34,7 @@ FindsOrMakes form (Some text) settings commit = Means settings form.schema text 
 -- the list, the settings and the commit with which an index opens that reads so, or is made, and its managed names then
 pub record FindsAmong (reads : Reads) (made form : IndexForm) (commit : Commit) (managed : List (List ℕ)) : Type 0 where
   pub listed : List (List ℕ)
-  pub listing : Lists (reads list_name) listed
+  pub listing : Listing reads listed
   pub found : FindsOrMakes made (reads meta_name) form.settings commit
   pub managed_is : managed ≡ managed_with (reads meta_name) listed
 
@@ -56,7 +56,7 @@ pub record OpensForm {D W C : Type 0} (g : Ghosts D W C) (before : D) (form : In
   pub has : HasCommit form.schema meta
   pub finds : g.told.content → FindsAmong (g.view before).reads form (form_of meta) (commit_of meta) now.1.managed
   pub left : g.told.content → LeavesMade (g.view before).reads (g.view now.0).reads (new_text form)
-  pub lists : g.told.content → Lists ((g.view now.0).reads list_name) now.1.managed
+  pub lists : g.told.content → Listing (g.view now.0).reads now.1.managed
   pub collections : now.1.collections ≡ no_collections
   pub quiet : (g.view now.0).faults ≡ (g.view before).faults
   pub notes : NotesMade g.told (g.view before) (g.view now.0)
@@ -83,7 +83,8 @@ pub record LoadsOrCreates {D W C : Type 0} (g : Ghosts D W C) (old new : D × Ma
   pub managed : g.told.content → new.1.managed ≡ managed_with ((g.view old.0).reads meta_name) old.1.managed
   pub collections : new.1.collections ≡ old.1.collections
   pub left : g.told.content → LeavesMade (g.view old.0).reads (g.view new.0).reads (new_text form)
-  pub lists : g.told.content → Lists ((g.view old.0).reads list_name) old.1.managed → Lists ((g.view new.0).reads list_name) new.1.managed
+  pub lists : g.told.content → Listing (g.view old.0).reads old.1.managed
+      → Listing (g.view new.0).reads new.1.managed
   pub quiet : (g.view new.0).faults ≡ (g.view old.0).faults
   pub notes : NotesMade g.told (g.view old.0) (g.view new.0)
   pub frame : FrameNotesFirst g.told (g.view old.0) (g.view new.0)

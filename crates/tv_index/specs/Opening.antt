@@ -8,12 +8,11 @@ use Rattle.tv_directory.specs.Watch.{noted}
 use Rattle.tv_directory.specs.declared.directory.Directory.{Ghosts}
 use Rattle.tv_managed.specs.Managed.{KeepsOtherFiles}
 use Rattle.tv_managed.specs.Names.{ManagedNames}
-use Rattle.tv_managed.specs.Wrapping.{ListsNothing}
 use Rattle.tv_model.specs.Collections.{no_collections}
 use Rattle.tv_model.specs.Commits.{Commit, IndexForm, IsCommit, default_settings, first_commit, printed}
 use Rattle.tv_model.specs.Files.{Reads, Rose, Same}
 use Rattle.tv_model.specs.Index.{FindsCommit, managed_with}
-use Rattle.tv_model.specs.Listing.{Lists}
+use Rattle.tv_model.specs.Listing.{Listing}
 use Rattle.tv_model.specs.Meaning.{Means, MeansOther, MeansNothing}
 use Rattle.tv_model.specs.Names.{list_name, meta_name}
 use Rattle.tv_index.specs.Metas.{commit_of, settings_of}
@@ -65,18 +64,23 @@ abbrev pub NoneIfAbsent : TantivyError → Result (Option UntrackedIndexMeta) Ta
 NoneIfAbsent (errors.OpenReadError why) result = result ≡ Ok None
 NoneIfAbsent error result = result ≡ Err error
 
--- the list is one of some names
-abbrev pub ListsSome : Option (List ℕ) → Type 0
-ListsSome read = (names : List (List ℕ)) × Lists read names
+-- the list that reads is one of some names
+abbrev pub HasList : Reads → Type 0
+HasList reads = (names : List (List ℕ)) × Listing reads names
+
+-- what reads as the list is none, not even an empty one
+abbrev pub HasNoList : Reads → Type 0
+HasNoList reads = (names : List (List ℕ)) → Listing reads names → ⊥
 
 -- Why an index isn't opened, in this order: its list is no list; its `meta.json` means no commit, or one of another schema. Each is so, and none before it. A device
 -- may refuse a call, and memory may be wanted, at any time.
 abbrev pub OpenCause : (tells : Type 0) → (schema : List ℕ) → Reads → (refused quiet : Type 0) → TantivyError → Type 0
 OpenCause tells schema reads refused quiet (errors.DataCorruption why) =
-    (quiet × (option_map string_bytes why.filepath ≡ Some list_name) × (tells → ListsNothing (reads list_name)))
-    ⊎ ((tells → ListsSome (reads list_name)) × LoadCause tells schema (reads meta_name) refused quiet (errors.DataCorruption why))
+    (quiet × (option_map string_bytes why.filepath ≡ Some list_name) × (tells → HasNoList reads))
+    ⊎ ((tells → HasList reads)
+    × LoadCause tells schema (reads meta_name) refused quiet (errors.DataCorruption why))
 OpenCause tells schema reads refused quiet (errors.SchemaError text) =
-    (tells → ListsSome (reads list_name)) × LoadCause tells schema (reads meta_name) refused quiet (errors.SchemaError text)
+    (tells → HasList reads) × LoadCause tells schema (reads meta_name) refused quiet (errors.SchemaError text)
 OpenCause tells schema reads refused quiet (errors.IoError fault) = IsDevice fault × refused
 OpenCause tells schema reads refused quiet errors.Memory = quiet
 OpenCause tells schema reads refused quiet other = ⊥
@@ -84,7 +88,7 @@ OpenCause tells schema reads refused quiet other = ⊥
 -- the list, the settings and the commit with which an index opens that reads so, and its managed names then
 pub record Finds (reads : Reads) (form : IndexForm) (commit : Commit) (managed : List (List ℕ)) : Type 0 where
   pub listed : List (List ℕ)
-  pub listing : Lists (reads list_name) listed
+  pub listing : Listing reads listed
   pub found : FindsCommit form.schema (reads meta_name) form.settings commit
   pub managed_is : managed ≡ managed_with (reads meta_name) listed
 
@@ -120,7 +124,7 @@ pub record OpensIndex {D W C : Type 0} (g : Ghosts D W C) (before : D) (schema :
   pub has : HasCommit schema meta
   pub finds : g.told.content → Finds (g.view before).reads (form_of meta) (commit_of meta) now.1.managed
   pub left : g.told.content → LeavesFound (g.view before).reads (g.view now.0).reads schema
-  pub lists : g.told.content → Lists ((g.view now.0).reads list_name) now.1.managed
+  pub lists : g.told.content → Listing (g.view now.0).reads now.1.managed
   pub collections : now.1.collections ≡ no_collections
   pub quiet : (g.view now.0).faults ≡ (g.view before).faults
   pub notes : NotesMade g.told (g.view before) (g.view now.0)

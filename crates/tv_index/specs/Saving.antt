@@ -11,9 +11,9 @@ use Rattle.tv_directory.specs.declared.directory.Directory.{Ghosts}
 use Rattle.tv_managed.specs.Names.{ManagedNames}
 use Rattle.tv_model.specs.Commits.{Commit, Settings, printed}
 use Rattle.tv_model.specs.Files.{Rose}
-use Rattle.tv_model.specs.Listing.{Lists}
+use Rattle.tv_model.specs.Listing.{Listing}
 use Rattle.tv_model.specs.Meaning.{Means}
-use Rattle.tv_model.specs.Names.{byte_cmp, list_name, meta_name}
+use Rattle.tv_model.specs.Names.{byte_cmp, meta_name}
 
 -- Nothing was told, no lock was taken or freed, and nobody was registered or called; a notice of a commit may stand.
 pub record FrameNotes {W : Type 0} (told : Told) (old new : View W) : Type 0 where
@@ -34,7 +34,8 @@ IsUnrefused other = Unit {0}
 pub record SavesMeta {D W C : Type 0} (g : Ghosts D W C) (old new : D × ManagedNames) (text : List ℕ) : Type 0 where
   pub names : new.1 ≡ record old.1 { managed = insert_key byte_cmp old.1.managed meta_name }
   pub saved : g.told.content → (g.view new.0).reads meta_name ≡ Some text
-  pub list : g.told.content → Lists ((g.view old.0).reads list_name) old.1.managed → Lists ((g.view new.0).reads list_name) new.1.managed
+  pub list : g.told.content → Listing (g.view old.0).reads old.1.managed
+      → Listing (g.view new.0).reads new.1.managed
   pub notes : (g.view new.0).watched ≡ noted meta_name (g.view old.0).watched
 
 -- After an error `meta.json` has this text, or what it had; after want of memory what it had.

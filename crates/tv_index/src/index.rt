@@ -106,7 +106,8 @@ impl<D: Directory> Index<D> {
 
     /// Opens the index that stands in a directory. Its schema is the one that `meta.json` spells,
     /// with the keys in the order of their bytes and without blanks. A refusal gives the directory
-    /// back. A crash within the call leaves what it might have left before.
+    /// back. A crash within the call leaves what it might have left before, and one behind an opening
+    /// that succeeded leaves each name as it stands.
     ///
     /// `DataCorruption` comes for the list of managed files; then `OpenReadError` with
     /// `FileDoesNotExist` where there is no `meta.json`, or `DataCorruption` where it means no
@@ -133,7 +134,8 @@ impl<D: Directory> Index<D> {
     /// managed files. A refusal gives the directory back.
     ///
     /// Where each file that a crash may leave is on the list, no crash within the call leaves one
-    /// that isn't, and the directory goes on so.
+    /// that isn't, and the directory goes on so. A crash behind a call that succeeded leaves each name
+    /// as it stands. Where memory was wanted, no crash within the call leaves a new `meta.json`.
     ///
     /// `DataCorruption` comes for the list of managed files.
     pub fn create(
@@ -162,7 +164,8 @@ impl<D: Directory> Index<D> {
     /// `meta.json`. A refusal gives the directory back. Where there is a `meta.json`, no notice of it
     /// comes, and a crash within the call leaves what it might have left before, or what stood then.
     /// Where each file that a crash may leave is on the list, no crash within the call leaves one that
-    /// isn't, and the directory goes on so.
+    /// isn't, and the directory goes on so. A crash behind an opening that succeeded leaves each name as
+    /// it stands. Where memory was wanted, no crash within the call leaves a new `meta.json`.
     ///
     /// `DataCorruption` comes for the list of managed files and for `meta.json`, `SchemaError`
     /// where `meta.json` has another schema.

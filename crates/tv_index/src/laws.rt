@@ -1,29 +1,32 @@
 //! Laws of an index: what a user relies on, of the calls that each makes.
 ghost use Rattle.std.specs.Prelude.{◌≡◌, ◌++◌, ◌↔◌, ℕ, List, Contains, None, Some, false};
-ghost use Rattle.std.specs.Prelude.{IfOk, IsErrAnd, IsSome, IsTrue, MatchResult, OnOk, codes};
+ghost use Rattle.std.specs.Prelude.{IfErr, IfOk, IsErrAnd, IsSome, IsTrue, MatchResult, OnOk, codes};
 ghost use Rattle.std.specs.Fmt.{decimal};
 ghost use Rattle.std.specs.Str.Iter.{HasSubslice};
 ghost use Rattle.hex.specs.Hex.{encode_lower};
 ghost use Rattle.serde_json.specs.Data.{Data};
 ghost use Rattle.tv_model.specs.declared.segment.LiveSegment.{LiveSegment};
+ghost use Rattle.tv_model.specs.Collections.{held};
 ghost use Rattle.tv_model.specs.Commits.{Commit, IsCommit, Settings};
+ghost use Rattle.tv_model.specs.Disk.{IsSettled, Throughout};
 ghost use Rattle.tv_model.specs.Files.{Same};
 ghost use Rattle.tv_model.specs.Meaning.{Means};
 ghost use Rattle.tv_model.specs.MetaJson.{SpellsMeta};
 ghost use Rattle.tv_model.specs.Names.{has, meta_name};
 ghost use Rattle.tv_model.specs.Schemas.{IsSchemaText};
-ghost use Rattle.tv_index.specs.Laws.{DeletesTooMany, NamesCompression, ReadsBack, SaysCorrupt};
+ghost use Rattle.tv_index.specs.Laws.{DeletesTooMany, HoldsNoOtherMeta, NamesCompression, ReadsBack, SaysCorrupt};
 ghost use Rattle.tv_index.specs.Metas.{commit_of};
 ghost use Rattle.tv_index.specs.Settings.{settings_view};
 
 use crate::index::Index;
 use crate::index_meta::UntrackedIndexMeta;
+use crate::saving::save_meta_text;
 use crate::schema::Schema;
 use crate::segment::Segment;
 use std::alloc::Global;
-use tv_base::TantivyError;
+use tv_base::{IoError, TantivyError};
 use tv_directory::Directory;
-use tv_managed::Refused;
+use tv_managed::{ManagedDirectory, Refused};
 use tv_model::{Memory, SegmentId};
 
 /// Where an index stands, an opening leaves each file as it reads, whatever it answers.
@@ -38,6 +41,31 @@ pub fn open_or_create_spares_an_index<D: Directory>(
         (λ refused. Same before (D.view refused.directory).reads) }
 {
     Index::open_or_create(alloc, directory, schema)
+}
+
+/// A crash behind an opening that succeeded leaves each name as it stands.
+pub fn an_opening_leaves_a_settled_disk<D: Directory>(
+    alloc: Global,
+    directory: D,
+    schema: Schema,
+) -> Result<Index<D>, Refused<D>>
+    ensures { D.tells_images → IfOk result (λ index. IsSettled (D.disk index.directory.0)) }
+{
+    Index::open_or_create(alloc, directory, schema)
+}
+
+/// A save that wants memory leaves the commit that stood: no crash within it leaves `meta.json` in a
+/// state in which it didn't stand, and might not have been left before.
+pub fn a_save_that_wants_memory_leaves_the_old_commit<D: Directory>(
+    directory: &mut ManagedDirectory<D>,
+    text: &[u8],
+) -> Result<(), IoError>
+    requires { has (held directory.old.1.collections) meta_name ≡ false }
+    ensures { D.tells_images → IfErr result (λ error. error ≡ IoError.Memory
+        → Throughout (HoldsNoOtherMeta (D.disk directory.old.0))
+        (D.disk directory.old.0) (D.disk directory.new.0)) }
+{
+    save_meta_text(directory, text)
 }
 
 /// An index that is opened has the settings that its `meta.json` spells.

@@ -2,7 +2,6 @@
 ghost use Rattle.std.specs.Prelude.{◌≡◌, ◌<◌, ◌^◌, IfOk, IfErr, IfSome, IsErrAnd, MatchResult, OnOk, false, option_map};
 ghost use Rattle.tv_model.specs.Collections.{held};
 ghost use Rattle.tv_model.specs.Commits.{first_commit};
-ghost use Rattle.tv_model.specs.Disk.{Throughout};
 ghost use Rattle.tv_model.specs.Names.{has, meta_name};
 ghost use Rattle.tv_directory.specs.Calls.{IoFaults};
 ghost use Rattle.tv_directory.specs.Images.{KeepsDisk};
@@ -11,7 +10,7 @@ ghost use Rattle.tv_managed.specs.Crashes.{LeavesSafely};
 ghost use Rattle.tv_managed.specs.Frames.{KeepsNames};
 ghost use Rattle.tv_managed.specs.Managed.{KeepsOtherFiles};
 ghost use Rattle.tv_managed.specs.Wrapping.{NotWrapped, Wraps};
-ghost use Rattle.tv_index.specs.Crashes.{IsOldOrMade, LacksMeta, LooksSafely, MakesSafely, OnlyLooks, SavesStates};
+ghost use Rattle.tv_index.specs.Crashes.{LacksMeta, LooksSafely, MakesSafely, MakesStates, OnlyLooks, SavesStates};
 ghost use Rattle.tv_index.specs.Metas.{commit_of};
 ghost use Rattle.tv_index.specs.NewForms.{IsFirst, LoadsOrCreates, NotLoaded, NotOpenedForm, OpensForm, form_with, new_text};
 ghost use Rattle.tv_index.specs.Opening.{HasCommit, IsRefusedBytes, LoadFaults, Loads, NoneIfAbsent, NotOpened, OpensIndex, first_text};
@@ -145,7 +144,8 @@ pub(crate) fn create<D: Directory>(
         (D.view directory.old.0) (D.view directory.new.0) }
     ensures safe { D.tells_images → LeavesSafely D.Directory
         (SavesStates (D.disk directory.old.0) (D.disk directory.new.0) directory.old.1
-        (new_text (form_with settings.now schema.now)) result) directory.old directory.new }
+        (new_text (form_with settings.now schema.now)) IoError.Memory result)
+        directory.old directory.new }
 {
     let mut text = print_meta(alloc, settings, schema, &[], 0, None)?;
     text.push(b'\n')?;
@@ -165,9 +165,9 @@ fn load_or_create<D: Directory>(
     ensures err { IfErr result (NotLoaded D.Directory directory.old directory.new.0
         (form_with settings schema.now)) }
     ensures safe { D.tells_images → LeavesSafely D.Directory
-        (Throughout (IsOldOrMade (LacksMeta D.Directory directory.old.0) (D.disk directory.old.0)
-        (new_text (form_with settings schema.now)))
-        (D.disk directory.old.0) (D.disk directory.new.0)) directory.old directory.new }
+        (MakesStates (D.disk directory.old.0) (D.disk directory.new.0)
+        (LacksMeta D.Directory directory.old.0) (new_text (form_with settings schema.now)) result)
+        directory.old directory.new }
     ensures spares { D.tells_images → IfErr result (λ error. IsRefusedBytes error
         → KeepsDisk (D.disk directory.old.0) (D.disk directory.new.0)) }
 {
@@ -232,7 +232,8 @@ pub(crate) fn open_or_create_with<D: Directory>(
 /// refusal gives the directory back. Where there is a `meta.json`, no notice of it comes.
 ///
 /// Where each file that a crash may leave is on the list, no crash within the call leaves one that
-/// isn't, and the directory goes on so.
+/// isn't, and the directory goes on so. A crash behind an opening that succeeded leaves each name as it
+/// stands. Where memory was wanted, no crash within the call leaves a new `meta.json`.
 ///
 /// `DataCorruption` comes for the list of managed files and for `meta.json`, `SchemaError` where
 /// `meta.json` has another schema.

@@ -22,8 +22,8 @@ use tv_model::Memory;
 
 /// Makes these bytes the text of `meta.json`, by one atomic write. The directory is synced before and
 /// afterwards: a crash leaves what it might have left before the call, or the text that stood then or
-/// this one, and at Ok this one. After an error `meta.json` may be managed, where it wasn't before. No
-/// unfinished collection may have it.
+/// this one, and at Ok this one. Where memory was wanted, no crash within the call leaves this text. After
+/// an error `meta.json` may be managed, where it wasn't before. No unfinished collection may have it.
 pub fn save_meta_text<D: Directory>(
     directory: &mut ManagedDirectory<D>,
     text: &[u8],
@@ -39,7 +39,7 @@ pub fn save_meta_text<D: Directory>(
         (D.view directory.old.0) (D.view directory.new.0) }
     ensures safe { D.tells_images → LeavesSafely D.Directory
         (SavesStates (D.disk directory.old.0) (D.disk directory.new.0) directory.old.1 text.now
-        result) directory.old directory.new }
+        IoError.Memory result) directory.old directory.new }
 {
     directory.sync_directory()?;
     directory.atomic_write(META_FILEPATH, text)?;
@@ -87,8 +87,9 @@ fn saved_text(alloc: Global, meta: &IndexMeta) -> Result<Vec<u8>, Memory>
 ///
 /// The directory is synced before and afterwards: a crash leaves what it might have left before the
 /// call, or the commit that stood then or this one, and at Ok this one. An `IoError` comes where the
-/// device refused a call, and `Memory` where memory was wanted; then `meta.json` has what it had. After
-/// an error `meta.json` may be managed, where it wasn't before. No unfinished collection may have it.
+/// device refused a call, and `Memory` where memory was wanted; then `meta.json` has what it had, and no
+/// crash within the call leaves this commit. After an error `meta.json` may be managed, where it wasn't
+/// before. No unfinished collection may have it.
 pub fn save_metas<D: Directory>(
     alloc: Global,
     meta: &IndexMeta,
@@ -107,8 +108,8 @@ pub fn save_metas<D: Directory>(
         (D.view directory.old.0) (D.view directory.new.0) }
     ensures safe { D.tells_images → (commit : Commit) → IsInOrder (tracked_commit meta.now) commit
         → LeavesSafely D.Directory (SavesStates (D.disk directory.old.0) (D.disk directory.new.0)
-        directory.old.1 (saved_text (tracked_settings meta.now) meta.now.schema commit) result)
-        directory.old directory.new }
+        directory.old.1 (saved_text (tracked_settings meta.now) meta.now.schema commit)
+        TantivyError.Memory result) directory.old directory.new }
 {
     learn_commit(meta);
     let text = saved_text(alloc, meta)?;

@@ -1,9 +1,8 @@
 //! The files of a segment, in the directory of its index.
 ghost use Rattle.std.specs.Prelude.{◌≡◌, ℕ, List, IfOk};
-ghost use Rattle.tv_model.specs.Disk.{Unsealed};
 ghost use Rattle.tv_directory.specs.Images.{KeepsDisk};
 ghost use Rattle.tv_directory.specs.View.{Kept, OnlyReads};
-ghost use Rattle.tv_managed.specs.Crashes.{GivesSafely};
+ghost use Rattle.tv_managed.specs.Crashes.{CreatesSafely};
 ghost use Rattle.tv_managed.specs.Managed.{CreateFaults, Creates, ManagesFile};
 ghost use Rattle.tv_managed.specs.Reading.{BodyFaults, ReadsBody};
 ghost use Rattle.tv_managed.specs.Writers.{IsNewManaged};
@@ -58,8 +57,8 @@ impl Segment {
         ensures faults { CreateFaults D.Directory index.old.directory index.new.directory
             (file_of self.now component) result }
         ensures frame { KeepsBeside (Kept D.told) D.view index.old index.new }
-        ensures safe { D.tells_images → GivesSafely D.Directory (file_of self.now component)
-            Unsealed index.old.directory index.new.directory result }
+        ensures safe { D.tells_images → CreatesSafely D.Directory (file_of self.now component)
+            index.old.directory index.new.directory result }
     {
         let name = self.meta().file_name(alloc, component)?;
         index.directory.open_write(name.as_str())

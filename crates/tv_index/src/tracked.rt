@@ -1,11 +1,12 @@
 //! Segments that an inventory keeps as long as they are shared.
-ghost use Rattle.std.specs.Prelude.{◌≡◌, ◌≢◌, ◌≤◌, ◌↔◌, [], ℕ, List, Some, None, All, IfOk, IsErr, MatchResult, OnErr, OnOk, false, find, map, nat_lt, option_map, string_bytes};
+ghost use Rattle.std.specs.Prelude.{◌≡◌, ◌≤◌, ◌↔◌, [], ℕ, List, Some, None, All, IfOk, IsErr, MatchResult, OnErr, OnOk, false, find, map, nat_lt, option_map, string_bytes};
 ghost use Rattle.std.specs.List.{list_any};
 ghost use Rattle.std.specs.Option.{IsSomeAnd};
 ghost use Rattle.tv_base.specs.Entries.{IsFull, is_at, is_full, one_more, released};
 ghost use Rattle.tv_model.specs.Commits.{IsSegment};
+ghost use Rattle.tv_model.specs.Listing.{IsListFile};
 ghost use Rattle.tv_model.specs.Living.{segment_names};
-ghost use Rattle.tv_model.specs.Names.{has, list_name};
+ghost use Rattle.tv_model.specs.Names.{has};
 ghost use Rattle.tv_model.specs.Segments.{delete_opstamp, name_of, num_deleted, num_docs};
 ghost use Rattle.tv_index.specs.Segments.{entry_of};
 ghost use Rattle.tv_index.specs.Tracked.{IsWithin, Retracks, ShareAllCause, Shares, Tracks, file_of, has_id, share_of};
@@ -114,7 +115,7 @@ impl SegmentMeta {
         component: SegmentComponent,
     ) -> Result<FileName, Memory>
         ensures name { IfOk result (λ name. name ≡ file_of self.now component) }
-        ensures other { IfOk result (λ name. name ≢ list_name) }
+        ensures other { IfOk result (λ name. IsListFile name → ⊥) }
     {
         let inner = self.inner;
         segment_file_name(alloc, inner.segment_id, inner.deletes, component)

@@ -26,7 +26,8 @@ use Rattle.tv_managed.specs.Names.{ManagedNames, done_names}
 use Rattle.tv_managed.specs.declared.collection.GarbageCollectionResult.{GarbageCollectionResult}
 use Rattle.tv_managed.proofs.Collections.{more_done, none_done, put_and_out, put_twice}
 use Rattle.tv_managed.proofs.Synced.{IsSynced, TriesSynced, lists_synced, settles_synced, settles_touch, tries_synced}
-use Rattle.tv_managed.proofs.Tracking.{covered_done, track_names, track_then}
+use Rattle.tv_managed.proofs.Tracking.{covered_done, track_names}
+use Rattle.tv_managed.specs.TrackLaws.{track_then}
 use Rattle.tv_managed.proofs.Tried.{tried_none, tried_then}
 
 -- ---- the names
@@ -152,6 +153,7 @@ far g taken {old} {began} {new} number begins reads calm settles tries only safe
           let second = safe tells old.1 taken begins.names begins.numbered in
           record {
             tracks = λ was. let tracked = first.tracks was in track_then g tracked (second.tracks tracked.tracked);
+            listed = λ was. second.listed (first.listed was);
             states = tries_synced taken first.states second.states;
           };
     }
@@ -207,6 +209,7 @@ collects_none g {old} {new} result is t same list safe = record {
       let settles = (safe tells).states in
       record {
         tracks = (safe tells).tracks;
+        listed = IfOk-from_err result _ is;
         states = record { touches = settles_touch _ settles; synced = settles_synced [] _ settles; forgets = λ was. forgets_none g old new (ap (λ v. v.managed) same) };
       };
 }
@@ -221,7 +224,7 @@ collects_far g taken {old} {new} result is f = record {
   saves_none = λ tells. IfOk-from_err result _ is;
   safe = λ tells.
       let tries = (f.safe tells).states in
-      record { tracks = (f.safe tells).tracks; states = record { touches = tries.touches; synced = tries.synced _; forgets = λ was. forgets_none g old new (ap (λ v. v.managed) f.names) } };
+      record { tracks = (f.safe tells).tracks; listed = IfOk-from_err result _ is; states = record { touches = tries.touches; synced = tries.synced _; forgets = λ was. forgets_none g old new (ap (λ v. v.managed) f.names) } };
 }
 
 -- the list alone was touched
@@ -239,7 +242,7 @@ cut_synced g {taken} {old = old} {new = new} f tries cut same =
 
 -- it wasn't ended
 pub collects_unended : {E F D W C : Type 0} (g : Ghosts D W C) (taken : List (List ℕ)) (number : ℕ) {old mid new : D × ManagedNames} (e : F) (result : Result GarbageCollectionResult E) → IsErr result → number ≡ old.1.collections.next → Far g taken old mid
-    → EndsCollection {E = F} g number mid new (Err e) → Kept g.told (g.view mid.0) (g.view new.0) → (g.tells_images → EndsSafely g number mid new) → CollectsNames g taken old new result
+    → EndsCollection {E = F} g number mid new (Err e) → Kept g.told (g.view mid.0) (g.view new.0) → (g.tells_images → EndsSafely {A = GarbageCollectionResult} g number mid new (Err e)) → CollectsNames g taken old new result
 unfolding leaves_of
 collects_unended g taken number {old} {mid} {new} e result is same f ends kept ended =
     let tried = tried_on g f.tried (tried_none g mid new kept ends.others) in
@@ -253,6 +256,7 @@ collects_unended g taken number {old} {mid} {new} e result is same f ends kept e
           let tries = (f.safe tells).states in
           record {
             tracks = λ was. let first = (f.safe tells).tracks was in track_then g first (last.tracks first.tracked);
+            listed = IfOk-from_err result _ is;
             states = record {
               touches = touches_then tries.touches (list_touched g taken last.states);
               synced = cut_synced g f tries last.states tried.deleted_is;
@@ -293,7 +297,7 @@ tried_all g taken {old} {mid} {new} f none more =
     subst (λ names. Tried g names old new f.deleted f.failed) (sym (f.split ∙ ap (λ r. f.front ++ r) none ∙ append-nil f.front)) (tried_on g f.tried more)
 
 pub collects_all : {E F D W C : Type 0} (g : Ghosts D W C) (taken : List (List ℕ)) (number : ℕ) {old mid : D × ManagedNames} {new : D} {now last : ManagedNames} (result : GarbageCollectionResult) → number ≡ old.1.collections.next → (f : Far g taken old mid)
-    → ((d : Collection) → collection_at mid.1.collections number ≡ Some d → d.untried ≡ []) → last ≡ given_back now → Kept g.told (g.view mid.0) (g.view new) → EndsCollection {E = F} g number mid (new, now) (Ok result) → (g.tells_images → EndsSafely g number mid (new, now))
+    → ((d : Collection) → collection_at mid.1.collections number ≡ Some d → d.untried ≡ []) → last ≡ given_back now → Kept g.told (g.view mid.0) (g.view new) → EndsCollection {E = F} g number mid (new, now) (Ok result) → (g.tells_images → EndsSafely {E = F} g number mid (new, now) (Ok result))
     → CollectsNames {E = E} g taken old (new, last) (Ok result)
 unfolding leaves_of
 collects_all g taken number {old} {mid} {new} {now} {last} result same f all back kept ends ended =
@@ -324,6 +328,7 @@ collects_all g taken number {old} {mid} {new} {now} {last} result same f all bac
                 let there : IsCovered (possible_now (g.disk new)) (g.disk new).now (left_with old.1 f.deleted (old.1.collections.next + 1)) = subst (IsCovered (possible_now (g.disk new)) (g.disk new).now) is second.tracked in
                 let back : IsCovered (possible_now (g.disk new)) (g.disk new).now (record (left_with old.1 f.deleted (old.1.collections.next + 1)) { collections = old.1.collections }) = covered_done (λ n h free. free) there.gone there in
                 track_then g second (track_names g (subst (IsCovered (possible_now (g.disk new)) (g.disk new).now) (sym last_is) back) second.tracked);
+            listed = λ was n h. end.listed ((f.safe tells).listed was) n (ap (λ l. has l n) (sym managed) ∙ h);
             states = record {
               touches = touches_then tries.touches (list_touched g taken end.states);
               synced = cut_synced g f tries end.states tried.deleted_is;

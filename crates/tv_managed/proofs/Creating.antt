@@ -1,5 +1,5 @@
 -- What is made of a file, and why none is made, put together from the steps of the call.
-use Rattle.std.proofs.Common.{◌≡◌, ◌≢◌, ◌⊎◌, ℕ, true, false, true≢false, List, [], sym, ap, subst, ◌∙◌, ⊎_elim, inl, inr, Option, None, Some, Result, Ok, Err}
+use Rattle.std.proofs.Common.{◌≡◌, ◌≢◌, ◌⊎◌, ℕ, true, false, true≢false, List, [], sym, ap, subst, ◌∙◌, ⊎_elim, inl, inr, Option, None, Some, Ok, Err}
 use Rattle.std.specs.Prelude.{IsSome, is_some}
 use Rattle.std.proofs.lemmas.Bool.{both_ways}
 use Rattle.tv_model.specs.Collections.{held}
@@ -63,13 +63,13 @@ cause_opened there found held refused quiet more still name write.Memory at up s
 -- ---- what is made
 
 -- A file was asked for, which isn't there, and no unfinished collection has the name. Since then the list alone was changed.
-pub record IsFree {D W C : Type 0} (g : Ghosts D W C) (old mid : D × ManagedNames) (name : List ℕ) : Type 0 where
+pub record StaysAbsent {D W C : Type 0} (g : Ghosts D W C) (old mid : D × ManagedNames) (name : List ℕ) : Type 0 where
   pub absent : g.told.content → (g.view old.0).reads name ≡ None
   pub free : has (held old.1.collections) name ≡ false
   pub others : g.told.content → KeepsOthers (g.view old.0).reads (g.view mid.0).reads list_name
 
 pub is_free : {A D W C : Type 0} (g : Ghosts D W C) {old asked mid : D × ManagedNames} {name : List ℕ} {x : A} → (g.told.content → (g.view old.0).reads name ≡ None) → OnlyAsks g old asked (CreateFaults g old asked name (Ok x)) → (g.told.content → KeepsOthers (g.view asked.0).reads (g.view mid.0).reads list_name)
-    → IsFree g old mid name
+    → StaysAbsent g old mid name
 is_free g absent asks others = record { absent = absent; free = asks.faults.free; others = λ tells n ne. others tells n ne ∙ asks.frame.below.content tells n }
 
 -- the name reads what it read
@@ -90,7 +90,7 @@ creates_asked g {name = name} {e} keeps faults = record {
 }
 
 -- it was listed, or was to be
-pub creates_listed : {A D W C : Type 0} (g : Ghosts D W C) {old new : D × ManagedNames} {name : List ℕ} {e : OpenWriteError} → name ≢ list_name → IsFree g old new name → CreateFaults {A = A} g old new name (Err e) → Creates {A = A} g old new name (Err e)
+pub creates_listed : {A D W C : Type 0} (g : Ghosts D W C) {old new : D × ManagedNames} {name : List ℕ} {e : OpenWriteError} → name ≢ list_name → StaysAbsent g old new name → CreateFaults {A = A} g old new name (Err e) → Creates {A = A} g old new name (Err e)
 creates_listed g {name = name} {e} other free faults = record {
   ok = λ tells. tt;
   there = λ tells some. absurd (isnt_there (free.absent tells) some);
@@ -107,7 +107,7 @@ cause_refused there held refused quiet name old new (write.Leaving path) was h m
 cause_refused there held refused quiet name old new (write.IoError fault path) was h made = (h.0, h.1, ⊎_elim (λ same. inr (same name ∙ was)) (λ it. inl it.1.changed) made.2)
 cause_refused there held refused quiet name old new write.Memory was h made = made name ∙ was
 
-pub creates_refused : {A B D W C : Type 0} (g : Ghosts D W C) {old mid inside new : D × ManagedNames} {name : List ℕ} {e : OpenWriteError} → name ≢ list_name → IsFree g old mid name → inside ≡ mid → Makes {A = A} g.told (g.view inside.0) (g.view new.0) name (Err e) → CreateFaults {A = B} g old new name (Err e)
+pub creates_refused : {A B D W C : Type 0} (g : Ghosts D W C) {old mid inside new : D × ManagedNames} {name : List ℕ} {e : OpenWriteError} → name ≢ list_name → StaysAbsent g old mid name → inside ≡ mid → Makes {A = A} g.told (g.view inside.0) (g.view new.0) name (Err e) → CreateFaults {A = B} g old new name (Err e)
     → Creates {A = B} g old new name (Err e)
 creates_refused {A} g {mid = mid} {new = new} {name} {e} other free same made faults =
     let makes = subst (λ v. Makes {A = A} g.told (g.view v.0) (g.view new.0) name (Err e)) same made in
@@ -119,7 +119,7 @@ creates_refused {A} g {mid = mid} {new = new} {name} {e} other free same made fa
       others = λ tells n ne isnt. others_of_refused (g.view mid.0).reads (g.view new.0).reads name e (makes.err tells) n ne ∙ free.others tells n isnt;
     }
 
-pub creates_made : {A B D W C : Type 0} (g : Ghosts D W C) {old mid inside new : D × ManagedNames} {name : List ℕ} {x : A} (y : B) → IsFree g old mid name → inside ≡ mid → Makes g.told (g.view inside.0) (g.view new.0) name (Ok x) → Creates g old new name (Ok y)
+pub creates_made : {A B D W C : Type 0} (g : Ghosts D W C) {old mid inside new : D × ManagedNames} {name : List ℕ} {x : A} (y : B) → StaysAbsent g old mid name → inside ≡ mid → Makes g.told (g.view inside.0) (g.view new.0) name (Ok x) → Creates g old new name (Ok y)
 creates_made g {new = new} {name} {x} y free same made =
     let makes = subst (λ v. Makes g.told (g.view v.0) (g.view new.0) name (Ok x)) same made in
     record {
@@ -131,7 +131,7 @@ creates_made g {new = new} {name} {x} y free same made =
     }
 
 -- why the directory didn't make it
-pub faults_opened : {A B D W C : Type 0} (g : Ghosts D W C) {old mid inside new : D × ManagedNames} {name : List ℕ} {e : OpenWriteError} → name ≢ list_name → IsFree g old mid name → inside ≡ mid → (g.view mid.0).faults ≡ (g.view old.0).faults
+pub faults_opened : {A B D W C : Type 0} (g : Ghosts D W C) {old mid inside new : D × ManagedNames} {name : List ℕ} {e : OpenWriteError} → name ≢ list_name → StaysAbsent g old mid name → inside ≡ mid → (g.view mid.0).faults ≡ (g.view old.0).faults
     → OpenFaults {A = A} g.told (g.view inside.0) (g.view new.0) name (Err e) → CreateFaults {A = B} g old new name (Err e)
 faults_opened {A} g {mid = mid} {new = new} {name} {e} other free same quiet faults =
     let opens = subst (λ v. OpenFaults {A = A} g.told (g.view v.0) (g.view new.0) name (Err e)) same faults in

@@ -1,5 +1,5 @@
 -- How the end of a collection keeps track: the list is cut behind a sync.
-use Rattle.std.proofs.Common.{◌≡◌, ⊎_elim, ℕ, true, false, true≢false, List, refl, sym, ap, subst, ◌∙◌, Result, Ok}
+use Rattle.std.proofs.Common.{◌≡◌, ⊎_elim, ℕ, true, false, true≢false, List, refl, sym, ap, subst, ◌∙◌, Result, Ok, Err}
 use borrow.Table.Steps.{cases}
 use Rattle.std.specs.List.{list_all}
 use Rattle.tv_model.specs.Disk.{DiskState, Absent, Sealed, IsThere, Possible, possible_now, MayAdd, Throughout}
@@ -10,21 +10,24 @@ use Rattle.tv_model.proofs.DiskLaws.{at_end, fewer_listed, goes_on, goes_on_run,
 use Rattle.tv_base.specs.declared.io.IoError.{IoError}
 use Rattle.tv_directory.specs.Images.{Settles}
 use Rattle.tv_directory.specs.declared.directory.Directory.{Ghosts}
-use Rattle.tv_managed.specs.Crashes.{CutsList, Forgets, IsCovered, IsTracked, LacksDone, LeavesSafely, SavesText, ShortensStates}
+use Rattle.tv_managed.specs.Crashes.{CutsList, Forgets, IsCovered, IsTracked, LacksDone, SavesText, ShortensSafely, ShortensStates}
 use Rattle.tv_managed.specs.Names.{ManagedNames, done_names}
 use Rattle.tv_managed.proofs.Listing.{gone_saved}
 use Rattle.tv_managed.proofs.PlainManaged.{plain_undotted}
 use Rattle.tv_managed.proofs.Touching.{adds_run, gained_run, gained_same, gained_then, gained_within}
-use Rattle.tv_managed.proofs.Tracking.{covered_list, covered_saved, covered_within, isnt_the_list, track_same, track_within}
+use Rattle.tv_managed.proofs.Results.{on_ok}
+use Rattle.tv_managed.proofs.Tracking.{covered_list, covered_saved, isnt_the_list, listed_saved, track_same}
+use Rattle.tv_managed.specs.TrackLaws.{covered_within, listed_within, track_within}
 
 -- no name is forgotten where they are as they were
 kept_all : {X : Type 0} (old new : List (List ℕ)) (n : List ℕ) → new ≡ old → has old n ≡ true → has new n ≡ false → X
 kept_all old new n same h lost = absurd (true≢false (sym h ∙ ap (λ l. has l n) (sym same) ∙ lost))
 
 -- the list isn't cut
-pub cuts_none : {D W C : Type 0} (g : Ghosts D W C) (left : List (List ℕ)) (old : D × ManagedNames) → CutsList g left old old
-cuts_none g left old lacks = record {
+pub cuts_none : {A E D W C : Type 0} (g : Ghosts D W C) (left : List (List ℕ)) (old : D × ManagedNames) (result : Result A E) → CutsList g left old old result
+cuts_none g left old result lacks = record {
   tracks = track_same g;
+  listed = on_ok result (λ was. was);
   states = record {
     moments = adds_run (gained_same _ (g.disk old.0));
     now = record { each = λ n other. refl };
@@ -33,9 +36,10 @@ cuts_none g left old lacks = record {
 }
 
 -- the sync before it was refused
-pub cuts_refused : {A E D W C : Type 0} (g : Ghosts D W C) (left : List (List ℕ)) (old new : D × ManagedNames) {result : Result A E} → new.1 ≡ old.1 → Settles (g.disk old.0) (g.disk new.0) result → CutsList g left old new
-cuts_refused g left old new same sync lacks = record {
+pub cuts_refused : {A E B F D W C : Type 0} (g : Ghosts D W C) (left : List (List ℕ)) (old new : D × ManagedNames) {synced : Result A E} (result : Result B F) → new.1 ≡ old.1 → Settles (g.disk old.0) (g.disk new.0) synced → CutsList g left old new result
+cuts_refused g left old new result same sync lacks = record {
   tracks = track_within g same sync.time sync.no_more sync.now;
+  listed = on_ok result (listed_within g old new (ap (λ v. v.managed) same) sync.no_more);
   states = record {
     moments = adds_run (gained_within _ sync.time sync.no_more);
     now = record { each = λ n other. sync.now n };
@@ -81,9 +85,10 @@ module _ {A X E D W C : Type 0} (g : Ghosts D W C) (old : D × ManagedNames) (mi
   }
 
   -- the shorter list was saved
-  pub cuts : ((l : DiskState) → possible_now (g.disk new) list_name l → l ≡ Sealed (list_text left)) → LeavesSafely g (ShortensStates g left old (new, record old.1 { managed = left })) old (new, record old.1 { managed = left })
-  cuts only = record {
+  pub cuts : {Y F : Type 0} (y : Y) → ((l : DiskState) → possible_now (g.disk new) list_name l → l ≡ Sealed (list_text left)) → ShortensSafely {E = F} g (ShortensStates g left old (new, record old.1 { managed = left })) old (new, record old.1 { managed = left }) (Ok y)
+  cuts y only = record {
     tracks = λ was. record { tracked = covered_saved listed (left_files was) only (behind was); moments = cut_moments was };
+    listed = λ was n h. listed_saved (possible_now (g.disk new)) listed only n h;
     states = record {
       moments = adds_run (gained_then (gained_within _ sync.time sync.no_more) (gained_run saves.moments));
       now = record { each = λ n other. saves.others n other ∙ sync.now n };
@@ -95,8 +100,9 @@ module _ {A X E D W C : Type 0} (g : Ghosts D W C) (old : D × ManagedNames) (mi
   }
 
   -- it may have been
-  pub may_cut : LeavesSafely g (ShortensStates g left old (new, old.1)) old (new, old.1)
-  may_cut = record {
+  pub may_cut : {Y F : Type 0} (e : F) → ShortensSafely {A = Y} g (ShortensStates g left old (new, old.1)) old (new, old.1) (Err e)
+  may_cut e = record {
     tracks = λ was. record { tracked = behind was; moments = cut_moments was };
+    listed = tt;
     states = cut_states old.1 (λ n h lost. kept_all old.1.managed old.1.managed n refl h lost);
   }

@@ -1,15 +1,15 @@
 -- What a delete of a managed name gives, by what the directory answers.
-use Rattle.std.proofs.Common.{◌≡◌, ◌≢◌, ℕ, Bool, true, false, true≢false, List, refl, sym, ap, subst, ◌∙◌, None, String, Global, Result, Ok, Err}
-use Rattle.std.specs.Prelude.{IfOk, is_some}
+use Rattle.std.proofs.Common.{◌≡◌, ◌≢◌, ℕ, Bool, true, false, true≢false, List, refl, sym, ap, subst, ◌∙◌, String, Global, Result, Ok, Err}
+use Rattle.std.specs.Prelude.{IfOk, OnErr, is_some}
 use Rattle.std.proofs.lemmas.Bool.{both_ways}
-use Rattle.tv_model.specs.Disk.{Disk, Absent, possible_now}
+use Rattle.tv_model.specs.Disk.{Disk, Absent}
 use Rattle.tv_model.specs.Names.{list_name}
 use Rattle.tv_base.specs.declared.error.TantivyError.TheVariants as errors
 use Rattle.tv_base.specs.declared.open_errors.DeleteError.{DeleteError}
 use Rattle.tv_base.specs.declared.open_errors.DeleteError.TheVariants as delete
 use Rattle.tv_base.specs.declared.io.IoFault.{IoFault}
 use Rattle.tv_directory.specs.Calls.{DeleteFaults, Deletes, EndsWriters}
-use Rattle.tv_directory.specs.Images.{DeletesState, KeepsOtherStates}
+use Rattle.tv_directory.specs.Images.{DeletesState, KeepsDisk, KeepsOtherStates}
 use Rattle.tv_directory.specs.View.{MayDelete}
 use Rattle.tv_directory.specs.ViewLaws.{kept_itself}
 use Rattle.tv_directory.specs.declared.directory.Directory.{Ghosts}
@@ -113,9 +113,11 @@ others_deleted (Err (delete.IoError fault path)) deletes n ne = deletes.err.2.no
 others_deleted (Err delete.Memory) deletes n ne = deletes.err.now n
 
 state_tried : {A E D W C : Type 0} (g : Ghosts D W C) {inside old : D × ManagedNames} {new : D} {name : List ℕ} (result : Result A DeleteError) (told : Result Bool E) → inside ≡ old → DeletesState (g.disk inside.0) (g.disk new) name result → IfOk told (λ is_gone. is_gone ≡ true → (g.disk new).now name ≡ Absent)
-    → TriesState (g.disk old.0) (g.disk new) name told
-state_tried g {inside} {new = new} {name} result told same deletes gone = subst (λ v. TriesState (g.disk v.0) (g.disk new) name told) same (record {
+    → IfOk told (λ is_gone. is_gone ≡ false → KeepsDisk (g.disk inside.0) (g.disk new)) → OnErr told (KeepsDisk (g.disk inside.0) (g.disk new)) → TriesState (g.disk old.0) (g.disk new) name told
+state_tried g {inside} {new = new} {name} result told same deletes gone refused err = subst (λ v. TriesState (g.disk v.0) (g.disk new) name told) same (record {
   gone = gone;
+  refused = refused;
+  err = err;
   stays = deleted_stays result (g.disk inside.0) (g.disk new) name deletes;
   others = others_deleted result deletes;
   no_more = deletes.no_more;
@@ -123,16 +125,22 @@ state_tried g {inside} {new = new} {name} result told same deletes gone = subst 
 })
 
 pub state_done : {A E D W C : Type 0} (g : Ghosts D W C) {inside old : D × ManagedNames} {new : D} {name : List ℕ} {x : A} → inside ≡ old → DeletesState (g.disk inside.0) (g.disk new) name (Ok x) → TriesState {E = E} (g.disk old.0) (g.disk new) name (Ok true)
-state_done g {x = x} same deletes = state_tried g (Ok x) (Ok true) same deletes (λ it. deletes.ok.1.now)
+state_done g {x = x} same deletes = state_tried g (Ok x) (Ok true) same deletes (λ it. deletes.ok.1.now) (λ no. absurd (true≢false no)) tt
 
 pub state_absent : {A E D W C : Type 0} (g : Ghosts D W C) {inside old : D × ManagedNames} {new : D} {name : List ℕ} {e : DeleteError} {path : String Global} → e ≡ delete.FileDoesNotExist path → inside ≡ old → DeletesState {A = A} (g.disk inside.0) (g.disk new) name (Err e)
     → TriesState {E = E} (g.disk old.0) (g.disk new) name (Ok true)
 state_absent {A} g {inside} {new = new} {name} {path = path} is same refused =
     let deletes = subst (λ x. DeletesState {A = A} (g.disk inside.0) (g.disk new) name (Err x)) is refused in
-    state_tried g (Err (delete.FileDoesNotExist path)) (Ok true) same deletes (λ it. deletes.err.1.1.now name ∙ deletes.err.1.0)
+    state_tried g (Err (delete.FileDoesNotExist path)) (Ok true) same deletes (λ it. deletes.err.1.1.now name ∙ deletes.err.1.0) (λ no. absurd (true≢false no)) tt
 
-pub state_refused : {A E D W C : Type 0} (g : Ghosts D W C) {inside old : D × ManagedNames} {new : D} {name : List ℕ} {e : DeleteError} → inside ≡ old → DeletesState {A = A} (g.disk inside.0) (g.disk new) name (Err e) → TriesState {E = E} (g.disk old.0) (g.disk new) name (Ok false)
-state_refused g {e = e} same deletes = state_tried g (Err e) (Ok false) same deletes (λ no. absurd (true≢false (sym no)))
+pub state_refused : {A E D W C : Type 0} (g : Ghosts D W C) {inside old : D × ManagedNames} {new : D} {name : List ℕ} {e : DeleteError} {fault : IoFault} {path : String Global} → e ≡ delete.IoError fault path → inside ≡ old → DeletesState {A = A} (g.disk inside.0) (g.disk new) name (Err e)
+    → TriesState {E = E} (g.disk old.0) (g.disk new) name (Ok false)
+state_refused {A} g {inside} {new = new} {name} {fault = fault} {path = path} is same refused =
+    let deletes = subst (λ x. DeletesState {A = A} (g.disk inside.0) (g.disk new) name (Err x)) is refused in
+    state_tried g (Err (delete.IoError fault path)) (Ok false) same deletes (λ no. absurd (true≢false (sym no))) (λ it. record { states = deletes.err.2; time = deletes.time }) tt
 
-pub state_wanted : {A E D W C : Type 0} (g : Ghosts D W C) {inside old : D × ManagedNames} {new : D} {name : List ℕ} {e : DeleteError} (f : E) → inside ≡ old → DeletesState {A = A} (g.disk inside.0) (g.disk new) name (Err e) → TriesState (g.disk old.0) (g.disk new) name (Err f)
-state_wanted g {e = e} f same deletes = state_tried g (Err e) (Err f) same deletes tt
+pub state_wanted : {A E D W C : Type 0} (g : Ghosts D W C) {inside old : D × ManagedNames} {new : D} {name : List ℕ} {e : DeleteError} (f : E) → e ≡ delete.Memory → inside ≡ old → DeletesState {A = A} (g.disk inside.0) (g.disk new) name (Err e)
+    → TriesState (g.disk old.0) (g.disk new) name (Err f)
+state_wanted {A} g {inside} {new = new} {name} f is same refused =
+    let deletes = subst (λ x. DeletesState {A = A} (g.disk inside.0) (g.disk new) name (Err x)) is refused in
+    state_tried g (Err delete.Memory) (Err f) same deletes tt tt (record { states = deletes.err; time = deletes.time })

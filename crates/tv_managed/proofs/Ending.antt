@@ -1,5 +1,7 @@
 -- How the end of a collection keeps track, and what it saves.
-use Rattle.std.proofs.Common.{◌≡◌, ℕ, Bool, true, false, true≢false, not, ◌||◌, ⊎_elim, ◌⊎◌, List, Option, Some, refl, sym, ap, subst, ◌∙◌}
+use Rattle.std.proofs.Common.{◌≡◌, ℕ, Bool, true, false, true≢false, not, ◌||◌, ⊎_elim, ◌⊎◌, List, Option, Some, refl, sym, ap, subst, ◌∙◌, Result, Ok}
+use Rattle.std.specs.Result.{IsErr}
+use Rattle.std.proofs.lemmas.Result.{IfOk-from_err}
 use Rattle.std.proofs.lemmas.Bool.{not-true, or_left, or_right}
 use Rattle.tv_model.specs.Names.{has}
 use Rattle.tv_model.specs.Listing.{Lists}
@@ -8,13 +10,14 @@ use Rattle.tv_model.proofs.CollectionStates.{has_without}
 use Rattle.tv_model.proofs.PlainNames.{both}
 use Rattle.tv_directory.specs.declared.directory.Directory.{Ghosts}
 use Rattle.tv_managed.specs.Collecting.{ending}
-use Rattle.tv_managed.specs.Crashes.{IsCovered, LacksDone, LeavesSafely, ShortensStates}
+use Rattle.tv_managed.specs.Crashes.{IsCovered, LacksDone, ShortensSafely, ShortensStates}
 use Rattle.tv_managed.specs.Managed.{Covers}
 use Rattle.tv_managed.specs.Names.{ManagedNames, done_names}
 use Rattle.tv_managed.proofs.Collections.{among_done, fewer_done}
 use Rattle.tv_managed.proofs.Saves.{covers_put}
 use Rattle.tv_managed.proofs.Shortening.{lost_is_gone, was_there}
-use Rattle.tv_managed.proofs.Tracking.{covered_done, track_names, track_then}
+use Rattle.tv_managed.proofs.Tracking.{covered_done, track_names}
+use Rattle.tv_managed.specs.TrackLaws.{track_then}
 
 -- a name that isn't left is done by the collection
 pub lacks_done : (names : ManagedNames) (number : ℕ) (d : Collection) → collection_at names.collections number ≡ Some d → LacksDone (without d.done names.managed) names
@@ -29,9 +32,9 @@ still_free : (names : ManagedNames) (number : ℕ) (d : Collection) → collecti
 still_free names number d at n h free = fewer_done names.collections.unfinished number d n at ∙ ap (λ b. b || has (done_names (without_collection names.collections number)) n) (left_free d names.managed n h) ∙ free
 
 -- the collection is finished, and track is kept
-pub end_safely : {D W C : Type 0} (g : Ghosts D W C) (number : ℕ) (d : Collection) {left : List (List ℕ)} {old mid : D × ManagedNames} {now : ManagedNames} → collection_at old.1.collections number ≡ Some d → mid.1 ≡ record old.1 { managed = without d.done old.1.managed } → now ≡ ending old.1 number d
-    → LeavesSafely g (ShortensStates g left old mid) old mid → LeavesSafely g (ShortensStates g left old (mid.0, now)) old (mid.0, now)
-end_safely g number d {left} {old} {mid} {now} at cut is safe =
+pub end_safely : {A B E F D W C : Type 0} (g : Ghosts D W C) {x : A} (y : B) (number : ℕ) (d : Collection) {left : List (List ℕ)} {old mid : D × ManagedNames} {now : ManagedNames} → collection_at old.1.collections number ≡ Some d → mid.1 ≡ record old.1 { managed = without d.done old.1.managed } → now ≡ ending old.1 number d
+    → ShortensSafely {E = E} g (ShortensStates g left old mid) old mid (Ok x) → ShortensSafely {E = F} g (ShortensStates g left old (mid.0, now)) old (mid.0, now) (Ok y)
+end_safely g y number d {left} {old} {mid} {now} at cut is safe =
     let managed : now.managed ≡ mid.1.managed = ap (λ v. v.managed) is ∙ sym (ap (λ v. v.managed) cut) in
     record {
       tracks = λ was.
@@ -39,12 +42,17 @@ end_safely g number d {left} {old} {mid} {now} at cut is safe =
           let there = subst (IsCovered _ (g.disk mid.0).now) cut first.tracked in
           let ended : IsCovered _ (g.disk mid.0).now (ending old.1 number d) = covered_done (still_free old.1 number d at) (λ n undotted h. there.gone n undotted (fewer_done old.1.collections.unfinished number d n at ∙ or_right (has d.done n) _ h)) there in
           track_then g first (track_names g (subst (IsCovered _ (g.disk mid.0).now) (sym is) ended) first.tracked);
+      listed = λ was n h. safe.listed was n (ap (λ l. has l n) (sym managed) ∙ h);
       states = record {
         moments = safe.states.moments;
         now = record { each = safe.states.now.each };
         forgets = λ was n h lost. safe.states.forgets was n h (ap (λ l. has l n) (sym managed) ∙ lost);
       };
     }
+
+-- it couldn't be
+pub end_failed : {A B E F D W C : Type 0} (g : Ghosts D W C) {becomes : Type 0} {old new : D × ManagedNames} {inner : Result A E} (result : Result B F) → IsErr result → ShortensSafely g becomes old new inner → ShortensSafely g becomes old new result
+end_failed g result failed safe = record { tracks = safe.tracks; listed = IfOk-from_err result _ failed; states = safe.states }
 
 -- the list that reads has the names that it need have, as long as the collection isn't finished
 pub covers_unfinished : (names : ManagedNames) (number : ℕ) (d : Collection) (now before : Option (List ℕ)) → collection_at names.collections number ≡ Some d → Lists now (without d.done names.managed) ⊎ (now ≡ before) → Covers before names → Covers now names

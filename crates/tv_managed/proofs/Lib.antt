@@ -5,7 +5,6 @@ pub mod Endings
 pub mod Tracking
 pub mod Collections
 pub mod TriedSo
-pub mod Images
 pub mod Touching
 pub mod Synced
 pub mod Saves

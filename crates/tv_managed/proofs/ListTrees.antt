@@ -11,7 +11,7 @@ use Rattle.serde_json.specs.Data.{Data, null, boolean, number, string, array, ob
 use Rattle.serde_json.specs.Find.{as_array}
 use Rattle.serde_json.specs.Read.{read}
 use Rattle.tv_model.specs.Names.{byte_cmp, has, is, is_plain}
-use Rattle.tv_model.specs.Listing.{AreStrings, IsListed, IsListOf, Lists}
+use Rattle.tv_model.specs.Listing.{AreStrings, IsManagedName, IsListOf, Lists}
 use Rattle.tv_model.proofs.Entries.{has_put, is_itself, is_text, sorted_put}
 use Rattle.tv_model.proofs.PlainNames.{both}
 use Rattle.tv_base.specs.Causes.{OpenReadCause}
@@ -83,7 +83,7 @@ found_in (item d ds) names all e =
     })
 
 -- a list of plain texts is no list in which something else was found
-pub none_in : (ds : Items) (names found : List (List ℕ)) → put_items names ds ≡ None → AreStrings ds found → AllByRecursion IsListed found → ⊥
+pub none_in : (ds : Items) (names found : List (List ℕ)) → put_items names ds ≡ None → AreStrings ds found → AllByRecursion IsManagedName found → ⊥
 none_in no_items names found e h k = absurd cc
 none_in (item d ds) names [] e h k = absurd h
 none_in (item d ds) names (s ∷ ss) e h k =
@@ -100,13 +100,13 @@ text_utf8 (k ∷ keys) n h = either (text_utf8 keys n) (or_cases (is (string_byt
     either more (inl here) = subst IsUtf8 (is_text (string_bytes k) n here) (IsUtf8-string_bytes k)
     either more (inr later) = more later
 
-all_listed : (found : List (List ℕ)) → list_all is_plain found ≡ true → ((n : List ℕ) → has found n ≡ true → IsUtf8 n) → AllByRecursion IsListed found
+all_listed : (found : List (List ℕ)) → list_all is_plain found ≡ true → ((n : List ℕ) → has found n ≡ true → IsUtf8 n) → AllByRecursion IsManagedName found
 all_listed [] h texts = tt
 all_listed (x ∷ xs) h texts =
     let t = both (is_plain x) (list_all is_plain xs) h in
     ((t.0, texts x (or_left (is x x) _ (is_itself x))), all_listed xs t.1 (λ n later. texts n (or_right (is x n) _ later)))
 
-plain_among : (found : List (List ℕ)) (n : List ℕ) → AllByRecursion IsListed found → has found n ≡ true → is_plain n ≡ true
+plain_among : (found : List (List ℕ)) (n : List ℕ) → AllByRecursion IsManagedName found → has found n ≡ true → is_plain n ≡ true
 plain_among [] n each h = absurd cc
 plain_among (x ∷ xs) n each h = either (plain_among xs n each.1) (or_cases (is x n) (has xs n) h)
   where

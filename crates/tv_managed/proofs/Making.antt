@@ -7,7 +7,7 @@ use Rattle.std.specs.Result.{IsErr}
 use Rattle.tv_model.specs.Names.{is, has, is_undotted, list_name}
 use Rattle.tv_model.specs.Files.{Reads, Same, Sets, MaySet, KeepsOthers}
 use Rattle.tv_model.specs.Listing.{IsOnList, Lists}
-use Rattle.tv_managed.proofs.Results.{on_err}
+use Rattle.tv_managed.proofs.Results.{on_err, on_ok}
 use Rattle.tv_model.proofs.Entries.{is_itself, is_text}
 use Rattle.tv_base.specs.Causes.{IoCause, OpenWriteCause}
 use Rattle.tv_base.specs.declared.io.IoError.{IoError}
@@ -34,10 +34,6 @@ others_of_refused old new name (write.FileAlreadyExists path) h = λ n ne. h.1 n
 others_of_refused old new name (write.Leaving path) h = absurd h
 others_of_refused old new name (write.IoError fault path) h = ⊎_elim (λ same n ne. same n) (λ made. made.1.others) h.2
 others_of_refused old new name write.Memory h = λ n ne. h n
-
-on_ok : {A E P : Type 0} (result : Result A E) → P → OnOk result P
-on_ok (Ok x) p = p
-on_ok (Err e) p = tt
 
 -- ---- a call that asks, lists a name, and then changes its file alone
 

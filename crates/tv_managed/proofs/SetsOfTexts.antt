@@ -18,7 +18,7 @@ use Rattle.std.proofs.lemmas.List.Sorted.{searchable_from_sorted}
 use Rattle.std.proofs.lemmas.Map.Keys.{Less-from_sorted}
 use Rattle.std.proofs.lemmas.Str.{IsUtf8-string_bytes}
 use Rattle.tv_model.specs.Names.{byte_cmp, has, is, is_plain}
-use Rattle.tv_model.specs.Listing.{IsListed, IsListOf, list_text}
+use Rattle.tv_model.specs.Listing.{IsManagedName, IsListOf, list_text}
 use Rattle.tv_model.proofs.Entries.{sorted_put}
 use Rattle.tv_model.proofs.ListTexts.{written_is_list}
 use Rattle.tv_model.proofs.PlainNames.{both}
@@ -45,7 +45,7 @@ all_inserted test [] name here h = rw here refl
 all_inserted test (x ∷ names) name here h = placed_all test (byte_cmp name x) name x names _ here h (all_inserted test names name here (both (test x) (list_all test names) h).1)
 
 -- texts that are plain are listed
-pub are_listed : (keys : List (String Global)) → list_all is_plain (map string_bytes keys) ≡ true → AllByRecursion IsListed (map string_bytes keys)
+pub are_listed : (keys : List (String Global)) → list_all is_plain (map string_bytes keys) ≡ true → AllByRecursion IsManagedName (map string_bytes keys)
 are_listed [] h = tt
 are_listed (k ∷ keys) h = let t = both (is_plain (string_bytes k)) (list_all is_plain (map string_bytes keys)) h in ((t.0, IsUtf8-string_bytes k), are_listed keys t.1)
 

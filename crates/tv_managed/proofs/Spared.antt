@@ -1,16 +1,21 @@
 -- What calls spare: a name that is taken, what is needed, and what failed.
-use Rattle.std.proofs.Common.{◌≡◌, ◌++◌, ◌&&◌, ℕ, true, false, true≢false, not, List, Result, Ok, Err, Some, sym, ap, ◌∙◌, ⊎_elim}
+use Rattle.std.proofs.Common.{◌≡◌, ◌<◌, ◌++◌, ◌&&◌, ◌⊎◌, inl, inr, ℕ, true, false, true≢false, not, List, [], ◌∷◌, length, Option, Result, Ok, Err, None, Some, refl, sym, ap, subst, ◌∙◌, ⊎_elim, arith}
+use Rattle.std.specs.Option.{IsSomeAnd}
 use Rattle.std.specs.Prelude.{IfErr}
 use Rattle.std.proofs.lemmas.Bool.{or_left, or_right}
 use Rattle.tv_base.specs.declared.open_errors.OpenWriteError.{OpenWriteError}
 use Rattle.tv_base.specs.declared.open_errors.OpenWriteError.TheVariants as write
+use Rattle.tv_model.specs.Disk.{Disk, IsImage, Left, MayRead, Possible, Within, possible_now}
+use Rattle.tv_model.specs.Files.{Reads}
 use Rattle.tv_model.specs.Names.{has}
 use Rattle.tv_model.specs.Collections.{Collection, begun, collectable, collection_at, held, with_begun}
 use Rattle.tv_model.proofs.CollectionStates.{has_append, has_without}
 use Rattle.tv_model.proofs.Numbered.{put_found}
+use Rattle.tv_directory.specs.Images.{KeepsDisk}
 use Rattle.tv_directory.specs.View.{Kept, OnlyReads}
 use Rattle.tv_directory.specs.declared.directory.Directory.{Ghosts}
 use Rattle.tv_managed.specs.Collecting.{Among, Begins, Ended, EndsCollection, KeepsFailed, Leaves, Spares, TookNoneOf, Tries, names_of, taken_by}
+use Rattle.tv_managed.specs.Crashes.{IsSettledBut, LeavesWhatMight, StandsFor}
 use Rattle.tv_managed.specs.Frames.{KeepsNames}
 use Rattle.tv_managed.specs.Managed.{CreateFaults, Creates, is_taken}
 use Rattle.tv_managed.specs.Names.{ManagedNames}
@@ -50,13 +55,44 @@ pub took_none : (spared living : List (List ℕ)) (old new : ManagedNames) (numb
 took_none spared living old new number needed begins =
     (begun (taken_by living old), begun_at (taken_by living old) old new number begins, λ n h. untaken (living ++ held old.collections) old.managed n (needed n h))
 
+-- so it isn't among the names that are tried
+pub not_among : {S A E : Type 0} (spared : List (List ℕ)) (answered : S → Type 0) (living : S → List (List ℕ)) (names : List (List ℕ)) (old new : ManagedNames) (result : Result A E) → ((set : S) → answered set → (n : List ℕ) → has spared n ≡ true → has (living set ++ held old.collections) n ≡ true)
+    → Among answered living old new names result → (n : List ℕ) → has spared n ≡ true → has names n ≡ false
+not_among spared answered living names old new result needed among n h =
+    ⊎_elim (λ none. ap (λ l. has l n) none.1) (λ some. ap (λ l. has l n) some.2 ∙ untaken (living some.0 ++ held old.collections) old.managed n (needed some.0 some.1 n h)) among
+
 -- a collection at once, whatever it answered
 pub spares_needed : {S A E D W C : Type 0} (g : Ghosts D W C) (spared : List (List ℕ)) (answered : S → Type 0) (living : S → List (List ℕ)) (names : List (List ℕ)) {old new : D × ManagedNames} {result : Result A E}
     → ((set : S) → answered set → (n : List ℕ) → has spared n ≡ true → has (living set ++ held old.1.collections) n ≡ true) → Leaves g names old new result → Among answered living old.1 new.1 names result
     → g.told.content → Spares spared (g.view old.0).reads (g.view new.0).reads
-spares_needed g spared answered living names {old} needed leaves among tells n h other =
-    leaves.spared tells n
-    (⊎_elim (λ none. ap (λ l. has l n) none.1) (λ some. ap (λ l. has l n) some.2 ∙ untaken (living some.0 ++ held old.1.collections) old.1.managed n (needed some.0 some.1 n h)) among) other
+spares_needed g spared answered living names {old} {new} {result} needed leaves among tells n h other =
+    leaves.spared tells n (not_among spared answered living names old.1 new.1 result needed among n h) other
+
+-- at each moment a crash may leave what it might before, or each name that was needed as it stood
+pub stands_or_before : (spared names : List (List ℕ)) (text : List ℕ) (old : Disk) (possible : Possible) (image : Reads) → ((n : List ℕ) → has spared n ≡ true → has names n ≡ false) → Within (possible_now old) possible ⊎ IsSettledBut old.now names text possible → IsImage possible image
+    → Left old old.moment image ⊎ StandsFor spared old.now image
+stands_or_before spared names text old possible image untried synced left =
+    ⊎_elim
+    (λ within. inl (record { each = λ n. let it = left.each n in (it.0, within.each n it.0 it.1, it.2) }))
+    (λ settled. inr (λ n h other.
+    let it = left.each n in
+    let stood : it.0 ≡ old.now n = ⊎_elim (λ e. e) (λ lost. ⊎_elim (λ l. absurd (true≢false (sym l.0 ∙ untried n h))) (λ l. absurd (other l.0)) lost) (settled.each n it.0 it.1) in
+    subst (λ s. MayRead s (image n)) stood it.2))
+    synced
+
+-- ---- a step that was refused
+
+-- a call that changed nothing leaves what might be left before
+pub leaves_what_might : {old new : Disk} → KeepsDisk old new → LeavesWhatMight old new
+leaves_what_might keeps image left = record { each = λ n. let it = left.each n in (it.0, keeps.states.possible.no_more.each n it.0 it.1, it.2) }
+
+-- a collection that has a name left has a first one
+pub first_left : (o : Option Collection) → IsSomeAnd o (λ c. 0 < length c.untried) → (c : Collection) × (name : List ℕ) × (left : List (List ℕ)) × (o ≡ Some c) × (c.untried ≡ name ∷ left)
+first_left None some = absurd some
+first_left (Some c) some = by c.untried refl where
+  by : (names : List (List ℕ)) → c.untried ≡ names → (d : Collection) × (name : List ℕ) × (left : List (List ℕ)) × (Some c ≡ Some d) × (d.untried ≡ name ∷ left)
+  by [] none = absurd (omega (arith, some, ap length none))
+  by (name ∷ left) next = (c, name, left, refl, next)
 
 -- what is left of the managed names has those that failed
 still_there : (deleted managed : List (List ℕ)) (n : List ℕ) → has deleted n ≡ false → has managed n ≡ true → has (collectable deleted managed) n ≡ true

@@ -1,5 +1,5 @@
 -- How a step of a collection keeps track.
-use Rattle.std.proofs.Common.{◌≡◌, ◌≢◌, ⊎_elim, ℕ, Bool, true, false, true≢false, ◌&&◌, ◌||◌, List, [], ◌∷◌, sym, ap, subst, ◌∙◌, Some, Result, Ok, Err}
+use Rattle.std.proofs.Common.{◌≡◌, ◌≢◌, ⊎_elim, ℕ, Bool, true, false, true≢false, ◌&&◌, ◌||◌, List, [], ◌∷◌, refl, sym, ap, subst, ◌∙◌, Some, Result, Ok, Err}
 use Rattle.std.specs.Prelude.{IfOk}
 use Rattle.std.proofs.lemmas.Result.{IfOk-weaker}
 use Rattle.std.proofs.Math.Bool.{or-false}
@@ -16,8 +16,10 @@ use Rattle.tv_managed.specs.Names.{ManagedNames, done_names}
 use Rattle.tv_managed.specs.declared.collection.CollectStep.{CollectStep}
 use Rattle.tv_managed.proofs.Collections.{more_done}
 use Rattle.tv_managed.proofs.Giving.{track_deleted}
-use Rattle.tv_managed.proofs.Touching.{adds_run, gained_one}
-use Rattle.tv_managed.proofs.Tracking.{covered_done, track_names, track_then}
+use Rattle.tv_managed.proofs.Results.{on_err}
+use Rattle.tv_managed.proofs.Touching.{adds_run, gained_one, gained_same, keeps_same}
+use Rattle.tv_managed.proofs.Tracking.{covered_done, listed_file, track_names, track_same}
+use Rattle.tv_managed.specs.TrackLaws.{track_then}
 
 -- a plain name isn't the list's
 pub plain_other : (name : List ℕ) → is_plain name ≡ true → name ≢ list_name
@@ -50,7 +52,14 @@ step_safely g number d name left gone {old} {new} {now} step tries plain at so s
       first.tracked)
       first.tracked in
       subst (λ v. KeepsTrack g old (new, v)) (sym so) (track_then g first second);
-  states = record { moments = adds_run (gained_one tries.time tries.no_more); now = record { each = tries.others }; gone = λ done. tries.gone (sym same ∙ done) };
+  listed = listed_file g old new now (ap (λ v. v.managed) so) tries.no_more (plain_other name plain);
+  states = record {
+    moments = adds_run (gained_one tries.time tries.no_more);
+    now = record { each = tries.others };
+    gone = λ done. tries.gone (sym same ∙ done);
+    refused = λ no. tries.refused (sym same ∙ no);
+    err = tt;
+  };
 }
 
 -- no name could be tried
@@ -58,7 +67,28 @@ pub step_none : {E F D W C : Type 0} (g : Ghosts D W C) (name : List ℕ) {old n
     → LeavesSafely g (TriesStates {E = F} (g.disk old.0) (g.disk new.0) name result) old new
 step_none g name {old} {new} e result tries plain same none = record {
   tracks = λ was. subst (λ v. KeepsTrack g old (new.0, v)) (sym same) (track_deleted g tries.time tries.no_more tries.stays (plain_other name plain) was);
-  states = record { moments = adds_run (gained_one tries.time tries.no_more); now = record { each = tries.others }; gone = IfOk-weaker result _ _ (λ step h. absurd h) none };
+  listed = listed_file g old new.0 new.1 (ap (λ v. v.managed) same) tries.no_more (plain_other name plain);
+  states = record {
+    moments = adds_run (gained_one tries.time tries.no_more);
+    now = record { each = tries.others };
+    gone = IfOk-weaker result _ _ (λ step h. absurd h) none;
+    refused = IfOk-weaker result _ _ (λ step h. absurd h) none;
+    err = on_err result tries.err;
+  };
+}
+
+-- no name was found
+pub step_same : {F D W C : Type 0} (g : Ghosts D W C) (name : List ℕ) (old : D × ManagedNames) (result : Result CollectStep F) → IfOk result (λ step. ⊥) → LeavesSafely g (TriesStates {E = F} (g.disk old.0) (g.disk old.0) name result) old old
+step_same g name old result none = record {
+  tracks = track_same g;
+  listed = λ was. was;
+  states = record {
+    moments = adds_run (gained_same _ (g.disk old.0));
+    now = record { each = λ n other. refl };
+    gone = IfOk-weaker result _ _ (λ step h. absurd h) none;
+    refused = IfOk-weaker result _ _ (λ step h. absurd h) none;
+    err = on_err result (keeps_same (g.disk old.0));
+  };
 }
 
 -- what trying a name gave, beside other names in memory

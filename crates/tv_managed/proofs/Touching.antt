@@ -1,9 +1,8 @@
 -- What each step leaves alone of the files on a disk.
-use Rattle.std.proofs.Common.{◌≡◌, ◌≢◌, ◌≤◌, ◌<◌, ⊎_elim, ℕ, Bool, true, false, List, refl, sym, ap, subst, ◌∙◌, inl, inr, arith, Result, Ok, Err}
-use Rattle.std.proofs.lemmas.Bool.{cases_lt}
+use Rattle.std.proofs.Common.{◌≡◌, ◌≢◌, ⊎_elim, ℕ, Bool, true, false, List, refl, sym, ap, subst, ◌∙◌, inl, inr, arith, Result, Ok, Err}
 use Rattle.tv_model.specs.Disk.{DiskState, Absent, Unsealed, Sealed, IsThere, Possible, Disk, possible_now, Within, MayAdd, Elapses, Throughout, TouchesOnly}
 use Rattle.tv_model.specs.Names.{list_name}
-use Rattle.tv_model.proofs.DiskLaws.{HoldsOfFewer, at_end, goes_on, goes_on_run, same, same_then, started, touches_file, touches_none, weaker}
+use Rattle.tv_model.proofs.DiskLaws.{HoldsOfFewer, at_end, goes_on, goes_on_run, same, started, touches_file, touches_none, weaker}
 use Rattle.tv_base.specs.declared.io.IoError.{IoError}
 use Rattle.tv_base.specs.declared.io.IoError.TheVariants as io
 use Rattle.tv_base.specs.declared.open_errors.OpenWriteError.TheVariants as write
@@ -12,7 +11,8 @@ use Rattle.tv_directory.specs.Images.{KeepsDisk, KeepsOtherStates, GivesState, O
 use Rattle.tv_directory.specs.declared.directory.Directory.{Ghosts}
 use Rattle.tv_managed.specs.Crashes.{Gains, IsCovered, IsTracked, KeepsTrack}
 use Rattle.tv_managed.specs.Names.{ManagedNames}
-use Rattle.tv_managed.proofs.Tracking.{covered_file, covered_within, not_done, track_step}
+use Rattle.tv_managed.specs.TrackLaws.{covered_within, track_step}
+use Rattle.tv_managed.proofs.Tracking.{covered_file, not_done}
 
 -- a call that only reads
 pub reads_touch : {old new : Disk} (touched : List ℕ → Type 0) → KeepsDisk old new → TouchesOnly touched old new
@@ -23,23 +23,6 @@ pub keeps_same : (disk : Disk) → KeepsDisk disk disk
 keeps_same disk = record {
   states = record { now = λ n. refl; possible = same (possible_now disk) };
   time = record { later = omega arith; past = λ x le. same (disk.possible x); inside = λ x from to. absurd (omega arith) };
-}
-
--- two calls that only read
-pub reads_then : {old mid new : Disk} → KeepsDisk old mid → KeepsDisk mid new → KeepsDisk old new
-reads_then {old} {mid} {new} first second = record {
-  states = record { now = λ n. second.states.now n ∙ first.states.now n; possible = same_then first.states.possible second.states.possible };
-  time = record {
-    later = omega (arith, first.time.later, second.time.later);
-    past = λ x le. same_then (first.time.past x le) (second.time.past x (omega (arith, le, first.time.later)));
-    inside = λ x from to. ⊎_elim
-        (λ (after : mid.moment < x). ⊎_elim (λ before. inl (same_then first.states.possible before)) (λ behind. inr behind) (second.time.inside x after to))
-        (λ (upto : x ≤ mid.moment). ⊎_elim
-        (λ before. inl (same_then before (second.time.past x upto)))
-        (λ behind. inl (same_then first.states.possible (same_then behind (second.time.past x upto))))
-        (first.time.inside x from upto))
-        (cases_lt mid.moment x);
-  };
 }
 
 -- ---- names that a call doesn't touch, whatever it answers

@@ -13,7 +13,7 @@ use Rattle.tv_managed.specs.Collecting.{HasLeft, OnlyDeletes, TriesFirst, TriesS
 use Rattle.tv_managed.specs.Crashes.{LeavesSafely, LosesNames, StepsSafely}
 use Rattle.tv_managed.specs.Names.{ManagedNames}
 use Rattle.tv_managed.proofs.Synced.{loses_one, loses_then}
-use Rattle.tv_managed.proofs.Tracking.{track_then}
+use Rattle.tv_managed.specs.TrackLaws.{track_then}
 use Rattle.tv_managed.specs.declared.collection.CollectStep.{CollectStep}
 use Rattle.tv_managed.proofs.Collections.{put_twice}
 use Rattle.tv_managed.proofs.Tried.{tried_name, tried_none, tried_then}
@@ -121,5 +121,6 @@ safe_next g before names number {first} {old} {new} same has safe s so_far = by 
       let one = safe (record { untried = s.rest; done = s.deleted; failed = s.failed }) name left at next in
       record {
         tracks = λ was. let before = so_far.tracks was in track_then g before (one.tracks before.tracked);
+        listed = λ was. one.listed (so_far.listed was);
         states = loses_then so_far.states (loses_one names (among names s.front s.rest left name s.split next) one.states);
       }

@@ -5,7 +5,7 @@ use Rattle.std.specs.Result.{IsErr}
 use Rattle.std.specs.BTreeMap.{insert_entry}
 use Rattle.std.specs.Ordering.{nat_cmp}
 use Rattle.tv_model.specs.Names.{has, is_plain, list_name}
-use Rattle.tv_model.specs.Listing.{Lists}
+use Rattle.tv_model.specs.Listing.{IsListFile, Listing}
 use Rattle.tv_model.specs.Collections.{Collection, Collections, collectable, collection_at, done_of, failed_of, having_tried, held, taken, with_begun, with_collection, without, without_collection}
 use Rattle.tv_model.specs.Files.{Reads, Same, KeepsOthers, Rose}
 use Rattle.tv_base.specs.Causes.{IsDevice}
@@ -61,9 +61,9 @@ pub record Leaves {A E D W C : Type 0} (g : Ghosts D W C) (names : List (List �
   -- a name that is done doesn't read
   pub gone : g.told.content → (n : List ℕ) → has (done_of front outcomes) n ≡ true → (g.view new.0).reads n ≡ None
   -- every other name but that of the list reads what it read
-  pub others : g.told.content → (n : List ℕ) → has (done_of front outcomes) n ≡ false → n ≢ list_name → (g.view new.0).reads n ≡ (g.view old.0).reads n
+  pub others : g.told.content → (n : List ℕ) → has (done_of front outcomes) n ≡ false → (IsListFile n → ⊥) → (g.view new.0).reads n ≡ (g.view old.0).reads n
   -- a name that isn't among them reads what it read
-  pub spared : g.told.content → (n : List ℕ) → has names n ≡ false → n ≢ list_name → (g.view new.0).reads n ≡ (g.view old.0).reads n
+  pub spared : g.told.content → (n : List ℕ) → has names n ≡ false → (IsListFile n → ⊥) → (g.view new.0).reads n ≡ (g.view old.0).reads n
   -- a writer of a name that isn't done lives on
   pub alive : g.told.content → SparesWriters (done_of front outcomes) g.state_of (g.view old.0).lives (g.view new.0).lives
   -- and no writer that was open lives of a file that was deleted
@@ -91,7 +91,7 @@ pub record Tries {D W C : Type 0} (g : Ghosts D W C) (names : List (List ℕ)) (
   -- a deleted name doesn't read
   pub gone : g.told.content → (n : List ℕ) → has (names_of result.deleted_files.items) n ≡ true → (g.view new.0).reads n ≡ None
   -- every other name but that of the list reads what it read
-  pub others : g.told.content → (n : List ℕ) → has (names_of result.deleted_files.items) n ≡ false → n ≢ list_name → (g.view new.0).reads n ≡ (g.view old.0).reads n
+  pub others : g.told.content → (n : List ℕ) → has (names_of result.deleted_files.items) n ≡ false → (IsListFile n → ⊥) → (g.view new.0).reads n ≡ (g.view old.0).reads n
   -- its writers live on, and no writer that was open of a file that was deleted does
   pub alive : g.told.content → SparesWriters (names_of result.deleted_files.items) g.state_of (g.view old.0).lives (g.view new.0).lives
   pub ended : g.told.content → EndsTheirWriters (names_of result.deleted_files.items) g.state_of (g.view old.0) (g.view new.0)
@@ -261,7 +261,7 @@ TookNoneOf spared names number =
 -- each of these names but the list's reads what it read
 abbrev pub Spares : (spared : List (List ℕ)) → Reads → Reads → Type 0
 Spares spared old new =
-    (n : List ℕ) → has spared n ≡ true → n ≢ list_name → new n ≡ old n
+    (n : List ℕ) → has spared n ≡ true → (IsListFile n → ⊥) → new n ≡ old n
 
 -- each managed name that is told as failed is still managed
 abbrev pub KeepsFailed : (old new : ManagedNames) → GarbageCollectionResult → Type 0
@@ -298,7 +298,7 @@ pub record Tried {D W C : Type 0} (g : Ghosts D W C) (names : List (List ℕ)) (
   pub failed_is : failed ≡ failed_of names outcomes
   pub hasnt_list : has deleted list_name ≡ false
   pub gone : g.told.content → (n : List ℕ) → has deleted n ≡ true → (g.view new.0).reads n ≡ None
-  pub others : g.told.content → (n : List ℕ) → has deleted n ≡ false → n ≢ list_name → (g.view new.0).reads n ≡ (g.view old.0).reads n
+  pub others : g.told.content → (n : List ℕ) → has deleted n ≡ false → (IsListFile n → ⊥) → (g.view new.0).reads n ≡ (g.view old.0).reads n
   pub alive : g.told.content → SparesWriters deleted g.state_of (g.view old.0).lives (g.view new.0).lives
   pub ended : g.told.content → EndsTheirWriters deleted g.state_of (g.view old.0) (g.view new.0)
   pub counted : FailsAtMost (length failed) (g.view old.0).refusals (g.view new.0).refusals
@@ -324,8 +324,8 @@ TriesAll number names result = OnOk result ((c : Collection) → collection_at n
 pub record Shortens {A D W C : Type 0} (g : Ghosts D W C) (left : List (List ℕ)) (old new : D × ManagedNames) (result : Result A IoError) : Type 0 where
   pub ok : OnOk result (new.1 ≡ record old.1 { managed = left })
   pub err : OnErr result (new.1 ≡ old.1)
-  pub lists : g.told.content → Lists ((g.view old.0).reads list_name) old.1.managed → OnOk result (Lists ((g.view new.0).reads list_name) left)
-  pub either : g.told.content → Lists ((g.view new.0).reads list_name) left ⊎ ((g.view new.0).reads list_name ≡ (g.view old.0).reads list_name)
+  pub lists : g.told.content → Listing (g.view old.0).reads old.1.managed → OnOk result (Listing (g.view new.0).reads left)
+  pub either : g.told.content → Listing (g.view new.0).reads left ⊎ ((g.view new.0).reads list_name ≡ (g.view old.0).reads list_name)
   pub others : g.told.content → KeepsOthers (g.view old.0).reads (g.view new.0).reads list_name
   pub faults : IoFaults (g.view old.0) (g.view new.0) result
   pub frame : Kept g.told (g.view old.0) (g.view new.0)

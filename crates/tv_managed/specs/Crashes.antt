@@ -1,13 +1,16 @@
 -- What a crash may leave of a managed directory at each moment of its calls.
-use Rattle.std.specs.Prelude.{ℕ, ◌≡◌, ◌⊎◌, Bool, true, false, List, ◌∷◌, Some, Result, IfErr, IfOk, OnOk}
-use Rattle.tv_model.specs.Disk.{DiskState, Absent, Sealed, IsThere, Possible, Disk, possible_now, Within, MayAdd, IsSettled, IsSettledAt, Elapses, Throughout, OnlyMoves, TouchesOnly}
-use Rattle.tv_model.specs.Listed.{IsOnEach, ListsEachFile}
-use Rattle.tv_model.specs.Listing.{IsListOf, list_text}
+use Rattle.std.specs.Prelude.{ℕ, ◌≡◌, ◌⊎◌, Bool, true, false, List, ◌∷◌, Some, Result, IfErr, IfOk, OnErr, OnOk}
+use Rattle.tv_model.specs.Disk.{DiskState, Absent, Unsealed, Sealed, IsThere, Left, MayRead, Possible, Disk, possible_now, Within, MayAdd, IsSettled, Elapses, Throughout, OnlyMoves, TouchesOnly}
+use Rattle.tv_model.specs.Files.{Reads}
+use Rattle.tv_model.specs.Listed.{ImagesListTheirFiles, IsAlwaysListed, IsListSettled, ListsEachFile}
+use Rattle.tv_model.specs.Listing.{IsListFile, IsListOf, list_text}
 use Rattle.tv_model.specs.Names.{has, is_undotted, list_name}
 use Rattle.tv_model.specs.Footer.{sealed}
-use Rattle.tv_model.specs.Collections.{Collection, collection_at, done_of, without}
+use Rattle.tv_model.specs.Collections.{Collection, collection_at, done_of, held, without}
 use Rattle.tv_base.specs.Causes.{IoCause}
 use Rattle.tv_base.specs.declared.io.IoError.{IoError}
+use Rattle.tv_base.specs.declared.open_errors.OpenWriteError.{OpenWriteError}
+use Rattle.tv_base.specs.declared.open_errors.OpenWriteError.TheVariants as write
 use Rattle.tv_directory.specs.Images.{KeepsDisk, KeepsOtherStates, SameStates}
 use Rattle.tv_directory.specs.declared.directory.Directory.{Ghosts}
 use Rattle.tv_managed.specs.Collecting.{is_done, Leaves, SavesNone, Tries}
@@ -18,12 +21,14 @@ use Rattle.tv_managed.specs.declared.collection.CollectStep.{CollectStep}
 use Rattle.tv_managed.specs.declared.collection.GarbageCollectionResult.{GarbageCollectionResult}
 use Rattle.tv_managed.specs.declared.writer.ManagedWriter.{ManagedWriter}
 
--- The list is for crashes. It forgets no file, each undotted file that a crash may leave is managed, and each managed name that no unfinished collection has done is on
--- whatever it may leave of the list. What such a collection has done, which has no dot in front, is absent now; it may be on no list any more.
+-- The list is for crashes. It forgets no file, each undotted file that a crash may leave is managed, and each
+-- managed name that no unfinished collection has done is always listed. What such a collection has done, which
+-- has no dot in front, is absent now; it may be on no list any more.
 pub record IsCovered (possible : Possible) (now : List ℕ → DiskState) (names : ManagedNames) : Type 0 where
   pub forgets_none : ListsEachFile possible
   pub covers : (n : List ℕ) → is_undotted n ≡ true → (s : DiskState) → possible n s → IsThere s → has names.managed n ≡ true
-  pub listed : (n : List ℕ) → has names.managed n ≡ true → has (done_names names.collections) n ≡ false → (l : DiskState) → possible list_name l → IsOnEach l n
+  pub listed : (n : List ℕ) → has names.managed n ≡ true → has (done_names names.collections) n ≡ false
+      → IsAlwaysListed possible n
   pub gone : (n : List ℕ) → is_undotted n ≡ true → has (done_names names.collections) n ≡ true → now n ≡ Absent
 
 -- The list of a managed directory forgets no file that a crash now may leave, and memory knows each of them
@@ -31,9 +36,10 @@ pub record IsCovered (possible : Possible) (now : List ℕ → DiskState) (names
 abbrev pub IsTracked : {D W C : Type 0} → Ghosts D W C → D × ManagedNames → Type 0
 IsTracked g managed = IsCovered (possible_now (g.disk managed.0)) (g.disk managed.0).now managed.1
 
--- each managed name is on whatever a crash may leave of the list
+-- each managed name is on the list, whatever a crash now may leave of that
 abbrev pub AreListed : {D W C : Type 0} → Ghosts D W C → D × ManagedNames → Type 0
-AreListed g managed = (n : List ℕ) → has managed.1.managed n ≡ true → (l : DiskState) → possible_now (g.disk managed.0) list_name l → IsOnEach l n
+AreListed g managed =
+    (n : List ℕ) → has managed.1.managed n ≡ true → IsAlwaysListed (possible_now (g.disk managed.0)) n
 
 -- The list of a managed directory forgets no file at any moment of a call, and afterwards memory knows each
 -- file that a crash may leave.
@@ -43,17 +49,31 @@ pub record KeepsTrack {D W C : Type 0} (g : Ghosts D W C) (old new : D × Manage
 
 -- these files and the list
 abbrev pub AnyOrList : List (List ℕ) → List ℕ → Type 0
-AnyOrList names n = (has names n ≡ true) ⊎ (n ≡ list_name)
+AnyOrList names n = (has names n ≡ true) ⊎ IsListFile n
 
--- The disk was only read. Where a crash leaves the list as it is, as after a directory sync that succeeded, and it forgets no file, the managed names are those of it,
--- and each file is one of them.
+-- The disk was only read. Where a crash leaves the list as it is, as after a directory sync that succeeded, and
+-- each image that it may leave lists its files, the list forgets no file, memory knows each of them, and each
+-- managed name is on the list, whatever a crash may leave of that.
 pub record WrapsDisk {D W C : Type 0} (g : Ghosts D W C) (directory : D) (managed : D × ManagedNames) : Type 0 where
   pub keeps : KeepsDisk (g.disk directory) (g.disk managed.0)
-  pub tracked : IsSettledAt (g.disk directory) list_name → ListsEachFile (possible_now (g.disk directory)) → IsTracked g managed
+  pub tracked : IsListSettled (g.disk directory) → ImagesListTheirFiles (possible_now (g.disk directory))
+      → IsTracked g managed
+  pub listed : IsListSettled (g.disk directory) → ImagesListTheirFiles (possible_now (g.disk directory))
+      → AreListed g managed
 
--- What a call of a managed directory does to what a crash may leave: it keeps track, and this becomes of the states.
+-- What a call of a managed directory does to what a crash may leave: it keeps track, and this becomes of the
+-- states. Where each managed name was on the list, whatever a crash might leave of that, each is so still.
 pub record LeavesSafely {D W C : Type 0} (g : Ghosts D W C) (becomes : Type 0) (old new : D × ManagedNames) : Type 0 where
   pub tracks : IsTracked g old → KeepsTrack g old new
+  pub listed : AreListed g old → AreListed g new
+  pub states : becomes
+
+-- What a call that may save a shorter list does to what a crash may leave: it keeps track, and this becomes of
+-- the states. At Ok each managed name is on the list, whatever a crash may leave of that, where each was before;
+-- after an error the shorter list may stand, and what it lacks is still managed.
+pub record ShortensSafely {A E D W C : Type 0} (g : Ghosts D W C) (becomes : Type 0) (old new : D × ManagedNames) (result : Result A E) : Type 0 where
+  pub tracks : IsTracked g old → KeepsTrack g old new
+  pub listed : OnOk result (AreListed g old → AreListed g new)
   pub states : becomes
 
 -- a call that only reads
@@ -66,7 +86,7 @@ pub record Gains (extra : List ℕ → DiskState → Type 0) (old new : Possible
 
 -- this is the list, and the name is to be put on it: it has no dot in front, and isn't managed
 abbrev pub IsToList : ManagedNames → (name n : List ℕ) → Type 0
-IsToList names name n = (n ≡ list_name) × (NeedsNoListing names name → ⊥)
+IsToList names name n = IsListFile n × (NeedsNoListing names name → ⊥)
 
 -- this is the list, with the text of the managed names and this one, which has no dot in front and isn't
 -- managed
@@ -81,16 +101,41 @@ OrItsList names name n = (n ≡ name) ⊎ IsToList names name n
 abbrev pub IsGiven : ManagedNames → (name : List ℕ) → (state : DiskState) → (n : List ℕ) → DiskState → Type 0
 IsGiven names name state n s = ((n ≡ name) × (s ≡ state)) ⊎ IsNewList names name n s
 
--- A file is made, or given its bytes. At each moment it may be in this state, and the list may have its name, where that has no dot in front and wasn't managed; no
--- other state is possible besides. At Ok it is in this state; other files stand as they stood.
-pub record GivesStates {A E : Type 0} (old new : Disk) (names : ManagedNames) (name : List ℕ) (state : DiskState) (result : Result A E) : Type 0 where
+-- A name is given this state. At each moment it may be in this state, and the list may have the name, where that
+-- has no dot in front and wasn't managed; no other state is possible besides. Where memory was wanted, at most
+-- the list gained a state. At Ok the name is in this state; other files stand as they stood.
+pub record GivesStates {A : Type 0} (old new : Disk) (names : ManagedNames) (name : List ℕ) (state : DiskState) (result : Result A IoError) : Type 0 where
   pub moments : Throughout (Gains (IsGiven names name state) (possible_now old)) old new
   pub now : OnlyMoves (OrItsList names name) old new
+  pub memory : IfErr result (IoCause (Unit {0})
+      (Throughout (Gains (IsNewList names name) (possible_now old)) old new))
   pub stands : OnOk result (new.now name ≡ state)
 
 -- A name is given this state as `GivesStates` says, and where the list forgot no file it never does.
-abbrev pub GivesSafely : {A E D W C : Type 0} → Ghosts D W C → (name : List ℕ) → DiskState → (old new : D × ManagedNames) → Result A E → Type 0
+abbrev pub GivesSafely : {A D W C : Type 0} → Ghosts D W C → (name : List ℕ) → DiskState
+    → (old new : D × ManagedNames) → Result A IoError → Type 0
 GivesSafely g name state old new result = LeavesSafely g (GivesStates (g.disk old.0) (g.disk new.0) old.1 name state result) old new
+
+-- a file of this name may be made: there is none, and no unfinished collection has the name
+abbrev pub IsFree : Disk → ManagedNames → (name : List ℕ) → Type 0
+IsFree disk names name = (disk.now name ≡ Absent) × (has (held names.collections) name ≡ false)
+
+-- A file is made where there is none and its name isn't held. At each moment it may be unsealed, and the list may
+-- have its name, where that has no dot in front and wasn't managed; where there is a file, or the name is held, no
+-- state is possible besides, and each name stands as it stood. Where memory was wanted, at most the list gained a
+-- state. At Ok the file is unsealed.
+pub record CreatesStates {A : Type 0} (old new : Disk) (names : ManagedNames) (name : List ℕ) (result : Result A OpenWriteError) : Type 0 where
+  pub moments : Throughout (Gains (λ n s. IsFree old names name × IsGiven names name Unsealed n s)
+      (possible_now old)) old new
+  pub now : OnlyMoves (λ n. IsFree old names name × OrItsList names name n) old new
+  pub memory : IfErr result (λ error. error ≡ write.Memory
+      → Throughout (Gains (IsNewList names name) (possible_now old)) old new)
+  pub stands : OnOk result (new.now name ≡ Unsealed)
+
+-- A file is made as `CreatesStates` says, and where the list forgot no file it never does.
+abbrev pub CreatesSafely : {A D W C : Type 0} → Ghosts D W C → (name : List ℕ) → (old new : D × ManagedNames)
+    → Result A OpenWriteError → Type 0
+CreatesSafely g name old new result = LeavesSafely g (CreatesStates (g.disk old.0) (g.disk new.0) old.1 name result) old new
 
 -- No state is possible besides those that were, at any moment, and names stand as they stood; at Ok a crash leaves each so.
 pub record SettlesStates {A E : Type 0} (old new : Disk) (result : Result A E) : Type 0 where
@@ -111,14 +156,18 @@ pub record SealsStates {A E D W C : Type 0} (g : Ghosts D W C) (old new : D) (w 
 abbrev pub Forgets : {D W C : Type 0} → Ghosts D W C → (old new : D × ManagedNames) → Type 0
 Forgets g old new = (n : List ℕ) → has old.1.managed n ≡ true → has new.1.managed n ≡ false → (s : DiskState) → possible_now (g.disk new.0) n s → s ≡ Absent
 
--- A collection tries this name: at each moment it may be absent besides, and is where it is told as done. No other name is touched.
+-- A collection tries this name: at each moment it may be absent besides, and is where it is told as done. Where it
+-- is told as failed, or no name could be tried, nothing changed. No other name is touched.
 pub record TriesStates {E : Type 0} (old new : Disk) (name : List ℕ) (result : Result CollectStep E) : Type 0 where
   pub moments : Throughout (λ possible. MayAdd (possible_now old) possible name Absent) old new
   pub now : OnlyMoves (λ n. n ≡ name) old new
   pub gone : IfOk result (λ step. is_done step ≡ true → new.now name ≡ Absent)
+  pub refused : IfOk result (λ step. is_done step ≡ false → KeepsDisk old new)
+  pub err : OnErr result (KeepsDisk old new)
 
 -- A collection tries the first name that it has left: at each moment that file may be absent besides, and is
--- where it is told as done. No other name is touched.
+-- where it is told as done. Where it is told as failed, or no name could be tried, nothing changed. No other name
+-- is touched.
 abbrev pub StepsSafely : {E D W C : Type 0} → Ghosts D W C → (number : ℕ) → (old new : D × ManagedNames) → Result CollectStep E → Type 0
 StepsSafely g number old new result =
     (c : Collection) (name : List ℕ) (left : List (List ℕ)) → collection_at old.1.collections number ≡ Some c → c.untried ≡ name ∷ left
@@ -127,14 +176,17 @@ StepsSafely g number old new result =
 -- The list may have these names besides. No file is touched. A name that is managed no more has no file after any crash.
 pub record ShortensStates {D W C : Type 0} (g : Ghosts D W C) (left : List (List ℕ)) (old new : D × ManagedNames) : Type 0 where
   pub moments : Throughout (λ possible. MayAdd (possible_now (g.disk old.0)) possible list_name (Sealed (list_text left))) (g.disk old.0) (g.disk new.0)
-  pub now : OnlyMoves (λ n. n ≡ list_name) (g.disk old.0) (g.disk new.0)
+  pub now : OnlyMoves IsListFile (g.disk old.0) (g.disk new.0)
   pub forgets : IsTracked g old → Forgets g old new
 
 -- A collection ends: the list may have the shorter names besides. No file is touched. A name that is managed
--- no more has no file after any crash.
-abbrev pub EndsSafely : {D W C : Type 0} → Ghosts D W C → (number : ℕ) → (old new : D × ManagedNames) → Type 0
-EndsSafely g number old new =
-    (c : Collection) → collection_at old.1.collections number ≡ Some c → LeavesSafely g (ShortensStates g (without c.done old.1.managed) old new) old new
+-- no more has no file after any crash. At Ok the managed names are on the list, whatever a crash may leave of
+-- that, where they were before.
+abbrev pub EndsSafely : {A E D W C : Type 0} → Ghosts D W C → (number : ℕ) → (old new : D × ManagedNames)
+    → Result A E → Type 0
+EndsSafely g number old new result =
+    (c : Collection) → collection_at old.1.collections number ≡ Some c
+    → ShortensSafely g (ShortensStates g (without c.done old.1.managed) old new) old new result
 
 -- this is one of these names, and it is absent
 abbrev pub IsLost : List (List ℕ) → List ℕ → DiskState → Type 0
@@ -142,7 +194,8 @@ IsLost names n s = (has names n ≡ true) × (s ≡ Absent)
 
 -- each name has one possible state, that in which it stood, but that one of these names may be absent besides, and the list have this text
 pub record IsSettledBut (stood : List ℕ → DiskState) (names : List (List ℕ)) (text : List ℕ) (possible : Possible) : Type 0 where
-  pub each : (n : List ℕ) (s : DiskState) → possible n s → (s ≡ stood n) ⊎ (IsLost names n s ⊎ ((n ≡ list_name) × (s ≡ Sealed text)))
+  pub each : (n : List ℕ) (s : DiskState) → possible n s
+      → (s ≡ stood n) ⊎ (IsLost names n s ⊎ (IsListFile n × (s ≡ Sealed text)))
 
 -- A collection that tries these names, of which some are done, touches them and the list alone. A name that is managed no more has no file after any crash.
 pub record CollectsStates {D W C : Type 0} (g : Ghosts D W C) (names done : List (List ℕ)) (old new : D × ManagedNames) : Type 0 where
@@ -157,14 +210,29 @@ pub record CollectsNames {E D W C : Type 0} (g : Ghosts D W C) (names : List (Li
   pub tries : IfOk result (Tries g names old new)
   pub saves : SavesList g old new result
   pub saves_none : SavesNone g old new result
-  pub safe : g.tells_images → LeavesSafely g (CollectsStates g names (done_of leaves.front leaves.outcomes) old new) old new
+  pub safe : g.tells_images
+      → ShortensSafely g (CollectsStates g names (done_of leaves.front leaves.outcomes) old new) old new result
+
+-- What follows is cited by laws alone.
+
+-- each image that a crash may leave now, it might have left before
+abbrev pub LeavesWhatMight : Disk → Disk → Type 0
+LeavesWhatMight old new = (image : Reads) → Left new new.moment image → Left old old.moment image
+
+-- an image has each of these names, but the list's, as it stood
+abbrev pub StandsFor : (names : List (List ℕ)) → (stood : List ℕ → DiskState) → Reads → Type 0
+StandsFor names stood image =
+    (n : List ℕ) → has names n ≡ true → (IsListFile n → ⊥) → MayRead (stood n) (image n)
 
 -- What follows is cited by private functions alone.
 
--- A step puts a name on the list, where that has no dot in front and isn't managed, and keeps track. At each moment the possible states are at most those that were, and
--- where the name is put also that the list is that of the managed names and this one. Each file stands as it stood, but for the list where the name is put.
+-- A step puts a name on the list, where that has no dot in front and isn't managed, and keeps track; managed names
+-- that were on the list, whatever a crash might leave of that, are so still. At each moment the possible states
+-- are at most those that were, and where the name is put also that the list is that of the managed names and this
+-- one. Each file stands as it stood, but for the list where the name is put.
 pub record ListsName {D W C : Type 0} (g : Ghosts D W C) (old new : D × ManagedNames) (name : List ℕ) : Type 0 where
   pub tracks : IsTracked g old → KeepsTrack g old new
+  pub listed : AreListed g old → AreListed g new
   pub moments : Throughout (Gains (IsNewList old.1 name) (possible_now (g.disk old.0))) (g.disk old.0) (g.disk new.0)
   pub now : OnlyMoves (IsToList old.1 name) (g.disk old.0) (g.disk new.0)
 
@@ -185,9 +253,12 @@ pub record LosesNames (names : List (List ℕ)) (old new : Disk) : Type 0 where
   pub moments : Throughout (Gains (IsLost names) (possible_now old)) old new
   pub now : OnlyMoves (λ n. has names n ≡ true) old new
 
--- A name is tried: it may be absent besides, and is where it is told as gone; what is absent stays so.
+-- A name is tried: it may be absent besides, and is where it is told as gone; what is absent stays so. Where it is
+-- told as still there, or memory was wanted, nothing changed.
 pub record TriesState {E : Type 0} (old new : Disk) (name : List ℕ) (result : Result Bool E) : Type 0 where
   pub gone : IfOk result (λ is_gone. is_gone ≡ true → new.now name ≡ Absent)
+  pub refused : IfOk result (λ is_gone. is_gone ≡ false → KeepsDisk old new)
+  pub err : OnErr result (KeepsDisk old new)
   pub stays : (n : List ℕ) → old.now n ≡ Absent → new.now n ≡ Absent
   pub others : KeepsOtherStates old new name
   pub no_more : MayAdd (possible_now old) (possible_now new) name Absent
@@ -198,5 +269,6 @@ abbrev pub LacksDone : (left : List (List ℕ)) → ManagedNames → Type 0
 LacksDone left names = (n : List ℕ) → has names.managed n ≡ true → has left n ≡ false → has (done_names names.collections) n ≡ true
 
 -- The list is cut to the names that are left: the device has kept that the others are absent before the list lacks them.
-abbrev pub CutsList : {D W C : Type 0} → Ghosts D W C → (left : List (List ℕ)) → (old new : D × ManagedNames) → Type 0
-CutsList g left old new = LacksDone left old.1 → LeavesSafely g (ShortensStates g left old new) old new
+abbrev pub CutsList : {A E D W C : Type 0} → Ghosts D W C → (left : List (List ℕ)) → (old new : D × ManagedNames)
+    → Result A E → Type 0
+CutsList g left old new result = LacksDone left old.1 → ShortensSafely g (ShortensStates g left old new) old new result

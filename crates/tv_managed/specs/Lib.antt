@@ -7,3 +7,4 @@ pub mod Crashes
 pub mod Frames
 pub mod ListTrees
 pub mod Wrapping
+pub mod TrackLaws

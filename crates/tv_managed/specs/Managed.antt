@@ -3,7 +3,7 @@ use Rattle.std.specs.Prelude.{◌≡◌, ◌≢◌, ◌⊎◌, ℕ, Bool, true, 
 use Rattle.std.specs.BTreeSet.{insert_key}
 use Rattle.tv_model.specs.Names.{byte_cmp, has, is_undotted, list_name}
 use Rattle.tv_model.specs.Collections.{held}
-use Rattle.tv_model.specs.Listing.{IsOnList, Lists, list_text}
+use Rattle.tv_model.specs.Listing.{IsListed, IsListFile, Listing, Lists, list_text}
 use Rattle.tv_model.specs.Files.{Reads, Same, Sets, MaySet, KeepsOthers, Rose}
 use Rattle.tv_model.specs.Footer.{sealed}
 use Rattle.tv_base.specs.Causes.{IoCause, IsDevice}
@@ -33,7 +33,7 @@ Covers read names = (listed : List (List ℕ)) × Lists read listed × ((n : Lis
 
 -- names other than this one and the list's read what they read
 abbrev pub KeepsOtherFiles : Reads → Reads → List ℕ → Type 0
-KeepsOtherFiles old new name = (n : List ℕ) → n ≢ name → n ≢ list_name → new n ≡ old n
+KeepsOtherFiles old new name = (n : List ℕ) → n ≢ name → (IsListFile n → ⊥) → new n ≡ old n
 
 -- a file was made that wasn't there, and no other file was changed
 pub record MakesFile (old new : Reads) (name : List ℕ) : Type 0 where
@@ -43,7 +43,7 @@ pub record MakesFile (old new : Reads) (name : List ℕ) : Type 0 where
 
 -- each undotted name that reads now and didn't before is on the list that reads
 abbrev pub ListsNew : Reads → Reads → Type 0
-ListsNew old new = (n : List ℕ) → is_undotted n ≡ true → IsSome (new n) → old n ≡ None → IsOnList (new list_name) n
+ListsNew old new = (n : List ℕ) → is_undotted n ≡ true → IsSome (new n) → old n ≡ None → IsListed new n
 
 -- each undotted name that reads now and didn't before is one of these names
 abbrev pub ManagesNew : Reads → Reads → List (List ℕ) → Type 0
@@ -61,7 +61,7 @@ pub record SavesNames {A D W C : Type 0} (g : Ghosts D W C) (old new : D) (names
 -- What a step that saves the list may change, whatever it answers: the list, which then has the managed names. These stay. It fails where the device refused a call,
 -- or where memory was wanted.
 pub record OnlySaves {A D W C : Type 0} (g : Ghosts D W C) (old new : D × ManagedNames) (result : Result A IoError) : Type 0 where
-  pub either : g.told.content → Lists ((g.view new.0).reads list_name) new.1.managed ⊎ ((g.view new.0).reads list_name ≡ (g.view old.0).reads list_name)
+  pub either : g.told.content → Listing (g.view new.0).reads new.1.managed ⊎ ((g.view new.0).reads list_name ≡ (g.view old.0).reads list_name)
   pub others : g.told.content → KeepsOthers (g.view old.0).reads (g.view new.0).reads list_name
   pub faults : IoFaults (g.view old.0) (g.view new.0) result
   pub frame : KeepsNames (Kept g.told) g.view old new
@@ -72,7 +72,7 @@ NeedsNoListing names name = is_undotted name ≡ true → has names.managed name
 
 -- The list on the device goes on having each managed name that no unfinished collection has done. Where it listed the managed names, it does so at Ok.
 pub record SavesList {A E D W C : Type 0} (g : Ghosts D W C) (old new : D × ManagedNames) (result : Result A E) : Type 0 where
-  pub list : g.told.content → Lists ((g.view old.0).reads list_name) old.1.managed → OnOk result (Lists ((g.view new.0).reads list_name) new.1.managed)
+  pub list : g.told.content → Listing (g.view old.0).reads old.1.managed → OnOk result (Listing (g.view new.0).reads new.1.managed)
   pub covers : g.told.content → Covers ((g.view old.0).reads list_name) old.1 → Covers ((g.view new.0).reads list_name) new.1
 
 -- where the name has a dot in front, or was managed, the list reads what it read
@@ -84,7 +84,7 @@ SavesNew g old new name = g.told.content → NeedsNoListing old.1 name → (g.vi
 -- these names was changed.
 pub record HasListed {A E D W C : Type 0} (g : Ghosts D W C) (old new : D × ManagedNames) (name : List ℕ) (result : Result A E) : Type 0 where
   pub saves : SavesList g old new result
-  pub on_list : g.told.content → Covers ((g.view old.0).reads list_name) old.1 → has (done_names old.1.collections) name ≡ false → is_undotted name ≡ true → OnOk result (IsOnList ((g.view new.0).reads list_name) name)
+  pub on_list : g.told.content → Covers ((g.view old.0).reads list_name) old.1 → has (done_names old.1.collections) name ≡ false → is_undotted name ≡ true → OnOk result (IsListed (g.view new.0).reads name)
   pub names : OnOk result (new.1 ≡ registering old.1 name)
   pub kept : OnErr result (new.1 ≡ old.1)
   pub unsaved : SavesNew g old new name

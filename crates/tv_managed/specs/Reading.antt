@@ -8,6 +8,7 @@ use Rattle.tv_base.specs.Causes.{IsDevice}
 use Rattle.tv_base.specs.declared.io.IoFault.{IoFault}
 use Rattle.tv_base.specs.declared.open_errors.OpenReadError.{OpenReadError}
 use Rattle.tv_base.specs.declared.open_errors.OpenReadError.TheVariants as read
+use Rattle.tv_base.specs.Versions.{library_version}
 use Rattle.tv_base.specs.declared.versions.Incompatibility.{Incompatibility}
 use Rattle.tv_base.specs.declared.versions.Incompatibility.TheVariants.{IndexMismatch}
 use Rattle.tv_directory.specs.declared.directory.Directory.{Ghosts}
@@ -37,7 +38,7 @@ pub record HasOtherFormat (bytes : List ℕ) (why : Incompatibility) : Type 0 wh
   pub body : List ℕ
   pub framed : framing.IsFramed bytes footer body
   pub format : IsOtherFormat footer.version.index_format_version
-  pub is : why ≡ IndexMismatch (record { major = 0; minor = 26; patch = 2; index_format_version = 7 }) footer.version
+  pub is : why ≡ IndexMismatch library_version footer.version
 
 -- the name read bytes that are refused with this fault, for the first reason that holds
 abbrev pub ReadsRefused : Option (List ℕ) → IoFault → Type 0

@@ -2,8 +2,8 @@
 use Rattle.std.specs.Prelude.{◌≡◌, ℕ, List, Option, Some, option_map, string_bytes, Result, IfErr, OnOk}
 use Rattle.tv_model.specs.Names.{list_name}
 use Rattle.tv_model.specs.Collections.{no_collections}
-use Rattle.tv_model.specs.Listing.{Lists}
 use Rattle.tv_model.specs.Files.{Rose}
+use Rattle.tv_model.specs.Listing.{Listing, Lists}
 use Rattle.tv_base.specs.Causes.{IsDevice}
 use Rattle.tv_base.specs.declared.error.TantivyError.{TantivyError}
 use Rattle.tv_base.specs.declared.error.TantivyError.TheVariants as errors
@@ -34,7 +34,7 @@ pub record ListFaults {A W : Type 0} (told : Told) (old new : View W) (result : 
 
 -- The directory was only read from, and is wrapped: the managed names are those for which its list stands, and no collection was begun.
 pub record Wraps {D W C : Type 0} (g : Ghosts D W C) (directory : D) (managed : D × ManagedNames) : Type 0 where
-  pub names : g.told.content → Lists ((g.view directory).reads list_name) managed.1.managed
+  pub names : g.told.content → Listing (g.view directory).reads managed.1.managed
   pub collections : managed.1.collections ≡ no_collections
   pub quiet : (g.view managed.0).faults ≡ (g.view directory).faults
   pub frame : OnlyReads g.told (g.view directory) (g.view managed.0)

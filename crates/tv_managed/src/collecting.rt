@@ -153,7 +153,7 @@ impl<D: Directory> ManagedDirectory<D> {
         ensures ends { EndsCollection D.Directory id self.old self.new result }
         ensures faults { EndFaults D.Directory self.old self.new result }
         ensures frame { Kept D.told (D.view self.old.0) (D.view self.new.0) }
-        ensures safe { D.tells_images → EndsSafely D.Directory id self.old self.new }
+        ensures safe { D.tells_images → EndsSafely D.Directory id self.old self.new result }
     {
         let result = self.collections.result(self.alloc, id)?;
         self.take_out(result.deleted_files.as_slice())?;
@@ -281,7 +281,7 @@ impl<D: Directory> ManagedDirectory<D> {
             self.old self.new result }
         ensures saves_none { done.now ≡ [] → self.new ≡ self.old }
         ensures safe { D.tells_images → CutsList D.Directory
-            (without (names_of done.now) self.old.1.managed) self.old self.new }
+            (without (names_of done.now) self.old.1.managed) self.old self.new result }
     {
         if done.is_empty() {
             return Ok(());
@@ -295,7 +295,7 @@ impl<D: Directory> ManagedDirectory<D> {
         requires { (gone : List (List ℕ)) × (names_of left.keys ≡ without gone self.old.1.managed) }
         ensures shortens { Shortens D.Directory (names_of left.keys) self.old self.new result }
         ensures safe { D.tells_images
-            → CutsList D.Directory (names_of left.keys) self.old self.new }
+            → CutsList D.Directory (names_of left.keys) self.old self.new result }
     {
         self.sync_directory()?;
         match save_managed_paths(self.alloc, &mut self.directory, &left) {

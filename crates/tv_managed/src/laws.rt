@@ -1,18 +1,19 @@
 //! Laws of managed directories: what one may rely on, whatever the directory is. Each makes the calls of which it
 //! speaks, and its contract is the law.
-ghost use Rattle.std.specs.Prelude.{◌≡◌, ◌≢◌, ◌≤◌, ◌<◌, ℕ, List, Option, true, IsSome, IfOk, IfErr};
-ghost use Rattle.tv_model.specs.Names.{has, is_file_name, list_name};
+ghost use Rattle.std.specs.Prelude.{◌≡◌, ◌≢◌, ◌≤◌, ◌<◌, ◌⊎◌, ℕ, List, Option, true, false, IsSome, IfOk, IfErr, OnErr};
+ghost use Rattle.tv_model.specs.Names.{is_file_name, list_name};
 ghost use Rattle.tv_model.specs.Collections.{collection_at, held};
-ghost use Rattle.tv_model.specs.Disk.{Left};
+ghost use Rattle.tv_model.specs.Disk.{IsThere, Left};
+ghost use Rattle.tv_model.specs.Files.{Reads};
 ghost use Rattle.tv_model.specs.Listed.{ListsItsFiles};
 ghost use Rattle.tv_directory.specs.View.{OnlyReads};
-ghost use Rattle.tv_managed.specs.Collecting.{KeepsFailed, Spares, TookNoneOf, names_of};
-ghost use Rattle.tv_managed.specs.Crashes.{IsTracked};
+ghost use Rattle.tv_managed.specs.Collecting.{HasLeft, KeepsFailed, Spares, TookNoneOf, is_done, names_of};
+ghost use Rattle.tv_managed.specs.Crashes.{IsTracked, LeavesWhatMight, StandsFor};
 ghost use Rattle.tv_managed.specs.Frames.{KeepsNames};
 ghost use Rattle.tv_managed.specs.Managed.{is_taken};
 ghost use Rattle.tv_managed.specs.Writers.{IsSummed};
 
-use crate::collection::GarbageCollectionResult;
+use crate::collection::{CollectStep, GarbageCollectionResult};
 use crate::managed_directory::ManagedDirectory;
 use crate::writer::ManagedWriter;
 use std::collections::BTreeSet;
@@ -46,6 +47,23 @@ pub fn open_write_spares_a_taken_name<D: Directory>(
     requires other { name.now ≢ list_name }
     ensures { D.told.content → IfErr result (λ error. is_taken error ≡ true
         → KeepsNames (OnlyReads D.told) D.view directory.old directory.new) }
+{
+    directory.open_write(name)
+}
+
+/// Where the name has a file, `open_write` gives a crash nothing to leave that it couldn't leave before, at any
+/// moment of the call and whatever that answers. So no file that is sealed is left unsealed.
+pub fn open_write_unseals_no_file_that_is_there<D: Directory>(
+    directory: &mut ManagedDirectory<D>,
+    name: &str,
+) -> Result<ManagedWriter<D>, OpenWriteError>
+    requires name { is_file_name name.now ≡ true }
+    requires other { name.now ≢ list_name }
+    ensures { D.tells_images → IsThere ((D.disk directory.old.0).now name.now)
+        → (x : ℕ) (image : Reads)
+        → (D.disk directory.old.0).moment ≤ x → x ≤ (D.disk directory.new.0).moment
+        → Left (D.disk directory.new.0) x image
+        → Left (D.disk directory.old.0) (D.disk directory.old.0).moment image }
 {
     directory.open_write(name)
 }
@@ -89,6 +107,21 @@ pub fn collect_begin_gives_a_number_once<D: Directory>(
     directory.collect_begin(living)
 }
 
+/// Where the device refused the delete of a step, or memory was wanted, a crash leaves after it what it might have
+/// left before it: no file was lost.
+pub fn a_refused_delete_loses_no_file<D: Directory>(
+    directory: &mut ManagedDirectory<D>,
+    id: u64,
+) -> Result<CollectStep, TantivyError>
+    requires { HasLeft directory.old.1.collections id }
+    ensures refused { D.tells_images → IfOk result (λ step. is_done step ≡ false
+        → LeavesWhatMight (D.disk directory.old.0) (D.disk directory.new.0)) }
+    ensures wanted { D.tells_images → OnErr result
+        (LeavesWhatMight (D.disk directory.old.0) (D.disk directory.new.0)) }
+{
+    directory.collect_delete(id)
+}
+
 /// A name whose delete the device refused stays managed when its collection ends, so that a later one tries it
 /// again. The end gives no number back.
 pub fn collect_end_keeps_failed_names<D: Directory>(
@@ -113,6 +146,22 @@ pub fn garbage_collect_spares_what_is_needed<D: Directory>(
     ensures held { D.told.content → Spares (held directory.old.1.collections)
         (D.view directory.old.0).reads (D.view directory.new.0).reads }
     ensures failed { IfOk result (KeepsFailed directory.old.1 directory.new.1) }
+{
+    directory.garbage_collect(|| living)
+}
+
+/// A collection at once waits for the device before its first delete: a crash at any moment of it, whatever it
+/// answers, leaves what it might have left before, or leaves each living file as it stood at the beginning. So none
+/// brings an older commit back whose files were deleted.
+pub fn garbage_collect_deletes_behind_a_sync<D: Directory>(
+    directory: &mut ManagedDirectory<D>,
+    living: BTreeSet<String>,
+) -> Result<GarbageCollectionResult, TantivyError>
+    ensures { D.tells_images → (x : ℕ) (image : Reads)
+        → (D.disk directory.old.0).moment ≤ x → x ≤ (D.disk directory.new.0).moment
+        → Left (D.disk directory.new.0) x image
+        → Left (D.disk directory.old.0) (D.disk directory.old.0).moment image
+        ⊎ StandsFor (names_of living.keys) (D.disk directory.old.0).now image }
 {
     directory.garbage_collect(|| living)
 }

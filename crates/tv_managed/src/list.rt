@@ -1,7 +1,7 @@
 //! The file that lists the managed files.
 ghost use Rattle.std.specs.Prelude.{◌≡◌, [], ◌∷◌, ◌++◌, Some, IfOk, OnOk, map, option_map, string_bytes, if◌then◌else◌};
 ghost use Rattle.tv_model.specs.Names.{list_name};
-ghost use Rattle.tv_model.specs.Listing.{Lists, list_text, quoted};
+ghost use Rattle.tv_model.specs.Listing.{Listing, list_text, quoted};
 ghost use Rattle.tv_directory.specs.Images.{KeepsDisk};
 ghost use Rattle.tv_directory.specs.View.{OnlyReads};
 ghost use Rattle.tv_managed.specs.Collecting.{names_of};
@@ -79,7 +79,7 @@ pub(crate) fn load_managed_paths<D: Directory>(
     directory: &mut D,
 ) -> Result<BTreeSet<String>, TantivyError>
     ensures names { D.told.content → IfOk result (λ names.
-        Lists ((D.view directory.old).reads list_name) (names_of names.keys)) }
+        Listing (D.view directory.old).reads (names_of names.keys)) }
     ensures managed { IfOk result (λ names. AreManaged (names_of names.keys)) }
     ensures faults { ListFaults D.told (D.view directory.old) (D.view directory.new) result }
     ensures frame { OnlyReads D.told (D.view directory.old) (D.view directory.new) }

@@ -5,7 +5,7 @@ ghost use Rattle.std.specs.BTreeSet.{insert_key};
 ghost use Rattle.tv_model.specs.Names.{byte_cmp, has, is_file_name, is_plain, is_undotted, list_name};
 ghost use Rattle.tv_model.specs.Disk.{Left, Sealed, Unsealed};
 ghost use Rattle.tv_model.specs.Listed.{ListsEachFile, ListsItsFiles};
-ghost use Rattle.tv_model.specs.Listing.{Lists};
+ghost use Rattle.tv_model.specs.Listing.{Listing};
 ghost use Rattle.tv_model.specs.Collections.{held, without};
 ghost use Rattle.tv_model.specs.Checksum.{crc32};
 ghost use Rattle.tv_model.specs.Footer.{footer};
@@ -16,7 +16,7 @@ ghost use Rattle.tv_directory.specs.Device.{IsSilent};
 ghost use Rattle.tv_directory.specs.Images.{KeepsDisk, Settles, WritesState};
 ghost use Rattle.tv_managed.specs.Writers.{HandsOn, IsNewManaged, KeepsWritten};
 ghost use Rattle.tv_managed.specs.Managed.{HasListed, OnlySaves, ManagesFile, CreateFaults, Creates, GivesFile, SealsBody};
-ghost use Rattle.tv_managed.specs.Crashes.{GivesSafely, LeavesSafely, ListsName, ReadsSafely, SavesManaged, SealsStates, WrapsDisk};
+ghost use Rattle.tv_managed.specs.Crashes.{CreatesSafely, GivesSafely, LeavesSafely, ListsName, ReadsSafely, SavesManaged, SealsStates, WrapsDisk};
 ghost use Rattle.tv_managed.specs.Frames.{KeepsNames, KeptButNotes, MakeFaults, OnlyAsks};
 ghost use Rattle.tv_managed.specs.Names.{ManagedNames};
 ghost use Rattle.tv_managed.specs.Wrapping.{NotWrapped, Wraps};
@@ -41,7 +41,9 @@ use tv_model::Memory;
 /// whatever it answers, each undotted file that a crash may leave is on each list that it may leave (of `flush`
 /// and `terminate` for a writer of another name than the list's). That holds from a wrapped directory on whose
 /// list a crash leaves as it is, and which has each file (`wrap`: `tracks`), until collections are forgotten
-/// whose names aren't all on the list. The clause says too which other states are possible then.
+/// whose names aren't all on the list. Where they all are, whatever a crash may leave of the list, they are so
+/// still after a call, unless it is a `collect_end` or a `garbage_collect` that answers an error. The clause says
+/// too which other states are possible then.
 pub struct ManagedDirectory<D: Directory> {
     pub(crate) alloc: Global,
     pub(crate) directory: D,
@@ -95,8 +97,8 @@ fn footer_bytes(alloc: Global, checksum: Crc32) -> Result<Vec<u8>, Memory>
 impl<D: Directory> ManagedDirectory<D> {
     /// A directory that manages the names for which its list stands, none where it has no list.
     /// `DataCorruption` comes where the file of the list is none. A refusal gives the directory back.
-    /// Where a crash leaves the list as it is, as after a directory sync that succeeded, and each file is on it,
-    /// the calls keep that so.
+    /// Where a crash leaves the list as it is, as after a directory sync that succeeded, and each image that it may
+    /// leave lists its files, the calls keep that so.
     pub fn wrap(alloc: Global, directory: D) -> Result<ManagedDirectory<D>, Refused<D>>
         ensures wraps { IfOk result (Wraps D.Directory directory) }
         ensures refused { IfErr result (λ refused.
@@ -208,7 +210,7 @@ impl<D: Directory> ManagedDirectory<D> {
     // Saves the list of the managed names, and waits until the device has kept it.
     fn save(&mut self) -> Result<(), IoError>
         ensures lists { D.told.content
-            → OnOk result (Lists ((D.view self.new.0).reads list_name) self.new.1.managed) }
+            → OnOk result (Listing (D.view self.new.0).reads self.new.1.managed) }
         ensures only { OnlySaves D.Directory self.old self.new result }
         ensures images { D.tells_images → SavesManaged D.Directory self.old self.new result }
     {
@@ -242,7 +244,7 @@ impl<D: Directory> ManagedDirectory<D> {
         ensures faults { CreateFaults D.Directory self.old self.new name.now result }
         ensures frame { Kept D.told (D.view self.old.0) (D.view self.new.0) }
         ensures safe { D.tells_images
-            → GivesSafely D.Directory name.now Unsealed self.old self.new result }
+            → CreatesSafely D.Directory name.now self.old self.new result }
     {
         self.refuse_taken(name)?;
         self.list(name)?;

@@ -4,9 +4,9 @@ use Rattle.std.proofs.Math.Seq.{take-append_seam, drop-append_seam}
 use Rattle.serde_json.specs.Data.{Data}
 use Rattle.tv_model.specs.Checksum.{crc32}
 use Rattle.tv_model.specs.FooterForm.{FooterNumbers, IsFooter, Spells, u32_at}
-use Rattle.tv_model.specs.Footer.{HasBody, IsFramed, IsGood, four_bytes, footer_magic, sealed, number_of, stated, body_of}
+use Rattle.tv_model.specs.Footer.{HasBody, IsFramed, IsGood, four_bytes, footer_magic, sealed, number_of, own_footer, stated, body_of}
 use Rattle.tv_model.proofs.ChecksumFits.{crc32_fits}
-use Rattle.tv_model.proofs.FooterTexts.{own, own_framed}
+use Rattle.tv_model.proofs.FooterTexts.{own_framed}
 
 -- four bytes spell their number
 pub four_spell : (n : ℕ) → n < 2 ^ 32 → number_of (four_bytes n) ≡ n
@@ -48,7 +48,7 @@ body_of_good bytes body good = body_of_framed bytes good.footer body good.framed
 
 -- a sealed file has the body with which it was sealed
 pub sealed_has_body : (body : List ℕ) → HasBody (sealed body) body
-sealed_has_body body = record { footer = own (crc32 body); framed = own_framed (crc32 body) body (crc32_fits body); format = (omega arith, omega arith) }
+sealed_has_body body = record { footer = own_footer (crc32 body); framed = own_framed (crc32 body) body (crc32_fits body); format = (omega arith, omega arith) }
 
 pub body_of_sealed : (body : List ℕ) → body_of (sealed body) ≡ body
 body_of_sealed body = body_of_good (sealed body) body (sealed_has_body body)
@@ -77,8 +77,8 @@ same_numbers f g a b c d e = let same : of f.major f.minor f.patch f.format f.cr
     of : ℕ → ℕ → ℕ → ℕ → ℕ → FooterNumbers
     of a b c d e = record { major = a; minor = b; patch = c; format = d; crc = e }
 
-one_form : (d : Data) (f g : FooterNumbers) → IsFooter d f → IsFooter d g → f ≡ g
-one_form d f g h k =
+one_form : (d : Data) (n : ℕ) (f g : FooterNumbers) → IsFooter d n f → IsFooter d n g → f ≡ g
+one_form d n f g h k =
     let v : h.version ≡ k.version = some_is (sym h.version_at ∙ k.version_at) in
     same_numbers f g
     (some_is (sym h.major ∙ ap (u32_at (codes "major")) v ∙ k.major))
@@ -87,10 +87,12 @@ one_form d f g h k =
     (some_is (sym h.format ∙ ap (u32_at (codes "index_format_version")) v ∙ k.format))
     (some_is (sym h.crc ∙ k.crc))
 
-one_spelled : (json : List ℕ) (f g : FooterNumbers) → Spells json f → Spells json g → f ≡ g
-one_spelled json f g h k = one_form h.tree f g h.form (subst (λ (d : Data). IsFooter d g) (some_is (sym k.parsed ∙ h.parsed)) k.form)
+one_spelled : (json : List ℕ) (n : ℕ) (f g : FooterNumbers) → Spells json n f → Spells json n g → f ≡ g
+one_spelled json n f g h k = one_form h.tree n f g h.form (subst (λ (d : Data). IsFooter d n g) (some_is (sym k.parsed ∙ h.parsed)) k.form)
 
 pub one_footer : (bytes : List ℕ) (f g : FooterNumbers) (a b : List ℕ) → IsFramed bytes f a → IsFramed bytes g b → (f ≡ g) × (a ≡ b)
 one_footer bytes f g a b h k =
     let json : k.json ≡ h.json = sym (json_at bytes g b k) ∙ json_at bytes f a h in
-    (one_spelled h.json f g h.spells (subst (λ (l : List ℕ). Spells l g) json k.spells), sym (body_of_framed bytes f a h) ∙ body_of_framed bytes g b k)
+    let body : a ≡ b = sym (body_of_framed bytes f a h) ∙ body_of_framed bytes g b k in
+    let spells : Spells k.json (length a) g = subst (λ (l : List ℕ). Spells k.json (length l) g) (sym body) k.spells in
+    (one_spelled h.json (length a) f g h.spells (subst (λ (l : List ℕ). Spells l (length a) g) json spells), body)

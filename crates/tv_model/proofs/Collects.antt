@@ -88,4 +88,4 @@ collects s outcomes sorted = record {
 
 -- and so does each collection of a run
 pub collects_in : (s : State) (turns : List Turn) → IsStrictlySortedBy byte_cmp s.managed → CollectsIn s turns
-collects_in s turns sorted front rest outcomes e = collects (after s front) outcomes (sorted_after s front sorted)
+collects_in s turns sorted front rest outcomes e free = collects (after s front) outcomes (sorted_after s front sorted)

@@ -330,7 +330,7 @@ few (false ∷ outcomes) h = omega arith
 
 pub collects_in_steps : (s : State) → IsSoundState s → CollectsInSteps s
 collects_in_steps s sound = let h = sound.whole.collecting in record {
-  begins = begins s;
+  begins = λ free. begins s;
   stays = stays s;
   keeps = λ turns number first later never there then n. keeps s turns number first later h never there then n;
   alone = λ event outcomes number c never there. alone s event outcomes number c h never there;
@@ -367,7 +367,7 @@ collects_at_once s outcomes =
     }
 
 pub collects_all_else : (s : State) → IsSoundState s → CollectsAllElse s
-collects_all_else s sound outcomes n none =
+collects_all_else s sound free outcomes n none =
     let gone = done_of (garbage s) outcomes in
     let taken_now : has gone n ≡ (not (has (living s.catalog) n || has (held s.collections) n) && has s.managed n) = ap (λ (l : List (List ℕ)). has l n) (all_done (garbage s) outcomes none) ∙ garbage_is s n in
     ap is_some (at_without gone s.files n)

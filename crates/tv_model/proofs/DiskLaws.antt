@@ -3,8 +3,7 @@ use Rattle.std.specs.Prelude.{◌≤◌, ◌<◌}
 use Rattle.std.proofs.Common.{◌≡◌, ◌≢◌, ℕ, List, refl, ◌∙◌, ⊎_elim, subst, arith}
 use Rattle.std.proofs.lemmas.Bool.{cases_lt}
 use Rattle.tv_model.specs.Disk.{DiskState, Possible, Disk, possible_now, Within, SamePossible, MayAdd, Elapses, Throughout, OnlyTouches, OnlyMoves, TouchesOnly}
-use Rattle.tv_model.specs.Listed.{ListsEachFile}
-use Rattle.tv_model.specs.Names.{list_name}
+use Rattle.tv_model.specs.Listed.{IsAlwaysListed, ListsEachFile}
 
 -- the same states are possible
 pub same : (possible : Possible) → SamePossible possible possible
@@ -62,11 +61,15 @@ fewer_within possible old new within was = record { each = λ n s is. was.each n
 pub within_step : {old new : Disk} → Elapses old new → Within (possible_now old) (possible_now new) → Throughout (Within (possible_now old)) old new
 within_step {old} time within = goes_on _ (fewer_within (possible_now old)) (started _ (fewer_within (possible_now old)) old (record { each = λ n s is. is })) time within
 
+-- what is always listed stays so
+always_listed : (old new : Possible) (name : List ℕ) → Within old new → IsAlwaysListed old name → IsAlwaysListed new name
+always_listed old new name within was = (was.0, was.1, λ l is. was.2 l (within.each was.0 l is))
+
 -- a list forgets no more files
 pub fewer_listed : HoldsOfFewer ListsEachFile
 fewer_listed old new within was = record {
-  lists = λ l of_list. was.lists l (within.each list_name l of_list);
-  each = λ n undotted s is there l of_list. was.each n undotted s (within.each n s is) there l (within.each list_name l of_list);
+  lists = λ file of_list l is. was.lists file of_list l (within.each file l is);
+  each = λ n undotted s is there. always_listed old new n within (was.each n undotted s (within.each n s is) there);
 }
 
 -- what holds at each moment, and what follows from it

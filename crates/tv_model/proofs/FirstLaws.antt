@@ -29,7 +29,7 @@ use Rattle.tv_model.specs.Serving.{Serves, ServesAsSealed}
 use Rattle.tv_model.specs.Collecting.{CollectsIn, CollectsInStepsIn, CollectsAllElse, Ends, IsAtOnce, Tries}
 use Rattle.tv_model.specs.Telling.{Determined}
 use Rattle.tv_model.specs.Commits.{default_settings, first_commit, printed}
-use Rattle.tv_model.specs.Index.{DirectoryHolds, IsFileOf, IsSoundImage, OpensTo, first_state}
+use Rattle.tv_model.specs.Index.{DirectoryHolds, IsFileOf, IsSoundImage, IsSoundMeta, OpensTo, first_state}
 use Rattle.tv_model.specs.State.{State, Sealed, file_at}
 use Rattle.tv_model.specs.SoundStates.{IsSoundState}
 use Rattle.tv_model.proofs.Entries.{is_text, text_at}
@@ -38,7 +38,7 @@ use Rattle.tv_model.proofs.SoundStates.{first_sound, step_sound}
 use Rattle.tv_model.proofs.Serving.{serves, serves_as_sealed}
 use Rattle.tv_model.proofs.Collects.{collects_in}
 use Rattle.tv_model.proofs.CollectsInSteps.{collects_in_steps, collects_in_steps_in, collects_at_once, collects_all_else}
-use Rattle.tv_model.proofs.ListTexts.{written_is_list}
+use Rattle.tv_model.proofs.ListTexts.{listing_of_none, written_is_list}
 use Rattle.tv_model.proofs.NewDeletes.{first_in_order, new_delete, step_in_order}
 use Rattle.tv_model.proofs.PlainNames.{all_at}
 use Rattle.tv_model.proofs.ReadPrinted.{printed_means}
@@ -47,8 +47,13 @@ use Rattle.tv_model.proofs.Samples.{id_b}
 use Rattle.tv_model.proofs.Telling.{determined}
 
 -- a directory without files is sound, and opens to this state
-pub nothing_sound : (schema : List ℕ) → IsSoundImage schema (λ n. None)
-nothing_sound schema = record { names = []; listing = refl; listed = λ n undotted some. absurd (true≢false (sym some)); commit = tt }
+pub empty_sound : (schema : List ℕ) (reads : Reads) → ((n : List ℕ) → reads n ≡ None) → IsSoundImage schema reads
+empty_sound schema reads none = record {
+  names = [];
+  listing = listing_of_none reads none;
+  listed = λ n undotted some. absurd (true≢false (sym some ∙ ap is_some (none n)));
+  commit = subst (IsSoundMeta schema reads) (sym (none meta_name)) tt;
+}
 
 pub first_opens : (schema : List ℕ) → OpensTo default_settings schema (λ n. None) first_state
 first_opens schema = record {
@@ -82,8 +87,8 @@ stray_sound = record {
   meta = refl;
   names = λ n there. subst IsFileOf (is_stray n there) (refl, λ e. absurd cc);
   listed = λ n there. subst (λ (name : List ℕ). has stray.managed name ≡ true) (is_stray n there) refl;
-  whole = record { each = λ n required. absurd (true≢false (sym required)); collecting = nothing_held stray refl ((refl, tt), (tt, tt)) };
-  good = λ n bytes required is. absurd (true≢false (sym required));
+  whole = record { each = (λ n required. absurd (true≢false (sym required)), tt); collecting = nothing_held stray refl ((refl, tt), (tt, tt)) };
+  good = (λ n bytes required is. absurd (true≢false (sym required)), tt);
   live = λ n bytes required is. absurd (true≢false (sym required));
   stamps = inl (omega arith);
   within = tt;

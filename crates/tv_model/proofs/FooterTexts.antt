@@ -19,7 +19,7 @@ use Rattle.serde_json.specs.Data as trees
 use Rattle.serde_json.specs.Read.{read, of_json}
 use Rattle.serde_json.proofs.Numbers.{number_of-decimal}
 use Rattle.tv_model.specs.FooterForm.{FooterFits, FooterNumbers, Spells, if_u32, written_json}
-use Rattle.tv_model.specs.Footer.{IsFramed, footer, footer_json, four_bytes, footer_magic}
+use Rattle.tv_model.specs.Footer.{IsFramed, footer, footer_json, four_bytes, footer_magic, own_footer}
 use Rattle.tv_model.proofs.JsonReadBack.{read_of_tokens}
 
 -- ---- the JSON reads as its tree
@@ -71,8 +71,8 @@ next_utf8 text rest n t lt r = IsUtf8-append text (decimal n ++ rest) t (IsUtf8-
 fits_at : (n : ℕ) → n < 2 ^ 32 → if_u32 n ≡ Some n
 fits_at n lt = rw (lt-ltb n (2 ^ 32) lt) refl
 
-pub spells_itself : (f : FooterNumbers) → FooterFits f → Spells (written_json f) f
-spells_itself f h =
+pub spells_itself : (f : FooterNumbers) (n : ℕ) → FooterFits f → Spells (written_json f) n f
+spells_itself f n h =
     record {
       text = next_utf8 (codes "{\"version\":{\"major\":") _ f.major (IsUtf8-are_ascii _ refl) h.major
           (next_utf8 (codes ",\"minor\":") _ f.minor (IsUtf8-are_ascii _ refl) h.minor
@@ -109,18 +109,14 @@ json_short f h =
 
 -- ---- the footer of a sealed file
 
--- the numbers of this library's footer
-abbrev pub own : ℕ → FooterNumbers
-own crc = record { major = 0; minor = 26; patch = 2; format = 7; crc = crc }
-
-pub own_fits : (crc : ℕ) → crc < 2 ^ 32 → FooterFits (own crc)
+pub own_fits : (crc : ℕ) → crc < 2 ^ 32 → FooterFits (own_footer crc)
 own_fits crc h = record { major = omega arith; minor = omega arith; patch = omega arith; format = omega arith; crc = h }
 
-pub own_framed : (crc : ℕ) (body : List ℕ) → crc < 2 ^ 32 → IsFramed (body ++ footer crc) (own crc) body
+pub own_framed : (crc : ℕ) (body : List ℕ) → crc < 2 ^ 32 → IsFramed (body ++ footer crc) (own_footer crc) body
 own_framed crc body h =
     record {
       json = footer_json crc;
       whole = ap (λ (l : List ℕ). body ++ l) (append_assoc (footer_json crc) (four_bytes (length (footer_json crc))) (four_bytes footer_magic));
-      short = json_short (own crc) (own_fits crc h);
-      spells = spells_itself (own crc) (own_fits crc h);
+      short = json_short (own_footer crc) (own_fits crc h);
+      spells = spells_itself (own_footer crc) (length body) (own_fits crc h);
     }

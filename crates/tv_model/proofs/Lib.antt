@@ -45,3 +45,4 @@ pub mod Telling
 pub mod TextSets
 pub mod Validating
 pub mod DiskLaws
+pub mod ListedImages

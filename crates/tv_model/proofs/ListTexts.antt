@@ -20,8 +20,9 @@ use Rattle.json.proofs.Printed.Strings.{content-escape, escape_byte_plain, lex-e
 use Rattle.json.proofs.Printed.Utf8.{IsUtf8-are_ascii}
 use Rattle.serde_json.specs.Data.{string, array, Items, no_items, item}
 use Rattle.serde_json.specs.Read.{read, of_items}
-use Rattle.tv_model.specs.Names.{byte_cmp, has, is_name_byte, is_plain}
-use Rattle.tv_model.specs.Listing.{quoted, list_text, IsListed, AreStrings, IsListOf, Lists}
+use Rattle.tv_model.specs.Names.{byte_cmp, has, is_name_byte, is_plain, list_name}
+use Rattle.tv_model.specs.Files.{Reads}
+use Rattle.tv_model.specs.Listing.{quoted, list_text, AreStrings, IsListOf, IsManagedName, Listing, Lists}
 use Rattle.tv_model.proofs.Entries.{is_by_order}
 use Rattle.tv_model.proofs.JsonReadBack.{read_of_tokens}
 use Rattle.tv_model.proofs.PlainNames.{both, plain_parts}
@@ -55,7 +56,7 @@ strings (n ∷ m ∷ ns) = token (tokens.string n) ∷ comma ∷ strings (m ∷ 
 abbrev closing : List Lexeme
 closing = token tokens.end_array ∷ []
 
-lex_names : (names : List (List ℕ)) → AllByRecursion IsListed names → lex between (join_with_byte 44 (map quoted names) ++ 93 ∷ 10 ∷ []) ≡ strings names ++ closing
+lex_names : (names : List (List ℕ)) → AllByRecursion IsManagedName names → lex between (join_with_byte 44 (map quoted names) ++ 93 ∷ 10 ∷ []) ≡ strings names ++ closing
 unfolding lex
 lex_names [] h = refl
 lex_names (n ∷ []) h = lex_name n (93 ∷ 10 ∷ []) h.0.0
@@ -64,7 +65,7 @@ lex_names (n ∷ m ∷ ns) h =
     ∙ lex_name n (44 ∷ (join_with_byte 44 (map quoted (m ∷ ns)) ++ 93 ∷ 10 ∷ [])) h.0.0
     ∙ ap (λ (l : List Lexeme). token (tokens.string n) ∷ comma ∷ l) (lex_names (m ∷ ns) h.1)
 
-lex_list : (names : List (List ℕ)) → AllByRecursion IsListed names → lex between (list_text names) ≡ token tokens.begin_array ∷ (strings names ++ closing)
+lex_list : (names : List (List ℕ)) → AllByRecursion IsManagedName names → lex between (list_text names) ≡ token tokens.begin_array ∷ (strings names ++ closing)
 unfolding lex
 lex_list names h = ap (λ (l : List Lexeme). token tokens.begin_array ∷ l) (lex_names names h)
 
@@ -86,7 +87,7 @@ unfolding punctuate
 all_punctuated [] = refl
 all_punctuated (n ∷ ns) = ap (λ (l : List Token). tokens.begin_array ∷ l) (punctuated fresh n ns refl)
 
-list_tokens : (names : List (List ℕ)) → AllByRecursion IsListed names → lexer.tokens (list_text names) ≡ json_tokens (json.array (json_of names))
+list_tokens : (names : List (List ℕ)) → AllByRecursion IsManagedName names → lexer.tokens (list_text names) ≡ json_tokens (json.array (json_of names))
 list_tokens names h = ap (punctuate fresh) (lex_list names h) ∙ all_punctuated names
 
 flat : (names : List (List ℕ)) → items_depth (json_of names) ≤ 0
@@ -103,7 +104,7 @@ same_items : (names : List (List ℕ)) → of_items (json_of names) ≡ Some (it
 same_items [] = refl
 same_items (n ∷ ns) = rw (same_items ns) refl
 
-list_read : (names : List (List ℕ)) → AllByRecursion IsListed names → read (list_text names) ≡ Some (array (items_of names))
+list_read : (names : List (List ℕ)) → AllByRecursion IsManagedName names → read (list_text names) ≡ Some (array (items_of names))
 list_read names h = read_of_tokens (list_text names) (json.array (json_of names)) (list_tokens names h) (omega (arith, flat names)) ∙ rw (same_items names) refl
 
 they_are : (names : List (List ℕ)) → AreStrings (items_of names) names
@@ -113,20 +114,20 @@ they_are (n ∷ ns) = (refl, they_are ns)
 quoted_utf8 : (name : List ℕ) → IsUtf8 name → IsUtf8 (quoted name)
 quoted_utf8 name h = IsUtf8-append (34 ∷ []) (name ++ 34 ∷ []) (IsUtf8-are_ascii _ refl) (IsUtf8-append name (34 ∷ []) h (IsUtf8-are_ascii _ refl))
 
-names_utf8 : (names : List (List ℕ)) → AllByRecursion IsListed names → IsUtf8 (join_with_byte 44 (map quoted names))
+names_utf8 : (names : List (List ℕ)) → AllByRecursion IsManagedName names → IsUtf8 (join_with_byte 44 (map quoted names))
 names_utf8 [] h = IsUtf8-are_ascii _ refl
 names_utf8 (n ∷ []) h = quoted_utf8 n h.0.1
 names_utf8 (n ∷ m ∷ ns) h =
     IsUtf8-append (quoted n) (44 ∷ join_with_byte 44 (map quoted (m ∷ ns))) (quoted_utf8 n h.0.1)
     (IsUtf8-append (44 ∷ []) (join_with_byte 44 (map quoted (m ∷ ns))) (IsUtf8-are_ascii _ refl) (names_utf8 (m ∷ ns) h.1))
 
-list_utf8 : (names : List (List ℕ)) → AllByRecursion IsListed names → IsUtf8 (list_text names)
+list_utf8 : (names : List (List ℕ)) → AllByRecursion IsManagedName names → IsUtf8 (list_text names)
 list_utf8 names h =
     IsUtf8-append (91 ∷ []) (join_with_byte 44 (map quoted names) ++ 93 ∷ 10 ∷ []) (IsUtf8-are_ascii _ refl)
     (IsUtf8-append (join_with_byte 44 (map quoted names)) (93 ∷ 10 ∷ []) (names_utf8 names h) (IsUtf8-are_ascii _ refl))
 
 -- the written list of names is the list of these names
-pub written_is_list : (names : List (List ℕ)) → AllByRecursion IsListed names → IsStrictlySortedBy byte_cmp names → IsListOf (list_text names) names
+pub written_is_list : (names : List (List ℕ)) → AllByRecursion IsManagedName names → IsStrictlySortedBy byte_cmp names → IsListOf (list_text names) names
 written_is_list names h o = record {
   utf8 = list_utf8 names h;
   items = items_of names;
@@ -176,3 +177,23 @@ list_one bytes xs ys h k =
 pub lists_one : (read : Option (List ℕ)) (xs ys : List (List ℕ)) → Lists read xs → Lists read ys → xs ≡ ys
 lists_one None xs ys h k = h ∙ sym k
 lists_one (Some bytes) xs ys h k = list_one bytes xs ys h k
+
+-- what is read of the list stands in its order
+lists_sorted : (read : Option (List ℕ)) (names : List (List ℕ)) → Lists read names → IsStrictlySortedBy byte_cmp names
+unfolding IsStrictlySortedBy
+lists_sorted None names h = subst (IsStrictlySortedBy byte_cmp) (sym h) tt
+lists_sorted (Some bytes) names h = h.ordered
+
+-- ---- the files of the list
+
+-- they tell their names
+pub listing_one : (reads : Reads) (xs ys : List (List ℕ)) → Listing reads xs → Listing reads ys → xs ≡ ys
+listing_one reads xs ys h k = lists_one (reads list_name) xs ys h k
+
+-- which stand in their order
+pub listing_sorted : (reads : Reads) (names : List (List ℕ)) → Listing reads names → IsStrictlySortedBy byte_cmp names
+listing_sorted reads names h = lists_sorted (reads list_name) names h
+
+-- where nothing is read there are none
+pub listing_of_none : (reads : Reads) → ((n : List ℕ) → reads n ≡ None) → Listing reads []
+listing_of_none reads none = subst (λ (read : Option (List ℕ)). Lists read []) (sym (none list_name)) refl

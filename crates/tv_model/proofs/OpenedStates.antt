@@ -3,7 +3,7 @@ use Rattle.std.proofs.Common.{◌≡◌, ℕ, ◌<◌, ◌^◌, true, true≢fal
 use Rattle.std.specs.Prelude.{IsSome, is_some, option_map}
 use Rattle.std.specs.List.{AllByRecursion}
 use Rattle.tv_model.specs.declared.segment.LiveSegment.{LiveSegment}
-use Rattle.tv_model.specs.Names.{has, list_name, meta_name}
+use Rattle.tv_model.specs.Names.{has, meta_name}
 use Rattle.tv_model.specs.Files.{Reads}
 use Rattle.tv_model.specs.Footer.{IsGood}
 use Rattle.tv_model.specs.Segments.{all_required}
@@ -15,7 +15,7 @@ use Rattle.tv_model.specs.SoundStates.{AreGood, AreWithin, IsSoundState}
 use Rattle.tv_model.proofs.Entries.{has_inserted, has_kept}
 use Rattle.tv_model.proofs.Required.{required_is_file}
 use Rattle.tv_model.proofs.OneMeaning.{means_one}
-use Rattle.tv_model.proofs.ListTexts.{lists_one}
+use Rattle.tv_model.proofs.ListTexts.{listing_one}
 use Rattle.tv_model.proofs.HeldStates.{nothing_held}
 use Rattle.tv_model.proofs.SoundOpenings.{opens_managed_sorted}
 use Rattle.tv_model.proofs.SoundStates.{stamps_after}
@@ -63,7 +63,7 @@ segments_within (e ∷ segments) h = (h.0.deletes, segments_within segments h.1)
 
 pub opens_sound : (settings : Settings) (schema : List ℕ) (reads : Reads) (s : State) → IsSoundImage schema reads → OpensTo settings schema reads s → IsSoundState s
 opens_sound settings schema reads s sound o =
-    let names : sound.names ≡ o.listed = lists_one (reads list_name) sound.names o.listed sound.listing o.listing in
+    let names : sound.names ≡ o.listed = listing_one reads sound.names o.listed sound.listing o.listing in
     let on_list : (n : List ℕ) → has sound.names n ≡ true → has o.listed n ≡ true = λ n h. subst (λ (ns : List (List ℕ)). has ns n ≡ true) names h in
     let start = starts settings schema reads o.listed s (reads meta_name) o.covered o.found o.managed sound.commit in
     let read : (n : List ℕ) → has (all_required s.catalog.commit.segments) n ≡ true → (bytes : List ℕ) × (file_at s n ≡ Some (Sealed bytes)) × IsGood bytes = λ n is.
@@ -77,8 +77,8 @@ opens_sound settings schema reads s sound o =
       listed = λ n there.
           let named = o.names n there in
           start.kept n (on_list n (sound.listed n named.0 (there_reads (reads n) (sym (ap is_some (o.files n named)) ∙ there))));
-      whole = record { each = λ n is. ap is_sealed (read n is).1; collecting = nothing_held s o.collections (opens_managed_sorted settings schema reads s o) };
-      good = good;
+      whole = record { each = (λ n is. ap is_sealed (read n is).1, tt); collecting = nothing_held s o.collections (opens_managed_sorted settings schema reads s o) };
+      good = (good, tt);
       live = subst (AreGood s) (sym o.live) good;
       stamps = stamps_after s.catalog.commit.opstamp s.catalog.next o.next;
       within = within;

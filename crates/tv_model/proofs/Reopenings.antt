@@ -3,7 +3,7 @@ use Rattle.std.proofs.Common.{◌≡◌, ◌⊎◌, inl, inr, ℕ, Bool, true, t
 use Rattle.std.specs.Prelude.{is_some, option_map}
 use Rattle.std.specs.BTreeMap.{is_at}
 use Rattle.std.proofs.lemmas.Bool.{false_from_ne_true}
-use Rattle.tv_model.specs.Names.{byte_cmp, is, is_undotted, list_name, meta_name}
+use Rattle.tv_model.specs.Names.{byte_cmp, is, is_undotted, meta_name}
 use Rattle.tv_model.specs.Files.{Reads}
 use Rattle.tv_model.specs.Commits.{Commit, Settings}
 use Rattle.tv_model.specs.CollectionEvents.{left}
@@ -14,7 +14,7 @@ use Rattle.tv_model.specs.Reopening.{AreAlike, found_file, found_in}
 use Rattle.tv_model.specs.SoundStates.{IsSoundState}
 use Rattle.tv_model.proofs.Changes.{none_is}
 use Rattle.tv_model.proofs.Entries.{is_itself, is_text, text_at}
-use Rattle.tv_model.proofs.ListTexts.{lists_one}
+use Rattle.tv_model.proofs.ListTexts.{listing_one}
 use Rattle.tv_model.proofs.OneMeaning.{means_one}
 use Rattle.tv_model.proofs.SoundOpenings.{opens_catalog}
 
@@ -73,7 +73,7 @@ file_name n = by_dot (is_undotted n) refl (is n meta_name) refl where
 pub opens_one : (settings others : Settings) (schema : List ℕ) (reads : Reads) (s t : State) → OpensTo settings schema reads s → OpensTo others schema reads t → AreAlike s t
 opens_one settings others schema reads s t o k =
     let commit : s.catalog.commit ≡ t.catalog.commit = one_commit schema (reads meta_name) settings others s.catalog.commit t.catalog.commit o.found k.found in
-    let listed : o.listed ≡ k.listed = lists_one (reads list_name) o.listed k.listed o.listing k.listing in
+    let listed : o.listed ≡ k.listed = listing_one reads o.listed k.listed o.listing k.listing in
     record {
       catalog = opens_catalog settings schema reads s o ∙ ap opened_catalog commit ∙ sym (opens_catalog others schema reads t k);
       files = λ n. by_name n (file_name n);

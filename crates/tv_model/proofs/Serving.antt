@@ -9,14 +9,14 @@ use Rattle.tv_model.specs.Footer.{HasBody, IsGood}
 use Rattle.tv_model.specs.Collections.{Rises}
 use Rattle.tv_model.specs.State.{Catalog, State, FileState, Sealed, Open, Left, Readers, Reader, Snapshot, file_at, reader_at, searcher_at, no_readers}
 use Rattle.tv_model.specs.CommitEvents.{last_stamp, is_sealed}
-use Rattle.tv_model.specs.ReaderEvents.{body_in, snapshot_in}
+use Rattle.tv_model.specs.ReaderEvents.{bodies_in, body_in, snapshot_in}
 use Rattle.tv_model.specs.SearcherEvents.{searcher_step}
 use Rattle.tv_model.specs.ReopenEvents.{reopened}
 use Rattle.tv_model.specs.Machine.{Turn, NeverReopens, isnt_reopening, step, after, events_of}
 use Rattle.tv_model.specs.Index.{next_after}
 use Rattle.tv_model.specs.Script.{Fits}
 use Rattle.tv_model.specs.SoundStates.{IsSoundState}
-use Rattle.tv_model.specs.Serving.{Shows, Serves, ShowsAsSealed, ServesAsSealed}
+use Rattle.tv_model.specs.Serving.{IsBusyAfterEach, Shows, Serves, ShowsAsSealed, ServesAsSealed}
 use Rattle.tv_model.proofs.Bodies.{body_of_good}
 use Rattle.tv_model.proofs.Numbered.{found, put_all, gone_all, rises_put, rises_gone, only, put_found}
 use Rattle.tv_model.proofs.SoundStates.{step_sound}
@@ -222,10 +222,31 @@ orderly_after t turns h = after_kept Orderly (step_keeps Orderly orderly (λ u k
 abbrev Sees : State → List Turn → Readers → Type 0
 Sees s turns who = Holds (λ e. Shows s turns e.1) (λ e. Shows s turns e.1.shown) who
 
+-- of no turns there is none after which the meta lock had to be held
+busy_none : (s : State) → IsBusyAfterEach s []
+busy_none s [] rest e some = absurd (some refl)
+busy_none s (turn ∷ front) rest e some = absurd cc
+
+-- what is shown of the state that a part of the run came to
+shows_part : (s : State) (turns before rest : List Turn) (shown : Snapshot) (n : ℕ) → turns ≡ before ++ rest → shown ≡ snapshot_in (after s before) n → Shows s turns shown
+shows_part s turns before rest shown n e is =
+    let commit : shown.commit ≡ (after s before).catalog.commit = ap (λ k. k.commit) is in record {
+      noting = before;
+      reading = [];
+      rest = rest;
+      parts = e ∙ ap (λ (l : List Turn). l ++ rest) (sym (append-nil before));
+      commit = commit;
+      bodies =
+          ap (λ k. k.bodies) is
+          ∙ ap (bodies_in (after s before)) (sym commit)
+          ∙ ap (λ (l : List Turn). bodies_in (after s l) shown.commit) (sym (append-nil before));
+      locked = busy_none (after s before);
+    }
+
 sees_spreads : (s : State) (turns before rest : List Turn) → turns ≡ before ++ rest → Spreads (λ e. Shows s turns e.1) (λ e. Shows s turns e.1.shown) (after s before)
 sees_spreads s turns before rest e = record {
-  comes = λ reader shown. (before, rest, e, shown ∙ ap (snapshot_in (after s before)) (sym (ap (λ k. k.generation) shown)));
-  reloads = λ n old new shown h. (before, rest, e, shown ∙ ap (snapshot_in (after s before)) (sym (ap (λ k. k.generation) shown)));
+  comes = λ reader shown. shows_part s turns before rest reader.shown 0 e shown;
+  reloads = λ n old new shown h. shows_part s turns before rest new.shown old.next e shown;
   searches = λ n reader h. h;
 }
 
@@ -358,7 +379,7 @@ sealed_shown (Some (Sealed bytes)) h good =
     (bytes, is.body, refl, is.has_body, body_of_good bytes is.body is.has_body)
 
 shows_as_sealed : (s : State) → IsSoundState s → ShowsAsSealed s
-shows_as_sealed s h n required = sealed_shown (file_at s n) (h.whole.each n required) (λ bytes. h.good n bytes required)
+shows_as_sealed s h n required = sealed_shown (file_at s n) (h.whole.each.0 n required) (λ bytes. h.good.0 n bytes required)
 
 -- bodies are shown as they were sealed
 pub serves_as_sealed : (s : State) (turns : List Turn) → IsSoundState s → AllByRecursion Fits (events_of turns) → ServesAsSealed s turns

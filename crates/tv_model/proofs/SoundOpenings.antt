@@ -5,15 +5,15 @@ use Rattle.std.specs.Map.{lookup}
 use Rattle.std.specs.BTreeMap.{is_at}
 use Rattle.std.specs.List.Sorted.{IsStrictlySortedBy}
 use Rattle.std.proofs.lemmas.Bool.{and_parts, not-true, false_from_ne_true}
-use Rattle.tv_model.specs.Names.{byte_cmp, is, has, is_undotted, list_name, meta_name}
+use Rattle.tv_model.specs.Names.{byte_cmp, is, has, is_undotted, meta_name}
 use Rattle.tv_model.specs.Files.{Reads}
-use Rattle.tv_model.specs.Listing.{Lists}
 use Rattle.tv_model.specs.Commits.{Commit, Settings, default_settings, first_commit}
 use Rattle.tv_model.specs.Schemas.{IsSchema}
 use Rattle.tv_model.specs.Collections.{no_collections}
 use Rattle.tv_model.specs.State.{Catalog, State, FileState, Sealed, no_readers}
 use Rattle.tv_model.specs.Index.{IsFileOf, IsSoundMeta, IsSoundImage, FindsCommit, managed_with, OpensTo, OpenedIndex, next_after, opened_catalog}
 use Rattle.tv_model.proofs.Entries.{is_text, is_itself, is_by_order, sorted_put}
+use Rattle.tv_model.proofs.ListTexts.{listing_sorted}
 
 -- ---- the files of the state
 
@@ -143,12 +143,6 @@ pub opens_catalog : (settings : Settings) (schema : List ℕ) (reads : Reads) (s
     → s.catalog ≡ opened_catalog s.catalog.commit
 opens_catalog settings schema reads s o = catalog_of s.catalog o.live o.next o.reading
 
--- what is read of the list stands in its order
-pub lists_sorted : (read : Option (List ℕ)) (names : List (List ℕ)) → Lists read names → IsStrictlySortedBy byte_cmp names
-unfolding IsStrictlySortedBy
-lists_sorted None names h = subst (IsStrictlySortedBy byte_cmp) (sym h) tt
-lists_sorted (Some bytes) names h = h.ordered
-
 managed_sorted : (read : Option (List ℕ)) (listed : List (List ℕ)) → IsStrictlySortedBy byte_cmp listed
     → IsStrictlySortedBy byte_cmp (managed_with read listed)
 managed_sorted None listed h = sorted_put listed meta_name h
@@ -158,4 +152,4 @@ managed_sorted (Some text) listed h = h
 pub opens_managed_sorted : (settings : Settings) (schema : List ℕ) (reads : Reads) (s : State) → OpensTo settings schema reads s
     → IsStrictlySortedBy byte_cmp s.managed
 opens_managed_sorted settings schema reads s o =
-    subst (IsStrictlySortedBy byte_cmp) (sym o.managed) (managed_sorted (reads meta_name) o.listed (lists_sorted (reads list_name) o.listed o.listing))
+    subst (IsStrictlySortedBy byte_cmp) (sym o.managed) (managed_sorted (reads meta_name) o.listed (listing_sorted reads o.listed o.listing))

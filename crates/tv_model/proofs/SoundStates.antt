@@ -44,8 +44,8 @@ first_sound = record {
   meta = refl;
   names = λ n h. absurd (true≢false (sym h));
   listed = λ n h. absurd (true≢false (sym h));
-  whole = record { each = λ n h. absurd (true≢false (sym h)); collecting = nothing_held first_state refl (tt, tt) };
-  good = λ n bytes required h. absurd cc;
+  whole = record { each = (λ n h. absurd (true≢false (sym h)), tt); collecting = nothing_held first_state refl (tt, tt) };
+  good = (λ n bytes required h. absurd cc, tt);
   live = λ n bytes required h. absurd cc;
   stamps = inl (omega arith);
   within = tt;
@@ -74,7 +74,7 @@ put_sound s name file fits listed good whole h = record {
       put_some {P = has s.managed n ≡ true} (is_at (byte_cmp name) n) file (file_at s n) (λ e. subst (λ (m : List ℕ). has s.managed m ≡ true) (text_at name n e) listed) (h.listed n)
       (rw (lookup_put s.files name n file) at is);
   whole = whole;
-  good = put_good s name file s.catalog.commit.segments good h.good;
+  good = (put_good s name file s.catalog.commit.segments good h.good.0, tt);
   live = put_good s name file s.catalog.live good h.live;
   stamps = h.stamps;
   within = h.within;
@@ -93,7 +93,7 @@ opened_sound s name fits whole h = record {
       (λ e. subst (λ (m : List ℕ). has (insert_key byte_cmp s.managed name) m ≡ true) (text_at name n e) (has_inserted s.managed name)) (λ there. has_kept s.managed name n (h.listed n there))
       (rw (lookup_put s.files name n (Open [])) at is);
   whole = whole;
-  good = put_good s name (Open []) s.catalog.commit.segments (λ bytes k. absurd cc) h.good;
+  good = (put_good s name (Open []) s.catalog.commit.segments (λ bytes k. absurd cc) h.good.0, tt);
   live = put_good s name (Open []) s.catalog.live (λ bytes k. absurd cc) h.live;
   stamps = h.stamps;
   within = h.within;
@@ -170,7 +170,7 @@ committed_sound s payload ids whole h = record {
   names = h.names;
   listed = h.listed;
   whole = whole;
-  good = λ n bytes required is. h.live n bytes (required_some _ s.catalog.live n required) is;
+  good = (λ n bytes required is. h.live n bytes (required_some _ s.catalog.live n required) is, tt);
   live = h.live;
   stamps = inl (omega arith);
   within = each_some IsWithin _ s.catalog.live h.live_within;
@@ -192,7 +192,7 @@ collected_sound s gone spared whole h = record {
       let k = kept_some (has gone n) (file_at s n) (rw (at_without gone s.files n) at is) in
       rw (has_without gone s.managed n, k.1) (h.listed n k.0);
   whole = whole;
-  good = λ n bytes required is. h.good n bytes required (kept_since (not (has gone n)) (file_at s n) bytes (rw (at_without gone s.files n) at is));
+  good = (λ n bytes required is. h.good.0 n bytes required (kept_since (not (has gone n)) (file_at s n) bytes (rw (at_without gone s.files n) at is)), tt);
   live = λ n bytes required is. h.live n bytes required (kept_since (not (has gone n)) (file_at s n) bytes (rw (at_without gone s.files n) at is));
   stamps = h.stamps;
   within = h.within;
@@ -210,7 +210,7 @@ released_sound s id segment whole h = record {
   names = λ n is. h.names n (sym (left_some (has (segment_names (id, segment)) n) (file_at s n)) ∙ (rw (at_left (segment_names (id, segment)) s.files n) at is));
   listed = λ n is. h.listed n (sym (left_some (has (segment_names (id, segment)) n) (file_at s n)) ∙ (rw (at_left (segment_names (id, segment)) s.files n) at is));
   whole = whole;
-  good = λ n bytes required is. h.good n bytes required (left_since (has (segment_names (id, segment)) n) (file_at s n) bytes (rw (at_left (segment_names (id, segment)) s.files n) at is));
+  good = (λ n bytes required is. h.good.0 n bytes required (left_since (has (segment_names (id, segment)) n) (file_at s n) bytes (rw (at_left (segment_names (id, segment)) s.files n) at is)), tt);
   live = λ n bytes required is.
       h.live n bytes (required_left (is_at (byte_cmp id)) s.catalog.live n required)
       (left_since (has (segment_names (id, segment)) n) (file_at s n) bytes (rw (at_left (segment_names (id, segment)) s.files n) at is));
@@ -244,7 +244,7 @@ deleted_sound s id m segment may whole h =
       names = λ n is. h.names n (sym (left_some (has former n) (file_at s n)) ∙ (rw (at_left former s.files n) at is));
       listed = λ n is. h.listed n (sym (left_some (has former n) (file_at s n)) ∙ (rw (at_left former s.files n) at is));
       whole = whole;
-      good = λ n bytes required is. h.good n bytes required (left_since (has former n) (file_at s n) bytes (rw (at_left former s.files n) at is));
+      good = (λ n bytes required is. h.good.0 n bytes required (left_since (has former n) (file_at s n) bytes (rw (at_left former s.files n) at is)), tt);
       live = λ n bytes required is. deleted_good s id m segment may h n bytes required (left_since (has former n) (file_at s n) bytes (rw (at_left former s.files n) at is));
       stamps = drawn s.catalog.commit.opstamp s.catalog.next last_stamp may.last h.stamps;
       within = h.within;
@@ -276,7 +276,7 @@ fewer_sound s gone collections whole h =
       names = λ n is. h.names n (before n is);
       listed = λ n is. h.listed n (before n is);
       whole = whole;
-      good = λ n bytes required is. h.good n bytes required (kept_since (not (has gone n)) (file_at s n) bytes (rw (at_without gone s.files n) at is));
+      good = (λ n bytes required is. h.good.0 n bytes required (kept_since (not (has gone n)) (file_at s n) bytes (rw (at_without gone s.files n) at is)), tt);
       live = λ n bytes required is. h.live n bytes required (kept_since (not (has gone n)) (file_at s n) bytes (rw (at_without gone s.files n) at is));
       stamps = h.stamps;
       within = h.within;
@@ -319,12 +319,12 @@ stamps_after opstamp next e =
 
 reopened_sound : (s : State) → IsWhole (reopened s) → IsSoundState s → IsSoundState (reopened s)
 reopened_sound s whole h =
-    let good : AreGood (reopened s) s.catalog.commit.segments = λ n bytes required is. h.good n bytes required (left_since true (file_at s n) bytes (rw (at_all_left s.files n) at is)) in record {
+    let good : AreGood (reopened s) s.catalog.commit.segments = λ n bytes required is. h.good.0 n bytes required (left_since true (file_at s n) bytes (rw (at_all_left s.files n) at is)) in record {
       meta = h.meta;
       names = λ n is. h.names n (sym (left_some true (file_at s n)) ∙ (rw (at_all_left s.files n) at is));
       listed = λ n is. h.listed n (sym (left_some true (file_at s n)) ∙ (rw (at_all_left s.files n) at is));
       whole = whole;
-      good = good;
+      good = (good, tt);
       live = good;
       stamps = stamps_after s.catalog.commit.opstamp (next_after s.catalog.commit.opstamp) refl;
       within = h.within;
@@ -395,8 +395,8 @@ holds_sound settings schema reads s d h = record {
         d.meta.2,
         record {
           each = λ n is.
-              let e : is_sealed (file_at s n) ≡ true = h.whole.each n is in
-              sealed_reads (file_at s n) (reads n) (d.files n (h.names n (sealed_is_some (file_at s n) e))) e (λ bytes. h.good n bytes is);
+              let e : is_sealed (file_at s n) ≡ true = h.whole.each.0 n is in
+              sealed_reads (file_at s n) (reads n) (d.files n (h.names n (sealed_is_some (file_at s n) e))) e (λ bytes. h.good.0 n bytes is);
         },
       );
 }
@@ -407,6 +407,6 @@ sealed_good (Some (Sealed bytes)) e good = (bytes, refl, good bytes refl)
 sealed_good (Some (Open body)) e good = absurd cc
 sealed_good (Some Left) e good = absurd cc
 
--- the files that the commit of a sound state requires can be read
+-- the files that the kept commits of a sound state require can be read
 pub sound_reads : (s : State) → IsSoundState s → CanRead s
-sound_reads s h = record { each = λ n is. sealed_good (file_at s n) (h.whole.each n is) (λ bytes. h.good n bytes is) }
+sound_reads s h = (record { each = λ n is. sealed_good (file_at s n) (h.whole.each.0 n is) (λ bytes. h.good.0 n bytes is) }, tt)

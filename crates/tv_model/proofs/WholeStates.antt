@@ -15,7 +15,7 @@ use Rattle.tv_model.specs.CollectionEvents.{garbage, files_without, without_file
 use Rattle.tv_model.specs.DeleteEvents.{delete_name}
 use Rattle.tv_model.specs.ReopenEvents.{all_left}
 use Rattle.tv_model.specs.Machine.{Turn, after}
-use Rattle.tv_model.specs.SoundStates.{CollectsSoundly, IsWhole}
+use Rattle.tv_model.specs.SoundStates.{CollectsSoundly, HasSealedFiles, IsWhole}
 use Rattle.tv_model.proofs.Entries.{is_itself, is_text, text_at, lookup_put}
 use Rattle.tv_model.proofs.Changes.{OfEachChange, step_changes, after_kept}
 use Rattle.tv_model.proofs.CollectionStates.{at_without, at_left, required_living, living_spared}
@@ -51,24 +51,24 @@ left_sealed true (Some (Sealed other)) = refl
 left_sealed true (Some (Open body)) = refl
 left_sealed true (Some Left) = refl
 
--- the files that the commit requires are sealed
-abbrev AreSealed : State → Type 0
-AreSealed s = (n : List ℕ) → has (all_required s.catalog.commit.segments) n ≡ true → is_sealed (file_at s n) ≡ true
+-- the files that the current commit requires are sealed
+abbrev IsCommitSealed : State → Type 0
+IsCommitSealed s = HasSealedFiles s s.catalog.commit
 
 -- a file that is put where no sealed file stands
-with_file_whole : (s : State) (name : List ℕ) (file : FileState) → is_sealed (file_at s name) ≡ false → AreSealed s → AreSealed (with_file s name file)
+with_file_whole : (s : State) (name : List ℕ) (file : FileState) → is_sealed (file_at s name) ≡ false → IsCommitSealed s → IsCommitSealed (with_file s name file)
 with_file_whole s name file unsealed h n is =
     rw (lookup_put s.files name n file) (put_whole (is_at (byte_cmp name) n) file (file_at s n) (λ e. subst (λ (m : List ℕ). is_sealed (file_at s m) ≡ false) (text_at name n e) unsealed) (h n is))
 
 -- a commit, all of whose files are sealed
-committed_whole : (s : State) (payload : Option (List ℕ)) (segments : List (List ℕ × LiveSegment)) → first_unsealed s segments ≡ None → AreSealed (on_catalog s (committed s.catalog payload segments)).1
+committed_whole : (s : State) (payload : Option (List ℕ)) (segments : List (List ℕ × LiveSegment)) → first_unsealed s segments ≡ None → IsCommitSealed (on_catalog s (committed s.catalog payload segments)).1
 committed_whole s payload segments e n is = not-false (is_sealed (file_at s n)) (none_passes (λ name. not (is_sealed (file_at s name))) (all_required segments) n e is)
 
 -- files that nothing needs are gone
 gone_whole : (s : State) (gone : List (List ℕ)) (n : List ℕ) → has gone n ≡ false → is_sealed (file_at s n) ≡ true → is_sealed (at (files_without gone s.files) n) ≡ true
 gone_whole s gone n spared h = rw (at_without gone s.files n, spared) h
 
-collected_whole : (s : State) (outcomes : List Bool) → AreSealed s → AreSealed (without_files s (done_of (garbage s) outcomes))
+collected_whole : (s : State) (outcomes : List Bool) → IsCommitSealed s → IsCommitSealed (without_files s (done_of (garbage s) outcomes))
 collected_whole s outcomes h n is = gone_whole s (done_of (garbage s) outcomes) n (living_spared s outcomes n (required_living s n is)) (h n is)
 
 -- files that are left
@@ -89,7 +89,7 @@ tried_spared s number c name left n there e h needed =
     rw other refl
 
 tried_whole : (s : State) (number : ℕ) (c : Collection) (name : List ℕ) (left : List (List ℕ)) (is_done : Bool) → collection_at s.collections number ≡ Some c → c.untried ≡ name ∷ left → CollectsSoundly s
-    → AreSealed s → AreSealed (having_deleted s number c name left is_done).1
+    → IsCommitSealed s → IsCommitSealed (having_deleted s number c name left is_done).1
 tried_whole s number c name left true there e collecting h n is = gone_whole s (name ∷ []) n (tried_spared s number c name left n there e collecting (required_living s n is)) (h n is)
 tried_whole s number c name left false there e collecting h n is = h n is
 
@@ -106,18 +106,18 @@ whole_changes s event h = let k = collecting_changes s event h.collecting in rec
   lives = λ id segment move. record { each = h.each; collecting = k.lives id segment move };
   reads = λ now move. record { each = h.each; collecting = k.reads now move };
   opens = λ id segment component e there absent. record {
-    each = with_file_whole s (name_of id segment.deletes component) (Open []) (absent_isnt_sealed _ absent) h.each;
+    each = (with_file_whole s (name_of id segment.deletes component) (Open []) (absent_isnt_sealed _ absent) h.each.0, tt);
     collecting = k.opens id segment component e there absent;
   };
-  puts = λ name body file e good. record { each = with_file_whole s name file (ap is_sealed e) h.each; collecting = k.puts name body file e good };
-  commits = λ payload ids last e. record { each = committed_whole s payload (chosen s.catalog ids) e; collecting = k.commits payload ids last e };
-  collects = λ outcomes. record { each = collected_whole s outcomes h.each; collecting = k.collects outcomes };
-  releases = λ id segment. record { each = λ n is. left_whole s (segment_names (id, segment)) n (h.each n is); collecting = k.releases id segment };
-  deletes = λ id m segment may. record { each = λ n is. left_whole s (delete_name id segment.deletes ∷ []) n (h.each n is); collecting = k.deletes id m segment may };
+  puts = λ name body file e good. record { each = (with_file_whole s name file (ap is_sealed e) h.each.0, tt); collecting = k.puts name body file e good };
+  commits = λ payload ids last e. record { each = (committed_whole s payload (chosen s.catalog ids) e, tt); collecting = k.commits payload ids last e };
+  collects = λ outcomes. record { each = (collected_whole s outcomes h.each.0, tt); collecting = k.collects outcomes };
+  releases = λ id segment. record { each = (λ n is. left_whole s (segment_names (id, segment)) n (h.each.0 n is), tt); collecting = k.releases id segment };
+  deletes = λ id m segment may. record { each = (λ n is. left_whole s (delete_name id segment.deletes ∷ []) n (h.each.0 n is), tt); collecting = k.deletes id m segment may };
   begins = record { each = h.each; collecting = k.begins };
-  tries = λ number c name left is_done step there e. record { each = tried_whole s number c name left is_done there e h.collecting h.each; collecting = k.tries number c name left is_done step there e };
+  tries = λ number c name left is_done step there e. record { each = (tried_whole s number c name left is_done there e h.collecting h.each.0, tt); collecting = k.tries number c name left is_done step there e };
   finishes = λ number c e there. record { each = h.each; collecting = k.finishes number c e there };
-  reopens = λ e. record { each = λ n is. rw (at_all_left s.files n, left_sealed true (file_at s n)) (h.each n is); collecting = k.reopens e };
+  reopens = λ e. record { each = (λ n is. rw (at_all_left s.files n, left_sealed true (file_at s n)) (h.each.0 n is), tt); collecting = k.reopens e };
 }
 
 pub after_whole : (s : State) (turns : List Turn) → IsWhole s → IsWhole (after s turns)

@@ -6,7 +6,7 @@ use Rattle.tv_model.specs.declared.event.Event.{Event}
 use Rattle.tv_model.specs.declared.event.Event.TheVariants as events
 use Rattle.tv_model.specs.Names.{is, has}
 use Rattle.tv_model.specs.Collections.{Collection, AreOnce, begun, collection_at, done_of, failed_of, having_tried, held, taken}
-use Rattle.tv_model.specs.Living.{living}
+use Rattle.tv_model.specs.Living.{living, is_busy}
 use Rattle.tv_model.specs.State.{State, file_at}
 use Rattle.tv_model.specs.CollectionEvents.{garbage, collected_line, gc_begin_step, gc_end_step, gc_step, gc_step_step, is_done}
 use Rattle.tv_model.specs.Lines.{line, refuse}
@@ -44,10 +44,11 @@ pub record Collects (s : State) (outcomes : List Bool) : Type 0 where
   -- no more names fail than deletes were refused
   pub counted : length (failed_of (garbage s) outcomes) ≤ refused_in outcomes
 
--- each collection at once of a run
+-- each collection at once of a run, where the meta lock is free
 abbrev pub CollectsIn : State → List Turn → Type 0
 CollectsIn s turns = (front rest : List Turn) (outcomes : List Bool)
-    → turns ≡ front ++ (events.Gc, outcomes) ∷ rest → Collects (after s front) outcomes
+    → turns ≡ front ++ (events.Gc, outcomes) ∷ rest → is_busy (after s front).catalog ≡ false
+    → Collects (after s front) outcomes
 
 -- What the events of the collection of this number leave alone: the catalog, and the other collections.
 pub record LeavesOthers (old new : State) (number : ℕ) : Type 0 where
@@ -121,8 +122,8 @@ isnt_of number other = true
 
 -- Collections in steps.
 pub record CollectsInSteps (s : State) : Type 0 where
-  -- one that begins takes what nothing needs and no other one holds
-  pub begins : Begins s
+  -- one that begins where the meta lock is free takes what nothing needs and no other one holds
+  pub begins : is_busy s.catalog ≡ false → Begins s
   -- one that is unfinished stays so until it is finished or the index is opened again
   pub stays : (turns : List Turn) (number : ℕ) → NeverEnds number turns
       → IsSome (collection_at s.collections number) → IsSome (collection_at (after s turns).collections number)
@@ -166,7 +167,9 @@ pub record IsAtOnce (s : State) (outcomes : List Bool) : Type 0 where
   pub managed : (gc_step s outcomes).1.managed ≡ (after s (whole_collection s outcomes)).managed
   pub catalog : (gc_step s outcomes).1.catalog ≡ (after s (whole_collection s outcomes)).catalog
 
--- A collection at once of which no delete is refused leaves exactly the files that are needed or held; after an opening nothing is held.
+-- Where the meta lock is free, a collection at once of which no delete is refused leaves exactly the files
+-- that are needed or held; after an opening nothing is held.
 abbrev pub CollectsAllElse : State → Type 0
-CollectsAllElse s = (outcomes : List Bool) (n : List ℕ) → refused_in outcomes ≡ 0
-    → is_some (file_at (gc_step s outcomes).1 n) ≡ (is_some (file_at s n) && (has (living s.catalog) n || has (held s.collections) n))
+CollectsAllElse s = is_busy s.catalog ≡ false → (outcomes : List Bool) (n : List ℕ) → refused_in outcomes ≡ 0
+    → is_some (file_at (gc_step s outcomes).1 n)
+    ≡ (is_some (file_at s n) && (has (living s.catalog) n || has (held s.collections) n))

@@ -7,9 +7,13 @@ use Rattle.tv_model.specs.FooterForm.{FooterNumbers, Spells, written_json}
 abbrev pub four_bytes : ℕ → List ℕ
 four_bytes n = n % 256 ∷ n / 256 % 256 ∷ n / 65536 % 256 ∷ n / 16777216 % 256 ∷ []
 
--- the JSON of the footer: the version of this library, and the checksum of the body
-abbrev pub footer_json : ℕ → List ℕ
-footer_json crc = written_json (record { major = 0; minor = 26; patch = 2; format = 7; crc = crc })
+-- the numbers of a footer that this library writes: version 0.26.2, format 7, and the checksum of the body
+abbrev pub own_footer : (crc : ℕ) → FooterNumbers
+own_footer crc = record { major = 0; minor = 26; patch = 2; format = 7; crc = crc }
+
+-- the JSON of the footer that this library writes behind a body with this checksum
+abbrev pub footer_json : (crc : ℕ) → List ℕ
+footer_json crc = written_json (own_footer crc)
 
 -- the number by which a footer is known
 abbrev pub footer_magic : ℕ
@@ -28,7 +32,7 @@ pub record IsFramed (bytes : List ℕ) (footer : FooterNumbers) (body : List ℕ
   pub json : List ℕ
   pub whole : bytes ≡ body ++ (json ++ (four_bytes (length json) ++ four_bytes footer_magic))
   pub short : length json ≤ 50000
-  pub spells : Spells json footer
+  pub spells : Spells json (length body) footer
 
 -- files of these formats are read
 abbrev pub IsReadFormat : ℕ → Type 0

@@ -21,8 +21,9 @@ if_u32 n = if nat_lt n (2 ^ 32) then Some n else None
 abbrev pub u32_at : List ℕ → Data → Option ℕ
 u32_at key d = option_and_then if_u32 (option_and_then as_u64 (option_and_then as_number (get key d)))
 
--- the tree is an object that has the fields of a footer, whatever else it has
-pub record IsFooter (d : Data) (footer : FooterNumbers) : Type 0 where
+-- The tree is an object that has the fields of a footer behind a body of this length, whatever else it has.
+-- The formats that are read so far don't look at the length.
+pub record IsFooter (d : Data) (length : ℕ) (footer : FooterNumbers) : Type 0 where
   pub version : Data
   pub version_at : get (codes "version") d ≡ Some version
   pub major : u32_at (codes "major") version ≡ Some footer.major
@@ -31,12 +32,13 @@ pub record IsFooter (d : Data) (footer : FooterNumbers) : Type 0 where
   pub format : u32_at (codes "index_format_version") version ≡ Some footer.format
   pub crc : u32_at (codes "crc") d ≡ Some footer.crc
 
--- the JSON text spells the footer
-pub record Spells (json : List ℕ) (footer : FooterNumbers) : Type 0 where
+-- The JSON text spells the footer of a body of this length. The formats that are read so far don't look at the
+-- length.
+pub record Spells (json : List ℕ) (length : ℕ) (footer : FooterNumbers) : Type 0 where
   pub text : IsUtf8 json
   pub tree : Data
   pub parsed : read json ≡ Some tree
-  pub form : IsFooter tree footer
+  pub form : IsFooter tree length footer
 
 -- the numbers fit 32 bits
 pub record FooterFits (footer : FooterNumbers) : Type 0 where

@@ -14,9 +14,10 @@ abbrev pub ◌>>=◌ : {A B : Type 0} → Option A → (A → Option B) → Opti
 None >>= f = None
 (Some x) >>= f = f x
 
--- the numbers of a tree that has the form of a footer
-abbrev pub footer_in : Data → Option FooterNumbers
-footer_in d = do
+-- The numbers of a tree that has the form of a footer behind a body of this length. The formats that are read
+-- so far don't look at the length.
+abbrev pub footer_in : (length : ℕ) → Data → Option FooterNumbers
+footer_in length d = do
   version ← get (codes "version") d
   major ← u32_at (codes "major") version
   minor ← u32_at (codes "minor") version
@@ -25,9 +26,10 @@ footer_in d = do
   crc ← u32_at (codes "crc") d
   Some (record { major = major; minor = minor; patch = patch; format = format; crc = crc })
 
--- the footer that a JSON text spells
-abbrev pub spelled_footer : List ℕ → Option FooterNumbers
-spelled_footer json = if is_utf8 json then read json >>= footer_in else None
+-- The footer of a body of this length that a JSON text spells. The formats that are read so far don't look at
+-- the length.
+abbrev pub spelled_footer : (length : ℕ) → List ℕ → Option FooterNumbers
+spelled_footer length json = if is_utf8 json then read json >>= footer_in length else None
 
 -- what stands between the body of a file and its last eight bytes
 abbrev pub stated_json : List ℕ → List ℕ
@@ -43,7 +45,8 @@ has_parts bytes = nat_le (length (stated_json bytes)) 50000 && is (body_of bytes
 
 -- the footer of a file that has one, whatever its format is
 abbrev pub footer_of : List ℕ → Option FooterNumbers
-footer_of bytes = if has_parts bytes then spelled_footer (stated_json bytes) else None
+footer_of bytes =
+    if has_parts bytes then spelled_footer (length (body_of bytes)) (stated_json bytes) else None
 
 -- whether the checksum in the footer is that of the body
 abbrev pub is_intact : List ℕ → Option Bool

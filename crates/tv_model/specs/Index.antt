@@ -1,11 +1,11 @@
 -- An index in a directory.
 use Rattle.std.specs.Prelude.{ℕ, ◌≡◌, ◌≢◌, ◌+◌, ◌==◌, Bool, true, false, List, [], ◌∷◌, Option, Some, None, IsSome, is_some, option_map, if◌then◌else◌}
 use Rattle.std.specs.BTreeSet.{insert_key}
-use Rattle.tv_model.specs.Names.{byte_cmp, has, is_undotted, list_name, meta_name}
+use Rattle.tv_model.specs.Names.{byte_cmp, has, is_undotted, meta_name}
 use Rattle.tv_model.specs.Disk.{Disk, IsImage, possible_now}
 use Rattle.tv_model.specs.Files.{Reads}
 use Rattle.tv_model.specs.Footer.{IsGood}
-use Rattle.tv_model.specs.Listing.{Lists}
+use Rattle.tv_model.specs.Listing.{Listing}
 use Rattle.tv_model.specs.Segments.{all_required}
 use Rattle.tv_model.specs.Commits.{Commit, Settings, IndexForm, default_settings, first_commit}
 use Rattle.tv_model.specs.Schemas.{IsSchema}
@@ -30,7 +30,7 @@ pub record DirectoryHolds (settings : Settings) (schema : List ℕ) (reads : Rea
   pub names : (n : List ℕ) → is_some (file_at s n) ≡ true → IsFileOf n
   pub files : (n : List ℕ) → IsFileOf n → FileReads (file_at s n) (reads n)
   pub meta : (text : List ℕ) × (reads meta_name ≡ Some text) × Means settings schema text s.catalog.commit
-  pub listing : Lists (reads list_name) s.managed
+  pub listing : Listing reads s.managed
 
 -- the commit's required files are there and can be read
 pub record HasFiles (reads : Reads) (commit : Commit) : Type 0 where
@@ -44,7 +44,7 @@ IsSoundMeta schema reads (Some text) = (settings : Settings) × (commit : Commit
 -- what is read is sound: every undotted file is listed, and the commit's files can be read
 pub record IsSoundImage (schema : List ℕ) (reads : Reads) : Type 0 where
   pub names : List (List ℕ)
-  pub listing : Lists (reads list_name) names
+  pub listing : Listing reads names
   pub listed : (n : List ℕ) → is_undotted n ≡ true → IsSome (reads n) → has names n ≡ true
   pub commit : IsSoundMeta schema reads (reads meta_name)
 
@@ -76,7 +76,7 @@ managed_with (Some text) listed = listed
 -- a directory that reads so opens to this state
 pub record OpensTo (settings : Settings) (schema : List ℕ) (reads : Reads) (s : State) : Type 0 where
   pub listed : List (List ℕ)
-  pub listing : Lists (reads list_name) listed
+  pub listing : Listing reads listed
   -- a `meta.json` that is there is on the list
   pub covered : IsSome (reads meta_name) → has listed meta_name ≡ true
   pub found : FindsCommit schema (reads meta_name) settings s.catalog.commit
@@ -101,7 +101,7 @@ pub record FoundIndex (schema : List ℕ) (reads : Reads) : Type 0 where
   pub commit : Commit
   pub listed : List (List ℕ)
   pub spelled : IsSchema schema form.schema
-  pub listing : Lists (reads list_name) listed
+  pub listing : Listing reads listed
   pub found : FindsCommit form.schema (reads meta_name) form.settings commit
 
 -- the catalog of an index that was just opened with this commit

@@ -1,9 +1,9 @@
 -- The list of managed files, as a crash may leave it.
 use Rattle.std.specs.Prelude.{ℕ, ◌≡◌, true, List, Option, IsSome}
-use Rattle.tv_model.specs.Disk.{DiskState, IsThere, MayRead, Possible}
+use Rattle.tv_model.specs.Disk.{Disk, DiskState, IsImage, IsSettledAt, IsThere, MayRead, Possible}
 use Rattle.tv_model.specs.Files.{Reads}
-use Rattle.tv_model.specs.Listing.{IsOnList, Lists}
-use Rattle.tv_model.specs.Names.{is_undotted, list_name}
+use Rattle.tv_model.specs.Listing.{IsListFile, IsListed, IsOnList, Listing, Lists}
+use Rattle.tv_model.specs.Names.{is_undotted}
 
 -- a file in this state is a list, whatever is read of it
 abbrev pub IsAList : DiskState → Type 0
@@ -13,12 +13,28 @@ IsAList state = (read : Option (List ℕ)) → MayRead state read → (names : L
 abbrev pub IsOnEach : DiskState → List ℕ → Type 0
 IsOnEach state name = (read : Option (List ℕ)) → MayRead state read → IsOnList read name
 
--- Whatever a crash may leave of the list is a list, and it forgets no file: each undotted name that may be there is on each list that may be left.
+-- there is a file of the list that has this name in whatever state a crash may leave that file, whatever is
+-- read of it
+abbrev pub IsAlwaysListed : Possible → List ℕ → Type 0
+IsAlwaysListed possible name =
+    (file : List ℕ) × IsListFile file × ((l : DiskState) → possible file l → IsOnEach l name)
+
+-- Whatever a crash may leave of a file of the list is a list, and the list forgets no file: each undotted
+-- name that may be there is always listed.
 pub record ListsEachFile (possible : Possible) : Type 0 where
-  pub lists : (l : DiskState) → possible list_name l → IsAList l
-  pub each : (n : List ℕ) → is_undotted n ≡ true → (s : DiskState) → possible n s → IsThere s → (l : DiskState) → possible list_name l → IsOnEach l n
+  pub lists : (file : List ℕ) → IsListFile file → (l : DiskState) → possible file l → IsAList l
+  pub each : (n : List ℕ) → is_undotted n ≡ true → (s : DiskState) → possible n s → IsThere s
+      → IsAlwaysListed possible n
 
 -- an image has a list, and each undotted file of the image is on it
 pub record ListsItsFiles (image : Reads) : Type 0 where
-  pub lists : (names : List (List ℕ)) × Lists (image list_name) names
-  pub each : (n : List ℕ) → is_undotted n ≡ true → IsSome (image n) → IsOnList (image list_name) n
+  pub lists : (names : List (List ℕ)) × Listing image names
+  pub each : (n : List ℕ) → is_undotted n ≡ true → IsSome (image n) → IsListed image n
+
+-- every image that a crash may leave has a list, on which each undotted file of the image is
+pub record ImagesListTheirFiles (possible : Possible) : Type 0 where
+  pub each : (image : Reads) → IsImage possible image → ListsItsFiles image
+
+-- each file of the list has one possible state, that in which it stands
+abbrev pub IsListSettled : Disk → Type 0
+IsListSettled disk = (file : List ℕ) → IsListFile file → IsSettledAt disk file

@@ -1,8 +1,9 @@
--- Which files are needed.
-use Rattle.std.specs.Prelude.{ℕ, List, ◌∷◌, ◌++◌, map}
+-- Which files are needed, which commits are kept, and whether a reload is under way.
+use Rattle.std.specs.Prelude.{ℕ, Bool, false, List, [], ◌∷◌, ◌++◌, map}
 use Rattle.std.specs.List.{flat_map}
 use Rattle.tv_model.specs.declared.segment.LiveSegment.{LiveSegment}
 use Rattle.tv_model.specs.Names.{meta_name}
+use Rattle.tv_model.specs.Commits.{Commit}
 use Rattle.tv_model.specs.Segments.{components, name_of}
 use Rattle.tv_model.specs.State.{Catalog}
 
@@ -13,3 +14,12 @@ segment_names e = map (name_of e.0 e.1.deletes) components
 -- the names that are needed: `meta.json`, and those of the commit's segments and of the live ones
 abbrev pub living : Catalog → List (List ℕ)
 living c = meta_name ∷ flat_map segment_names (c.commit.segments ++ c.live)
+
+-- the commits whose files must stay; so far the current one alone
+abbrev pub kept_commits : Catalog → List Commit
+kept_commits c = c.commit ∷ []
+
+-- Whether the meta lock is held for a reload whose files aren't read yet. So far no reload is left
+-- unfinished, so that it never is.
+abbrev pub is_busy : Catalog → Bool
+is_busy c = false

@@ -1,10 +1,12 @@
 -- Commits whose files can be read.
 use Rattle.std.specs.Prelude.{ℕ, ◌≡◌, true, List, [], ◌∷◌, Option, Some, None, IfSome, option_map}
+use Rattle.std.specs.List.{AllByRecursion}
 use Rattle.tv_model.specs.declared.event.Event.{Event}
 use Rattle.tv_model.specs.declared.event.Event.TheVariants as events
 use Rattle.tv_model.specs.Names.{has}
 use Rattle.tv_model.specs.Footer.{IsGood}
 use Rattle.tv_model.specs.Commits.{Commit}
+use Rattle.tv_model.specs.Living.{kept_commits}
 use Rattle.tv_model.specs.Segments.{all_required}
 use Rattle.tv_model.specs.State.{State, Sealed, file_at, reader_at}
 use Rattle.tv_model.specs.Machine.{Turn, step}
@@ -17,9 +19,9 @@ IsGoodFile s name = (bytes : List ℕ) × (file_at s name ≡ Some (Sealed bytes
 pub record AreGoodFiles (s : State) (names : List (List ℕ)) : Type 0 where
   pub each : (n : List ℕ) → has names n ≡ true → IsGoodFile s n
 
--- the files that the current commit requires can be read
+-- the files that each kept commit requires can be read
 abbrev pub CanRead : State → Type 0
-CanRead s = AreGoodFiles s (all_required s.catalog.commit.segments)
+CanRead s = AllByRecursion (λ commit. AreGoodFiles s (all_required commit.segments)) (kept_commits s.catalog)
 
 -- the commit whose files an event reads, where it reads some: that of a new reader, and that of a reload of a reader which is there
 abbrev pub read_by : State → Event → Option Commit

@@ -1,17 +1,32 @@
 -- What a run's readers and searchers show.
-use Rattle.std.specs.Prelude.{ℕ, ◌≡◌, ◌≤◌, Bool, List, [], ◌∷◌, ◌++◌, Some, true}
+use Rattle.std.specs.Prelude.{ℕ, ◌≡◌, ◌≢◌, ◌≤◌, Bool, List, [], ◌∷◌, ◌++◌, Some, true}
 use Rattle.tv_model.specs.declared.event.Event.TheVariants as events
 use Rattle.tv_model.specs.Names.{has}
 use Rattle.tv_model.specs.Segments.{all_required}
 use Rattle.tv_model.specs.Footer.{HasBody}
+use Rattle.tv_model.specs.Living.{is_busy}
 use Rattle.tv_model.specs.State.{State, Sealed, Snapshot, Reader, file_at, reader_at, searcher_at, no_readers}
-use Rattle.tv_model.specs.ReaderEvents.{body_in, snapshot_in}
+use Rattle.tv_model.specs.ReaderEvents.{bodies_in, body_in}
 use Rattle.tv_model.specs.Machine.{Turn, NeverReopens, after}
 use Rattle.tv_model.specs.Index.{next_after}
 
--- a snapshot shows the commit of a state that the run came to, with the bodies of its files as they were then
-abbrev pub Shows : State → List Turn → Snapshot → Type 0
-Shows s turns shown = (front : List Turn) × (rest : List Turn) × (turns ≡ front ++ rest) × (shown ≡ snapshot_in (after s front) shown.generation)
+-- after each of these turns, which begin in this state, the meta lock is held for a reload
+abbrev pub IsBusyAfterEach : State → List Turn → Type 0
+IsBusyAfterEach s turns = (front rest : List Turn) → turns ≡ front ++ rest → front ≢ []
+    → is_busy (after s front).catalog ≡ true
+
+-- A snapshot shows the commit of a state that the run came to, with the bodies that its files had in that
+-- state, or in a later one up to which the meta lock was held for it.
+pub record Shows (s : State) (turns : List Turn) (shown : Snapshot) : Type 0 where
+  -- the turns up to the state whose commit it shows, those from there to the state in which the files were
+  -- read, and those after it
+  pub noting : List Turn
+  pub reading : List Turn
+  pub rest : List Turn
+  pub parts : turns ≡ noting ++ reading ++ rest
+  pub commit : shown.commit ≡ (after s noting).catalog.commit
+  pub bodies : shown.bodies ≡ bodies_in (after s (noting ++ reading)) shown.commit
+  pub locked : IsBusyAfterEach (after s noting) reading
 
 -- each file that the current commit requires is sealed, and what is shown of it is the body before its footer, with which it was sealed where the run did so
 abbrev pub ShowsAsSealed : State → Type 0

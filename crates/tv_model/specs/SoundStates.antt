@@ -7,8 +7,9 @@ use Rattle.tv_model.specs.Names.{byte_cmp, has, meta_name}
 use Rattle.tv_model.specs.Footer.{IsGood}
 use Rattle.tv_model.specs.Segments.{num_deleted, all_required}
 use Rattle.tv_model.specs.Collections.{Collection, AreOnce, Rises, collection_at, held}
+use Rattle.tv_model.specs.Commits.{Commit}
 use Rattle.tv_model.specs.CommitEvents.{last_stamp, is_sealed}
-use Rattle.tv_model.specs.Living.{living}
+use Rattle.tv_model.specs.Living.{living, kept_commits}
 use Rattle.tv_model.specs.State.{State, Sealed, file_at}
 use Rattle.tv_model.specs.Index.{IsFileOf}
 
@@ -28,11 +29,16 @@ pub record CollectsSoundly (s : State) : Type 0 where
   pub ordered : Rises s.collections.unfinished
   pub sorted : IsStrictlySortedBy byte_cmp s.managed
 
--- The files that the commit requires are sealed, and unfinished collections are sound, so that none of them takes one of these files.
+-- the files that the commit requires are sealed
+abbrev pub HasSealedFiles : State → Commit → Type 0
+HasSealedFiles s commit = (n : List ℕ) → has (all_required commit.segments) n ≡ true
+    → is_sealed (file_at s n) ≡ true
+
+-- The files that the kept commits require are sealed, and unfinished collections are sound, so that none of
+-- them takes one of these files.
 pub record IsWhole (s : State) : Type 0 where
-  -- each of these files is sealed
-  pub each : (n : List ℕ) → has (all_required s.catalog.commit.segments) n ≡ true
-      → is_sealed (file_at s n) ≡ true
+  -- the files of each kept commit are sealed
+  pub each : AllByRecursion (HasSealedFiles s) (kept_commits s.catalog)
   -- collections took managed names alone that nothing needs, each name once, and what is done has no file
   pub collecting : CollectsSoundly s
 
@@ -44,7 +50,8 @@ AreGood s segments = (n bytes : List ℕ) → has (all_required segments) n ≡ 
 abbrev pub AreWithin : List (List ℕ × LiveSegment) → Type 0
 AreWithin segments = AllByRecursion (λ e. num_deleted e.1.deletes ≤ e.1.max_doc) segments
 
--- The state of a sound directory. Files that neither the commit nor a live segment requires may be anything.
+-- The state of a sound directory. Files that neither a kept commit nor a live segment requires may be
+-- anything.
 pub record IsSoundState (s : State) : Type 0 where
   -- `meta.json` is managed
   pub meta : has s.managed meta_name ≡ true
@@ -52,10 +59,10 @@ pub record IsSoundState (s : State) : Type 0 where
   pub names : (n : List ℕ) → is_some (file_at s n) ≡ true → IsFileOf n
   -- a file is managed
   pub listed : (n : List ℕ) → is_some (file_at s n) ≡ true → has s.managed n ≡ true
-  -- the files that the commit requires are sealed, and unfinished collections are sound
+  -- the files that the kept commits require are sealed, and unfinished collections are sound
   pub whole : IsWhole s
-  -- these files have a body and a footer
-  pub good : AreGood s s.catalog.commit.segments
+  -- the files of each kept commit have a body and a footer
+  pub good : AllByRecursion (λ commit. AreGood s commit.segments) (kept_commits s.catalog)
   -- so has what is sealed of the files that the live segments require
   pub live : AreGood s s.catalog.live
   -- the next commit gets a higher number than the current one has, or both numbers are the end of 64 bits

@@ -1,6 +1,6 @@
 //! Laws of the machine. Each function does nothing: its contract is the law.
 ghost use Rattle.std.specs.Prelude.{◌≡◌, ◌≢◌, ◌<◌, ◌^◌, ◌∷◌, ◌++◌, ◌↔◌, Bool, IsSome, IsUtf8};
-ghost use Rattle.std.specs.Prelude.{List, [], None, Option, Some, true, ℕ};
+ghost use Rattle.std.specs.Prelude.{List, [], None, Option, Some, true, false, ℕ};
 ghost use Rattle.std.specs.List.{AllByRecursion};
 ghost use Rattle.std.specs.List.Sorted.{IsStrictlySortedBy};
 ghost use Rattle.serde_json.specs.Data.{Data};
@@ -20,7 +20,8 @@ ghost use Rattle.tv_model.specs.FooterForm.{FooterNumbers};
 ghost use Rattle.tv_model.specs.Framing.{footer_of};
 ghost use Rattle.tv_model.specs.Ids.{IsId};
 ghost use Rattle.tv_model.specs.Index.{DirectoryHolds, IsSoundImage, OpensTo, first_catalog};
-ghost use Rattle.tv_model.specs.Listing.{IsListed, IsListOf, list_text};
+ghost use Rattle.tv_model.specs.Listing.{IsListOf, IsManagedName, list_text};
+ghost use Rattle.tv_model.specs.Living.{is_busy};
 ghost use Rattle.tv_model.specs.Machine.{Turn, events_of, step};
 ghost use Rattle.tv_model.specs.Meaning.{Means};
 ghost use Rattle.tv_model.specs.MetaJson.{SpellsMeta};
@@ -50,11 +51,17 @@ pub fn searchers_keep_their_commit()
         → AllByRecursion Fits (events_of turns) → ServesAsSealed s turns }
 {}
 
+/// A directory without files is sound, under each schema.
+pub fn empty_directories_are_sound()
+    ensures sound { (schema : List ℕ) (reads : Reads) → ((n : List ℕ) → reads n ≡ None)
+        → IsSoundImage schema reads }
+{}
+
 /// A sound start opens to a state, and to sound states alone. Each event of a script leaves a sound
-/// state sound. The files that the commit of such a state requires can be read. A directory that
-/// holds such a state opens to what a reopening leaves of it, but that a file which was left has
-/// the bytes that its name reads. What reads opens to one state at most, but for how its files are
-/// listed.
+/// state sound. The files that the kept commits of such a state require can be read. A directory
+/// that holds such a state opens to what a reopening leaves of it, but that a file which was left
+/// has the bytes that its name reads. What reads opens to one state at most, but for how its files
+/// are listed.
 pub fn sound_starts_open_to_sound_states()
     ensures exists { (schema : List ℕ) (reads : Reads) → IsSoundImage schema reads
         → (settings : Settings) × (s : State) × OpensTo settings schema reads s }
@@ -70,18 +77,20 @@ pub fn sound_starts_open_to_sound_states()
         → OpensTo settings schema reads s → OpensTo others schema reads t → AreAlike s t }
 {}
 
-/// A collection at once takes exactly the managed names that nothing needs and no other collection
-/// holds, and tells each of them as done or as failed. What is done has no file and is managed no
-/// more; all else stays. So does each collection of a run. From a sound state on, one in steps
-/// takes the same names, and is unfinished and has these names until its end or a reopening. Its
-/// step tells the name that it tries, and changes no other file; its end takes those names out of
-/// the managed ones that are done. Its events change neither the catalog nor another collection,
-/// and no other event but a reopening changes it. One at once does to the files, the managed names
-/// and the catalog what one in steps does with the same outcomes. From a sound state one at once of
+/// Where the meta lock is free, a collection at once takes exactly the managed names that nothing
+/// needs and no other collection holds, and tells each of them as done or as failed. What is done
+/// has no file and is managed no more; all else stays. So does each collection of a run. From a
+/// sound state on, one in steps that begins where that lock is free takes the same names, and is
+/// unfinished and has these names until its end or a reopening. Its step tells the name that it
+/// tries, and changes no other file; its end takes those names out of the managed ones that are
+/// done. Its events change neither the catalog nor another collection, and no other event but a
+/// reopening changes it. One at once does to the files, the managed names and the catalog what one
+/// in steps does with the same outcomes. From a sound state where that lock is free, one at once of
 /// which no delete is refused leaves exactly the files that are needed or held.
 pub fn collections_take_what_nothing_needs()
     ensures collects { (s : State) (outcomes : List Bool)
-        → IsStrictlySortedBy byte_cmp s.managed → Collects s outcomes }
+        → IsStrictlySortedBy byte_cmp s.managed → is_busy s.catalog ≡ false
+        → Collects s outcomes }
     ensures in_runs { (s : State) (turns : List Turn)
         → IsStrictlySortedBy byte_cmp s.managed → CollectsIn s turns }
     ensures in_steps { (s : State) (turns : List Turn) → IsSoundState s
@@ -175,7 +184,7 @@ pub fn stripped_schemas_are_texts()
 /// The list of managed names as it is written is the list of these names, and no bytes are the list of
 /// other names too.
 pub fn lists_tell_their_names()
-    ensures written { (names : List (List ℕ)) → AllByRecursion IsListed names
+    ensures written { (names : List (List ℕ)) → AllByRecursion IsManagedName names
         → IsStrictlySortedBy byte_cmp names → IsListOf (list_text names) names }
     ensures one { (bytes : List ℕ) (names others : List (List ℕ)) → IsListOf bytes names
         → IsListOf bytes others → names ≡ others }

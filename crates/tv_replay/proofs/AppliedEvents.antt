@@ -412,7 +412,7 @@ directory_holds form reads kept s is h = record {
 -- what can be read is sealed, and where an index was just opened no collection takes any of it
 pub reads_whole : {schema : List ℕ} {reads : Reads} (index : OpenedIndex schema reads) → CanRead index.state → IsWhole index.state
 reads_whole {reads = reads} index h = record {
-  each = λ n required. ap is_sealed (h.each n required).1;
+  each = (λ n required. ap is_sealed (h.0.each n required).1, tt);
   collecting = nothing_held index.state index.opens.collections (opens_managed_sorted index.form.settings index.form.schema reads index.state index.opens);
 }
 

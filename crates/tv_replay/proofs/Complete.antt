@@ -185,7 +185,7 @@ no_bad_file s event error sound (commit, reads, met) =
     let required : has (all_required s.catalog.commit.segments) met.path ≡ true =
     subst (λ (c : Commit). has (all_required c.segments) met.path ≡ true) (sym (reads_current s event commit reads))
     (subst (λ (names : List (List ℕ)). has names met.path ≡ true) (sym met.split) (has_middle met.front met.path met.rest)) in
-    let good = (sound_reads s sound).each met.path required in
+    let good = (sound_reads s sound).0.each met.path required in
     let same : met.bytes ≡ good.0 = sealed_text met.sealed good.1 in
     met.no_body good.2.body (subst (λ (bytes : List ℕ). HasBody bytes good.2.body) (sym same) good.2.has_body)
 

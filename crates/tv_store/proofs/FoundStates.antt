@@ -150,12 +150,15 @@ module _ {O W C : Type 0} (g : Ghosts O W C) (locked : O) (schema text : List �
 
     -- and the files of its commit can be read
     pub can_read : ((n : List ℕ) → has (all_required catalog.commit.segments) n ≡ true → ReadsGoodFile (now n)) → CanRead index.state
-    can_read good = record {
-      each = λ n required.
-          let here : has (all_required catalog.commit.segments) n ≡ true = subst (λ (c : Commit). has (all_required c.segments) n ≡ true) (sym same.1) required in
-          let file = required_is_file catalog.commit.segments n f.is_commit.segments here in
-          sealed_good (file_at index.state n) (now n) (now n) (sealed_is n file) refl (good n here);
-    }
+    can_read good = (
+      record {
+        each = λ n required.
+            let here : has (all_required catalog.commit.segments) n ≡ true = subst (λ (c : Commit). has (all_required c.segments) n ≡ true) (sym same.1) required in
+            let file = required_is_file catalog.commit.segments n f.is_commit.segments here in
+            sealed_good (file_at index.state n) (now n) (now n) (sealed_is n file) refl (good n here);
+      },
+      tt,
+    )
 
 -- what is meant is a commit, under settings that fit
 pub means_commit : (settings : Settings) (schema bytes : List ℕ) (commit : Commit) → Means settings schema bytes commit → IsCommit commit × (settings.blocksize < 2 ^ 64)

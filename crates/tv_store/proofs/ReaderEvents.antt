@@ -365,7 +365,7 @@ pub commit_fails : (tells : Type 0) (first now : Reads) (kept : Kept) (load : Ta
     → LoadingCause ⊥ (Rose start after) (after ≡ start) ⊥ load (LacksIn tells first kept) (λ path. HoldsNone tells first kept) error
 commit_fails tells first now kept load segments start before after error same quiet are h =
     let sealed : (t : tells) (s : State) → Holds first kept s → IsWhole s → (n : List ℕ) → has (all_required segments) n ≡ true → is_sealed (file_at s n) ≡ true =
-    λ t s held whole n among. whole.each n (subst (λ (es : List (List ℕ × LiveSegment)). has (all_required es) n ≡ true) (are t s held) among) in
+    λ t s held whole n among. whole.each.0 n (subst (λ (es : List (List ℕ × LiveSegment)). has (all_required es) n ≡ true) (are t s held) among) in
     loading_of ⊥ (Rose start after) (after ≡ start) ⊥ load (LacksIn tells first kept) (λ path. HoldsNone tells first kept) error
     (cause_weaker ⊥ (Rose before after) (after ≡ before) ⊥ ⊥ (Rose start after) (after ≡ start) ⊥
     (RefusesFirst tells now (all_required segments)) (LacksIn tells first kept)

@@ -1,6 +1,11 @@
 -- What a save of `meta.json` is to a crash, seen from the files of a store.
-use Rattle.std.proofs.Common.{◌≡◌, ℕ, List, Result, Ok, Err, subst}
-use Rattle.std.specs.Prelude.{IsErr, OnOk}
+use Rattle.std.proofs.Common.{◌≡◌, ℕ, List, Result, Ok, Err, refl, subst, sym, ◌∙◌}
+use Rattle.std.specs.Prelude.{IfErr, IsErr, IsErrAnd, OnOk}
+use Rattle.tv_base.specs.Errors.{of_io}
+use Rattle.tv_base.specs.declared.error.TantivyError.{TantivyError}
+use Rattle.tv_base.specs.declared.error.TantivyError.TheVariants as errors
+use Rattle.tv_base.specs.declared.io.IoError.{IoError}
+use Rattle.tv_base.specs.declared.io.IoError.TheVariants as io
 use Rattle.tv_directory.specs.declared.directory.Directory.{Ghosts}
 use Rattle.tv_index.specs.Crashes.{SavesStates}
 use Rattle.tv_managed.specs.Crashes.{LeavesSafely}
@@ -11,21 +16,40 @@ none_at_err : {A E : Type 0} (P : Type 0) (result : Result A E) → IsErr result
 none_at_err P (Ok x) failed = absurd cc
 none_at_err P (Err e) failed = tt
 
--- the directory below is that of these files
-abbrev Saves : {A E O W C : Type 0} → Ghosts O W C → (text : List ℕ) → Result A E → (new old : O × ManagedNames) → Type 0
-Saves g text result new old = LeavesSafely g (SavesStates (g.disk old.0) (g.disk new.0) old.1 text result) old new
+-- memory is wanted where the directory below wanted it
+of_memory : (error : IoError) → of_io error ≡ errors.Memory → error ≡ io.Memory
+of_memory (io.Fault fault) is = absurd cc
+of_memory io.Memory is = refl
 
-module _ {A B E F O W C : Type 0} (g : Ghosts O W C) {below old new : O × ManagedNames} (text : List ℕ) (same : below ≡ old) where
+where_wanted : {A : Type 0} (P : Type 0) (error : IoError) (result : Result A TantivyError) → IsErrAnd result (λ e. e ≡ of_io error) → (error ≡ io.Memory → P) → IfErr result (λ e. e ≡ errors.Memory → P)
+where_wanted P error (Ok a) same f = tt
+where_wanted P error (Err e) same f = λ is. f (of_memory error (sym same ∙ is))
+
+-- the directory below is that of these files
+abbrev Saves : {A O W C : Type 0} → Ghosts O W C → (text : List ℕ) → Result A IoError → (new old : O × ManagedNames) → Type 0
+Saves g text result new old = LeavesSafely g (SavesStates (g.disk old.0) (g.disk new.0) old.1 text io.Memory result) old new
+
+module _ {A B O W C : Type 0} (g : Ghosts O W C) {below old new : O × ManagedNames} (text : List ℕ) (same : below ≡ old) where
   -- the save succeeded
-  pub saved_below : (x : A) (y : B) → LeavesSafely g (SavesStates {E = E} (g.disk below.0) (g.disk new.0) below.1 text (Ok x)) below new
-      → LeavesSafely g (SavesStates {E = F} (g.disk old.0) (g.disk new.0) old.1 text (Ok y)) old new
+  pub saved_below : (x : A) (y : B) → LeavesSafely g (SavesStates (g.disk below.0) (g.disk new.0) below.1 text io.Memory (Ok x)) below new
+      → LeavesSafely g (SavesStates (g.disk old.0) (g.disk new.0) old.1 text errors.Memory (Ok y)) old new
   saved_below x y safe =
-      let here = subst (Saves {E = E} g text (Ok x) new) same safe in
-      record { tracks = here.tracks; states = record { moments = here.states.moments; now = here.states.now; kept = here.states.kept } }
+      let here = subst (Saves g text (Ok x) new) same safe in
+      record { tracks = here.tracks; listed = here.listed; states = record { moments = here.states.moments; now = here.states.now; memory = tt; kept = here.states.kept } }
 
   -- it failed
-  pub unsaved_below : (inner : Result A E) (result : Result B F) → IsErr result → LeavesSafely g (SavesStates (g.disk below.0) (g.disk new.0) below.1 text inner) below new
-      → LeavesSafely g (SavesStates (g.disk old.0) (g.disk new.0) old.1 text result) old new
-  unsaved_below inner result failed safe =
-      let here = subst (Saves g text inner new) same safe in
-      record { tracks = here.tracks; states = record { moments = here.states.moments; now = here.states.now; kept = none_at_err _ result failed } }
+  pub unsaved_below : (error : IoError) (result : Result B TantivyError) → IsErr result → IsErrAnd result (λ e. e ≡ of_io error)
+      → LeavesSafely g (SavesStates {A = A} (g.disk below.0) (g.disk new.0) below.1 text io.Memory (Err error)) below new
+      → LeavesSafely g (SavesStates (g.disk old.0) (g.disk new.0) old.1 text errors.Memory result) old new
+  unsaved_below error result failed given safe =
+      let here = subst (Saves {A = A} g text (Err error) new) same safe in
+      record {
+        tracks = here.tracks;
+        listed = here.listed;
+        states = record {
+          moments = here.states.moments;
+          now = here.states.now;
+          memory = where_wanted _ error result given here.states.memory;
+          kept = none_at_err _ result failed;
+        };
+      }

@@ -9,12 +9,11 @@ use Rattle.tv_directory.specs.declared.directory.Directory.{Ghosts}
 use Rattle.tv_managed.specs.Names.{ManagedNames}
 use Rattle.tv_model.specs.Files.{Reads, Rose, Same}
 use Rattle.tv_model.specs.Meaning.{MeansNothing, MeansOther}
-use Rattle.tv_model.specs.Names.{list_name, meta_name}
+use Rattle.tv_model.specs.Names.{meta_name}
 use Rattle.tv_model.specs.Schemas.{IsSchema}
-use Rattle.tv_managed.specs.Wrapping.{ListsNothing}
 use Rattle.tv_index.specs.CrashLaws.{looks_kept, looks_make, looks_none, looks_then, makes_behind, makes_then}
 use Rattle.tv_index.specs.Crashes.{LacksMeta, MayMake, OnlyLooks, TracksFrom}
-use Rattle.tv_index.specs.Opening.{IsRefusedBytes, LeavesFound, LeavesUnopened, ListsSome, NotOpened, OfBytes, OpenCause, OpensIndex, first_text}
+use Rattle.tv_index.specs.Opening.{IsRefusedBytes, LeavesFound, LeavesUnopened, HasList, NotOpened, OfBytes, OpenCause, OpensIndex, first_text}
 use Rattle.tv_index.specs.Saving.{IsUnrefused}
 use Rattle.tv_index.specs.Schemas.{SchemaCause}
 use Rattle.tv_index.specs.declared.index_meta.UntrackedIndexMeta.{UntrackedIndexMeta}
@@ -22,7 +21,7 @@ use Rattle.tv_store.specs.Making.{FindsNone, GivesBack, IsRefusedFirst, LeavesRe
 use Rattle.tv_store.specs.OpeningCauses.{CallFacts, OpeningCause, opening_facts}
 use Rattle.tv_store.specs.StoreCauses.{writer_lock_name}
 use Rattle.tv_store.specs.UnderLock.{IsUnderLock, NotFound, NotUnderLock}
-use Rattle.tv_store.proofs.Holding.{dotted_others}
+use Rattle.tv_store.proofs.Holding.{dotted_others, listing_same}
 use Rattle.tv_store.proofs.Opened.{from_lock, lacked}
 use Rattle.tv_store.proofs.StoreLocks.{freed_after}
 
@@ -41,14 +40,18 @@ bytes_unrefused : (error : TantivyError) → IsRefusedBytes error → IsUnrefuse
 bytes_unrefused (errors.IoError fault) bytes = bytes
 bytes_unrefused other bytes = tt
 
+-- a list that stands is one still where each name reads the same
+has_list : {now before : Reads} → Same before now → HasList now → HasList before
+has_list {now} {before} same (names, lists) = (names, listing_same now before names (λ n. sym (same n)) lists)
+
 -- a directory that reads the same isn't opened for the same cause
 pub open_cause_at : (tells : Type 0) (schema : List ℕ) (now before : Reads) (refused quiet more all : Type 0) (error : TantivyError) → (tells → Same before now) → (refused → more) → (quiet → all)
     → OpenCause tells schema now refused quiet error → OpenCause tells schema before more all error
-open_cause_at tells schema now before refused quiet more all (errors.DataCorruption why) same r q (inl h) = inl (q h.0, h.1, λ t. subst ListsNothing (same t list_name) (h.2 t))
+open_cause_at tells schema now before refused quiet more all (errors.DataCorruption why) same r q (inl h) = inl (q h.0, h.1, λ t names lists. h.2 t names (listing_same before now names (same t) lists))
 open_cause_at tells schema now before refused quiet more all (errors.DataCorruption why) same r q (inr h) =
-    inr ((λ t. subst ListsSome (same t list_name) (h.0 t)), (q h.1.0, h.1.1, λ t. subst (OfBytes MeansNothing) (same t meta_name) (h.1.2 t)))
+    inr ((λ t. has_list (same t) (h.0 t)), (q h.1.0, h.1.1, λ t. subst (OfBytes MeansNothing) (same t meta_name) (h.1.2 t)))
 open_cause_at tells schema now before refused quiet more all (errors.SchemaError text) same r q h =
-    ((λ t. subst ListsSome (same t list_name) (h.0 t)), (q h.1.0, h.1.1, λ t. subst (OfBytes (MeansOther schema)) (same t meta_name) (h.1.2 t)))
+    ((λ t. has_list (same t) (h.0 t)), (q h.1.0, h.1.1, λ t. subst (OfBytes (MeansOther schema)) (same t meta_name) (h.1.2 t)))
 open_cause_at tells schema now before refused quiet more all (errors.IoError fault) same r q h = (h.0, r h.1)
 open_cause_at tells schema now before refused quiet more all errors.Memory same r q h = q h
 open_cause_at tells schema now before refused quiet more all other same r q h = absurd h

@@ -107,7 +107,7 @@ abbrev pub SavesSafely : {A O W C : Type 0} → Ghosts O W C → (old new : File
     → Result A TantivyError → Type 0
 SavesSafely g old new text result =
     LeavesSafely g
-    (SavesStates (g.disk old.outside) (g.disk new.outside) (names_below old).1 text result)
+    (SavesStates (g.disk old.outside) (g.disk new.outside) (names_below old).1 text errors.Memory result)
     (names_below old) (names_below new)
 
 -- The settings and the schema stay, and the unfinished collections; no file was opened, written, closed or left, and no lock was taken or freed; a notice of a commit may stand.

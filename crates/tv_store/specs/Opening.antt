@@ -88,8 +88,8 @@ pub record OpeningFrame {O W C : Type 0} (g : Ghosts O W C) (outside : O)
 
 -- What a crash may leave of an opening, whatever it answers: at each moment no more than before it, or
 -- what may be left of making a new index, where there was no `meta.json`. No more than before it where
--- an argument, bytes or the lock are refused, nor while somebody else holds that lock. At Ok track is
--- kept of the files, where each one was listed before.
+-- an argument, bytes or the lock are refused, nor while somebody else holds that lock. At Ok it leaves
+-- each name as it is, and track is kept of the files, where each image listed its own before.
 pub record OpensSafely {O W C : Type 0} (g : Ghosts O W C) (outside : O) (schema : List ℕ)
     (result : Result (StoreState O) (Refused O)) : Type 0 where
   pub ok : IfOk result (λ store.

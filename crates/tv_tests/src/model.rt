@@ -66,6 +66,7 @@ fn many_ids_are_told_apart(rt: HostRuntime) {
 #[test]
 fn laws_are_called() {
     laws::searchers_keep_their_commit();
+    laws::empty_directories_are_sound();
     laws::sound_starts_open_to_sound_states();
     laws::names_tell_their_segment();
     laws::ids_are_ordered_by_their_bytes();

@@ -8,9 +8,10 @@ use Rattle.tv_framing.specs.declared.footer.Footer.{Footer}
 use Rattle.tv_framing.specs.Footers.{IsFooter, Spells}
 use Rattle.tv_framing.proofs.footer_json.read_footer.Goals as goal
 
-spelled : (json : List ℕ) (d : Data) (o : Option Footer) → IsUtf8 json × (read json ≡ Some d) → MatchOption o ((footer : Footer) → IsFooter d footer → ⊥) (IsFooter d) → MatchOption o ((footer : Footer) → Spells json footer → ⊥) (Spells json)
-spelled json d (Some footer) h form = record { text = h.0; tree = d; parsed = h.1; form = form }
-spelled json d None h none = λ footer s. none footer (subst (λ t. IsFooter t footer) (sym (same_Some d s.tree (sym h.1 ∙ s.parsed))) s.form)
+spelled : (json : List ℕ) (d : Data) (o : Option Footer) → IsUtf8 json × (read json ≡ Some d) → MatchOption o ((footer : Footer) (n : ℕ) → IsFooter d n footer → ⊥) (λ footer. (n : ℕ) → IsFooter d n footer)
+    → MatchOption o ((footer : Footer) (n : ℕ) → Spells json n footer → ⊥) (λ footer. (n : ℕ) → Spells json n footer)
+spelled json d (Some footer) h form = λ n. record { text = h.0; tree = d; parsed = h.1; form = form n }
+spelled json d None h none = λ footer n s. none footer n (subst (λ t. IsFooter t n footer) (sym (same_Some d s.tree (sym h.1 ∙ s.parsed))) s.form)
 
 pub returns-in-Ok : goal.returns-in-Ok
 returns-in-Ok c = spelled c.args.bytes.now (view c.in-Ok.tree) c.footer_of.result c.in-Ok.ensures.ok c.footer_of.ensures

@@ -10,7 +10,7 @@ use Rattle.tv_framing.proofs.laws.states_its_length.Goals as goal
 -- the footer alone is a file whose body is empty
 states : (bytes : List ℕ) (footer : Footer) → FooterFits footer → bytes ≡ footer_text footer → stated bytes + 8 ≡ length bytes
 states bytes footer fits is =
-    let framed : IsFramed bytes footer [] = record { json = footer_json footer; whole = is; short = json_short (numbers_of footer) fits; spells = spells_itself (numbers_of footer) fits } in
+    let framed : IsFramed bytes footer [] = record { json = footer_json footer; whole = is; short = json_short (numbers_of footer) fits; spells = spells_itself (numbers_of footer) 0 fits } in
     let ends = ends_of bytes footer [] framed in
     omega (arith, stated_is bytes _ _ _ ends, ends.size)
 

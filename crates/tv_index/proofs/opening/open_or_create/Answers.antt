@@ -2,7 +2,7 @@ use Rattle.std.proofs.Common.{ap, subst}
 use Rattle.std.specs.Prelude.{MatchResult}
 use Rattle.std.proofs.lemmas.Result.{IfOk-weaker, IfErr-weaker}
 use Rattle.tv_model.specs.Commits.{IndexForm, Settings}
-use Rattle.tv_index.specs.Crashes.{LacksMeta, MayMake, TracksFrom}
+use Rattle.tv_index.specs.Crashes.{LacksMeta, MakesNone, MayMake, TracksFrom}
 use Rattle.tv_index.specs.NewForms.{form_with, new_text}
 use Rattle.tv_index.proofs.Openings.{not_opened_default, opens_default}
 use Rattle.tv_index.proofs.opening.open_or_create.Goals as goal
@@ -16,7 +16,7 @@ returns g c =
       opened = IfOk-weaker c.open_or_create_with.result _ _ (λ opened h. opens_default g.D.Directory c.args.directory schema form is opened.0 opened.1 h) c.open_or_create_with.ensures.opened;
       safe = subst (λ (form : IndexForm). g.D.Directory.tells_images → MatchResult c.open_or_create_with.result
           (λ opened. MayMake g.D.Directory (LacksMeta g.D.Directory c.args.directory) (new_text form) c.args.directory opened.0.0 × TracksFrom g.D.Directory c.args.directory opened.0)
-          (λ refused. MayMake g.D.Directory (LacksMeta g.D.Directory c.args.directory) (new_text form) c.args.directory refused.directory)) is c.open_or_create_with.ensures.safe;
+          (λ refused. MakesNone g.D.Directory (LacksMeta g.D.Directory c.args.directory) (new_text form) c.args.directory refused.directory refused.error)) is c.open_or_create_with.ensures.safe;
       spares = c.open_or_create_with.ensures.spares;
       refused = IfErr-weaker c.open_or_create_with.result _ _ (λ refused h. not_opened_default g.D.Directory c.args.directory schema form is refused.directory refused.error h) c.open_or_create_with.ensures.refused;
     }

@@ -1,4 +1,5 @@
 use Rattle.std.proofs.Common.{◌∙◌, refl}
+use Rattle.tv_base.specs.declared.error.TantivyError.TheVariants as errors
 use Rattle.tv_index.specs.TrackedMetas.{tracked_settings}
 use Rattle.tv_index.proofs.Managing.{manages_err, manages_none, manages_ok}
 use Rattle.tv_index.proofs.Openings.{notes_unless, same_memory}
@@ -47,12 +48,12 @@ returns-in_err-save_meta_text-clause-frame g c =
     notes_unless (same_memory saving.result c.in_err-save_meta_text.field-0.0 saving.ensures.1) c.in_err-save_meta_text.ensures.frame
 
 pub returns-in_err-text-clause-safe : goal.returns-in_err-text-clause-safe
-returns-in_err-text-clause-safe g c tells commit order = saves_none g.D.Directory _ c.from_residual.result c.from_residual.ensures.0
+returns-in_err-text-clause-safe g c tells commit order = saves_none g.D.Directory _ errors.Memory c.from_residual.result c.from_residual.ensures.0
 
 pub returns-in_err-save_meta_text-clause-safe : goal.returns-in_err-save_meta_text-clause-safe
 returns-in_err-save_meta_text-clause-safe g c tells commit order =
     let saving = c.from_residual-in_err-save_meta_text in
-    saves_err g.D.Directory saving.result saving.ensures.0 (c.as_slice.ensures.value ∙ c.in_ok-text.ensures commit order) (c.in_err-save_meta_text.ensures.safe tells)
+    saves_err g.D.Directory c.in_err-save_meta_text.field-0.0 saving.result saving.ensures.0 saving.ensures.1 (c.as_slice.ensures.value ∙ c.in_ok-text.ensures commit order) (c.in_err-save_meta_text.ensures.safe tells)
 
 pub returns-clause-safe : goal.returns-clause-safe
 returns-clause-safe g c tells commit order = saves_ok g.D.Directory tt _ (c.as_slice.ensures.value ∙ c.in_ok-text.ensures commit order) (c.in_ok-save_meta_text.ensures.safe tells)

@@ -3,4 +3,10 @@ use Rattle.tv_model.proofs.CollectsInSteps.{collects_in_steps_in, collects_at_on
 use Rattle.tv_model.proofs.laws.collections_take_what_nothing_needs.Goals as goal
 
 pub returns : goal.returns
-returns c = record { collects = collects; in_runs = collects_in; in_steps = collects_in_steps_in; at_once = collects_at_once; all_else = collects_all_else }
+returns c = record {
+  collects = λ s outcomes sorted free. collects s outcomes sorted;
+  in_runs = collects_in;
+  in_steps = collects_in_steps_in;
+  at_once = collects_at_once;
+  all_else = collects_all_else;
+}

@@ -9,7 +9,7 @@ returns-in_err-directory-clause-none g c =
     let refused = c.in_err-directory.field-0.0 in
     let failed = c.in_err-directory.ensures in
     handed_on c.from_residual.result refused (λ r. FindsNone g.O.Directory c.args.outside c.args.schema.now r.directory r.error) c.from_residual.ensures.1
-    (finds_none g.O.Directory c.args.outside c.args.schema.now refused.directory refused.error failed.refused failed.safe failed.spares)
+    (finds_none g.O.Directory c.args.outside c.args.schema.now refused.directory refused.error failed.refused (λ t. (failed.safe t).makes) failed.spares)
 
 pub returns-clause-none : goal.returns-clause-none
 returns-clause-none g c =

@@ -1,7 +1,6 @@
 use Rattle.std.proofs.Common.{◌∙◌, None, refl, sym, ap, subst}
 use Rattle.tv_managed.specs.Names.{ManagedNames}
-use Rattle.tv_model.specs.Listing.{Lists}
-use Rattle.tv_model.specs.Names.{list_name}
+use Rattle.tv_model.specs.Listing.{Listing}
 use Rattle.tv_directory.specs.ViewLaws.{reads_then}
 use Rattle.tv_index.specs.Crashes.{OnlyLooks}
 use Rattle.tv_index.proofs.Indexes.{loads_before}
@@ -17,7 +16,7 @@ returns-in-Ok-clause-opened g c =
       meta = c.in-Ok.meta;
       loads = loads_before D c.args.directory c.in_ok-directory.directory wraps None c.in-Ok.meta loaded.meta;
       shows = record { settings = refl; schema = refl; kept = refl };
-      lists = λ t. subst (λ (names : ManagedNames). Lists ((D.view c.args.directory).reads list_name) names.managed) (sym loaded.frame.names) (wraps.names t);
+      lists = λ t. subst (λ (names : ManagedNames). Listing (D.view c.args.directory).reads names.managed) (sym loaded.frame.names) (wraps.names t);
       collections = ap (λ (names : ManagedNames). names.collections) loaded.frame.names ∙ wraps.collections;
       quiet = loaded.faults.quiet ∙ wraps.quiet;
       frame = reads_then wraps.frame loaded.frame.below;

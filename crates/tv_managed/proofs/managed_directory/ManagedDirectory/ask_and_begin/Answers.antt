@@ -2,7 +2,7 @@ use Rattle.std.proofs.lemmas.Result.{IfOk-from_err, IfOk-weaker}
 use Rattle.tv_managed.specs.Collecting.{names_of, taken_by, CollectFaults}
 use Rattle.tv_managed.proofs.Beginning.{begun_safely}
 use Rattle.tv_managed.proofs.Giving.{settles_asked, settles_none}
-use Rattle.tv_managed.proofs.Tracking.{track_read}
+use Rattle.tv_managed.specs.TrackLaws.{listed_read, track_read}
 use Rattle.tv_managed.proofs.Failing.{collect_begun, collect_locked}
 use Rattle.tv_directory.specs.ViewLaws.{reads_then}
 use Rattle.tv_managed.proofs.Results.{handed}
@@ -11,7 +11,7 @@ use Rattle.tv_managed.proofs.managed_directory.ManagedDirectory.ask_and_begin.Go
 pub returns-in_err-living-clause-safe : goal.returns-in_err-living-clause-safe
 returns-in_err-living-clause-safe g c = λ tells.
     let asks = c.in_err-living.ensures.asks in
-    record { tracks = track_read g.D.Directory asks.frame.names (asks.images tells); states = settles_none (asks.images tells) (IfOk-from_err c.from_residual.result _ c.from_residual.ensures.0) }
+    record { tracks = track_read g.D.Directory asks.frame.names (asks.images tells); listed = listed_read g.D.Directory c.args.self.now c.under_meta_lock.new.self asks.frame.names (asks.images tells); states = settles_none (asks.images tells) (IfOk-from_err c.from_residual.result _ c.from_residual.ensures.0) }
 
 pub returns-clause-begins : goal.returns-clause-begins
 returns-clause-begins g c =

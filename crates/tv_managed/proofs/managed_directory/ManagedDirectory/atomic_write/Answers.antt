@@ -1,15 +1,16 @@
-use Rattle.std.proofs.Common.{refl, ap, subst, inr, ◌∙◌}
+use Rattle.std.proofs.Common.{refl, ap, subst, ◌∙◌}
 use Rattle.std.proofs.lemmas.Result.{IfOk-from_err, on_ok_weaker}
+use Rattle.tv_model.specs.Disk.{Sealed}
 use Rattle.tv_model.specs.Files.{KeepsOthers}
 use Rattle.tv_managed.proofs.Collections.{done_held}
 use Rattle.tv_managed.proofs.Making.{manages_by, manages_unlisted, others_written}
-use Rattle.tv_managed.proofs.Giving.{given_safely}
-use Rattle.tv_managed.proofs.Touching.{gained_more, others_given}
+use Rattle.tv_managed.proofs.Giving.{given_safely, gives_safely, listed_safely, wanted_given, wanted_list}
+use Rattle.tv_managed.proofs.Touching.{others_given}
 use Rattle.tv_directory.specs.Calls.{IoFaults}
 use Rattle.tv_managed.specs.Frames.{KeptButNotes}
 use Rattle.tv_managed.specs.Managed.{GivesFile}
 use Rattle.tv_managed.proofs.Writing.{gives_listed, gives_written, io_then, notes_listed, notes_written}
-use Rattle.tv_managed.proofs.Results.{handed}
+use Rattle.tv_managed.proofs.Results.{handed, handed_on}
 use Rattle.tv_managed.proofs.managed_directory.ManagedDirectory.atomic_write.Goals as goal
 
 pub returns-clause-manages : goal.returns-clause-manages
@@ -27,18 +28,19 @@ returns-in_err-register_file_as_managed-clause-manages g c =
 
 pub returns-in_err-register_file_as_managed-clause-safe : goal.returns-in_err-register_file_as_managed-clause-safe
 returns-in_err-register_file_as_managed-clause-safe g c = λ tells.
-    let lists = c.in_err-register_file_as_managed.ensures.images tells in
-    record {
-      tracks = lists.tracks;
-      states = record { moments = gained_more (λ n s it. inr it) lists.moments; now = record { each = λ n other. lists.now.each n (λ e. other (inr e)) }; stands = IfOk-from_err c.from_residual.result _ c.from_residual.ensures.0 };
-    }
+    let D = g.D.Directory in
+    let e = c.in_err-register_file_as_managed.ensures in
+    let lists = e.images tells in
+    gives_safely D (listed_safely D (Sealed c.args.bytes.now) lists) (handed_on c.from_residual.result _ _ c.from_residual.ensures.1 (wanted_list _ _ _ e.faults.cause lists.moments)) (IfOk-from_err c.from_residual.result _ c.from_residual.ensures.0)
 
 pub returns-clause-safe : goal.returns-clause-safe
 returns-clause-safe g c = λ tells.
     let D = g.D.Directory in
     let gives = c.atomic_write.ensures.images tells in
-    given_safely D (c.in_ok-register_file_as_managed.ensures.images tells) c.self.view_is c.in_ok-register_file_as_managed.ensures.list.names c.requires.other
-    (λ undotted. done_held c.args.self.now.1.collections.unfinished c.args.name.now (c.requires.free undotted)) gives.time gives.no_more (others_given c.atomic_write.result gives) (on_ok_weaker c.atomic_write.result (λ sets. sets.now) gives.ok)
+    let lists = c.in_ok-register_file_as_managed.ensures.images tells in
+    gives_safely D (given_safely D lists c.self.view_is c.in_ok-register_file_as_managed.ensures.list.names c.requires.other
+    (λ undotted. done_held c.args.self.now.1.collections.unfinished c.args.name.now (c.requires.free undotted)) gives.time gives.no_more (others_given c.atomic_write.result gives))
+    (wanted_given D c.atomic_write.result lists c.self.view_is gives) (on_ok_weaker c.atomic_write.result (λ sets. sets.now) gives.ok)
 
 pub returns-in_err-register_file_as_managed-clause-gives : goal.returns-in_err-register_file_as_managed-clause-gives
 returns-in_err-register_file_as_managed-clause-gives g c =

@@ -2,7 +2,7 @@ use Rattle.std.proofs.Common.{rules}
 use Rattle.tv_managed.specs.Collecting.{names_of, taken_by, CollectFaults}
 use Rattle.tv_managed.proofs.Beginning.{begun_safely}
 use Rattle.tv_managed.proofs.Giving.{settles_asked, settles_none}
-use Rattle.tv_managed.proofs.Tracking.{track_read}
+use Rattle.tv_managed.specs.TrackLaws.{listed_read, track_read}
 use Rattle.tv_managed.proofs.Failing.{collect_begun, collect_locked}
 use Rattle.tv_directory.specs.ViewLaws.{reads_then}
 use Rattle.tv_managed.proofs.Results.{handed}
@@ -11,7 +11,7 @@ use Rattle.tv_managed.proofs.managed_directory.ManagedDirectory.collect_begin.Go
 pub returns-in_err-under_meta_lock-clause-safe : goal.returns-in_err-under_meta_lock-clause-safe
 returns-in_err-under_meta_lock-clause-safe g c = λ tells.
     let asks = c.in_err-under_meta_lock.ensures.asks in
-    record { tracks = track_read g.D.Directory asks.frame.names (asks.images tells); states = settles_none (asks.images tells) (search rules) }
+    record { tracks = track_read g.D.Directory asks.frame.names (asks.images tells); listed = listed_read g.D.Directory c.args.self.now c.under_meta_lock.new.self asks.frame.names (asks.images tells); states = settles_none (asks.images tells) (search rules) }
 
 pub returns-clause-safe : goal.returns-clause-safe
 returns-clause-safe g c = λ tells.

@@ -1,4 +1,4 @@
-use Rattle.std.proofs.Common.{rules, ◌≡◌, Bool, List, ℕ, true, sym, ap, subst, ◌∙◌, map, string_bytes, Ok, Err, refl}
+use Rattle.std.proofs.Common.{rules, ◌≡◌, Bool, List, ℕ, true, sym, ap, subst, ◌∙◌, map, string_bytes, Ok, Err}
 use Rattle.tv_model.specs.Names.{is_plain, list_name}
 use Rattle.tv_model.specs.Collections.{Collection, Collections, collection_at, having_tried, with_collection}
 use Rattle.tv_model.specs.declared.memory.Memory.{Memory}
@@ -6,9 +6,9 @@ use Rattle.tv_base.specs.declared.error.TantivyError.{TantivyError}
 use Rattle.tv_managed.specs.Collecting.{TriesName, is_done, Steps}
 use Rattle.tv_managed.specs.Crashes.{LeavesSafely, TriesState, TriesStates}
 use Rattle.tv_managed.specs.Names.{ManagedNames}
-use Rattle.tv_managed.proofs.Stepping.{step_none, step_safely, tries_named}
+use Rattle.std.proofs.lemmas.Result.{IfOk-from_err}
+use Rattle.tv_managed.proofs.Stepping.{step_none, step_safely, step_same, tries_named}
 use Rattle.tv_directory.specs.View.{MayDelete}
-use Rattle.tv_directory.specs.ViewLaws.{kept_itself}
 use Rattle.tv_managed.proofs.Deleting.{changes_none, steps_wanted}
 use Rattle.tv_managed.proofs.Results.{handed}
 use Rattle.tv_managed.proofs.managed_directory.ManagedDirectory.collect_delete.Goals as goal
@@ -19,6 +19,9 @@ after names number d name left gone = record names { collections = with_collecti
 
 pub delete_managed-requires : goal.delete_managed-requires
 delete_managed-requires g c = subst (λ n. is_plain n ≡ true) (sym c.as_str.ensures.value) c.in_ok-name.ensures.plain
+
+pub returns-in_err-name-clause-safe : goal.returns-in_err-name-clause-safe
+returns-in_err-name-clause-safe g c = λ tells d name left at next. step_same g.D.Directory name c.args.self.now c.from_residual.result (IfOk-from_err c.from_residual.result _ c.from_residual.ensures.0)
 
 pub returns-in_err-is_done-clause-safe : goal.returns-in_err-is_done-clause-safe
 returns-in_err-is_done-clause-safe g c = λ tells d name left at next.

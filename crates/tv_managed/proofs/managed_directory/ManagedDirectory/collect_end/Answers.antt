@@ -5,11 +5,13 @@ use Rattle.tv_model.specs.Collections.{Collection, Collections, collection_at, w
 use Rattle.tv_model.specs.Files.{Same}
 use Rattle.tv_model.specs.Listing.{Lists}
 use Rattle.tv_base.specs.declared.error.TantivyError.{TantivyError}
+use Rattle.tv_base.specs.declared.io.IoError.{IoError}
 use Rattle.tv_managed.specs.Collecting.{EndsCollection, Shortens, ending, names_of}
-use Rattle.tv_managed.specs.Crashes.{CutsList, LeavesSafely, ShortensStates}
+use Rattle.tv_managed.specs.Crashes.{CutsList, ShortensSafely, ShortensStates}
 use Rattle.tv_managed.specs.Managed.{Covers}
 use Rattle.tv_managed.specs.Names.{ManagedNames}
-use Rattle.tv_managed.proofs.Ending.{covers_finished, covers_unfinished, end_safely, lacks_done}
+use Rattle.tv_managed.proofs.Cutting.{cuts_none}
+use Rattle.tv_managed.proofs.Ending.{covers_finished, covers_unfinished, end_failed, end_safely, lacks_done}
 use Rattle.tv_managed.proofs.managed_directory.ManagedDirectory.collect_end.Goals as goal
 
 -- these names, without the collection of this number
@@ -66,12 +68,16 @@ returns-clause-ends g c =
       others = (cut d some.1).others;
     })
 
+pub returns-in_err-result-clause-safe : goal.returns-in_err-result-clause-safe
+returns-in_err-result-clause-safe g c = λ tells d at. cuts_none g.D.Directory _ c.args.self.now c.from_residual.result (lacks_done c.args.self.now.1 c.args.id d at)
+
 pub returns-in_err-take_out-clause-safe : goal.returns-in_err-take_out-clause-safe
 returns-in_err-take_out-clause-safe g c = λ tells d at.
     let D = g.D.Directory in
     let found = c.in_ok-result.ensures.told d (ap (λ v. collection_at v.1.collections c.args.id) c.self.view_is ∙ at) in
     let done : names_of c.as_slice.result.now ≡ d.done = ap names_of c.as_slice.ensures.value ∙ found.0 in
-    (subst (λ l. CutsList D (without l c.args.self.now.1.managed) c.args.self.now c.take_out.new.self) done (c.take_out.ensures.safe tells)) (lacks_done c.args.self.now.1 c.args.id d at)
+    end_failed D c.from_residual-in_err-take_out.result c.from_residual-in_err-take_out.ensures.0
+    ((subst (λ l. CutsList D (without l c.args.self.now.1.managed) c.args.self.now c.take_out.new.self c.take_out.result) done (c.take_out.ensures.safe tells)) (lacks_done c.args.self.now.1 c.args.id d at))
 
 pub returns-clause-safe : goal.returns-clause-safe
 unfolding finished
@@ -80,10 +86,10 @@ returns-clause-safe g c = λ tells d at.
     let left = without d.done c.args.self.now.1.managed in
     let found = c.in_ok-result.ensures.told d (ap (λ v. collection_at v.1.collections c.args.id) c.self.view_is ∙ at) in
     let done : names_of c.as_slice.result.now ≡ d.done = ap names_of c.as_slice.ensures.value ∙ found.0 in
-    let safe = (subst (λ l. CutsList D (without l c.args.self.now.1.managed) c.args.self.now c.take_out.new.self) done (c.take_out.ensures.safe tells)) (lacks_done c.args.self.now.1 c.args.id d at) in
+    let safe = (subst (λ l. CutsList {E = IoError} D (without l c.args.self.now.1.managed) c.args.self.now c.take_out.new.self (Ok (tt {0}))) done (c.in_ok-take_out.ensures.safe tells)) (lacks_done c.args.self.now.1 c.args.id d at) in
     let ok = (subst (λ l. Shortens D (without l c.args.self.now.1.managed) c.args.self.now c.take_out.new.self (Ok (tt {0}))) done c.in_ok-take_out.ensures.shortens).ok in
     let names = ap (λ v. v.1) c.self-2.view_is ∙ ok in
     let With : Collections → ManagedNames = λ cs. record { managed = map string_bytes c.self-2.inside.managed.keys; collections = cs } in
     let now : With c.finish.new.self ≡ ending c.args.self.now.1 c.args.id d = ap With c.finish.ensures ∙ ap (finished c.args.id) names in
-    subst (λ x. LeavesSafely D (ShortensStates D left c.args.self.now (x, With c.finish.new.self)) c.args.self.now (x, With c.finish.new.self)) (sym (ap (λ v. v.0) c.self-2.view_is))
-    (end_safely D c.args.id d at ok now safe)
+    subst (λ x. ShortensSafely {E = TantivyError} D (ShortensStates D left c.args.self.now (x, With c.finish.new.self)) c.args.self.now (x, With c.finish.new.self) (Ok c.in_ok-result.result)) (sym (ap (λ v. v.0) c.self-2.view_is))
+    (end_safely D c.in_ok-result.result c.args.id d at ok now safe)

@@ -41,7 +41,7 @@ pub returns-in-Err-IoError-clause-only : goal.returns-in-Err-IoError-clause-only
 returns-in-Err-IoError-clause-only g c = only_deletes g.D.Directory c.delete.result c.self.view_is (plain_other c.args.name.now c.requires) c.delete.ensures.deletes c.delete.ensures.faults c.delete.ensures.frame
 
 pub returns-in-Err-IoError-clause-images : goal.returns-in-Err-IoError-clause-images
-returns-in-Err-IoError-clause-images g c = λ tells. state_refused g.D.Directory c.self.view_is (c.in-Err-IoError.ensures.images tells)
+returns-in-Err-IoError-clause-images g c = λ tells. state_refused g.D.Directory c.in-Err-IoError.field-0-is c.self.view_is (c.in-Err-IoError.ensures.images tells)
 
 pub returns-clause-err : goal.returns-clause-err
 returns-clause-err g c =
@@ -55,4 +55,4 @@ pub returns-clause-only : goal.returns-clause-only
 returns-clause-only g c = only_deletes g.D.Directory c.delete.result c.self.view_is (plain_other c.args.name.now c.requires) c.delete.ensures.deletes c.delete.ensures.faults c.delete.ensures.frame
 
 pub returns-clause-images : goal.returns-clause-images
-returns-clause-images g c = λ tells. state_wanted g.D.Directory _ c.self.view_is (c.in-Err-Memory.ensures.images tells)
+returns-clause-images g c = λ tells. state_wanted g.D.Directory _ c.in-Err-Memory.field-0-is c.self.view_is (c.in-Err-Memory.ensures.images tells)

@@ -1,17 +1,18 @@
-use Rattle.std.proofs.Common.{Err, ap, subst, ◌∙◌, inr, ◌≡◌, refl, sym}
+use Rattle.std.proofs.Common.{Err, ap, subst, ◌∙◌}
 use Rattle.std.proofs.lemmas.Result.{IfOk-from_err}
+use Rattle.tv_model.specs.Disk.{Unsealed}
 use Rattle.tv_model.specs.Files.{KeepsOthers}
 use Rattle.tv_managed.specs.Managed.{registering, CreateFaults, Creates}
 use Rattle.tv_managed.proofs.Collections.{done_held}
 use Rattle.tv_managed.proofs.Making.{manages_by, manages_none, manages_unlisted, others_of_refused}
 use Rattle.tv_managed.proofs.Listing.{lists_asked}
-use Rattle.tv_managed.proofs.Giving.{given_safely}
-use Rattle.tv_managed.proofs.Tracking.{track_read}
-use Rattle.tv_managed.proofs.Touching.{gained_more, gained_none, others_opened}
+use Rattle.tv_managed.proofs.Giving.{absent_unread, creates_safely, gains_still, given_safely, listed_safely, wanted_opened}
+use Rattle.tv_managed.specs.TrackLaws.{listed_read, track_read}
+use Rattle.tv_managed.proofs.Touching.{gained_none, others_opened}
 use Rattle.tv_directory.specs.ViewLaws.{kept_then}
 use Rattle.tv_directory.specs.View.{Kept}
-use Rattle.tv_managed.proofs.Creating.{IsFree, creates_asked, creates_listed, creates_made, creates_refused, faults_made, faults_opened, is_free}
-use Rattle.tv_managed.proofs.Results.{handed}
+use Rattle.tv_managed.proofs.Creating.{StaysAbsent, creates_asked, creates_listed, creates_made, creates_refused, faults_made, faults_opened, is_free}
+use Rattle.tv_managed.proofs.Results.{any_err, handed, handed_on}
 use Rattle.tv_managed.proofs.managed_directory.ManagedDirectory.open_write.Goals as goal
 
 pub returns-in_err-refuse_taken-clause-manages : goal.returns-in_err-refuse_taken-clause-manages
@@ -43,21 +44,28 @@ returns-clause-manages g c =
 
 pub returns-in_err-refuse_taken-clause-safe : goal.returns-in_err-refuse_taken-clause-safe
 returns-in_err-refuse_taken-clause-safe g c = λ tells.
+    let D = g.D.Directory in
     let asks = c.in_err-refuse_taken.ensures.asks in
     let keeps = asks.images tells in
     record {
-      tracks = track_read g.D.Directory asks.frame.names keeps;
-      states = record { moments = gained_none _ keeps; now = record { each = λ n other. keeps.states.now n }; stands = IfOk-from_err c.from_residual.result _ c.from_residual.ensures.0 };
+      tracks = track_read D asks.frame.names keeps;
+      listed = listed_read D c.args.self.now c.refuse_taken.new.self asks.frame.names keeps;
+      states = record {
+        moments = gained_none _ keeps;
+        now = record { each = λ n other. keeps.states.now n };
+        memory = any_err c.from_residual.result (λ e is. gained_none _ keeps);
+        stands = IfOk-from_err c.from_residual.result _ c.from_residual.ensures.0;
+      };
     }
 
 pub returns-in_err-list-clause-safe : goal.returns-in_err-list-clause-safe
 returns-in_err-list-clause-safe g c = λ tells.
+    let D = g.D.Directory in
+    let name = c.args.name.now in
     let asks = c.in_ok-refuse_taken.ensures.asks in
-    let lists = lists_asked g.D.Directory c.args.name.now asks.frame.names (asks.images tells) (c.in_err-list.ensures.images tells) in
-    record {
-      tracks = lists.tracks;
-      states = record { moments = gained_more (λ n s it. inr it) lists.moments; now = record { each = λ n other. lists.now.each n (λ e. other (inr e)) }; stands = IfOk-from_err c.from_residual-in_err-list.result _ c.from_residual-in_err-list.ensures.0 };
-    }
+    let lists = lists_asked D name asks.frame.names (asks.images tells) (c.in_err-list.ensures.images tells) in
+    let absent = absent_unread _ _ ((g.met.D.Directory.stands c.args.self.now.0 tells).reads name) (c.in_ok-refuse_taken.ensures.absent (g.met.D.Directory.tells_more tells)) in
+    creates_safely D (listed_safely D Unsealed lists) (absent, asks.faults.free) (any_err c.from_residual-in_err-list.result (λ e is. lists.moments)) (IfOk-from_err c.from_residual-in_err-list.result _ c.from_residual-in_err-list.ensures.0)
 
 pub returns-in_err-writer-clause-safe : goal.returns-in_err-writer-clause-safe
 returns-in_err-writer-clause-safe g c = λ tells.
@@ -66,8 +74,11 @@ returns-in_err-writer-clause-safe g c = λ tells.
     let asks = c.in_ok-refuse_taken.ensures.asks in
     let lists = lists_asked D name asks.frame.names (asks.images tells) (c.in_ok-list.ensures.images tells) in
     let opens = c.in_err-writer.ensures.images tells in
-    given_safely D lists c.self.view_is (c.in_ok-list.ensures.list.names ∙ ap (λ v. registering v name) asks.frame.names) c.requires.other
-    (λ _. done_held c.args.self.now.1.collections.unfinished name asks.faults.free) opens.time opens.no_more (others_opened (Err c.in_err-writer.field-0.0) opens)
+    let absent = absent_unread _ _ ((g.met.D.Directory.stands c.args.self.now.0 tells).reads name) (c.in_ok-refuse_taken.ensures.absent (g.met.D.Directory.tells_more tells)) in
+    let given = given_safely D lists c.self.view_is (c.in_ok-list.ensures.list.names ∙ ap (λ v. registering v name) asks.frame.names) c.requires.other
+    (λ _. done_held c.args.self.now.1.collections.unfinished name asks.faults.free) opens.time opens.no_more (others_opened (Err c.in_err-writer.field-0.0) opens) in
+    creates_safely D given (absent, asks.faults.free)
+    (handed_on c.from_residual-in_err-writer.result _ _ c.from_residual-in_err-writer.ensures.1 (λ is. gains_still D lists c.self.view_is (record { states = wanted_opened _ _ _ _ opens.err is; time = opens.time })))
     (IfOk-from_err c.from_residual-in_err-writer.result _ c.from_residual-in_err-writer.ensures.0)
 
 pub returns-clause-safe : goal.returns-clause-safe
@@ -77,8 +88,10 @@ returns-clause-safe g c = λ tells.
     let asks = c.in_ok-refuse_taken.ensures.asks in
     let lists = lists_asked D name asks.frame.names (asks.images tells) (c.in_ok-list.ensures.images tells) in
     let opens = c.in_ok-writer.ensures.images tells in
-    given_safely D lists c.self.view_is (c.in_ok-list.ensures.list.names ∙ ap (λ v. registering v name) asks.frame.names) c.requires.other
-    (λ _. done_held c.args.self.now.1.collections.unfinished name asks.faults.free) opens.time opens.no_more opens.ok.1.others opens.ok.1.now
+    let absent = absent_unread _ _ ((g.met.D.Directory.stands c.args.self.now.0 tells).reads name) (c.in_ok-refuse_taken.ensures.absent (g.met.D.Directory.tells_more tells)) in
+    let given = given_safely D lists c.self.view_is (c.in_ok-list.ensures.list.names ∙ ap (λ v. registering v name) asks.frame.names) c.requires.other
+    (λ _. done_held c.args.self.now.1.collections.unfinished name asks.faults.free) opens.time opens.no_more opens.ok.1.others in
+    creates_safely D given (absent, asks.faults.free) tt opens.ok.1.now
 
 -- ---- what was made, and why none
 
@@ -124,7 +137,7 @@ pub returns-in_err-writer-clause-creates : goal.returns-in_err-writer-clause-cre
 returns-in_err-writer-clause-creates g c =
     let D = g.D.Directory in
     let asks = c.in_ok-refuse_taken.ensures.asks in
-    let free : IsFree D c.args.self.now c.list.new.self c.args.name.now = is_free D c.in_ok-refuse_taken.ensures.absent asks c.in_ok-list.ensures.list.others in
+    let free : StaysAbsent D c.args.self.now c.list.new.self c.args.name.now = is_free D c.in_ok-refuse_taken.ensures.absent asks c.in_ok-list.ensures.list.others in
     handed (Creates D c.args.self.now (c.open_write.new.self, _) c.args.name.now) c.from_residual-in_err-writer.result _ c.from_residual-in_err-writer.ensures.1
     (creates_refused D c.requires.other free c.self.view_is c.in_err-writer.ensures.makes
     (faults_opened D c.requires.other free c.self.view_is (c.in_ok-list.ensures.faults.quiet ∙ asks.faults.quiet) c.in_err-writer.ensures.faults))

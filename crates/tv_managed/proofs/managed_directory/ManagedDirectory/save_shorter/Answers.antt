@@ -1,6 +1,7 @@
-use Rattle.std.proofs.Common.{List, ℕ, refl, sym, ap, subst, ◌∙◌, map, string_bytes}
+use Rattle.std.proofs.Common.{List, ℕ, refl, sym, ap, subst, ◌∙◌, map, string_bytes, Ok, Err}
 use Rattle.tv_managed.specs.Collecting.{names_of}
-use Rattle.tv_managed.specs.Crashes.{LeavesSafely, ShortensStates}
+use Rattle.tv_base.specs.declared.io.IoError.{IoError}
+use Rattle.tv_managed.specs.Crashes.{ShortensSafely, ShortensStates}
 use Rattle.tv_managed.specs.Names.{AreManaged, ManagedNames}
 use Rattle.tv_managed.proofs.Cutting.{cuts, cuts_refused, may_cut}
 use Rattle.tv_managed.proofs.Removals.{still_managed}
@@ -16,7 +17,7 @@ invariant_of-self g c =
     subst AreManaged (sym c.requires.1) (still_managed _ c.requires.0 (subst AreManaged (ap (λ v. v.1.managed) c.self.view_is ∙ ap (λ v. v.managed) c.in_ok-sync_directory.ensures.frame.names) c.self.invariant))
 
 pub returns-in_err-sync_directory-clause-safe : goal.returns-in_err-sync_directory-clause-safe
-returns-in_err-sync_directory-clause-safe g c = λ tells. cuts_refused g.D.Directory (names_of c.args.left.keys) c.args.self.now c.sync_directory.new.self c.in_err-sync_directory.ensures.frame.names (c.in_err-sync_directory.ensures.safe tells).states
+returns-in_err-sync_directory-clause-safe g c = λ tells. cuts_refused g.D.Directory (names_of c.args.left.keys) c.args.self.now c.sync_directory.new.self c.from_residual.result c.in_err-sync_directory.ensures.frame.names (c.in_err-sync_directory.ensures.safe tells).states
 
 pub returns-in-Ok-clause-shortens : goal.returns-in-Ok-clause-shortens
 unfolding with_managed
@@ -44,8 +45,8 @@ returns-in-Ok-clause-safe g c = λ tells lacks.
     let was = subst AreManaged (ap (λ v. v.managed) names) c.self.invariant in
     let managed : AreManaged left = subst AreManaged (sym c.requires.1) (still_managed _ c.requires.0 was) in
     let saves = saves_from D _ c.self.view_is (c.in-Ok.ensures.images tells) in
-    subst (λ v. LeavesSafely D (ShortensStates D left c.args.self.now (c.save_managed_paths.new.directory, v)) c.args.self.now (c.save_managed_paths.new.directory, v)) (sym (ap (with_managed left) names))
-    (cuts D c.args.self.now c.sync_directory.new.self.0 c.save_managed_paths.new.directory left _ _ (c.in_ok-sync_directory.ensures.safe tells).states saves (list_of c.args.left.keys _ refl managed) lacks was.plain saves.ok)
+    subst (λ v. ShortensSafely {E = IoError} D (ShortensStates D left c.args.self.now (c.save_managed_paths.new.directory, v)) c.args.self.now (c.save_managed_paths.new.directory, v) (Ok (tt {0}))) (sym (ap (with_managed left) names))
+    (cuts D c.args.self.now c.sync_directory.new.self.0 c.save_managed_paths.new.directory left _ _ (c.in_ok-sync_directory.ensures.safe tells).states saves (list_of c.args.left.keys _ refl managed) lacks was.plain (tt {0}) saves.ok)
 
 pub returns-in-Err-clause-safe : goal.returns-in-Err-clause-safe
 returns-in-Err-clause-safe g c = λ tells lacks.
@@ -55,5 +56,5 @@ returns-in-Err-clause-safe g c = λ tells lacks.
     let was = subst AreManaged (ap (λ v. v.managed) names) c.self.invariant in
     let managed : AreManaged left = subst AreManaged (sym c.requires.1) (still_managed _ c.requires.0 was) in
     let saves = saves_from D _ c.self.view_is (c.in-Err.ensures.images tells) in
-    subst (λ v. LeavesSafely D (ShortensStates D left c.args.self.now (c.save_managed_paths.new.directory, v)) c.args.self.now (c.save_managed_paths.new.directory, v)) (sym names)
-    (may_cut D c.args.self.now c.sync_directory.new.self.0 c.save_managed_paths.new.directory left _ _ (c.in_ok-sync_directory.ensures.safe tells).states saves (list_of c.args.left.keys _ refl managed) lacks was.plain)
+    subst (λ v. ShortensSafely {A = Unit {0}} D (ShortensStates D left c.args.self.now (c.save_managed_paths.new.directory, v)) c.args.self.now (c.save_managed_paths.new.directory, v) (Err c.in-Err.error)) (sym names)
+    (may_cut D c.args.self.now c.sync_directory.new.self.0 c.save_managed_paths.new.directory left _ _ (c.in_ok-sync_directory.ensures.safe tells).states saves (list_of c.args.left.keys _ refl managed) lacks was.plain c.in-Err.error)

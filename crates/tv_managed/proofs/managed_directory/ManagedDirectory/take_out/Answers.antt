@@ -1,4 +1,4 @@
-use Rattle.std.proofs.Common.{rules, ◌≡◌, ap, sym, subst, ◌∙◌, length}
+use Rattle.std.proofs.Common.{rules, ◌≡◌, ap, sym, subst, ◌∙◌, length, Ok}
 use Rattle.std.proofs.lemmas.List.{nil_from_length}
 use Rattle.tv_model.specs.Collections.{without}
 use Rattle.tv_managed.specs.Collecting.{names_of}
@@ -14,10 +14,10 @@ returns-then-is_empty-clause-shortens g c =
     shortens_none g.D.Directory (names_of c.args.done.now) c.args.self.now (tt {0}) (ap names_of (nil_from_length c.args.done.now empty))
 
 pub returns-then-is_empty-clause-safe : goal.returns-then-is_empty-clause-safe
-returns-then-is_empty-clause-safe g c = λ tells. cuts_none g.D.Directory _ c.args.self.now
+returns-then-is_empty-clause-safe g c = λ tells. cuts_none g.D.Directory _ c.args.self.now (Ok (tt {0}))
 
 pub returns-in_err-managed-clause-safe : goal.returns-in_err-managed-clause-safe
-returns-in_err-managed-clause-safe g c = λ tells. cuts_none g.D.Directory _ c.args.self.now
+returns-in_err-managed-clause-safe g c = λ tells. cuts_none g.D.Directory _ c.args.self.now c.from_residual.result
 
 pub without-requires : goal.without-requires
 without-requires g c = subst AreManaged (sym (cloned _ _ c.in_ok-managed.ensures.cases)) c.self.invariant
@@ -34,4 +34,4 @@ returns-clause-shortens g c =
 pub returns-clause-safe : goal.returns-clause-safe
 returns-clause-safe g c = λ tells.
     let same : names_of c.without.result.keys ≡ without (names_of c.args.done.now) c.args.self.now.1.managed = c.without.ensures ∙ ap (without (names_of c.args.done.now)) (cloned _ _ c.in_ok-managed.ensures.cases ∙ ap (λ v. v.1.managed) c.self.view_is) in
-    subst (λ l. CutsList g.D.Directory l c.args.self.now c.save_shorter.new.self) same (c.save_shorter.ensures.safe tells)
+    subst (λ l. CutsList g.D.Directory l c.args.self.now c.save_shorter.new.self c.save_shorter.result) same (c.save_shorter.ensures.safe tells)

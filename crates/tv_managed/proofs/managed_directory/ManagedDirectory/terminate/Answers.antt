@@ -9,11 +9,11 @@ use Rattle.tv_managed.proofs.Endings.{sealed_sets}
 use Rattle.tv_model.specs.Disk.{Sealed}
 use Rattle.tv_managed.specs.Crashes.{SealsStates}
 use Rattle.tv_managed.specs.Names.{ManagedNames}
-use Rattle.tv_managed.proofs.Tracking.{track_from, track_read, track_same, track_then}
+use Rattle.tv_managed.specs.TrackLaws.{keeps_then, track_read, track_then}
+use Rattle.tv_managed.proofs.Tracking.{listed_by_within, listed_file, track_from, track_same}
 use Rattle.tv_model.proofs.DiskLaws.{touches_more, touches_same, touches_then}
-use Rattle.tv_managed.proofs.Touching.{added_written, adds_run, gained_more, gained_none, gained_one, gained_same, gained_then, keeps_same, reads_then, reads_touch, time_written, touches_written, track_written}
+use Rattle.tv_managed.proofs.Touching.{added_written, adds_run, gained_more, gained_none, gained_one, gained_same, gained_then, keeps_same, reads_touch, time_written, touches_written, track_written}
 use Rattle.tv_directory.specs.Calls.{IoFaults}
-use Rattle.tv_directory.specs.View.{Kept}
 use Rattle.tv_directory.specs.ViewLaws.{kept_itself, kept_then}
 use Rattle.tv_managed.specs.Managed.{SealsBody}
 use Rattle.tv_managed.proofs.Writing.{io_none, io_on, io_then, names_kept, seals_none, seals_unwritten}
@@ -45,6 +45,7 @@ returns-clause-seals g c =
 pub returns-in_err-footer-clause-safe : goal.returns-in_err-footer-clause-safe
 returns-in_err-footer-clause-safe g c = λ tells other. record {
   tracks = track_same g.D.Directory;
+  listed = λ was. was;
   states = record {
     touches = touches_same _ _;
     moments = λ summed. adds_run (gained_same _ _);
@@ -58,6 +59,7 @@ returns-in_err-write-clause-safe g c = λ tells other.
     let keeps = c.in_err-write.ensures.images tells in
     record {
       tracks = track_from g.D.Directory c.self.view_is (track_read g.D.Directory refl keeps);
+      listed = listed_by_within g.D.Directory {new = c.write.new.self} c.self.view_is keeps.states.possible.no_more;
       states = subst (λ v. SealsStates g.D.Directory v.0 c.write.new.self c.args.writer c.from_residual-in_err-write.result) c.self.view_is (record {
         touches = reads_touch _ keeps;
         moments = λ summed. adds_run (gained_none _ keeps);
@@ -81,11 +83,13 @@ returns-clause-safe g c = λ tells other.
       tracks = track_from D {new = (c.terminate.new.self, names)} c.self.view_is (λ was.
           let first = track_read D {new = (c.write.new.self, names)} refl keeps was in
           track_then D first (track_written D _ seals (g.met.D.Directory.stands c.write.new.self tells).possible (λ e. other (sym same ∙ e)) first.tracked));
+      listed = λ was. listed_file D (c.write.new.self, names) c.terminate.new.self names refl (added_written _ seals) (λ e. other (sym same ∙ e))
+          (listed_by_within D {new = c.write.new.self} c.self.view_is keeps.states.possible.no_more was);
       states = subst (λ v. SealsStates D v.0 c.terminate.new.self w c.terminate.result) c.self.view_is (record {
         touches = touches_then (reads_touch _ keeps) (touches_more (λ n it. it ∙ same) (touches_written _ seals));
         moments = λ summed. adds_run (gained_then (gained_none _ keeps) (gained_more (λ n s it. (it.0 ∙ same, it.1 ∙ ap Sealed (text summed))) (gained_one (time_written _ seals) (added_written _ seals))));
         stands = λ lives summed. on_ok_weaker c.terminate.result (λ sets. ap (D.disk c.terminate.new.self).now (sym same) ∙ sets.now ∙ ap Sealed (text summed)) (seals.gives (c.in_ok-write.ensures.hands_back.lives content ∙ lives)).ok;
-        gone = λ lives. reads_then keeps (seals.gone (c.in_ok-write.ensures.hands_back.lives content ∙ lives));
+        gone = λ lives. keeps_then keeps (seals.gone (c.in_ok-write.ensures.hands_back.lives content ∙ lives));
       });
     }
 

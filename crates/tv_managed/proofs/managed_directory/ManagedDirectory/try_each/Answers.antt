@@ -8,7 +8,7 @@ pub loop-self-init : goal.loop-self-init
 loop-self-init g c = record {
   some = λ before names is number. some_none g.D.Directory before names c.args.self.now is (search rules);
   only = search rules;
-  safe = λ tells before names is number. record { tracks = track_same g.D.Directory; states = loses_none names _ };
+  safe = λ tells before names is number. record { tracks = track_same g.D.Directory; listed = λ was. was; states = loses_none names _ };
 }
 
 pub loop-self-smaller-in_ok-collect_delete : goal.loop-self-smaller-in_ok-collect_delete

@@ -9,7 +9,7 @@ use Rattle.tv_directory.specs.ViewLaws.{tells_then}
 use Rattle.tv_directory.specs.declared.directory.Directory.{Ghosts}
 use Rattle.tv_managed.specs.Collecting.{LockedFaults, meta_lock_name}
 use Rattle.tv_managed.specs.Names.{ManagedNames}
-use Rattle.tv_managed.proofs.Touching.{reads_then}
+use Rattle.tv_managed.specs.TrackLaws.{keeps_then}
 use Rattle.tv_managed.proofs.managed_directory.ManagedDirectory.under_meta_lock.Goals as goal
 
 -- the lock wasn't given
@@ -52,6 +52,6 @@ returns-clause-asks g c =
           content = λ tells n. second.content tells n ∙ first.content tells n;
         };
       };
-      images = λ tells. reads_then (takes.images tells) (c.release.ensures.images tells);
+      images = λ tells. keeps_then (takes.images tells) (c.release.ensures.images tells);
       faults = record { quiet = frees.below.faults ∙ takes.faults.quiet; free = search rules; busy = λ tells. tt; given = tt; cause = tt };
     }

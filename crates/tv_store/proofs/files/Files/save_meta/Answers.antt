@@ -13,4 +13,5 @@ returns-clause-safe g c t = saved_below g.O.Directory c.args.text.now (c.directo
 
 pub returns-in_err-save_meta_text-clause-safe : goal.returns-in_err-save_meta_text-clause-safe
 returns-in_err-save_meta_text-clause-safe g c t =
-    unsaved_below g.O.Directory c.args.text.now (c.directory_mut.ensures.value ∙ ap names_below c.self.view_is) _ c.from_residual.result c.from_residual.ensures.0 (c.in_err-save_meta_text.ensures.safe t)
+    unsaved_below g.O.Directory c.args.text.now (c.directory_mut.ensures.value ∙ ap names_below c.self.view_is) c.in_err-save_meta_text.field-0.0 c.from_residual.result c.from_residual.ensures.0 c.from_residual.ensures.1
+    (c.in_err-save_meta_text.ensures.safe t)

@@ -100,7 +100,7 @@ returns-in-Reader g c =
     let refused : Type 0 = Rose (d.view old.outside).faults (d.view new.outside).faults in
     let quiet : Type 0 = (d.view new.outside).faults ≡ (d.view old.outside).faults in
     let busy : Type 0 = IsBusy d.told.locks ((d.view old.outside).locks meta_lock_name ≡ true) refused in
-    acts_reading d old new c.args.event.now event c.in-Reader.is c.reader.result tt _ (λ s good. good)
+    acts_reading d old new c.args.event.now event c.in-Reader.is c.reader.result tt _ (λ s good. good.0)
     did.step did.does.room (λ bound h. at_most bound 1 new.kept (did.does.lens bound h)) did.numbers
     (record {
       quiet = did.faults.quiet;

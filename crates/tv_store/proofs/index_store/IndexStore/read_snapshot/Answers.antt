@@ -70,10 +70,10 @@ returns-clause-shown g c tells s held whole =
     ∙ ap (λ (xs : List InnerSegmentMeta). record { opstamp = meta.opstamp; payload = option_map string_bytes meta.payload; segments = map entry_of xs }) c.as_slice.ensures.value
     ∙ loaded_commit D old.outside old.kept s meta tells loaded.meta held in
     let segments : map entry_of items ≡ s.catalog.commit.segments = ap (λ (k : Commit). k.segments) is in
-    let sealed : AreSealed s (all_required (map entry_of items)) = record { each = λ n among. whole.each n (subst (λ (es : List (List ℕ × LiveSegment)). has (all_required es) n ≡ true) segments among) } in
+    let sealed : AreSealed s (all_required (map entry_of items)) = record { each = λ n among. whole.each.0 n (subst (λ (es : List (List ℕ × LiveSegment)). has (all_required es) n ≡ true) segments among) } in
     let reads = c.in_ok-segments.ensures.readers tells s (same_holds (D.view old.outside).reads (D.view mid.outside).reads old.kept mid.kept s (loaded.frame.below.content tells) loaded.frame.kept held) sealed in (
       c.new.ensures ∙ shown_is s c.args.generation meta.opstamp c.text_of-payload.result (map entry_of items) _ _ is reads,
-      subst (λ (es : List (List ℕ × LiveSegment)). AreGoodFiles s (all_required es)) segments reads.good,
+      (subst (λ (es : List (List ℕ × LiveSegment)). AreGoodFiles s (all_required es)) segments reads.good, tt),
     )
 
 pub returns-clause-meta : goal.returns-clause-meta
