@@ -167,6 +167,7 @@ impl TantivyError {
     }
 }
 
+// By hand and not by `thiserror`: a derived text of nineteen variants is dear to prove.
 impl fmt::Display for TantivyError {
     fn fmt<W: fmt::Write>(&self, f: &mut fmt::Formatter<W>) -> fmt::Result {
         f.write_str(self.before())?;

@@ -33,7 +33,7 @@ pub fn what_reads_is_an_image<D: Directory>(directory: &D)
         → ImagesListTheirFiles (possible_now (D.disk directory.now)) }
 {}
 
-/// A bench without files is a sound directory under each schema: whatever image a crash may leave of it is sound,
+/// A new bench without files is a sound directory under each schema: whatever image a crash may leave of it is sound,
 /// and no lock is held.
 pub fn an_empty_bench_is_sound<C: WatchCall>(alloc: Global) -> Result<Bench<C>, Memory>
     ensures { IfOk result (λ bench. (schema : List ℕ) → IsSoundDirectory schema

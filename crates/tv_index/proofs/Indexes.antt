@@ -16,7 +16,7 @@ use Rattle.tv_index.specs.Indexes.{KeepsIndex, MeansSuch}
 use Rattle.tv_index.specs.Metas.{commit_of, settings_of}
 use Rattle.tv_index.specs.Segments.{entry_of}
 use Rattle.tv_index.specs.Standing.{LoadsMeta}
-use Rattle.tv_index.specs.Tracked.{Kept}
+use Rattle.tv_index.specs.Tracked.{Kept, Share}
 use Rattle.tv_index.specs.declared.index_meta.UntrackedIndexMeta.{UntrackedIndexMeta}
 use Rattle.tv_index.specs.declared.index_settings.IndexSettings.{IndexSettings}
 use Rattle.tv_index.specs.declared.segment_meta.InnerSegmentMeta.{InnerSegmentMeta}
@@ -56,6 +56,22 @@ ids_mean g directory schema meta ids loads is t =
       ),
     )
 
+-- the segments that were read, in shares
+pub shares_mean : {D W C : Type 0} (g : Ghosts D W C) (directory : D) (schema : List ℕ) (meta : UntrackedIndexMeta) (shares : List Share) → LoadsMeta g directory (Some schema) meta
+    → map (λ s. s.1) shares ≡ map entry_of meta.segments.items → g.told.content
+    → MeansSuch schema ((g.view directory).reads meta_name) (λ commit. commit.segments ≡ map (λ s. s.1) shares)
+shares_mean g directory schema meta shares loads is t =
+    let m = loads.means t in (
+      m.0,
+      m.1,
+      (
+        settings_of meta,
+        commit_of meta,
+        means_as (settings_of meta) (settings_of meta) meta.schema schema m.0 (commit_of meta) (commit_of meta) refl loads.schema refl m.2,
+        sym is,
+      ),
+    )
+
 -- ---- the index that stands
 
 module _ {D W C : Type 0} (g : Ghosts D W C) (before : D) (wrapped : D × ManagedNames) (w : Wraps g before wrapped) where
@@ -64,6 +80,7 @@ module _ {D W C : Type 0} (g : Ghosts D W C) (before : D) (wrapped : D × Manage
     has = h.has;
     schema = h.schema;
     means = λ t. let m = h.means t in (m.0, sym (w.frame.content t meta_name) ∙ m.1, m.2);
+    spelled = λ t. let m = h.spelled t in (m.0, sym (w.frame.content t meta_name) ∙ m.1, m.2);
   }
 
 -- an index keeps all else where its directory's names stay

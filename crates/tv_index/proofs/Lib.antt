@@ -2,7 +2,7 @@ pub mod Options
 pub mod Listings
 pub mod HandedOn
 pub mod BoundedTrees
-pub mod Inside
+pub mod CanonicalTexts
 pub mod Blanks
 pub mod SeenNames
 pub mod FieldNames
@@ -13,6 +13,7 @@ pub mod SegmentForms
 pub mod PutAll
 pub mod MetaForms
 pub mod Parsed
+pub mod PrintedForms
 pub mod JoinedTexts
 pub mod Openings
 pub mod Untracked

@@ -6,7 +6,7 @@ use Rattle.tv_directory.specs.declared.directory.Directory.{Ghosts}
 use Rattle.tv_managed.specs.Managed.{Covers, ManagesFile, registering}
 use Rattle.tv_managed.specs.Names.{ManagedNames}
 use Rattle.tv_model.specs.Listing.{IsOnList, Listing}
-use Rattle.tv_model.specs.Names.{has, list_name, meta_name}
+use Rattle.tv_model.specs.Names.{has, meta_name}
 use Rattle.tv_index.proofs.Listings.{listing_after}
 use Rattle.tv_index.proofs.Options.{no_some}
 
@@ -62,11 +62,11 @@ module _ {D W C : Type 0} (g : Ghosts D W C) (old mid now new : D × ManagedName
   lists_out t h =
       subst (λ (ns : ManagedNames). Listing (g.view new.0).reads ns.managed) (sym names_after) (listing_after (g.view now.0).reads (g.view new.0).reads now.1.managed (reads_after t) h)
 
-  covers_in : g.told.content → Covers ((g.view old.0).reads list_name) old.1 → Covers ((g.view mid.0).reads list_name) mid.1
-  covers_in t h = subst (λ (ns : ManagedNames). Covers ((g.view mid.0).reads list_name) ns) (sym names_before) (subst (λ (read : Option (List ℕ)). Covers read old.1) (sym (reads_before t list_name)) h)
+  covers_in : (list : List ℕ) → g.told.content → Covers ((g.view old.0).reads list) old.1 → Covers ((g.view mid.0).reads list) mid.1
+  covers_in list t h = subst (λ (ns : ManagedNames). Covers ((g.view mid.0).reads list) ns) (sym names_before) (subst (λ (read : Option (List ℕ)). Covers read old.1) (sym (reads_before t list)) h)
 
-  covers_out : g.told.content → Covers ((g.view now.0).reads list_name) now.1 → Covers ((g.view new.0).reads list_name) new.1
-  covers_out t h = subst (λ (ns : ManagedNames). Covers ((g.view new.0).reads list_name) ns) (sym names_after) (subst (λ (read : Option (List ℕ)). Covers read now.1) (sym (reads_after t list_name)) h)
+  covers_out : (list : List ℕ) → g.told.content → Covers ((g.view now.0).reads list) now.1 → Covers ((g.view new.0).reads list) new.1
+  covers_out list t h = subst (λ (ns : ManagedNames). Covers ((g.view new.0).reads list) ns) (sym names_after) (subst (λ (read : Option (List ℕ)). Covers read now.1) (sym (reads_after t list)) h)
 
   pub manages_between : {A E : Type 0} (inner : Result A E) → ManagesFile g mid now meta_name inner → ManagesFile g old new meta_name inner
   manages_between inner h = record {
@@ -74,11 +74,11 @@ module _ {D W C : Type 0} (g : Ghosts D W C) (old mid now new : D × ManagedName
     err = on_err_weaker inner names_or h.err;
     saves = record {
       list = λ t lists. on_ok_weaker inner (lists_out t) (h.saves.list t (lists_in t lists));
-      covers = λ t covers. covers_out t (h.saves.covers t (covers_in t covers));
+      covers = λ t covers. covers_out _ t (h.saves.covers t (covers_in _ t covers));
     };
-    unsaved = λ t put. reads_after t list_name ∙ h.unsaved t (λ undotted. ap (λ (ns : ManagedNames). has ns.managed meta_name) names_before ∙ put undotted) ∙ reads_before t list_name;
-    listed = λ t covers n undotted some none. subst (λ (read : Option (List ℕ)). IsOnList read n) (sym (reads_after t list_name))
-        (h.listed t (covers_in t covers) n undotted (subst IsSome (reads_after t n) some) (reads_before t n ∙ none));
+    unsaved = λ t put. reads_after t _ ∙ h.unsaved t (λ undotted. ap (λ (ns : ManagedNames). has ns.managed meta_name) names_before ∙ put undotted) ∙ reads_before t _;
+    listed = λ t covers n undotted some none. subst (λ (read : Option (List ℕ)). IsOnList read n) (sym (reads_after t _))
+        (h.listed t (covers_in _ t covers) n undotted (subst IsSome (reads_after t n) some) (reads_before t n ∙ none));
     managed = λ t n undotted some none. subst (λ (ns : ManagedNames). has ns.managed n ≡ true) (sym names_after)
         (h.managed t n undotted (subst IsSome (reads_after t n) some) (reads_before t n ∙ none));
   }
@@ -89,8 +89,13 @@ module _ {D W C : Type 0} (g : Ghosts D W C) (old mid now new : D × ManagedName
   manages_none (Err e) failed is = manages_between (Err e) (record {
     ok = tt;
     err = inl (ap (λ (d : D × ManagedNames). d.1) is);
-    saves = record { list = λ t lists. tt; covers = λ t covers. subst (λ (d : D × ManagedNames). Covers ((g.view d.0).reads list_name) d.1) (sym is) covers };
-    unsaved = λ t put. ap (λ (d : D × ManagedNames). (g.view d.0).reads list_name) is;
+    saves = record { list = λ t lists. tt; covers = λ t covers. still_covers _ covers };
+    unsaved = λ t put. still_reads _;
     listed = λ t covers n undotted some none. no_some ((g.view now.0).reads n) (ap (λ (d : D × ManagedNames). (g.view d.0).reads n) is ∙ none) some;
     managed = λ t n undotted some none. no_some ((g.view now.0).reads n) (ap (λ (d : D × ManagedNames). (g.view d.0).reads n) is ∙ none) some;
-  })
+  }) where
+    still_reads : (list : List ℕ) → (g.view now.0).reads list ≡ (g.view mid.0).reads list
+    still_reads list = ap (λ (d : D × ManagedNames). (g.view d.0).reads list) is
+
+    still_covers : (list : List ℕ) → Covers ((g.view mid.0).reads list) mid.1 → Covers ((g.view now.0).reads list) now.1
+    still_covers list covers = subst (λ (d : D × ManagedNames). Covers ((g.view d.0).reads list) d.1) (sym is) covers

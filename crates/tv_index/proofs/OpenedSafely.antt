@@ -1,6 +1,7 @@
 -- What a crash may leave at each moment of an opening: a sync, a wrap, a read, and a save where an index is made.
 use Rattle.std.proofs.Common.{◌≡◌, ⊎_elim, inl, inr, ℕ, List, Result, Ok, Err, subst, sym}
 use Rattle.std.specs.Prelude.{IfErr, IfOk, IsErr, IsErrAnd, MatchResult, OnOk}
+use Rattle.tv_model.specs.Names.{meta_name}
 use Rattle.tv_base.specs.Errors.{of_io}
 use Rattle.tv_base.specs.declared.error.TantivyError.{TantivyError}
 use Rattle.tv_base.specs.declared.error.TantivyError.TheVariants as errors
@@ -88,13 +89,13 @@ module _ {D W C : Type 0} (g : Ghosts D W C) (text : List ℕ) where
   }
 
   module _ {B : Type 0} {old new : D × ManagedNames} (made : Type 0) (is_so : made) where
-    moments_saved : {E : Type 0} {wanted : E} {result : Result B E} → LeavesSafely g (SavesStates (g.disk old.0) (g.disk new.0) old.1 text wanted result) old new → Throughout (IsOldOrMade made (g.disk old.0) text) (g.disk old.0) (g.disk new.0)
+    moments_saved : {E : Type 0} {wanted : E} {result : Result B E} → LeavesSafely g (SavesStates (g.disk old.0) (g.disk new.0) old.1 meta_name text wanted result) old new → Throughout (IsOldOrMade made (g.disk old.0) text) (g.disk old.0) (g.disk new.0)
     moments_saved safe =
         weaker safe.states.moments (λ p states. ⊎_elim inl
         (λ gains. inr (record { each = λ n s is. ⊎_elim inl (λ given. inr (is_so, ⊎_elim inl (λ listed. inr listed.0.0) given)) (gains.each n s is) })) states)
 
     -- the text was saved
-    pub makes_saved : {A : Type 0} (a : A) (b : B) → LeavesSafely g (SavesStates (g.disk old.0) (g.disk new.0) old.1 text io.Memory (Ok b)) old new → LeavesSafely g (MakesStates (g.disk old.0) (g.disk new.0) made text (Ok a)) old new
+    pub makes_saved : {A : Type 0} (a : A) (b : B) → LeavesSafely g (SavesStates (g.disk old.0) (g.disk new.0) old.1 meta_name text io.Memory (Ok b)) old new → LeavesSafely g (MakesStates (g.disk old.0) (g.disk new.0) made text (Ok a)) old new
     makes_saved a b safe = record {
       tracks = safe.tracks;
       listed = safe.listed;
@@ -102,7 +103,7 @@ module _ {D W C : Type 0} (g : Ghosts D W C) (text : List ℕ) where
     }
 
     -- or that failed
-    pub makes_unsaved : {A : Type 0} (error : IoError) (result : Result A TantivyError) → IsErr result → IsErrAnd result (λ e. e ≡ of_io error) → LeavesSafely g (SavesStates {A = B} (g.disk old.0) (g.disk new.0) old.1 text io.Memory (Err error)) old new
+    pub makes_unsaved : {A : Type 0} (error : IoError) (result : Result A TantivyError) → IsErr result → IsErrAnd result (λ e. e ≡ of_io error) → LeavesSafely g (SavesStates {A = B} (g.disk old.0) (g.disk new.0) old.1 meta_name text io.Memory (Err error)) old new
         → LeavesSafely g (MakesStates (g.disk old.0) (g.disk new.0) made text result) old new
     makes_unsaved error result failed same safe = record {
       tracks = safe.tracks;

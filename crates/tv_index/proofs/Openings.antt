@@ -23,7 +23,7 @@ use Rattle.tv_model.specs.Files.{Reads, Rose, Same}
 use Rattle.tv_model.specs.Index.{FindsCommit}
 use Rattle.tv_model.specs.Meaning.{Means, MeansNothing, MeansOther}
 use Rattle.tv_model.specs.Names.{meta_name}
-use Rattle.tv_model.proofs.SpelledCommits.{spells_commit}
+use Rattle.tv_model.proofs.SpelledCommits.{means_commit}
 use Rattle.tv_index.specs.Metas.{commit_of, settings_of}
 use Rattle.tv_index.specs.NewForms.{FindsOrMakes, IsFirst, LeavesUnmade, NotLoaded, NotOpenedForm, OpensForm, new_text}
 use Rattle.tv_index.specs.Opening.{FrameNotesRefused, HasCommit, HasList, IsRefusedBytes, LoadCause, Loads, NotOpened, OfBytes, OpenCause, OpensIndex, TellsMeta}
@@ -53,8 +53,8 @@ is_first form meta settings commit is small = record {
 
 pub means_has : (schema bytes : List ℕ) (meta : UntrackedIndexMeta) → Means (settings_of meta) meta.schema bytes (commit_of meta) → meta.schema ≡ schema → HasCommit schema meta
 means_has schema bytes meta means is =
-    let spelled = spells_commit bytes (settings_of meta) (commit_of meta) means.tree means.spelled in
-    record { schema_is = is; is_commit = spelled.0; blocksize = spelled.1 }
+    let commit = means_commit (settings_of meta) meta.schema bytes (commit_of meta) means in
+    record { schema_is = is; is_commit = commit.0; blocksize = commit.1 }
 
 -- ---- errors
 
@@ -196,7 +196,7 @@ module _ {D W C : Type 0} (g : Ghosts D W C) (before : D) (form : IndexForm) whe
   -- why the list isn't read, as a cause of an opening
   pub unlisted_cause : (now : D) (e : TantivyError) → ListRefusal g.told (g.view before) (g.view now) e
       → OpenCause g.told.content form.schema (g.view before).reads (Rose (g.view before).faults (g.view now).faults) ((g.view now).faults ≡ (g.view before).faults) e
-  unlisted_cause now (errors.DataCorruption why) k = inl (k.1.1, k.0, k.1.0)
+  unlisted_cause now (errors.DataCorruption why) k = inl (k.1.1, (_, k.0, refl), k.1.0)
   unlisted_cause now (errors.IoError fault) k = k
   unlisted_cause now errors.Memory k = k
   unlisted_cause now other k = absurd k
@@ -222,7 +222,7 @@ module _ {D W C : Type 0} (g : Ghosts D W C) (before : D) (form : IndexForm) whe
         → LoadCause g.told.content form.schema ((g.view wrapped.0).reads meta_name) (Rose (g.view wrapped.0).faults (g.view now).faults) ((g.view now).faults ≡ (g.view wrapped.0).faults) error
         → OpenCause g.told.content form.schema (g.view before).reads (Rose (g.view before).faults (g.view now).faults) ((g.view now).faults ≡ (g.view before).faults) error
     loaded_cause now (errors.DataCorruption why) k =
-        inr (has_list, (k.0 ∙ w.quiet, k.1, λ t. subst (OfBytes MeansNothing) (w.frame.content t meta_name) (k.2 t)))
+        inr (has_list, (k.0 ∙ w.quiet, k.1, λ t. subst (OfBytes (MeansNothing (Some form.schema))) (w.frame.content t meta_name) (k.2 t)))
     loaded_cause now (errors.SchemaError text) k =
         (has_list, (k.0 ∙ w.quiet, k.1, λ t. subst (OfBytes (MeansOther form.schema)) (w.frame.content t meta_name) (k.2 t)))
     loaded_cause now (errors.IoError fault) k = (k.0, subst (λ (n : ℕ). Rose n (g.view now).faults) w.quiet k.1)

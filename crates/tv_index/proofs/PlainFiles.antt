@@ -1,14 +1,13 @@
 -- Plain names.
-use Rattle.std.proofs.Common.{◌≡◌, ◌≢◌, ℕ, true, true≢false, List, ◌∷◌, map, sym, subst, string_bytes, String, Global}
+use Rattle.std.proofs.Common.{◌≡◌, ℕ, true, true≢false, List, ◌∷◌, map, sym, subst, string_bytes, String, Global}
 use Rattle.std.specs.List.{list_all}
 use Rattle.tv_model.specs.Listing.{IsListFile}
-use Rattle.tv_model.specs.Names.{is_plain, list_name}
+use Rattle.tv_model.specs.Names.{is_plain}
 use Rattle.tv_model.proofs.PlainNames.{both}
 
 pub plain_isnt_list : (name : List ℕ) → is_plain name ≡ true → IsListFile name → ⊥
 plain_isnt_list name plain is =
-    let bad : is_plain list_name ≡ true = subst (λ (n : List ℕ). is_plain n ≡ true) is plain in
-    true≢false (sym bad)
+    true≢false (sym (subst (λ (n : List ℕ). is_plain n ≡ true) is plain))
 
 -- the first of some plain names is one, and so are the others
 pub plain_head : (keys rest : List (String Global)) (name : String Global) → keys ≡ name ∷ rest → list_all is_plain (map string_bytes keys) ≡ true

@@ -1,6 +1,6 @@
 -- What the laws follow from.
 use Rattle.std.proofs.Common.{◌≡◌, inl, inr, ℕ, zero, suc, ◌<◌, ◌^◌, Bool, true, false, List, [], ◌∷◌, ◌++◌, codes, length, map, Option, Some, None, Result, Ok, Err, refl, sym, ap, ◌∙◌, subst, arith, append_assoc, append-nil}
-use Rattle.std.specs.Prelude.{Contains, IfErr, IfOk, IsErrAnd, IsSome, MatchResult, OnOk}
+use Rattle.std.specs.Prelude.{Contains, IfErr, IfOk, IsErrAnd, IsSome, MatchResult, OnOk, is_some}
 use Rattle.std.specs.Fmt.{decimal}
 use Rattle.std.specs.List.{join_with_byte, slice_index_or}
 use Rattle.std.specs.Str.Iter.{HasSubslice}
@@ -9,24 +9,27 @@ use Rattle.std.proofs.lemmas.Option.{same_Some}
 use Rattle.hex.specs.Hex.{encode_lower}
 use Rattle.serde_json.specs.Data.{Data, null, array, Items, no_items, item}
 use Rattle.serde_json.specs.Find.{at, get, get_item}
+use Rattle.serde_json.specs.Read.{read}
 use Rattle.tv_base.specs.declared.error.TantivyError.{TantivyError}
 use Rattle.tv_base.specs.declared.error.TantivyError.TheVariants as errors
 use Rattle.tv_directory.specs.declared.directory.Directory.{Ghosts}
 use Rattle.tv_managed.specs.declared.managed_directory.Refused.{Refused}
 use Rattle.tv_model.specs.declared.segment.DeleteMeta.{DeleteMeta}
 use Rattle.tv_model.specs.declared.segment.LiveSegment.{LiveSegment}
-use Rattle.tv_model.specs.Commits.{Commit, IndexForm, IsCommit, Settings, deletes_text, payload_text, printed, segment_text, settings_text}
+use Rattle.tv_model.specs.Commits.{Commit, IndexForm, IsCommit, Settings, payload_text, printed, segment_text, settings_text}
 use Rattle.tv_model.specs.Files.{Same}
 use Rattle.tv_model.specs.JsonFields.{IsOptional, field, u32_of}
-use Rattle.tv_model.specs.Meaning.{Means, MeansNothing}
-use Rattle.tv_model.specs.MetaJson.{IsDeleteMeta, SpellEach, SpellsMeta, SpellsSegment}
+use Rattle.tv_model.specs.Meaning.{Means, SpellsNothing}
+use Rattle.tv_model.specs.MetaJson.{AreSettings, AreSettingsAt, IsDeleteMeta, IsUncompressed, SpellEach, SpellsMeta, SpellsSegment}
 use Rattle.tv_model.specs.Names.{has, meta_name}
+use Rattle.tv_model.specs.Schemas.{IsSchemaText}
 use Rattle.tv_model.specs.SegmentEvents.{is_named}
 use Rattle.tv_model.specs.Segments.{num_deleted}
-use Rattle.tv_model.proofs.OneMeaning.{means_one, one_meaning}
+use Rattle.tv_model.proofs.MeansOne.{means_no_other, means_one, means_something, means_spelled, spelled_means}
+use Rattle.tv_model.proofs.OneMeaning.{one_meaning}
 use Rattle.tv_model.proofs.ReadPrinted.{printed_means}
 use Rattle.tv_model.proofs.Required.{begins_named}
-use Rattle.tv_index.specs.Laws.{DeletesTooMany, ReadsBack, SaysCorrupt}
+use Rattle.tv_index.specs.Laws.{DeletesTooMany, NamesCompression, ReadsBack, SaysCorrupt}
 use Rattle.tv_index.specs.Indexes.{IndexState, NewSegmentCause, OpensIndexOf, OpensStanding, is_id_used}
 use Rattle.tv_index.specs.Metas.{commit_of, settings_of}
 use Rattle.tv_index.specs.NewForms.{NotOpenedForm}
@@ -56,7 +59,7 @@ deleted_is o (Some meta) d n (e, found, spelled) is at =
     let same : e ≡ d = same_Some e d (sym found ∙ is) in
     same_Some meta.num_deleted_docs n (sym spelled.num_deleted_docs ∙ ap (field u32_of (codes "num_deleted_docs")) same ∙ at)
 
-pub deletes_mean_nothing : (bytes : List ℕ) → DeletesTooMany bytes → MeansNothing bytes
+pub deletes_mean_nothing : (bytes : List ℕ) → DeletesTooMany bytes → SpellsNothing bytes
 deletes_mean_nothing bytes h settings commit schema s =
     let same : s.tree ≡ h.tree = same_Some s.tree h.tree (sym s.parsed ∙ h.parsed) in
     let list : array s.form.items ≡ h.segments = same_Some (array s.form.items) h.segments (sym s.form.list ∙ ap (get (codes "segments")) same ∙ h.segments_at) in
@@ -65,7 +68,14 @@ deletes_mean_nothing bytes h settings commit schema s =
     let deleted : num_deleted there.0.1.deletes ≡ h.num_deleted = deleted_is (get (codes "deletes") h.segment) there.0.1.deletes h.deletes h.num_deleted there.1.deletes h.deletes_at h.num_deleted_at in
     omega (arith, there.1.within, documents, deleted, h.more)
 
-says_corrupt : (expected : Option (List ℕ)) (bytes : List ℕ) (error : TantivyError) → MeansNothing bytes → ParseCause expected bytes error → SaysCorrupt error
+pub compressions_mean_nothing : (bytes : List ℕ) → NamesCompression bytes → SpellsNothing bytes
+compressions_mean_nothing bytes h settings commit schema s =
+    let same : s.tree ≡ h.tree = same_Some s.tree h.tree (sym s.parsed ∙ h.parsed) in
+    let at : get (codes "index_settings") s.tree ≡ Some h.settings = ap (get (codes "index_settings")) same ∙ h.settings_at in
+    let are : AreSettings h.settings settings = subst (λ o. AreSettingsAt o settings) at s.form.settings_at in
+    h.is_other (subst IsUncompressed h.compression_at are.compression)
+
+says_corrupt : (expected : Option (List ℕ)) (bytes : List ℕ) (error : TantivyError) → SpellsNothing bytes → ParseCause expected bytes error → SaysCorrupt error
 says_corrupt expected bytes (errors.DataCorruption why) nothing cause = cause.0
 says_corrupt None bytes (errors.SchemaError text) nothing cause = cause.1
 says_corrupt (Some schema) bytes (errors.SchemaError text) nothing cause = nothing cause.1.settings cause.1.commit cause.1.tree cause.1.spelled
@@ -73,10 +83,18 @@ says_corrupt expected bytes errors.Memory nothing cause = tt
 says_corrupt expected bytes _ nothing cause = absurd cause
 
 -- such bytes are refused
-pub refused_as_corrupt : (expected : Option (List ℕ)) (bytes : List ℕ) (result : Result UntrackedIndexMeta TantivyError) → MeansNothing bytes
+pub refused_as_corrupt : (expected : Option (List ℕ)) (bytes : List ℕ) (result : Result UntrackedIndexMeta TantivyError) → SpellsNothing bytes → IsSome (read bytes)
     → IfOk result (λ meta. Means (settings_of meta) meta.schema bytes (commit_of meta)) → IfErr result (ParseCause expected bytes) → IsErrAnd result SaysCorrupt
-refused_as_corrupt expected bytes (Ok meta) nothing means cause = absurd (nothing (settings_of meta) (commit_of meta) means.tree means.spelled)
-refused_as_corrupt expected bytes (Err error) nothing means cause = says_corrupt expected bytes error nothing cause
+refused_as_corrupt expected bytes (Ok meta) nothing there means cause =
+    absurd (nothing (settings_of meta) (commit_of meta) means.tree (means_spelled (settings_of meta) meta.schema bytes (commit_of meta) means there))
+refused_as_corrupt expected bytes (Err error) nothing there means cause = says_corrupt expected bytes error nothing cause
+
+-- bytes that are read as JSON mean the same commit under a schema with the same tree
+pub same_means : (schema other : List ℕ) → HasSchemaTree other → read schema ≡ read other → (settings : Settings) (bytes : List ℕ) (commit : Commit)
+    → IsSome (read bytes) → Means settings schema bytes commit → Means settings other bytes commit
+same_means schema other has same settings bytes commit there m =
+    let tree : has.tree ≡ m.tree = same_Some has.tree m.tree (sym has.text_is.parsed ∙ sym same ∙ m.schema_is.parsed) in
+    spelled_means settings other bytes commit m.tree (subst (IsSchemaText other) tree has.text_is) (means_spelled settings schema bytes commit m there)
 
 -- ---- names
 
@@ -149,10 +167,8 @@ printed_null settings schema commit e (k, lt, is) none =
 
 -- why the text of a commit is refused: for want of memory alone
 only_memory : (settings : Settings) (schema bytes : List ℕ) (commit : Commit) (error : TantivyError) → Means settings schema bytes commit → ParseCause (Some schema) bytes error → error ≡ errors.Memory
-only_memory settings schema bytes commit (errors.DataCorruption why) means cause = absurd (cause.1 settings commit means.tree means.spelled)
-only_memory settings schema bytes commit (errors.SchemaError text) means cause =
-    let one = one_meaning bytes settings cause.1.settings commit cause.1.commit means.tree cause.1.tree means.spelled cause.1.spelled in
-    absurd (cause.1.other (means.schema_is.parsed ∙ ap Some one.2))
+only_memory settings schema bytes commit (errors.DataCorruption why) means cause = absurd (means_something settings schema bytes commit means cause.1)
+only_memory settings schema bytes commit (errors.SchemaError text) means cause = absurd (means_no_other settings schema bytes commit means cause.1)
 only_memory settings schema bytes commit errors.Memory means cause = refl
 only_memory settings schema bytes commit _ means cause = absurd cause
 
@@ -187,5 +203,7 @@ module _ {D W C : Type 0} (g : Ghosts D W C) (before : D) where
   stored_settings index opens tells bytes settings commit schema reads spells =
       let means = opens.loads.means tells in
       let same : means.0 ≡ bytes = same_Some means.0 bytes (sym means.1 ∙ reads) in
-      let own = subst (λ (l : List ℕ). SpellsMeta l (settings_of opens.meta) (commit_of opens.meta) means.2.tree) same means.2.spelled in
-      ap settings_view opens.shows.settings ∙ (one_meaning bytes (settings_of opens.meta) settings (commit_of opens.meta) commit means.2.tree schema own spells).0
+      let meant : Means (settings_of opens.meta) opens.meta.schema bytes (commit_of opens.meta) =
+      subst (λ (l : List ℕ). Means (settings_of opens.meta) opens.meta.schema l (commit_of opens.meta)) same means.2 in
+      let own = means_spelled (settings_of opens.meta) opens.meta.schema bytes (commit_of opens.meta) meant (ap is_some spells.parsed) in
+      ap settings_view opens.shows.settings ∙ (one_meaning bytes (settings_of opens.meta) settings (commit_of opens.meta) commit meant.tree schema own spells).0

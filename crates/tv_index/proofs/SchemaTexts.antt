@@ -1,5 +1,5 @@
 -- The texts of schemas.
-use Rattle.std.proofs.Common.{◌≡◌, ◌≤◌, ℕ, true, List, [], ◌∷◌, ◌++◌, length, None, Some, Result, Ok, Err, sym, ap, ◌∙◌, subst, eqb-true}
+use Rattle.std.proofs.Common.{◌≡◌, ◌≤◌, ℕ, true, List, [], ◌∷◌, length, None, Some, Result, Ok, Err, sym, ap, ◌∙◌, subst, eqb-true}
 use Rattle.std.specs.Prelude.{IfOk, IsSome, IsUtf8, MatchResult, nat_eq, String, string_bytes}
 use Rattle.std.specs.declared.alloc.Global.{Global}
 use Rattle.std.specs.List.{starts_with}
@@ -15,7 +15,7 @@ use Rattle.tv_index.specs.Reads.{IfCorrupt}
 use Rattle.tv_index.specs.SchemaReading.{names_of}
 use Rattle.tv_index.specs.Schemas.{HasSchemaTree, IsKept, IsNoSchemaText}
 use Rattle.tv_index.proofs.HandedOn.{if_corrupt}
-use Rattle.tv_index.proofs.Inside.{canonical_form}
+use Rattle.tv_index.proofs.CanonicalTexts.{canonical_form}
 use Rattle.tv_index.proofs.SchemaForms.{schema_to, schema_back}
 
 -- a text whose tree gives no names
@@ -30,11 +30,11 @@ begins_there : (text : List ℕ) → starts_with nat_eq text (91 ∷ []) ≡ tru
 begins_there [] h = cc
 begins_there (b ∷ rest) h = (rest, ap (λ (x : ℕ). x ∷ rest) (sym (eqb-true 91 b (and_parts (nat_eq 91 b) true h).0)))
 
--- a text that was read, inside an array too
+-- a text that was read
 pub text_form : (text bytes : List ℕ) (d : Data) (names : List (List ℕ)) → bytes ≡ text → IsUtf8 bytes × (read bytes ≡ Some d)
     → starts_with nat_eq text (91 ∷ []) ≡ true
-    → names_of d ≡ Some names → IsSome (read (91 ∷ text ++ 93 ∷ [])) → IsSchemaText text d
-text_form text bytes d names is h begins of within =
+    → names_of d ≡ Some names → IsSchemaText text d
+text_form text bytes d names is h begins of =
     let b = begins_there text begins in
     record {
       utf8 = subst IsUtf8 is h.0;
@@ -42,7 +42,6 @@ text_form text bytes d names is h begins of within =
       begins = b.1;
       parsed = ap read (sym is)
           ∙ h.1;
-      inside = within;
       names = names;
       form = schema_to d names of;
     }
@@ -53,10 +52,10 @@ kept_form text canonical d names form tree is reads = record { tree = d; text_is
 
 -- the canonical text of a tree, in a copy
 pub copied_form : (text : List ℕ) (canonical : String Global) (d : Data) (names : List (List ℕ)) → text ≡ string_bytes canonical → IsSchemaTree d names
-    → string_bytes canonical ≡ compact_text d → read (string_bytes canonical) ≡ Some d → IsSome (read (91 ∷ string_bytes canonical ++ 93 ∷ []))
+    → string_bytes canonical ≡ compact_text d → read (string_bytes canonical) ≡ Some d
     → IsSchemaText text d
-copied_form text canonical d names same form is reads within =
-    subst (λ (t : List ℕ). IsSchemaText t d) (sym same) (canonical_form (string_bytes canonical) d names form (IsUtf8-string_bytes canonical) is reads within)
+copied_form text canonical d names same form is reads =
+    subst (λ (t : List ℕ). IsSchemaText t d) (sym same) (canonical_form (string_bytes canonical) d names form (IsUtf8-string_bytes canonical) is reads)
 
 -- bytes that are read, by their text without blanks
 pub spelled_by : (r : Result (List ℕ) ReadError) (bytes text : List ℕ) → text ≡ stripped bytes → length bytes ≤ 1048576 → IsUtf8 bytes → IsSome (read bytes)

@@ -1,6 +1,6 @@
 -- What is read of `meta.json` where it has to be there.
 use Rattle.std.proofs.Common.{◌≡◌, ℕ, List, Option, Some, None, Result, Ok, Err, refl, sym, subst}
-use Rattle.std.specs.Prelude.{IfErr, IfOk, IfSome}
+use Rattle.std.specs.Prelude.{IfErr, IfOk, IfSome, IsErrAnd}
 use Rattle.tv_base.specs.Causes.{OpenReadCause}
 use Rattle.tv_base.specs.declared.error.TantivyError.{TantivyError}
 use Rattle.tv_base.specs.declared.error.TantivyError.TheVariants as errors
@@ -11,7 +11,7 @@ use Rattle.tv_model.specs.Files.{Rose}
 use Rattle.tv_model.specs.Meaning.{Means, MeansNothing, MeansOther}
 use Rattle.tv_model.specs.Names.{meta_name}
 use Rattle.tv_index.specs.Metas.{commit_of, settings_of}
-use Rattle.tv_index.specs.Parsing.{IsForExpected, ParseCause}
+use Rattle.tv_index.specs.Parsing.{IsForExpected, ParseCause, SpellsUnlessExpected}
 use Rattle.tv_index.specs.Opening.{HasCommit, LoadCause, LoadFaults, Loads, NoneIfAbsent, OfBytes}
 use Rattle.tv_index.specs.Standing.{LoadsMeta, MetaCause, MetaFaults, OfRead, UnreadAs}
 use Rattle.tv_index.specs.declared.index_meta.UntrackedIndexMeta.{UntrackedIndexMeta}
@@ -33,9 +33,15 @@ module _ {D W C : Type 0} (g : Ghosts D W C) (old new : D) (expected : Option (L
 
   pub parsed_meta : (result : Result UntrackedIndexMeta TantivyError) (bytes : List ℕ) → (g.told.content → (g.view old).reads meta_name ≡ Some bytes)
       → IfOk result (λ meta. Means (settings_of meta) meta.schema bytes (commit_of meta)) → IfOk result (λ meta. IsForExpected expected meta.schema)
+      → IfOk result (λ meta. SpellsUnlessExpected expected bytes (settings_of meta) (commit_of meta))
       → IfOk result (LoadsMeta g old expected)
-  parsed_meta (Ok meta) bytes is means schema = record { has = means_has meta.schema bytes meta means refl; schema = schema; means = λ t. (bytes, is t, means) }
-  parsed_meta (Err error) bytes is means schema = tt
+  parsed_meta (Ok meta) bytes is means schema spelled = record {
+    has = means_has meta.schema bytes meta means refl;
+    schema = schema;
+    means = λ t. (bytes, is t, means);
+    spelled = λ t. (bytes, is t, spelled);
+  }
+  parsed_meta (Err error) bytes is means schema spelled = tt
 
   -- they weren't
   abbrev Cause : TantivyError → Type 0
@@ -90,8 +96,16 @@ module _ {D W C : Type 0} (g : Ghosts D W C) (old new : D) (schema : List ℕ) w
 
   pub unless_found : (error : TantivyError) (result : Result (Option UntrackedIndexMeta) TantivyError) → Unread error → NoneIfAbsent error result → Told result
   unless_found (errors.OpenReadError why) result h is = subst Told (sym is) (none_found why h, tt, record { quiet = (absent why h).0; cause = tt })
-  unless_found (errors.DataCorruption why) result h is = fails result (errors.DataCorruption why) is (h.0, h.1, of_read MeansNothing g.told.content ((g.view old).reads meta_name) h.2)
+  unless_found (errors.DataCorruption why) result h is = fails result (errors.DataCorruption why) is (h.0, h.1, of_read (MeansNothing (Some schema)) g.told.content ((g.view old).reads meta_name) h.2)
   unless_found (errors.SchemaError text) result h is = fails result (errors.SchemaError text) is (h.0, h.1, of_read (MeansOther schema) g.told.content ((g.view old).reads meta_name) h.2)
   unless_found (errors.IoError fault) result h is = fails result (errors.IoError fault) is h
   unless_found errors.Memory result h is = fails result errors.Memory is h
   unless_found other result h is = absurd h
+
+-- a load that failed, as an error that is handed on
+pub meta_fails : {A D W C : Type 0} (g : Ghosts D W C) (old new : D) (expected : Option (List ℕ)) (result : Result A TantivyError) (error : TantivyError)
+    → IsErrAnd result (λ e. e ≡ error)
+    → MetaCause g.told.content expected ((g.view old).reads meta_name) (Rose (g.view old).faults (g.view new).faults) ((g.view new).faults ≡ (g.view old).faults) error
+    → MetaFaults g old new expected result
+meta_fails g old new expected (Ok a) error h cause = absurd h
+meta_fails g old new expected (Err e) error h cause = record { quiet = tt; cause = subst (MetaCause g.told.content expected _ _ _) (sym h) cause }

@@ -6,7 +6,7 @@ use Rattle.tv_model.specs.Meaning.{Means}
 use Rattle.tv_model.specs.Schemas.{IsSchemaText}
 use Rattle.tv_index.specs.declared.index_meta.UntrackedIndexMeta.{UntrackedIndexMeta}
 use Rattle.tv_index.specs.Metas.{commit_of, settings_of}
-use Rattle.tv_index.specs.Parsing.{IsForExpected, MeansOtherThan}
+use Rattle.tv_index.specs.Parsing.{IsForExpected, MeansOtherThan, SpellsUnlessExpected}
 
 -- the expected schema has another tree
 abbrev pub IsOtherThan : (expected : Option (List ℕ)) → Data → Type 0
@@ -21,4 +21,6 @@ Chooses expected tree (Some schema) = IsSchemaText schema tree × IsForExpected 
 -- the commit that the bytes mean, under such a schema
 abbrev pub Reads : (expected : Option (List ℕ)) → List ℕ → Option UntrackedIndexMeta → Type 0
 Reads expected bytes None = MeansOtherThan expected bytes
-Reads expected bytes (Some meta) = Means (settings_of meta) meta.schema bytes (commit_of meta) × IsForExpected expected meta.schema
+Reads expected bytes (Some meta) =
+    Means (settings_of meta) meta.schema bytes (commit_of meta) × IsForExpected expected meta.schema
+    × SpellsUnlessExpected expected bytes (settings_of meta) (commit_of meta)

@@ -7,7 +7,7 @@ use Rattle.tv_model.proofs.DiskLaws.{within_step}
 use Rattle.tv_directory.specs.Images.{KeepsDisk, SameStates, Settles}
 use Rattle.tv_directory.specs.declared.directory.Directory.{Ghosts}
 use Rattle.tv_managed.specs.Names.{ManagedNames}
-use Rattle.tv_managed.specs.TrackLaws.{covered_within, listed_within}
+use Rattle.tv_managed.specs.TrackLaws.{covered_within, listed_within, within_then}
 use Rattle.tv_index.specs.Crashes.{IsOldOrMade, IsOldOrRelisted, MayMake, OnlyLooks, TracksFrom}
 
 -- Where a crash may leave what stood before a call, or what the call made, it may leave either of any
@@ -37,13 +37,6 @@ pub settled_within : {old new : Disk} → Within (possible_now old) (possible_no
 settled_within within stands was = record {
   each = λ n s is. was.each n s (within.each n s is) ∙ sym (stands n);
 }
-
--- no state is possible besides, twice
-pub within_then : {old mid new : Disk} → Throughout (Within (possible_now old)) old mid
-    → Throughout (Within (possible_now mid)) mid new → Throughout (Within (possible_now old)) old new
-within_then {old} {mid} first second =
-    goes_on_run _ (fewer_within (possible_now old)) first
-    (weaker second (λ p within. fewer_within (possible_now old) (possible_now mid) p within (at_end first)))
 
 -- what is made behind calls that make nothing
 pub made_behind : {old mid new : Disk} (text : List ℕ) (made making : Type 0) → (made → making)

@@ -16,49 +16,52 @@ use Rattle.tv_managed.specs.declared.managed_directory.Refused.{Refused}
 abbrev pub as_it_stands : Disk → Possible
 as_it_stands disk n s = s ≡ disk.now n
 
--- No more is possible than before; or each name is as it stood, but that `meta.json` may have this text,
--- and the list its name.
-abbrev pub IsOldOrSaved : Disk → ManagedNames → (text : List ℕ) → Possible → Type 0
-IsOldOrSaved old names text possible =
+-- No more is possible than before; or each name is as it stood, but that this file may have this
+-- text, and the list its name.
+abbrev pub IsOldOrSaved : Disk → ManagedNames → (file text : List ℕ) → Possible → Type 0
+IsOldOrSaved old names file text possible =
     Within (possible_now old) possible
-    ⊎ Gains (IsGiven names meta_name (Sealed text)) (as_it_stands old) possible
+    ⊎ Gains (IsGiven names file (Sealed text)) (as_it_stands old) possible
 
 -- no more is possible than before; or each name is as it stood, but that the list may have the name
--- `meta.json`
-abbrev pub IsOldOrListed : Disk → ManagedNames → Possible → Type 0
-IsOldOrListed old names possible =
-    Within (possible_now old) possible ⊎ Gains (IsNewList names meta_name) (as_it_stands old) possible
+-- of this file
+abbrev pub IsOldOrListed : Disk → ManagedNames → (file : List ℕ) → Possible → Type 0
+IsOldOrListed old names file possible =
+    Within (possible_now old) possible ⊎ Gains (IsNewList names file) (as_it_stands old) possible
 
--- `meta.json` is given this text. At each moment a crash leaves no more than it might before, or each name
--- as it stood, but that `meta.json` may have the text, and the list its name. Where the error is `wanted`,
--- which says that memory was wanted, it leaves `meta.json` at no moment in a state that it hadn't. At Ok it
--- leaves each name as it is, and `meta.json` has the text.
-pub record SavesStates {A E : Type 0} (old new : Disk) (names : ManagedNames) (text : List ℕ) (wanted : E)
-    (result : Result A E) : Type 0 where
-  pub moments : Throughout (IsOldOrSaved old names text) old new
-  pub now : OnlyMoves (OrItsList names meta_name) old new
-  pub memory : IfErr result (λ error. error ≡ wanted → Throughout (IsOldOrListed old names) old new)
-  pub kept : OnOk result (IsSettled new × (new.now meta_name ≡ Sealed text))
+-- A file is given this text. At each moment a crash leaves no more than it might before, or each
+-- name as it stood, but that the file may have the text, and the list its name. Where the error is
+-- `wanted`, which says that memory was wanted, it leaves at each moment no more than it might
+-- before, or each name as it stood, but that the list may have the file's. At Ok it leaves each
+-- name as it is, and the file has the text.
+pub record SavesStates {A E : Type 0} (old new : Disk) (names : ManagedNames) (file text : List ℕ)
+    (wanted : E) (result : Result A E) : Type 0 where
+  pub moments : Throughout (IsOldOrSaved old names file text) old new
+  pub now : OnlyMoves (OrItsList names file) old new
+  pub memory : IfErr result (λ error. error ≡ wanted
+      → Throughout (IsOldOrListed old names file) old new)
+  pub kept : OnOk result (IsSettled new × (new.now file ≡ Sealed text))
 
 -- this is `meta.json` with this text, or the list
 abbrev pub IsMade : (text n : List ℕ) → DiskState → Type 0
 IsMade text n s = ((n ≡ meta_name) × (s ≡ Sealed text)) ⊎ IsListFile n
 
--- No more is possible than before; or `made` is so, and each name is as it stood, but that `meta.json` may
--- have this text, and the list another one.
+-- No more is possible than before; or `made` is so, and each name is as it stood, but that
+-- `meta.json` may have this text, and the list may be in any state.
 abbrev pub IsOldOrMade : (made : Type 0) → Disk → (text : List ℕ) → Possible → Type 0
 IsOldOrMade made old text possible =
     Within (possible_now old) possible ⊎ Gains (λ n s. made × IsMade text n s) (as_it_stands old) possible
 
--- no more is possible than before; or `made` is so, and each name is as it stood, but that the list may have
--- another text
+-- no more is possible than before; or `made` is so, and each name is as it stood, but that the list
+-- may be in any state
 abbrev pub IsOldOrRelisted : (made : Type 0) → Disk → Possible → Type 0
 IsOldOrRelisted made old possible =
     Within (possible_now old) possible ⊎ Gains (λ n s. made × IsListFile n) (as_it_stands old) possible
 
--- An index may be made with this first text, where `made` is so. At each moment a crash leaves no more than
--- it might before, or what may be left of making it; where memory was wanted, the list alone may be another
--- one. At Ok a crash leaves each name as it is, where it did so before.
+-- An index may be made with this first text, where `made` is so. At each moment a crash leaves no
+-- more than it might before, or what may be left of making it; where memory was wanted, no more
+-- than it might before, or each name but the list as it stood. At Ok a crash leaves each name as it
+-- is, where it did so before.
 pub record MakesStates {A : Type 0} (old new : Disk) (made : Type 0) (text : List ℕ)
     (result : Result A TantivyError) : Type 0 where
   pub moments : Throughout (IsOldOrMade made old text) old new
@@ -87,9 +90,9 @@ pub record MayMake {D W C : Type 0} (g : Ghosts D W C) (made : Type 0) (text : L
   pub listed : ImagesListTheirFiles (possible_now (g.disk before))
       → Throughout ImagesListTheirFiles (g.disk before) (g.disk now)
 
--- An opening that is refused with this error, and may have made an index with this first text where `made`
--- is so. Where memory was wanted, a crash leaves at each moment no more than it might before, or another
--- list alone.
+-- An opening that is refused with this error, and may have made an index with this first text where
+-- `made` is so. Where memory was wanted, a crash leaves at each moment no more than it might
+-- before, or each name but the list as it stood.
 pub record MakesNone {D W C : Type 0} (g : Ghosts D W C) (made : Type 0) (text : List ℕ)
     (before now : D) (error : TantivyError) : Type 0 where
   pub makes : MayMake g made text before now
@@ -103,8 +106,9 @@ LooksSafely g before opened result =
     MatchResult result (λ a. OnlyLooks g before (opened a).0 × TracksFrom g before (opened a))
     (λ refused. OnlyLooks g before refused.directory)
 
--- An opening that may make an index with this first text. At Ok all is settled, and the directory keeps
--- track, where it may; where memory was wanted, no index was made.
+-- An opening that may make an index with this first text where `made` is so. At Ok all is settled,
+-- and the directory keeps track, where it may; where memory was wanted, a crash leaves at each
+-- moment no more than it might before, or each name but the list as it stood.
 abbrev pub MakesSafely : {A D W C : Type 0} → Ghosts D W C → (made : Type 0) → (text : List ℕ) → (before : D)
     → (opened : A → D × ManagedNames) → Result A (Refused D) → Type 0
 MakesSafely g made text before opened result =

@@ -8,6 +8,7 @@ pub mod Metas
 pub mod MetaReading
 pub mod Parsing
 pub mod Choosing
+pub mod Printed
 pub mod Opening
 pub mod Openable
 pub mod Saving

@@ -1,6 +1,7 @@
 -- How an index is opened, or made where there is none.
 use Rattle.std.specs.Prelude.{◌≡◌, ◌⊎◌, ◌<◌, ◌^◌, ◌++◌, ◌∷◌, [], ℕ, List, codes, Option, Some, None, IsSome, option_map, string_bytes, Result, Ok, Err, IfErr, OnOk}
 use Rattle.tv_base.specs.Causes.{IsDevice}
+use Rattle.tv_base.specs.declared.error.DataCorruption.{DataCorruption}
 use Rattle.tv_base.specs.declared.error.TantivyError.{TantivyError}
 use Rattle.tv_base.specs.declared.error.TantivyError.TheVariants as errors
 use Rattle.tv_directory.specs.View.{View, Told}
@@ -12,9 +13,9 @@ use Rattle.tv_model.specs.Collections.{no_collections}
 use Rattle.tv_model.specs.Commits.{Commit, IndexForm, IsCommit, default_settings, first_commit, printed}
 use Rattle.tv_model.specs.Files.{Reads, Rose, Same}
 use Rattle.tv_model.specs.Index.{FindsCommit, managed_with}
-use Rattle.tv_model.specs.Listing.{Listing}
+use Rattle.tv_model.specs.Listing.{IsListFile, Listing}
 use Rattle.tv_model.specs.Meaning.{Means, MeansOther, MeansNothing}
-use Rattle.tv_model.specs.Names.{list_name, meta_name}
+use Rattle.tv_model.specs.Names.{meta_name}
 use Rattle.tv_index.specs.Metas.{commit_of, settings_of}
 use Rattle.tv_index.specs.Saving.{FrameNotesUnless, IsUnrefused}
 use Rattle.tv_index.specs.declared.index_meta.UntrackedIndexMeta.{UntrackedIndexMeta}
@@ -47,7 +48,7 @@ OfBytes says (Some bytes) = says bytes
 -- Why `meta.json` isn't read, where `tells` says that the content is told: it means no commit; or one of another schema; or the device refused the call, which is
 -- `refused`, or memory was wanted. `quiet` says that no call was refused.
 abbrev pub LoadCause : (tells : Type 0) → (schema : List ℕ) → (read : Option (List ℕ)) → (refused quiet : Type 0) → TantivyError → Type 0
-LoadCause tells schema read refused quiet (errors.DataCorruption why) = quiet × (option_map string_bytes why.filepath ≡ Some meta_name) × (tells → OfBytes MeansNothing read)
+LoadCause tells schema read refused quiet (errors.DataCorruption why) = quiet × (option_map string_bytes why.filepath ≡ Some meta_name) × (tells → OfBytes (MeansNothing (Some schema)) read)
 LoadCause tells schema read refused quiet (errors.SchemaError text) =
     quiet × (string_bytes text ≡ codes "An index exists but the schema does not match.") × (tells → OfBytes (MeansOther schema) read)
 LoadCause tells schema read refused quiet (errors.IoError fault) = IsDevice fault × refused
@@ -72,11 +73,18 @@ HasList reads = (names : List (List ℕ)) × Listing reads names
 abbrev pub HasNoList : Reads → Type 0
 HasNoList reads = (names : List (List ℕ)) → Listing reads names → ⊥
 
--- Why an index isn't opened, in this order: its list is no list; its `meta.json` means no commit, or one of another schema. Each is so, and none before it. A device
--- may refuse a call, and memory may be wanted, at any time.
-abbrev pub OpenCause : (tells : Type 0) → (schema : List ℕ) → Reads → (refused quiet : Type 0) → TantivyError → Type 0
+-- the error names a file of the list of managed files
+abbrev pub NamesListFile : DataCorruption → Type 0
+NamesListFile why =
+    (file : List ℕ) × (option_map string_bytes why.filepath ≡ Some file) × IsListFile file
+
+-- Why an index isn't opened, in this order: its list is no list; its `meta.json` means no commit, or one of
+-- another schema. Each is so, and none before it. A device may refuse a call, and memory may be wanted, at
+-- any time.
+abbrev pub OpenCause : (tells : Type 0) → (schema : List ℕ) → Reads → (refused quiet : Type 0)
+    → TantivyError → Type 0
 OpenCause tells schema reads refused quiet (errors.DataCorruption why) =
-    (quiet × (option_map string_bytes why.filepath ≡ Some list_name) × (tells → HasNoList reads))
+    (quiet × NamesListFile why × (tells → HasNoList reads))
     ⊎ ((tells → HasList reads)
     × LoadCause tells schema (reads meta_name) refused quiet (errors.DataCorruption why))
 OpenCause tells schema reads refused quiet (errors.SchemaError text) =

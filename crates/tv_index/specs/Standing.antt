@@ -12,7 +12,7 @@ use Rattle.tv_model.specs.Meaning.{Means, MeansNothing}
 use Rattle.tv_model.specs.Names.{meta_name}
 use Rattle.tv_index.specs.Metas.{commit_of, settings_of}
 use Rattle.tv_index.specs.Opening.{HasCommit}
-use Rattle.tv_index.specs.Parsing.{IsForExpected, MeansOtherThan}
+use Rattle.tv_index.specs.Parsing.{IsForExpected, MeansOtherThan, SpellsUnlessExpected}
 use Rattle.tv_index.specs.declared.index_meta.UntrackedIndexMeta.{UntrackedIndexMeta}
 
 -- Which error of the library stands for one of a read of `meta.json`: of a fault the device's answer alone.
@@ -30,7 +30,7 @@ OfRead tells read says = (bytes : List ℕ) × (tells → read ≡ Some bytes) �
 -- the device refused the call, which is `refused`, or memory was wanted. `quiet` says that no call was refused.
 abbrev pub MetaCause : (tells : Type 0) → (expected : Option (List ℕ)) → (read : Option (List ℕ)) → (refused quiet : Type 0) → TantivyError → Type 0
 MetaCause tells expected read refused quiet (errors.OpenReadError why) = OpenReadCause meta_name (quiet × (tells → read ≡ None)) ⊥ ⊥ why
-MetaCause tells expected read refused quiet (errors.DataCorruption why) = quiet × (option_map string_bytes why.filepath ≡ Some meta_name) × OfRead tells read MeansNothing
+MetaCause tells expected read refused quiet (errors.DataCorruption why) = quiet × (option_map string_bytes why.filepath ≡ Some meta_name) × OfRead tells read (MeansNothing expected)
 MetaCause tells expected read refused quiet (errors.SchemaError text) =
     quiet × (string_bytes text ≡ codes "An index exists but the schema does not match.") × OfRead tells read (MeansOtherThan expected)
 MetaCause tells expected read refused quiet (errors.IoError fault) = IsDevice fault × refused
@@ -42,8 +42,11 @@ pub record MetaFaults {A D W C : Type 0} (g : Ghosts D W C) (old new : D) (expec
   pub quiet : OnOk result ((g.view new).faults ≡ (g.view old).faults)
   pub cause : IfErr result (MetaCause g.told.content expected ((g.view old).reads meta_name) (Rose (g.view old).faults (g.view new).faults) ((g.view new).faults ≡ (g.view old).faults))
 
--- The commit that `meta.json` means, under the expected schema where one is expected.
+-- The commit that `meta.json` means, under the expected schema where one is expected; else it spells it as
+-- JSON.
 pub record LoadsMeta {D W C : Type 0} (g : Ghosts D W C) (directory : D) (expected : Option (List ℕ)) (meta : UntrackedIndexMeta) : Type 0 where
   pub has : HasCommit meta.schema meta
   pub schema : IsForExpected expected meta.schema
   pub means : g.told.content → ReadsSuch ((g.view directory).reads meta_name) (λ bytes. Means (settings_of meta) meta.schema bytes (commit_of meta))
+  pub spelled : g.told.content → ReadsSuch ((g.view directory).reads meta_name)
+      (λ bytes. SpellsUnlessExpected expected bytes (settings_of meta) (commit_of meta))

@@ -110,8 +110,8 @@ impl<D: Directory> Index<D> {
     /// that succeeded leaves each name as it stands.
     ///
     /// `DataCorruption` comes for the list of managed files; then `OpenReadError` with
-    /// `FileDoesNotExist` where there is no `meta.json`, or `DataCorruption` where it means no
-    /// commit.
+    /// `FileDoesNotExist` where there is no `meta.json`, or `DataCorruption` where it spells no
+    /// commit as JSON, as where the text of its schema nests too deep to be read inside it.
     pub fn open(alloc: Global, directory: D) -> Result<Index<D>, Refused<D>>
         ensures opened { IfOk result (OpensStanding D.Directory directory) }
         ensures refused { IfErr result (λ refused.
@@ -134,8 +134,9 @@ impl<D: Directory> Index<D> {
     /// managed files. A refusal gives the directory back.
     ///
     /// Where each file that a crash may leave is on the list, no crash within the call leaves one
-    /// that isn't, and the directory goes on so. A crash behind a call that succeeded leaves each name
-    /// as it stands. Where memory was wanted, no crash within the call leaves a new `meta.json`.
+    /// that isn't, and the directory goes on so. A crash behind a call that succeeded leaves each
+    /// name as it stands. Where memory was wanted, no crash within the call leaves a `meta.json`
+    /// that neither stood nor could be left before.
     ///
     /// `DataCorruption` comes for the list of managed files.
     pub fn create(
@@ -161,11 +162,12 @@ impl<D: Directory> Index<D> {
     }
 
     /// Opens the index that stands in a directory, or makes one with this schema where there is no
-    /// `meta.json`. A refusal gives the directory back. Where there is a `meta.json`, no notice of it
-    /// comes, and a crash within the call leaves what it might have left before, or what stood then.
-    /// Where each file that a crash may leave is on the list, no crash within the call leaves one that
-    /// isn't, and the directory goes on so. A crash behind an opening that succeeded leaves each name as
-    /// it stands. Where memory was wanted, no crash within the call leaves a new `meta.json`.
+    /// `meta.json`. A refusal gives the directory back. Where there is a `meta.json`, no notice of
+    /// it comes, and a crash within the call leaves what it might have left before, or what stood
+    /// then. Where each file that a crash may leave is on the list, no crash within the call leaves
+    /// one that isn't, and the directory goes on so. A crash behind an opening that succeeded
+    /// leaves each name as it stands. Where memory was wanted, no crash within the call leaves a
+    /// `meta.json` that neither stood nor could be left before.
     ///
     /// `DataCorruption` comes for the list of managed files and for `meta.json`, `SchemaError`
     /// where `meta.json` has another schema.

@@ -5,14 +5,16 @@ ghost use Rattle.tv_model.specs.Commits.{printed};
 ghost use Rattle.tv_model.specs.Meaning.{Means, MeansNothing};
 ghost use Rattle.tv_model.specs.Schemas.{IsSchemaTree};
 ghost use Rattle.tv_index.specs.Metas.{commit_of, settings_of};
-ghost use Rattle.tv_index.specs.Parsing.{IsForExpected, MeansOtherThan, ParseCause};
+ghost use Rattle.tv_index.specs.Parsing.{IsForExpected, MeansOtherThan, ParseCause, SpellsUnlessExpected};
 ghost use Rattle.tv_index.specs.Choosing.{Chooses, Reads};
+ghost use Rattle.tv_index.specs.Printed.{IsUnprinted};
 ghost use Rattle.tv_index.specs.Reads.{IfCorrupt};
 ghost use Rattle.tv_index.specs.SchemaReading.{texts};
 
 use crate::index_settings::IndexSettings;
 use crate::json_text::tree_of;
 use crate::meta_text::print_meta;
+use crate::printed::read_printed;
 use crate::read_error::ReadError;
 use crate::reading::body_of;
 use crate::schema::Schema;
@@ -40,8 +42,8 @@ pub struct UntrackedIndexMeta {
 impl UntrackedIndexMeta {
     /// The commit that the bytes of `meta.json` mean. Its segments stand in the order of their ids.
     ///
-    /// The schema is the expected one; where none is expected it is the one that the bytes spell,
-    /// with its keys in the order of their bytes and without blanks.
+    /// The schema is the expected one; where none is expected it is the one that the bytes spell as
+    /// JSON, with its keys in the order of their bytes and without blanks.
     pub fn parse(
         alloc: Global,
         bytes: &[u8],
@@ -51,6 +53,8 @@ impl UntrackedIndexMeta {
             Means (settings_of meta) meta.schema bytes.now (commit_of meta)) }
         ensures schema { IfOk result (λ meta.
             IsForExpected (option_map (λ s. s.now) expected.entry) meta.schema) }
+        ensures spelled { IfOk result (λ meta. SpellsUnlessExpected
+            (option_map (λ s. s.now) expected.entry) bytes.now (settings_of meta) (commit_of meta)) }
         ensures err { IfErr result (ParseCause (option_map (λ s. s.now) expected.entry) bytes.now) }
     {
         match read(alloc, bytes, expected) {
@@ -86,7 +90,29 @@ fn read(
 ) -> Result<Option<UntrackedIndexMeta>, ReadError>
     ensures { MatchResult result
         (Reads (option_map (λ s. s.now) expected.entry) bytes.now)
-        (λ e. IfCorrupt e (MeansNothing bytes.now)) }
+        (λ e. IfCorrupt e (MeansNothing (option_map (λ s. s.now) expected.entry) bytes.now)) }
+{
+    if let Some(schema) = expected {
+        match read_printed(alloc, bytes, schema) {
+            Ok(meta) => return Ok(Some(meta)),
+            Err(ReadError::Memory) => return Err(ReadError::Memory),
+            Err(ReadError::Corrupt) => {}
+        }
+    }
+    read_spelled(alloc, bytes, expected)
+}
+
+// The commit that bytes spell as JSON which are no printed form under the expected schema; nothing where
+// they spell one of another schema.
+fn read_spelled(
+    alloc: Global,
+    bytes: &[u8],
+    expected: Option<&Schema>,
+) -> Result<Option<UntrackedIndexMeta>, ReadError>
+    requires unprinted { IsUnprinted (option_map (λ s. s.now) expected) bytes.now }
+    ensures { MatchResult result
+        (Reads (option_map (λ s. s.now) expected.entry) bytes.now)
+        (λ e. IfCorrupt e (MeansNothing (option_map (λ s. s.now) expected.entry) bytes.now)) }
 {
     let tree = tree_of(alloc, bytes)?;
     let (body, schema_tree) = body_of(alloc, &tree)?;
@@ -125,7 +151,7 @@ fn schema_for(
 // The refusal of bytes that mean no commit.
 fn corrupt(alloc: Global) -> TantivyError
     ensures { (expected : Option (List ℕ)) (bytes : List ℕ)
-        → MeansNothing bytes → ParseCause expected bytes result }
+        → MeansNothing expected bytes → ParseCause expected bytes result }
 {
     let Ok(filepath) = String::from_str(alloc, META_FILEPATH) else {
         return TantivyError::Memory;

@@ -1,5 +1,5 @@
 //! The trees of JSON texts.
-ghost use Rattle.std.specs.Prelude.{◌≡◌, ◌∷◌, ◌++◌, [], Some, None, IfOk, IfErr, OnOk, IsSome, IsUtf8};
+ghost use Rattle.std.specs.Prelude.{◌≡◌, Some, None, IfOk, IfErr, IsUtf8};
 ghost use Rattle.serde_json.specs.Read.{read};
 ghost use Rattle.serde_json.specs.View.{view};
 ghost use Rattle.tv_index.specs.Reads.{IfCorrupt};
@@ -23,27 +23,4 @@ pub(crate) fn tree_of(alloc: Global, bytes: &[u8]) -> Result<Value, ReadError>
             }
         }
     }
-}
-
-/// Sees that the text is read inside an array too, as it stands inside `meta.json`.
-pub(crate) fn read_inside(alloc: Global, text: &[u8]) -> Result<(), ReadError>
-    requires utf8 { IsUtf8 text.now }
-    ensures ok { OnOk result (IsSome (read (91 ∷ text.now ++ 93 ∷ []))) }
-    ensures err { IfErr result (λ e. IfCorrupt e (read (91 ∷ text.now ++ 93 ∷ []) ≡ None)) }
-{
-    let list = in_brackets(alloc, text)?;
-    tree_of(alloc, list.as_slice())?;
-    Ok(())
-}
-
-// The text between brackets.
-fn in_brackets(alloc: Global, text: &[u8]) -> Result<Vec<u8>, ReadError>
-    ensures ok { IfOk result (λ list. list.items ≡ 91 ∷ text.now ++ 93 ∷ []) }
-    ensures err { IfErr result (λ e. e ≡ ReadError.Memory) }
-{
-    let mut list = Vec::new(alloc);
-    list.push(b'[')?;
-    list.extend_from_slice(text)?;
-    list.push(b']')?;
-    Ok(list)
 }

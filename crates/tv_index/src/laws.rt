@@ -5,6 +5,7 @@ ghost use Rattle.std.specs.Fmt.{decimal};
 ghost use Rattle.std.specs.Str.Iter.{HasSubslice};
 ghost use Rattle.hex.specs.Hex.{encode_lower};
 ghost use Rattle.serde_json.specs.Data.{Data};
+ghost use Rattle.serde_json.specs.Read.{read};
 ghost use Rattle.tv_model.specs.declared.segment.LiveSegment.{LiveSegment};
 ghost use Rattle.tv_model.specs.Collections.{held};
 ghost use Rattle.tv_model.specs.Commits.{Commit, IsCommit, Settings};
@@ -54,8 +55,8 @@ pub fn an_opening_leaves_a_settled_disk<D: Directory>(
     Index::open_or_create(alloc, directory, schema)
 }
 
-/// A save that wants memory leaves the commit that stood: no crash within it leaves `meta.json` in a
-/// state in which it didn't stand, and might not have been left before.
+/// No crash within a save that wants memory leaves `meta.json` in a state in which it neither stood
+/// nor could be left before.
 pub fn a_save_that_wants_memory_leaves_the_old_commit<D: Directory>(
     directory: &mut ManagedDirectory<D>,
     text: &[u8],
@@ -66,6 +67,20 @@ pub fn a_save_that_wants_memory_leaves_the_old_commit<D: Directory>(
         (D.disk directory.old.0) (D.disk directory.new.0)) }
 {
     save_meta_text(directory, text)
+}
+
+/// No crash within an opening that wants memory leaves `meta.json` in a state in which it neither
+/// stood nor could be left before.
+pub fn an_opening_that_wants_memory_makes_no_index<D: Directory>(
+    alloc: Global,
+    directory: D,
+    schema: Schema,
+) -> Result<Index<D>, Refused<D>>
+    ensures { D.tells_images → IfErr result (λ refused. refused.error ≡ TantivyError.Memory
+        → Throughout (HoldsNoOtherMeta (D.disk directory))
+        (D.disk directory) (D.disk refused.directory)) }
+{
+    Index::open_or_create(alloc, directory, schema)
 }
 
 /// An index that is opened has the settings that its `meta.json` spells.
@@ -145,12 +160,14 @@ pub fn print_puts_null_for_no_deletes(
     meta.print(alloc)
 }
 
-/// Two schemas are the same exactly where they have one tree, in whatever order its keys stand. The
-/// same bytes then mean the same commit under both.
+/// Two schemas are the same exactly where they have one tree, in whatever order its keys stand. Bytes
+/// that are read as JSON then mean the same commit under both. (A printed form that isn't, as the text of
+/// its schema nests too deep, means nothing under another text of the same tree.)
 pub fn same_schemas_have_one_tree(schema: &Schema, other: &Schema) -> bool
     ensures tree { (tree : Data) → IsSchemaText schema.now tree
         → (IsTrue result ↔ IsSchemaText other.now tree) }
     ensures means { IsTrue result → (settings : Settings) (bytes : List ℕ) (commit : Commit)
+        → IsSome (read bytes)
         → Means settings schema.now bytes commit → Means settings other.now bytes commit }
 {
     // A contract learns from it that the text has a tree.

@@ -12,6 +12,7 @@ pub mod laws;
 mod meta_text;
 pub mod naming;
 mod opening;
+mod printed;
 mod printing;
 mod read_error;
 mod reading;

@@ -143,7 +143,7 @@ pub(crate) fn create<D: Directory>(
     ensures frame { FrameNotesUnless D.told (IsErrAnd result (λ error. error ≡ IoError.Memory))
         (D.view directory.old.0) (D.view directory.new.0) }
     ensures safe { D.tells_images → LeavesSafely D.Directory
-        (SavesStates (D.disk directory.old.0) (D.disk directory.new.0) directory.old.1
+        (SavesStates (D.disk directory.old.0) (D.disk directory.new.0) directory.old.1 meta_name
         (new_text (form_with settings.now schema.now)) IoError.Memory result)
         directory.old directory.new }
 {
@@ -232,8 +232,9 @@ pub(crate) fn open_or_create_with<D: Directory>(
 /// refusal gives the directory back. Where there is a `meta.json`, no notice of it comes.
 ///
 /// Where each file that a crash may leave is on the list, no crash within the call leaves one that
-/// isn't, and the directory goes on so. A crash behind an opening that succeeded leaves each name as it
-/// stands. Where memory was wanted, no crash within the call leaves a new `meta.json`.
+/// isn't, and the directory goes on so. A crash behind an opening that succeeded leaves each name
+/// as it stands. Where memory was wanted, no crash within the call leaves a `meta.json` that
+/// neither stood nor could be left before.
 ///
 /// `DataCorruption` comes for the list of managed files and for `meta.json`, `SchemaError` where
 /// `meta.json` has another schema.

@@ -20,10 +20,11 @@ use tv_directory::Directory;
 use tv_managed::ManagedDirectory;
 use tv_model::Memory;
 
-/// Makes these bytes the text of `meta.json`, by one atomic write. The directory is synced before and
-/// afterwards: a crash leaves what it might have left before the call, or the text that stood then or
-/// this one, and at Ok this one. Where memory was wanted, no crash within the call leaves this text. After
-/// an error `meta.json` may be managed, where it wasn't before. No unfinished collection may have it.
+/// Makes these bytes the text of `meta.json`, by one atomic write. The directory is synced before
+/// and afterwards: a crash leaves what it might have left before the call, or the text that stood
+/// then or this one, and at Ok this one. Where memory was wanted, no crash within the call leaves a
+/// `meta.json` that neither stood nor could be left before. After an error `meta.json` may be
+/// managed, where it wasn't before. No unfinished collection may have it.
 pub fn save_meta_text<D: Directory>(
     directory: &mut ManagedDirectory<D>,
     text: &[u8],
@@ -38,8 +39,8 @@ pub fn save_meta_text<D: Directory>(
     ensures frame { FrameNotesUnless D.told (IsErrAnd result (λ error. error ≡ IoError.Memory))
         (D.view directory.old.0) (D.view directory.new.0) }
     ensures safe { D.tells_images → LeavesSafely D.Directory
-        (SavesStates (D.disk directory.old.0) (D.disk directory.new.0) directory.old.1 text.now
-        IoError.Memory result) directory.old directory.new }
+        (SavesStates (D.disk directory.old.0) (D.disk directory.new.0) directory.old.1 meta_name
+        text.now IoError.Memory result) directory.old directory.new }
 {
     directory.sync_directory()?;
     directory.atomic_write(META_FILEPATH, text)?;
@@ -86,10 +87,11 @@ fn saved_text(alloc: Global, meta: &IndexMeta) -> Result<Vec<u8>, Memory>
 /// one id nothing is said.
 ///
 /// The directory is synced before and afterwards: a crash leaves what it might have left before the
-/// call, or the commit that stood then or this one, and at Ok this one. An `IoError` comes where the
-/// device refused a call, and `Memory` where memory was wanted; then `meta.json` has what it had, and no
-/// crash within the call leaves this commit. After an error `meta.json` may be managed, where it wasn't
-/// before. No unfinished collection may have it.
+/// call, or the commit that stood then or this one, and at Ok this one. An `IoError` comes where
+/// the device refused a call, and `Memory` where memory was wanted; then `meta.json` has what it
+/// had, and no crash within the call leaves a `meta.json` that neither stood nor could be left
+/// before. After an error `meta.json` may be managed, where it wasn't before. No unfinished
+/// collection may have it.
 pub fn save_metas<D: Directory>(
     alloc: Global,
     meta: &IndexMeta,
@@ -108,7 +110,7 @@ pub fn save_metas<D: Directory>(
         (D.view directory.old.0) (D.view directory.new.0) }
     ensures safe { D.tells_images → (commit : Commit) → IsInOrder (tracked_commit meta.now) commit
         → LeavesSafely D.Directory (SavesStates (D.disk directory.old.0) (D.disk directory.new.0)
-        directory.old.1 (saved_text (tracked_settings meta.now) meta.now.schema commit)
+        directory.old.1 meta_name (saved_text (tracked_settings meta.now) meta.now.schema commit)
         TantivyError.Memory result) directory.old directory.new }
 {
     learn_commit(meta);

@@ -8,7 +8,7 @@ ghost use Rattle.tv_index.specs.Reads.{IfCorrupt};
 ghost use Rattle.tv_index.specs.SchemaReading.{texts};
 ghost use Rattle.tv_index.specs.Schemas.{HasNames, HasSchemaTree, IsNoSchemaText, SchemaCause};
 
-use crate::json_text::{read_inside, tree_of};
+use crate::json_text::tree_of;
 use crate::read_error::ReadError;
 use crate::schema_tree::{canonical_text, names_of};
 use crate::stripping::without_blanks;
@@ -79,7 +79,6 @@ impl Schema {
         }
         let tree = tree_of(alloc, text.as_slice())?;
         let names = names_of(alloc, &tree)?;
-        read_inside(alloc, text.as_slice())?;
         let canonical = canonical_text(alloc, &tree)?;
         Ok(Schema {
             text,

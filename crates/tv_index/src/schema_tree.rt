@@ -1,5 +1,5 @@
 //! The trees of schemas.
-ghost use Rattle.std.specs.Prelude.{◌≡◌, [], ◌∷◌, ◌++◌, true, Some, IfOk, IsSome, OnOk, map, option_map, string_bytes};
+ghost use Rattle.std.specs.Prelude.{◌≡◌, true, Some, IfOk, OnOk, map, option_map, string_bytes};
 ghost use Rattle.serde_json.specs.Find.{as_str};
 ghost use Rattle.serde_json.specs.Read.{read};
 ghost use Rattle.serde_json.specs.View.{items_view, members_view, view};
@@ -112,7 +112,6 @@ pub(crate) fn canonical_text(alloc: Global, tree: &Value) -> Result<String, Memo
     requires { is_bounded 32 (view tree.now) ≡ true }
     ensures text { IfOk result (λ text. string_bytes text ≡ compact_text (view tree.now)) }
     ensures reads { IfOk result (λ text. read (string_bytes text) ≡ Some (view tree.now)) }
-    ensures inside { IfOk result (λ text. IsSome (read (91 ∷ string_bytes text ++ 93 ∷ []))) }
 {
     let text = tree.to_string(alloc)?;
     Ok(text)

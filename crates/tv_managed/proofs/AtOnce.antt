@@ -8,7 +8,7 @@ use Rattle.std.specs.Ordering.{nat_cmp}
 use Rattle.std.proofs.lemmas.Bool.{false_from_ne_true, or_left, or_parts}
 use Rattle.std.proofs.lemmas.Result.{IfOk-from_err, on_err_weaker}
 use Rattle.tv_model.specs.Collections.{Collection, begun, collection_at, done_of, without}
-use Rattle.tv_model.specs.Disk.{Throughout, possible_now, TouchesOnly}
+use Rattle.tv_model.specs.Disk.{Disk, Throughout, possible_now, TouchesOnly}
 use Rattle.tv_model.specs.Files.{Same}
 use Rattle.tv_model.specs.Listing.{Lists, list_text}
 use Rattle.tv_model.specs.Names.{is, has, list_name}
@@ -19,8 +19,8 @@ use Rattle.tv_model.proofs.Numbered.{put_found}
 use Rattle.tv_managed.proofs.Results.{on_err}
 use Rattle.tv_directory.specs.View.{Kept, OnlyReads}
 use Rattle.tv_directory.specs.declared.directory.Directory.{Ghosts}
-use Rattle.tv_managed.specs.Collecting.{Begins, Ended, EndsCollection, FailsAtMost, Leaves, OnlyDeletes, TellsApart, Tried, Tries, TriesSome, ending, names_of, standing}
-use Rattle.tv_managed.specs.Crashes.{AnyOrList, CollectsNames, EndsSafely, Forgets, IsCovered, LeavesSafely, LosesNames, SettlesStates, ShortensStates}
+use Rattle.tv_managed.specs.Collecting.{Begins, Ended, EndsCollection, FailsAtMost, Leaves, OnlyDeletes, TellsApart, Tried, Tries, ending, names_of, standing}
+use Rattle.tv_managed.specs.Crashes.{AnyOrList, CollectsNames, EndsSafely, Forgets, IsCovered, LeavesSafely, SettlesStates, ShortensStates, TriesSafely}
 use Rattle.tv_managed.specs.Managed.{Covers}
 use Rattle.tv_managed.specs.Names.{ManagedNames, done_names}
 use Rattle.tv_managed.specs.declared.collection.GarbageCollectionResult.{GarbageCollectionResult}
@@ -28,7 +28,7 @@ use Rattle.tv_managed.proofs.Collections.{more_done, none_done, put_and_out, put
 use Rattle.tv_managed.proofs.Synced.{IsSynced, TriesSynced, lists_synced, settles_synced, settles_touch, tries_synced}
 use Rattle.tv_managed.proofs.Tracking.{covered_done, track_names}
 use Rattle.tv_managed.specs.TrackLaws.{track_then}
-use Rattle.tv_managed.proofs.Tried.{tried_none, tried_then}
+use Rattle.tv_managed.proofs.Tried.{tried_none, tried_on, tried_then}
 
 -- ---- the names
 
@@ -57,12 +57,8 @@ ended_names names now number d same free is =
 
 -- ---- what was tried
 
--- a call after them that deletes nothing
-pub tried_on : {D W C : Type 0} (g : Ghosts D W C) {front deleted failed : List (List ℕ)} {old mid new : D × ManagedNames} → Tried g front old mid deleted failed → Tried g [] mid new [] [] → Tried g front old new deleted failed
-tried_on g {front} {deleted} {failed} {old} {mid} {new} a b = rw (← append-nil front, ← append-nil deleted, ← append-nil failed) (tried_then g front [] old mid new deleted failed [] [] a b)
-
 -- a name that isn't among those that were to be tried isn't deleted
-untried : (taken front rest : List (List ℕ)) (outcomes : List Bool) (n : List ℕ) → taken ≡ front ++ rest → has taken n ≡ false → has (done_of front outcomes) n ≡ false
+pub untried : (taken front rest : List (List ℕ)) (outcomes : List Bool) (n : List ℕ) → taken ≡ front ++ rest → has taken n ≡ false → has (done_of front outcomes) n ≡ false
 untried taken front rest outcomes n split none =
     false_from_ne_true _ (λ h. true≢false (sym (ap (λ l. has l n) split ∙ has_append front rest n ∙ or_left (has front n) (has rest n) (done_within front outcomes n h)) ∙ none))
 
@@ -129,14 +125,14 @@ pub record Far {D W C : Type 0} (g : Ghosts D W C) (taken : List (List ℕ)) (ol
   pub names : new.1 ≡ standing old.1 (record { untried = rest; done = deleted; failed = failed })
   pub list : g.told.content → (g.view new.0).reads list_name ≡ (g.view old.0).reads list_name
   pub quiet : (g.view new.0).faults ≡ (g.view old.0).faults
-  pub safe : g.tells_images → LeavesSafely g (TriesSynced taken (g.disk old.0) (g.disk new.0)) old new
+  pub safe : g.tells_images → LeavesSafely g (TriesSynced deleted (g.disk old.0) (g.disk new.0)) old new
 
 pub far : {E D W C : Type 0} (g : Ghosts D W C) (taken : List (List ℕ)) {old began new : D × ManagedNames} (number : ℕ) → Begins taken old.1 began.1 number → OnlyReads g.told (g.view old.0) (g.view began.0) → (g.view began.0).faults ≡ (g.view old.0).faults
     → (g.tells_images → LeavesSafely g (SettlesStates {E = E} (g.disk old.0) (g.disk began.0) (Ok number)) old began)
-    → ((before : ManagedNames) (names : List (List ℕ)) → began.1 ≡ standing before (begun names) → number ≡ before.collections.next → TriesSome g before names began new) → OnlyDeletes g began new
-    → (g.tells_images → (before : ManagedNames) (names : List (List ℕ)) → began.1 ≡ standing before (begun names) → number ≡ before.collections.next → LeavesSafely g (LosesNames names (g.disk began.0) (g.disk new.0)) began new) → Far g taken old new
-far g taken {old} {began} {new} number begins reads calm settles tries only safe =
-    let some = tries old.1 taken begins.names begins.numbered in
+    → ((before : ManagedNames) (names : List (List ℕ)) → began.1 ≡ standing before (begun names) → number ≡ before.collections.next → TriesSafely g before names began new) → OnlyDeletes g began new → Far g taken old new
+far g taken {old} {began} {new} number begins reads calm settles tries only =
+    let did = tries old.1 taken begins.names begins.numbered in
+    let some = did.some in
     record {
       front = some.front;
       rest = some.rest;
@@ -150,11 +146,11 @@ far g taken {old} {began} {new} number begins reads calm settles tries only safe
       quiet = only.faults ∙ calm;
       safe = λ tells.
           let first = settles tells in
-          let second = safe tells old.1 taken begins.names begins.numbered in
+          let second = did.safe tells in
           record {
             tracks = λ was. let tracked = first.tracks was in track_then g tracked (second.tracks tracked.tracked);
             listed = λ was. second.listed (first.listed was);
-            states = tries_synced taken first.states second.states;
+            states = tries_synced some.deleted first.states second.states;
           };
     }
 
@@ -200,6 +196,7 @@ collects_none g {old} {new} result is t same list safe = record {
     fits = t.fits;
   };
   tries = IfOk-from_err result _ is;
+  told = IfOk-from_err result _ is;
   saves = record {
     list = λ tells was. IfOk-from_err result _ is;
     covers = λ tells was. subst (Covers ((g.view new.0).reads list_name)) (sym same) (subst (λ r. Covers r old.1) (sym (list tells)) was);
@@ -214,31 +211,36 @@ collects_none g {old} {new} result is t same list safe = record {
       };
 }
 
+-- the names that are done, told otherwise
+synced_as : {deleted done : List (List ℕ)} {old new : Disk} → deleted ≡ done → TriesSynced deleted old new → TriesSynced done old new
+synced_as {old = old} {new = new} same tries = subst (λ l. TriesSynced l old new) same tries
+
 -- its names weren't all tried
 pub collects_far : {E D W C : Type 0} (g : Ghosts D W C) (taken : List (List ℕ)) {old new : D × ManagedNames} (result : Result GarbageCollectionResult E) → IsErr result → Far g taken old new → CollectsNames g taken old new result
 unfolding leaves_of
 collects_far g taken {old} {new} result is f = record {
   leaves = leaves_of g taken f.front f.rest f.deleted f.failed result f.split f.tried (IfOk-from_err result _ is) (on_err result f.names);
   tries = IfOk-from_err result _ is;
+  told = IfOk-from_err result _ is;
   saves = record { list = λ tells was. IfOk-from_err result _ is; covers = λ tells was. covers_far g f tells was };
   saves_none = λ tells. IfOk-from_err result _ is;
   safe = λ tells.
-      let tries = (f.safe tells).states in
+      let tries = synced_as f.tried.deleted_is (f.safe tells).states in
       record { tracks = (f.safe tells).tracks; listed = IfOk-from_err result _ is; states = record { touches = tries.touches; synced = tries.synced _; forgets = λ was. forgets_none g old new (ap (λ v. v.managed) f.names) } };
 }
 
 -- the list alone was touched
-list_touched : {D W C : Type 0} (g : Ghosts D W C) (taken : List (List ℕ)) {left : List (List ℕ)} {old new : D × ManagedNames} → ShortensStates g left old new → TouchesOnly (AnyOrList taken) (g.disk old.0) (g.disk new.0)
-list_touched g taken states = record {
+list_touched : {D W C : Type 0} (g : Ghosts D W C) (done : List (List ℕ)) {left : List (List ℕ)} {old new : D × ManagedNames} → ShortensStates g left old new → TouchesOnly (AnyOrList done) (g.disk old.0) (g.disk new.0)
+list_touched g done states = record {
   moments = weaker states.moments (λ p adds. record { each = λ n other s is. ⊎_elim (λ before. before) (λ q. absurd (other (inr q.0))) (adds.each n s is) });
   now = record { each = λ n other. states.now.each n (λ it. other (inr it)) };
 }
 
 -- the list was cut to the names that are left, or may have been
-cut_synced : {D W C : Type 0} (g : Ghosts D W C) {taken done : List (List ℕ)} {old mid new : D × ManagedNames} (f : Far g taken old mid) → TriesSynced taken (g.disk old.0) (g.disk mid.0) → ShortensStates g (without f.deleted mid.1.managed) mid new → f.deleted ≡ done
-    → Throughout (IsSynced (g.disk old.0) taken (list_text (without done old.1.managed))) (g.disk old.0) (g.disk new.0)
-cut_synced g {taken} {old = old} {new = new} f tries cut same =
-    subst (λ left. Throughout (IsSynced (g.disk old.0) taken (list_text left)) (g.disk old.0) (g.disk new.0)) (ap (λ v. without f.deleted v.managed) f.names ∙ ap (λ l. without l old.1.managed) same) (lists_synced tries cut.moments)
+cut_synced : {D W C : Type 0} (g : Ghosts D W C) {taken done : List (List ℕ)} {old mid new : D × ManagedNames} (f : Far g taken old mid) → TriesSynced done (g.disk old.0) (g.disk mid.0) → ShortensStates g (without f.deleted mid.1.managed) mid new → f.deleted ≡ done
+    → Throughout (IsSynced (g.disk old.0) done (list_text (without done old.1.managed))) (g.disk old.0) (g.disk new.0)
+cut_synced g {done = done} {old = old} {new = new} f tries cut same =
+    subst (λ left. Throughout (IsSynced (g.disk old.0) done (list_text left)) (g.disk old.0) (g.disk new.0)) (ap (λ v. without f.deleted v.managed) f.names ∙ ap (λ l. without l old.1.managed) same) (lists_synced tries cut.moments)
 
 -- it wasn't ended
 pub collects_unended : {E F D W C : Type 0} (g : Ghosts D W C) (taken : List (List ℕ)) (number : ℕ) {old mid new : D × ManagedNames} (e : F) (result : Result GarbageCollectionResult E) → IsErr result → number ≡ old.1.collections.next → Far g taken old mid
@@ -249,16 +251,17 @@ collects_unended g taken number {old} {mid} {new} e result is same f ends kept e
     record {
       leaves = leaves_of g taken f.front f.rest f.deleted f.failed result f.split tried (IfOk-from_err result _ is) (on_err result (ends.err ∙ f.names));
       tries = IfOk-from_err result _ is;
+      told = IfOk-from_err result _ is;
       saves = record { list = λ tells was. IfOk-from_err result _ is; covers = λ tells was. ends.saves.covers tells (covers_far g f tells was) };
       saves_none = λ tells. IfOk-from_err result _ is;
       safe = λ tells.
           let last = ended tells (last_of g f) (at_far g number same f) in
-          let tries = (f.safe tells).states in
+          let tries = synced_as tried.deleted_is (f.safe tells).states in
           record {
             tracks = λ was. let first = (f.safe tells).tracks was in track_then g first (last.tracks first.tracked);
             listed = IfOk-from_err result _ is;
             states = record {
-              touches = touches_then tries.touches (list_touched g taken last.states);
+              touches = touches_then tries.touches (list_touched g _ last.states);
               synced = cut_synced g f tries last.states tried.deleted_is;
               forgets = λ was. forgets_none g old new (ap (λ v. v.managed) (ends.err ∙ f.names));
             };
@@ -310,6 +313,7 @@ collects_all g taken number {old} {mid} {new} {now} {last} result same f all bac
     record {
       leaves = leaves_of g taken taken [] f.deleted f.failed (Ok result) (sym (append-nil taken)) tried last_is tt;
       tries = tries_of g taken old (new, last) result (rw told.deleted last_is) (rw (told.deleted, told.failed) tried) told.apart;
+      told = told.deleted ∙ tried.deleted_is;
       saves = record {
         list = λ tells was. subst (Lists ((g.view new).reads list_name)) (sym managed) (ends.saves.list tells (subst (Lists ((g.view mid.0).reads list_name)) (sym (ap (λ v. v.managed) f.names)) (subst (λ r. Lists r old.1.managed) (sym (f.list tells)) was)));
         covers = λ tells was.
@@ -320,7 +324,7 @@ collects_all g taken number {old} {mid} {new} {now} {last} result same f all bac
           ends.saves_none tells quiet n ∙ same_where_none g f.tried tells (f.list tells) (sym told.deleted ∙ ap names_of quiet) n;
       safe = λ tells.
           let end = ended tells (last_of g f) at in
-          let tries = (f.safe tells).states in
+          let tries = synced_as tried.deleted_is (f.safe tells).states in
           record {
             tracks = λ was.
                 let first = (f.safe tells).tracks was in
@@ -330,7 +334,7 @@ collects_all g taken number {old} {mid} {new} {now} {last} result same f all bac
                 track_then g second (track_names g (subst (IsCovered (possible_now (g.disk new)) (g.disk new).now) (sym last_is) back) second.tracked);
             listed = λ was n h. end.listed ((f.safe tells).listed was) n (ap (λ l. has l n) (sym managed) ∙ h);
             states = record {
-              touches = touches_then tries.touches (list_touched g taken end.states);
+              touches = touches_then tries.touches (list_touched g _ end.states);
               synced = cut_synced g f tries end.states tried.deleted_is;
               forgets = λ was n h lost.
                   end.states.forgets ((f.safe tells).tracks was).tracked n (ap (λ v. has v.managed n) f.names ∙ h) (ap (λ l. has l n) (sym managed) ∙ lost);

@@ -1,5 +1,5 @@
 -- What is made of a file, and why none is made, put together from the steps of the call.
-use Rattle.std.proofs.Common.{◌≡◌, ◌≢◌, ◌⊎◌, ℕ, true, false, true≢false, List, [], sym, ap, subst, ◌∙◌, ⊎_elim, inl, inr, Option, None, Some, Ok, Err}
+use Rattle.std.proofs.Common.{◌≡◌, ◌≢◌, ◌⊎◌, ℕ, false, true≢false, List, [], sym, ap, subst, ◌∙◌, ⊎_elim, inl, inr, Option, None, Some, Ok, Err}
 use Rattle.std.specs.Prelude.{IsSome, is_some}
 use Rattle.std.proofs.lemmas.Bool.{both_ways}
 use Rattle.tv_model.specs.Collections.{held}

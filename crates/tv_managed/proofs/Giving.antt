@@ -1,8 +1,8 @@
 -- How the calls that make, write, seal and delete a file keep track.
 use Rattle.std.proofs.Common.{◌≡◌, ◌≢◌, inl, inr, ℕ, true, false, true≢false, List, Option, None, refl, sym, ap, subst, ◌∙◌, Result, Ok, Err}
 use borrow.Table.Steps.{cases}
-use Rattle.tv_model.specs.Disk.{DiskState, Absent, Unsealed, Sealed, Disk, possible_now, MayRead, Within, MayAdd, Elapses, IsSettled, OnlyMoves, Throughout}
-use Rattle.tv_model.proofs.DiskLaws.{at_end, fewer_listed, fewer_within, goes_on_run, weaker, within_step}
+use Rattle.tv_model.specs.Disk.{DiskState, Absent, Unsealed, Sealed, Disk, possible_now, MayRead, MayAdd, Elapses, IsSettled, OnlyMoves, Throughout}
+use Rattle.tv_model.proofs.DiskLaws.{at_end, fewer_listed, weaker, within_step}
 use Rattle.std.specs.Prelude.{IfErr, OnOk}
 use Rattle.tv_model.specs.Names.{has, is, is_undotted, list_name}
 use Rattle.tv_model.proofs.Entries.{is_itself, is_text}
@@ -19,7 +19,7 @@ use Rattle.tv_managed.specs.Crashes.{CreatesSafely, Gains, GivesSafely, IsCovere
 use Rattle.tv_managed.specs.Managed.{registering}
 use Rattle.tv_managed.specs.Names.{ManagedNames, done_names}
 use Rattle.tv_managed.proofs.Listing.{has_registered}
-use Rattle.tv_managed.specs.TrackLaws.{covered_within, track_then}
+use Rattle.tv_managed.specs.TrackLaws.{covered_within, track_then, within_then}
 use Rattle.tv_managed.proofs.Touching.{gained_more, gained_none, gained_one, gained_then}
 use Rattle.tv_managed.proofs.Tracking.{listed_by_file, track_file, track_from}
 
@@ -141,9 +141,6 @@ pub wanted_opened : (name : List ℕ) (there refused quiet : Type 0) {e : OpenWr
 wanted_opened name there refused quiet h memory = subst (OpenWriteCause name there refused quiet) memory h
 
 -- ---- states of which there are no more
-
-within_then : {old mid new : Disk} → Throughout (Within (possible_now old)) old mid → Throughout (Within (possible_now mid)) mid new → Throughout (Within (possible_now old)) old new
-within_then {old} first second = goes_on_run _ (fewer_within (possible_now old)) first (weaker second (λ p within. record { each = λ n s is. (at_end first).each n s (within.each n s is) }))
 
 -- behind a call that only read
 pub settles_asked : {A E : Type 0} {old asked new : Disk} {result : Result A E} → KeepsDisk old asked → SettlesStates asked new result → SettlesStates old new result

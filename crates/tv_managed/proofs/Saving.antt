@@ -1,5 +1,5 @@
 -- What a save of the list does, put together from its write and the sync behind it.
-use Rattle.std.proofs.Common.{◌≡◌, ℕ, List, refl, sym, ap, subst, ◌∙◌, ⊎_elim, inl, inr, Some, Result, Ok, Err}
+use Rattle.std.proofs.Common.{◌≡◌, ℕ, List, refl, subst, ◌∙◌, ⊎_elim, inl, inr, Some, Ok, Err}
 use Rattle.tv_model.specs.Disk.{Disk, Sealed, Within, possible_now}
 use Rattle.tv_model.specs.Files.{Reads, MaySet, Same, Rose}
 use Rattle.tv_model.specs.Listing.{list_text}

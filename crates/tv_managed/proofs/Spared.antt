@@ -1,7 +1,7 @@
 -- What calls spare: a name that is taken, what is needed, and what failed.
-use Rattle.std.proofs.Common.{◌≡◌, ◌<◌, ◌++◌, ◌&&◌, ◌⊎◌, inl, inr, ℕ, true, false, true≢false, not, List, [], ◌∷◌, length, Option, Result, Ok, Err, None, Some, refl, sym, ap, subst, ◌∙◌, ⊎_elim, arith}
+use Rattle.std.proofs.Common.{◌≡◌, ◌<◌, ◌≤◌, ◌++◌, ◌&&◌, ◌⊎◌, inl, inr, ℕ, true, false, true≢false, not, List, [], ◌∷◌, length, Option, Result, Ok, Err, None, Some, refl, sym, ap, subst, ◌∙◌, ⊎_elim, arith}
 use Rattle.std.specs.Option.{IsSomeAnd}
-use Rattle.std.specs.Prelude.{IfErr}
+use Rattle.std.specs.Prelude.{IfErr, IfOk}
 use Rattle.std.proofs.lemmas.Bool.{or_left, or_right}
 use Rattle.tv_base.specs.declared.open_errors.OpenWriteError.{OpenWriteError}
 use Rattle.tv_base.specs.declared.open_errors.OpenWriteError.TheVariants as write
@@ -15,7 +15,7 @@ use Rattle.tv_directory.specs.Images.{KeepsDisk}
 use Rattle.tv_directory.specs.View.{Kept, OnlyReads}
 use Rattle.tv_directory.specs.declared.directory.Directory.{Ghosts}
 use Rattle.tv_managed.specs.Collecting.{Among, Begins, Ended, EndsCollection, KeepsFailed, Leaves, Spares, TookNoneOf, Tries, names_of, taken_by}
-use Rattle.tv_managed.specs.Crashes.{IsSettledBut, LeavesWhatMight, StandsFor}
+use Rattle.tv_managed.specs.Crashes.{CollectsNames, IsSettledBut, LeavesWhatMight, StandsFor}
 use Rattle.tv_managed.specs.Frames.{KeepsNames}
 use Rattle.tv_managed.specs.Managed.{CreateFaults, Creates, is_taken}
 use Rattle.tv_managed.specs.Names.{ManagedNames}
@@ -79,6 +79,14 @@ stands_or_before spared names text old possible image untried synced left =
     let stood : it.0 ≡ old.now n = ⊎_elim (λ e. e) (λ lost. ⊎_elim (λ l. absurd (true≢false (sym l.0 ∙ untried n h))) (λ l. absurd (other l.0)) lost) (settled.each n it.0 it.1) in
     subst (λ s. MayRead s (image n)) stood it.2))
     synced
+
+-- and so it does each name that is told as failed
+pub failed_stand : {E D W C : Type 0} (g : Ghosts D W C) (names : List (List ℕ)) {old new : D × ManagedNames} (result : Result GarbageCollectionResult E) → CollectsNames g names old new result → g.tells_images
+    → IfOk result (λ told. (x : ℕ) (image : Reads) → (g.disk old.0).moment ≤ x → x ≤ (g.disk new.0).moment → Left (g.disk new.0) x image
+    → Left (g.disk old.0) (g.disk old.0).moment image ⊎ StandsFor (names_of told.failed_to_delete_files.items) (g.disk old.0).now image)
+failed_stand g names {old} (Ok told) did tells = λ x image from upto left.
+    stands_or_before (names_of told.failed_to_delete_files.items) _ _ (g.disk old.0) _ image (λ n h. ap (λ l. has l n) (sym did.told) ∙ did.tries.apart n h) ((did.safe tells).states.synced.each x from upto) left
+failed_stand g names (Err e) did tells = tt
 
 -- ---- a step that was refused
 

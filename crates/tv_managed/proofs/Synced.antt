@@ -1,17 +1,33 @@
 -- What a crash may leave of a collection at once, which tries its names behind a sync.
-use Rattle.std.proofs.Common.{◌≡◌, ⊎_elim, ◌⊎◌, inl, inr, ℕ, true, List, refl, ap, ◌∙◌, Result, Ok}
+use Rattle.std.proofs.Common.{◌≡◌, ⊎_elim, ◌⊎◌, inl, inr, ℕ, Bool, true, false, cond, List, [], ◌∷◌, ◌++◌, refl, ap, ◌∙◌, Result, Ok}
+use Rattle.std.proofs.lemmas.Bool.{or_left, or_right}
 use Rattle.tv_model.specs.Disk.{Sealed, Possible, Disk, possible_now, Within, MayAdd, Throughout, TouchesOnly}
-use Rattle.tv_model.specs.Names.{has, list_name}
+use Rattle.tv_model.specs.Names.{has, is, list_name}
+use Rattle.tv_model.proofs.CollectionStates.{has_append}
+use Rattle.tv_model.proofs.Entries.{is_itself}
 use Rattle.tv_model.proofs.DiskLaws.{HoldsOfFewer, goes_on_run, at_end, weaker, touches_then}
 use Rattle.tv_managed.specs.Crashes.{AnyOrList, Gains, IsLost, IsSettledBut, LosesNames, SettlesStates, TriesStates}
+use Rattle.tv_directory.specs.Images.{KeepsDisk}
+use Rattle.tv_managed.specs.Collecting.{is_done}
 use Rattle.tv_managed.specs.declared.collection.CollectStep.{CollectStep}
-use Rattle.tv_managed.proofs.Touching.{gained_same, gained_then}
+use Rattle.tv_managed.proofs.Touching.{gained_more, gained_none, gained_same, gained_then}
 
 -- ---- names that are tried
 
 -- none was
 pub loses_none : (names : List (List ℕ)) (disk : Disk) → LosesNames names disk disk
 loses_none names disk = record { moments = gained_same (IsLost names) disk; now = record { each = λ n other. refl } }
+
+-- a call that changes nothing loses none
+pub loses_kept : (names : List (List ℕ)) {old new : Disk} → KeepsDisk old new → LosesNames names old new
+loses_kept names keeps = record { moments = gained_none (IsLost names) keeps; now = record { each = λ n other. keeps.states.now n } }
+
+-- and these are among others
+pub loses_more : {names more : List (List ℕ)} {old new : Disk} → ((n : List ℕ) → has names n ≡ true → has more n ≡ true) → LosesNames names old new → LosesNames more old new
+loses_more among loses = record {
+  moments = gained_more (λ n s it. (among n it.0, it.1)) loses.moments;
+  now = record { each = λ n other. loses.now.each n (λ h. other (among n h)) };
+}
 
 -- one of them was
 pub loses_one : {E : Type 0} {old new : Disk} {name : List ℕ} {result : Result CollectStep E} (names : List (List ℕ)) → has names name ≡ true → TriesStates old new name result → LosesNames names old new
@@ -24,6 +40,17 @@ loses_one names one tries = record {
 pub loses_then : {names : List (List ℕ)} {old mid new : Disk} → LosesNames names old mid → LosesNames names mid new → LosesNames names old new
 loses_then first second = record { moments = gained_then first.moments second.moments; now = record { each = λ n other. second.now.each n other ∙ first.now.each n other } }
 
+-- one name was tried, after these: it is among those that are done, or nothing changed
+pub loses_tried : {E : Type 0} (step : CollectStep) (deleted : List (List ℕ)) {old new : Disk} {name : List ℕ} → TriesStates {E = E} old new name (Ok step) → LosesNames (deleted ++ cond (is_done step) (name ∷ []) []) old new
+loses_tried step deleted {old} {new} {name} tries = either (is_done step) refl where
+  either : (b : Bool) → is_done step ≡ b → LosesNames (deleted ++ cond b (name ∷ []) []) old new
+  either true done = loses_one (deleted ++ name ∷ []) (has_append deleted (name ∷ []) name ∙ or_right (has deleted name) _ (or_left (is name name) _ (is_itself name))) tries
+  either false failed = loses_kept _ (tries.refused failed)
+
+-- some were done, and then those of one name more
+pub loses_on : (deleted more : List (List ℕ)) {old mid new : Disk} → LosesNames deleted old mid → LosesNames (deleted ++ more) mid new → LosesNames (deleted ++ more) old new
+loses_on deleted more first second = loses_then (loses_more (λ n h. has_append deleted more n ∙ or_left (has deleted n) _ h) first) second
+
 loses_touch : {names : List (List ℕ)} {old new : Disk} → LosesNames names old new → TouchesOnly (AnyOrList names) old new
 loses_touch loses = record {
   moments = weaker loses.moments (λ p gains. record { each = λ n other s is. ⊎_elim (λ before. before) (λ it. absurd (other (inl it.0))) (gains.each n s is) });
@@ -32,7 +59,8 @@ loses_touch loses = record {
 
 -- ---- the sync before them
 
--- no state is possible besides those before, or all is settled but these names and the list
+-- no state is possible besides those before, or all is settled, but that these names may be absent, and the list
+-- have this text
 abbrev pub IsSynced : (old : Disk) → (names : List (List ℕ)) → (text : List ℕ) → Possible → Type 0
 IsSynced old names text possible = Within (possible_now old) possible ⊎ IsSettledBut old.now names text possible
 

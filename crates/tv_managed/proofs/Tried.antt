@@ -1,5 +1,5 @@
 -- Names that are tried one after another.
-use Rattle.std.proofs.Common.{rules, ◌≡◌, ◌≤◌, ◌+◌, ℕ, Bool, true, false, cond, ◌||◌, inl, inr, ⊎_elim, List, [], ◌∷◌, ◌++◌, length, None, refl, sym, ap, subst, ◌∙◌, arith, true≢false, length-append}
+use Rattle.std.proofs.Common.{rules, ◌≡◌, ◌≤◌, ◌+◌, ℕ, Bool, true, false, cond, ◌||◌, inl, inr, ⊎_elim, List, [], ◌∷◌, ◌++◌, length, None, refl, sym, ap, subst, ◌∙◌, arith, true≢false, append-nil, length-append}
 use borrow.Table.Steps.{cases}
 use Rattle.std.specs.Prelude.{IsSome}
 use Rattle.std.proofs.Math.Bool.{or-false}
@@ -124,3 +124,7 @@ tried_then g names more old mid new deleted failed deleted2 failed2 a b =
       fits = λ h. b.fits (a.fits h);
       frame = search rules;
     }
+
+-- a call after them that deletes nothing
+pub tried_on : {D W C : Type 0} (g : Ghosts D W C) {front deleted failed : List (List ℕ)} {old mid new : D × ManagedNames} → Tried g front old mid deleted failed → Tried g [] mid new [] [] → Tried g front old new deleted failed
+tried_on g {front} {deleted} {failed} {old} {mid} {new} a b = rw (← append-nil front, ← append-nil deleted, ← append-nil failed) (tried_then g front [] old mid new deleted failed [] [] a b)

@@ -1,22 +1,20 @@
 -- How a collection tries its names one after another.
-use Rattle.std.proofs.Common.{◌≡◌, ◌<◌, ◌≤◌, ◌+◌, suc, Result, ℕ, Bool, true, false, cond, List, [], ◌∷◌, ◌++◌, length, Option, None, Some, refl, sym, ap, subst, ◌∙◌, arith, append-nil, append_assoc}
+use Rattle.std.proofs.Common.{◌≡◌, ◌<◌, ◌≤◌, ◌+◌, suc, Err, Ok, ℕ, Bool, true, false, cond, List, [], ◌∷◌, ◌++◌, length, Option, None, Some, refl, sym, ap, subst, ◌∙◌, arith, append-nil, append_assoc}
 use Rattle.std.specs.Option.{IsSomeAnd}
-use Rattle.std.proofs.lemmas.Bool.{or_left, or_right}
-use Rattle.tv_model.specs.Names.{has, is}
-use Rattle.tv_model.proofs.Entries.{is_itself}
-use Rattle.tv_model.proofs.CollectionStates.{has_append}
+use Rattle.tv_base.specs.declared.error.TantivyError.{TantivyError}
 use Rattle.tv_model.proofs.Numbered.{put_found}
 use Rattle.tv_model.specs.Collections.{Collection, begun, collection_at, having_tried, with_collection}
 use Rattle.tv_directory.specs.View.{Kept}
 use Rattle.tv_directory.specs.declared.directory.Directory.{Ghosts}
-use Rattle.tv_managed.specs.Collecting.{HasLeft, OnlyDeletes, TriesFirst, TriesSome, is_done, standing}
-use Rattle.tv_managed.specs.Crashes.{LeavesSafely, LosesNames, StepsSafely}
+use Rattle.tv_managed.specs.Collecting.{ChangesNothing, HasLeft, OnlyDeletes, TriesFirst, TriesSome, is_done, standing}
+use Rattle.tv_managed.specs.Crashes.{LeavesSafely, StepsSafely, TriesSafely, TriesStates}
 use Rattle.tv_managed.specs.Names.{ManagedNames}
-use Rattle.tv_managed.proofs.Synced.{loses_one, loses_then}
+use Rattle.tv_managed.proofs.Synced.{loses_kept, loses_none, loses_on, loses_then, loses_tried}
+use Rattle.tv_managed.proofs.Tracking.{track_same}
 use Rattle.tv_managed.specs.TrackLaws.{track_then}
 use Rattle.tv_managed.specs.declared.collection.CollectStep.{CollectStep}
 use Rattle.tv_managed.proofs.Collections.{put_twice}
-use Rattle.tv_managed.proofs.Tried.{tried_name, tried_none, tried_then}
+use Rattle.tv_managed.proofs.Tried.{tried_name, tried_none, tried_on, tried_quiet, tried_then}
 
 -- how many names a collection has left, where there is one
 abbrev pub left_of : Option Collection → ℕ
@@ -41,23 +39,35 @@ with_standing : ℕ → Collection → ManagedNames → ManagedNames
 with_standing number c names = record names { collections = with_collection names.collections number c }
 
 -- one more was tried
-pub some_more : {D W C : Type 0} (g : Ghosts D W C) (before : ManagedNames) (names : List (List ℕ)) {first old new : D × ManagedNames} (step : CollectStep) (name : List ℕ) (left : List (List ℕ)) (s : TriesSome g before names first old) → s.rest ≡ name ∷ left
-    → TriesFirst g before.collections.next (record { untried = s.rest; done = s.deleted; failed = s.failed }) name left old new step → OnlyDeletes g old new → TriesSome g before names first new
+pub some_more : {D W C : Type 0} (g : Ghosts D W C) (before : ManagedNames) (names : List (List ℕ)) {first old new : D × ManagedNames} (step : CollectStep) (name : List ℕ) (left : List (List ℕ)) (t : TriesSafely g before names first old) → t.some.rest ≡ name ∷ left
+    → TriesFirst g before.collections.next (record { untried = t.some.rest; done = t.some.deleted; failed = t.some.failed }) name left old new step → OnlyDeletes g old new
+    → (g.tells_images → LeavesSafely g (TriesStates {E = TantivyError} (g.disk old.0) (g.disk new.0) name (Ok step)) old new) → TriesSafely g before names first new
 unfolding with_standing
-some_more g before names {first} {old} {new} step name left s next t only =
+some_more g before names {first} {old} {new} step name left so_far next t only safe =
+    let s = so_far.some in
     let gone = is_done step in
     let c : Collection = record { untried = s.rest; done = s.deleted; failed = s.failed } in
     let put = tried_as s.rest s.deleted s.failed name left gone in
     record {
-      front = s.front ++ name ∷ [];
-      rest = left;
-      deleted = s.deleted ++ cond gone (name ∷ []) [];
-      failed = s.failed ++ cond gone [] (name ∷ []);
-      split = s.split ∙ ap (λ r. s.front ++ r) next ∙ sym (append_assoc s.front (name ∷ []) left);
-      tried = tried_then g s.front (name ∷ []) first old new s.deleted s.failed _ _ s.tried (tried_name g gone name old new t.plain t.tried only.frame);
-      names = t.names
-          ∙ ap (with_standing before.collections.next (having_tried c name left gone)) s.names
-          ∙ stands_on before c (having_tried c name left gone) ∙ ap (standing before) put;
+      some = record {
+        front = s.front ++ name ∷ [];
+        rest = left;
+        deleted = s.deleted ++ cond gone (name ∷ []) [];
+        failed = s.failed ++ cond gone [] (name ∷ []);
+        split = s.split ∙ ap (λ r. s.front ++ r) next ∙ sym (append_assoc s.front (name ∷ []) left);
+        tried = tried_then g s.front (name ∷ []) first old new s.deleted s.failed _ _ s.tried (tried_name g gone name old new t.plain t.tried only.frame);
+        names = t.names
+            ∙ ap (with_standing before.collections.next (having_tried c name left gone)) s.names
+            ∙ stands_on before c (having_tried c name left gone) ∙ ap (standing before) put;
+      };
+      safe = λ tells.
+          let one = safe tells in
+          let was_safe = so_far.safe tells in
+          record {
+            tracks = λ was. let before = was_safe.tracks was in track_then g before (one.tracks before.tracked);
+            listed = λ was. one.listed (was_safe.listed was);
+            states = loses_on s.deleted _ was_safe.states (loses_tried step s.deleted one.states);
+          };
     }
 
 left_tried : (d : Collection) (name : List ℕ) (left : List (List ℕ)) (gone : Bool) → left_of (Some (having_tried d name left gone)) ≡ length left
@@ -68,19 +78,63 @@ left_tried d name left false = refl
 abbrev pub TriesNext : {D W C : Type 0} → Ghosts D W C → ℕ → (old new : D × ManagedNames) → CollectStep → Type 0
 TriesNext g number old new step = (d : Collection) (name : List ℕ) (left : List (List ℕ)) → collection_at old.1.collections number ≡ Some d → d.untried ≡ name ∷ left → TriesFirst g number d name left old new step
 
-pub some_next : {D W C : Type 0} (g : Ghosts D W C) (before : ManagedNames) (names : List (List ℕ)) (number : ℕ) {first old new : D × ManagedNames} (step : CollectStep) → number ≡ before.collections.next → HasLeft old.1.collections number → TriesNext g number old new step → OnlyDeletes g old new
-    → TriesSome g before names first old → TriesSome g before names first new
-some_next g before names number {first} {old} {new} step same has tries only s = by s.rest refl where
-  at : collection_at old.1.collections number ≡ Some (record { untried = s.rest; done = s.deleted; failed = s.failed })
-  at = ap (λ n. collection_at old.1.collections n) same ∙ ap (λ v. collection_at v.collections before.collections.next) s.names ∙ at_standing before (record { untried = s.rest; done = s.deleted; failed = s.failed })
+-- the collection that stands has the names that are left
+left_at : {D W C : Type 0} (g : Ghosts D W C) (before : ManagedNames) (names : List (List ℕ)) (number : ℕ) {first old : D × ManagedNames} → number ≡ before.collections.next → (s : TriesSome g before names first old)
+    → collection_at old.1.collections number ≡ Some (record { untried = s.rest; done = s.deleted; failed = s.failed })
+left_at g before names number {first} {old} same s =
+    ap (λ n. collection_at old.1.collections n) same ∙ ap (λ v. collection_at v.collections before.collections.next) s.names ∙ at_standing before (record { untried = s.rest; done = s.deleted; failed = s.failed })
 
-  some : IsSomeAnd (collection_at old.1.collections number) (λ d. 0 < length d.untried) → 0 < length s.rest
+pub some_next : {D W C : Type 0} (g : Ghosts D W C) (before : ManagedNames) (names : List (List ℕ)) (number : ℕ) {first old new : D × ManagedNames} (step : CollectStep) → number ≡ before.collections.next → HasLeft old.1.collections number → TriesNext g number old new step → OnlyDeletes g old new
+    → (g.tells_images → StepsSafely {E = TantivyError} g number old new (Ok step)) → TriesSafely g before names first old → TriesSafely g before names first new
+some_next g before names number {first} {old} {new} step same has tries only safe so_far = by so_far.some.rest refl where
+  c : Collection
+  c = record { untried = so_far.some.rest; done = so_far.some.deleted; failed = so_far.some.failed }
+
+  at : collection_at old.1.collections number ≡ Some c
+  at = left_at g before names number same so_far.some
+
+  some : IsSomeAnd (collection_at old.1.collections number) (λ d. 0 < length d.untried) → 0 < length so_far.some.rest
   some h = subst (λ o. IsSomeAnd o (λ d. 0 < length d.untried)) at h
 
-  by : (r : List (List ℕ)) → s.rest ≡ r → TriesSome g before names first new
+  by : (r : List (List ℕ)) → so_far.some.rest ≡ r → TriesSafely g before names first new
   by [] none = absurd (omega (arith, some has, ap length none))
-  by (name ∷ left) next = some_more g before names step name left s next
-      (subst (λ n. TriesFirst g n (record { untried = s.rest; done = s.deleted; failed = s.failed }) name left old new step) same (tries (record { untried = s.rest; done = s.deleted; failed = s.failed }) name left at next)) only
+  by (name ∷ left) next = some_more g before names step name left so_far next
+      (subst (λ n. TriesFirst g n c name left old new step) same (tries c name left at next)) only (λ tells. safe tells c name left at next)
+
+-- none could be tried, and nothing changed
+pub some_wanted : {D W C : Type 0} (g : Ghosts D W C) (before : ManagedNames) (names : List (List ℕ)) (number : ℕ) {first old new : D × ManagedNames} (e : TantivyError) → number ≡ before.collections.next → HasLeft old.1.collections number → ChangesNothing g old new
+    → (g.tells_images → StepsSafely g number old new (Err e)) → TriesSafely g before names first old → TriesSafely g before names first new
+some_wanted g before names number {first} {old} {new} e same has none safe so_far = by so_far.some.rest refl where
+  c : Collection
+  c = record { untried = so_far.some.rest; done = so_far.some.deleted; failed = so_far.some.failed }
+
+  at : collection_at old.1.collections number ≡ Some c
+  at = left_at g before names number same so_far.some
+
+  some : IsSomeAnd (collection_at old.1.collections number) (λ d. 0 < length d.untried) → 0 < length so_far.some.rest
+  some h = subst (λ o. IsSomeAnd o (λ d. 0 < length d.untried)) at h
+
+  by : (r : List (List ℕ)) → so_far.some.rest ≡ r → TriesSafely g before names first new
+  by [] empty = absurd (omega (arith, some has, ap length empty))
+  by (name ∷ left) next = record {
+    some = record {
+      front = so_far.some.front;
+      rest = so_far.some.rest;
+      deleted = so_far.some.deleted;
+      failed = so_far.some.failed;
+      split = so_far.some.split;
+      tried = tried_on g so_far.some.tried (tried_quiet g old new none.frame);
+      names = none.frame.names ∙ so_far.some.names;
+    };
+    safe = λ tells.
+        let one = safe tells c name left at next in
+        let was_safe = so_far.safe tells in
+        record {
+          tracks = λ was. let before = was_safe.tracks was in track_then g before (one.tracks before.tracked);
+          listed = λ was. one.listed (was_safe.listed was);
+          states = loses_then was_safe.states (loses_kept so_far.some.deleted one.states.err);
+        };
+  }
 
 -- and fewer are left
 pub fewer_left : {D W C : Type 0} (g : Ghosts D W C) (number : ℕ) (old new : D × ManagedNames) (step : CollectStep) → HasLeft old.1.collections number → TriesNext g number old new step → suc (left_of (collection_at new.1.collections number)) ≤ left_of (collection_at old.1.collections number)
@@ -97,30 +151,8 @@ fewer_left g number old new step has tries = by (collection_at old.1.collections
   by (Some d) at some = tried d d.untried refl at some
 
 -- no name was tried yet
-pub some_none : {D W C : Type 0} (g : Ghosts D W C) (before : ManagedNames) (names : List (List ℕ)) (old : D × ManagedNames) → old.1 ≡ standing before (begun names) → Kept g.told (g.view old.0) (g.view old.0) → TriesSome g before names old old
-some_none g before names old is kept = record { front = []; rest = names; deleted = []; failed = []; split = refl; tried = tried_none g old old kept (λ tells n ne. refl); names = is }
-
--- the name that is tried is one of those that were taken
-among : (names front rest left : List (List ℕ)) (name : List ℕ) → names ≡ front ++ rest → rest ≡ name ∷ left → has names name ≡ true
-among names front rest left name split next =
-    ap (λ l. has l name) (split ∙ ap (λ r. front ++ r) next) ∙ has_append front (name ∷ left) name ∙ or_right (has front name) _ (or_left (is name name) _ (is_itself name))
-
--- track is kept by one step more
-pub safe_next : {E D W C : Type 0} (g : Ghosts D W C) (before : ManagedNames) (names : List (List ℕ)) (number : ℕ) {first old new : D × ManagedNames} {result : Result CollectStep E} → number ≡ before.collections.next → HasLeft old.1.collections number → StepsSafely g number old new result
-    → TriesSome g before names first old → LeavesSafely g (LosesNames names (g.disk first.0) (g.disk old.0)) first old → LeavesSafely g (LosesNames names (g.disk first.0) (g.disk new.0)) first new
-safe_next g before names number {first} {old} {new} same has safe s so_far = by s.rest refl where
-  at : collection_at old.1.collections number ≡ Some (record { untried = s.rest; done = s.deleted; failed = s.failed })
-  at = ap (λ n. collection_at old.1.collections n) same ∙ ap (λ v. collection_at v.collections before.collections.next) s.names ∙ at_standing before (record { untried = s.rest; done = s.deleted; failed = s.failed })
-
-  some : IsSomeAnd (collection_at old.1.collections number) (λ d. 0 < length d.untried) → 0 < length s.rest
-  some h = subst (λ o. IsSomeAnd o (λ d. 0 < length d.untried)) at h
-
-  by : (r : List (List ℕ)) → s.rest ≡ r → LeavesSafely g (LosesNames names (g.disk first.0) (g.disk new.0)) first new
-  by [] none = absurd (omega (arith, some has, ap length none))
-  by (name ∷ left) next =
-      let one = safe (record { untried = s.rest; done = s.deleted; failed = s.failed }) name left at next in
-      record {
-        tracks = λ was. let before = so_far.tracks was in track_then g before (one.tracks before.tracked);
-        listed = λ was. one.listed (so_far.listed was);
-        states = loses_then so_far.states (loses_one names (among names s.front s.rest left name s.split next) one.states);
-      }
+pub some_none : {D W C : Type 0} (g : Ghosts D W C) (before : ManagedNames) (names : List (List ℕ)) (old : D × ManagedNames) → old.1 ≡ standing before (begun names) → Kept g.told (g.view old.0) (g.view old.0) → TriesSafely g before names old old
+some_none g before names old is kept = record {
+  some = record { front = []; rest = names; deleted = []; failed = []; split = refl; tried = tried_none g old old kept (λ tells n ne. refl); names = is };
+  safe = λ tells. record { tracks = track_same g; listed = λ was. was; states = loses_none [] _ };
+}

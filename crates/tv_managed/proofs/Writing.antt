@@ -1,5 +1,5 @@
 -- What is written, listed and sealed, put together from the steps of a call.
-use Rattle.std.proofs.Common.{◌≡◌, ◌≢◌, ◌++◌, ◌⊎◌, ⊎_elim, inl, inr, ℕ, true, List, [], refl, sym, ap, subst, ◌∙◌, Some, Result, Ok, Err}
+use Rattle.std.proofs.Common.{◌≡◌, ◌≢◌, ◌++◌, ◌⊎◌, ⊎_elim, inl, inr, ℕ, List, refl, sym, ap, subst, ◌∙◌, Some, Result, Ok, Err}
 use Rattle.std.specs.Prelude.{IfErr, OnOk}
 use Rattle.tv_model.specs.Files.{MaySet, Reads, Rose, Same, Sets}
 use Rattle.tv_model.specs.Names.{list_name}
@@ -10,7 +10,7 @@ use Rattle.tv_checksum.specs.Crc32.{HasTaken}
 use Rattle.tv_checksum.specs.declared.crc32.Crc32.{Crc32}
 use Rattle.tv_directory.specs.Calls.{Appends, Gives, HandsBack, IoFaults, Notes, Touches}
 use Rattle.tv_directory.specs.View.{Frame, Kept, View, WriterState}
-use Rattle.tv_directory.specs.ViewLaws.{frame_then, kept_itself, kept_then}
+use Rattle.tv_directory.specs.ViewLaws.{frame_then, kept_itself}
 use Rattle.tv_directory.specs.Watch.{MayNote, WatchState, noted}
 use Rattle.tv_directory.specs.declared.directory.Directory.{Ghosts}
 use Rattle.tv_managed.specs.Frames.{KeepsNames, KeptButNotes}

@@ -13,7 +13,7 @@ use Rattle.tv_base.specs.declared.open_errors.OpenWriteError.{OpenWriteError}
 use Rattle.tv_base.specs.declared.open_errors.OpenWriteError.TheVariants as write
 use Rattle.tv_directory.specs.Images.{KeepsDisk, KeepsOtherStates, SameStates}
 use Rattle.tv_directory.specs.declared.directory.Directory.{Ghosts}
-use Rattle.tv_managed.specs.Collecting.{is_done, Leaves, SavesNone, Tries}
+use Rattle.tv_managed.specs.Collecting.{is_done, Leaves, SavesNone, Tries, TriesSome, names_of}
 use Rattle.tv_managed.specs.Managed.{NeedsNoListing, SavesList, registered}
 use Rattle.tv_managed.specs.Names.{ManagedNames, done_names}
 use Rattle.tv_managed.specs.Writers.{IsSummed}
@@ -192,26 +192,33 @@ EndsSafely g number old new result =
 abbrev pub IsLost : List (List ℕ) → List ℕ → DiskState → Type 0
 IsLost names n s = (has names n ≡ true) × (s ≡ Absent)
 
--- each name has one possible state, that in which it stood, but that one of these names may be absent besides, and the list have this text
+-- Each name has one possible state, that in which it stood, but that one of these names may be absent
+-- besides, and the list may have this text.
 pub record IsSettledBut (stood : List ℕ → DiskState) (names : List (List ℕ)) (text : List ℕ) (possible : Possible) : Type 0 where
   pub each : (n : List ℕ) (s : DiskState) → possible n s
       → (s ≡ stood n) ⊎ (IsLost names n s ⊎ (IsListFile n × (s ≡ Sealed text)))
 
--- A collection that tries these names, of which some are done, touches them and the list alone. A name that is managed no more has no file after any crash.
-pub record CollectsStates {D W C : Type 0} (g : Ghosts D W C) (names done : List (List ℕ)) (old new : D × ManagedNames) : Type 0 where
-  pub touches : TouchesOnly (AnyOrList names) (g.disk old.0) (g.disk new.0)
-  -- no state is possible besides, until the device has kept what was written before; from then on all is settled but these names, and the list, which may lack what is done
-  pub synced : Throughout (λ possible. Within (possible_now (g.disk old.0)) possible ⊎ IsSettledBut (g.disk old.0).now names (list_text (without done old.1.managed)) possible) (g.disk old.0) (g.disk new.0)
+-- A collection touches the names that are done and the list alone: a name whose delete is refused stands
+-- as it stood. A name that is managed no more has no file after any crash.
+pub record CollectsStates {D W C : Type 0} (g : Ghosts D W C) (done : List (List ℕ)) (old new : D × ManagedNames) : Type 0 where
+  pub touches : TouchesOnly (AnyOrList done) (g.disk old.0) (g.disk new.0)
+  -- at each moment no state is possible besides; or the device has kept what was written before, and each
+  -- name stands as it stood, but that what is done may be absent, and the list may lack it
+  pub synced : Throughout (λ possible. Within (possible_now (g.disk old.0)) possible
+      ⊎ IsSettledBut (g.disk old.0).now done (list_text (without done old.1.managed)) possible)
+      (g.disk old.0) (g.disk new.0)
   pub forgets : IsTracked g old → Forgets g old new
 
 -- What a collection of these names did, whatever it answered: what it left, of the names, the files, the list, and of what a crash may leave. At Ok it tried them all.
 pub record CollectsNames {E D W C : Type 0} (g : Ghosts D W C) (names : List (List ℕ)) (old new : D × ManagedNames) (result : Result GarbageCollectionResult E) : Type 0 where
   pub leaves : Leaves g names old new result
   pub tries : IfOk result (Tries g names old new)
+  -- what it tells as deleted is what is done
+  pub told : IfOk result (λ r. names_of r.deleted_files.items ≡ done_of leaves.front leaves.outcomes)
   pub saves : SavesList g old new result
   pub saves_none : SavesNone g old new result
   pub safe : g.tells_images
-      → ShortensSafely g (CollectsStates g names (done_of leaves.front leaves.outcomes) old new) old new result
+      → ShortensSafely g (CollectsStates g (done_of leaves.front leaves.outcomes) old new) old new result
 
 -- What follows is cited by laws alone.
 
@@ -248,10 +255,17 @@ pub record SavesManaged {A D W C : Type 0} (g : Ghosts D W C) (old new : D × Ma
   pub saves : SavesText (g.disk old.0) (g.disk new.0) (list_text old.1.managed) result
   pub listed : IsListOf (list_text old.1.managed) old.1.managed
 
--- Some of these names are tried: at each moment any of them may be absent besides, and no other name is touched.
+-- At each moment any of these names may be absent besides, and no other name is touched.
 pub record LosesNames (names : List (List ℕ)) (old new : Disk) : Type 0 where
   pub moments : Throughout (Gains (IsLost names) (possible_now old)) old new
   pub now : OnlyMoves (λ n. has names n ≡ true) old new
+
+-- Some first ones of the names of a collection were tried, which was begun where the managed names and the
+-- other collections were these. Where track was kept it is so still, and at each moment those names that
+-- are done may be absent besides, and no other name is touched.
+pub record TriesSafely {D W C : Type 0} (g : Ghosts D W C) (before : ManagedNames) (taken : List (List ℕ)) (old new : D × ManagedNames) : Type 0 where
+  pub some : TriesSome g before taken old new
+  pub safe : g.tells_images → LeavesSafely g (LosesNames some.deleted (g.disk old.0) (g.disk new.0)) old new
 
 -- A name is tried: it may be absent besides, and is where it is told as gone; what is absent stays so. Where it is
 -- told as still there, or memory was wanted, nothing changed.

@@ -1,11 +1,11 @@
 -- What calls of a managed directory keep, one after the other, of what a crash may leave and of the list of its files.
 use Rattle.std.proofs.Common.{◌≡◌, ◌≤◌, ◌<◌, ⊎_elim, inl, inr, ℕ, true, List, sym, ap, subst, ◌∙◌, arith}
 use Rattle.std.proofs.lemmas.Bool.{cases_lt}
-use Rattle.tv_model.specs.Disk.{DiskState, Absent, Possible, Disk, possible_now, Within, Elapses}
+use Rattle.tv_model.specs.Disk.{DiskState, Absent, Possible, Disk, possible_now, Within, Elapses, Throughout}
 use Rattle.tv_model.specs.Listed.{IsAlwaysListed, ListsEachFile}
 use Rattle.tv_model.specs.Listing.{IsListFile}
 use Rattle.tv_model.specs.Names.{has, is_undotted}
-use Rattle.tv_model.proofs.DiskLaws.{fewer_listed, goes_on, goes_on_run, same_then, started}
+use Rattle.tv_model.proofs.DiskLaws.{at_end, fewer_listed, fewer_within, goes_on, goes_on_run, same_then, started, weaker}
 use Rattle.tv_directory.specs.Images.{KeepsDisk, SameStates}
 use Rattle.tv_directory.specs.declared.directory.Directory.{Ghosts}
 use Rattle.tv_managed.specs.Crashes.{AreListed, IsCovered, IsTracked, KeepsTrack, LeavesSafely}
@@ -27,6 +27,13 @@ keeps_then {old} {mid} {new} first second = record {
         (cases_lt mid.moment x);
   };
 }
+
+-- no state is possible besides, twice
+pub within_then : {old mid new : Disk} → Throughout (Within (possible_now old)) old mid
+    → Throughout (Within (possible_now mid)) mid new → Throughout (Within (possible_now old)) old new
+within_then {old} {mid} first second =
+    goes_on_run _ (fewer_within (possible_now old)) first
+    (weaker second (λ p within. fewer_within (possible_now old) (possible_now mid) p within (at_end first)))
 
 -- ---- the list
 

@@ -1,14 +1,14 @@
 //! Deletes the managed files that nothing needs, at once or in steps.
-ghost use Rattle.std.specs.Prelude.{◌≡◌, ◌≢◌, [], ◌++◌, ℕ, List, length, true, false, Option, Some, None, IsSome, option_map, IfOk, IfErr, OnErr};
+ghost use Rattle.std.specs.Prelude.{◌≡◌, ◌≢◌, [], ◌++◌, ◌∷◌, ℕ, List, length, true, false, Option, Some, None, IsSome, option_map, IfOk, IfErr, OnErr};
 ghost use Rattle.tv_model.specs.Names.{has, is_file_name, is_plain, list_name};
 ghost use Rattle.tv_model.specs.Collections.{Collection as CollectionState, begun, collectable, collection_at, held, no_collections, taken, without};
 ghost use Rattle.tv_directory.specs.Images.{DeletesState};
 ghost use Rattle.tv_directory.specs.View.{Kept, MayDelete, OnlyReads};
 ghost use Rattle.tv_directory.specs.Calls.{DeleteFaults, Deletes, EndsWriters};
-ghost use Rattle.tv_managed.specs.Crashes.{AreListed, CollectsNames, EndsSafely, IsTracked, LeavesSafely, LosesNames, CutsList, SettlesStates, StepsSafely, TriesState};
+ghost use Rattle.tv_managed.specs.Crashes.{AreListed, CollectsNames, EndsSafely, IsTracked, LeavesSafely, CutsList, SettlesStates, StepsSafely, TriesSafely, TriesState};
 ghost use Rattle.tv_managed.specs.Frames.{KeepsNames, OnlyAsks};
 ghost use Rattle.tv_managed.specs.Names.{AreManaged, ManagedNames};
-ghost use Rattle.tv_managed.specs.Collecting.{Among, BeginFaults, Begins, BeginsBeside, ChangesNothing, CollectFaults, EndFaults, EndsCollection, HasLeft, LockedFaults, OnlyDeletes, Shortens, Steps, TriesAll, TriesName, TriesSome, names_of, standing, taken_by};
+ghost use Rattle.tv_managed.specs.Collecting.{Among, BeginFaults, Begins, BeginsBeside, ChangesNothing, CollectFaults, EndFaults, EndsCollection, HasLeft, LockedFaults, OnlyDeletes, Shortens, Steps, TriesAll, TriesName, names_of, standing, taken_by};
 
 use crate::collection::{CollectStep, Collections, GarbageCollectionResult};
 use crate::list::save_managed_paths;
@@ -46,9 +46,11 @@ impl<D: Directory> ManagedDirectory<D> {
     /// where a file was deleted or a delete refused the collection stays unfinished. `LockFailure` comes where the
     /// lock isn't given, `Exhausted` where the collection's number would be the last; then nothing changed.
     ///
-    /// Before the first delete the device has kept what was written: from then on a crash leaves each name as it
-    /// stood, but for these names and the list. It has kept what was deleted before the shorter list is saved: where
-    /// track is kept, no crash leaves a file whose name isn't managed any more.
+    /// By the code the device has kept what was written before the first delete; by the clause a crash leaves at
+    /// each moment what it might have left before, or each name as it stood, one whose delete is refused too, but
+    /// that a name that is done may be absent, and the list may lack what is done. The device has kept what was
+    /// deleted before the shorter list is saved: where track is kept, no crash leaves a file whose name isn't
+    /// managed any more.
     ///
     /// The meta lock is taken first, and given back. By the code, and by no clause, the living names are asked for
     /// while it is held, and it is free while files are deleted. It is for readers: without it, where several work
@@ -116,6 +118,17 @@ impl<D: Directory> ManagedDirectory<D> {
             (collection_at self.now.1.collections id) }
     {
         self.collections.left(id)
+    }
+
+    /// The name that a collection tries next. Takes no memory.
+    pub fn collect_next(&self, id: u64) -> &str
+        requires { HasLeft self.now.1.collections id }
+        ensures first { (c : CollectionState) (name : List ℕ) (left : List (List ℕ))
+            → collection_at self.now.1.collections id ≡ Some c → c.untried ≡ name ∷ left
+            → result.now ≡ name }
+        ensures plain { is_plain result.now ≡ true }
+    {
+        self.collections.next(id)
     }
 
     /// Whether an unfinished collection has the name. Takes no memory.
@@ -226,14 +239,10 @@ impl<D: Directory> ManagedDirectory<D> {
     fn try_each(&mut self, number: u64) -> Result<(), TantivyError>
         ensures leaves { (before : ManagedNames) (names : List (List ℕ))
             → self.old.1 ≡ standing before (begun names) → number ≡ before.collections.next
-            → TriesSome D.Directory before names self.old self.new }
+            → TriesSafely D.Directory before names self.old self.new }
         ensures all { TriesAll number self.new.1 result }
         ensures memory { IfErr result (λ e. e ≡ TantivyError.Memory) }
         ensures only { OnlyDeletes D.Directory self.old self.new }
-        ensures safe { D.tells_images → (before : ManagedNames) (names : List (List ℕ))
-            → self.old.1 ≡ standing before (begun names) → number ≡ before.collections.next
-            → LeavesSafely D.Directory (LosesNames names (D.disk self.old.0) (D.disk self.new.0))
-            self.old self.new }
     {
         while self.has_left(number) {
             self.collect_delete(number)?;

@@ -261,6 +261,17 @@ impl Collections {
         }
     }
 
+    /// The name that the collection tries next. Takes no memory.
+    pub(crate) fn next(&self, number: u64) -> &str
+        requires { HasLeft self.now number }
+        ensures first { (c : CollectionState) (name : List ℕ) (left : List (List ℕ))
+            → collection_at self.now number ≡ Some c → c.untried ≡ name ∷ left
+            → result.now ≡ name }
+        ensures plain { is_plain result.now ≡ true }
+    {
+        self.unfinished[&number].next()
+    }
+
     /// A copy of the name that the collection tries next.
     pub(crate) fn next_name(&self, alloc: Global, number: u64) -> Result<String, Memory>
         requires { HasLeft self.now number }
@@ -269,7 +280,7 @@ impl Collections {
             → IfOk result (λ found. string_bytes found ≡ name) }
         ensures plain { IfOk result (λ found. is_plain (string_bytes found) ≡ true) }
     {
-        Ok(String::from_str(alloc, self.unfinished[&number].next())?)
+        Ok(String::from_str(alloc, self.next(number))?)
     }
 
     /// The collection has tried its next name: its delete is done, or was refused. Takes no memory.

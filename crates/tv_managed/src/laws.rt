@@ -20,9 +20,8 @@ use std::collections::BTreeSet;
 use tv_base::{OpenWriteError, OwnedBytes, TantivyError};
 use tv_directory::Directory;
 
-/// A file is on the list before it is made, and the device has kept the list by then. So where track is kept, a
-/// crash at any moment of the call, whatever that answers, leaves a list, and each undotted file that it leaves is
-/// on it.
+/// Where track is kept, a crash at any moment of `open_write`, whatever that answers, leaves no undotted file but
+/// those on the list that it leaves.
 pub fn open_write_forgets_no_file<D: Directory>(
     directory: &mut ManagedDirectory<D>,
     name: &str,
@@ -52,7 +51,7 @@ pub fn open_write_spares_a_taken_name<D: Directory>(
 }
 
 /// Where the name has a file, `open_write` gives a crash nothing to leave that it couldn't leave before, at any
-/// moment of the call and whatever that answers. So no file that is sealed is left unsealed.
+/// moment of the call and whatever that answers. So it leaves no file unsealed that it couldn't leave so before.
 pub fn open_write_unseals_no_file_that_is_there<D: Directory>(
     directory: &mut ManagedDirectory<D>,
     name: &str,
@@ -68,9 +67,9 @@ pub fn open_write_unseals_no_file_that_is_there<D: Directory>(
     directory.open_write(name)
 }
 
-/// What was written is read back: once a file is sealed, these are the bytes of its body. Its name wasn't deleted
-/// since it was made, and the writer's checksum is that of what was written, as it is after each call that answers
-/// Ok.
+/// What was written is read back where sealing and reading answer Ok: these are the bytes of the file's
+/// body, provided that its name wasn't deleted since it was made, and that the writer's checksum is that of
+/// what was written.
 pub fn sealed_bytes_are_read_back<D: Directory>(
     directory: &mut ManagedDirectory<D>,
     writer: ManagedWriter<D>,
@@ -86,7 +85,7 @@ pub fn sealed_bytes_are_read_back<D: Directory>(
     Ok(directory.get_file_handle(name)?)
 }
 
-/// A collection takes no living name, and none that another unfinished collection has.
+/// A collection that is begun takes no living name, and none that a collection has which was unfinished before.
 pub fn collect_begin_spares_what_is_needed<D: Directory>(
     directory: &mut ManagedDirectory<D>,
     living: &BTreeSet<String>,
@@ -97,7 +96,7 @@ pub fn collect_begin_spares_what_is_needed<D: Directory>(
     directory.collect_begin(living)
 }
 
-/// A collection's number is below the next one, so that no later collection gets it.
+/// The number of a collection that is begun is below the one that the next collection gets.
 pub fn collect_begin_gives_a_number_once<D: Directory>(
     directory: &mut ManagedDirectory<D>,
     living: &BTreeSet<String>,
@@ -107,8 +106,8 @@ pub fn collect_begin_gives_a_number_once<D: Directory>(
     directory.collect_begin(living)
 }
 
-/// Where the device refused the delete of a step, or memory was wanted, a crash leaves after it what it might have
-/// left before it: no file was lost.
+/// Where the device refused the delete of a step, or memory was wanted, a crash after it leaves nothing that it
+/// couldn't leave before it: no file is lost that couldn't be.
 pub fn a_refused_delete_loses_no_file<D: Directory>(
     directory: &mut ManagedDirectory<D>,
     id: u64,
@@ -122,8 +121,8 @@ pub fn a_refused_delete_loses_no_file<D: Directory>(
     directory.collect_delete(id)
 }
 
-/// A name whose delete the device refused stays managed when its collection ends, so that a later one tries it
-/// again. The end gives no number back.
+/// A managed name that the end of a collection tells as failed stays managed. The next number stays, whatever the
+/// end answers.
 pub fn collect_end_keeps_failed_names<D: Directory>(
     directory: &mut ManagedDirectory<D>,
     id: u64,
@@ -135,8 +134,9 @@ pub fn collect_end_keeps_failed_names<D: Directory>(
     directory.collect_end(id)
 }
 
-/// A collection at once deletes no living file, and none that an unfinished collection has, whatever it answers.
-/// At Ok a name whose delete the device refused stays managed.
+/// A collection at once leaves each living name as it reads, and each that a collection had which was
+/// unfinished before, whatever it answers, but for the list's. At Ok a managed name that it tells as failed
+/// stays managed.
 pub fn garbage_collect_spares_what_is_needed<D: Directory>(
     directory: &mut ManagedDirectory<D>,
     living: BTreeSet<String>,
@@ -150,18 +150,25 @@ pub fn garbage_collect_spares_what_is_needed<D: Directory>(
     directory.garbage_collect(|| living)
 }
 
-/// A collection at once waits for the device before its first delete: a crash at any moment of it, whatever it
-/// answers, leaves what it might have left before, or leaves each living file as it stood at the beginning. So none
-/// brings an older commit back whose files were deleted.
+/// A crash at any moment of a collection at once, whatever that answers, leaves what it might have left
+/// before, or leaves each living name but the list's as it stood at the beginning. So where `meta.json` is
+/// living, what couldn't be left before, as where a file is gone, has the `meta.json` that stood. At Ok the
+/// same is so of each name that is told as failed.
 pub fn garbage_collect_deletes_behind_a_sync<D: Directory>(
     directory: &mut ManagedDirectory<D>,
     living: BTreeSet<String>,
 ) -> Result<GarbageCollectionResult, TantivyError>
-    ensures { D.tells_images → (x : ℕ) (image : Reads)
+    ensures living { D.tells_images → (x : ℕ) (image : Reads)
         → (D.disk directory.old.0).moment ≤ x → x ≤ (D.disk directory.new.0).moment
         → Left (D.disk directory.new.0) x image
         → Left (D.disk directory.old.0) (D.disk directory.old.0).moment image
         ⊎ StandsFor (names_of living.keys) (D.disk directory.old.0).now image }
+    ensures failed { D.tells_images → IfOk result (λ told. (x : ℕ) (image : Reads)
+        → (D.disk directory.old.0).moment ≤ x → x ≤ (D.disk directory.new.0).moment
+        → Left (D.disk directory.new.0) x image
+        → Left (D.disk directory.old.0) (D.disk directory.old.0).moment image
+        ⊎ StandsFor (names_of told.failed_to_delete_files.items)
+        (D.disk directory.old.0).now image) }
 {
     directory.garbage_collect(|| living)
 }

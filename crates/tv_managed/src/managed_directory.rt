@@ -37,13 +37,13 @@ use tv_model::Memory;
 /// kept in memory beside it: the managed names in their order, and the unfinished collections.
 ///
 /// The list is for crashes: a file that is on no list is never collected. Where the directory tells images, the
-/// clause `safe` of a call, of `garbage_collect` `collects`, says that it keeps track: at each moment of it,
-/// whatever it answers, each undotted file that a crash may leave is on each list that it may leave (of `flush`
-/// and `terminate` for a writer of another name than the list's). That holds from a wrapped directory on whose
-/// list a crash leaves as it is, and which has each file (`wrap`: `tracks`), until collections are forgotten
-/// whose names aren't all on the list. Where they all are, whatever a crash may leave of the list, they are so
-/// still after a call, unless it is a `collect_end` or a `garbage_collect` that answers an error. The clause says
-/// too which other states are possible then.
+/// clause `safe` of a call, of `garbage_collect` `collects`, says that it keeps track where track was kept: at each
+/// moment of it, whatever it answers, each undotted file that a crash may leave is on each list that it may leave
+/// (of `flush` and `terminate` for a writer of another name than the list's). A `wrap` begins to keep track where a
+/// crash leaves the list as it stands, and each image that a crash may leave lists its files (`tracks`).
+/// `forget_collections` goes on keeping it where each managed name is on the list, whatever a crash may leave of
+/// that (`tracked`). That is so after a call where it was before, but after a `collect_end` or a `garbage_collect`
+/// that answers an error. The clause says too which states are possible besides.
 pub struct ManagedDirectory<D: Directory> {
     pub(crate) alloc: Global,
     pub(crate) directory: D,

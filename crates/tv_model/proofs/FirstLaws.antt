@@ -91,7 +91,7 @@ stray_sound = record {
   good = (λ n bytes required is. absurd (true≢false (sym required)), tt);
   live = λ n bytes required is. absurd (true≢false (sym required));
   stamps = inl (omega arith);
-  within = tt;
+  within = (tt, tt);
   live_within = tt;
 }
 

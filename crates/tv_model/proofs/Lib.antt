@@ -25,6 +25,8 @@ pub mod PrintedTokens
 pub mod ReadPrinted
 pub mod SpelledCommits
 pub mod OneMeaning
+pub mod CutApart
+pub mod MeansOne
 pub mod StrippedTexts
 pub mod ListTexts
 pub mod NewDeletes

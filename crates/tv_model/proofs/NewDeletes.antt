@@ -56,7 +56,7 @@ next_above opstamp last n le =
 -- an index that was just opened, where its commit's deletes were drawn before it
 opened_in_order : (commit : Commit) → commit.opstamp ≤ last_stamp → AllByRecursion (λ e. delete_opstamp e.1.deletes ≤ commit.opstamp) commit.segments → DrawsInOrder (opened_catalog commit)
 opened_in_order commit fits h = record {
-  committed = h;
+  committed = (h, tt);
   live = λ left. all_weaker (λ e. delete_opstamp e.1.deletes ≤ commit.opstamp) (λ e. Below (next_after commit.opstamp) e.1) commit.segments (λ e le. next_above commit.opstamp last_stamp (delete_opstamp e.1.deletes) le left) h;
   next = next_fits commit.opstamp last_stamp fits;
 }
@@ -93,7 +93,7 @@ order_changes s event sound h = record {
   opens = λ id segment component e there absent. h;
   puts = λ name body file e good. h;
   commits = λ payload ids last e. record {
-    committed = all_weaker (λ e. Below s.catalog.next e.1) (λ e. delete_opstamp e.1.deletes ≤ s.catalog.next) _ (λ e lt. omega (arith, lt)) (each_some (Below s.catalog.next) _ s.catalog.live (h.live last));
+    committed = (all_weaker (λ e. Below s.catalog.next e.1) (λ e. delete_opstamp e.1.deletes ≤ s.catalog.next) _ (λ e lt. omega (arith, lt)) (each_some (Below s.catalog.next) _ s.catalog.live (h.live last)), tt);
     live = λ left. higher s.catalog.next (s.catalog.next + 1) s.catalog.live (omega arith) (h.live last);
     next = one_more s.catalog.next last_stamp last h.next;
   };
@@ -109,7 +109,7 @@ order_changes s event sound h = record {
   begins = h;
   tries = λ number c name left is_done step there e. h;
   finishes = λ number c e there. h;
-  reopens = λ e. opened_in_order s.catalog.commit (commit_fits s sound h.next) h.committed;
+  reopens = λ e. opened_in_order s.catalog.commit (commit_fits s sound h.next) h.committed.0;
 }
 
 -- the numbers are drawn in order in an index that was just made, and after each event
@@ -145,7 +145,7 @@ segments_other id (e ∷ segments) drawn small h =
 all_committed : (s : State) → IsSoundState s → s.catalog.next ≢ last_stamp → DrawsInOrder s.catalog → AllBelow s.catalog.next s.catalog.commit.segments
 all_committed s sound left h = either sound.stamps where
   either : ((s.catalog.commit.opstamp < s.catalog.next) ⊎ ((s.catalog.commit.opstamp ≡ last_stamp) × (s.catalog.next ≡ last_stamp))) → AllBelow s.catalog.next s.catalog.commit.segments
-  either (inl below) = all_weaker (λ e. delete_opstamp e.1.deletes ≤ s.catalog.commit.opstamp) (λ e. Below s.catalog.next e.1) s.catalog.commit.segments (λ e le. omega (arith, le, below)) h.committed
+  either (inl below) = all_weaker (λ e. delete_opstamp e.1.deletes ≤ s.catalog.commit.opstamp) (λ e. Below s.catalog.next e.1) s.catalog.commit.segments (λ e le. omega (arith, le, below)) h.committed.0
   either (inr ends) = absurd (left ends.1)
 
 unneeded : (s : State) (id : List ℕ) (n : ℕ) → IsSoundState s → s.catalog.next ≢ last_stamp → DrawsInOrder s.catalog → has (living s.catalog) (delete_name id (Some (next_deletes s.catalog n))) ≡ false

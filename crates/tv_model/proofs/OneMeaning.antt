@@ -16,7 +16,6 @@ use Rattle.tv_model.specs.declared.segment.LiveSegment.{LiveSegment}
 use Rattle.tv_model.specs.Names.{byte_cmp}
 use Rattle.tv_model.specs.JsonFields.{IsOptional}
 use Rattle.tv_model.specs.MetaJson.{AreSettingsAt, IsDeleteMeta, SpellsSegment, SpellEach, SpellSegments, IsMetaTree, SpellsMeta}
-use Rattle.tv_model.specs.Meaning.{Means}
 use Rattle.tv_model.specs.Commits.{Commit, Settings}
 
 abbrev Entry : Type 0
@@ -184,9 +183,3 @@ pub one_meaning : (bytes : List ℕ) (first second : Settings) (commit other : C
 one_meaning bytes first second commit other t u h k =
     let same : h.tree ≡ k.tree = one_value (read bytes) h.tree k.tree h.parsed k.parsed in
     one_tree h.tree first second commit other t u h.form (subst (λ (d : Data). IsMetaTree d second other u) (sym same) k.form)
-
--- what bytes mean under a schema is one commit, under one settings
-pub means_one : (settings others : Settings) (schema bytes : List ℕ) (commit other : Commit) → Means settings schema bytes commit → Means others schema bytes other
-    → (settings ≡ others) × (commit ≡ other)
-means_one settings others schema bytes commit other h k =
-    let one = one_meaning bytes settings others commit other h.tree k.tree h.spelled k.spelled in (one.0, one.1)

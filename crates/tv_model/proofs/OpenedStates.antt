@@ -14,7 +14,7 @@ use Rattle.tv_model.specs.Index.{HasFiles, IsSoundMeta, IsSoundImage, FindsCommi
 use Rattle.tv_model.specs.SoundStates.{AreGood, AreWithin, IsSoundState}
 use Rattle.tv_model.proofs.Entries.{has_inserted, has_kept}
 use Rattle.tv_model.proofs.Required.{required_is_file}
-use Rattle.tv_model.proofs.OneMeaning.{means_one}
+use Rattle.tv_model.proofs.MeansOne.{means_one}
 use Rattle.tv_model.proofs.ListTexts.{listing_one}
 use Rattle.tv_model.proofs.HeldStates.{nothing_held}
 use Rattle.tv_model.proofs.SoundOpenings.{opens_managed_sorted}
@@ -40,7 +40,7 @@ starts settings schema reads listed s None there o managed sound = record {
 }
 starts settings schema reads listed s (Some text) there o managed sound =
     let same : s.catalog.commit ≡ sound.1 = (means_one settings sound.0 schema text s.catalog.commit sound.1 o sound.2).1 in
-    let commit = means_commit settings schema text s.catalog.commit o in
+    let commit = (means_commit settings schema text s.catalog.commit o).0 in
     record {
       files = subst (HasFiles reads) (sym same) sound.3;
       segments = commit.segments;
@@ -81,6 +81,6 @@ opens_sound settings schema reads s sound o =
       good = (good, tt);
       live = subst (AreGood s) (sym o.live) good;
       stamps = stamps_after s.catalog.commit.opstamp s.catalog.next o.next;
-      within = within;
+      within = (within, tt);
       live_within = subst AreWithin (sym o.live) within;
     }

@@ -318,3 +318,6 @@ pub meta_depth : (settings : Settings) (commit : Commit) (j : json.Json) → dep
 meta_depth settings commit j h =
     let size = json.member (codes "docstore_blocksize") (json.number (decimal settings.blocksize)) json.no_members in
     omega (arith, thread_depth settings.dedicated_thread size, segments_depth commit.segments, payload_depth commit.payload)
+
+pub schema_depth : (settings : Settings) (commit : Commit) (j : json.Json) → depth (meta_json settings commit j) ≤ 127 → depth j ≤ 126
+schema_depth settings commit j h = omega (arith, h)

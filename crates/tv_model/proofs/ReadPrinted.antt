@@ -1,4 +1,4 @@
--- The printed form of a commit, with a line feed, means that commit.
+-- The printed form of a commit, with a line feed, means that commit; where its schema can be read one level deeper, it spells it as JSON.
 use Rattle.std.proofs.Common.{◌≡◌, inl, inr, ℕ, ◌<◌, ◌≤◌, ◌^◌, Bool, true, false, cond, List, [], ◌∷◌, ◌++◌, map, fold, Option, Some, None, option_map, option_and_then, codes, decimal, refl, sym, ap, ap₂, ◌∙◌, subst, arith, append_assoc, append-nil}
 use Rattle.std.specs.Prelude.{IsSome, IfSome, IsUtf8}
 use Rattle.std.specs.List.{AllByRecursion, join_with_byte}
@@ -48,7 +48,7 @@ front_printable (t ∷ ts) us h = (h.0, front_printable ts us h.1)
 goes_on : (n : List ℕ) → ends_word (codes ",\"opstamp\":" ++ n) ≡ true
 goes_on n = refl
 
-printed_form : (settings : Settings) (schema : List ℕ) (commit : Commit) → printed settings schema commit
+pub printed_form : (settings : Settings) (schema : List ℕ) (commit : Commit) → printed settings schema commit
     ≡ (codes "{\"index_settings\":" ++ settings_text settings) ++
     (codes ",\"segments\":[" ++ (join_with_byte 44 (map segment_text commit.segments) ++ (codes "],\"schema\":"
     ++ (schema ++ (codes ",\"opstamp\":" ++ (decimal commit.opstamp ++ (payload_text commit.payload ++ codes "}")))))))
@@ -110,16 +110,22 @@ tokens_before_line_feed text h =
     ap (punctuate fresh) (lex-append text (10 ∷ []) refl (good_text text h) ∙ ap (λ l. lex between text ++ l) line_feed ∙ append-nil (lex between text))
 
 module _ (settings : Settings) (commit : Commit) (small : settings.blocksize < 2 ^ 64) (c : IsCommit commit) where
-  printed_reads : (rest : List ℕ) (j : json.Json) → HasNumbers j → depth j ≤ 126 → tokens (91 ∷ rest) ≡ json_tokens j
-      → read (printed settings (91 ∷ rest) commit ++ 10 ∷ []) ≡ of_json (meta_json settings commit j)
-  printed_reads rest j numbers shallow same =
-      let text = printed settings (91 ∷ rest) commit in
+  -- the tokens of the printed form with its line feed
+  pub line_tokens : (rest : List ℕ) (j : json.Json) → HasNumbers j → tokens (91 ∷ rest) ≡ json_tokens j
+      → tokens (printed settings (91 ∷ rest) commit ++ 10 ∷ []) ≡ json_tokens (meta_json settings commit j)
+  line_tokens rest j numbers same =
       let whole = meta_json settings commit j in
       let is : tokens (printed settings (91 ∷ rest) commit) ≡ json_tokens (meta_json settings commit j) =
       printed_tokens settings commit small c rest j numbers same in
       let clean : NoBad (tokens (printed settings (91 ∷ rest) commit)) =
       subst NoBad (sym is) (NoBad-ArePrintable (json_tokens whole) (ArePrintable-json_tokens whole (meta_numbers settings commit j small c numbers))) in
-      read_of_tokens (text ++ 10 ∷ []) whole (tokens_before_line_feed text clean ∙ is) (meta_depth settings commit j shallow)
+      tokens_before_line_feed (printed settings (91 ∷ rest) commit) clean ∙ is
+
+  printed_reads : (rest : List ℕ) (j : json.Json) → HasNumbers j → depth j ≤ 126 → tokens (91 ∷ rest) ≡ json_tokens j
+      → read (printed settings (91 ∷ rest) commit ++ 10 ∷ []) ≡ of_json (meta_json settings commit j)
+  printed_reads rest j numbers shallow same =
+      read_of_tokens (printed settings (91 ∷ rest) commit ++ 10 ∷ []) (meta_json settings commit j) (line_tokens rest j numbers same)
+      (meta_depth settings commit j shallow)
 
 -- ---- the tree
 
@@ -343,29 +349,36 @@ printed_utf8 settings schema commit small c u =
     (both_utf8 list (codes "],\"schema\":" ++ (schema ++ after)) (segments_utf8 commit.segments c.segments)
     (text_utf8 (codes "],\"schema\":") refl (schema ++ after) (both_utf8 schema after u after_is)))))
 
--- ---- what the printed form means
+-- ---- what the printed form spells
 
-there : {A : Type 0} (o : Option A) → IsSome o → (x : A) × (o ≡ Some x)
-there None h = cc
-there (Some x) h = (x, refl)
+-- what is known of the text of a schema
+pub schema_spelled : (schema : List ℕ) (tree : Data) (s : IsSchemaText schema tree) → Spelled (91 ∷ s.rest) tree
+schema_spelled schema tree s = spelled (91 ∷ s.rest) tree (ap read (sym s.begins) ∙ s.parsed)
+
+pub some_value : {A : Type 0} (o : Option A) → IsSome o → (x : A) × (o ≡ Some x)
+some_value None h = cc
+some_value (Some x) h = (x, refl)
 
 module _ (settings : Settings) (schema : List ℕ) (tree : Data) (commit : Commit) (c : IsCommit commit) (small : settings.blocksize < 2 ^ 64)
     (s : IsSchemaText schema tree) where
-  printed_spells : SpellsMeta (printed settings schema commit ++ 10 ∷ []) settings commit tree
-  printed_spells =
-      let text : Spelled (91 ∷ s.rest) tree = spelled (91 ∷ s.rest) tree (ap read (sym s.begins) ∙ s.parsed) in
-      let inside = there (read (91 ∷ schema ++ 93 ∷ [])) s.inside in
-      let shallow : depth text.tree ≤ 126 =
-      inside_shallow s.rest tree inside.0 text (ap (λ (l : List ℕ). read (91 ∷ l ++ 93 ∷ [])) (sym s.begins) ∙ inside.1) in
-      record {
-        utf8 = both_utf8 (printed settings schema commit) (10 ∷ []) (printed_utf8 settings schema commit small c s.utf8) (IsUtf8-are_ascii (10 ∷ []) refl);
-        tree = meta_data settings commit tree;
-        parsed =
-            ap (λ (l : List ℕ). read (printed settings l commit ++ 10 ∷ [])) s.begins
-            ∙ printed_reads settings commit small c s.rest text.tree text.numbers shallow text.same
-            ∙ meta_reads settings commit text.tree tree small c text.means;
-        form = tree_is settings commit.opstamp commit.payload commit.segments tree s.names small c s.form;
-      }
+  -- where the schema nests one level less than is read
+  pub shallow_spells : (text : Spelled (91 ∷ s.rest) tree) → depth text.tree ≤ 126 → SpellsMeta (printed settings schema commit ++ 10 ∷ []) settings commit tree
+  shallow_spells text shallow = record {
+    utf8 = both_utf8 (printed settings schema commit) (10 ∷ []) (printed_utf8 settings schema commit small c s.utf8) (IsUtf8-are_ascii (10 ∷ []) refl);
+    tree = meta_data settings commit tree;
+    parsed =
+        ap (λ (l : List ℕ). read (printed settings l commit ++ 10 ∷ [])) s.begins
+        ∙ printed_reads settings commit small c s.rest text.tree text.numbers shallow text.same
+        ∙ meta_reads settings commit text.tree tree small c text.means;
+    form = tree_is settings commit.opstamp commit.payload commit.segments tree s.names small c s.form;
+  }
+
+  -- where its text is read inside an array too
+  pub printed_spells : IsSome (read (91 ∷ schema ++ 93 ∷ [])) → SpellsMeta (printed settings schema commit ++ 10 ∷ []) settings commit tree
+  printed_spells h =
+      let text : Spelled (91 ∷ s.rest) tree = schema_spelled schema tree s in
+      let inside = some_value (read (91 ∷ schema ++ 93 ∷ [])) h in
+      shallow_spells text (inside_shallow s.rest tree inside.0 text (ap (λ (l : List ℕ). read (91 ∷ l ++ 93 ∷ [])) (sym s.begins) ∙ inside.1))
 
   pub printed_means : Means settings schema (printed settings schema commit ++ 10 ∷ []) commit
-  printed_means = record { tree = tree; schema_is = s; spelled = printed_spells }
+  printed_means = record { tree = tree; schema_is = s; said = inl (record { is_commit = c; blocksize = small; printed_is = refl }) }

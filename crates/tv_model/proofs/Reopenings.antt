@@ -15,7 +15,7 @@ use Rattle.tv_model.specs.SoundStates.{IsSoundState}
 use Rattle.tv_model.proofs.Changes.{none_is}
 use Rattle.tv_model.proofs.Entries.{is_itself, is_text, text_at}
 use Rattle.tv_model.proofs.ListTexts.{listing_one}
-use Rattle.tv_model.proofs.OneMeaning.{means_one}
+use Rattle.tv_model.proofs.MeansOne.{means_one}
 use Rattle.tv_model.proofs.SoundOpenings.{opens_catalog}
 
 -- what stands at a name after the files were left, and found by what their names read

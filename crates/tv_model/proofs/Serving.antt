@@ -378,9 +378,9 @@ sealed_shown (Some (Sealed bytes)) h good =
     let is : IsGood bytes = good bytes refl in
     (bytes, is.body, refl, is.has_body, body_of_good bytes is.body is.has_body)
 
-shows_as_sealed : (s : State) → IsSoundState s → ShowsAsSealed s
+shows_as_sealed : (s : State) → IsSoundState s → ShowsAsSealed s s.catalog.commit
 shows_as_sealed s h n required = sealed_shown (file_at s n) (h.whole.each.0 n required) (λ bytes. h.good.0 n bytes required)
 
 -- bodies are shown as they were sealed
 pub serves_as_sealed : (s : State) (turns : List Turn) → IsSoundState s → AllByRecursion Fits (events_of turns) → ServesAsSealed s turns
-serves_as_sealed s turns h fits front rest e = shows_as_sealed (after s front) (sound_after s front (front_fits front rest (subst (λ (l : List Turn). AllByRecursion Fits (events_of l)) e fits)) h)
+serves_as_sealed s turns h fits front rest e = (shows_as_sealed (after s front) (sound_after s front (front_fits front rest (subst (λ (l : List Turn). AllByRecursion Fits (events_of l)) e fits)) h), tt)

@@ -48,7 +48,7 @@ first_sound = record {
   good = (λ n bytes required h. absurd cc, tt);
   live = λ n bytes required h. absurd cc;
   stamps = inl (omega arith);
-  within = tt;
+  within = (tt, tt);
   live_within = tt;
 }
 
@@ -173,7 +173,7 @@ committed_sound s payload ids whole h = record {
   good = (λ n bytes required is. h.live n bytes (required_some _ s.catalog.live n required) is, tt);
   live = h.live;
   stamps = inl (omega arith);
-  within = each_some IsWithin _ s.catalog.live h.live_within;
+  within = (each_some IsWithin _ s.catalog.live h.live_within, tt);
   live_within = h.live_within;
 }
 
@@ -328,7 +328,7 @@ reopened_sound s whole h =
       live = good;
       stamps = stamps_after s.catalog.commit.opstamp (next_after s.catalog.commit.opstamp) refl;
       within = h.within;
-      live_within = h.within;
+      live_within = h.within.0;
     }
 
 -- ---- each event

@@ -1,5 +1,5 @@
 -- What bytes spell is a commit: its numbers are in their ranges, its ids have sixteen bytes, and its segments are in order.
-use Rattle.std.proofs.Common.{◌≡◌, ℕ, zero, suc, ◌+◌, ◌*◌, ◌<◌, ◌^◌, ◌==◌, nat_lt, Bool, true, false, cond, ◌&&◌, List, [], ◌∷◌, length, take, drop, Option, Some, None, option_and_then, refl, sym, subst, arith, eqb-true, codes}
+use Rattle.std.proofs.Common.{◌≡◌, ℕ, zero, suc, ◌+◌, ◌*◌, ◌<◌, ◌^◌, ◌==◌, nat_lt, Bool, true, false, cond, ◌&&◌, List, [], ◌∷◌, length, take, drop, Option, Some, None, option_and_then, refl, sym, subst, arith, eqb-true, codes, ⊎_elim}
 use Rattle.std.specs.Prelude.{All, IfSome, IsUtf8, slice_index}
 use Rattle.std.specs.List.{AllByRecursion, list_all}
 use Rattle.std.proofs.lemmas.Bool.{and_parts, ltb-true}
@@ -17,7 +17,7 @@ use Rattle.tv_model.specs.FooterForm.{if_u32}
 use Rattle.tv_model.specs.Ids.{IsId}
 use Rattle.tv_model.specs.JsonFields.{field, if_u64, u32_of, u64_of, id_of, or_default, IsOptional}
 use Rattle.tv_model.specs.MetaJson.{IsDeleteMeta, SpellsSegment, SpellEach, AreSettingsAt, IsMetaTree, SpellsMeta}
-use Rattle.tv_model.specs.Meaning.{Means}
+use Rattle.tv_model.specs.Meaning.{IsPrinted, IsNotPrinted, Means}
 use Rattle.tv_model.specs.Segments.{delete_opstamp}
 use Rattle.tv_model.specs.Commits.{Commit, Settings, IsSegment, IsCommit, default_settings}
 
@@ -158,5 +158,8 @@ pub spells_commit : (bytes : List ℕ) (settings : Settings) (commit : Commit) (
 spells_commit bytes settings commit t h = tree_spells h.tree settings commit t h.form
 
 -- what bytes mean is a commit
-pub means_commit : (settings : Settings) (schema bytes : List ℕ) (commit : Commit) → Means settings schema bytes commit → IsCommit commit
-means_commit settings schema bytes commit h = (spells_commit bytes settings commit h.tree h.spelled).0
+pub means_commit : (settings : Settings) (schema bytes : List ℕ) (commit : Commit) → Means settings schema bytes commit
+    → IsCommit commit × (settings.blocksize < 2 ^ 64)
+means_commit settings schema bytes commit h =
+    ⊎_elim (λ (p : IsPrinted settings schema bytes commit). (p.is_commit, p.blocksize))
+    (λ (s : IsNotPrinted schema bytes × SpellsMeta bytes settings commit h.tree). spells_commit bytes settings commit h.tree s.1) h.said

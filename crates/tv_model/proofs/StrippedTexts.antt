@@ -1,6 +1,6 @@
 -- A text without blanks that is read as an array begins with a bracket.
-use Rattle.std.proofs.Common.{◌≡◌, ℕ, Bool, true, false, cond, ◌&&◌, ◌==◌, List, [], ◌∷◌, ◌++◌, Option, Some, None, option_map, refl, sym, ap, ◌∙◌, subst, true≢false, eqb-true, if◌then◌else◌}
-use Rattle.std.specs.Prelude.{nat_eq, length, drop, IsSome, IsUtf8}
+use Rattle.std.proofs.Common.{◌≡◌, ℕ, Bool, true, false, cond, ◌&&◌, ◌==◌, List, [], ◌∷◌, Option, Some, None, option_map, refl, sym, ap, ◌∙◌, subst, true≢false, eqb-true, if◌then◌else◌}
+use Rattle.std.specs.Prelude.{nat_eq, length, drop, IsUtf8}
 use Rattle.std.specs.List.{starts_with}
 use Rattle.json.specs.Token.{Token, begin_object, end_object, begin_array, end_array, key, string, number, boolean, null, bad}
 use Rattle.json.specs.Ascii as ascii
@@ -135,10 +135,10 @@ no_blank_first [] x xs e = cc
 no_blank_first (b ∷ bytes) x xs e =
     by_blank b (stripped bytes) (if b == 34 then stripped_inside bytes else stripped bytes) x xs (is_blank b) refl (no_blank_first bytes x xs) e
 
--- a text without blanks that has a schema's tree, and is read inside an array too, is a schema's
+-- a text without blanks that has a schema's tree is a schema's
 pub stripped_schema : (bytes : List ℕ) (tree : Data) (names : List (List ℕ)) → IsUtf8 (stripped bytes) → read (stripped bytes) ≡ Some tree
-    → IsSome (read (91 ∷ stripped bytes ++ 93 ∷ [])) → IsSchemaTree tree names → IsSchemaText (stripped bytes) tree
-stripped_schema bytes tree names u is inside form =
+    → IsSchemaTree tree names → IsSchemaText (stripped bytes) tree
+stripped_schema bytes tree names u is form =
     let array : read (stripped bytes) ≡ Some (trees.array form.items) = is ∙ ap Some form.is_array in
     let begins = begins_so (stripped bytes) (no_blank_first bytes) (opened (stripped bytes) form.items array) in
-    record { utf8 = u; rest = begins.0; begins = begins.1; parsed = is; inside = inside; names = names; form = form }
+    record { utf8 = u; rest = begins.0; begins = begins.1; parsed = is; names = names; form = form }

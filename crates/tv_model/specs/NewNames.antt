@@ -7,12 +7,19 @@ use Rattle.tv_model.specs.Segments.{delete_opstamp}
 use Rattle.tv_model.specs.Collections.{held}
 use Rattle.tv_model.specs.CommitEvents.{last_stamp}
 use Rattle.tv_model.specs.DeleteEvents.{delete_name}
-use Rattle.tv_model.specs.Living.{living}
+use Rattle.tv_model.specs.Commits.{Commit}
+use Rattle.tv_model.specs.Living.{current_and_pinned, living}
 use Rattle.tv_model.specs.State.{Catalog, State, at, file_at}
 
--- The numbers of deletes were drawn: those of the commit's segments are at most that of the commit, and those of live ones are below the next one, as long as there is one.
+-- the numbers of deletes of a commit's segments are at most that of the commit
+abbrev pub DrawsBefore : Commit → Type 0
+DrawsBefore commit =
+    AllByRecursion (λ e. delete_opstamp e.1.deletes ≤ commit.opstamp) commit.segments
+
+-- The numbers of deletes were drawn in order: those of the segments of the current commit and of each pinned
+-- one are at most that of their commit, and those of live ones are below the next one, as long as there is one.
 pub record DrawsInOrder (c : Catalog) : Type 0 where
-  pub committed : AllByRecursion (λ e. delete_opstamp e.1.deletes ≤ c.commit.opstamp) c.commit.segments
+  pub committed : AllByRecursion DrawsBefore (current_and_pinned c)
   pub live : c.next ≢ last_stamp → AllByRecursion (λ e. delete_opstamp e.1.deletes < c.next) c.live
   pub next : c.next ≤ last_stamp
 

@@ -14,7 +14,8 @@ found_file Left (Some bytes) = Sealed bytes
 abbrev pub found_in : Reads → State → State
 found_in reads s = record s { files = map (λ e. (e.0, found_file e.1 (reads e.0))) s.files }
 
--- Two states are one, but for how their files are listed.
+-- Two states have the same catalog, managed names and collections, and at each name the same file; how their
+-- files are listed may differ.
 pub record AreAlike (s t : State) : Type 0 where
   pub catalog : s.catalog ≡ t.catalog
   pub files : (n : List ℕ) → file_at s n ≡ file_at t n

@@ -1,5 +1,5 @@
 -- The schema of an index: a JSON array with an object for each field.
-use Rattle.std.specs.Prelude.{ℕ, zero, suc, ◌≡◌, ◌≤◌, ◌==◌, ◌||◌, ◌&&◌, List, [], ◌∷◌, ◌++◌, length, codes, Bool, true, false, if◌then◌else◌, Some, IsSome, is_some, IsUtf8}
+use Rattle.std.specs.Prelude.{ℕ, zero, suc, ◌≡◌, ◌≤◌, ◌==◌, ◌||◌, ◌&&◌, List, [], ◌∷◌, length, codes, Bool, true, false, if◌then◌else◌, Some, IsSome, is_some, IsUtf8}
 use Rattle.serde_json.specs.Data.{Data, Num, null, boolean, number, string, array, object, Items, no_items, item, Members, no_members, member}
 use Rattle.serde_json.specs.Find.{as_u64, as_i64, as_str}
 use Rattle.serde_json.specs.Read.{read}
@@ -63,14 +63,12 @@ pub record IsSchemaTree (tree : Data) (names : List (List ℕ)) : Type 0 where
   pub fields : AreFields items names
   pub distinct : are_distinct names ≡ true
 
--- The text has such a tree, and can stand inside another JSON text as it is: it begins with its bracket, and inside an array it is read too. (A text that nests deeper
--- than JSON is read, in a member that a later one of the same key replaces, can't.)
+-- the text is read as the tree of a schema, and begins with the bracket of its array
 pub record IsSchemaText (text : List ℕ) (tree : Data) : Type 0 where
   pub utf8 : IsUtf8 text
   pub rest : List ℕ
   pub begins : text ≡ 91 ∷ rest
   pub parsed : read text ≡ Some tree
-  pub inside : IsSome (read (91 ∷ text ++ 93 ∷ []))
   pub names : List (List ℕ)
   pub form : IsSchemaTree tree names
 

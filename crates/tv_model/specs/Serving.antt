@@ -1,10 +1,12 @@
 -- What a run's readers and searchers show.
 use Rattle.std.specs.Prelude.{ℕ, ◌≡◌, ◌≢◌, ◌≤◌, Bool, List, [], ◌∷◌, ◌++◌, Some, true}
+use Rattle.std.specs.List.{AllByRecursion}
 use Rattle.tv_model.specs.declared.event.Event.TheVariants as events
 use Rattle.tv_model.specs.Names.{has}
 use Rattle.tv_model.specs.Segments.{all_required}
 use Rattle.tv_model.specs.Footer.{HasBody}
-use Rattle.tv_model.specs.Living.{is_busy}
+use Rattle.tv_model.specs.Commits.{Commit}
+use Rattle.tv_model.specs.Living.{is_busy, kept_commits}
 use Rattle.tv_model.specs.State.{State, Sealed, Snapshot, Reader, file_at, reader_at, searcher_at, no_readers}
 use Rattle.tv_model.specs.ReaderEvents.{bodies_in, body_in}
 use Rattle.tv_model.specs.Machine.{Turn, NeverReopens, after}
@@ -16,7 +18,8 @@ IsBusyAfterEach s turns = (front rest : List Turn) → turns ≡ front ++ rest �
     → is_busy (after s front).catalog ≡ true
 
 -- A snapshot shows the commit of a state that the run came to, with the bodies that its files had in that
--- state, or in a later one up to which the meta lock was held for it.
+-- state, or in a later one: then the meta lock was held for some reload after each turn from the one state up
+-- to the other.
 pub record Shows (s : State) (turns : List Turn) (shown : Snapshot) : Type 0 where
   -- the turns up to the state whose commit it shows, those from there to the state in which the files were
   -- read, and those after it
@@ -28,9 +31,9 @@ pub record Shows (s : State) (turns : List Turn) (shown : Snapshot) : Type 0 whe
   pub bodies : shown.bodies ≡ bodies_in (after s (noting ++ reading)) shown.commit
   pub locked : IsBusyAfterEach (after s noting) reading
 
--- each file that the current commit requires is sealed, and what is shown of it is the body before its footer, with which it was sealed where the run did so
-abbrev pub ShowsAsSealed : State → Type 0
-ShowsAsSealed s = (n : List ℕ) → has (all_required s.catalog.commit.segments) n ≡ true
+-- each file that a commit requires is sealed, and what is shown of it is the body before its footer
+abbrev pub ShowsAsSealed : State → Commit → Type 0
+ShowsAsSealed s commit = (n : List ℕ) → has (all_required commit.segments) n ≡ true
     → (bytes : List ℕ) × (body : List ℕ) × (file_at s n ≡ Some (Sealed bytes)) × HasBody bytes body × (body_in (file_at s n) ≡ body)
 
 -- a state as it is when an index was just opened: nobody reads, and the next commit gets the number after the current one
@@ -58,8 +61,8 @@ pub record Serves (s : State) (turns : List Turn) : Type 0 where
       → reader_at (after s front).catalog n ≡ Some reader
       → searcher_at (after s (front ++ (events.Searcher n, outcomes) ∷ [])).catalog (after s front).catalog.reading.next_searcher ≡ Some reader.shown
 
--- In each state of a run, whose commit readers may come to show, what is shown of a file is the body before
--- its footer.
+-- In each state of a run each file that a kept commit requires is sealed, and what is shown of it is the body
+-- before its footer.
 abbrev pub ServesAsSealed : State → List Turn → Type 0
 ServesAsSealed s turns = (front rest : List Turn) → turns ≡ front ++ rest
-    → ShowsAsSealed (after s front)
+    → AllByRecursion (ShowsAsSealed (after s front)) (kept_commits (after s front).catalog)

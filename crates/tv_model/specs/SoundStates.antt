@@ -29,13 +29,13 @@ pub record CollectsSoundly (s : State) : Type 0 where
   pub ordered : Rises s.collections.unfinished
   pub sorted : IsStrictlySortedBy byte_cmp s.managed
 
--- the files that the commit requires are sealed
+-- the files that a commit requires are sealed
 abbrev pub HasSealedFiles : State → Commit → Type 0
 HasSealedFiles s commit = (n : List ℕ) → has (all_required commit.segments) n ≡ true
     → is_sealed (file_at s n) ≡ true
 
--- The files that the kept commits require are sealed, and unfinished collections are sound, so that none of
--- them takes one of these files.
+-- The files that the kept commits require are sealed, and what holds of unfinished collections from a sound
+-- start on (`CollectsSoundly`) does so.
 pub record IsWhole (s : State) : Type 0 where
   -- the files of each kept commit are sealed
   pub each : AllByRecursion (HasSealedFiles s) (kept_commits s.catalog)
@@ -67,6 +67,6 @@ pub record IsSoundState (s : State) : Type 0 where
   pub live : AreGood s s.catalog.live
   -- the next commit gets a higher number than the current one has, or both numbers are the end of 64 bits
   pub stamps : (s.catalog.commit.opstamp < s.catalog.next) ⊎ ((s.catalog.commit.opstamp ≡ last_stamp) × (s.catalog.next ≡ last_stamp))
-  -- no segment has more deleted documents than documents
-  pub within : AreWithin s.catalog.commit.segments
+  -- no segment of a kept commit, and no live one, has more deleted documents than documents
+  pub within : AllByRecursion (λ commit. AreWithin commit.segments) (kept_commits s.catalog)
   pub live_within : AreWithin s.catalog.live

@@ -23,7 +23,7 @@ ghost use Rattle.tv_model.specs.Index.{DirectoryHolds, IsSoundImage, OpensTo, fi
 ghost use Rattle.tv_model.specs.Listing.{IsListOf, IsManagedName, list_text};
 ghost use Rattle.tv_model.specs.Living.{is_busy};
 ghost use Rattle.tv_model.specs.Machine.{Turn, events_of, step};
-ghost use Rattle.tv_model.specs.Meaning.{Means};
+ghost use Rattle.tv_model.specs.Meaning.{Means, MeansNothing, MeansOther};
 ghost use Rattle.tv_model.specs.MetaJson.{SpellsMeta};
 ghost use Rattle.tv_model.specs.Names.{byte_cmp};
 ghost use Rattle.tv_model.specs.NewNames.{DrawsInOrder, IsNewDelete};
@@ -43,8 +43,8 @@ use crate::id::SegmentId;
 
 /// In each run of an index that was just opened, a searcher shows one commit of the run for life,
 /// and a reader never shows an older commit than it showed before; both end where the index is opened
-/// again. From a sound state on, what is shown of a file is the body before its footer: that with
-/// which it was sealed, where the run sealed it.
+/// again. In each run of a script from a sound state, each file that a kept commit requires is
+/// sealed, and what is shown of it is the body before its footer.
 pub fn searchers_keep_their_commit()
     ensures serves { (s : State) (turns : List Turn) → IsJustOpened s → Serves s turns }
     ensures as_sealed { (s : State) (turns : List Turn) → IsSoundState s
@@ -57,11 +57,11 @@ pub fn empty_directories_are_sound()
         → IsSoundImage schema reads }
 {}
 
-/// A sound start opens to a state, and to sound states alone. Each event of a script leaves a sound
-/// state sound. The files that the kept commits of such a state require can be read. A directory
-/// that holds such a state opens to what a reopening leaves of it, but that a file which was left
-/// has the bytes that its name reads. What reads opens to one state at most, but for how its files
-/// are listed.
+/// A directory that reads soundly opens to a state, and to sound states alone. Each event of a script
+/// leaves a sound state sound. The files that the kept commits of such a state require can be read. A
+/// directory that holds such a state opens to what a reopening leaves of it, but that a file which
+/// was left has the bytes that its name reads. States to which one directory opens under one schema
+/// have one catalog, the same managed names and collections, and the same file at each name.
 pub fn sound_starts_open_to_sound_states()
     ensures exists { (schema : List ℕ) (reads : Reads) → IsSoundImage schema reads
         → (settings : Settings) × (s : State) × OpensTo settings schema reads s }
@@ -77,16 +77,17 @@ pub fn sound_starts_open_to_sound_states()
         → OpensTo settings schema reads s → OpensTo others schema reads t → AreAlike s t }
 {}
 
-/// Where the meta lock is free, a collection at once takes exactly the managed names that nothing
-/// needs and no other collection holds, and tells each of them as done or as failed. What is done
-/// has no file and is managed no more; all else stays. So does each collection of a run. From a
-/// sound state on, one in steps that begins where that lock is free takes the same names, and is
-/// unfinished and has these names until its end or a reopening. Its step tells the name that it
-/// tries, and changes no other file; its end takes those names out of the managed ones that are
+/// Where the meta lock is free and the managed names stand in their order, a collection at once takes
+/// exactly the managed names that nothing needs and no other collection holds, and tells each of them
+/// as done or as failed. What is done has no file and is managed no more; all else stays. So does
+/// each one at once of a run that begins with such names, where the lock is free then. In each run of
+/// a script from a sound state, one in steps that begins where that lock is free takes the same names,
+/// and is unfinished and has these names until its end or a reopening. Its step tells the name that
+/// it tries, and changes no other file; its end takes those names out of the managed ones that are
 /// done. Its events change neither the catalog nor another collection, and no other event but a
-/// reopening changes it. One at once does to the files, the managed names and the catalog what one
-/// in steps does with the same outcomes. From a sound state where that lock is free, one at once of
-/// which no delete is refused leaves exactly the files that are needed or held.
+/// reopening changes it. Where that lock is free, one at once does to the files, the managed names and
+/// the catalog what one in steps does with the same outcomes. From a sound state where that lock is
+/// free, one at once of which no delete is refused leaves exactly the files that are needed or held.
 pub fn collections_take_what_nothing_needs()
     ensures collects { (s : State) (outcomes : List Bool)
         → IsStrictlySortedBy byte_cmp s.managed → is_busy s.catalog ≡ false
@@ -95,18 +96,21 @@ pub fn collections_take_what_nothing_needs()
         → IsStrictlySortedBy byte_cmp s.managed → CollectsIn s turns }
     ensures in_steps { (s : State) (turns : List Turn) → IsSoundState s
         → AllByRecursion Fits (events_of turns) → CollectsInStepsIn s turns }
-    ensures at_once { (s : State) (outcomes : List Bool) → IsAtOnce s outcomes }
+    ensures at_once { (s : State) (outcomes : List Bool) → is_busy s.catalog ≡ false
+        → IsAtOnce s outcomes }
     ensures all_else { (s : State) → IsSoundState s → CollectsAllElse s }
 {}
 
-/// The line of a collection tells which names were done and which failed, since no plain name has a
-/// space or is the word `failed`. The line of one of its steps tells which of both its name was.
+/// The line of a collection of plain names tells which of them were done and which failed: no plain
+/// name has a space or is the word `failed`. The line of one of its steps tells which of both its name
+/// was.
 pub fn lines_tell_outcomes()
     ensures tells { (names : List (List ℕ)) → are_plain names ≡ true → Tells names }
     ensures step { (s : State) (c : Collection) → TellsStep s c }
 {}
 
-/// What a run tells, together with its events, determines the state that it comes to.
+/// From a state whose managed names are plain, what a run of a script tells determines, together with
+/// its events, the state that it comes to.
 pub fn reports_determine_runs()
     ensures determined { (s : State) → are_plain s.managed ≡ true → Determined s }
 {}
@@ -118,8 +122,8 @@ pub fn validations_name_damaged_files()
 {}
 
 /// The files of different segments have different names. Without deletes a delete file has the name
-/// of the one with the number 0. From a sound state an event of deletes that isn't refused, as it
-/// changes the state, gives its segment a new name for its delete file.
+/// of the one with the number 0. Where an event of deletes changes a sound state, the name that the
+/// segment's delete file has with the next number is new.
 /// Numbers of deletes are drawn in order in an index that was just made, and from a sound state
 /// each event leaves them so.
 pub fn names_tell_their_segment()
@@ -157,12 +161,41 @@ pub fn files_keep_their_body()
         → IsFramed bytes footer (body_of bytes) }
 {}
 
-/// What `meta.json` says. The printed form of a commit, with a line feed, means this commit. Bytes
-/// spell one commit at most, under one settings and with one schema, and what they spell is a commit.
+/// What `meta.json` means where a schema is expected. The printed form of a commit, with a line feed,
+/// means this commit, and so does what spells it as JSON with the schema's tree. Bytes mean one commit
+/// at most, under one settings, and what they mean is a commit; then they don't mean nothing, nor a
+/// commit of another schema.
 pub fn meta_json_keeps_commits()
     ensures printed { (settings : Settings) (schema : List ℕ) (tree : Data) (commit : Commit)
         → IsCommit commit → settings.blocksize < 2 ^ 64 → IsSchemaText schema tree
         → Means settings schema (printed settings schema commit ++ 10 ∷ []) commit }
+    ensures spelled { (settings : Settings) (schema bytes : List ℕ) (tree : Data) (commit : Commit)
+        → IsSchemaText schema tree → SpellsMeta bytes settings commit tree
+        → Means settings schema bytes commit }
+    ensures one { (schema bytes : List ℕ) (first second : Settings) (commit other : Commit)
+        → Means first schema bytes commit → Means second schema bytes other
+        → (first ≡ second) × (commit ≡ other) }
+    ensures is_commit { (settings : Settings) (schema bytes : List ℕ) (commit : Commit)
+        → Means settings schema bytes commit
+        → IsCommit commit × (settings.blocksize < 2 ^ 64) }
+    ensures something { (settings : Settings) (schema bytes : List ℕ) (commit : Commit)
+        → Means settings schema bytes commit → MeansNothing (Some schema) bytes → ⊥ }
+    ensures no_other { (settings : Settings) (schema bytes : List ℕ) (commit : Commit)
+        → Means settings schema bytes commit → MeansOther schema bytes → ⊥ }
+{}
+
+/// What bytes spell as JSON, whatever schema is expected. They spell one commit at most, under one
+/// settings and with one schema, and what they spell is a commit. Bytes that mean a commit and are read
+/// as JSON spell it; and the printed form of a commit, with a line feed, is read, where the text of its
+/// schema is read inside an array too.
+pub fn json_spells_one_commit()
+    ensures printed { (settings : Settings) (schema : List ℕ) (tree : Data) (commit : Commit)
+        → IsCommit commit → settings.blocksize < 2 ^ 64 → IsSchemaText schema tree
+        → IsSome (read (91 ∷ schema ++ 93 ∷ []))
+        → SpellsMeta (printed settings schema commit ++ 10 ∷ []) settings commit tree }
+    ensures spelled { (settings : Settings) (schema bytes : List ℕ) (commit : Commit)
+        → Means settings schema bytes commit → IsSome (read bytes)
+        → (tree : Data) × IsSchemaText schema tree × SpellsMeta bytes settings commit tree }
     ensures one { (bytes : List ℕ) (first second : Settings) (commit other : Commit)
         (tree schema : Data) → SpellsMeta bytes first commit tree
         → SpellsMeta bytes second other schema
@@ -172,12 +205,11 @@ pub fn meta_json_keeps_commits()
         → IsCommit commit × (settings.blocksize < 2 ^ 64) }
 {}
 
-/// A text without blanks that has the tree of a schema, and that is read inside an array too, is the
-/// text of a schema: it begins with its bracket.
+/// A text without blanks that has the tree of a schema is the text of a schema: it begins with its
+/// bracket.
 pub fn stripped_schemas_are_texts()
     ensures texts { (bytes : List ℕ) (tree : Data) (names : List (List ℕ))
-        → IsUtf8 (stripped bytes) → read (stripped bytes) ≡ Some tree
-        → IsSome (read (91 ∷ stripped bytes ++ 93 ∷ [])) → IsSchemaTree tree names
+        → IsUtf8 (stripped bytes) → read (stripped bytes) ≡ Some tree → IsSchemaTree tree names
         → IsSchemaText (stripped bytes) tree }
 {}
 

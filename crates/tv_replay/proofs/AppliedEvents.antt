@@ -49,18 +49,17 @@ use Rattle.tv_store.specs.Opening.{Opens}
 use Rattle.tv_store.specs.Telling.{AreBetween, TellsLine, TellsLines}
 use Rattle.tv_replay.specs.ScriptLines.{pending, TakesNextEvent, IsNoEvent, IsTooLong}
 use Rattle.tv_store.specs.ReaderNumbers.{FewNumbers}
-use Rattle.serde_json.specs.Data.{Data}
 use Rattle.tv_index.specs.Opening.{NotesMade}
 use Rattle.tv_index.specs.Standing.{MetaCause, OfRead}
 use Rattle.tv_model.specs.Meaning.{Means, MeansNothing, MeansOther}
-use Rattle.tv_model.proofs.OneMeaning.{one_meaning}
+use Rattle.tv_model.proofs.MeansOne.{means_no_other, means_something}
 use Rattle.tv_store.specs.ReadCauses.{ReadFault, LoadingCause, TakesMetaLock}
 use Rattle.tv_managed.specs.Collecting.{meta_lock_name}
 use Rattle.tv_replay.specs.ScriptCauses.{IsRefused, ScriptCause}
 use Rattle.tv_store.specs.StoreCauses.{WriteFault, IsRefusal}
 use Rattle.tv_replay.specs.Replays.{Replays, ReplayCause, StopsAtLine, LineRefusal, IsTooMany, TakesNoLock, line_refusal, long_refusal}
 use Rattle.tv_store.specs.Applying.{Stepped, written_by}
-use Rattle.tv_store.specs.Exhausted.{IsExhausted, PassesEnd, collection_after, length_after, number_after}
+use Rattle.tv_store.specs.Exhausted.{IsExhausted, PassesEnd, SomePassesEnd, after_each, length_after, numbers_after}
 use Rattle.tv_replay.specs.AppliedEvents.{Applies, Runs, RunFaults, Causes, RunCause, run_causes, FailsRun, EndCause, IsErrorOf}
 use Rattle.tv_replay.proofs.LineLemmas.{pending_some}
 use Rattle.tv_replay.proofs.Progress.{after-last, answers-last, events-last, readable-last, refused-last, AreLines-length, ReadSoFar, HasRead, nothing_read, one_more_read, all_read}
@@ -129,24 +128,22 @@ then_there : {A B : Type 0} (f : A → Option B) (o : Option A) (b : B) → opti
 then_there f None b e = absurd cc
 then_there f (Some x) b e = (x, e)
 
-few_numbers : (kept : Kept) (event : Event) (bound : ℕ) → bound + 1 < 2 ^ 64 → FewNumbers bound kept.catalog.reading kept.collections → PassesEnd (number_after kept.catalog event) → ⊥
-few_numbers kept (events.Reader policy) bound few numbers (n, is, much) =
-    let same : kept.catalog.reading.next_reader + 1 ≡ n = cc in omega (arith, numbers.next_reader, same)
-few_numbers kept (events.Searcher number) bound few numbers (n, is, much) =
-    let same : kept.catalog.reading.next_searcher + 1 ≡ n = cc in omega (arith, numbers.next_searcher, same)
-few_numbers kept (events.Reload number) bound few numbers (n, is, much) =
-    let found = mapped (λ (r : Reader). r.next + 1) (reader_at kept.catalog number) n is in
-    let small : found.0.next ≤ bound = all_there (λ (r : Reader). r.next ≤ bound) (is_at (nat_cmp number)) kept.catalog.reading.readers found.0 numbers.next_snapshots found.1 in
-    let same : found.0.next + 1 ≡ n = found.2 in
-    omega (arith, small, same, much)
-few_numbers kept other bound few numbers (n, is, much) = absurd cc
+few_each : {X : Type 0} (number : X → ℕ) (found : Option X) (bound : ℕ) → bound + 1 < 2 ^ 64 → ((x : X) → found ≡ Some x → number x ≤ bound) → SomePassesEnd (after_each number found) → ⊥
+few_each number None bound few small h = h
+few_each number (Some x) bound few small (inl much) = let le = small x refl in omega (arith, le, few, much)
+few_each number (Some x) bound few small (inr none) = none
 
-few_collections : (kept : Kept) (event : Event) (bound : ℕ) → bound + 1 < 2 ^ 64 → FewNumbers bound kept.catalog.reading kept.collections → PassesEnd (collection_after kept.collections event) → ⊥
-few_collections kept events.Gc bound few numbers (n, is, much) =
-    let same : kept.collections.next + 1 ≡ n = cc in omega (arith, numbers.next_collection, same)
-few_collections kept events.GcBegin bound few numbers (n, is, much) =
-    let same : kept.collections.next + 1 ≡ n = cc in omega (arith, numbers.next_collection, same)
-few_collections kept other bound few numbers (n, is, much) = absurd cc
+few_numbers : (kept : Kept) (event : Event) (bound : ℕ) → bound + 1 < 2 ^ 64 → FewNumbers bound kept.catalog.reading kept.collections → SomePassesEnd (numbers_after kept event) → ⊥
+few_numbers kept (events.Reader policy) bound few numbers (inl much) = omega (arith, numbers.next_reader, few, much)
+few_numbers kept (events.Reader policy) bound few numbers (inr none) = none
+few_numbers kept (events.Searcher number) bound few numbers spent = few_each (λ (r : Reader). kept.catalog.reading.next_searcher) (reader_at kept.catalog number) bound few (λ r there. numbers.next_searcher) spent
+few_numbers kept (events.Reload number) bound few numbers spent =
+    few_each (λ (r : Reader). r.next) (reader_at kept.catalog number) bound few (λ r there. all_there (λ (r : Reader). r.next ≤ bound) (is_at (nat_cmp number)) kept.catalog.reading.readers r numbers.next_snapshots there) spent
+few_numbers kept events.Gc bound few numbers (inl much) = omega (arith, numbers.next_collection, few, much)
+few_numbers kept events.Gc bound few numbers (inr none) = none
+few_numbers kept events.GcBegin bound few numbers (inl much) = omega (arith, numbers.next_collection, few, much)
+few_numbers kept events.GcBegin bound few numbers (inr none) = none
+few_numbers kept other bound few numbers spent = absurd spent
 
 short_files : (kept : Kept) (event : Event) (bound more : ℕ) → bound + more < 2 ^ 64 → written_by event ≤ more → AtMost bound kept → PassesEnd (length_after kept event) → ⊥
 short_files kept (events.Write id component bytes) bound more few small all (n, is, much) =
@@ -160,8 +157,7 @@ short_files kept other bound more few small all (n, is, much) = absurd cc
 -- files stay far shorter than 64 bits of bytes, and numbers far below
 pub never_spent : (kept : Kept) (event : Event) (count : ℕ) → count < 2 ^ 32 → written_by event ≤ line_limit → AtMost (count * line_limit) kept → FewNumbers (count * line_limit) kept.catalog.reading kept.collections → IsExhausted kept event → ⊥
 never_spent kept event count few small all numbers (inl spent) = few_numbers kept event (count * line_limit) (omega arith) numbers spent
-never_spent kept event count few small all numbers (inr (inl spent)) = few_collections kept event (count * line_limit) (omega arith) numbers spent
-never_spent kept event count few small all numbers (inr (inr spent)) = short_files kept event (count * line_limit) line_limit (omega arith) small all spent
+never_spent kept event count few small all numbers (inr spent) = short_files kept event (count * line_limit) line_limit (omega arith) small all spent
 
 -- ---- how far a run has come
 
@@ -206,22 +202,22 @@ FreeAt g old now e = g.told.locks → (g.view old.outside).locks meta_lock_name 
 one_more_applied : {O W C : Type 0} (g : Ghosts O W C) (old now new : StoreState O) (turns : List Turn) (e : Event) (answer : List ℕ)
     → Applies g old now turns → Fits e → new.kept.form ≡ now.kept.form → FreeAt g old now e → (stepped : Stepped g now new e answer)
     → (g.told.heard → TellsLine (g.view now.outside).heard (g.view new.outside).heard (g.view now.outside).moment (g.view new.outside).moment answer)
-    → Applies g old new (turns ++ (e, stepped.0) ∷ [])
+    → Applies g old new (turns ++ (e, stepped.outcomes) ∷ [])
 one_more_applied g old now new turns e answer a fits form free stepped said =
-    let t : Turn = (e, stepped.0) in
+    let t : Turn = (e, stepped.outcomes) in
     record {
       fits = subst (λ (es : List Event). AllByRecursion Fits es) (sym (events-last turns t)) (fits-last (events_of turns) e a.fits fits);
       form = form ∙ a.form;
-      holds = λ tell s h w. subst (Holds (g.view new.outside).reads new.kept) (sym (after-last s turns t)) (stepped.2 tell (after s turns) (a.holds tell s h w) (after_whole s turns w)).1;
+      holds = λ tell s h w. subst (Holds (g.view new.outside).reads new.kept) (sym (after-last s turns t)) (stepped.each tell (after s turns) (a.holds tell s h w) (after_whole s turns w)).held;
       told = λ tell th s h w.
           let more = tells_then (a.told tell th s h w) (tells_one (said th)) in
-          let is : answer ≡ (step (after s turns) e stepped.0).0 = (stepped.2 tell (after s turns) (a.holds tell s h w) (after_whole s turns w)).0 in
+          let is : answer ≡ (step (after s turns) e stepped.outcomes).0 = (stepped.each tell (after s turns) (a.holds tell s h w) (after_whole s turns w)).told in
           subst (TellsLines (g.view old.outside).heard (g.view new.outside).heard (g.view old.outside).moment (g.view new.outside).moment) (ap (λ (line : List ℕ). answers s turns ++ line ∷ []) is ∙ sym (answers-last s turns t)) more;
-      readable = λ tell s h w. readable-last s turns t (a.readable tell s h w) (stepped.2 tell (after s turns) (a.holds tell s h w) (after_whole s turns w)).2;
+      readable = λ tell s h w. readable-last s turns t (a.readable tell s h w) (stepped.each tell (after s turns) (a.holds tell s h w) (after_whole s turns w)).readable;
       unlocked = λ tell locks held s h w.
           unlocked_last s turns t (a.unlocked tell locks held s h w) (λ takes. free locks held (subst (λ (c : Catalog). TakesMetaLock c e) (sym (a.holds tell s h w).catalog) takes));
       refused = subst (λ (n : ℕ). RoseBy n (g.view old.outside).refusals (g.view new.outside).refusals) (sym (refused-last turns t))
-          (rose_more (all_refused turns) (refused_in stepped.0) (g.view old.outside).refusals (g.view now.outside).refusals (g.view new.outside).refusals a.refused stepped.1);
+          (rose_more (all_refused turns) (refused_in stepped.outcomes) (g.view old.outside).refusals (g.view now.outside).refusals (g.view new.outside).refusals a.refused stepped.refused);
     }
 
 pub goes_on : {O W C : Type 0} (g : Ghosts O W C) (old now new : StoreState O) (text left later : Option (List ℕ)) (count : ℕ) (e : Event) (answer : List ℕ)
@@ -229,7 +225,7 @@ pub goes_on : {O W C : Type 0} (g : Ghosts O W C) (old now new : StoreState O) (
     → (g.told.heard → TellsLine (g.view now.outside).heard (g.view new.outside).heard (g.view now.outside).moment (g.view new.outside).moment answer)
     → Progress g old new text later (count + 1)
 goes_on g old now new text left later count e answer p takes fits form free stepped said =
-    let t : Turn = (e, stepped.0) in
+    let t : Turn = (e, stepped.outcomes) in
     record {
       turns = p.turns ++ t ∷ [];
       counted = ap (λ (n : ℕ). n + 1) p.counted ∙ sym (length-append p.turns (t ∷ []));
@@ -303,12 +299,13 @@ module _ (tells : Type 0) (reads : Reads) (kept : Kept) where
       never text.0 s text.2 (subst says same said)
 
   -- isn't refused
-  pub meta_stands : OfRead tells (reads meta_name) MeansNothing ⊎ OfRead tells (reads meta_name) (MeansOther kept.form.schema) → tells → (s : State) → Holds reads kept s → ⊥
-  meta_stands (inl h) = stands MeansNothing (λ text s means none. none kept.form.settings s.catalog.commit means.tree means.spelled) h
+  pub meta_stands : OfRead tells (reads meta_name) (MeansNothing (Some kept.form.schema)) ⊎ OfRead tells (reads meta_name) (MeansOther kept.form.schema) → tells → (s : State) → Holds reads kept s → ⊥
+  meta_stands (inl h) =
+      stands (MeansNothing (Some kept.form.schema)) (λ text s means none.
+      means_something kept.form.settings kept.form.schema text s.catalog.commit means none) h
   meta_stands (inr h) =
       stands (MeansOther kept.form.schema) (λ text s means other.
-      let one = one_meaning text kept.form.settings other.settings s.catalog.commit other.commit means.tree other.tree means.spelled other.spelled in
-      other.other (means.schema_is.parsed ∙ ap (λ (d : Data). Some d) one.2)) h
+      means_no_other kept.form.settings kept.form.schema text s.catalog.commit means other) h
 
 -- ---- causes
 
@@ -332,7 +329,7 @@ module _ (c : Causes) where
   -- an event's
   pub event_cause : {busy refused quiet spent : Type 0} (given tells : Type 0) (schema : List ℕ) (stands : Option (List ℕ)) (bad : OpenReadError → Type 0) (absent : List ℕ → Type 0) (error : TantivyError)
       → LoadingCause busy refused quiet spent (λ e. given × MetaCause tells (Some schema) stands refused quiet e) bad absent error → (busy → c.busy) → (refused → c.refused) → (quiet → c.quiet) → (spent → ⊥)
-      → (OfRead tells stands MeansNothing ⊎ OfRead tells stands (MeansOther schema) → c.unread) → RunCause c error
+      → (OfRead tells stands (MeansNothing (Some schema)) ⊎ OfRead tells stands (MeansOther schema) → c.unread) → RunCause c error
   event_cause given tells schema stands bad absent (errors.IoError fault) h y f q never u = (h.0, f h.1)
   event_cause given tells schema stands bad absent (errors.OpenWriteError error) h y f q never u = write_fault error f h
   event_cause given tells schema stands bad absent (errors.OpenReadError error) h y f q never u = read_fault {bad = bad} {worse = λ e. Unit {0}} {absent = absent} {gone = λ path. Unit {0}} error f q (λ e b. tt) (λ path a. tt) h

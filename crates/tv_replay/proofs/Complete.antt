@@ -20,13 +20,11 @@ use Rattle.tv_model.specs.Names.{has, meta_name}
 use Rattle.tv_model.specs.Segments.{all_required}
 use Rattle.tv_model.specs.SoundStates.{IsSoundState}
 use Rattle.tv_model.proofs.Entries.{is_itself}
-use Rattle.tv_model.proofs.OneMeaning.{means_one, one_meaning}
+use Rattle.tv_model.proofs.MeansOne.{means_no_other, means_one, means_something}
 use Rattle.tv_model.proofs.OpenedStates.{opens_sound}
 use Rattle.tv_model.proofs.SoundOpenings.{sound_index}
 use Rattle.tv_model.proofs.SoundStates.{sound_reads}
 use Rattle.tv_model.specs.Files.{Reads}
-use Rattle.serde_json.specs.Data.{Data}
-use Rattle.serde_json.specs.Read as json
 use Rattle.tv_base.specs.declared.error.DataCorruption.{DataCorruption}
 use Rattle.tv_model.specs.Commits.{Commit, Settings}
 use Rattle.tv_model.specs.Meaning.{Means, MeansOther, MeansNothing}
@@ -135,20 +133,20 @@ module _ (schema form : List ℕ) (reads : Reads) (spelled : IsSchema schema for
   no_missing_file : (path : List ℕ) → IndexMissing schema reads path → ⊥
   no_missing_file path (index, met) = let good = there_good index path met.0 in no_text met.1 good.1
 
-  no_damage : (tells refused quiet : Type 0) (why : DataCorruption) (text : List ℕ) → tells → OpenCause tells text reads refused quiet (errors.DataCorruption why) → ⊥
-  no_damage tells refused quiet why text t (inl h) = h.2 t sound.names sound.listing
-  no_damage tells refused quiet why text t (inr h) = meaning (reads meta_name) sound.commit (h.1.2 t) where
-    meaning : (read : Option (List ℕ)) → IsSoundMeta form reads read → OfBytes MeansNothing read → ⊥
+  no_damage : (tells refused quiet : Type 0) (why : DataCorruption) (text : List ℕ) → tells → text ≡ form → OpenCause tells text reads refused quiet (errors.DataCorruption why) → ⊥
+  no_damage tells refused quiet why text t is (inl h) = h.2 t sound.names sound.listing
+  no_damage tells refused quiet why text t is (inr h) = meaning (reads meta_name) sound.commit (h.1.2 t) where
+    meaning : (read : Option (List ℕ)) → IsSoundMeta form reads read → OfBytes (MeansNothing (Some text)) read → ⊥
     meaning None m none = none
-    meaning (Some bytes) m none = none m.0 m.1 m.2.tree m.2.spelled
+    meaning (Some bytes) m none =
+        means_something m.0 form bytes m.1 m.2 (subst (λ (x : List ℕ). MeansNothing (Some x) bytes) is none)
 
   no_other_schema : (tells refused quiet : Type 0) (text : _) (own : List ℕ) → tells → own ≡ form → OpenCause tells own reads refused quiet (errors.SchemaError text) → ⊥
   no_other_schema tells refused quiet text own t is h = meaning (reads meta_name) sound.commit (h.1.2 t) where
     meaning : (read : Option (List ℕ)) → IsSoundMeta form reads read → OfBytes (MeansOther own) read → ⊥
     meaning None m none = none
     meaning (Some bytes) m other =
-        let one = one_meaning bytes m.0 other.settings m.1 other.commit m.2.tree other.tree m.2.spelled other.spelled in
-        other.other (ap json.read is ∙ m.2.schema_is.parsed ∙ ap (λ (d : Data). Some d) one.2)
+        means_no_other m.0 form bytes m.1 m.2 (subst (λ (x : List ℕ). MeansOther x bytes) is other)
 
   no_opening_fault : (refused quiet busy free : Type 0) (error : OpenReadError) → (refused → ⊥) → ReadFault refused quiet (λ e. Unit {0}) (λ path. Unit {0}) error
       → OpeningCause (told_facts busy free) schema reads (errors.OpenReadError error) → ⊥
@@ -210,7 +208,7 @@ only_memory g before now schema script script_now facts (errors.InvalidArgument 
 only_memory g before now schema script script_now facts (errors.DataCorruption why) t told ready y f fb (_, _, inr (_, none)) stops =
     absurd (none.2 t (sound_index schema ready.form (g.view before).reads ready.spelled ready.sound.image))
 only_memory g before now schema script script_now facts (errors.DataCorruption why) t told ready y f fb (text, is, inl h) stops =
-    absurd (no_damage schema ready.form (g.view before).reads ready.spelled ready.sound.image facts.tells facts.refused_behind facts.quiet_behind why text t h)
+    absurd (no_damage schema ready.form (g.view before).reads ready.spelled ready.sound.image facts.tells facts.refused_behind facts.quiet_behind why text t (is.text_is ∙ sym ready.spelled.text_is) h)
 only_memory g before now schema script script_now facts (errors.SchemaError text) t told ready y f fb (_, _, inr (_, none)) stops =
     absurd (none.2 t (sound_index schema ready.form (g.view before).reads ready.spelled ready.sound.image))
 only_memory g before now schema script script_now facts (errors.SchemaError text) t told ready y f fb (own, is, inl h) stops =

@@ -6,8 +6,8 @@ use Rattle.std.proofs.lemmas.List.Folds.{flat_map-map}
 use Rattle.tv_model.specs.Commits.{default_settings, first_commit}
 use Rattle.tv_model.specs.Files.{Heard, Reads, RoseBy}
 use Rattle.tv_model.specs.Index.{FindsCommit, first_state, managed_with, OpensTo, OpenedIndex}
-use Rattle.tv_model.specs.Listing.{Lists}
-use Rattle.tv_model.specs.Names.{list_name, meta_name}
+use Rattle.tv_model.proofs.ListTexts.{listing_of_none}
+use Rattle.tv_model.specs.Names.{meta_name}
 use Rattle.tv_model.specs.State.{Sealed}
 use Rattle.tv_model.specs.Machine.{after, all_refused, report}
 use Rattle.tv_directory.specs.Telling.{bytes_heard}
@@ -21,7 +21,7 @@ use Rattle.tv_replay.specs.Summaries.{collected_in, files_of, summary_line, text
 pub opens_first : (schema : List ℕ) (reads : Reads) → ((n : List ℕ) → reads n ≡ None) → OpensTo default_settings schema reads first_state
 opens_first schema reads none = record {
   listed = [];
-  listing = subst (λ (r : Option (List ℕ)). Lists r []) (sym (none list_name)) refl;
+  listing = listing_of_none reads none;
   covered = λ there. let lacks : ◌≡◌ {A = Option (List ℕ)} (reads meta_name) None = none meta_name in absurd (true≢false (sym (rw lacks at there)));
   found = subst (λ (r : Option (List ℕ)). FindsCommit schema r default_settings first_commit) (sym (none meta_name)) (refl, refl);
   managed = ap (λ (r : Option (List ℕ)). managed_with r []) (sym (none meta_name));

@@ -18,3 +18,4 @@ pub mod CommandWords
 pub mod CommandRuns
 pub mod LineLaws
 pub mod Deriving
+pub mod KeptLocks

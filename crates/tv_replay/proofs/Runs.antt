@@ -8,7 +8,7 @@ use Rattle.std.proofs.lemmas.Bool.{ne_eqb}
 use Rattle.tv_directory.specs.declared.directory.Directory.{Ghosts}
 use Rattle.tv_model.specs.Files.{Reads, Rose}
 use Rattle.tv_model.specs.Lines.{has_no_feed}
-use Rattle.tv_model.specs.Names.{list_name, meta_name}
+use Rattle.tv_model.specs.Names.{meta_name}
 use Rattle.tv_model.proofs.NoFeeds.{no_feed_append, no_feed_name}
 use Rattle.tv_base.specs.Causes.{IoCause}
 use Rattle.tv_base.specs.Errors.{of_io, of_open_directory}
@@ -115,7 +115,7 @@ error_no_feed facts schema reads script (errors.OpenReadError error) (_, _, faul
 error_no_feed facts schema reads script (errors.LockFailure why text) h = lock_no_feed why
 error_no_feed facts schema reads script (errors.IoError fault) h = io_no_feed fault.kind
 error_no_feed facts schema reads script (errors.OpenWriteError error) (_, _, fault) = write_no_feed facts.refused error fault
-error_no_feed facts schema reads script (errors.DataCorruption why) (_, _, inl (inl (_, is, _))) = corrupt_no_feed why.filepath list_name is refl
+error_no_feed facts schema reads script (errors.DataCorruption why) (_, _, inl (inl (_, (file, is, same), _))) = corrupt_no_feed why.filepath file is (rw same refl)
 error_no_feed facts schema reads script (errors.DataCorruption why) (_, _, inl (inr (_, (_, is, _)))) = corrupt_no_feed why.filepath meta_name is refl
 error_no_feed facts schema reads script (errors.DataCorruption why) (_, _, inr (is, _)) = corrupt_no_feed why.filepath meta_name is refl
 error_no_feed facts schema reads script other h = refl

@@ -1,17 +1,20 @@
 -- What stands in a directory, next to the state that it holds.
 use Rattle.std.proofs.Common.{◌≡◌, ◌≢◌, ℕ, zero, suc, ◌<◌, Bool, true, false, cond, ◌||◌, List, [], ◌∷◌, filter, get_or, length, map, Option, Some, None, refl, sym, ap, subst, ◌∙◌, arith}
+use Rattle.std.proofs.Math.Path.{fun_ext}
 use Rattle.std.specs.Prelude.{is_some}
 use Rattle.std.specs.List.{list_all}
 use Rattle.std.proofs.lemmas.Bool.{and_parts}
+use Rattle.serde_json.specs.Data.{Data}
 use Rattle.tv_model.specs.Commits.{Commit, Settings}
 use Rattle.tv_model.specs.Files.{Reads, Same}
 use Rattle.tv_model.specs.Index.{DirectoryHolds, FileReads}
-use Rattle.tv_model.specs.Listing.{Lists}
-use Rattle.tv_model.specs.Meaning.{Means}
-use Rattle.tv_model.specs.Names.{is, is_file_name, is_plain, list_name, meta_name}
+use Rattle.tv_model.specs.Listing.{Listing}
+use Rattle.tv_model.specs.MetaJson.{SpellsMeta}
+use Rattle.tv_model.specs.Names.{is, is_file_name, is_plain, meta_name}
 use Rattle.tv_model.specs.State.{State, FileState, Sealed, Open, Left, file_at}
 use Rattle.tv_model.proofs.Entries.{is_text, isnt_text}
-use Rattle.tv_model.proofs.ListTexts.{lists_one}
+use Rattle.tv_model.proofs.ListTexts.{listing_one}
+use Rattle.tv_model.proofs.MeansOne.{means_spelled}
 use Rattle.tv_model.proofs.OneMeaning.{one_meaning}
 use Rattle.tv_model.proofs.PlainNames.{plain_is_file_name, plain_is_undotted}
 use Rattle.tv_replay.specs.Summaries.{has_file, IsStanding}
@@ -39,13 +42,15 @@ same_filter p q (name ∷ names) same plain =
     ap (λ (b : Bool). cond b (name ∷ filter p names) (filter p names)) (same name parts.0) ∙ ap (λ (l : List (List ℕ)). cond (q name) (name ∷ l) l) (same_filter p q names same parts.1)
 
 -- the number of the commit that is read, and how many managed names read
-pub stands : (settings others : Settings) (schema other bytes : List ℕ) (commit : Commit) (reads now : Reads) (names : List (List ℕ)) (opstamp files : ℕ) (s : State)
-    → DirectoryHolds settings schema reads s → s.managed ≡ names → reads meta_name ≡ Some bytes → Means others other bytes commit → opstamp ≡ commit.opstamp
+pub stands : (settings others : Settings) (schema bytes : List ℕ) (commit : Commit) (tree : Data) (reads now : Reads) (names : List (List ℕ)) (opstamp files : ℕ) (s : State)
+    → DirectoryHolds settings schema reads s → s.managed ≡ names → reads meta_name ≡ Some bytes → SpellsMeta bytes others commit tree → opstamp ≡ commit.opstamp
     → Same reads now → list_all is_plain names ≡ true → files ≡ length (filter (λ name. is_some (now name)) names) → IsStanding s opstamp files
-stands settings others schema other bytes commit reads now names opstamp files s holds managed read means is_opstamp same plain counted =
+stands settings others schema bytes commit tree reads now names opstamp files s holds managed read spells is_opstamp same plain counted =
     let text : ◌≡◌ {A = Option (List ℕ)} (Some bytes) (Some holds.meta.0) = sym read ∙ holds.meta.1 in
     let bytes_are : bytes ≡ holds.meta.0 = cc in
-    let one = one_meaning holds.meta.0 settings others s.catalog.commit commit holds.meta.2.tree means.tree holds.meta.2.spelled (rw bytes_are at means.spelled) in
+    let here : SpellsMeta holds.meta.0 others commit tree = subst (λ (l : List ℕ). SpellsMeta l others commit tree) bytes_are spells in
+    let own = means_spelled settings schema holds.meta.0 s.catalog.commit holds.meta.2 (ap is_some here.parsed) in
+    let one = one_meaning holds.meta.0 settings others s.catalog.commit commit holds.meta.2.tree tree own here in
     record {
       opstamp_is = is_opstamp ∙ ap (λ (c : Commit). c.opstamp) (sym one.1);
       files_are =
@@ -55,8 +60,8 @@ stands settings others schema other bytes commit reads now names opstamp files s
     }
 
 -- the managed names of a directory that was wrapped are those of the state that it holds
-pub managed_are : (read : Option (List ℕ)) (names managed : List (List ℕ)) → Lists read names → Lists read managed → managed ≡ names
-managed_are read names managed wrapped held = lists_one read managed names held wrapped
+pub managed_are : (reads : Reads) (names managed : List (List ℕ)) → Listing reads names → Listing reads managed → managed ≡ names
+managed_are reads names managed wrapped held = listing_one reads managed names held wrapped
 
 -- a directory that reads the same holds the same state
 pub same_holds : (settings : Settings) (schema : List ℕ) (reads now : Reads) (s : State) → Same reads now → DirectoryHolds settings schema reads s → DirectoryHolds settings schema now s
@@ -64,7 +69,7 @@ same_holds settings schema reads now s same holds = record {
   names = holds.names;
   files = λ n is. subst (FileReads (file_at s n)) (sym (same n)) (holds.files n is);
   meta = (holds.meta.0, same meta_name ∙ holds.meta.1, holds.meta.2);
-  listing = subst (λ (r : Option (List ℕ)). Lists r s.managed) (sym (same list_name)) holds.listing;
+  listing = subst (λ (r : Reads). Listing r s.managed) (sym (fun_ext same)) holds.listing;
 }
 
 -- ---- how many names read, one after the other

@@ -184,7 +184,7 @@ nothing_ahead left script told =
 module _ (script : Option (List ℕ)) (s : State) (turns : List Turn) (held free : Type 0) where
   -- in an event
   pub event_stops : (refused quiet given tells : Type 0) (schema : List ℕ) (stood : Option (List ℕ)) {busy spent : Type 0} {bad : OpenReadError → Type 0} {absent : List ℕ → Type 0} (event : Event) (error : TantivyError) → IsNext script turns event
-      → LoadingCause busy refused quiet spent (λ e. given × MetaCause tells (Some schema) stood refused quiet e) bad absent error → (busy → TakesMetaLock (after s turns).catalog event × held) → (spent → ⊥) → (OfRead tells stood MeansNothing ⊎ OfRead tells stood (MeansOther schema) → ⊥)
+      → LoadingCause busy refused quiet spent (λ e. given × MetaCause tells (Some schema) stood refused quiet e) bad absent error → (busy → TakesMetaLock (after s turns).catalog event × held) → (spent → ⊥) → (OfRead tells stood (MeansNothing (Some schema)) ⊎ OfRead tells stood (MeansOther schema) → ⊥)
       → ((error : OpenReadError) → bad error → MeetsBadAt (after s turns) event error) → ((path : List ℕ) → absent path → ⊥) → (IsReadError error → free) → StopsFor script s turns held free error
   event_stops refused quiet given tells schema stood event (errors.OpenReadError error) next h y never u b a f = read_fault {worse = λ e. (x : Event) × IsNext script turns x × free × MeetsBadAt (after s turns) x e} {gone = λ path. ⊥} error (λ r. tt) (λ q. tt) (λ e bad. (event, next, f tt, b e bad)) a h
   event_stops refused quiet given tells schema stood event (errors.LockFailure lock.LockBusy text) next h y never u b a f = (event, next, (y h.0).0, (y h.0).1)

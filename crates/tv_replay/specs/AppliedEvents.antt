@@ -16,7 +16,7 @@ use Rattle.tv_directory.specs.Locks.{LockCause}
 use Rattle.tv_directory.specs.declared.directory.Directory.{Ghosts}
 use Rattle.tv_managed.specs.Collecting.{meta_lock_name}
 use Rattle.tv_store.specs.Applying.{HoldsNone}
-use Rattle.tv_store.specs.Kept.{StoreState, Holds}
+use Rattle.tv_store.specs.Kept.{StoreState, IsHeld}
 use Rattle.tv_store.specs.StoreCauses.{WriteFault, IsBusy, IsRefusal}
 use Rattle.tv_store.specs.ReadCauses.{ReadFault}
 use Rattle.tv_store.specs.Telling.{TellsLines}
@@ -31,10 +31,10 @@ use Rattle.tv_replay.specs.Replays.{TakesNoLock, LineRefusal, IsTooMany, StopsAt
 pub record Applies {O W C : Type 0} (g : Ghosts O W C) (old new : StoreState O) (turns : List Turn) : Type 0 where
   pub fits : AllByRecursion Fits (events_of turns)
   pub form : new.kept.form ≡ old.kept.form
-  pub holds : g.told.content → (s : State) → Holds (g.view old.outside).reads old.kept s → IsWhole s → Holds (g.view new.outside).reads new.kept (after s turns)
-  pub told : g.told.content → g.told.heard → (s : State) → Holds (g.view old.outside).reads old.kept s → IsWhole s → TellsLines (g.view old.outside).heard (g.view new.outside).heard (g.view old.outside).moment (g.view new.outside).moment (answers s turns)
-  pub readable : g.told.content → (s : State) → Holds (g.view old.outside).reads old.kept s → IsWhole s → AllReadGood s turns
-  pub unlocked : g.told.content → g.told.locks → (g.view old.outside).locks meta_lock_name ≡ true → (s : State) → Holds (g.view old.outside).reads old.kept s → IsWhole s → TakesNoLock s turns
+  pub holds : g.told.content → (s : State) → IsHeld g old s → IsWhole s → IsHeld g new (after s turns)
+  pub told : g.told.content → g.told.heard → (s : State) → IsHeld g old s → IsWhole s → TellsLines (g.view old.outside).heard (g.view new.outside).heard (g.view old.outside).moment (g.view new.outside).moment (answers s turns)
+  pub readable : g.told.content → (s : State) → IsHeld g old s → IsWhole s → AllReadGood s turns
+  pub unlocked : g.told.content → g.told.locks → (g.view old.outside).locks meta_lock_name ≡ true → (s : State) → IsHeld g old s → IsWhole s → TakesNoLock s turns
   pub refused : RoseBy (all_refused turns) (g.view old.outside).refusals (g.view new.outside).refusals
 
 -- the events of a whole script were applied, and nothing is left of it
@@ -90,7 +90,7 @@ pub record RunFaults {A O W C : Type 0} (g : Ghosts O W C) (old new : StoreState
 -- where a run stopped with this error, from each state that was held before
 abbrev pub StopsRun : {O W C : Type 0} → Ghosts O W C → (old new : StoreState O) → (script script_now : SourceView) → TantivyError → Type 0
 StopsRun g old new script script_now error =
-    g.told.content → (s : State) → Holds (g.view old.outside).reads old.kept s → IsWhole s → StopsAt g.told (record { form = old.kept.form; script = script; start = s; lines_of_turns = answers s }) (g.view old.outside) (g.view new.outside) script_now error
+    g.told.content → (s : State) → IsHeld g old s → IsWhole s → StopsAt g.told (record { form = old.kept.form; script = script; start = s; lines_of_turns = answers s }) (g.view old.outside) (g.view new.outside) script_now error
 
 -- why the end of a script isn't met where as many lines were taken as may be: there is `some` line too many, a read was refused, or memory was wanted
 abbrev pub EndCause : (some refused quiet : Type 0) → TantivyError → Type 0

@@ -3,10 +3,10 @@ use Rattle.std.specs.Prelude.{ℕ, ◌≡◌, List, [], length, Some}
 use Rattle.tv_directory.specs.declared.directory.Directory.{Ghosts}
 use Rattle.tv_model.specs.Files.{RoseBy}
 use Rattle.tv_model.specs.Index.{FileReads, IsFileOf, IsSoundStart, OpenedIndex}
-use Rattle.tv_model.specs.Listing.{Lists}
+use Rattle.tv_model.specs.Listing.{Listing}
 use Rattle.tv_model.specs.Machine.{Turn, after, report, events_of, all_refused}
 use Rattle.tv_model.specs.Meaning.{Means}
-use Rattle.tv_model.specs.Names.{list_name, meta_name}
+use Rattle.tv_model.specs.Names.{meta_name}
 use Rattle.tv_model.specs.Schemas.{stripped}
 use Rattle.tv_model.specs.Script.{lines_of, AreLines}
 use Rattle.tv_model.specs.State.{file_at}
@@ -36,7 +36,7 @@ pub record Headline {O W C : Type 0} (g : Ghosts O W C) (before now : O) (schema
   -- `meta.json` means the last state's commit, under the settings and the schema of the index
   pub meta : (bytes : List ℕ) × ((g.view now).reads meta_name ≡ Some bytes) × Means index.form.settings index.form.schema bytes (after index.state turns).catalog.commit
   -- the list names the last state's managed files, and no other
-  pub managed : Lists ((g.view now).reads list_name) (after index.state turns).managed
+  pub managed : Listing (g.view now).reads (after index.state turns).managed
   -- every other file with a dot in front reads what it read
   pub dotted : KeepsDotted (g.view before).reads (g.view now).reads
   -- what is left is a sound start again

@@ -88,7 +88,7 @@ fn apply_all<O: Outside, R: Source>(
     store: &mut IndexStore<O>,
     script: &mut R,
 ) -> Result<Tally, TantivyError>
-    requires open { store.old.is_open ≡ true }
+    requires open { store.old.standing.is_open ≡ true }
     requires short { AtMost 0 store.old.kept }
     requires few { FewNumbers 0 store.old.kept.catalog.reading store.old.kept.collections }
     ensures done { IfOk result

@@ -13,11 +13,13 @@ use Rattle.tv_model.specs.Machine.{catalog_step, step, refused_in}
 use Rattle.tv_model.specs.Meaning.{Means}
 use Rattle.tv_model.specs.declared.event.Event.{Event}
 use Rattle.tv_model.specs.declared.event.Event.TheVariants as events
-use Rattle.tv_store.specs.Kept.{Kept, StoreState, Holds, AtMost}
+use Rattle.tv_store.specs.Kept.{Kept, Standing, StoreState, Holds, AtMost}
 use Rattle.tv_store.specs.ReaderNumbers.{FewNumbers}
 use Rattle.tv_store.specs.Acting.{Acts}
-use Rattle.tv_store.specs.Applying.{ActCause, AppliesFrame, AsksNoFile, Grows, ApplyFaults, IsUndisturbedEvent, LeavesMeta, MayNoteAt, MeetsBadAt, SavesAt, Stepped, written_by}
+use Rattle.tv_store.specs.Applying.{ActCause, AppliesFrame, AsksNoFile, Grows, ApplyFaults, IsUndisturbedEvent, LeavesAlone, LeavesMeta, MayNoteAt, MeetsBadAt, SavesAt, Stepped, written_by}
 use Rattle.tv_store.specs.ReadCauses.{IsReadError}
+use Rattle.tv_model.specs.Living.{is_busy}
+use Rattle.tv_store.proofs.KeptLocks.{keeps_then}
 use Rattle.tv_store.proofs.ReaderEvents.{has_middle}
 use Rattle.tv_base.specs.declared.open_errors.LockError.TheVariants as lock
 use Rattle.tv_base.specs.declared.open_errors.OpenReadError.{OpenReadError}
@@ -37,9 +39,13 @@ use Rattle.tv_store.proofs.FewNumbers.{few_below}
 use Rattle.tv_store.proofs.CheckedFiles.{reads_tells}
 use Rattle.tv_store.proofs.Steps.{longer}
 
+-- a store that isn't open, since an event is being applied to it
+abbrev pub closed : {O : Type 0} → StoreState O → StoreState O
+closed store = record store { standing = record store.standing { is_open = false } }
+
 -- ---- an error of the step
 
-module _ {O W C : Type 0} (g : Ghosts O W C) (old mid : StoreState O) (event : Event) (error : TantivyError) (acted : Acts g (record old { is_open = false }) mid event (Err error)) where
+module _ {O W C : Type 0} (g : Ghosts O W C) (old mid : StoreState O) (event : Event) (error : TantivyError) (acted : Acts g (closed old) mid event (Err error)) where
   pub grows_failed : Grows old.kept mid.kept event (Err error)
   grows_failed = record {
     lens = λ bound more small all. longer mid.kept.open_files (bound + written_by event) (bound + more) (omega (arith, small)) (acted.lens bound all);
@@ -47,7 +53,7 @@ module _ {O W C : Type 0} (g : Ghosts O W C) (old mid : StoreState O) (event : E
   }
 
   pub faults_failed : ApplyFaults g old mid event (Err error)
-  faults_failed = record { quiet = tt; free = λ told takes. tt; reads = acted.faults.reads; cause = acted.faults.cause }
+  faults_failed = record { quiet = tt; free = λ told takes. tt; fits = tt; reads = acted.faults.reads; cause = acted.faults.cause }
 
 -- ---- what each event keeps
 
@@ -60,8 +66,8 @@ tells_after before after = record {
   content = λ t n. after.content t n ∙ before.content t n;
 }
 
-module _ {O W C : Type 0} (g : Ghosts O W C) (old mid : StoreState O) (event : Event) (acted_result : Result (List ℕ) TantivyError) (acted : Acts g (record old { is_open = false }) mid event acted_result)
-    (alone : IsSome (catalog_step old.kept.catalog old.kept.managed event) → AsksNoFile (OnlyReads g.told) g (record old { is_open = false }) mid acted_result) where
+module _ {O W C : Type 0} (g : Ghosts O W C) (old mid : StoreState O) (event : Event) (acted_result : Result (List ℕ) TantivyError) (acted : Acts g (closed old) mid event acted_result)
+    (alone : IsSome (catalog_step old.kept.catalog old.kept.managed event) → AsksNoFile (OnlyReads g.told) g (closed old) mid acted_result) where
   -- the step wasn't made
   pub frame_failed : (error : TantivyError) → acted_result ≡ Err error → AppliesFrame g old mid event (Err error)
   frame_failed error is = record {
@@ -71,15 +77,15 @@ module _ {O W C : Type 0} (g : Ghosts O W C) (old mid : StoreState O) (event : E
     form = acted.frame.form;
     dotted = acted.dotted;
     alone = λ some. record { below = reads_tells (alone some).below; error = subst (λ (r : Result (List ℕ) TantivyError). IfErr r (λ e. IsReadError e → ⊥)) is (alone some).error };
-    is_open = acted.frame.is_open;
+    is_open = ap (λ (t : Standing). t.is_open) acted.frame.standing;
   }
 
   -- its line was tried
-  pub frame_tried : (new : StoreState O) (result : Result (List ℕ) TantivyError) → new.kept ≡ mid.kept → new.is_open ≡ is_ok result → OnlyTells g.told (g.view mid.outside) (g.view new.outside)
+  pub frame_tried : (new : StoreState O) (result : Result (List ℕ) TantivyError) → new.kept ≡ mid.kept → new.standing.is_open ≡ is_ok result → OnlyTells g.told (g.view mid.outside) (g.view new.outside)
       → IfErr result (λ error. IsReadError error → ⊥) → AppliesFrame g old new event result
   frame_tried new result kept is_open told unread = record {
     goes_on = goes_then acted.frame.below.goes_on told.deletes_none.goes_on;
-    locks = λ t n. told.locks t n ∙ acted.frame.below.locks t n;
+    locks = λ t. keeps_then (is_busy old.kept.catalog) (is_busy mid.kept.catalog) (is_busy new.kept.catalog) (g.view old.outside).locks (g.view mid.outside).locks (g.view new.outside).locks (ap (λ (k : Kept). is_busy k.catalog) (sym kept)) (acted.frame.below.locks t) (told.locks t);
     watched = subst (λ (w : WatchState). MayNoteAt event (g.view old.outside).watched w) (sym told.watched) acted.frame.below.watched;
     form = ap (λ (k : Kept). k.form) kept ∙ acted.frame.form;
     dotted = λ t n dot other. told.content t n ∙ acted.dotted t n dot other;
@@ -90,7 +96,7 @@ module _ {O W C : Type 0} (g : Ghosts O W C) (old mid : StoreState O) (event : E
 -- ---- a step whose line is tried
 
 module _ {O W C : Type 0} (g : Ghosts O W C) (old mid new : StoreState O) (event : Event) (answer : List ℕ)
-    (acted : Acts g (record old { is_open = false }) mid event (Ok answer)) (kept : new.kept ≡ mid.kept) (told : OnlyTells g.told (g.view mid.outside) (g.view new.outside)) where
+    (acted : Acts g (closed old) mid event (Ok answer)) (kept : new.kept ≡ mid.kept) (told : OnlyTells g.told (g.view mid.outside) (g.view new.outside)) where
   lens_as : (bound more : ℕ) → written_by event ≤ more → AtMost bound old.kept → AtMost (bound + more) new.kept
   lens_as bound more small all = subst (AtMost (bound + more)) (sym kept) (longer mid.kept.open_files (bound + written_by event) (bound + more) (omega (arith, small)) (acted.lens bound all))
 
@@ -152,46 +158,58 @@ module _ {O W C : Type 0} (g : Ghosts O W C) (old new : StoreState O) (event : E
 -- ---- what stands after the line
 
 module _ {O W C : Type 0} (g : Ghosts O W C) (old mid new : StoreState O) (event : Event) (answer : List ℕ)
-    (acted : Acts g (record old { is_open = false }) mid event (Ok answer)) (kept : new.kept ≡ mid.kept) (told : OnlyTells g.told (g.view mid.outside) (g.view new.outside)) where
+    (acted : Acts g (closed old) mid event (Ok answer)) (kept : new.kept ≡ mid.kept) (told : OnlyTells g.told (g.view mid.outside) (g.view new.outside)) where
   held_told : g.told.content → (s : State) → Holds (g.view mid.outside).reads mid.kept s → Holds (g.view new.outside).reads new.kept s
   held_told t s h = same_holds (g.view mid.outside).reads (g.view new.outside).reads mid.kept new.kept s (told.content t) kept h
 
   -- no event's line changes what was saved
   saves_told : (e : Event) (before after : State) → g.told.content → SavesAt e old.kept.form (g.view old.outside) (g.view mid.outside) before after → SavesAt e old.kept.form (g.view old.outside) (g.view new.outside) before after
-  saves_told (events.Commit payload ids) before after t h = record {
-    refused = λ same. let k = h.refused same in ((λ n. told.content t n ∙ k.0 n), told.watched ∙ k.1);
-    saved = λ other. let k = h.saved other in (told.content t meta_name ∙ k.0, told.watched ∙ k.1);
-  }
+  saves_told (events.Commit payload ids) before after t h =
+      λ other. record { text = told.content t meta_name ∙ (h other).text; notice = told.watched ∙ (h other).notice }
   saves_told other before after t h = tt
+
+  -- nor what was left alone
+  alone_told : g.told.content → LeavesAlone (g.view old.outside) (g.view mid.outside) → LeavesAlone (g.view old.outside) (g.view new.outside)
+  alone_told t h = record { reads = λ n. told.content t n ∙ h.reads n; watched = told.watched ∙ h.watched }
 
   pub step_told : Stepped g old new event answer
   step_told =
-      let stepped = acted.step in (
-        stepped.0,
-        subst (λ (n : ℕ). RoseBy (refused_in stepped.0) (g.view old.outside).refusals n) (sym told.deletes_none.refusals) stepped.1,
-        λ t s h w. let k = stepped.2 t s h w in (k.0, held_told t (step s event stepped.0).1 k.1, k.2, saves_told event s (step s event stepped.0).1 t k.3),
-      )
+      let stepped = acted.step in
+      record {
+        outcomes = stepped.outcomes;
+        refused = subst (λ (n : ℕ). RoseBy (refused_in stepped.outcomes) (g.view old.outside).refusals n) (sym told.deletes_none.refusals) stepped.refused;
+        each = λ t s h w.
+            let k = stepped.each t s h w in
+            let next = (step s event stepped.outcomes).1 in
+            record {
+              told = k.told;
+              held = held_told t next k.held;
+              readable = k.readable;
+              unchanged = λ by_step same. alone_told t (k.unchanged by_step same);
+              saves = saves_told event s next t k.saves;
+            };
+      }
 
   pub leaves_untold : {A : Type 0} (fault : IoFault) → TriesLine {A = A} {E = IoFault} g.told (g.view mid.outside) (g.view new.outside) answer (Err fault) → Rose (g.view mid.outside).faults (g.view new.outside).faults
       → LeavesMeta g old new event (Err (errors.IoError fault))
   leaves_untold fault tries rose = record {
     meta = λ t s h w.
         let stepped = acted.step in
-        let k = stepped.2 t s h w in
-        let held = held_told t (step s event stepped.0).1 k.1 in
+        let k = stepped.each t s h w in
+        let held = held_told t (step s event stepped.outcomes).1 k.held in
         let form : new.kept.form ≡ old.kept.form = ap (λ (x : Kept). x.form) kept ∙ acted.frame.form in (
-          stepped.0,
+          stepped.outcomes,
           inr (
             subst (λ (n : ℕ). Rose n (g.view new.outside).faults) acted.faults.quiet rose,
-            (held.meta.0, held.meta.1, subst (λ (f : IndexForm). Means f.settings f.schema held.meta.0 (step s event stepped.0).1.catalog.commit) form held.meta.2),
+            (held.meta.0, held.meta.1, subst (λ (f : IndexForm). Means f.settings f.schema held.meta.0 (step s event stepped.outcomes).1.catalog.commit) form held.meta.2),
           ),
         );
     memory = λ t e. absurd (not_memory e);
     part = λ t h s held w.
         let stepped = acted.step in
-        let k = stepped.2 t s held w in (
-          stepped.0,
-          subst (λ (line : List ℕ). TellsFirstPart (g.view old.outside).heard (g.view new.outside).heard line) k.0
+        let k = stepped.each t s held w in (
+          stepped.outcomes,
+          subst (λ (line : List ℕ). TellsFirstPart (g.view old.outside).heard (g.view new.outside).heard line) k.told
               (subst (λ (x : Heard). TellsFirstPart x (g.view new.outside).heard answer) acted.frame.below.heard (tries.part h)),
         );
   } where

@@ -20,11 +20,11 @@ pub only_reads : {O W C : Type 0} (g : Ghosts O W C) (old new : StoreState O) (r
 only_reads g old new result room asks = record {
   room = room;
   lens = λ bound h. subst (AtMost bound) (sym asks.kept) h;
-  frame = record { form = ap (λ (k : Kept). k.form) asks.kept; is_open = asks.is_open; below = asks.below };
+  frame = record { form = ap (λ (k : Kept). k.form) asks.kept; standing = asks.standing; below = asks.below };
 }
 
 -- memory was wanted
-pub wants_memory : {A O W C : Type 0} (g : Ghosts O W C) (takes spent : Type 0) (old new : StoreState O) (event : Event) (result : Result A TantivyError) → IsErrAnd result (λ e. e ≡ errors.Memory)
-    → (g.view new.outside).faults ≡ (g.view old.outside).faults → ReadingFaults g takes spent old new event result
-wants_memory g takes spent old new event (Ok a) h quiet = absurd h
-wants_memory g takes spent old new event (Err e) h quiet = rw h (record { quiet = tt; free = λ t k. tt; reads = λ t r. absurd r; cause = quiet })
+pub wants_memory : {A O W C : Type 0} (g : Ghosts O W C) (spent : Type 0) (old new : StoreState O) (event : Event) (result : Result A TantivyError) → IsErrAnd result (λ e. e ≡ errors.Memory)
+    → (g.view new.outside).faults ≡ (g.view old.outside).faults → ReadingFaults g spent old new event result
+wants_memory g spent old new event (Ok a) h quiet = absurd h
+wants_memory g spent old new event (Err e) h quiet = rw h (record { quiet = tt; free = λ t k. tt; fits = tt; reads = λ t r. absurd r; cause = quiet })

@@ -19,6 +19,6 @@ kept_by_files {O} {W} {keeps} {view} {old} {new} catalog frame =
 pub asks_later : {O W : Type 0} {told : Told} {view : O → View W} {first now next : StoreState O} → Asks (OnlyReads told) view first now → Asks (OnlyReads told) view now next → Asks (OnlyReads told) view first next
 asks_later before after = record {
   kept = after.kept ∙ before.kept;
-  is_open = after.is_open ∙ before.is_open;
+  standing = after.standing ∙ before.standing;
   below = reads_then before.below after.below;
 }

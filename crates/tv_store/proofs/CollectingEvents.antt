@@ -4,24 +4,24 @@ use Rattle.std.specs.Prelude.{IfOk}
 use Rattle.tv_base.specs.declared.error.TantivyError.{TantivyError}
 use Rattle.std.specs.List.Sorted.{IsStrictlySortedBy}
 use Rattle.std.proofs.lemmas.List.Kept.{IsStrictlySortedBy-filter}
-use Rattle.tv_model.specs.Names.{byte_cmp, has, list_name, meta_name}
-use Rattle.tv_model.specs.Files.{Reads, Same, KeepsOthers}
+use Rattle.tv_model.specs.Names.{byte_cmp, has, meta_name}
+use Rattle.tv_model.specs.Files.{Reads, Same}
 use Rattle.tv_model.specs.Lines.{line, refuse}
-use Rattle.tv_model.specs.Listing.{Lists}
+use Rattle.tv_model.specs.Listing.{Listing}
 use Rattle.tv_model.specs.Living.{living}
 use Rattle.tv_model.specs.Collections.{Collection, Collections, begun, collectable, collection_at, having_tried, held, taken, with_begun, with_collection, without, without_collection}
 use Rattle.tv_model.specs.CollectionEvents.{ended, garbage, gc_begin_step, gc_step_step, having_deleted}
 use Rattle.tv_model.specs.State.{Catalog, State, StepResult, FileState, at}
 use Rattle.tv_model.proofs.CollectionStates.{has_without}
-use Rattle.tv_model.proofs.ListTexts.{same_names}
+use Rattle.tv_model.proofs.ListTexts.{listing_sorted, same_names}
 use Rattle.tv_model.proofs.Numbered.{put_found}
 use Rattle.tv_directory.specs.declared.directory.Directory.{Ghosts}
 use Rattle.tv_store.specs.Acting.{StepsDeleting}
 use Rattle.tv_store.specs.CollectingCalls.{BeginsCollection, EndsCollection, TriesNext, gone_of}
 use Rattle.tv_store.specs.Kept.{FilesState, Holds, Kept, StoreState, kept_of}
-use Rattle.tv_store.specs.Stays.{AsksOrFails}
+use Rattle.tv_store.specs.Stays.{AsksOrFails, KeepsAllButList}
 use Rattle.tv_store.proofs.CollectionEvents.{gone_holds, takes_garbage}
-use Rattle.tv_store.proofs.CommitEvents.{listed_sorted}
+use Rattle.tv_store.proofs.Listings.{listing_kept}
 use Rattle.tv_store.proofs.Holding.{same_holds}
 
 -- nothing is gone
@@ -49,7 +49,7 @@ module _ {O W C : Type 0} (g : Ghosts O W C) (catalog : Catalog) (old new : File
   garbage_sorted : IsStrictlySortedBy byte_cmp (garbage s)
   garbage_sorted =
       IsStrictlySortedBy-filter byte_cmp (λ name. not (has (living s.catalog ++ held s.collections) name)) s.managed
-      (listed_sorted ((g.view old.outside).reads list_name) s.managed meta_name h.listing h.listed)
+      (listing_sorted (g.view old.outside).reads s.managed h.listing)
 
   module _ (number : ℕ) (needed : List (List ℕ)) (needs : (n : List ℕ) → has needed n ≡ has (living catalog) n) (told : BeginsCollection number needed old new) where
     -- the collections are those of the step
@@ -85,7 +85,7 @@ module _ {O W C : Type 0} (g : Ghosts O W C) (catalog : Catalog) (old new : File
       let holds =
       gone_holds g catalog old new made s (gone_of name is_done) s.managed (with_collection s.collections number (having_tried told.collection name told.left_names is_done)) h told.spares (told.managed ∙ h.managed) collections
       (told.gone tells) (λ n isnt other. told.others tells n isnt) told.open_files told.left
-      (subst (λ (read : Option (List ℕ)). Lists read s.managed) (sym (told.others tells list_name told.listed)) h.listing) h.listed in
+      (listing_kept (g.view old.outside).reads (g.view new.outside).reads s.managed (λ n is. told.others tells n (told.listed n is)) h.listing) h.listed in
       elim is_done as (λ (b : Bool). Holds (g.view new.outside).reads (kept_of catalog new) (record s { files = filter (λ e. not (has (gone_of name b) e.0)) s.files; collections = with_collection s.collections number (having_tried told.collection name told.left_names is_done) })
       → Holds (g.view new.outside).reads (kept_of catalog new) (record s { files = cond b (filter (λ e. not (has (name ∷ []) e.0)) s.files) s.files; collections = with_collection s.collections number (having_tried told.collection name told.left_names is_done) })) [
         | true ↦ λ k. k
@@ -98,7 +98,7 @@ module _ {O W C : Type 0} (g : Ghosts O W C) (catalog : Catalog) (old new : File
   found_there number c there = ap (λ (k : Collections). collection_at k number) (sym h.collections) ∙ there
 
   -- a collection is finished
-  pub ended_holds : (number : ℕ) → g.told.content → (told : EndsCollection g number old new) → KeepsOthers (g.view old.outside).reads (g.view new.outside).reads list_name
+  pub ended_holds : (number : ℕ) → g.told.content → (told : EndsCollection g number old new) → KeepsAllButList (g.view old.outside).reads (g.view new.outside).reads
       → new ≡ record old { outside = new.outside; managed = new.managed; collections = new.collections }
       → Holds (g.view new.outside).reads (kept_of catalog new) (ended s number told.collection).1
   ended_holds number tells told others rest =
@@ -106,7 +106,7 @@ module _ {O W C : Type 0} (g : Ghosts O W C) (catalog : Catalog) (old new : File
       subst (λ (files : List (List ℕ × FileState)). Holds (g.view new.outside).reads (kept_of catalog new) (record s { files = files; managed = without told.collection.done s.managed; collections = without_collection s.collections number })) (all_stay s.files)
       (gone_holds g catalog old new made s [] (without told.collection.done s.managed) (without_collection s.collections number) h refl managed (told.collections ∙ ap (λ (c : Collections). without_collection c number) h.collections)
       (λ n is. absurd (true≢false (sym is))) (λ n is other. others n other) (λ n. ap (λ (v : FilesState O). at v.open_files n) rest) (λ n. ap (λ (v : FilesState O). has v.left n) rest)
-      (subst (λ (ns : List (List ℕ)). Lists ((g.view new.outside).reads list_name) ns) managed (told.list tells (subst (λ (ns : List (List ℕ)). Lists ((g.view old.outside).reads list_name) ns) (sym h.managed) h.listing)))
+      (subst (λ (ns : List (List ℕ)). Listing (g.view new.outside).reads ns) managed (told.list tells (subst (λ (ns : List (List ℕ)). Listing (g.view old.outside).reads ns) (sym h.managed) h.listing)))
       (has_without told.collection.done s.managed meta_name ∙ rw told.spares h.listed))
 
 -- ---- steps that are refused
@@ -148,14 +148,18 @@ pub refused_deleting : {O W C : Type 0} (g : Ghosts O W C) (old new : StoreState
     → IfOk result (λ answer. answer ≡ line (codes "refused") (word ∷ [])) → AsksOrFails g old new result
     → ((s : State) → old.kept.collections ≡ s.collections → told s [] ≡ refuse s (word ∷ []))
     → IfOk result (StepsDeleting g old new told)
-refused_deleting g old new told word (Ok answer) said asks steps = (
-  [],
-  inl (omega (arith, asks.frame.below.kept.frame.tells_none.deletes_none.refusals)),
-  λ tells s held.
-      let is = steps s held.collections in (
-        said ∙ ap (λ (t : StepResult State). t.0) (sym is),
-        subst (λ (t : StepResult State). Holds (g.view new.outside).reads new.kept t.1) (sym is)
-            (same_holds (g.view old.outside).reads (g.view new.outside).reads old.kept new.kept s (asks.frame.below.content tells) asks.frame.kept held),
-      ),
-)
+refused_deleting g old new told word (Ok answer) said asks steps = record {
+  outcomes = [];
+  refused = inl (omega (arith, asks.frame.below.kept.frame.tells_none.deletes_none.refusals));
+  each = λ tells s held.
+      let is = steps s held.collections in
+      record {
+        step = record {
+          told = said ∙ ap (λ (t : StepResult State). t.0) (sym is);
+          held = subst (λ (t : StepResult State). Holds (g.view new.outside).reads new.kept t.1) (sym is)
+              (same_holds (g.view old.outside).reads (g.view new.outside).reads old.kept new.kept s (asks.frame.below.content tells) asks.frame.kept held);
+        };
+        same = λ by_step stays. asks.frame.below.content tells;
+      };
+}
 refused_deleting g old new told word (Err error) said asks steps = tt

@@ -1,5 +1,5 @@
 -- What the steps of a collection leave of the files of a store.
-use Rattle.std.proofs.Common.{◌≡◌, ◌≢◌, ℕ, ◌+◌, ◌<◌, inl, inr, Bool, true, false, true≢false, cond, not, ◌&&◌, ◌||◌, List, [], ◌∷◌, ◌++◌, length, Option, Some, None, Result, Ok, Err, ◌⊎◌, refl, sym, ap, subst, ◌∙◌, arith}
+use Rattle.std.proofs.Common.{◌≡◌, ℕ, ◌+◌, ◌<◌, inl, inr, Bool, true, false, true≢false, cond, not, ◌&&◌, ◌||◌, List, [], ◌∷◌, ◌++◌, length, Option, Some, None, Result, Ok, Err, ◌⊎◌, refl, sym, ap, subst, ◌∙◌, arith, ⊎_elim}
 use Rattle.std.specs.Prelude.{IfOk, IsErrAnd, OnErr, IsSome}
 use Rattle.std.proofs.Math.Logic.{⊎_map}
 use Rattle.std.specs.Option.{IsSomeAnd}
@@ -10,9 +10,8 @@ use Rattle.tv_base.specs.declared.open_errors.LockError.TheVariants as lock
 use Rattle.tv_model.specs.Collections.{Collection, Collections, collection_at, done_of, failed_of, having_tried, held, taken, with_collection}
 use Rattle.tv_model.specs.Files.{Rose, RoseBy}
 use Rattle.tv_model.specs.Machine.{refused_in}
-use Rattle.tv_model.specs.Names.{has, is, is_plain, is_undotted, list_name, meta_name}
+use Rattle.tv_model.specs.Names.{has, is, is_plain, is_undotted, meta_name}
 use Rattle.tv_model.specs.State.{at}
-use Rattle.tv_model.specs.declared.event.Event.TheVariants as events
 use Rattle.tv_model.proofs.CollectionStates.{done_within, has_append}
 use Rattle.tv_model.proofs.Entries.{is_text, isnt_one}
 use Rattle.tv_model.proofs.Collects.{failed_within}
@@ -22,8 +21,9 @@ use Rattle.tv_managed.specs.Collecting.{Among, Begins, CollectCause, CollectFaul
 use Rattle.tv_managed.specs.Names.{ManagedNames}
 use Rattle.tv_managed.specs.declared.collection.CollectStep.{CollectStep}
 use Rattle.tv_managed.specs.declared.collection.GarbageCollectionResult.{GarbageCollectionResult}
+use Rattle.tv_store.proofs.Listings.{list_is_dotted}
 use Rattle.tv_store.specs.CollectingCalls.{EndsCollection, HasUntried, TriesNext, gone_of}
-use Rattle.tv_store.specs.Exhausted.{PassesEnd, collection_after}
+use Rattle.tv_store.specs.Exhausted.{SomePassesEnd, collection_after}
 use Rattle.tv_store.specs.FileCalls.{GcFaults}
 use Rattle.tv_store.specs.Kept.{FilesState, names_below}
 use Rattle.tv_store.specs.StoreCauses.{EventCause, IsBusy, LockingCause}
@@ -225,7 +225,7 @@ tries_so g number name is_done old new next spared open_files left = record {
   open_files = open_files;
   left = left;
   spares = next_keeps_meta g number name is_done (names_below old) (names_below new) next spared;
-  listed = next_keeps_dotted g number name is_done (names_below old) (names_below new) next list_name refl;
+  listed = λ n is. next_keeps_dotted g number name is_done (names_below old) (names_below new) next n (list_is_dotted n is);
 }
 
 -- ---- why a collection fails
@@ -242,17 +242,18 @@ gc_cause tells is_held refused quiet spent spent2 other busy k cause = absurd ca
 
 -- that of the directory is that of the files of a store
 pub gc_faults : {A O W C : Type 0} (g : Ghosts O W C) (old : FilesState O) (now new : O × ManagedNames) (result : Result A TantivyError) → now ≡ names_below old → CollectFaults g now new result
-    → GcFaults g (PassesEnd (collection_after old.collections events.GcBegin)) old.outside new.0 result
-gc_faults {A} {O} g old now new result same h = subst (λ (d : O × ManagedNames). GcFaults g (PassesEnd (collection_after d.1.collections events.GcBegin)) d.0 new.0 result) same (seen result h) where
-  seen : (r : Result A TantivyError) → CollectFaults g now new r → GcFaults g (PassesEnd (collection_after now.1.collections events.GcBegin)) now.0 new.0 r
-  seen (Ok a) h = record { quiet = h.quiet; free = h.free; cause = tt }
+    → GcFaults g (SomePassesEnd (collection_after old.collections)) old.outside new.0 result
+gc_faults {A} {O} g old now new result same h = subst (λ (d : O × ManagedNames). GcFaults g (SomePassesEnd (collection_after d.1.collections)) d.0 new.0 result) same (seen result h) where
+  seen : (r : Result A TantivyError) → CollectFaults g now new r → GcFaults g (SomePassesEnd (collection_after now.1.collections)) now.0 new.0 r
+  seen (Ok a) h = record { quiet = h.quiet; free = h.free; fits = λ spent. ⊎_elim h.numbered (λ never. never) spent; cause = tt }
   seen (Err e) h = record {
     quiet = tt;
     free = λ t. tt;
+    fits = tt;
     cause =
         gc_cause g.told.locks ((g.view now.0).locks meta_lock_name ≡ true) (Rose (g.view now.0).faults (g.view new.0).faults) ((g.view new.0).faults ≡ (g.view now.0).faults)
-        (IsLast now.1.collections.next × ((g.view new.0).faults ≡ (g.view now.0).faults)) (PassesEnd (collection_after now.1.collections events.GcBegin)) e
-        h.busy (λ last. (last.1, (now.1.collections.next + 1, refl, last.0))) h.cause;
+        (IsLast now.1.collections.next × ((g.view new.0).faults ≡ (g.view now.0).faults)) (SomePassesEnd (collection_after now.1.collections)) e
+        h.busy (λ last. (last.1, inl last.0)) h.cause;
   }
 
 -- an error is handed on
@@ -261,5 +262,6 @@ gc_fails g spent old new (Ok a) error is h = absurd is
 gc_fails g spent old new (Err e) error is h = record {
   quiet = tt;
   free = λ t. tt;
+  fits = tt;
   cause = subst (LockingCause (IsBusy g.told.locks ((g.view old).locks meta_lock_name ≡ true) (Rose (g.view old).faults (g.view new).faults)) (Rose (g.view old).faults (g.view new).faults) ((g.view new).faults ≡ (g.view old).faults) spent) (sym is) h.cause;
 }

@@ -1,11 +1,11 @@
 -- What is held after a collection, and after the end of a segment; and which files are sealed.
-use Rattle.std.proofs.Common.{◌≡◌, ◌≢◌, filter, ℕ, inl, inr, ⊎_elim, Bool, true, false, true≢false, cond, not, ◌&&◌, ◌||◌, List, [], ◌∷◌, ◌++◌, length, Option, Some, None, option_map, is_some, refl, sym, ap, subst, ◌∙◌, arith}
+use Rattle.std.proofs.Common.{◌≡◌, filter, ℕ, inl, inr, ⊎_elim, Bool, true, false, true≢false, cond, not, ◌&&◌, ◌||◌, List, [], ◌∷◌, ◌++◌, length, Option, Some, None, option_map, is_some, refl, sym, ap, subst, ◌∙◌, arith}
 use Rattle.std.specs.List.{AllByRecursion}
 use Rattle.std.specs.BTreeMap.{is_at}
 use Rattle.tv_model.specs.declared.segment.LiveSegment.{LiveSegment}
-use Rattle.tv_model.specs.Names.{byte_cmp, is, has, meta_name, list_name}
+use Rattle.tv_model.specs.Names.{byte_cmp, is, has, meta_name}
 use Rattle.tv_model.specs.Files.{Reads, RoseBy}
-use Rattle.tv_model.specs.Listing.{Lists}
+use Rattle.tv_model.specs.Listing.{IsListFile, Listing}
 use Rattle.tv_model.specs.Collections.{Collections, done_of, failed_of, collectable, held, without}
 use Rattle.tv_model.specs.Living.{living, segment_names}
 use Rattle.tv_model.specs.State.{Catalog, State, FileState, Sealed, Open, Left, at, file_at}
@@ -19,7 +19,7 @@ use Rattle.tv_managed.specs.Collecting.{FailsAtMost}
 use Rattle.tv_store.specs.FileCalls.{Tried, Collects, LeavesFiles}
 use Rattle.tv_store.specs.Kept.{FilesState, Holds, FileHolds, is_left, kept_of}
 use Rattle.tv_store.proofs.OpenFiles.{all_left}
-use Rattle.tv_store.proofs.CommitEvents.{undotted_isnt_list}
+use Rattle.tv_store.proofs.Listings.{undotted_isnt_list}
 
 -- ---- a collection
 
@@ -91,9 +91,9 @@ module _ {O W C : Type 0} (g : Ghosts O W C) (catalog : Catalog) (old new : File
   -- after the files of some names are gone, with these managed names and these collections
   pub gone_holds : (gone managed : List (List ℕ)) (collections : Collections) → Holds (g.view old.outside).reads (kept_of catalog old) s → has gone meta_name ≡ false
       → new.managed ≡ managed → new.collections ≡ collections
-      → ((n : List ℕ) → has gone n ≡ true → (g.view new.outside).reads n ≡ None) → ((n : List ℕ) → has gone n ≡ false → n ≢ list_name → (g.view new.outside).reads n ≡ (g.view old.outside).reads n)
+      → ((n : List ℕ) → has gone n ≡ true → (g.view new.outside).reads n ≡ None) → ((n : List ℕ) → has gone n ≡ false → (IsListFile n → ⊥) → (g.view new.outside).reads n ≡ (g.view old.outside).reads n)
       → ((n : List ℕ) → at new.open_files n ≡ cond (has gone n) None (at old.open_files n)) → ((n : List ℕ) → has new.left n ≡ (not (has gone n) && has old.left n))
-      → Lists ((g.view new.outside).reads list_name) managed → has managed meta_name ≡ true
+      → Listing (g.view new.outside).reads managed → has managed meta_name ≡ true
       → Holds (g.view new.outside).reads (kept_of catalog new) (record s { files = filter (λ e. not (has gone e.0)) s.files; managed = managed; collections = collections })
   gone_holds gone managed collections h spared names are absent others open_files left_files listing listed = record {
     catalog = h.catalog;
@@ -112,12 +112,12 @@ module _ {O W C : Type 0} (g : Ghosts O W C) (catalog : Catalog) (old new : File
 
   -- after a collection
   collected_holds : (names deleted failed : List (List ℕ)) → g.told.content → Holds (g.view old.outside).reads (kept_of catalog old) s → has deleted meta_name ≡ false → Collects g names old new deleted failed
-      → (Lists ((g.view old.outside).reads list_name) old.managed → Lists ((g.view new.outside).reads list_name) new.managed)
+      → (Listing (g.view old.outside).reads old.managed → Listing (g.view new.outside).reads new.managed)
       → Holds (g.view new.outside).reads (kept_of catalog new) (without_files s deleted)
   collected_holds names deleted failed tells h spared told list =
       let managed : new.managed ≡ without deleted s.managed = told.tried.managed ∙ ap (without deleted) h.managed in
       gone_holds deleted (without deleted s.managed) s.collections h spared managed (told.collections ∙ h.collections) (told.tried.gone tells) (told.tried.others tells) told.open_files told.left
-      (subst (λ (ns : List (List ℕ)). Lists ((g.view new.outside).reads list_name) ns) managed (list (subst (λ (ns : List (List ℕ)). Lists ((g.view old.outside).reads list_name) ns) (sym h.managed) h.listing)))
+      (subst (λ (ns : List (List ℕ)). Listing (g.view new.outside).reads ns) managed (list (subst (λ (ns : List (List ℕ)). Listing (g.view old.outside).reads ns) (sym h.managed) h.listing)))
       (has_without deleted s.managed meta_name ∙ rw spared h.listed)
 
   -- a collection takes the names that nothing needs
@@ -130,7 +130,7 @@ module _ {O W C : Type 0} (g : Ghosts O W C) (catalog : Catalog) (old new : File
 
   -- the step of a collection
   pub collected : (needed deleted failed : List (List ℕ)) → g.told.content → Holds (g.view old.outside).reads (kept_of catalog old) s → ((n : List ℕ) → has needed n ≡ has (living catalog) n)
-      → (told : Collects g needed old new deleted failed) → (Lists ((g.view old.outside).reads list_name) old.managed → Lists ((g.view new.outside).reads list_name) new.managed)
+      → (told : Collects g needed old new deleted failed) → (Listing (g.view old.outside).reads old.managed → Listing (g.view new.outside).reads new.managed)
       → (collected_line deleted failed ≡ (gc_step s told.tried.outcomes).0) × Holds (g.view new.outside).reads (kept_of catalog new) (gc_step s told.tried.outcomes).1
   collected needed deleted failed tells h needs told list =
       let outcomes = told.tried.outcomes in

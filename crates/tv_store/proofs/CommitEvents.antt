@@ -1,18 +1,17 @@
 -- The event that commits: the files that it asks for, the segments that it chooses, and the state that it leads to.
-use Rattle.std.proofs.Common.{◌≡◌, ◌≢◌, ℕ, zero, suc, ◌+◌, ◌<◌, Bool, true, false, true≢false, cond, ◌&&◌, nat_lt, List, [], ◌∷◌, ◌++◌, length, map, take, get_or, Option, Some, None, refl, sym, ap, subst, ◌∙◌, arith}
+use Rattle.std.proofs.Common.{◌≡◌, ℕ, zero, suc, ◌+◌, ◌<◌, Bool, true, false, cond, ◌&&◌, nat_lt, List, [], ◌∷◌, ◌++◌, length, map, take, get_or, Option, Some, None, refl, sym, ap, subst, ◌∙◌, arith}
 use Rattle.std.specs.Prelude.{find}
 use Rattle.std.specs.List.{filter, AllByRecursion}
-use Rattle.std.specs.List.Sorted.{IsStrictlySortedBy}
 use Rattle.std.specs.BTreeSet.{insert_key}
 use Rattle.std.proofs.lemmas.List.{take_more}
 use Rattle.std.proofs.lemmas.List.Folds.{find-append}
 use Rattle.tv_model.specs.declared.segment.DeleteMeta.{DeleteMeta}
 use Rattle.tv_model.specs.declared.segment.LiveSegment.{LiveSegment}
 use Rattle.tv_model.specs.declared.segment.SegmentComponent.{SegmentComponent}
-use Rattle.tv_model.specs.Names.{byte_cmp, has, is_undotted, meta_name, list_name}
+use Rattle.tv_model.specs.Names.{byte_cmp, has, meta_name}
 use Rattle.tv_model.specs.Ids.{IsId}
 use Rattle.tv_model.specs.Files.{Reads}
-use Rattle.tv_model.specs.Listing.{Lists}
+use Rattle.tv_model.specs.Listing.{Listing}
 use Rattle.tv_model.specs.Segments.{name_of, num_docs, required_components, required_names, all_required}
 use Rattle.tv_model.specs.Commits.{Commit, IsSegment, printed}
 use Rattle.tv_model.specs.Meaning.{Means}
@@ -23,8 +22,10 @@ use Rattle.tv_model.proofs.Entries.{insert_present}
 use Rattle.tv_model.proofs.ReadPrinted.{printed_means}
 use Rattle.tv_model.proofs.Required.{name_is_file}
 use Rattle.tv_managed.specs.Managed.{KeepsOtherFiles}
+use Rattle.tv_store.proofs.Listings.{undotted_isnt_list}
+use Rattle.tv_model.proofs.ListTexts.{listing_sorted}
 use Rattle.tv_store.specs.Kept.{Kept, Holds, FileHolds}
-use Rattle.tv_store.specs.Committing.{IsPrinted}
+use Rattle.tv_store.specs.Committing.{PrintsNext}
 
 -- ---- lists, one element further
 
@@ -80,20 +81,13 @@ chosen_are_segments c ids h = filtered (λ e. has ids e.0 && nat_lt 0 (num_docs 
 
 -- ---- what is held
 
-pub listed_sorted : (read : Option (List ℕ)) (names : List (List ℕ)) (name : List ℕ) → Lists read names → has names name ≡ true → IsStrictlySortedBy byte_cmp names
-listed_sorted None names name lists there = absurd (true≢false (sym there ∙ ap (λ (ns : List (List ℕ)). has ns name) lists))
-listed_sorted (Some bytes) names name lists there = lists.ordered
-
-pub undotted_isnt_list : (n : List ℕ) → is_undotted n ≡ true → n ≢ list_name
-undotted_isnt_list n h e = true≢false (sym h ∙ ap is_undotted e)
-
 -- a commit with the number that comes next is that of the state after it
 pub next_commit : (catalog held : Catalog) (commit : Commit) → catalog ≡ held → commit.opstamp ≡ catalog.next → commit ≡ (committed held commit.payload commit.segments).1.commit
 next_commit catalog held commit same is =
     ap (λ (n : ℕ). record { opstamp = n; payload = commit.payload; segments = commit.segments }) (is ∙ ap (λ (c : Catalog). c.next) same)
 
 -- and its text means it, under the schema that was meant before
-pub means_next : (reads : Reads) (kept : Kept) (s : State) (commit : Commit) (text : List ℕ) → Holds reads kept s → IsPrinted kept commit text
+pub means_next : (reads : Reads) (kept : Kept) (s : State) (commit : Commit) (text : List ℕ) → Holds reads kept s → PrintsNext kept commit text
     → Means kept.form.settings kept.form.schema text (committed s.catalog commit.payload commit.segments).1.commit
 means_next reads kept s commit text h p =
     let means : Means kept.form.settings kept.form.schema (printed kept.form.settings kept.form.schema commit ++ 10 ∷ []) commit =
@@ -102,18 +96,18 @@ means_next reads kept s commit text h p =
     (subst (λ (t : List ℕ). Means kept.form.settings kept.form.schema t commit) (sym p.text_is) means)
 
 -- the state after a commit
-pub published : (before now : Reads) (kept after : Kept) (s : State) (commit : Commit) (text : List ℕ) → Holds before kept s → IsPrinted kept commit text
+pub published : (before now : Reads) (kept after : Kept) (s : State) (commit : Commit) (text : List ℕ) → Holds before kept s → PrintsNext kept commit text
     → after ≡ record kept { catalog = record kept.catalog { next = kept.catalog.next + 1; commit = commit }; managed = insert_key byte_cmp kept.managed meta_name }
-    → now meta_name ≡ Some text → KeepsOtherFiles before now meta_name → (Lists (before list_name) kept.managed → Lists (now list_name) after.managed)
+    → now meta_name ≡ Some text → KeepsOtherFiles before now meta_name → (Listing before kept.managed → Listing now after.managed)
     → Holds now after (record s { catalog = (committed s.catalog commit.payload commit.segments).1 })
 published before now kept after s commit text h is is_after saved others list =
     let names : insert_key byte_cmp kept.managed meta_name ≡ s.managed =
-    ap (λ (ns : List (List ℕ)). insert_key byte_cmp ns meta_name) h.managed ∙ insert_present s.managed meta_name h.listed (listed_sorted (before list_name) s.managed meta_name h.listing h.listed) in
+    ap (λ (ns : List (List ℕ)). insert_key byte_cmp ns meta_name) h.managed ∙ insert_present s.managed meta_name h.listed (listing_sorted before s.managed h.listing) in
     let catalog : record kept.catalog { next = kept.catalog.next + 1; commit = commit } ≡ (committed s.catalog commit.payload commit.segments).1 =
     ap (λ (c : Catalog). record c { next = c.next + 1; commit = commit }) h.catalog
     ∙ ap (λ (k : Commit). record s.catalog { next = s.catalog.next + 1; commit = k }) (next_commit kept.catalog s.catalog commit h.catalog is.opstamp) in
-    let listing : Lists (now list_name) (insert_key byte_cmp kept.managed meta_name) =
-    subst (λ (k : Kept). Lists (now list_name) k.managed) is_after (list (subst (λ (ns : List (List ℕ)). Lists (before list_name) ns) (sym h.managed) h.listing)) in
+    let listing : Listing now (insert_key byte_cmp kept.managed meta_name) =
+    subst (λ (k : Kept). Listing now k.managed) is_after (list (subst (λ (ns : List (List ℕ)). Listing before ns) (sym h.managed) h.listing)) in
     subst (λ (k : Kept). Holds now k (record s { catalog = (committed s.catalog commit.payload commit.segments).1 })) (sym is_after) (record {
       catalog = catalog;
       managed = names;
@@ -123,6 +117,6 @@ published before now kept after s commit text h is is_after saved others list =
       files = λ n file. subst (λ (read : Option (List ℕ)). FileHolds (file_at s n) read (at kept.open_files n)) (sym (others n file.1 (undotted_isnt_list n file.0))) (h.files n file);
       left = h.left;
       meta = (text, saved, means_next before kept s commit text h is);
-      listing = subst (λ (ns : List (List ℕ)). Lists (now list_name) ns) names listing;
+      listing = subst (λ (ns : List (List ℕ)). Listing now ns) names listing;
       listed = h.listed;
     })

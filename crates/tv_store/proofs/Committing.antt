@@ -11,7 +11,7 @@ use Rattle.tv_directory.specs.declared.directory.Directory.{Ghosts}
 use Rattle.tv_model.specs.declared.segment.LiveSegment.{LiveSegment}
 use Rattle.tv_model.specs.Names.{meta_name}
 use Rattle.tv_model.specs.Files.{Rose}
-use Rattle.tv_model.specs.Lines.{unless, words_of}
+use Rattle.tv_model.specs.Lines.{refuse, unless, words_of}
 use Rattle.tv_model.specs.Commits.{Commit, IndexForm}
 use Rattle.tv_model.specs.Meaning.{Means}
 use Rattle.tv_model.specs.State.{State, StepResult, on_catalog}
@@ -21,7 +21,7 @@ use Rattle.tv_store.specs.Kept.{Kept, StoreState, Holds}
 use Rattle.tv_store.specs.StoreCauses.{EventCause}
 use Rattle.tv_store.specs.Applying.{LeavesCommit, SavesUnlessRefused}
 use Rattle.tv_store.specs.Stays.{Asks, EventFaults}
-use Rattle.tv_store.specs.Committing.{CommitStep, Commits, IsPrinted, KeepsRest, Publishes, commit_line, commit_of, unsealed_line}
+use Rattle.tv_store.specs.Committing.{CommitStep, Commits, PrintsNext, KeepsRest, Publishes, commit_line, commit_of, unknown_line, unsealed_line}
 use Rattle.tv_store.proofs.Holding.{same_holds, dotted_others}
 use Rattle.tv_store.proofs.CommitEvents.{means_next, next_commit, published}
 use Rattle.tv_index.specs.Saving.{saved_text}
@@ -31,7 +31,7 @@ module _ {O W C : Type 0} (g : Ghosts O W C) (given : Type 0) (old new : StoreSt
   -- what was only asked for stays
   rest_asked : Asks (OnlyReads g.told) g.view old new → KeepsRest g.told g.view old new
   rest_asked asks = record {
-    stays = record { form = ap (λ (k : Kept). k.form) asks.kept; is_open = asks.is_open; below = record { frame = asks.below.kept.frame; watched = inl asks.below.kept.watched } };
+    stays = record { form = ap (λ (k : Kept). k.form) asks.kept; standing = asks.standing; below = record { frame = asks.below.kept.frame; watched = inl asks.below.kept.watched } };
     open_files = ap (λ (k : Kept). k.open_files) asks.kept;
     collections = ap (λ (k : Kept). k.collections) asks.kept;
     reading = ap (λ (k : Kept). k.catalog.reading) asks.kept;
@@ -46,7 +46,7 @@ module _ {O W C : Type 0} (g : Ghosts O W C) (given : Type 0) (old new : StoreSt
     meta = λ tells s held known. inl (asks.below.content tells meta_name);
     memory = λ tells wanted. asks.below.content tells meta_name;
     room = tt;
-    faults = record { quiet = tt; cause = cause };
+    faults = record { quiet = tt; fits = tt; cause = cause };
     dotted = λ tells n dot other. asks.below.content tells n;
     frame = rest_asked asks;
   }
@@ -60,7 +60,7 @@ module _ {O W C : Type 0} (g : Ghosts O W C) (given : Type 0) (old new : StoreSt
     step = λ tells s held known.
         let e = shows tells s held known in
         let saves : SavesUnlessRefused old.kept.form (g.view old.outside) (g.view new.outside) s s =
-        record { refused = λ same. (asks.below.content tells, asks.below.kept.watched); saved = λ other. absurd (other refl) } in (
+        record { refused = λ same. record { reads = asks.below.content tells; watched = asks.below.kept.watched }; saved = λ other. absurd (other refl) } in (
           is ∙ sym (ap (λ (t : StepResult State). t.0) e),
           subst (λ (t : StepResult State). Holds (g.view new.outside).reads new.kept t.1) (sym e) (same_holds (g.view old.outside).reads (g.view new.outside).reads old.kept new.kept s (asks.below.content tells) asks.kept held),
           subst (λ (t : StepResult State). SavesUnlessRefused old.kept.form (g.view old.outside) (g.view new.outside) s t.1) (sym e) saves,
@@ -102,12 +102,13 @@ later_left quiet now_faults was_faults start before now form was commit q b w h 
 saves_later : {W : Type 0} (told : ToldParts) (form was : IndexForm) (first now next : View W) (before after : State) → told.content → OnlyReads told first now → was ≡ form
     → SavesUnlessRefused was now next before after → SavesUnlessRefused form first next before after
 saves_later told form was first now next before after tells asks is h = record {
-  refused = λ same. let k = h.refused same in ((λ n. k.0 n ∙ asks.content tells n), k.1 ∙ asks.kept.watched);
+  refused = λ same. let k = h.refused same in record { reads = λ n. k.reads n ∙ asks.content tells n; watched = k.watched ∙ asks.kept.watched };
   saved = λ other.
-      let k = h.saved other in (
-        subst (λ (f : IndexForm). next.reads meta_name ≡ Some (saved_text f.settings f.schema after.catalog.commit)) is k.0,
-        subst (λ (w : WatchState). next.watched ≡ noted meta_name w) asks.kept.watched k.1,
-      );
+      let k = h.saved other in
+      record {
+        text = subst (λ (f : IndexForm). next.reads meta_name ≡ Some (saved_text f.settings f.schema after.catalog.commit)) is k.text;
+        notice = subst (λ (w : WatchState). next.watched ≡ noted meta_name w) asks.kept.watched k.notice;
+      };
 }
 
 module _ {O W C : Type 0} (g : Ghosts O W C) (old mid new : StoreState O) where
@@ -115,7 +116,7 @@ module _ {O W C : Type 0} (g : Ghosts O W C) (old mid new : StoreState O) where
   rest_later asks rest = record {
     stays = record {
       form = rest.stays.form ∙ ap (λ (k : Kept). k.form) asks.kept;
-      is_open = rest.stays.is_open ∙ asks.is_open;
+      standing = rest.stays.standing ∙ asks.standing;
       below = notes_later asks.below rest.stays.below;
     };
     open_files = rest.open_files ∙ ap (λ (k : Kept). k.open_files) asks.kept;
@@ -126,7 +127,7 @@ module _ {O W C : Type 0} (g : Ghosts O W C) (old mid new : StoreState O) where
   faults_later : {A : Type 0} (result : Result A TantivyError) → (g.view mid.outside).faults ≡ (g.view old.outside).faults → EventFaults ⊥ (g.view mid.outside) (g.view new.outside) result → EventFaults ⊥ (g.view old.outside) (g.view new.outside) result
   faults_later result quiet h =
       subst (λ (n : ℕ). OnOk result ((g.view new.outside).faults ≡ n) → IfErr result (EventCause (Rose n (g.view new.outside).faults) ((g.view new.outside).faults ≡ n) ⊥) → EventFaults ⊥ (g.view old.outside) (g.view new.outside) result) (sym quiet)
-      (λ q c. record { quiet = q; cause = c }) h.quiet h.cause
+      (λ q c. record { quiet = q; fits = h.fits; cause = c }) h.quiet h.cause
 
   pub commits_later : (given : Type 0) (told : State → StepResult State) (result : Result (List ℕ) TantivyError)
       → Asks (OnlyReads g.told) g.view old mid → (g.view mid.outside).faults ≡ (g.view old.outside).faults → Commits g given mid new told result → Commits g given old new told result
@@ -147,6 +148,14 @@ module _ {O W C : Type 0} (g : Ghosts O W C) (old mid new : StoreState O) where
   }
 
 -- ---- the steps
+
+-- the numbers are spent
+pub spent_step : (s : State) (payload : Option (List ℕ)) (ids : List (List ℕ)) → s.catalog.next ≡ last_stamp → commit_step s payload ids ≡ refuse s (codes "stamps-spent" ∷ [])
+spent_step s payload ids spent = rw spent refl
+
+-- a segment isn't live
+pub unknown_step : (s : State) (payload : Option (List ℕ)) (ids : List (List ℕ)) (id : List ℕ) → (s.catalog.next == last_stamp) ≡ false → first_unknown s.catalog ids ≡ Some id → commit_step s payload ids ≡ (unknown_line id, s)
+unknown_step s payload ids id left found = rw (left, found) refl
 
 -- or all are
 pub known_step : (s : State) (payload : Option (List ℕ)) (ids : List (List ℕ)) → (s.catalog.next == last_stamp) ≡ false → first_unknown s.catalog ids ≡ None → commit_step s payload ids ≡ commit_of s payload (chosen s.catalog ids)
@@ -186,7 +195,7 @@ goes_up n same = omega (arith, same)
 
 module _ {O W C : Type 0} (g : Ghosts O W C) (old new : StoreState O) (commit : Commit) (text answer : List ℕ) where
   abbrev Given : Type 0
-  Given = IsPrinted old.kept commit text × (answer ≡ commit_line commit.opstamp commit.segments)
+  Given = PrintsNext old.kept commit text × (answer ≡ commit_line commit.opstamp commit.segments)
 
   abbrev told : State → StepResult State
   told s = on_catalog s (committed s.catalog commit.payload commit.segments)
@@ -200,16 +209,16 @@ module _ {O W C : Type 0} (g : Ghosts O W C) (old new : StoreState O) (commit : 
       published (g.view old.outside).reads (g.view new.outside).reads old.kept new.kept s commit text held known.0 done.kept (done.saved tells) (others tells) (done.list tells),
       record {
         refused = λ same. absurd (goes_up s.catalog.next (ap (λ (x : State). x.catalog.next) same));
-        saved = λ other. (
-          done.saved tells ∙ ap (λ (t : List ℕ). Some t) (known.0.text_is ∙ ap (saved_text old.kept.form.settings old.kept.form.schema) (next_commit old.kept.catalog s.catalog commit held.catalog known.0.opstamp)),
-          done.notes,
-        );
+        saved = λ other. record {
+          text = done.saved tells ∙ ap (λ (t : List ℕ). Some t) (known.0.text_is ∙ ap (saved_text old.kept.form.settings old.kept.form.schema) (next_commit old.kept.catalog s.catalog commit held.catalog known.0.opstamp));
+          notice = done.notes;
+        };
       },
     );
     meta = λ tells s held known. tt;
     memory = λ tells. tt;
     room = room;
-    faults = record { quiet = quiet; cause = tt };
+    faults = record { quiet = quiet; fits = λ never. never; cause = tt };
     dotted = λ tells. dotted_others (g.view old.outside).reads (g.view new.outside).reads meta_name refl (others tells);
     frame = frame;
   }
@@ -227,7 +236,7 @@ module _ {O W C : Type 0} (g : Ghosts O W C) (old new : StoreState O) (commit : 
         cause (memory tells) (either tells) (means_next (g.view old.outside).reads old.kept s commit text held known.0);
     memory = memory;
     room = tt;
-    faults = record { quiet = tt; cause = cause };
+    faults = record { quiet = tt; fits = tt; cause = cause };
     dotted = λ tells. dotted_others (g.view old.outside).reads (g.view new.outside).reads meta_name refl (others tells);
     frame = frame;
   }

@@ -8,14 +8,13 @@ use Rattle.tv_directory.specs.declared.directory.Directory.{Ghosts}
 use Rattle.tv_index.specs.Saving.{saved_text}
 use Rattle.tv_model.specs.Collections.{held}
 use Rattle.tv_model.specs.CommitEvents.{chosen, commit_step, committed, first_unknown, first_unsealed, last_stamp}
-use Rattle.tv_model.specs.Commits.{Commit, IndexForm, IsSegment}
+use Rattle.tv_model.specs.Commits.{IndexForm, IsSegment}
 use Rattle.tv_model.specs.DeleteEvents.{delete_name, deletes_step, having_deleted_docs, is_committed_delete, is_name_in_use, next_deletes}
 use Rattle.tv_model.specs.FileEvents.{seal_name, seal_step, sealed_as, write_name, write_step, written_to, wrote}
 use Rattle.tv_model.specs.Footer.{sealed}
 use Rattle.tv_model.specs.Index.{IsFileOf}
 use Rattle.tv_model.specs.Lines.{given, unless, words_of}
 use Rattle.tv_model.specs.Machine.{step}
-use Rattle.tv_model.specs.Meaning.{Means}
 use Rattle.tv_model.specs.Names.{byte_cmp, has, meta_name}
 use Rattle.tv_model.specs.ReaderEvents.{bodies_in, reload_step, reloaded}
 use Rattle.tv_model.specs.SearcherEvents.{bytes_step}
@@ -30,7 +29,7 @@ use Rattle.tv_model.proofs.Entries.{at_itself, lookup_put, text_at}
 use Rattle.tv_model.proofs.Numbered.{put_found}
 use Rattle.tv_model.proofs.Required.{name_is_file}
 use Rattle.tv_model.proofs.WholeStates.{after_whole}
-use Rattle.tv_store.specs.Applying.{Stepped}
+use Rattle.tv_store.specs.Applying.{LeavesAlone, Stepped, WritesByStep}
 use Rattle.tv_store.specs.EventLaws.{HasLiving, HoldsSome}
 use Rattle.tv_store.specs.Kept.{FileHolds, Holds, StoreState}
 use Rattle.tv_store.specs.SnapshotCalls.{ShowsMeta}
@@ -147,8 +146,14 @@ file_put s name file = lookup_put s.files name name file ∙ ap (λ (is : Bool).
 -- ---- the laws
 
 module _ {O W C : Type 0} (g : Ghosts O W C) (old new : StoreState O) (h : HoldsSome g old) where
-  catalog_after : (event : Event) (answer : List ℕ) (did : Stepped g old new event answer) → new.kept.catalog ≡ (step h.state event did.0).1.catalog
-  catalog_after event answer did = (did.2 h.tells h.state h.held h.whole).1.catalog
+  catalog_after : (event : Event) (answer : List ℕ) (did : Stepped g old new event answer) → new.kept.catalog ≡ (step h.state event did.outcomes).1.catalog
+  catalog_after event answer did = (did.each h.tells h.state h.held h.whole).held.catalog
+
+  pub leaves_alone : (event : Event) (answer : List ℕ) → WritesByStep old.kept event → Stepped g old new event answer
+      → (outcomes : List Bool) × (answer ≡ (step h.state event outcomes).0) × ((step h.state event outcomes).1 ≡ h.state → LeavesAlone (g.view old.outside) (g.view new.outside))
+  leaves_alone event answer writes did =
+      let held = did.each h.tells h.state h.held h.whole in
+      (did.outcomes, held.told, λ same. held.unchanged writes same)
 
   pub draws_anew : (id answer : List ℕ) (n : ℕ) → has old.kept.managed (delete_name id (Some (next_deletes old.kept.catalog n))) ≡ true
       → Stepped g old new (events.Deletes id n) answer → new.kept.catalog ≡ old.kept.catalog
@@ -169,13 +174,13 @@ module _ {O W C : Type 0} (g : Ghosts O W C) (old new : StoreState O) (h : Holds
 
     pub commits_saved : new.kept.form ≡ old.kept.form → (g.view new.outside).reads meta_name ≡ Some (saved_text new.kept.form.settings new.kept.form.schema new.kept.catalog.commit)
     commits_saved form =
-        let saved = (did.2 h.tells h.state h.held h.whole).3.saved (λ same. anew (ap (λ (t : State). t.catalog) same)) in
-        saved.0 ∙ ap (λ (f : IndexForm). Some (saved_text f.settings f.schema (commit_step h.state payload ids).1.catalog.commit)) (sym form)
+        let saved = (did.each h.tells h.state h.held h.whole).saves (λ same. anew (ap (λ (t : State). t.catalog) same)) in
+        saved.text ∙ ap (λ (f : IndexForm). Some (saved_text f.settings f.schema (commit_step h.state payload ids).1.catalog.commit)) (sym form)
         ∙ ap (λ (c : Catalog). Some (saved_text new.kept.form.settings new.kept.form.schema c.commit)) (sym (catalog_after (events.Commit payload ids) answer did))
 
   pub shows_commit : (number : ℕ) (answer : List ℕ) (reader : Reader) → reader_at new.kept.catalog number ≡ Some reader → Stepped g old new (events.Reload number) answer → ShowsMeta g new reader.shown
   shows_commit number answer reader there did tells =
-      let holds = (did.2 h.tells h.state h.held h.whole).1 in
+      let holds = (did.each h.tells h.state h.held h.whole).held in
       let bodies = bodies_in h.state h.state.catalog.commit in
       let found : reader_at (reload_step h.state.catalog number bodies).1 number ≡ Some reader = ap (λ (c : Catalog). reader_at c number) (sym holds.catalog) ∙ there in (
         holds.meta.0,
@@ -185,7 +190,7 @@ module _ {O W C : Type 0} (g : Ghosts O W C) (old new : StoreState O) (h : Holds
 
   pub bytes_shown : (number ord : ℕ) (component : SegmentComponent) (answer : List ℕ) → Stepped g old new (events.Bytes number ord component) answer → answer ≡ (bytes_step old.kept.catalog number ord component).0
   bytes_shown number ord component answer did =
-      (did.2 h.tells h.state h.held h.whole).0 ∙ ap (λ (c : Catalog). (bytes_step c number ord component).0) (sym h.held.catalog)
+      (did.each h.tells h.state h.held h.whole).told ∙ ap (λ (c : Catalog). (bytes_step c number ord component).0) (sym h.held.catalog)
 
 module _ {O W C : Type 0} (g : Ghosts O W C) (old mid new : StoreState O) (h : HoldsSome g old) (id : List ℕ) (component : SegmentComponent) (bytes : List ℕ) (segment : LiveSegment) (body : List ℕ)
     (live : live_at old.kept.catalog id ≡ Some segment) (opened : at old.kept.open_files (name_of id segment.deletes component) ≡ Some body) where
@@ -216,7 +221,7 @@ module _ {O W C : Type 0} (g : Ghosts O W C) (old mid new : StoreState O) (h : H
   pub reads_sealed : (first second : List ℕ) → Stepped g old mid (events.Write id component bytes) first → Stepped g mid new (events.Seal id component) second
       → (g.view new.outside).reads file ≡ Some (sealed (body ++ bytes))
   reads_sealed first second did ended =
-      let whole : IsWhole longer = subst IsWhole wrote_so (after_whole h.state ((events.Write id component bytes, did.0) ∷ []) h.whole) in
-      let between : Holds (g.view mid.outside).reads mid.kept longer = subst (Holds (g.view mid.outside).reads mid.kept) wrote_so (did.2 h.tells h.state h.held h.whole).1 in
-      let last : Holds (g.view new.outside).reads new.kept (with_file longer file (Sealed (sealed (body ++ bytes)))) = subst (Holds (g.view new.outside).reads new.kept) sealed_so (ended.2 h.tells longer between whole).1 in
+      let whole : IsWhole longer = subst IsWhole wrote_so (after_whole h.state ((events.Write id component bytes, did.outcomes) ∷ []) h.whole) in
+      let between : Holds (g.view mid.outside).reads mid.kept longer = subst (Holds (g.view mid.outside).reads mid.kept) wrote_so (did.each h.tells h.state h.held h.whole).held in
+      let last : Holds (g.view new.outside).reads new.kept (with_file longer file (Sealed (sealed (body ++ bytes)))) = subst (Holds (g.view new.outside).reads new.kept) sealed_so (ended.each h.tells longer between whole).held in
       sealed_is ((g.view new.outside).reads file) (at new.kept.open_files file) (sealed (body ++ bytes)) _ (file_put longer file (Sealed (sealed (body ++ bytes)))) (last.files file is_file)

@@ -1,6 +1,6 @@
 -- What is held after an event on a file.
-use Rattle.std.proofs.Common.{◌≡◌, ◌≢◌, ℕ, ◌+◌, ◌≤◌, ◌<◌, Bool, true, false, true≢false, ⊎_elim, cond, List, [], ◌∷◌, ◌++◌, length, length-append, codes, Option, Some, None, option_map, is_some, refl, sym, ap, subst, ◌∙◌, arith}
-use Rattle.std.specs.Prelude.{IsSome, SomeIff}
+use Rattle.std.proofs.Common.{◌≡◌, ◌≢◌, inl, inr, ℕ, ◌+◌, ◌≤◌, ◌<◌, Bool, true, false, true≢false, ⊎_elim, cond, List, [], ◌∷◌, ◌++◌, length, length-append, codes, Option, Some, None, option_map, is_some, refl, sym, ap, subst, ◌∙◌, arith}
+use Rattle.std.specs.Prelude.{IsSome, SomeIff, option_and_then}
 use Rattle.std.specs.Fmt.{decimal}
 use Rattle.std.specs.List.{AllByRecursion}
 use Rattle.std.specs.Map.{remove_entry}
@@ -8,11 +8,11 @@ use Rattle.std.specs.BTreeMap.{is_at, insert_entry}
 use Rattle.std.specs.BTreeSet.{insert_key}
 use Rattle.tv_model.specs.declared.segment.LiveSegment.{LiveSegment}
 use Rattle.tv_model.specs.declared.segment.SegmentComponent.{SegmentComponent}
-use Rattle.tv_model.specs.Names.{byte_cmp, has, is_undotted, list_name, meta_name}
+use Rattle.tv_model.specs.Names.{byte_cmp, has, meta_name}
 use Rattle.tv_model.specs.declared.event.Event.TheVariants as events
 use Rattle.tv_model.specs.Footer.{sealed}
 use Rattle.tv_model.specs.Files.{Reads, KeepsOthers, Sets}
-use Rattle.tv_model.specs.Listing.{Lists}
+use Rattle.tv_model.specs.Listing.{IsListFile, Listing}
 use Rattle.tv_model.specs.Segments.{name_of}
 use Rattle.tv_model.specs.State.{Catalog, State, StepResult, FileState, Sealed, Open, Left, at, live_at, file_at, with_file}
 use Rattle.tv_model.specs.Lines.{line, refuse, unless, given}
@@ -27,10 +27,13 @@ use Rattle.tv_directory.specs.View.{Kept as KeptView, OnlyReads}
 use Rattle.tv_directory.specs.declared.directory.Directory.{Ghosts}
 use Rattle.tv_model.specs.Meaning.{Means}
 use Rattle.tv_model.specs.Commits.{IndexForm}
+use Rattle.tv_store.proofs.Listings.{listing_beside, undotted_isnt_list}
 use Rattle.tv_store.specs.Kept.{Kept, StoreState, FilesState, kept_of, FileHolds, is_left, Holds}
+use Rattle.tv_store.specs.Applying.{WritesByStep}
 use Rattle.tv_store.specs.Exhausted.{PassesEnd, length_after}
 use Rattle.tv_store.specs.FileCalls.{OpensFile, FindsFile}
 use Rattle.tv_store.specs.Stays.{Asks, KeepsManaged}
+use Rattle.tv_store.proofs.Changed.{opened_anew, sealed_now, wrote_more}
 use Rattle.tv_store.proofs.Holding.{same_holds}
 use Rattle.tv_store.proofs.LivingNames.{living_name}
 use Rattle.tv_store.proofs.OpenFiles.{all_put, all_left, all_found}
@@ -103,7 +106,7 @@ left_put false left file old here now was = was
 
 -- what is held where one file changed
 changed : {O : Type 0} (c : Catalog) (reads reads2 : Reads) (old new : FilesState O) (s : State) (name : List ℕ) (file : FileState) (managed : List (List ℕ))
-    → IsFileOf name → ((n : List ℕ) → n ≢ name → n ≢ list_name → reads2 n ≡ reads n) → new.managed ≡ managed → Lists (reads2 list_name) managed → has managed meta_name ≡ true
+    → IsFileOf name → ((n : List ℕ) → n ≢ name → (IsListFile n → ⊥) → reads2 n ≡ reads n) → new.managed ≡ managed → Listing reads2 managed → has managed meta_name ≡ true
     → FileHolds (Some file) (reads2 name) (at new.open_files name) → ((n : List ℕ) → is_at (byte_cmp name) n ≡ false → at new.open_files n ≡ at old.open_files n)
     → new.left ≡ old.left → new.form ≡ old.form → new.collections ≡ old.collections → is_left (file_at s name) ≡ false → is_left (Some file) ≡ false
     → Holds reads (kept_of c old) s → Holds reads2 (kept_of c new) (record (with_file s name file) { managed = managed })
@@ -120,14 +123,13 @@ changed c reads reads2 old new s name file managed fits others names listing lis
       (chosen (is_at (byte_cmp name) n) file (file_at s n) (reads2 n) (at new.open_files n)
       (λ e. subst (λ (m : List ℕ). FileHolds (Some file) (reads2 m) (at new.open_files m)) (text_at name n e) here)
       (λ e.
-      let undotted_isnt : n ≢ list_name = λ same. true≢false (sym it.0 ∙ ap is_undotted same) in
-      subst (λ (r : Option (List ℕ)). FileHolds (file_at s n) r (at new.open_files n)) (sym (others n (apart name n e) undotted_isnt))
+      subst (λ (r : Option (List ℕ)). FileHolds (file_at s n) r (at new.open_files n)) (sym (others n (apart name n e) (undotted_isnt_list n it.0)))
       (subst (λ (w : Option (List ℕ)). FileHolds (file_at s n) (reads n) w) (sym (rest n e)) (h.files n it))));
   left = λ n it.
       let stays : has new.left n ≡ is_left (file_at s n) = ap (λ (names : List (List ℕ)). has names n) left ∙ h.left n it in
       subst (λ (o : Option FileState). has new.left n ≡ is_left o) (sym (lookup_put s.files name n file))
       (left_put (is_at (byte_cmp name) n) (has new.left n) file (file_at s n) (λ e. stays ∙ ap (λ (m : List ℕ). is_left (file_at s m)) (sym (text_at name n e)) ∙ was) now stays);
-  meta = (h.meta.0, others meta_name (λ e. fits.1 (sym e)) (λ e. absurd cc) ∙ h.meta.1, subst (λ (f : IndexForm). Means f.settings f.schema h.meta.0 s.catalog.commit) (sym made) h.meta.2);
+  meta = (h.meta.0, others meta_name (λ e. fits.1 (sym e)) (undotted_isnt_list meta_name refl) ∙ h.meta.1, subst (λ (f : IndexForm). Means f.settings f.schema h.meta.0 s.catalog.commit) (sym made) h.meta.2);
   listing = listing;
   listed = listed;
 }
@@ -159,12 +161,6 @@ has_body : (o : Option (List ℕ)) (len : ℕ) → Some len ≡ option_map lengt
 has_body None len e = absurd cc
 has_body (Some body) len e = (body, refl, cc)
 
--- the managed names stay, and so does what the list reads
-kept_list : (reads reads2 : Reads) (name : List ℕ) (names : List (List ℕ)) → IsFileOf name → KeepsOthers reads reads2 name → Lists (reads list_name) names → Lists (reads2 list_name) names
-kept_list reads reads2 name names fits others h =
-    let isnt : list_name ≢ name = λ e. true≢false (sym fits.0 ∙ ap is_undotted (sym e)) in
-    subst (λ (r : Option (List ℕ)). Lists r names) (sym (others list_name isnt)) h
-
 -- a file of a live segment, by its step under this name
 module _ {O W C : Type 0} (g : Ghosts O W C) (c : Catalog) (old new : FilesState O) (s : State) (id name : List ℕ) (component : SegmentComponent) (segment : LiveSegment) (answer : List ℕ) where
   -- that is there, since no collection holds a file of a live segment
@@ -195,7 +191,7 @@ module _ {O W C : Type 0} (g : Ghosts O W C) (c : Catalog) (old new : FilesState
       (file_known s id name component segment (λ x n. open_name s x component n) found is ∙ open_by s segment component name false false lacks gone) (
         said,
         changed c (g.view old.outside).reads (g.view new.outside).reads old new s name (Open []) (insert_key byte_cmp s.managed name) fits makes.others names
-            (subst (Lists ((g.view new.outside).reads list_name)) names (opens.list tells (subst (Lists ((g.view old.outside).reads list_name)) (sym h.managed) h.listing)))
+            (subst (Listing (g.view new.outside).reads) names (opens.list tells (subst (Listing (g.view old.outside).reads) (sym h.managed) h.listing)))
             (has_kept s.managed name meta_name h.listed)
             (ap is_some makes.empty, looks name ∙ ap (λ (b : Bool). cond b (Some []) (at old.open_files name)) (at_itself name))
             (λ n e. looks n ∙ ap (λ (b : Bool). cond b (Some []) (at old.open_files n)) e) opens.left made still (absent_isnt_left (file_at s name) gone) refl h,
@@ -218,7 +214,7 @@ module _ {O W C : Type 0} (g : Ghosts O W C) (c : Catalog) (old new : FilesState
       (file_known s id name component segment (λ x n. write_name s n bytes) found is ∙ body_step s name (wrote s name bytes) (g.view old.outside).reads (kept_of c old) (Some body) h fits it.1) (
         said ∙ ap (λ (n : ℕ). line (codes "wrote") (name ∷ decimal n ∷ [])) sum,
         changed c (g.view old.outside).reads (g.view new.outside).reads old new s name (Open (body ++ bytes)) s.managed fits (λ n isnt _. others n isnt) (frame.names ∙ h.managed)
-            (kept_list (g.view old.outside).reads (g.view new.outside).reads name s.managed fits others h.listing) h.listed
+            (listing_beside (g.view old.outside).reads (g.view new.outside).reads name s.managed fits others h.listing) h.listed
             (there, looks name ∙ ap (λ (b : Bool). cond b (Some (body ++ bytes)) (at rest name)) (at_itself name))
             (λ n e. looks n ∙ ap (λ (b : Bool). cond b (Some (body ++ bytes)) (at rest n)) e ∙ at_removed old.open_files name n e) frame.left frame.form frame.collections
             (open_isnt_left (file_at s name) ((g.view old.outside).reads name) (at old.open_files name) body (h.files name fits) it.1) refl h,
@@ -238,10 +234,37 @@ module _ {O W C : Type 0} (g : Ghosts O W C) (c : Catalog) (old new : FilesState
       (file_known s id name component segment (λ x n. seal_name s n) found is ∙ body_step s name (sealed_as s name) (g.view old.outside).reads (kept_of c old) (Some body) h fits it.1) (
         said ∙ ap (λ (n : ℕ). line (codes "sealed") (name ∷ decimal n ∷ [])) it.2,
         changed c (g.view old.outside).reads (g.view new.outside).reads old new s name (Sealed (sealed body)) s.managed fits (λ n isnt _. now.others n isnt) (frame.names ∙ h.managed)
-            (kept_list (g.view old.outside).reads (g.view new.outside).reads name s.managed fits now.others h.listing) h.listed
+            (listing_beside (g.view old.outside).reads (g.view new.outside).reads name s.managed fits now.others h.listing) h.listed
             (now.changed, closed) (λ n e. ap (λ (es : List (List ℕ × List ℕ)). at es n) cut ∙ at_removed old.open_files name n e) frame.left frame.form frame.collections
             (open_isnt_left (file_at s name) ((g.view old.outside).reads name) (at old.open_files name) body (h.files name fits) it.1) refl h,
       )
+
+  -- and after each of them the state isn't the one before
+  module _ (found : live_at s.catalog id ≡ Some segment) (is : name ≡ name_of id segment.deletes component) (fits : IsFileOf name) (h : Holds (g.view old.outside).reads (kept_of c old) s) where
+    pub made_anew : g.told.content → lacks_deletes segment component ≡ false → OpensFile g old new name → (open_step s id component).1 ≢ s
+    made_anew tells lacks opens same =
+        let gone : is_some (file_at s name) ≡ false = isnt_there (file_at s name) ((g.view old.outside).reads name) (at old.open_files name) (h.files name fits) (opens.makes tells).absent in
+        let step : open_step s id component ≡ opened s name = file_known s id name component segment (λ x n. open_name s x component n) found is ∙ open_by s segment component name false false lacks gone in
+        opened_anew s name gone (sym (ap (λ (t : StepResult State). t.1) step) ∙ same)
+
+    module _ (len : ℕ) (has_len : Some len ≡ option_map length (at old.open_files name)) where
+      abbrev body_there : (body : List ℕ) × (at old.open_files name ≡ Some body) × (len ≡ length body)
+      body_there = has_body (at old.open_files name) len has_len
+
+      opened_with : written_to (file_at s name) ≡ Some body_there.0
+      opened_with = written_is (file_at s name) ((g.view old.outside).reads name) (at old.open_files name) (h.files name fits) ∙ body_there.1
+
+      pub written_anew : (bytes : List ℕ) → bytes ≢ [] → (write_step s id component bytes).1 ≢ s
+      written_anew bytes some same =
+          let step : write_step s id component bytes ≡ wrote s name bytes body_there.0 =
+          file_known s id name component segment (λ x n. write_name s n bytes) found is ∙ body_step s name (wrote s name bytes) (g.view old.outside).reads (kept_of c old) (Some body_there.0) h fits body_there.1 in
+          wrote_more s name bytes body_there.0 opened_with some (sym (ap (λ (t : StepResult State). t.1) step) ∙ same)
+
+      pub sealed_anew : (seal_step s id component).1 ≢ s
+      sealed_anew same =
+          let step : seal_step s id component ≡ sealed_as s name body_there.0 =
+          file_known s id name component segment (λ x n. seal_name s n) found is ∙ body_step s name (sealed_as s name) (g.view old.outside).reads (kept_of c old) (Some body_there.0) h fits body_there.1 in
+          sealed_now s name body_there.0 opened_with (sym (ap (λ (t : StepResult State). t.1) step) ∙ same)
 
 -- ---- how many bytes are open
 
@@ -286,10 +309,53 @@ length_passes kept id component segment name bytes len live is has_len large =
     let is_len : len ≡ length it.0 = it.2 in
     (length (it.0 ++ bytes), rw (live, there) refl, omega (arith, is_len, length-append it.0 bytes, large))
 
+-- a write to an open file that isn't one of no bytes to an open file has some
+pub wrote_some : (kept : Kept) (id : List ℕ) (component : SegmentComponent) (segment : LiveSegment) (name bytes : List ℕ) (len : ℕ) → live_at kept.catalog id ≡ Some segment → name ≡ name_of id segment.deletes component
+    → Some len ≡ option_map length (at kept.open_files name) → WritesByStep kept (events.Write id component bytes) → bytes ≢ []
+wrote_some kept id component segment name bytes len live is has_len (inl some) = some
+wrote_some kept id component segment name bytes len live is has_len (inr none) =
+    let it = has_body (at kept.open_files name) len has_len in
+    let there : at kept.open_files (name_of id segment.deletes component) ≡ Some it.0 = ap (at kept.open_files) (sym is) ∙ it.1 in
+    let measured : length_after kept (events.Write id component bytes) ≡ Some (length (it.0 ++ bytes)) = rw (live, there) refl in
+    let never : ◌≡◌ {A = Option ℕ} None (Some (length (it.0 ++ bytes))) = sym none ∙ measured in
+    absurd cc
+
+-- the length of an open file after a write is that of what was written, with what is added
+length_there : {P : Type 0} (found : Option (List ℕ)) (bytes : List ℕ) (n : ℕ) → option_map (λ (body : List ℕ). length (body ++ bytes)) found ≡ Some n → ((body : List ℕ) → found ≡ Some body → length (body ++ bytes) ≡ n → P) → P
+length_there None bytes n e k = absurd cc
+length_there (Some body) bytes n e k = k body refl cc
+
+written_there : {P : Type 0} (found : Option LiveSegment) (body_of : LiveSegment → Option (List ℕ)) (bytes : List ℕ) (n : ℕ) → option_and_then (λ (segment : LiveSegment). option_map (λ (body : List ℕ). length (body ++ bytes)) (body_of segment)) found ≡ Some n
+    → ((segment : LiveSegment) (body : List ℕ) → found ≡ Some segment → body_of segment ≡ Some body → length (body ++ bytes) ≡ n → P) → P
+written_there None body_of bytes n e k = absurd cc
+written_there (Some segment) body_of bytes n e k = length_there (body_of segment) bytes n e (λ body there sum. k segment body refl there sum)
+
+-- so that it fits where there is no such segment
+pub unknown_fits : (kept : Kept) (id : List ℕ) (component : SegmentComponent) (bytes : List ℕ) → live_at kept.catalog id ≡ None → PassesEnd (length_after kept (events.Write id component bytes)) → ⊥
+unknown_fits kept id component bytes none (n, is, much) =
+    written_there (live_at kept.catalog id) (λ (segment : LiveSegment). at kept.open_files (name_of id segment.deletes component)) bytes n is
+    (λ segment body live there sum. let never : None ≡ Some segment = sym none ∙ live in absurd cc)
+
+-- and where the file isn't open, or its length fits
+pub sum_fits : (kept : Kept) (id : List ℕ) (component : SegmentComponent) (segment : LiveSegment) (name bytes : List ℕ) (len : Option ℕ) → live_at kept.catalog id ≡ Some segment → name ≡ name_of id segment.deletes component
+    → len ≡ option_map length (at kept.open_files name) → ((l : ℕ) → len ≡ Some l → l + length bytes < 18446744073709551616) → PassesEnd (length_after kept (events.Write id component bytes)) → ⊥
+sum_fits kept id component segment name bytes len live is_name has_len small (n, is, much) =
+    written_there (live_at kept.catalog id) (λ (found : LiveSegment). at kept.open_files (name_of id found.deletes component)) bytes n is
+    (λ found body is_live there sum.
+    let both : Some segment ≡ Some found = sym live ∙ is_live in
+    let one : segment ≡ found = cc in
+    let reads : at kept.open_files name ≡ Some body = ap (at kept.open_files) (is_name ∙ ap (λ (s : LiveSegment). name_of id s.deletes component) one) ∙ there in
+    let less : length body + length bytes < 18446744073709551616 = small (length body) (has_len ∙ ap (option_map length) reads) in
+    omega (arith, less, sum, length-append body bytes, much))
+
 -- a sum that is told where it fits
 pub sum_is : (sum : Option ℕ) (fits : Type 0) (n value : ℕ) → SomeIff sum fits value → sum ≡ Some n → n ≡ value
 sum_is None fits n value h e = absurd cc
 sum_is (Some m) fits n value h e = let same : Some m ≡ Some n = e in let is : m ≡ value = h.1 in cc
+
+pub sum_is_small : (sum : Option ℕ) (fits : Type 0) (n value : ℕ) → SomeIff sum fits value → sum ≡ Some n → fits
+sum_is_small None fits n value h e = absurd cc
+sum_is_small (Some m) fits n value h e = h.0
 
 -- and one that doesn't fit
 pub sum_isnt : (sum : Option ℕ) (value : ℕ) → SomeIff sum (value < 18446744073709551616) value → sum ≡ None → 18446744073709551616 ≤ value

@@ -10,24 +10,24 @@ use Rattle.tv_model.specs.Commits.{Commit, Settings, IndexForm, IsCommit, IsSegm
 use Rattle.tv_model.specs.Files.{Reads}
 use Rattle.tv_model.specs.Footer.{IsGood}
 use Rattle.tv_model.specs.Index.{FindsCommit, FoundIndex, HasFiles, IsFileOf, OpenedIndex, managed_with, opened_catalog}
-use Rattle.tv_model.specs.Listing.{Lists}
+use Rattle.tv_model.specs.Listing.{Listing}
 use Rattle.tv_model.specs.Meaning.{Means}
-use Rattle.tv_model.specs.Names.{has, list_name, meta_name}
+use Rattle.tv_model.specs.Names.{has, meta_name}
 use Rattle.tv_model.specs.Readable.{CanRead}
 use Rattle.tv_model.specs.Schemas.{IsSchema, IsSchemaText}
 use Rattle.tv_model.specs.Segments.{all_required}
 use Rattle.tv_model.specs.State.{Catalog, FileState, Sealed, file_at}
 use Rattle.tv_model.proofs.Entries.{has_inserted}
-use Rattle.tv_model.proofs.ListTexts.{lists_one}
-use Rattle.tv_model.proofs.OneMeaning.{means_one}
+use Rattle.tv_model.proofs.ListTexts.{listing_one}
+use Rattle.tv_model.proofs.MeansOne.{means_one}
 use Rattle.tv_model.proofs.ReadPrinted.{printed_means}
 use Rattle.tv_model.proofs.Required.{required_is_file}
 use Rattle.tv_model.proofs.SoundOpenings.{opens_catalog}
-use Rattle.tv_model.proofs.SpelledCommits.{spells_commit}
+use Rattle.tv_model.proofs.SpelledCommits as spelled_commits
 use Rattle.tv_store.specs.Bodies.{ReadsGoodFile}
 use Rattle.tv_store.specs.Kept.{FilesState, FileHolds, Holds, is_left, kept_of}
 use Rattle.tv_store.specs.Making.{FindsFiles}
-use Rattle.tv_store.proofs.CommitEvents.{undotted_isnt_list}
+use Rattle.tv_store.proofs.Listings.{undotted_isnt_list}
 
 -- what is found under one schema is one index
 same_found : (schema : List ℕ) (read : Option (List ℕ)) (settings others : Settings) (commit other : Commit) → FindsCommit schema read settings commit → FindsCommit schema read others other
@@ -115,7 +115,7 @@ module _ {O W C : Type 0} (g : Ghosts O W C) (locked : O) (schema text : List �
     managed_is : files.managed ≡ index.state.managed
     managed_is =
         let F = f.finds tells in
-        F.managed_is ∙ ap (managed_with (before meta_name)) (lists_one (before list_name) F.listed index.opens.listed F.listing index.opens.listing) ∙ sym index.opens.managed
+        F.managed_is ∙ ap (managed_with (before meta_name)) (listing_one before F.listed index.opens.listed F.listing index.opens.listing) ∙ sym index.opens.managed
 
     sealed_is : (n : List ℕ) → IsFileOf n → file_at index.state n ≡ option_map Sealed (now n)
     sealed_is n file = index.opens.files n file ∙ ap (option_map Sealed) (sym (read_before n file))
@@ -140,7 +140,7 @@ module _ {O W C : Type 0} (g : Ghosts O W C) (locked : O) (schema text : List �
             (let M = meta_means form.schema spelled.tree (before meta_name) (now meta_name) form.settings catalog.commit spelled.form (f.finds tells).found
             (λ some. (f.leaves tells).stood some meta_name) (λ none. (f.leaves tells).made none) in
             (M.0, M.1, subst (λ (c : Commit). Means form.settings form.schema M.0 c) same.1 M.2));
-        listing = subst (λ (names : List (List ℕ)). Lists (now list_name) names) managed_is (f.lists tells);
+        listing = subst (λ (names : List (List ℕ)). Listing now names) managed_is (f.lists tells);
         listed = covers_meta (before meta_name) index.opens.listed index.state.managed index.opens.managed index.opens.covered;
       },
     )
@@ -162,4 +162,4 @@ module _ {O W C : Type 0} (g : Ghosts O W C) (locked : O) (schema text : List �
 
 -- what is meant is a commit, under settings that fit
 pub means_commit : (settings : Settings) (schema bytes : List ℕ) (commit : Commit) → Means settings schema bytes commit → IsCommit commit × (settings.blocksize < 2 ^ 64)
-means_commit settings schema bytes commit h = spells_commit bytes settings commit h.tree h.spelled
+means_commit = spelled_commits.means_commit

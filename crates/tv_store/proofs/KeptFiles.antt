@@ -57,6 +57,7 @@ pub fails_after : {A O W C : Type 0} (g : Ghosts O W C) (old mid new : O) (resul
 fails_after g old mid new (Ok a) error h quiet cause = absurd h
 fails_after g old mid new (Err e) error h quiet cause = record {
   quiet = tt;
+  fits = tt;
   cause = subst (λ (n : ℕ). EventCause (Rose n (g.view new).faults) ((g.view new).faults ≡ n) ⊥ e) quiet
       (subst (EventCause (Rose (g.view mid).faults (g.view new).faults) ((g.view new).faults ≡ (g.view mid).faults) ⊥) (sym h) cause);
 }
@@ -83,10 +84,10 @@ pub asks_after : {A O W C : Type 0} (g : Ghosts O W C) (old mid new : StoreState
 asks_after g old mid new result asks quiet h = record {
   faults = subst
       (λ (n : ℕ). OnOk result ((g.view new.outside).faults ≡ n) → IfErr result (EventCause (Rose n (g.view new.outside).faults) ((g.view new.outside).faults ≡ n) ⊥) → EventFaults ⊥ (g.view old.outside) (g.view new.outside) result)
-      (sym quiet) (λ q c. record { quiet = q; cause = c }) h.faults.quiet h.faults.cause;
+      (sym quiet) (λ q c. record { quiet = q; fits = h.faults.fits; cause = c }) h.faults.quiet h.faults.cause;
   frame = asks_later asks h.frame;
 }
 
 -- no call was made
 pub asked_nothing : {O W : Type 0} (told : Told) (view : O → View W) (store : StoreState O) → Asks (OnlyReads told) view store store
-asked_nothing told view store = record { kept = refl; is_open = refl; below = record { kept = kept_itself told (view store.outside); content = λ t n. refl } }
+asked_nothing told view store = record { kept = refl; standing = refl; below = record { kept = kept_itself told (view store.outside); content = λ t n. refl } }

@@ -1,4 +1,5 @@
 pub mod Results
+pub mod Listings
 pub mod CollectionEvents
 pub mod OpenFiles
 pub mod Removals
@@ -7,6 +8,7 @@ pub mod LivingNames
 pub mod Held
 pub mod FileNames
 pub mod Named
+pub mod Changed
 pub mod FileEvents
 pub mod ChosenSegments
 pub mod CommitEvents
@@ -16,6 +18,7 @@ pub mod CollectingEvents
 pub mod CollectingFiles
 pub mod DeleteEvents
 pub mod ReopenEvents
+pub mod Spending
 pub mod Steps
 pub mod FewNumbers
 pub mod ReaderNumbers
@@ -24,6 +27,7 @@ pub mod ReportEvents
 pub mod StoreLocks
 pub mod Committing
 pub mod Asking
+pub mod KeptLocks
 pub mod Acting
 pub mod Applied
 pub mod Opened
@@ -39,3 +43,4 @@ pub mod AskedEvents
 pub mod AskedReads
 pub mod SavedFiles
 pub mod EventLaws
+pub mod RefusedBytes

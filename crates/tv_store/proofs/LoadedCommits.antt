@@ -15,7 +15,7 @@ use Rattle.tv_model.specs.Names.{is_file_name, meta_name}
 use Rattle.tv_model.specs.ReaderEvents.{bodies_in, snapshot_in}
 use Rattle.tv_model.specs.State.{State}
 use Rattle.tv_model.specs.declared.segment.LiveSegment.{LiveSegment}
-use Rattle.tv_model.proofs.OneMeaning.{means_one, one_meaning}
+use Rattle.tv_model.proofs.MeansOne.{means_no_other, means_one, means_something}
 use Rattle.tv_store.specs.Applying.{HoldsNone, LacksIn}
 use Rattle.tv_store.specs.Bodies.{ReadsSegments}
 use Rattle.tv_store.specs.Kept.{Kept, Holds}
@@ -41,19 +41,15 @@ module _ (tells : Type 0) (reads : Reads) (kept : Kept) where
       let same : bytes ≡ text.0 = cc in
       never text.0 s text.2 (subst says same said)
 
-  nothing_never : (text : List ℕ) (s : State) → Means kept.form.settings kept.form.schema text s.catalog.commit → MeansNothing text → ⊥
-  nothing_never text s means none = none kept.form.settings s.catalog.commit means.tree means.spelled
+  nothing_never : (text : List ℕ) (s : State) → Means kept.form.settings kept.form.schema text s.catalog.commit → MeansNothing (Some kept.form.schema) text → ⊥
+  nothing_never text s means none = means_something kept.form.settings kept.form.schema text s.catalog.commit means none
 
   other_never : (text : List ℕ) (s : State) → Means kept.form.settings kept.form.schema text s.catalog.commit → MeansOtherThan (Some kept.form.schema) text → ⊥
-  other_never text s means other =
-      let one = one_meaning text kept.form.settings other.settings s.catalog.commit other.commit means.tree other.tree means.spelled other.spelled in
-      other.other (means.schema_is.parsed ∙ some_as means.tree other.tree one.2) where
-        some_as : {A : Type 0} (x y : A) → x ≡ y → Some x ≡ Some y
-        some_as x y e = cc
+  other_never text s means other = means_no_other kept.form.settings kept.form.schema text s.catalog.commit means other
 
   -- no state is held where the bytes are refused
-  pub damaged_holds_none : OfRead tells (reads meta_name) MeansNothing → HoldsNone tells reads kept
-  damaged_holds_none = of_text MeansNothing nothing_never
+  pub damaged_holds_none : OfRead tells (reads meta_name) (MeansNothing (Some kept.form.schema)) → HoldsNone tells reads kept
+  damaged_holds_none = of_text (MeansNothing (Some kept.form.schema)) nothing_never
 
   pub other_holds_none : OfRead tells (reads meta_name) (MeansOtherThan (Some kept.form.schema)) → HoldsNone tells reads kept
   other_holds_none = of_text (MeansOtherThan (Some kept.form.schema)) other_never

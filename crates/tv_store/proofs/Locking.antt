@@ -18,9 +18,9 @@ use Rattle.tv_index.specs.Openable.{FindsOpenable, IsOpenable, NotOpenable}
 use Rattle.tv_index.specs.Opening.{OpenCause}
 use Rattle.tv_model.specs.Files.{Reads, Rose, RoseBy, Same}
 use Rattle.tv_model.specs.Index.{FindsCommit, FoundIndex}
-use Rattle.tv_model.specs.Listing.{Lists}
-use Rattle.tv_model.specs.Names.{list_name, meta_name}
+use Rattle.tv_model.specs.Names.{meta_name}
 use Rattle.tv_model.specs.Schemas.{IsSchema}
+use Rattle.tv_store.proofs.Listings.{listing_same}
 use Rattle.tv_store.specs.OpeningCauses.{IsLockedOut, OpeningCause, opening_facts}
 use Rattle.tv_store.specs.StoreCauses.{QuietBehind, RefusedBehind, writer_lock_name}
 use Rattle.tv_store.specs.UnderLock.{IsUnderLock, LockedOut, LockedOutCause, NotUnderLock, RefusesLock, Syncs}
@@ -61,7 +61,7 @@ found_before schema now before same f = record {
   commit = f.commit;
   listed = f.listed;
   spelled = f.spelled;
-  listing = subst (λ read. Lists read f.listed) (same list_name) f.listing;
+  listing = listing_same now before f.listed (λ n. sym (same n)) f.listing;
   found = subst (λ read. FindsCommit f.form.schema read f.form.settings f.commit) (same meta_name) f.found;
 }
 

@@ -11,8 +11,8 @@ use Rattle.tv_managed.specs.Managed.{CreateCause, CreateFaults, Creates, KeepsOt
 use Rattle.tv_managed.specs.Names.{ManagedNames}
 use Rattle.tv_model.specs.Collections.{held}
 use Rattle.tv_model.specs.Files.{Rose, Same}
-use Rattle.tv_model.specs.Listing.{Lists}
-use Rattle.tv_model.specs.Names.{byte_cmp, has, is_plain, list_name}
+use Rattle.tv_model.specs.Listing.{Listing}
+use Rattle.tv_model.specs.Names.{byte_cmp, has, is_plain}
 use Rattle.tv_store.specs.FileCalls.{FindsFile, OpensFile, unless_taken}
 use Rattle.tv_store.specs.Kept.{FilesState, names_below}
 use Rattle.tv_store.specs.Stays.{EventFaults}
@@ -95,7 +95,7 @@ module _ {O W C : Type 0} (g : Ghosts O W C) (now new : O × ManagedNames) (old 
 
     -- no fault
     pub found_faults : {A : Type 0} (answer : A) → EventFaults ⊥ (g.view old.outside) (g.view new.0) (Ok answer)
-    found_faults answer = record { quiet = quiet_then (taken_quiet taken); cause = tt }
+    found_faults answer = record { quiet = quiet_then (taken_quiet taken); fits = λ never. never; cause = tt }
 
     found_there : IsThere ⊎ IsHeld → g.told.content → IsSome ((g.view now.0).reads asked) ⊎ (has (held now.1.collections) asked ≡ true)
     found_there (inl it) tells = inl (it.0 tells)
@@ -134,6 +134,6 @@ module _ {O W C : Type 0} (g : Ghosts O W C) (now new : O × ManagedNames) (old 
         (subst (λ (n : List ℕ). MakesFile (g.view old.outside).reads (g.view new.0).reads n) text
         (subst (λ (d : O × ManagedNames). MakesFile (g.view d.0).reads (g.view new.0).reads asked) same (made_then made writer _ is (creates.ok tells))));
     list = λ tells lists.
-        subst (λ (d : O × ManagedNames). Lists ((g.view d.0).reads list_name) d.1.managed) (sym is_new)
-        (made_then made writer _ is (manages.saves.list tells (subst (λ (d : O × ManagedNames). Lists ((g.view d.0).reads list_name) d.1.managed) (sym same) lists)));
+        subst (λ (d : O × ManagedNames). Listing (g.view d.0).reads d.1.managed) (sym is_new)
+        (made_then made writer _ is (manages.saves.list tells (subst (λ (d : O × ManagedNames). Listing (g.view d.0).reads d.1.managed) (sym same) lists)));
   }

@@ -158,7 +158,7 @@ module _ {O W C : Type 0} (g : Ghosts O W C) (outside : O) (schema : List ℕ) (
     tells = s.frame.managed.below
 
     abbrev begun : StoreState O
-    begun = record { kept = kept_of catalog started; outside = started.outside; is_open = true }
+    begun = record { kept = kept_of catalog started; outside = started.outside; standing = record { is_open = true } }
 
     kept_is : kept_of catalog started ≡ kept_of catalog files
     kept_is = kept_by_files catalog s.frame

@@ -1,7 +1,7 @@
 -- The events of readers: which files are read, why a read fails, and what is held afterwards.
 use Rattle.std.proofs.Common.{◌≡◌, ◌≢◌, inl, inr, ℕ, zero, suc, ◌+◌, ◌<◌, Bool, true, false, true≢false, List, [], ◌∷◌, ◌++◌, map, length, take, drop, get_or, string_bytes, Option, Some, None, refl, sym, ap, subst, ◌∙◌, arith, append_assoc}
 use Rattle.std.proofs.Math.Logic.{⊎_map}
-use Rattle.std.specs.Prelude.{IsSome, option_map, String}
+use Rattle.std.specs.Prelude.{IfSome, IsSome, option_map, String}
 use Rattle.std.specs.Global.{Global}
 use Rattle.std.proofs.lemmas.List.{take_more, map_push, take-append-drop, drop_more}
 use Rattle.std.proofs.lemmas.Grind.{flat_map-append}
@@ -14,12 +14,12 @@ use Rattle.tv_model.specs.Names.{is, has, is_file_name, meta_name}
 use Rattle.tv_model.specs.Files.{Reads, Same, Rose}
 use Rattle.tv_model.specs.Footer.{HasBody}
 use Rattle.tv_model.specs.Segments.{required_names, all_required}
-use Rattle.tv_model.specs.State.{Catalog, State, FileState, Sealed, Open, Left, Reader, Snapshot, at, file_at, reader_at}
+use Rattle.tv_model.specs.State.{Catalog, State, FileState, Sealed, Open, Left, Reader, Readers, Snapshot, at, file_at, on_catalog, reader_at}
 use Rattle.tv_model.specs.Lines.{given}
 use Rattle.tv_model.specs.CommitEvents.{is_sealed}
 use Rattle.tv_model.specs.SoundStates.{IsWhole}
-use Rattle.tv_model.specs.Readable.{IsGoodFile, read_by}
-use Rattle.tv_model.specs.ReaderEvents.{body_in, with_new_reader, with_reloaded}
+use Rattle.tv_model.specs.Readable.{AreGoodFiles, CanRead, IsGoodFile, ReadsGood, read_by}
+use Rattle.tv_model.specs.ReaderEvents.{body_in, reload_step, reloaded, with_new_reader, with_reloaded}
 use Rattle.tv_model.proofs.Entries.{is_itself, is_text}
 use Rattle.tv_model.proofs.Bodies.{body_of_good}
 use Rattle.tv_model.proofs.CollectionStates.{has_append}
@@ -44,7 +44,7 @@ use Rattle.tv_store.specs.Bodies.{RefusesAt, RefusesFile, RefusesFirst, ReadsGoo
 use Rattle.tv_index.specs.Standing.{MetaCause}
 use Rattle.tv_store.specs.Kept.{Kept, FileHolds, Holds}
 use Rattle.tv_store.specs.Applying.{LacksIn, BadIn, HoldsNone}
-use Rattle.tv_store.specs.Exhausted.{PassesEnd, number_after}
+use Rattle.tv_store.specs.Exhausted.{SomePassesEnd, after_each, numbers_after}
 use Rattle.tv_model.specs.Collections.{Collections}
 use Rattle.tv_store.specs.ReaderNumbers.{FewNumbers}
 use Rattle.tv_store.proofs.Holding.{same_holds}
@@ -427,17 +427,17 @@ busy_before tells_locks held held2 start before {after} same quiet h = record {
 }
 
 -- the same at an event that reads, seen from before a call that changed nothing
-pub later_fails : (tells : Type 0) (first now : Reads) (kept later : Kept) (event : Event) (reading : (s : State) → Holds first kept s → read_by s event ≡ Some s.catalog.commit) (more busy busy2 takes : Type 0) (start before after : ℕ) (error : TantivyError)
-    → takes → (busy → busy2) → (tells → Same first now) → later ≡ kept → before ≡ start
+pub later_fails : (tells : Type 0) (first now : Reads) (kept later : Kept) (event : Event) (reading : (s : State) → Holds first kept s → read_by s event ≡ Some s.catalog.commit) (more busy busy2 loads files : Type 0) (start before after : ℕ) (error : TantivyError)
+    → loads → files → (busy → busy2) → (tells → Same first now) → later ≡ kept → before ≡ start
     → LoadingCause busy (Rose before after) (after ≡ before) ⊥ (MetaCause tells (Some later.form.schema) (now meta_name) (Rose before after) (after ≡ before)) (LacksIn tells now later) (λ path. HoldsNone tells now later) error
-    → LoadingCause busy2 (Rose start after) (after ≡ start) more (λ e. takes × MetaCause tells (Some kept.form.schema) (first meta_name) (Rose start after) (after ≡ start) e) (λ e. takes × BadIn tells first kept event e) (λ path. takes × HoldsNone tells first kept) error
-later_fails tells first now kept later event reading more busy busy2 takes start before after error taken locks same kept_is quiet h =
+    → LoadingCause busy2 (Rose start after) (after ≡ start) more (λ e. loads × MetaCause tells (Some kept.form.schema) (first meta_name) (Rose start after) (after ≡ start) e) (λ e. files × BadIn tells first kept event e) (λ path. files × HoldsNone tells first kept) error
+later_fails tells first now kept later event reading more busy busy2 loads files start before after error loaded taken locks same kept_is quiet h =
     loading_weaker busy (Rose before after) (after ≡ before) ⊥ busy2 (Rose start after) (after ≡ start) more
-    (MetaCause tells (Some later.form.schema) (now meta_name) (Rose before after) (after ≡ before)) (λ e. takes × MetaCause tells (Some kept.form.schema) (first meta_name) (Rose start after) (after ≡ start) e)
-    (LacksIn tells now later) (λ e. takes × BadIn tells first kept event e) (λ path. HoldsNone tells now later) (λ path. takes × HoldsNone tells first kept) error
+    (MetaCause tells (Some later.form.schema) (now meta_name) (Rose before after) (after ≡ before)) (λ e. loads × MetaCause tells (Some kept.form.schema) (first meta_name) (Rose start after) (after ≡ start) e)
+    (LacksIn tells now later) (λ e. files × BadIn tells first kept event e) (λ path. HoldsNone tells now later) (λ path. files × HoldsNone tells first kept) error
     locks (λ rose. subst (λ (x : ℕ). Rose x after) quiet rose) (λ still. still ∙ quiet) (λ never. absurd never)
     (λ e load. (
-      taken,
+      loaded,
       meta_before tells kept later (now meta_name) (first meta_name) (Rose before after) (after ≡ before) (Rose start after) (after ≡ start) e kept_is (λ t. sym (same t meta_name)) (λ rose. subst (λ (x : ℕ). Rose x after) quiet rose) (λ still. still ∙ quiet) load,
     ))
     (λ e b. (taken, λ t s held whole. (s.catalog.commit, reading s held, b t s (same_holds first now kept later s (same t) kept_is held) whole)))
@@ -457,8 +457,8 @@ reload_reads s number there = told (reader_at s.catalog number) there where
   told (Some reader) h = refl
 
 -- a reader whose next snapshot gets the last number of 64 bits
-pub reload_passes : (c : Catalog) (number : ℕ) → ((reader : Reader) × (reader_at c number ≡ Some reader) × (reader.next ≡ 18446744073709551615)) → PassesEnd (number_after c (events.Reload number))
-reload_passes c number h = (h.0.next + 1, ap (option_map (λ (r : Reader). r.next + 1)) h.1, omega (arith, h.2))
+pub reload_passes : (kept : Kept) (number : ℕ) → ((reader : Reader) × (reader_at kept.catalog number ≡ Some reader) × (reader.next ≡ 18446744073709551615)) → SomePassesEnd (numbers_after kept (events.Reload number))
+reload_passes kept number h = subst (λ (found : Option Reader). SomePassesEnd (after_each (λ (r : Reader). r.next) found)) (sym h.1) (inl (omega (arith, h.2)))
 
 pub few_with_new : (bound : ℕ) (collections : Collections) (old now : Catalog) (policy : ReloadPolicy) (shown : Snapshot) → now ≡ with_new_reader old policy shown → FewNumbers bound old.reading collections → FewNumbers (bound + 1) now.reading collections
 few_with_new bound collections old now policy shown put few =
@@ -468,3 +468,32 @@ pub few_with_reloaded : (bound : ℕ) (collections : Collections) (old now : Cat
     → FewNumbers bound old.reading collections → FewNumbers (bound + 1) now.reading collections
 few_with_reloaded bound collections old now number reader shown there put few =
     subst (λ (c : Catalog). FewNumbers (bound + 1) c.reading collections) (sym put) (few_published bound old.reading collections _ number reader (record reader { next = reader.next + 1; shown = shown }) there refl refl few)
+
+-- what is held where readers show something else
+pub shown_holds : (before now : Reads) (kept after : Kept) (s : State) (readers : Readers) → Same before now → after ≡ record kept { catalog = record kept.catalog { reading = readers } } → Holds before kept s
+    → Holds now after (record s { catalog = record s.catalog { reading = readers } })
+shown_holds before now kept after s readers same is h =
+    let k = same_holds before now kept kept s same refl h in
+    subst (λ (x : Kept). Holds now x (record s { catalog = record s.catalog { reading = readers } })) (sym is) (record {
+      catalog = ap (λ (c : Catalog). record c { reading = readers }) k.catalog;
+      managed = k.managed;
+      collections = k.collections;
+      segments = k.segments;
+      names = k.names;
+      files = k.files;
+      left = k.left;
+      meta = k.meta;
+      listing = k.listing;
+      listed = k.listed;
+    })
+
+-- the step of a reload of a reader that is there
+pub reloaded_step : (s : State) (number : ℕ) (reader : Reader) (bodies : List (List (List ℕ))) → reader_at s.catalog number ≡ Some reader → on_catalog s (reload_step s.catalog number bodies) ≡ on_catalog s (reloaded s.catalog number bodies reader)
+reloaded_step s number reader bodies there = rw there refl
+
+-- a reload reads files that can be read, where those of the current commit can be
+pub reload_good : (s : State) (number : ℕ) → CanRead s → ReadsGood s (events.Reload number)
+reload_good s number can = told (reader_at s.catalog number) where
+  told : (found : Option Reader) → IfSome (option_map (λ (r : Reader). s.catalog.commit) found) (λ commit. AreGoodFiles s (all_required commit.segments))
+  told None = tt
+  told (Some reader) = can.0

@@ -1,5 +1,5 @@
 -- Entries and names that are taken out: of maps, of sets, and of the open files.
-use Rattle.std.proofs.Common.{◌≡◌, ◌≢◌, true≢false, ℕ, suc, ◌+◌, ◌≤◌, ◌<◌, inl, inr, Bool, true, false, cond, not, ◌&&◌, ◌||◌, List, [], ◌∷◌, ◌++◌, map, length, get_or, drop, Option, Some, None, option_map, is_some, Result, Ok, Err, refl, sym, ap, subst, ◌∙◌, arith}
+use Rattle.std.proofs.Common.{◌≡◌, true≢false, ℕ, suc, ◌+◌, ◌≤◌, ◌<◌, inl, inr, Bool, true, false, cond, not, ◌&&◌, ◌||◌, List, [], ◌∷◌, ◌++◌, map, length, get_or, drop, Option, Some, None, option_map, is_some, Result, Ok, Err, refl, sym, ap, subst, ◌∙◌, arith}
 use Rattle.std.specs.Prelude.{Contains, OnOk}
 use Rattle.std.specs.List.{AllByRecursion, filter, list_all, list_any}
 use Rattle.std.proofs.lemmas.Bool.{and_right, or_right}
@@ -9,7 +9,8 @@ use Rattle.std.proofs.lemmas.List.Sums.{AllPass-from_list_all, list_all-from_All
 use Rattle.std.specs.Map.{remove_entry}
 use Rattle.std.specs.BTreeMap.{is_at}
 use Rattle.std.specs.BTreeSet.{insert_key}
-use Rattle.tv_model.specs.Names.{byte_cmp, is, has, is_plain, is_undotted, list_name}
+use Rattle.tv_model.specs.Listing.{IsListFile}
+use Rattle.tv_model.specs.Names.{byte_cmp, is, has, is_plain, is_undotted}
 use Rattle.tv_model.specs.Collections.{Collections, done_of, failed_of, held}
 use Rattle.tv_model.specs.State.{at}
 use Rattle.tv_model.proofs.Entries.{same_at, text_at, at_itself, is_text, is_by_order, has_put}
@@ -263,7 +264,7 @@ among_spares answered sets living names managed now result n is (inr set) h = ap
 -- so it reads what it read
 pub living_stands : {S A E D W C : Type 0} (g : Ghosts D W C) (answered : S → Type 0) (sets : S → List (List ℕ)) (living names : List (List ℕ)) (old new : D × ManagedNames) (result : Result A E) (n : List ℕ)
     → ((set : S) → answered set → sets set ≡ living) → Among answered sets old.1 new.1 names result → Leaves g names old new result
-    → g.told.content → has living n ≡ true → n ≢ list_name → (g.view new.0).reads n ≡ (g.view old.0).reads n
+    → g.told.content → has living n ≡ true → (IsListFile n → ⊥) → (g.view new.0).reads n ≡ (g.view old.0).reads n
 living_stands g answered sets living names old new result n is among l t h other = l.spared t n (among_spares answered sets living names old.1 new.1 result n is among h) other
 
 pub isnt_plain : (x n : List ℕ) → is_plain x ≡ true → is_undotted n ≡ false → is x n ≡ false
@@ -285,7 +286,7 @@ plain_hasnt (x ∷ names) n h dot =
 -- nor is a name with a dot in front, since managed names have none
 pub dotted_stands : {S A E D W C : Type 0} (g : Ghosts D W C) (answered : S → Type 0) (sets : S → List (List ℕ)) (names : List (List ℕ)) (old new : D × ManagedNames) (result : Result A E) (n : List ℕ)
     → list_all is_plain old.1.managed ≡ true → Among answered sets old.1 new.1 names result → Leaves g names old new result
-    → g.told.content → is_undotted n ≡ false → n ≢ list_name → (g.view new.0).reads n ≡ (g.view old.0).reads n
+    → g.told.content → is_undotted n ≡ false → (IsListFile n → ⊥) → (g.view new.0).reads n ≡ (g.view old.0).reads n
 dotted_stands g answered sets names old new result n plain (inl none) l t dot other = l.spared t n (ap (λ (ns : List (List ℕ)). has ns n) none.1) other
 dotted_stands g answered sets names old new result n plain (inr set) l t dot other =
     let taken : list_all is_plain (taken_by (sets set.0) old.1) ≡ true = all_filtered (λ name. not (has (sets set.0 ++ held old.1.collections) name)) is_plain old.1.managed plain in

@@ -1,12 +1,17 @@
 -- What is known of a result by one of its cases.
 use Rattle.std.proofs.Common.{◌≡◌, Result, Ok, Err, sym, subst}
-use Rattle.std.specs.Prelude.{IfErr, OnErr}
+use Rattle.std.specs.Prelude.{IfErr, OnErr, OnOk}
 use Rattle.std.specs.Result.{IsErrAnd}
 
 -- what holds of an error holds of a result that hands it on
 pub handed_on : {A E : Type 0} (result : Result A E) (error : E) (P : E → Type 0) → IsErrAnd result (λ e. e ≡ error) → P error → IfErr result P
 handed_on (Ok x) error P is p = tt
 handed_on (Err e) error P is p = subst P (sym is) p
+
+-- what holds anyway holds at Ok
+pub on_ok : {A E P : Type 0} (result : Result A E) → P → OnOk result P
+on_ok (Ok x) p = p
+on_ok (Err e) p = tt
 
 -- what holds anyway holds at an error
 pub on_err : {A E P : Type 0} (result : Result A E) → P → OnErr result P

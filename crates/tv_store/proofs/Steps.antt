@@ -10,12 +10,13 @@ use Rattle.tv_base.specs.declared.error.TantivyError.{TantivyError}
 use Rattle.tv_base.specs.declared.error.TantivyError.TheVariants as errors
 use Rattle.tv_store.specs.Kept.{Kept, StoreState, Holds, AtMost}
 use Rattle.tv_store.specs.ReaderNumbers.{FewNumbers}
-use Rattle.tv_store.specs.Applying.{Stepped, LeavesOldOrNew, MayNoteAt, SavesAt}
+use Rattle.tv_store.specs.Applying.{Stepped, StepsHeld, LeavesAlone, LeavesOldOrNew, MayNoteAt, SavesAt, WritesByStep}
 use Rattle.tv_store.specs.Committing.{CommitStep}
 use Rattle.tv_store.specs.ReadCauses.{LoadingCause, IsReadError}
 use Rattle.tv_store.proofs.FewNumbers.{few_more}
 use Rattle.tv_model.specs.Collections.{Collections}
 use Rattle.tv_model.specs.Commits.{IndexForm}
+use Rattle.tv_model.specs.Files.{Same}
 use Rattle.tv_model.specs.State.{State, StepResult, Readers}
 use Rattle.tv_model.specs.Machine.{step}
 use Rattle.tv_model.specs.SoundStates.{IsWhole}
@@ -24,7 +25,7 @@ use Rattle.tv_model.specs.CommitEvents.{commit_step}
 use Rattle.tv_directory.specs.View.{View}
 use Rattle.tv_directory.specs.Watch.{WatchState}
 use Rattle.tv_directory.specs.declared.directory.Directory.{Ghosts}
-use Rattle.tv_store.specs.Acting.{StepsDeleting}
+use Rattle.tv_store.specs.Acting.{IsStep, IsWritingStep, StepsDeleting}
 use Rattle.tv_store.specs.StoreCauses.{EventCause, LockingCause}
 
 -- ---- what an event did, by what its method says
@@ -133,53 +134,85 @@ pub stepped_committing : {O W C E : Type 0} (g : Ghosts O W C) (old new : StoreS
     → (g.told.content → (s : State) → Holds (g.view old.outside).reads old.kept s
     → IfOk result (CommitStep g old new s (commit_step s payload ids)))
     → IfOk result (Stepped g old new (events.Commit payload ids))
-stepped_committing g old new payload ids (Ok answer) quiet h = ([], inl (omega (arith, quiet)), λ t s held whole. let k = h t s held in (k.0, k.1, tt, k.2))
+stepped_committing g old new payload ids (Ok answer) quiet h = record {
+  outcomes = [];
+  refused = inl (omega (arith, quiet));
+  each = λ t s held whole. let k = h t s held in record { told = k.0; held = k.1; readable = tt; unchanged = λ by_step same. k.2.refused same; saves = k.2.saved };
+}
 stepped_committing g old new payload ids (Err error) quiet h = tt
 
 module _ {O W C : Type 0} (g : Ghosts O W C) (old new : StoreState O) (event : Event) (none : IsNoCommit event) where
   abbrev saves : (before after : State) → SavesAt event old.kept.form (g.view old.outside) (g.view new.outside) before after
   saves before after = saves_none event none old.kept.form (g.view old.outside) (g.view new.outside) before after
 
-  -- an event that deletes nothing and reads no commit's files
+  abbrev Alone : Type 0
+  Alone = LeavesAlone (g.view old.outside) (g.view new.outside)
+
+  -- from a state, by a step that is told in other words
+  held_as : (outcomes : List Bool) (answer : List ℕ) (s : State) (did : StepResult State) → step s event outcomes ≡ did → IsStep g new did answer → ReadsGood s event
+      → (WritesByStep old.kept event → did.1 ≡ s → Alone) → StepsHeld g old new s event outcomes answer
+  held_as outcomes answer s did is k good alone = record {
+    told = k.told ∙ ap (λ (x : StepResult State). x.0) (sym is);
+    held = subst (λ (x : StepResult State). Holds (g.view new.outside).reads new.kept x.1) (sym is) k.held;
+    readable = good;
+    unchanged = λ by_step same. alone by_step (sym (ap (λ (x : StepResult State). x.1) is) ∙ same);
+    saves = saves s (step s event outcomes).1;
+  }
+
+  -- an event that writes nothing and reads no commit's files
   pub stepped : {E : Type 0} (told : State → StepResult State) (result : Result (List ℕ) E)
       → (g.view new.outside).refusals ≡ (g.view old.outside).refusals → ((s : State) → step s event [] ≡ told s) → ((s : State) → ReadsGood s event)
-      → (g.told.content → (s : State) → Holds (g.view old.outside).reads old.kept s → IfOk result (λ answer. (answer ≡ (told s).0) × Holds (g.view new.outside).reads new.kept (told s).1))
+      → (g.told.content → Alone)
+      → (g.told.content → (s : State) → Holds (g.view old.outside).reads old.kept s → IfOk result (IsStep g new (told s)))
       → IfOk result (Stepped g old new event)
-  stepped told (Ok answer) quiet is good h = (
-    [],
-    inl (omega (arith, quiet)),
-    λ t s held whole.
-        let k = h t s held in
-        (k.0 ∙ ap (λ (x : StepResult State). x.0) (sym (is s)), subst (λ (x : StepResult State). Holds (g.view new.outside).reads new.kept x.1) (sym (is s)) k.1, good s, saves s (step s event []).1),
-  )
-  stepped told (Err error) quiet is good h = tt
+  stepped told (Ok answer) quiet is good alone h = record {
+    outcomes = [];
+    refused = inl (omega (arith, quiet));
+    each = λ t s held whole. held_as [] answer s (told s) (is s) (h t s held) (good s) (λ by_step same. alone t);
+  }
+  stepped told (Err error) quiet is good alone h = tt
 
   -- one that reads them
   pub stepped_reading : {E : Type 0} (told : State → StepResult State) (good : State → Type 0) (result : Result (List ℕ) E)
       → (g.view new.outside).refusals ≡ (g.view old.outside).refusals → ((s : State) → step s event [] ≡ told s) → ((s : State) → good s → ReadsGood s event)
-      → (g.told.content → (s : State) → Holds (g.view old.outside).reads old.kept s → IsWhole s → IfOk result (λ answer. (answer ≡ (told s).0) × Holds (g.view new.outside).reads new.kept (told s).1 × good s))
+      → (g.told.content → Alone)
+      → (g.told.content → (s : State) → Holds (g.view old.outside).reads old.kept s → IsWhole s → IfOk result (λ answer. IsStep g new (told s) answer × good s))
       → IfOk result (Stepped g old new event)
-  stepped_reading told good (Ok answer) quiet is reads h = (
-    [],
-    inl (omega (arith, quiet)),
-    λ t s held whole.
-        let k = h t s held whole in
-        (k.0 ∙ ap (λ (x : StepResult State). x.0) (sym (is s)), subst (λ (x : StepResult State). Holds (g.view new.outside).reads new.kept x.1) (sym (is s)) k.1, reads s k.2, saves s (step s event []).1),
-  )
-  stepped_reading told good (Err error) quiet is reads h = tt
+  stepped_reading told good (Ok answer) quiet is reads alone h = record {
+    outcomes = [];
+    refused = inl (omega (arith, quiet));
+    each = λ t s held whole. let k = h t s held whole in held_as [] answer s (told s) (is s) k.0 (reads s k.1) (λ by_step same. alone t);
+  }
+  stepped_reading told good (Err error) quiet is reads alone h = tt
 
-  -- one that deletes
-  pub stepped_deleting : {E : Type 0} (told : State → List Bool → StepResult State) (result : Result (List ℕ) E)
-      → ((s : State) (outcomes : List Bool) → step s event outcomes ≡ told s outcomes) → ((s : State) → ReadsGood s event)
-      → IfOk result (StepsDeleting g old new told) → IfOk result (Stepped g old new event)
-  stepped_deleting told (Ok answer) is good h = (
-    h.0,
-    h.1,
-    λ t s held whole.
-        let k = h.2 t s held in
-        (k.0 ∙ ap (λ (x : StepResult State). x.0) (sym (is s h.0)), subst (λ (x : StepResult State). Holds (g.view new.outside).reads new.kept x.1) (sym (is s h.0)) k.1, good s, saves s (step s event h.0).1),
-  )
-  stepped_deleting told (Err error) is good h = tt
+  module _ (watched : (g.view new.outside).watched ≡ (g.view old.outside).watched) where
+    alone_so : Same (g.view old.outside).reads (g.view new.outside).reads → Alone
+    alone_so same = record { reads = same; watched = watched }
+
+    -- one that writes
+    pub stepped_writing : {E : Type 0} (given : Type 0) (told : State → StepResult State) (result : Result (List ℕ) E)
+        → (WritesByStep old.kept event → given) → (g.view new.outside).refusals ≡ (g.view old.outside).refusals → ((s : State) → step s event [] ≡ told s) → ((s : State) → ReadsGood s event)
+        → (g.told.content → (s : State) → Holds (g.view old.outside).reads old.kept s → IsWhole s → IfOk result (IsWritingStep g given old new s (told s)))
+        → IfOk result (Stepped g old new event)
+    stepped_writing given told (Ok answer) so quiet is good h = record {
+      outcomes = [];
+      refused = inl (omega (arith, quiet));
+      each = λ t s held whole. let k = h t s held whole in held_as [] answer s (told s) (is s) k.step (good s) (λ by_step same. alone_so (k.same (so by_step) same));
+    }
+    stepped_writing given told (Err error) so quiet is good h = tt
+
+    -- one that deletes
+    pub stepped_deleting : {E : Type 0} (told : State → List Bool → StepResult State) (result : Result (List ℕ) E)
+        → ((s : State) (outcomes : List Bool) → step s event outcomes ≡ told s outcomes) → ((s : State) → ReadsGood s event)
+        → IfOk result (StepsDeleting g old new told) → IfOk result (Stepped g old new event)
+    stepped_deleting told (Ok answer) is good h = record {
+      outcomes = h.outcomes;
+      refused = h.refused;
+      each = λ t s held whole.
+          let k = h.each t s held in
+          held_as h.outcomes answer s (told s h.outcomes) (is s h.outcomes) k.step (good s) (λ by_step same. alone_so (k.same tt same));
+    }
+    stepped_deleting told (Err error) is good h = tt
 
 pub longer : (es : List (List ℕ × List ℕ)) (small large : ℕ) → small ≤ large → AllByRecursion (λ e. length e.1 ≤ small) es → AllByRecursion (λ e. length e.1 ≤ large) es
 longer [] small large le h = tt

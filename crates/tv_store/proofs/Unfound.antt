@@ -21,7 +21,8 @@ use Rattle.tv_store.specs.Making.{FindsNone, GivesBack, IsRefusedFirst, LeavesRe
 use Rattle.tv_store.specs.OpeningCauses.{CallFacts, OpeningCause, opening_facts}
 use Rattle.tv_store.specs.StoreCauses.{writer_lock_name}
 use Rattle.tv_store.specs.UnderLock.{IsUnderLock, NotFound, NotUnderLock}
-use Rattle.tv_store.proofs.Holding.{dotted_others, listing_same}
+use Rattle.tv_store.proofs.Holding.{dotted_others}
+use Rattle.tv_store.proofs.Listings.{listing_same}
 use Rattle.tv_store.proofs.Opened.{from_lock, lacked}
 use Rattle.tv_store.proofs.StoreLocks.{freed_after}
 
@@ -49,7 +50,7 @@ pub open_cause_at : (tells : Type 0) (schema : List ℕ) (now before : Reads) (r
     → OpenCause tells schema now refused quiet error → OpenCause tells schema before more all error
 open_cause_at tells schema now before refused quiet more all (errors.DataCorruption why) same r q (inl h) = inl (q h.0, h.1, λ t names lists. h.2 t names (listing_same before now names (same t) lists))
 open_cause_at tells schema now before refused quiet more all (errors.DataCorruption why) same r q (inr h) =
-    inr ((λ t. has_list (same t) (h.0 t)), (q h.1.0, h.1.1, λ t. subst (OfBytes MeansNothing) (same t meta_name) (h.1.2 t)))
+    inr ((λ t. has_list (same t) (h.0 t)), (q h.1.0, h.1.1, λ t. subst (OfBytes (MeansNothing (Some schema))) (same t meta_name) (h.1.2 t)))
 open_cause_at tells schema now before refused quiet more all (errors.SchemaError text) same r q h =
     ((λ t. has_list (same t) (h.0 t)), (q h.1.0, h.1.1, λ t. subst (OfBytes (MeansOther schema)) (same t meta_name) (h.1.2 t)))
 open_cause_at tells schema now before refused quiet more all (errors.IoError fault) same r q h = (h.0, r h.1)

@@ -1,9 +1,9 @@
 -- An event, applied to a store that is open.
-use Rattle.std.specs.Prelude.{ℕ, ◌≡◌, ◌≢◌, ◌≤◌, ◌+◌, ◌⊎◌, Bool, true, false, List, length, Option, Some, IsSome, Result, IfErr, OnOk, OnErr, is_ok}
+use Rattle.std.specs.Prelude.{ℕ, ◌≡◌, ◌≢◌, ◌≤◌, ◌+◌, ◌⊎◌, Bool, true, false, List, [], length, Option, Some, None, IsSome, Result, IfErr, OnOk, OnErr, is_ok}
 use Rattle.tv_base.specs.declared.error.TantivyError.{TantivyError}
 use Rattle.tv_base.specs.declared.error.TantivyError.TheVariants as errors
 use Rattle.tv_base.specs.declared.open_errors.OpenReadError.{OpenReadError}
-use Rattle.tv_directory.specs.Locks.{SameLocks}
+use Rattle.tv_directory.specs.Locks.{FreesLock, Locks, SameLocks, TakesLock}
 use Rattle.tv_directory.specs.View.{View, GoesOn, OnlyTells}
 use Rattle.tv_directory.specs.Watch.{WatchState, MayNote, noted}
 use Rattle.tv_directory.specs.declared.directory.Directory.{Ghosts}
@@ -12,6 +12,7 @@ use Rattle.tv_index.specs.Standing.{MetaCause}
 use Rattle.tv_model.specs.Names.{meta_name}
 use Rattle.tv_model.specs.Files.{Reads, Heard, Rose, RoseBy, Same}
 use Rattle.tv_model.specs.Commits.{Commit, IndexForm}
+use Rattle.tv_model.specs.Living.{is_busy}
 use Rattle.tv_model.specs.Meaning.{Means}
 use Rattle.tv_model.specs.Segments.{all_required}
 use Rattle.tv_model.specs.State.{State}
@@ -21,11 +22,11 @@ use Rattle.tv_model.specs.SoundStates.{IsWhole}
 use Rattle.tv_model.specs.Machine.{catalog_step, step, refused_in}
 use Rattle.tv_model.specs.Readable.{ReadsGood, read_by}
 use Rattle.tv_managed.specs.Collecting.{meta_lock_name}
-use Rattle.tv_store.specs.Kept.{Kept, StoreState, Holds, AtMost}
-use Rattle.tv_store.specs.Exhausted.{IsExhausted}
+use Rattle.tv_store.specs.Kept.{Kept, StoreState, Holds, AtMost, IsHeld}
+use Rattle.tv_store.specs.Exhausted.{IsExhausted, length_after}
 use Rattle.tv_store.specs.ReaderNumbers.{FewNumbers}
 use Rattle.tv_store.specs.Bodies.{MeetsBadFile}
-use Rattle.tv_store.specs.ReadCauses.{LoadingCause, IsReadError, ReadsCommit, TakesMetaLock}
+use Rattle.tv_store.specs.ReadCauses.{LoadingCause, IsReadError, LoadsCommit, ReadsFiles, TakesMetaLock}
 use Rattle.tv_store.specs.StoreCauses.{IsBusy}
 use Rattle.tv_store.specs.Stays.{KeepsDotted}
 use Rattle.tv_store.specs.Telling.{TellsFirstPart}
@@ -39,25 +40,61 @@ written_by (events.Searcher number) = 1
 written_by events.GcBegin = 1
 written_by other = 0
 
--- What a commit does whose step leads from one state to another. One that is refused leaves the state as it was: each name reads what it read, and no notice is left. After
--- any other `meta.json` reads the new commit's printed form, with a line feed, and a notice of it stands.
-pub record SavesUnlessRefused {W : Type 0} (form : IndexForm) (old new : View W) (before after : State) : Type 0 where
-  pub refused : after ≡ before → Same old.reads new.reads × (new.watched ≡ old.watched)
-  pub saved : after ≢ before → (new.reads meta_name ≡ Some (saved_text form.settings form.schema after.catalog.commit)) × (new.watched ≡ noted meta_name old.watched)
+-- Each name reads what it read, and no notice came.
+pub record LeavesAlone {W : Type 0} (old new : View W) : Type 0 where
+  pub reads : Same old.reads new.reads
+  pub watched : new.watched ≡ old.watched
 
--- what an event does that commits; of any other nothing is said
-abbrev pub SavesAt : {W : Type 0} → Event → IndexForm → (old new : View W) → (before after : State) → Type 0
-SavesAt (events.Commit payload ids) form old new before after = SavesUnlessRefused form old new before after
+-- `meta.json` reads this commit's printed form, with a line feed, and a notice of it stands.
+pub record SavesMeta {W : Type 0} (form : IndexForm) (old new : View W) (commit : Commit)
+    : Type 0 where
+  pub text : new.reads meta_name ≡ Some (saved_text form.settings form.schema commit)
+  pub notice : new.watched ≡ noted meta_name old.watched
+
+-- What a commit does whose step leads from one state to another. One that leaves the state as it was, as
+-- a refusal does, leaves what the directory reads, and no notice; any other is saved.
+pub record SavesUnlessRefused {W : Type 0} (form : IndexForm) (old new : View W) (before after : State)
+    : Type 0 where
+  pub refused : after ≡ before → LeavesAlone old new
+  pub saved : after ≢ before → SavesMeta form old new after.catalog.commit
+
+-- what an event does that commits, and whose step leads from one state to another: where that is another
+-- one, the commit is saved; of any other event nothing is said
+abbrev pub SavesAt : {W : Type 0} → Event → IndexForm → (old new : View W) → (before after : State)
+    → Type 0
+SavesAt (events.Commit payload ids) form old new before after =
+    after ≢ before → SavesMeta form old new after.catalog.commit
 SavesAt other form old new before after = Unit {0}
 
--- One event was applied, with some outcomes of its deletes: from each state that was held before, the state after its step is held now, and this is the step's
--- answer; where it reads a commit's files it could do so; a commit is saved unless it is refused; and no more deletes were refused than their count rose.
-abbrev pub Stepped : {O W C : Type 0} (g : Ghosts O W C) (old new : StoreState O) (event : Event) (answer : List ℕ) → Type 0
-Stepped g old new event answer =
-    (outcomes : List Bool) × RoseBy (refused_in outcomes) (g.view old.outside).refusals (g.view new.outside).refusals
-    × (g.told.content → (s : State) → Holds (g.view old.outside).reads old.kept s → IsWhole s
-    → (answer ≡ (step s event outcomes).0) × Holds (g.view new.outside).reads new.kept (step s event outcomes).1 × ReadsGood s event
-    × SavesAt event old.kept.form (g.view old.outside) (g.view new.outside) s (step s event outcomes).1)
+-- every event but a `write` of no bytes to an open file
+abbrev pub WritesByStep : Kept → Event → Type 0
+WritesByStep kept (events.Write id component bytes) =
+    (bytes ≢ []) ⊎ (length_after kept (events.Write id component bytes) ≡ None)
+WritesByStep kept other = Unit {0}
+
+-- The state after this event's step is held, and this is the step's answer; where the event reads a
+-- commit's files it could do so; where the step leaves the state as it was, each name reads what it read,
+-- and no notice came, but perhaps by a write of no bytes to an open file; and a commit is saved unless it
+-- is refused.
+pub record StepsHeld {O W C : Type 0} (g : Ghosts O W C) (old new : StoreState O) (s : State)
+    (event : Event) (outcomes : List Bool) (answer : List ℕ) : Type 0 where
+  pub told : answer ≡ (step s event outcomes).0
+  pub held : IsHeld g new (step s event outcomes).1
+  pub readable : ReadsGood s event
+  pub unchanged : WritesByStep old.kept event → (step s event outcomes).1 ≡ s
+      → LeavesAlone (g.view old.outside) (g.view new.outside)
+  pub saves : SavesAt event old.kept.form (g.view old.outside) (g.view new.outside)
+      s (step s event outcomes).1
+
+-- One event was applied, with some outcomes of its deletes, of which no more were refused than
+-- their count rose: each whole state that was held has made its step.
+pub record Stepped {O W C : Type 0} (g : Ghosts O W C) (old new : StoreState O) (event : Event)
+    (answer : List ℕ) : Type 0 where
+  pub outcomes : List Bool
+  pub refused : RoseBy (refused_in outcomes)
+      (g.view old.outside).refusals (g.view new.outside).refusals
+  pub each : g.told.content → (s : State) → IsHeld g old s → IsWhole s
+      → StepsHeld g old new s event outcomes answer
 
 -- what `meta.json` reads after an error: what it read before; or, where this is so, a text that means this commit
 abbrev pub LeavesCommit : (given : Type 0) (before now : Option (List ℕ)) → IndexForm → Commit → Type 0
@@ -83,31 +120,37 @@ BadIn tells reads kept event error = tells → (s : State) → Holds reads kept 
 abbrev pub HoldsNone : (tells : Type 0) → Reads → Kept → Type 0
 HoldsNone tells reads kept = tells → (s : State) → Holds reads kept s → IsWhole s → ⊥
 
--- the event reads the current commit, and `meta.json` isn't loaded, for this cause
+-- the event loads `meta.json`, which isn't loaded, for this cause
 abbrev pub UnloadedAt : {O W C : Type 0} → Ghosts O W C → (old new : StoreState O) → Event → TantivyError → Type 0
 UnloadedAt g old new event error =
-    ReadsCommit old.kept.catalog event × MetaCause g.told.content (Some old.kept.form.schema) ((g.view old.outside).reads meta_name) (Rose (g.view old.outside).faults (g.view new.outside).faults) ((g.view new.outside).faults ≡ (g.view old.outside).faults) error
+    LoadsCommit old.kept.catalog event × MetaCause g.told.content (Some old.kept.form.schema) ((g.view old.outside).reads meta_name) (Rose (g.view old.outside).faults (g.view new.outside).faults) ((g.view new.outside).faults ≡ (g.view old.outside).faults) error
 
--- the event reads the current commit, and a file of the commit is refused with this error
+-- the event reads the files of a commit, of which one is refused with this error
 abbrev pub RefusedAt : {O W C : Type 0} → Ghosts O W C → (old : StoreState O) → Event → OpenReadError → Type 0
-RefusedAt g old event error = ReadsCommit old.kept.catalog event × BadIn g.told.content (g.view old.outside).reads old.kept event error
+RefusedAt g old event error = ReadsFiles old.kept.catalog event × BadIn g.told.content (g.view old.outside).reads old.kept event error
 
--- the event reads the current commit, and a file of the commit isn't there
+-- the event reads the files of a commit, of which one isn't there
 abbrev pub GoneAt : {O W C : Type 0} → Ghosts O W C → (old : StoreState O) → Event → Type 0
-GoneAt g old event = ReadsCommit old.kept.catalog event × HoldsNone g.told.content (g.view old.outside).reads old.kept
+GoneAt g old event = ReadsFiles old.kept.catalog event × HoldsNone g.told.content (g.view old.outside).reads old.kept
 
--- An event fails where it takes a lock that isn't given; where it reads the current commit, and `meta.json` isn't there, or means none of this index, or a file
--- can't be read; where the device refused a call, where memory was wanted, or where a number or the length of a file would pass 64 bits.
+-- An event fails where it takes a lock that isn't given; where it loads `meta.json`, which isn't there, or
+-- means no commit of this index; where it reads the files of a commit, and one can't be read; where the
+-- device refused a call, where memory was wanted, or where a number or the length of a file would pass 64
+-- bits.
 abbrev pub ActCause : {O W C : Type 0} → Ghosts O W C → (old new : StoreState O) → Event → TantivyError → Type 0
 ActCause g old new event =
     LoadingCause (TakesMetaLock old.kept.catalog event × IsBusy g.told.locks ((g.view old.outside).locks meta_lock_name ≡ true) (Rose (g.view old.outside).faults (g.view new.outside).faults))
     (Rose (g.view old.outside).faults (g.view new.outside).faults) ((g.view new.outside).faults ≡ (g.view old.outside).faults) (IsExhausted old.kept event)
     (UnloadedAt g old new event) (RefusedAt g old event) (λ path. GoneAt g old event)
 
--- At Ok the device refused no call but deletes, and the lock that the event takes was free; it was free too where a file wasn't read, or `meta.json` was refused; and why the event failed.
-pub record ApplyFaults {O W C : Type 0} (g : Ghosts O W C) (old new : StoreState O) (event : Event) (result : Result (List ℕ) TantivyError) : Type 0 where
+-- At Ok the device refused no call but deletes, the lock that the event takes was free, and no number and no
+-- length passes 64 bits; the lock was free too where a file wasn't read, or `meta.json` was refused; and why
+-- the event failed.
+pub record ApplyFaults {O W C : Type 0} (g : Ghosts O W C) (old new : StoreState O) (event : Event)
+    (result : Result (List ℕ) TantivyError) : Type 0 where
   pub quiet : OnOk result ((g.view new.outside).faults ≡ (g.view old.outside).faults)
   pub free : g.told.locks → TakesMetaLock old.kept.catalog event → OnOk result ((g.view old.outside).locks meta_lock_name ≡ false)
+  pub fits : OnOk result (IsExhausted old.kept event → ⊥)
   pub reads : g.told.locks → IfErr result (λ error. IsReadError error → (g.view old.outside).locks meta_lock_name ≡ false)
   pub cause : IfErr result (ActCause g old new event)
 
@@ -118,9 +161,9 @@ TellsPartOf before now s event = (outcomes : List Bool) × TellsFirstPart before
 -- An error leaves the commit before, or, where a call was refused, that of the event; want of memory the one before. Of the event's line no more than a first part
 -- was told.
 pub record LeavesMeta {O W C : Type 0} (g : Ghosts O W C) (old new : StoreState O) (event : Event) (result : Result (List ℕ) TantivyError) : Type 0 where
-  pub meta : g.told.content → (s : State) → Holds (g.view old.outside).reads old.kept s → IsWhole s → OnErr result (LeavesOldOrNew (Rose (g.view old.outside).faults (g.view new.outside).faults) ((g.view old.outside).reads meta_name) ((g.view new.outside).reads meta_name) old.kept.form s event)
+  pub meta : g.told.content → (s : State) → IsHeld g old s → IsWhole s → OnErr result (LeavesOldOrNew (Rose (g.view old.outside).faults (g.view new.outside).faults) ((g.view old.outside).reads meta_name) ((g.view new.outside).reads meta_name) old.kept.form s event)
   pub memory : g.told.content → IfErr result (λ error. error ≡ errors.Memory → (g.view new.outside).reads meta_name ≡ (g.view old.outside).reads meta_name)
-  pub part : g.told.content → g.told.heard → (s : State) → Holds (g.view old.outside).reads old.kept s → IsWhole s → OnErr result (TellsPartOf (g.view old.outside).heard (g.view new.outside).heard s event)
+  pub part : g.told.content → g.told.heard → (s : State) → IsHeld g old s → IsWhole s → OnErr result (TellsPartOf (g.view old.outside).heard (g.view new.outside).heard s event)
 
 -- No open file is longer by more than the bytes that the event adds, and at Ok no number of readers, searchers, snapshots and collections is larger by more than it takes.
 pub record Grows (old new : Kept) (event : Event) (result : Result (List ℕ) TantivyError) : Type 0 where
@@ -139,17 +182,29 @@ pub record AsksNoFile {O W C : Type 0} (keeps : View W → View W → Type 0) (g
   pub below : keeps (g.view old.outside) (g.view new.outside)
   pub error : IfErr result (λ error. IsReadError error → ⊥)
 
--- What each event keeps: the locks, who watches, the settings and the schema, and the files with a dot in front, the list apart. A writer that may be handed in
--- still may. An event that needs no file asks the directory only to tell its line. The store is open unless an error came.
-pub record AppliesFrame {O W C : Type 0} (g : Ghosts O W C) (old new : StoreState O) (event : Event) (result : Result (List ℕ) TantivyError) : Type 0 where
+-- Each lock stands as it stood; but where a reload now waits for its files (`now_busy`) and none did
+-- (`was_busy`), the meta lock was free and is held, and where one did and none does, it is free.
+abbrev pub KeepsLocks : (was_busy now_busy : Bool) → Locks → Locks → Type 0
+KeepsLocks false false old new = SameLocks old new
+KeepsLocks false true old new = TakesLock old new meta_lock_name
+KeepsLocks true false old new = FreesLock old new meta_lock_name
+KeepsLocks true true old new = SameLocks old new
+
+-- What each event keeps: the locks, but for that of a reload that waits for its files, who watches, the
+-- settings and the schema, and the files with a dot in front, the list apart. A writer that may be handed
+-- in still may. An event that needs no file asks the directory only to tell its line. The store is open
+-- unless an error came.
+pub record AppliesFrame {O W C : Type 0} (g : Ghosts O W C) (old new : StoreState O) (event : Event)
+    (result : Result (List ℕ) TantivyError) : Type 0 where
   pub goes_on : GoesOn g.told (g.view old.outside) (g.view new.outside)
-  pub locks : g.told.locks → SameLocks (g.view old.outside).locks (g.view new.outside).locks
+  pub locks : g.told.locks → KeepsLocks (is_busy old.kept.catalog) (is_busy new.kept.catalog)
+      (g.view old.outside).locks (g.view new.outside).locks
   pub watched : MayNoteAt event (g.view old.outside).watched (g.view new.outside).watched
   pub form : new.kept.form ≡ old.kept.form
   pub dotted : g.told.content → KeepsDotted (g.view old.outside).reads (g.view new.outside).reads
   pub alone : IsSome (catalog_step old.kept.catalog old.kept.managed event)
       → AsksNoFile (OnlyTells g.told) g old new result
-  pub is_open : new.is_open ≡ is_ok result
+  pub is_open : new.standing.is_open ≡ is_ok result
 
 -- An event that nothing disturbs, from a state that is held: what is read is told, and the locks are; the files that it reads can be read, the lock that it takes is
 -- free, no number and no length passes 64 bits, and no call is refused.
@@ -157,7 +212,7 @@ pub record IsUndisturbedEvent {O W C : Type 0} (g : Ghosts O W C) (old new : Sto
   pub content : g.told.content
   pub locks : g.told.locks
   pub state : State
-  pub held : Holds (g.view old.outside).reads old.kept state
+  pub held : IsHeld g old state
   pub whole : IsWhole state
   pub readable : ReadsGood state event
   pub free : TakesMetaLock old.kept.catalog event → (g.view old.outside).locks meta_lock_name ≡ false

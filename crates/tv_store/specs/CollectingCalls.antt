@@ -5,9 +5,9 @@ use Rattle.tv_directory.specs.View.{View}
 use Rattle.tv_directory.specs.declared.directory.Directory.{Ghosts}
 use Rattle.tv_model.specs.Collections.{Collection, Collections, collectable, collection_at, having_tried, held, with_begun, with_collection, without, without_collection}
 use Rattle.tv_model.specs.Files.{RoseBy}
-use Rattle.tv_model.specs.Listing.{Lists}
+use Rattle.tv_model.specs.Listing.{IsListFile, Listing}
 use Rattle.tv_model.specs.Machine.{refused_in}
-use Rattle.tv_model.specs.Names.{has, list_name, meta_name}
+use Rattle.tv_model.specs.Names.{has, meta_name}
 use Rattle.tv_model.specs.State.{at}
 use Rattle.tv_store.specs.Kept.{FilesState}
 
@@ -48,9 +48,9 @@ pub record TriesNext {O W C : Type 0} (g : Ghosts O W C) (number : ℕ) (old new
   pub others : g.told.content → (n : List ℕ) → has (gone_of name is_done) n ≡ false → (g.view new.outside).reads n ≡ (g.view old.outside).reads n
   pub open_files : (n : List ℕ) → at new.open_files n ≡ cond (has (gone_of name is_done) n) None (at old.open_files n)
   pub left : (n : List ℕ) → has new.left n ≡ (not (has (gone_of name is_done) n) && has old.left n)
-  -- it is neither `meta.json` nor the list
+  -- it is neither `meta.json` nor a file of the list
   pub spares : has (gone_of name is_done) meta_name ≡ false
-  pub listed : has (gone_of name is_done) list_name ≡ false
+  pub listed : (n : List ℕ) → IsListFile n → has (gone_of name is_done) n ≡ false
 
 -- The collection of this number is finished: what it did is managed no more, and the list has what is managed.
 pub record EndsCollection {O W C : Type 0} (g : Ghosts O W C) (number : ℕ) (old new : FilesState O) : Type 0 where
@@ -59,4 +59,4 @@ pub record EndsCollection {O W C : Type 0} (g : Ghosts O W C) (number : ℕ) (ol
   pub managed : new.managed ≡ without collection.done old.managed
   pub collections : new.collections ≡ without_collection old.collections number
   pub spares : has collection.done meta_name ≡ false
-  pub list : g.told.content → Lists ((g.view old.outside).reads list_name) old.managed → Lists ((g.view new.outside).reads list_name) new.managed
+  pub list : g.told.content → Listing (g.view old.outside).reads old.managed → Listing (g.view new.outside).reads new.managed

@@ -7,14 +7,14 @@ use Rattle.tv_model.specs.Segments.{num_docs}
 use Rattle.tv_model.specs.SoundStates.{IsWhole}
 use Rattle.tv_model.specs.State.{Catalog, State, at, live_at}
 use Rattle.tv_model.specs.declared.segment.LiveSegment.{LiveSegment}
-use Rattle.tv_store.specs.Kept.{StoreState, Holds}
+use Rattle.tv_store.specs.Kept.{StoreState, IsHeld}
 
 -- The directory tells its content, and with what the store keeps it holds a state of the machine
 -- whose commit has its files.
 pub record HoldsSome {O W C : Type 0} (g : Ghosts O W C) (store : StoreState O) : Type 0 where
   pub tells : g.told.content
   pub state : State
-  pub held : Holds (g.view store.outside).reads store.kept state
+  pub held : IsHeld g store state
   pub whole : IsWhole state
 
 -- the commit has each of these live segments that has living documents

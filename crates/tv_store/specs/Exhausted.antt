@@ -1,28 +1,41 @@
 -- What would pass 64 bits: the number of a reader, of a snapshot, of a searcher or of a collection, or the length of an open file.
-use Rattle.std.specs.Prelude.{ℕ, ◌≡◌, ◌≤◌, ◌+◌, ◌^◌, ◌⊎◌, ◌++◌, Bool, true, false, if◌then◌else◌, length, Option, Some, None, option_map, option_and_then}
+use Rattle.std.specs.Prelude.{ℕ, ◌≡◌, ◌≤◌, ◌+◌, ◌^◌, ◌⊎◌, ◌++◌, List, [], ◌∷◌, length, Option, Some, None, option_map, option_and_then, if◌then◌else◌}
 use Rattle.tv_model.specs.Collections.{Collections}
+use Rattle.tv_model.specs.Living.{is_busy}
 use Rattle.tv_model.specs.Segments.{name_of}
 use Rattle.tv_model.specs.State.{Catalog, at, live_at, reader_at}
 use Rattle.tv_model.specs.declared.event.Event.{Event}
 use Rattle.tv_model.specs.declared.event.Event.TheVariants as events
 use Rattle.tv_store.specs.Kept.{Kept}
 
--- the number after the one that an event gives, to a new reader, to a reader's next snapshot or to a new searcher
-abbrev pub number_after : Catalog → Event → Option ℕ
-number_after c (events.Reader policy) = Some (c.reading.next_reader + 1)
-number_after c (events.Reload number) = option_map (λ reader. reader.next + 1) (reader_at c number)
-number_after c (events.Searcher number) = Some (c.reading.next_searcher + 1)
-number_after c other = None
+-- the number after that which this function gives, where there is something that has it
+abbrev pub after_each : {X : Type 0} → (X → ℕ) → Option X → List ℕ
+after_each number None = []
+after_each number (Some x) = (number x + 1) ∷ []
 
--- whether an event begins a collection, in steps or at once
-abbrev pub begins_collection : Event → Bool
-begins_collection events.Gc = true
-begins_collection events.GcBegin = true
-begins_collection other = false
+-- the number after that of a new searcher; none where its reader isn't there
+abbrev pub searcher_after : Catalog → ℕ → List ℕ
+searcher_after c number = after_each (λ reader. c.reading.next_searcher) (reader_at c number)
 
--- the number after that of the collection which an event begins
-abbrev pub collection_after : Collections → Event → Option ℕ
-collection_after collections event = if begins_collection event then Some (collections.next + 1) else None
+-- the number after that of the next collection
+abbrev pub collection_after : Collections → List ℕ
+collection_after collections = (collections.next + 1) ∷ []
+
+-- these numbers, but none while a reload waits for its files
+abbrev pub unless_busy : Catalog → List ℕ → List ℕ
+unless_busy c numbers = if is_busy c then [] else numbers
+
+-- The numbers after those that an event gives: to a new reader, to a reader's next snapshot, to a new
+-- searcher, to a collection, of which `gc` gives its own back.
+abbrev pub numbers_after : Kept → Event → List ℕ
+numbers_after kept (events.Reader policy) =
+    unless_busy kept.catalog ((kept.catalog.reading.next_reader + 1) ∷ [])
+numbers_after kept (events.Reload number) =
+    unless_busy kept.catalog (after_each (λ reader. reader.next) (reader_at kept.catalog number))
+numbers_after kept (events.Searcher number) = searcher_after kept.catalog number
+numbers_after kept events.Gc = unless_busy kept.catalog (collection_after kept.collections)
+numbers_after kept events.GcBegin = unless_busy kept.catalog (collection_after kept.collections)
+numbers_after kept other = []
 
 -- how long the open file is after an event that writes to it
 abbrev pub length_after : Kept → Event → Option ℕ
@@ -34,6 +47,17 @@ length_after kept other = None
 abbrev pub PassesEnd : Option ℕ → Type 0
 PassesEnd number = (n : ℕ) × (number ≡ Some n) × (2 ^ 64 ≤ n)
 
--- the event would make such a number, or such a file
+-- one of these numbers is none that 64 bits can hold
+abbrev pub SomePassesEnd : List ℕ → Type 0
+SomePassesEnd [] = ⊥
+SomePassesEnd (n ∷ ns) = (2 ^ 64 ≤ n) ⊎ SomePassesEnd ns
+
+-- the number after that of the searcher which the event makes would pass 64 bits
+abbrev pub SpendsSearcher : Catalog → Event → Type 0
+SpendsSearcher c (events.Searcher number) = SomePassesEnd (searcher_after c number)
+SpendsSearcher c other = ⊥
+
+-- the number after one that the event gives, or the length of its file, would pass 64 bits
 abbrev pub IsExhausted : Kept → Event → Type 0
-IsExhausted kept event = PassesEnd (number_after kept.catalog event) ⊎ PassesEnd (collection_after kept.collections event) ⊎ PassesEnd (length_after kept event)
+IsExhausted kept event =
+    SomePassesEnd (numbers_after kept event) ⊎ PassesEnd (length_after kept event)

@@ -1,5 +1,5 @@
 -- What the calls on the files of a store do.
-use Rattle.std.specs.Prelude.{ℕ, ◌≡◌, ◌≢◌, ◌⊎◌, ◌&&◌, ◌||◌, ◌++◌, Bool, not, is_some, true, false, List, [], length, cond, Option, Some, None, IsSome, Result, Ok, Err, IfErr, OnOk, OnErr, option_and_then}
+use Rattle.std.specs.Prelude.{ℕ, ◌≡◌, ◌⊎◌, ◌&&◌, ◌||◌, ◌++◌, Bool, not, is_some, true, false, List, [], length, cond, Option, Some, None, IsSome, Result, Ok, Err, IfErr, OnOk, OnErr, option_and_then}
 use Rattle.std.specs.BTreeMap.{insert_entry}
 use Rattle.std.specs.BTreeSet.{insert_key}
 use Rattle.tv_base.specs.declared.error.TantivyError.{TantivyError}
@@ -14,8 +14,8 @@ use Rattle.tv_managed.specs.Managed.{MakesFile}
 use Rattle.tv_model.specs.Collections.{collectable, done_of, failed_of, held, without}
 use Rattle.tv_model.specs.Files.{Reads, Rose, Same}
 use Rattle.tv_model.specs.Framing.{is_intact}
-use Rattle.tv_model.specs.Listing.{Lists}
-use Rattle.tv_model.specs.Names.{byte_cmp, has, list_name, meta_name}
+use Rattle.tv_model.specs.Listing.{IsListFile, Listing}
+use Rattle.tv_model.specs.Names.{byte_cmp, has, meta_name}
 use Rattle.tv_model.specs.State.{at}
 use Rattle.tv_store.specs.Bodies.{RefusesAt}
 use Rattle.tv_store.specs.Kept.{FilesState, names_below}
@@ -50,7 +50,7 @@ pub record OpensFile {O W C : Type 0} (g : Ghosts O W C) (old new : FilesState O
   pub open_files : new.open_files ≡ insert_entry byte_cmp old.open_files name []
   pub left : new.left ≡ old.left
   pub makes : g.told.content → MakesFile (g.view old.outside).reads (g.view new.outside).reads name
-  pub list : g.told.content → Lists ((g.view old.outside).reads list_name) old.managed → Lists ((g.view new.outside).reads list_name) new.managed
+  pub list : g.told.content → Listing (g.view old.outside).reads old.managed → Listing (g.view new.outside).reads new.managed
 
 -- The file was there, or an unfinished collection holds its name, and nothing changed.
 pub record FindsFile {O W C : Type 0} (g : Ghosts O W C) (old new : FilesState O) (name : List ℕ) : Type 0 where
@@ -77,23 +77,27 @@ pub record Tried (names before after deleted failed : List (List ℕ)) (tells : 
   pub managed : after ≡ without deleted before
   -- a deleted name doesn't read
   pub gone : tells → (n : List ℕ) → has deleted n ≡ true → new n ≡ None
-  -- every other name but that of the list reads what it read
-  pub others : tells → (n : List ℕ) → has deleted n ≡ false → n ≢ list_name → new n ≡ old n
+  -- every other name but those of the list reads what it read
+  pub others : tells → (n : List ℕ) → has deleted n ≡ false → (IsListFile n → ⊥) → new n ≡ old n
 
 -- The managed files were tried that aren't among these, and that no unfinished collection holds. Those that were deleted are neither open nor left any more, no more
--- deletes failed than were refused, and the unfinished collections are those that were.
+-- deletes failed than were refused, and the unfinished collections are those that were. Where none
+-- was deleted, each name reads what it read, the list's too.
 pub record Collects {O W C : Type 0} (g : Ghosts O W C) (living : List (List ℕ)) (old new : FilesState O) (deleted failed : List (List ℕ)) : Type 0 where
   pub tried : Tried (collectable (living ++ held old.collections) old.managed) old.managed new.managed deleted failed g.told.content (g.view old.outside).reads (g.view new.outside).reads
   pub counted : FailsAtMost (length failed) (g.view old.outside).refusals (g.view new.outside).refusals
   pub open_files : (n : List ℕ) → at new.open_files n ≡ cond (has deleted n) None (at old.open_files n)
   pub left : (n : List ℕ) → has new.left n ≡ (not (has deleted n) && has old.left n)
   pub collections : new.collections ≡ old.collections
+  pub same : g.told.content → deleted ≡ []
+      → Same (g.view old.outside).reads (g.view new.outside).reads
 
 -- A collection fails where the meta lock isn't given, where its number is spent, where the device refused a call other than a delete, or where memory was wanted. Else
--- the lock was free.
+-- the lock was free, and its number isn't spent.
 pub record GcFaults {A O W C : Type 0} (g : Ghosts O W C) (spent : Type 0) (old new : O) (result : Result A TantivyError) : Type 0 where
   pub quiet : OnOk result ((g.view new).faults ≡ (g.view old).faults)
   pub free : g.told.locks → OnOk result ((g.view old).locks meta_lock_name ≡ false)
+  pub fits : OnOk result (spent → ⊥)
   pub cause : IfErr result (LockingCause (IsBusy g.told.locks ((g.view old).locks meta_lock_name ≡ true) (Rose (g.view old).faults (g.view new).faults)) (Rose (g.view old).faults (g.view new).faults) ((g.view new).faults ≡ (g.view old).faults) spent)
 
 -- After an error `meta.json` has this text, or what it had; after want of memory what it had.
@@ -107,7 +111,7 @@ abbrev pub SavesSafely : {A O W C : Type 0} → Ghosts O W C → (old new : File
     → Result A TantivyError → Type 0
 SavesSafely g old new text result =
     LeavesSafely g
-    (SavesStates (g.disk old.outside) (g.disk new.outside) (names_below old).1 text errors.Memory result)
+    (SavesStates (g.disk old.outside) (g.disk new.outside) (names_below old).1 meta_name text errors.Memory result)
     (names_below old) (names_below new)
 
 -- The settings and the schema stay, and the unfinished collections; no file was opened, written, closed or left, and no lock was taken or freed; a notice of a commit may stand.

@@ -1,14 +1,15 @@
 -- What a store keeps in memory, and the state of the machine that it holds with what its directory reads.
 use Rattle.std.specs.Prelude.{ℕ, ◌≡◌, ◌≤◌, Bool, true, false, List, length, Option, Some, None, IsSome, is_some}
 use Rattle.std.specs.List.{AllByRecursion}
-use Rattle.tv_model.specs.Names.{has, list_name, meta_name}
+use Rattle.tv_model.specs.Names.{has, meta_name}
 use Rattle.tv_model.specs.Files.{Reads}
-use Rattle.tv_model.specs.Listing.{Lists}
+use Rattle.tv_model.specs.Listing.{Listing}
 use Rattle.tv_model.specs.Commits.{IndexForm, IsSegment}
 use Rattle.tv_model.specs.Meaning.{Means}
 use Rattle.tv_model.specs.Collections.{Collections}
 use Rattle.tv_model.specs.State.{Catalog, State, FileState, Sealed, Open, Left, at, file_at}
 use Rattle.tv_model.specs.Index.{IsFileOf}
+use Rattle.tv_directory.specs.declared.directory.Directory.{Ghosts}
 use Rattle.tv_managed.specs.Names.{ManagedNames}
 
 -- what a store keeps in memory: its index's settings and schema, the catalog, the managed names, the unfinished collections, what was written to each open file, and
@@ -21,11 +22,15 @@ pub record Kept : Type 0 where
   pub open_files : List (List ℕ × List ℕ)
   pub left : List (List ℕ)
 
--- a store: what it keeps in memory, its directory, and whether the next event may be applied
+-- how a store stands: whether the next event may be applied
+pub record Standing : Type 0 where
+  pub is_open : Bool
+
+-- a store: what it keeps in memory, its directory, and how it stands
 pub record StoreState (O : Type 0) : Type 0 where
   pub kept : Kept
   pub outside : O
-  pub is_open : Bool
+  pub standing : Standing
 
 -- the files of a store: its directory, its index's settings and schema, the managed names, the unfinished collections, what was written to each open file, and the
 -- files that were left
@@ -74,8 +79,12 @@ pub record Holds (reads : Reads) (kept : Kept) (s : State) : Type 0 where
   pub files : (n : List ℕ) → IsFileOf n → FileHolds (file_at s n) (reads n) (at kept.open_files n)
   pub left : (n : List ℕ) → IsFileOf n → has kept.left n ≡ is_left (file_at s n)
   pub meta : (text : List ℕ) × (reads meta_name ≡ Some text) × Means kept.form.settings kept.form.schema text s.catalog.commit
-  pub listing : Lists (reads list_name) s.managed
+  pub listing : Listing reads s.managed
   pub listed : has s.managed meta_name ≡ true
+
+-- The directory and what the store keeps hold this state of the machine.
+abbrev pub IsHeld : {O W C : Type 0} → Ghosts O W C → StoreState O → State → Type 0
+IsHeld g store s = Holds (g.view store.outside).reads store.kept s
 
 -- no open file has more bytes than this
 abbrev pub AtMost : ℕ → Kept → Type 0

@@ -1,6 +1,7 @@
 -- How an index is found and shown, or isn't.
-use Rattle.std.specs.Prelude.{ℕ, ◌≡◌, ◌⊎◌, true, List, [], map, Result, IfErr, OnOk, OnErr}
+use Rattle.std.specs.Prelude.{ℕ, ◌≡◌, ◌⊎◌, true, List, [], map, Some, option_map, string_bytes, Result, IfErr, OnOk, OnErr}
 use Rattle.std.specs.List.Sorted.{IsStrictlySortedBy}
+use Rattle.tv_base.specs.declared.error.DataCorruption.{DataCorruption}
 use Rattle.tv_base.specs.declared.error.TantivyError.{TantivyError}
 use Rattle.tv_base.specs.declared.error.TantivyError.TheVariants as errors
 use Rattle.tv_directory.specs.declared.directory.Directory.{Ghosts}
@@ -8,15 +9,15 @@ use Rattle.tv_directory.specs.Calls.{Frees}
 use Rattle.tv_directory.specs.Images.{KeepsDisk}
 use Rattle.tv_directory.specs.View.{OnlyReads, OnlyTells}
 use Rattle.tv_index.specs.Crashes.{LacksMeta, MayMake, OnlyLooks, TracksFrom}
-use Rattle.tv_index.specs.Opening.{Finds, FrameNotesFirst, IsRefusedBytes, LeavesFound, LeavesUnopened, NotesMade, OpenCause, first_text}
+use Rattle.tv_index.specs.Opening.{Finds, FrameNotesFirst, IsRefusedBytes, LeavesFound, LeavesUnopened, NamesListFile, NotesMade, OpenCause, first_text}
 use Rattle.tv_managed.specs.Collecting.{TakesNoLock}
 use Rattle.tv_model.specs.Commits.{Commit, IsCommit}
 use Rattle.tv_model.specs.Collections.{no_collections}
 use Rattle.tv_model.specs.Files.{Reads, Rose, Same}
 use Rattle.tv_model.specs.Index.{opened_catalog}
 use Rattle.tv_model.specs.Lines.{opening_of}
-use Rattle.tv_model.specs.Listing.{Lists}
-use Rattle.tv_model.specs.Names.{byte_cmp, has, list_name}
+use Rattle.tv_model.specs.Listing.{Listing}
+use Rattle.tv_model.specs.Names.{byte_cmp, has, meta_name}
 use Rattle.tv_model.specs.declared.segment.LiveSegment.{LiveSegment}
 use Rattle.tv_model.specs.Schemas.{IsNoSchema, IsSchema}
 use Rattle.tv_model.specs.Segments.{all_required}
@@ -38,10 +39,21 @@ pub record LeavesRefused (old new : Reads) (schema : List ℕ) : Type 0 where
   pub spelled : (text : List ℕ) → IsSchema schema text → LeavesUnopened old new text
   pub unspelled : IsNoSchema schema → Same old new
 
--- an argument was refused, or bytes were, or the lock of the writer wasn't given
+-- the error names a file of the list of managed files, or `meta.json`
+abbrev pub NamesIndexFile : DataCorruption → Type 0
+NamesIndexFile why =
+    NamesListFile why ⊎ (option_map string_bytes why.filepath ≡ Some meta_name)
+
+-- an error of bytes that are none of their format names a file of the list of managed files, or `meta.json`
+abbrev pub NamesRefused : TantivyError → Type 0
+NamesRefused (errors.DataCorruption why) = NamesIndexFile why
+NamesRefused other = Unit {0}
+
+-- an argument was refused, or the bytes of the list or of `meta.json`, or another schema in that, or the
+-- lock of the writer wasn't given
 abbrev pub IsRefusedFirst : TantivyError → Type 0
 IsRefusedFirst (errors.InvalidArgument text) = Unit {0}
-IsRefusedFirst (errors.DataCorruption why) = Unit {0}
+IsRefusedFirst (errors.DataCorruption why) = NamesIndexFile why
 IsRefusedFirst (errors.SchemaError text) = Unit {0}
 IsRefusedFirst (errors.LockFailure why text) = Unit {0}
 IsRefusedFirst other = ⊥
@@ -72,7 +84,7 @@ pub record FindsFiles {O W C : Type 0} (g : Ghosts O W C) (locked : O) (schema :
       → Finds (g.view locked).reads files.form catalog.commit files.managed
   pub leaves : g.told.content
       → LeavesFound (g.view locked).reads (g.view files.outside).reads files.form.schema
-  pub lists : g.told.content → Lists ((g.view files.outside).reads list_name) files.managed
+  pub lists : g.told.content → Listing (g.view files.outside).reads files.managed
   pub open_files : files.open_files ≡ []
   pub left : files.left ≡ []
   pub collections : files.collections ≡ no_collections

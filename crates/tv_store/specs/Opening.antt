@@ -12,7 +12,7 @@ use Rattle.tv_index.specs.Crashes.{LacksMeta, MayMake, OnlyLooks, TracksFrom}
 use Rattle.tv_index.specs.Opening.{Finds, LeavesFound, NotesMade, NotesNone, first_text}
 use Rattle.tv_model.specs.Index.{FoundIndex, HasFiles, OpenedIndex, opened_catalog}
 use Rattle.tv_model.specs.Readable.{CanRead}
-use Rattle.tv_store.specs.Kept.{StoreState, Holds, AtMost, kept_below}
+use Rattle.tv_store.specs.Kept.{StoreState, AtMost, kept_below, IsHeld}
 use Rattle.tv_store.specs.Making.{LeavesRefused, WritesNone}
 use Rattle.tv_store.specs.OpeningCauses.{OpeningCause, opening_facts}
 use Rattle.tv_store.specs.StoreCauses.{writer_lock_name}
@@ -24,13 +24,13 @@ use Rattle.tv_store.specs.Telling.{TellsLine, TellsFirstPart, TellsNoLine}
 -- and its list. It is each one to which the directory opens, and holds its state; the files that its commit requires can be read. No open file has a byte, nobody
 -- reads, and no collection was begun.
 pub record Opens {O W C : Type 0} (g : Ghosts O W C) (outside : O) (schema : List ℕ) (store : StoreState O) : Type 0 where
-  pub is_open : store.is_open ≡ true
+  pub is_open : store.standing.is_open ≡ true
   pub spelled : IsSchema schema store.kept.form.schema
   pub finds : g.told.content → Finds (g.view outside).reads store.kept.form store.kept.catalog.commit store.kept.managed
   pub opened : store.kept.catalog ≡ opened_catalog store.kept.catalog.commit
   pub left : g.told.content → LeavesFound (g.view outside).reads (g.view store.outside).reads store.kept.form.schema
   pub found : g.told.content → (index : FoundIndex schema (g.view outside).reads) × HasFiles (g.view outside).reads index.commit
-  pub holds : g.told.content → (index : OpenedIndex schema (g.view outside).reads) → (store.kept.form ≡ index.form) × Holds (g.view store.outside).reads store.kept index.state × CanRead index.state
+  pub holds : g.told.content → (index : OpenedIndex schema (g.view outside).reads) → (store.kept.form ≡ index.form) × IsHeld g store index.state × CanRead index.state
   pub lens : AtMost 0 store.kept
   pub numbers : store.kept.catalog.reading ≡ no_readers
   pub collections : store.kept.collections ≡ no_collections

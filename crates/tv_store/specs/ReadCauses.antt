@@ -1,5 +1,6 @@
 -- Why an event that reads the files of a commit fails.
-use Rattle.std.specs.Prelude.{ℕ, ◌≡◌, ◌≢◌, ◌⊎◌, true, List, IsSome, string_bytes}
+use Rattle.std.specs.Prelude.{ℕ, ◌≡◌, ◌≢◌, ◌⊎◌, true, false, List, IsSome, string_bytes}
+use Rattle.tv_model.specs.Living.{is_busy}
 use Rattle.tv_model.specs.Names.{is_file_name}
 use Rattle.tv_model.specs.State.{Catalog, reader_at}
 use Rattle.tv_model.specs.declared.event.Event.{Event}
@@ -12,17 +13,28 @@ use Rattle.tv_base.specs.declared.error.TantivyError.{TantivyError}
 use Rattle.tv_base.specs.declared.error.TantivyError.TheVariants as errors
 use Rattle.tv_store.specs.StoreCauses.{LockingCause}
 
--- an event that reads the current commit: a new reader, or a reload of a reader that is there
-abbrev pub ReadsCommit : Catalog → Event → Type 0
-ReadsCommit c (events.Reader policy) = Unit {0}
-ReadsCommit c (events.Reload number) = IsSome (reader_at c number)
-ReadsCommit c other = ⊥
+-- an event that loads `meta.json`: a new reader, or a reload of a reader that is there, where no reload waits
+-- for its files
+abbrev pub LoadsCommit : Catalog → Event → Type 0
+LoadsCommit c (events.Reader policy) = is_busy c ≡ false
+LoadsCommit c (events.Reload number) = (is_busy c ≡ false) × IsSome (reader_at c number)
+LoadsCommit c other = ⊥
 
--- an event that takes the meta lock: one that begins a collection, or that reads the current commit
+-- an event that reads the files of a commit: a new reader, or a reload of a reader that is there, where no
+-- reload waits for its files
+abbrev pub ReadsFiles : Catalog → Event → Type 0
+ReadsFiles c (events.Reader policy) = is_busy c ≡ false
+ReadsFiles c (events.Reload number) = (is_busy c ≡ false) × IsSome (reader_at c number)
+ReadsFiles c other = ⊥
+
+-- an event that takes the meta lock: one that begins a collection, a new reader, or a reload of a reader that
+-- is there, where no reload waits for its files
 abbrev pub TakesMetaLock : Catalog → Event → Type 0
-TakesMetaLock c events.Gc = Unit {0}
-TakesMetaLock c events.GcBegin = Unit {0}
-TakesMetaLock c other = ReadsCommit c other
+TakesMetaLock c events.Gc = is_busy c ≡ false
+TakesMetaLock c events.GcBegin = is_busy c ≡ false
+TakesMetaLock c (events.Reader policy) = is_busy c ≡ false
+TakesMetaLock c (events.Reload number) = (is_busy c ≡ false) × IsSome (reader_at c number)
+TakesMetaLock c other = ⊥
 
 -- a file that was to be read wasn't, or `meta.json` means no commit of the index
 abbrev pub IsReadError : TantivyError → Type 0

@@ -9,10 +9,10 @@ use Rattle.tv_model.specs.Files.{Rose}
 use Rattle.tv_model.specs.Names.{meta_name}
 use Rattle.tv_model.specs.State.{Snapshot}
 use Rattle.tv_model.specs.declared.event.Event.{Event}
-use Rattle.tv_store.specs.Applying.{BadIn, HoldsNone, LacksIn}
+use Rattle.tv_store.specs.Applying.{GoneAt, HoldsNone, LacksIn, RefusedAt, UnloadedAt}
 use Rattle.tv_store.specs.Bodies.{FailsAt}
 use Rattle.tv_store.specs.Kept.{StoreState}
-use Rattle.tv_store.specs.ReadCauses.{LoadingCause, IsReadError}
+use Rattle.tv_store.specs.ReadCauses.{LoadingCause, IsReadError, TakesMetaLock}
 use Rattle.tv_store.specs.StoreCauses.{IsBusy}
 
 -- One of these files isn't read.
@@ -38,10 +38,12 @@ pub record SnapshotFaults {A O W C : Type 0} (g : Ghosts O W C) (old new : Store
   pub reads : g.told.locks → IfErr result (λ error. IsReadError error → (g.view old.outside).locks meta_lock_name ≡ false)
   pub cause : IfErr result (LoadingCause (IsBusy g.told.locks ((g.view old.outside).locks meta_lock_name ≡ true) (Rose (g.view old.outside).faults (g.view new.outside).faults)) (Rose (g.view old.outside).faults (g.view new.outside).faults) ((g.view new.outside).faults ≡ (g.view old.outside).faults) ⊥ (MetaCause g.told.content (Some old.kept.form.schema) ((g.view old.outside).reads meta_name) (Rose (g.view old.outside).faults (g.view new.outside).faults) ((g.view new.outside).faults ≡ (g.view old.outside).faults)) (LacksIn g.told.content (g.view old.outside).reads old.kept) (λ path. HoldsNone g.told.content (g.view old.outside).reads old.kept))
 
--- An event that loads a commit with its files fails as such a call does, if it takes the lock; or where its
--- number is spent.
-pub record ReadingFaults {A O W C : Type 0} (g : Ghosts O W C) (takes spent : Type 0) (old new : StoreState O) (event : Event) (result : Result A TantivyError) : Type 0 where
+-- An event that loads a commit with its files fails as such a call does, if it takes the lock, loads the
+-- commit and reads the files; or where its number is spent. At Ok the lock was free, where the event takes
+-- it, and no number is spent.
+pub record ReadingFaults {A O W C : Type 0} (g : Ghosts O W C) (spent : Type 0) (old new : StoreState O) (event : Event) (result : Result A TantivyError) : Type 0 where
   pub quiet : OnOk result ((g.view new.outside).faults ≡ (g.view old.outside).faults)
-  pub free : g.told.locks → takes → OnOk result ((g.view old.outside).locks meta_lock_name ≡ false)
+  pub free : g.told.locks → TakesMetaLock old.kept.catalog event → OnOk result ((g.view old.outside).locks meta_lock_name ≡ false)
+  pub fits : OnOk result (spent → ⊥)
   pub reads : g.told.locks → IfErr result (λ error. IsReadError error → (g.view old.outside).locks meta_lock_name ≡ false)
-  pub cause : IfErr result (LoadingCause (takes × IsBusy g.told.locks ((g.view old.outside).locks meta_lock_name ≡ true) (Rose (g.view old.outside).faults (g.view new.outside).faults)) (Rose (g.view old.outside).faults (g.view new.outside).faults) ((g.view new.outside).faults ≡ (g.view old.outside).faults) spent (λ error. takes × MetaCause g.told.content (Some old.kept.form.schema) ((g.view old.outside).reads meta_name) (Rose (g.view old.outside).faults (g.view new.outside).faults) ((g.view new.outside).faults ≡ (g.view old.outside).faults) error) (λ error. takes × BadIn g.told.content (g.view old.outside).reads old.kept event error) (λ path. takes × HoldsNone g.told.content (g.view old.outside).reads old.kept))
+  pub cause : IfErr result (LoadingCause (TakesMetaLock old.kept.catalog event × IsBusy g.told.locks ((g.view old.outside).locks meta_lock_name ≡ true) (Rose (g.view old.outside).faults (g.view new.outside).faults)) (Rose (g.view old.outside).faults (g.view new.outside).faults) ((g.view new.outside).faults ≡ (g.view old.outside).faults) spent (UnloadedAt g old new event) (RefusedAt g old event) (λ path. GoneAt g old event))

@@ -1,7 +1,8 @@
 -- What a call on a store leaves alone, and why it fails.
-use Rattle.std.specs.Prelude.{ℕ, ◌≡◌, ◌≢◌, false, List, Result, OnOk, IfErr}
+use Rattle.std.specs.Prelude.{ℕ, ◌≡◌, false, List, Result, OnOk, IfErr}
 use Rattle.tv_model.specs.Files.{Reads, Rose}
-use Rattle.tv_model.specs.Names.{is_undotted, list_name, meta_name}
+use Rattle.tv_model.specs.Listing.{IsListFile}
+use Rattle.tv_model.specs.Names.{is_undotted, meta_name}
 use Rattle.tv_base.specs.declared.error.TantivyError.{TantivyError}
 use Rattle.tv_directory.specs.View.{View, Told, DeletesNone, Kept, OnlyReads}
 use Rattle.tv_directory.specs.declared.directory.Directory.{Ghosts}
@@ -33,10 +34,10 @@ pub record KeepsFiles {O W : Type 0} (keeps : View W → View W → Type 0) (vie
   pub managed : KeepsManaged keeps view old new
   pub open_files : new.open_files ≡ old.open_files
 
--- Of a store: its settings and its schema stay, and whether it is open, and of the directory below what such a call keeps.
+-- Of a store: its settings and its schema stay, and how it stands, and of the directory below what such a call keeps.
 pub record Stays {O W : Type 0} (keeps : View W → View W → Type 0) (view : O → View W) (old new : StoreState O) : Type 0 where
   pub form : new.kept.form ≡ old.kept.form
-  pub is_open : new.is_open ≡ old.is_open
+  pub standing : new.standing ≡ old.standing
   pub below : keeps (view old.outside) (view new.outside)
 
 -- And so do those who read, and what they are shown.
@@ -47,12 +48,16 @@ pub record KeepsReaders {O W : Type 0} (keeps : View W → View W → Type 0) (v
 -- And so does all that is kept.
 pub record Asks {O W : Type 0} (keeps : View W → View W → Type 0) (view : O → View W) (old new : StoreState O) : Type 0 where
   pub kept : new.kept ≡ old.kept
-  pub is_open : new.is_open ≡ old.is_open
+  pub standing : new.standing ≡ old.standing
   pub below : keeps (view old.outside) (view new.outside)
 
--- every name with a dot in front but that of the list reads what it read
+-- every name but those of the list reads what it read
+abbrev pub KeepsAllButList : Reads → Reads → Type 0
+KeepsAllButList old new = (n : List ℕ) → (IsListFile n → ⊥) → new n ≡ old n
+
+-- every name with a dot in front but those of the list reads what it read
 abbrev pub KeepsDotted : Reads → Reads → Type 0
-KeepsDotted old new = (n : List ℕ) → is_undotted n ≡ false → n ≢ list_name → new n ≡ old n
+KeepsDotted old new = (n : List ℕ) → is_undotted n ≡ false → (IsListFile n → ⊥) → new n ≡ old n
 
 -- No writer lost its file, no delete was refused, and nobody was registered or called; a notice of a commit may stand. No file with a dot in front was changed but
 -- the list.
@@ -61,9 +66,10 @@ pub record MayNotify {W : Type 0} (told : Told) (old new : View W) : Type 0 wher
   pub dotted : told.content → KeepsDotted old.reads new.reads
   pub watched : MayNote meta_name old.watched new.watched
 
--- A call fails where the device refused one, where memory was wanted, or where a number is spent; and the device refused none where the call succeeds.
+-- A call fails where the device refused one, where memory was wanted, or where a number is spent; where the call succeeds the device refused none, and none is spent.
 pub record EventFaults {A W : Type 0} (spent : Type 0) (old new : View W) (result : Result A TantivyError) : Type 0 where
   pub quiet : OnOk result (new.faults ≡ old.faults)
+  pub fits : OnOk result (spent → ⊥)
   pub cause : IfErr result (EventCause (Rose old.faults new.faults) (new.faults ≡ old.faults) spent)
 
 -- A call that makes no file and spends no number fails where the device refused one, or where memory was

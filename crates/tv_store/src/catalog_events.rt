@@ -11,9 +11,8 @@ ghost use Rattle.tv_model.specs.ReaderEvents.{release_reader_step};
 ghost use Rattle.tv_model.specs.ReportEvents.{managed_step};
 ghost use Rattle.tv_model.specs.SearcherEvents.{bytes_step, release_searcher_step, searcher_step, show_step};
 ghost use Rattle.tv_model.specs.SegmentEvents.{docs_step, is_in_use, segment_step};
-ghost use Rattle.tv_store.specs.Catalogs.{CatalogCause, FitsCatalog};
-ghost use Rattle.tv_model.specs.declared.event.Event.TheVariants as events;
-ghost use Rattle.tv_store.specs.Exhausted.{PassesEnd, number_after};
+ghost use Rattle.tv_store.specs.Catalogs.{CatalogFaults, FitsCatalog};
+ghost use Rattle.tv_store.specs.Exhausted.{SomePassesEnd, SpendsSearcher, searcher_after};
 
 use crate::answers::refused;
 use crate::catalog::Catalog;
@@ -95,8 +94,7 @@ impl Catalog {
     // A new searcher, which shows for life what a reader shows now.
     fn searcher(&mut self, number: u64) -> Result<Answer, TantivyError>
         ensures step { IfOk result (λ answer. (answer, self.new) ≡ searcher_step self.old number) }
-        ensures cause { IfErr result
-            (CatalogCause (PassesEnd (number_after self.old (events.Searcher number)))) }
+        ensures faults { CatalogFaults (SomePassesEnd (searcher_after self.old number)) result }
         ensures kept { OnErr result (self.new ≡ self.old) }
     {
         let Some(answer) = self.readers.searcher_line(number)? else {
@@ -188,8 +186,7 @@ impl Catalog {
         ensures other { IfOk result (λ told. told ≡ None → self.new ≡ self.old) }
         ensures kept { OnErr result (self.new ≡ self.old) }
         ensures fits { IfOk result (λ told. FitsCatalog event.now) }
-        ensures cause { IfErr result (CatalogCause
-            (PassesEnd (number_after self.old event.now))) }
+        ensures faults { CatalogFaults (SpendsSearcher self.old event.now) result }
     {
         let answer = match event {
             Event::Segment(id) => self.segment(managed, *id)?,

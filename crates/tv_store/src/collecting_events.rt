@@ -1,17 +1,16 @@
 //! The events of a collection in steps.
-ghost use Rattle.std.specs.Prelude.{◌≡◌, ◌+◌, [], ◌∷◌, ℕ, codes, cond, IfOk, OnOk};
+ghost use Rattle.std.specs.Prelude.{◌≡◌, ◌+◌, [], ◌∷◌, ℕ, Bool, codes, cond, IfOk, OnOk};
 ghost use Rattle.std.specs.Fmt.{decimal};
 ghost use Rattle.tv_model.specs.CollectionEvents.{gc_begin_step, gc_end_step, gc_step_step};
 ghost use Rattle.tv_model.specs.Lines.{line};
 ghost use Rattle.tv_directory.specs.View.{Kept, MayDelete, OnlyReads};
 ghost use Rattle.tv_model.specs.declared.event.Event.TheVariants as events;
-ghost use Rattle.tv_store.specs.Acting.{OnCollecting, OnFiles, StepsDeleting, StepsTo};
-ghost use Rattle.tv_store.specs.Exhausted.{PassesEnd, collection_after};
+ghost use Rattle.tv_store.specs.Acting.{OnCollecting, OnFiles, StepsDeleting, StepsTo, StepsWriting};
+ghost use Rattle.tv_store.specs.Exhausted.{SomePassesEnd, numbers_after};
 ghost use Rattle.tv_store.specs.Kept.{AtMost};
 ghost use Rattle.tv_store.specs.Stays.{AsksQuietly};
 
 use crate::collection_events::with_names;
-use crate::files_collecting::TriedName;
 use crate::index_store::IndexStore;
 use std::alloc::Global;
 use tv_base::TantivyError;
@@ -41,6 +40,33 @@ fn tried_line(alloc: Global, number: u64, name: &FileName, is_done: bool) -> Res
         .name(name)
 }
 
+// The lines of a step: that its name is done, and that the device refused its delete.
+#[derive(Drop)]
+struct StepLines {
+    done: Answer,
+    failed: Answer,
+}
+
+impl StepLines {
+    // The lines of a step that tries this name.
+    fn new(alloc: Global, number: u64, name: &FileName) -> Result<StepLines, Memory>
+        ensures { IfOk result (λ lines. (is_done : Bool)
+            → cond is_done lines.done lines.failed ≡ line (codes "gc") (decimal number
+            ∷ (cond is_done (codes "done") (codes "failed")) ∷ name.now ∷ [])) }
+    {
+        let done = tried_line(alloc, number, name, true)?;
+        let failed = tried_line(alloc, number, name, false)?;
+        Ok(StepLines { done, failed })
+    }
+
+    // The line of what became of the name.
+    fn of(self, is_done: bool) -> Answer
+        ensures { result ≡ cond is_done self.done self.failed }
+    {
+        if is_done { self.done } else { self.failed }
+    }
+}
+
 // The line of a collection that ended.
 fn ended_line(alloc: Global, number: u64) -> Result<Answer, Memory>
     ensures { IfOk result (λ answer. answer ≡ line (codes "gc")
@@ -57,7 +83,7 @@ impl<O: Outside> IndexStore<O> {
         ensures numbers { OnOk result (self.new.kept.collections.next
             ≡ self.old.kept.collections.next + 1) }
         ensures does { OnCollecting O.Directory (OnlyReads O.told)
-            (PassesEnd (collection_after self.old.kept.collections events.GcBegin))
+            (SomePassesEnd (numbers_after self.old.kept events.GcBegin))
             self.old self.new result }
     {
         let living = self.catalog.living()?;
@@ -90,15 +116,17 @@ impl<O: Outside> IndexStore<O> {
             return self.refuse("nothing-left");
         }
         self.ready_for_step()?;
-        let TriedName { name, is_done } = self.files.collect_delete(number)?;
-        let answer = tried_line(self.alloc, number, &name, is_done)?;
-        let answer = self.ready(answer)?;
+        let name = self.files.collect_next(self.alloc, number)?;
+        let lines = StepLines::new(self.alloc, number, &name)?;
+        let tried = self.files.collect_delete(number)?;
+        let answer = self.ready(lines.of(tried.is_done))?;
         Ok(answer)
     }
 
     // A collection is finished.
     pub(crate) fn gc_end(&mut self, number: u64) -> Result<Answer, TantivyError>
-        ensures step { StepsTo O.Directory self.old self.new (λ s. gc_end_step s number) result }
+        ensures step { StepsWriting O.Directory (Unit {0}) self.old self.new
+            (λ s. gc_end_step s number) result }
         ensures lens { (bound : ℕ) → AtMost bound self.old.kept → AtMost bound self.new.kept }
         ensures does { OnFiles O.Directory (Kept O.told) ⊥ self.old self.new result }
     {

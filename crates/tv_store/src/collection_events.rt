@@ -6,7 +6,7 @@ ghost use Rattle.tv_directory.specs.View.{OnlyReads, MayDelete};
 ghost use Rattle.tv_store.specs.Kept.{AtMost};
 ghost use Rattle.tv_store.specs.Acting.{GivesNone, OnCollecting, OnFiles, StepsDeleting, StepsTo};
 ghost use Rattle.tv_model.specs.declared.event.Event.TheVariants as events;
-ghost use Rattle.tv_store.specs.Exhausted.{PassesEnd, collection_after};
+ghost use Rattle.tv_store.specs.Exhausted.{SomePassesEnd, numbers_after};
 ghost use Rattle.tv_store.specs.Stays.{AsksQuietly};
 
 use crate::files_collecting::Collected;
@@ -56,7 +56,7 @@ impl<O: Outside> IndexStore<O> {
         ensures lens { (bound : ℕ) → AtMost bound self.old.kept → AtMost bound self.new.kept }
         ensures numbers { GivesNone self.old self.new result }
         ensures does { OnCollecting O.Directory (MayDelete O.told)
-            (PassesEnd (collection_after self.old.kept.collections events.Gc))
+            (SomePassesEnd (numbers_after self.old.kept events.Gc))
             self.old self.new result }
     {
         let living = self.catalog.living()?;

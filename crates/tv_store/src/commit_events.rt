@@ -10,10 +10,10 @@ ghost use Rattle.tv_model.specs.CommitEvents.{commit_step, committed, first_unse
 ghost use Rattle.tv_model.specs.Commits.{IsSegment, IsCommit};
 ghost use Rattle.tv_model.specs.Index.{IsFileOf};
 ghost use Rattle.tv_managed.specs.Managed.{KeepsOtherFiles};
-ghost use Rattle.tv_store.specs.Kept.{Holds};
+ghost use Rattle.tv_store.specs.Kept.{IsHeld};
 ghost use Rattle.tv_store.specs.FileCalls.{LeavesText};
 ghost use Rattle.tv_store.specs.Stays.{AsksQuietly, EventFaults, AsksOrFails};
-ghost use Rattle.tv_store.specs.Committing.{Commits, commit_of, IsPrinted, KeepsRest, Publishes, commit_line, unknown_line, unsealed_line};
+ghost use Rattle.tv_store.specs.Committing.{Commits, commit_of, PrintsNext, KeepsRest, Publishes, commit_line, unknown_line, unsealed_line};
 
 use crate::answers::refused;
 use crate::commit::Commit;
@@ -86,7 +86,7 @@ impl<O: Outside> IndexStore<O> {
     // Whether a file is sealed.
     fn is_sealed(&mut self, name: &FileName) -> Result<bool, TantivyError>
         ensures found { O.told.content → (s : State)
-            → Holds (O.view self.old.outside).reads self.old.kept s → IsFileOf name.now
+            → IsHeld O.Directory self.old s → IsFileOf name.now
             → IfOk result (λ found. found ≡ is_sealed (file_at s name.now)) }
         ensures asks { AsksOrFails O.Directory self.old self.new result }
     {
@@ -99,7 +99,7 @@ impl<O: Outside> IndexStore<O> {
         names: &'a [FileName],
     ) -> Result<Option<&'a FileName>, TantivyError>
         ensures found { O.told.content → (s : State)
-            → Holds (O.view self.old.outside).reads self.old.kept s
+            → IsHeld O.Directory self.old s
             → AllByRecursion IsFileOf names.entry.now
             → IfOk result (λ found. option_map (λ name. name.now) found
             ≡ find (λ name. not (is_sealed (file_at s name))) names.entry.now) }
@@ -148,7 +148,7 @@ impl<O: Outside> IndexStore<O> {
     // The refusal of the first of these files that isn't sealed, in room that is made for it.
     fn refuse_first(&mut self, names: &[FileName]) -> Result<Option<Answer>, TantivyError>
         ensures answer { O.told.content → (s : State)
-            → Holds (O.view self.old.outside).reads self.old.kept s
+            → IsHeld O.Directory self.old s
             → AllByRecursion IsFileOf names.now
             → IfOk result (λ refusal. refusal ≡ option_map unsealed_line
             (find (λ name. not (is_sealed (file_at s name))) names.now)) }
@@ -166,7 +166,7 @@ impl<O: Outside> IndexStore<O> {
     // The refusal of a commit, where one of its files isn't sealed.
     fn refusal_of(&mut self, commit: &Commit) -> Result<Option<Answer>, TantivyError>
         ensures answer { O.told.content → (s : State)
-            → Holds (O.view self.old.outside).reads self.old.kept s
+            → IsHeld O.Directory self.old s
             → AllByRecursion IsSegment commit.now.segments
             → IfOk result (λ refusal. refusal ≡ option_map unsealed_line
             (first_unsealed s commit.now.segments)) }
@@ -232,7 +232,7 @@ impl<O: Outside> IndexStore<O> {
     // device is asked.
     fn commit_printed(&mut self, commit: Commit, text: &[u8]) -> Result<Answer, TantivyError>
         requires { self.old.kept.catalog.next < last_stamp }
-        ensures { Commits O.Directory (IsPrinted self.old.kept commit text.now) self.old self.new
+        ensures { Commits O.Directory (PrintsNext self.old.kept commit text.now) self.old self.new
             (λ s. commit_of s commit.payload commit.segments) result }
     {
         let answer = self.ready_for_either(&commit)?;
@@ -251,7 +251,7 @@ impl<O: Outside> IndexStore<O> {
     ) -> Result<Answer, TantivyError>
         requires next { self.old.kept.catalog.next < last_stamp }
         requires room { length answer < (O.view self.old.outside).room }
-        ensures { Commits O.Directory (IsPrinted self.old.kept commit text.now
+        ensures { Commits O.Directory (PrintsNext self.old.kept commit text.now
             × (answer ≡ commit_line commit.opstamp commit.segments))
             self.old self.new (λ s. on_catalog s
             (committed s.catalog commit.payload commit.segments)) result }

@@ -7,7 +7,8 @@ ghost use Rattle.tv_directory.specs.View.{Kept};
 ghost use Rattle.tv_model.specs.declared.event.Event.TheVariants as events;
 ghost use Rattle.tv_store.specs.Exhausted.{PassesEnd, length_after};
 ghost use Rattle.tv_store.specs.Kept.{AtMost};
-ghost use Rattle.tv_store.specs.Acting.{StepsTo, StepsReading, OnFiles};
+ghost use Rattle.tv_store.specs.Acting.{StepsWriting, OnFiles};
+ghost use Rattle.tv_store.specs.Applying.{WritesByStep};
 
 use crate::index_store::IndexStore;
 use crate::names::file_of;
@@ -45,8 +46,8 @@ impl<O: Outside> IndexStore<O> {
         id: SegmentId,
         component: SegmentComponent,
     ) -> Result<Answer, TantivyError>
-        ensures step { StepsReading O.Directory self.old self.new
-            (λ s. open_step s id component) (λ s. Unit {0}) result }
+        ensures step { StepsWriting O.Directory (Unit {0}) self.old self.new
+            (λ s. open_step s id component) result }
         ensures lens { (bound : ℕ) → AtMost bound self.old.kept → AtMost bound self.new.kept }
         ensures does { OnFiles O.Directory (Kept O.told) ⊥ self.old self.new result }
     {
@@ -73,7 +74,8 @@ impl<O: Outside> IndexStore<O> {
         component: SegmentComponent,
         bytes: &Blob,
     ) -> Result<Answer, TantivyError>
-        ensures step { StepsTo O.Directory self.old self.new
+        ensures step { StepsWriting O.Directory
+            (WritesByStep self.old.kept (events.Write id component bytes.now)) self.old self.new
             (λ s. write_step s id component bytes.now) result }
         ensures lens { (bound : ℕ) → AtMost bound self.old.kept
             → AtMost (bound + length bytes.now) self.new.kept }
@@ -104,7 +106,7 @@ impl<O: Outside> IndexStore<O> {
         id: SegmentId,
         component: SegmentComponent,
     ) -> Result<Answer, TantivyError>
-        ensures step { StepsTo O.Directory self.old self.new
+        ensures step { StepsWriting O.Directory (Unit {0}) self.old self.new
             (λ s. seal_step s id component) result }
         ensures lens { (bound : ℕ) → AtMost bound self.old.kept → AtMost bound self.new.kept }
         ensures does { OnFiles O.Directory (Kept O.told) ⊥ self.old self.new result }

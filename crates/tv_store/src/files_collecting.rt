@@ -2,18 +2,17 @@
 ghost use Rattle.std.specs.Prelude.{◌≡◌, ◌≢◌, ◌&&◌, ◌||◌, not, ◌≤◌, [], ◌∷◌, List, ℕ, true, length, None, Some, IsSome, is_some, cond, option_map, Contains, IfOk, OnOk, OnErr, map, string_bytes};
 ghost use Rattle.std.specs.List.{list_all, AllByRecursion};
 ghost use Rattle.std.specs.List.Sorted.{IsStrictlySortedBy};
-ghost use Rattle.tv_model.specs.Names.{byte_cmp, has, is_plain, list_name, meta_name};
+ghost use Rattle.tv_model.specs.Names.{byte_cmp, has, is_plain, meta_name};
 ghost use Rattle.tv_model.specs.Collections.{Collection, collection_at, held, taken};
-ghost use Rattle.tv_model.specs.Files.{KeepsOthers, Same};
-ghost use Rattle.tv_model.specs.Listing.{Lists};
+ghost use Rattle.tv_model.specs.Files.{Same};
+ghost use Rattle.tv_model.specs.Listing.{IsListFile, Listing};
 ghost use Rattle.tv_model.specs.State.{at};
 ghost use Rattle.tv_directory.specs.View.{Kept, MayDelete, OnlyReads};
-ghost use Rattle.tv_model.specs.declared.event.Event.TheVariants as events;
 ghost use Rattle.tv_store.specs.CollectingCalls.{BeginsCollection, EndsCollection, HasUntried, KeepsUncollected, KeepsUnlisted, TriesNext};
-ghost use Rattle.tv_store.specs.Exhausted.{PassesEnd, collection_after};
+ghost use Rattle.tv_store.specs.Exhausted.{SomePassesEnd, collection_after};
 ghost use Rattle.tv_store.specs.FileCalls.{Collects, GcFaults};
 ghost use Rattle.tv_store.specs.Reopening.{Reopens};
-ghost use Rattle.tv_store.specs.Stays.{EventFaults, KeepsDotted, KeepsForm};
+ghost use Rattle.tv_store.specs.Stays.{EventFaults, KeepsAllButList, KeepsDotted, KeepsForm};
 
 use crate::files::Files;
 use std::alloc::Global;
@@ -26,6 +25,7 @@ use tv_managed::{CollectStep, GarbageCollectionResult};
 use tv_model::{FileName, Memory};
 
 /// A name that a collection tried, and whether it is done.
+#[derive(Drop)]
 pub(crate) struct TriedName {
     pub(crate) name: FileName,
     pub(crate) is_done: bool,
@@ -137,6 +137,17 @@ impl<O: Outside> Files<O> {
         self.index.directory().collect_left(number)
     }
 
+    /// The name that an unfinished collection tries next.
+    pub(crate) fn collect_next(&self, alloc: Global, number: u64) -> Result<FileName, Memory>
+        requires { HasUntried self.now.collections number }
+        ensures { (c : Collection) (name : List ℕ) (left : List (List ℕ))
+            → collection_at self.now.collections number ≡ Some c → c.untried ≡ name ∷ left
+            → IfOk result (λ found. found ≡ name) }
+    {
+        let name = self.index.directory().collect_next(number);
+        Ok(FileName::new(String::from_str(alloc, name)?))
+    }
+
     /// The names that an unfinished collection took, in their order; none where no such collection is
     /// unfinished.
     pub(crate) fn collect_names(&self, alloc: Global, number: u64) -> Result<Vec<FileName>, Memory>
@@ -157,8 +168,8 @@ impl<O: Outside> Files<O> {
         requires { has (map string_bytes living.now.keys) meta_name ≡ true }
         ensures begins { IfOk result (λ number. BeginsCollection number
             (map string_bytes living.now.keys) self.old self.new) }
-        ensures faults { GcFaults O.Directory (PassesEnd
-            (collection_after self.old.collections events.GcBegin))
+        ensures faults { GcFaults O.Directory (SomePassesEnd
+            (collection_after self.old.collections))
             self.old.outside self.new.outside result }
         ensures frame { KeepsUncollected (OnlyReads O.told) O.view self.old self.new }
     {
@@ -201,8 +212,8 @@ impl<O: Outside> Files<O> {
     pub(crate) fn collect_end(&mut self, number: u64) -> Result<(), TantivyError>
         requires { IsSome (collection_at self.old.collections number) }
         ensures ends { OnOk result (EndsCollection O.Directory number self.old self.new) }
-        ensures others { O.told.content → KeepsOthers (O.view self.old.outside).reads
-            (O.view self.new.outside).reads list_name }
+        ensures others { O.told.content → KeepsAllButList (O.view self.old.outside).reads
+            (O.view self.new.outside).reads }
         ensures faults { EventFaults ⊥ (O.view self.old.outside) (O.view self.new.outside) result }
         ensures frame { KeepsUnlisted (Kept O.told) O.view self.old self.new }
     {
@@ -222,17 +233,17 @@ impl<O: Outside> Files<O> {
             (map string_bytes living.keys) self.old self.new c.deleted.items c.failed.items) }
         // What is living reads what it read.
         ensures spared { O.told.content → (n : List ℕ) → has (map string_bytes living.keys) n ≡ true
-            → n ≢ list_name
+            → (IsListFile n → ⊥)
             → (O.view self.new.outside).reads n ≡ (O.view self.old.outside).reads n }
         ensures dotted { O.told.content → KeepsDotted (O.view self.old.outside).reads
             (O.view self.new.outside).reads }
         ensures list { O.told.content
-            → Lists ((O.view self.old.outside).reads list_name) self.old.managed
-            → OnOk result (Lists ((O.view self.new.outside).reads list_name) self.new.managed) }
+            → Listing (O.view self.old.outside).reads self.old.managed
+            → OnOk result (Listing (O.view self.new.outside).reads self.new.managed) }
         ensures lens { (bound : ℕ) → AllByRecursion (λ e. length e.1 ≤ bound) self.old.open_files
             → AllByRecursion (λ e. length e.1 ≤ bound) self.new.open_files }
-        ensures faults { GcFaults O.Directory (PassesEnd
-            (collection_after self.old.collections events.GcBegin))
+        ensures faults { GcFaults O.Directory (SomePassesEnd
+            (collection_after self.old.collections))
             self.old.outside self.new.outside result }
         ensures frame { KeepsForm (MayDelete O.told) O.view self.old self.new }
     {

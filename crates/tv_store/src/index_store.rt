@@ -7,7 +7,7 @@ ghost use Rattle.tv_directory.specs.Images.{KeepsDisk};
 ghost use Rattle.tv_directory.specs.View.{OnlyReads, OnlyTells};
 ghost use Rattle.tv_store.specs.Acting.{Acts};
 ghost use Rattle.tv_store.specs.Applying.{Stepped, LeavesMeta, Grows, ApplyFaults, AppliesFrame, AsksNoFile, IsUndisturbedEvent};
-ghost use Rattle.tv_store.specs.Kept.{Holds};
+ghost use Rattle.tv_store.specs.Kept.{Holds, IsHeld};
 ghost use Rattle.tv_store.specs.Opening.{Opens, LeavesIndex, TellsOpening, TakesWriterLock, OpeningFaults, OpeningFrame, OpensSafely};
 ghost use Rattle.tv_store.specs.StoreCauses.{writer_lock_name};
 ghost use Rattle.tv_store.specs.Telling.{TellsAnswer, TriesLine};
@@ -23,8 +23,8 @@ use tv_managed::Refused;
 use tv_model::{Answer, Event};
 
 /// An index over a directory, whose writer lock it holds. One event after the other is applied to it,
-/// and the line of each is told. To a contract it is what is kept in memory, the directory, and
-/// whether it is open.
+/// and the line of each is told. To a contract it is what is kept in memory, the directory, and how
+/// it stands.
 pub struct IndexStore<O: Outside> {
     pub(crate) alloc: Global,
     pub(crate) catalog: Catalog,
@@ -43,7 +43,7 @@ impl<O: Outside> Model for IndexStore<O> {
     ghost view = { λ a. record {
       kept = kept_of a.catalog a.files;
       outside = a.files.outside;
-      is_open = a.is_open;
+      standing = record { is_open = a.is_open };
     } };
 
     ghost invariant = { λ a. a.lock ≡ writer_lock_name };
@@ -102,7 +102,7 @@ impl<O: Outside> IndexStore<O> {
     /// Makes one step of the machine, and tells its line. A commit writes `meta.json`, unless it is
     /// refused. After an error the store isn't open.
     pub fn apply(&mut self, event: &Event) -> Result<Answer, TantivyError>
-        requires { self.old.is_open ≡ true }
+        requires { self.old.standing.is_open ≡ true }
         ensures step { IfOk result (Stepped O.Directory self.old self.new event.now) }
         ensures tells { TellsAnswer O.Directory self.old.outside self.new.outside result }
         ensures leaves { LeavesMeta O.Directory self.old self.new event.now result }
@@ -125,7 +125,7 @@ impl<O: Outside> IndexStore<O> {
         ensures tells { TriesLine O.told (O.view self.old.outside)
             (O.view self.new.outside) answer.now result }
         ensures kept { self.new.kept ≡ self.old.kept }
-        ensures open { self.new.is_open ≡ is_ok result }
+        ensures open { self.new.standing.is_open ≡ is_ok result }
         ensures faults { DeviceFaults (O.view self.old.outside) (O.view self.new.outside) result }
         ensures frame { OnlyTells O.told (O.view self.old.outside) (O.view self.new.outside) }
     {
@@ -172,7 +172,7 @@ impl<O: Outside> IndexStore<O> {
 
     /// Whether the next event may be applied: false after an error. Takes no memory.
     pub fn is_open(&self) -> bool
-        ensures { result ≡ self.now.is_open }
+        ensures { result ≡ self.now.standing.is_open }
     {
         self.is_open
     }
@@ -182,7 +182,7 @@ impl<O: Outside> IndexStore<O> {
         ensures frees { Frees O.told writer_lock_name (O.view self.outside) (O.view result) }
         // It holds each state that it held.
         ensures holds { O.told.content → (s : State)
-            → Holds (O.view self.outside).reads self.kept s
+            → IsHeld O.Directory self s
             → Holds (O.view result).reads self.kept s }
         ensures images { O.tells_images → KeepsDisk (O.disk self.outside) (O.disk result) }
     {

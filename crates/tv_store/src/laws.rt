@@ -5,10 +5,11 @@ mod opening;
 mod saving;
 
 pub use events::{
-    bytes_reads_no_file, commits_living_segments, draws_a_new_delete_name, reads_what_was_sealed,
-    reload_shows_the_commit, reopens_what_was_committed,
+    bytes_reads_no_file, changes_nothing_where_it_refuses, commits_living_segments,
+    draws_a_new_delete_name, reads_what_was_sealed, reload_shows_the_commit,
+    reopens_what_was_committed,
 };
 pub use opening::{
-    frees_its_lock_at_the_end, leaves_locks_as_they_were, spares_a_locked_directory,
-    tells_damage_before_a_held_lock, writes_nothing_before_its_lock,
+    frees_its_lock_at_the_end, leaves_locks_as_they_were, names_and_spares_refused_bytes,
+    spares_a_locked_directory, tells_damage_before_a_held_lock, writes_nothing_before_its_lock,
 };

@@ -1,9 +1,9 @@
 //! The events of readers.
-ghost use Rattle.std.specs.Prelude.{◌≡◌, ◌<◌, ◌+◌, [], ◌∷◌, ℕ, true, map, IsSome, Some, IfOk, OnOk};
+ghost use Rattle.std.specs.Prelude.{◌≡◌, ◌<◌, ◌+◌, [], ◌∷◌, ℕ, true, map, Some, IfOk, OnOk};
 ghost use Rattle.std.specs.Fmt.{decimal};
 ghost use Rattle.tv_model.specs.Lines.{line, has_no_feed};
 ghost use Rattle.tv_model.specs.Segments.{all_required, required_names};
-ghost use Rattle.tv_model.specs.State.{State, reader_at};
+ghost use Rattle.tv_model.specs.State.{State};
 ghost use Rattle.tv_model.specs.declared.event.Event.TheVariants as events;
 ghost use Rattle.tv_model.specs.SoundStates.{IsWhole};
 ghost use Rattle.tv_model.specs.Readable.{CanRead, ReadsGood};
@@ -13,8 +13,8 @@ ghost use Rattle.tv_managed.specs.Reading.{ReadsBody};
 ghost use Rattle.tv_store.specs.Acting.{OnReading, StepsReading, reader_event, reload_event};
 ghost use Rattle.tv_store.specs.Bodies.{AreBodies, AreGood, AreSealed, ReadsSegment, ReadsSegments};
 ghost use Rattle.tv_store.specs.FileCalls.{ReadBodyFaults};
-ghost use Rattle.tv_store.specs.Kept.{Holds};
-ghost use Rattle.tv_store.specs.Exhausted.{PassesEnd, number_after};
+ghost use Rattle.tv_store.specs.Kept.{IsHeld};
+ghost use Rattle.tv_store.specs.Exhausted.{SomePassesEnd, numbers_after};
 ghost use Rattle.tv_store.specs.ReaderNumbers.{FewNumbers};
 ghost use Rattle.tv_store.specs.SnapshotCalls.{BodiesFaults, CommitFaults, ReadingFaults, ShowsMeta, SnapshotFaults};
 ghost use Rattle.tv_index.specs.Standing.{LoadsMeta, MetaFaults};
@@ -64,7 +64,7 @@ impl<O: Outside> IndexStore<O> {
     // The bodies of some sealed files, in their order.
     fn read_bodies(&mut self, names: &[FileName]) -> Result<Vec<FileSlice>, TantivyError>
         ensures bodies { O.told.content → (s : State)
-            → Holds (O.view self.old.outside).reads self.old.kept s
+            → IsHeld O.Directory self.old s
             → AreSealed s names.entry.now
             → IfOk result (λ bodies. AreBodies s names.entry.now bodies.items) }
         ensures good { O.told.content → OnOk result (AreGood
@@ -88,7 +88,7 @@ impl<O: Outside> IndexStore<O> {
         segment: LiveSegment,
     ) -> Result<SegmentReader, TantivyError>
         ensures reader { O.told.content → (s : State)
-            → Holds (O.view self.old.outside).reads self.old.kept s
+            → IsHeld O.Directory self.old s
             → AreSealed s (required_names id segment)
             → IfOk result (λ reader.
             ReadsSegment s id segment reader.id reader.segment reader.bodies.items) }
@@ -121,7 +121,7 @@ impl<O: Outside> IndexStore<O> {
         segments: &[InnerSegmentMeta],
     ) -> Result<Vec<SegmentReader>, TantivyError>
         ensures readers { O.told.content → (s : State)
-            → Holds (O.view self.old.outside).reads self.old.kept s
+            → IsHeld O.Directory self.old s
             → AreSealed s (all_required (map entry_of segments.now))
             → IfOk result (λ readers. ReadsSegments s (map entry_of segments.now)
             (map (λ r. (r.id, r.segment)) readers.items)
@@ -146,7 +146,7 @@ impl<O: Outside> IndexStore<O> {
     // read now.
     fn read_snapshot(&mut self, generation: u64) -> Result<Snapshot, TantivyError>
         ensures shown { O.told.content → (s : State)
-            → Holds (O.view self.old.outside).reads self.old.kept s → IsWhole s
+            → IsHeld O.Directory self.old s → IsWhole s
             → IfOk result (λ shown. (shown ≡ snapshot_in s generation) × CanRead s) }
         ensures meta { IfOk result (ShowsMeta O.Directory self.old) }
         ensures faults { CommitFaults O.Directory self.old self.new result }
@@ -162,7 +162,7 @@ impl<O: Outside> IndexStore<O> {
     // read while the meta lock is held.
     fn snapshot(&mut self, generation: u64) -> Result<Snapshot, TantivyError>
         ensures shown { O.told.content → (s : State)
-            → Holds (O.view self.old.outside).reads self.old.kept s → IsWhole s
+            → IsHeld O.Directory self.old s → IsWhole s
             → IfOk result (λ shown. (shown ≡ snapshot_in s generation) × CanRead s) }
         ensures meta { IfOk result (ShowsMeta O.Directory self.old) }
         ensures faults { SnapshotFaults O.Directory self.old self.new result }
@@ -182,8 +182,8 @@ impl<O: Outside> IndexStore<O> {
             → FewNumbers bound self.old.kept.catalog.reading self.old.kept.collections
             → OnOk result (FewNumbers (bound + 1) self.new.kept.catalog.reading
             self.new.kept.collections) }
-        ensures faults { ReadingFaults O.Directory (Unit {0})
-            (PassesEnd (number_after self.old.kept.catalog (events.Reader policy)))
+        ensures faults { ReadingFaults O.Directory
+            (SomePassesEnd (numbers_after self.old.kept (events.Reader policy)))
             self.old self.new (events.Reader policy) result }
         ensures does { OnReading O.Directory self.old self.new result }
     {
@@ -213,8 +213,7 @@ impl<O: Outside> IndexStore<O> {
             → OnOk result (FewNumbers (bound + 1) self.new.kept.catalog.reading
             self.new.kept.collections) }
         ensures faults { ReadingFaults O.Directory
-            (IsSome (reader_at self.old.kept.catalog number))
-            (PassesEnd (number_after self.old.kept.catalog (events.Reload number)))
+            (SomePassesEnd (numbers_after self.old.kept (events.Reload number)))
             self.old self.new (events.Reload number) result }
         ensures does { OnReading O.Directory self.old self.new result }
     {

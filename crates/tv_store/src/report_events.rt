@@ -7,7 +7,7 @@ ghost use Rattle.tv_model.specs.ReportEvents.{intact_at, validate_step, validate
 ghost use Rattle.tv_model.specs.State.{State, file_at};
 ghost use Rattle.tv_directory.specs.View.{OnlyReads};
 ghost use Rattle.tv_store.specs.Acting.{OnFiles, StepsTo};
-ghost use Rattle.tv_store.specs.Kept.{AtMost, Holds};
+ghost use Rattle.tv_store.specs.Kept.{AtMost, IsHeld};
 ghost use Rattle.tv_store.specs.Stays.{AsksOrFails};
 
 use crate::answers::refused;
@@ -41,7 +41,7 @@ impl<O: Outside> IndexStore<O> {
     // Whether the checksum of a file is that of its body; none where it can't be read.
     fn is_intact(&mut self, name: &FileName) -> Result<Option<bool>, TantivyError>
         ensures found { O.told.content → (s : State)
-            → Holds (O.view self.old.outside).reads self.old.kept s → IsFileOf name.now
+            → IsHeld O.Directory self.old s → IsFileOf name.now
             → IfOk result (λ found. found ≡ intact_at (file_at s name.now)) }
         ensures asks { AsksOrFails O.Directory self.old self.new result }
     {
@@ -63,7 +63,7 @@ impl<O: Outside> IndexStore<O> {
     // the answer.
     fn validate_files(&mut self, names: &[FileName]) -> Result<Answer, TantivyError>
         ensures answer { O.told.content → (s : State)
-            → Holds (O.view self.old.outside).reads self.old.kept s
+            → IsHeld O.Directory self.old s
             → AllByRecursion IsFileOf names.entry.now
             → IfOk result (λ answer. answer ≡ (validated s names.entry.now).0) }
         ensures room { IfOk result (λ answer. length answer < (O.view self.new.outside).room) }

@@ -1,6 +1,7 @@
 //! A managed directory, one call after the other, over a directory that fails.
-ghost use Rattle.std.specs.Prelude.{◌≡◌, ◌≢◌, ◌+◌, ◌<◌, ◌^◌, true, length, OnOk};
-ghost use Rattle.tv_model.specs.Names.{is_file_name, list_name};
+ghost use Rattle.std.specs.Prelude.{◌≡◌, ◌+◌, ◌<◌, ◌^◌, true, length, OnOk};
+ghost use Rattle.tv_model.specs.Listing.{IsListFile};
+ghost use Rattle.tv_model.specs.Names.{is_file_name};
 
 use crate::empty::{Empty, refusing};
 use crate::sealed_files::{Row, takes};
@@ -92,7 +93,7 @@ fn seal<D: Directory>(
     bytes: &[u8],
 ) -> Result<(), TantivyError>
     requires name { is_file_name name.now ≡ true }
-    requires other { name.now ≢ list_name }
+    requires other { IsListFile name.now → ⊥ }
 {
     let writer = managed.open_write(name)?;
     Ok(fill(managed, writer, bytes)?)
@@ -109,7 +110,7 @@ fn take_on<R: Eprint, D: Directory>(
     step: FileStep<'_>,
 ) -> bool
     requires name { is_file_name step.1.now ≡ true }
-    requires other { step.1.now ≢ list_name }
+    requires other { IsListFile step.1.now → ⊥ }
 {
     let (call, name, bytes, want) = step;
     match call {

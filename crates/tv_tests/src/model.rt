@@ -76,6 +76,7 @@ fn laws_are_called() {
     laws::validations_name_damaged_files();
     laws::files_keep_their_body();
     laws::meta_json_keeps_commits();
+    laws::json_spells_one_commit();
     laws::stripped_schemas_are_texts();
     laws::lists_tell_their_names();
     tv_framing::laws::footers_are_read_back();

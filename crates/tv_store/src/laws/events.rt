@@ -1,8 +1,9 @@
 //! Laws of events.
-ghost use Rattle.std.specs.Prelude.{◌≡◌, ◌≢◌, ◌++◌, ℕ, List, Some, true, IfErr, IfOk, OnOk};
+ghost use Rattle.std.specs.Prelude.{◌≡◌, ◌≢◌, ◌++◌, ℕ, Bool, List, Some, true, IfErr, IfOk, OnOk};
 ghost use Rattle.tv_model.specs.Collections.{no_collections};
 ghost use Rattle.tv_model.specs.DeleteEvents.{delete_name, next_deletes};
 ghost use Rattle.tv_model.specs.Footer.{sealed};
+ghost use Rattle.tv_model.specs.Machine.{step};
 ghost use Rattle.tv_model.specs.Names.{has, meta_name};
 ghost use Rattle.tv_model.specs.SearcherEvents.{bytes_step};
 ghost use Rattle.tv_model.specs.Segments.{name_of};
@@ -10,6 +11,7 @@ ghost use Rattle.tv_model.specs.State.{Reader, at, live_at, no_readers, reader_a
 ghost use Rattle.tv_model.specs.declared.segment.LiveSegment.{LiveSegment};
 ghost use Rattle.tv_directory.specs.View.{OnlyTells};
 ghost use Rattle.tv_index.specs.Saving.{saved_text};
+ghost use Rattle.tv_store.specs.Applying.{LeavesAlone, WritesByStep};
 ghost use Rattle.tv_store.specs.EventLaws.{HasLiving, HoldsSome};
 ghost use Rattle.tv_store.specs.ReadCauses.{IsReadError};
 ghost use Rattle.tv_store.specs.SnapshotCalls.{ShowsMeta};
@@ -26,7 +28,7 @@ pub fn reads_what_was_sealed<O: Outside>(
     component: SegmentComponent,
     bytes: Blob,
 ) -> Result<Answer, TantivyError>
-    requires { store.old.is_open ≡ true }
+    requires { store.old.standing.is_open ≡ true }
     ensures { HoldsSome O.Directory store.old → (segment : LiveSegment) (body : List ℕ)
         → live_at store.old.kept.catalog id ≡ Some segment
         → at store.old.kept.open_files (name_of id segment.deletes component) ≡ Some body
@@ -43,7 +45,7 @@ pub fn draws_a_new_delete_name<O: Outside>(
     id: SegmentId,
     n: u32,
 ) -> Result<Answer, TantivyError>
-    requires { store.old.is_open ≡ true }
+    requires { store.old.standing.is_open ≡ true }
     ensures { HoldsSome O.Directory store.old
         → has store.old.kept.managed
         (delete_name id (Some (next_deletes store.old.kept.catalog n))) ≡ true
@@ -59,7 +61,7 @@ pub fn commits_living_segments<O: Outside>(
     payload: Option<Text>,
     ids: IdList,
 ) -> Result<Answer, TantivyError>
-    requires { store.old.is_open ≡ true }
+    requires { store.old.standing.is_open ≡ true }
     ensures living { HoldsSome O.Directory store.old
         → OnOk result (store.new.kept.catalog ≢ store.old.kept.catalog
         → HasLiving ids store.old.kept.catalog store.new.kept.catalog.commit) }
@@ -77,7 +79,7 @@ pub fn reload_shows_the_commit<O: Outside>(
     store: &mut IndexStore<O>,
     number: u64,
 ) -> Result<Answer, TantivyError>
-    requires { store.old.is_open ≡ true }
+    requires { store.old.standing.is_open ≡ true }
     ensures { HoldsSome O.Directory store.old → (reader : Reader)
         → reader_at store.new.kept.catalog number ≡ Some reader
         → OnOk result (ShowsMeta O.Directory store.new reader.shown) }
@@ -93,7 +95,7 @@ pub fn bytes_reads_no_file<O: Outside>(
     ord: u32,
     component: SegmentComponent,
 ) -> Result<Answer, TantivyError>
-    requires { store.old.is_open ≡ true }
+    requires { store.old.standing.is_open ≡ true }
     ensures shown { HoldsSome O.Directory store.old → IfOk result (λ answer.
         answer ≡ (bytes_step store.old.kept.catalog number ord component).0) }
     ensures asks { OnlyTells O.told (O.view store.old.outside) (O.view store.new.outside) }
@@ -107,7 +109,7 @@ pub fn bytes_reads_no_file<O: Outside>(
 pub fn reopens_what_was_committed<O: Outside>(
     store: &mut IndexStore<O>,
 ) -> Result<Answer, TantivyError>
-    requires { store.old.is_open ≡ true }
+    requires { store.old.standing.is_open ≡ true }
     ensures live { HoldsSome O.Directory store.old → OnOk result
         (store.new.kept.catalog.live ≡ store.old.kept.catalog.commit.segments) }
     ensures commit { HoldsSome O.Directory store.old → OnOk result
@@ -117,4 +119,21 @@ pub fn reopens_what_was_committed<O: Outside>(
         × (store.new.kept.collections ≡ no_collections)) }
 {
     store.apply(&Event::Reopen)
+}
+
+/// An event that is refused changes nothing that is read: where its step, with the outcomes of which its
+/// line tells, leaves the state as it was, as that of a refusal does, each name reads what it read, that
+/// of the list too, and no notice comes. A `write` of no bytes to an open file is left out.
+pub fn changes_nothing_where_it_refuses<O: Outside>(
+    store: &mut IndexStore<O>,
+    event: &Event,
+) -> Result<Answer, TantivyError>
+    requires { store.old.standing.is_open ≡ true }
+    ensures { (held : HoldsSome O.Directory store.old) → WritesByStep store.old.kept event.now
+        → IfOk result (λ answer. (outcomes : List Bool)
+        × (answer ≡ (step held.state event.now outcomes).0)
+        × ((step held.state event.now outcomes).1 ≡ held.state
+        → LeavesAlone (O.view store.old.outside) (O.view store.new.outside))) }
+{
+    store.apply(event)
 }

@@ -2,6 +2,8 @@
 ghost use Rattle.std.specs.Prelude.{◌≡◌, ◌⊎◌, true, false, ℕ, List, None, IfOk, IfErr, IsErr};
 ghost use Rattle.tv_model.specs.Files.{Same};
 ghost use Rattle.tv_model.specs.Index.{FoundIndex};
+ghost use Rattle.tv_index.specs.Opening.{IsRefusedBytes};
+ghost use Rattle.tv_store.specs.Making.{NamesRefused};
 ghost use Rattle.tv_store.specs.StoreCauses.{writer_lock_name};
 
 use crate::index_store::IndexStore;
@@ -44,6 +46,20 @@ pub fn spares_a_locked_directory<O: Outside>(
         → IfErr result (λ refused. Same (O.view outside).reads (O.view refused.directory).reads) }
     ensures held { O.told.locks → (O.view outside).locks writer_lock_name ≡ true
         → IfErr result (λ refused. (O.view refused.directory).locks writer_lock_name ≡ true) }
+{
+    IndexStore::open(alloc, outside, schema)
+}
+
+/// An opening that refuses bytes names the list of managed files or `meta.json`, and changes nothing that
+/// is read; nor does it where the commit there has another schema.
+pub fn names_and_spares_refused_bytes<O: Outside>(
+    alloc: Global,
+    outside: O,
+    schema: &[u8],
+) -> Result<IndexStore<O>, Refused<O>>
+    ensures named { IfErr result (λ refused. NamesRefused refused.error) }
+    ensures unchanged { O.told.content → IfErr result (λ refused. IsRefusedBytes refused.error
+        → Same (O.view outside).reads (O.view refused.directory).reads) }
 {
     IndexStore::open(alloc, outside, schema)
 }

@@ -7,7 +7,7 @@ pub returns-in-Ok : goal.returns-in-Ok
 returns-in-Ok g c =
     let read = c.in-Ok.ensures in
     record {
-      meta = parsed_meta g.D.Directory c.args.directory.now.0 c.atomic_read.new.self.0 (option_map (λ s. s.now) c.args.expected) c.parse.result c.as_slice.result.now (λ t. read.bytes t ∙ ap Some (sym c.as_slice.ensures.value)) c.parse.ensures.ok c.parse.ensures.schema;
+      meta = parsed_meta g.D.Directory c.args.directory.now.0 c.atomic_read.new.self.0 (option_map (λ s. s.now) c.args.expected) c.parse.result c.as_slice.result.now (λ t. read.bytes t ∙ ap Some (sym c.as_slice.ensures.value)) c.parse.ensures.ok c.parse.ensures.schema c.parse.ensures.spelled;
       faults = parsed_faults g.D.Directory c.args.directory.now.0 c.atomic_read.new.self.0 (option_map (λ s. s.now) c.args.expected) c.parse.result c.as_slice.result.now read.faults.quiet (λ t. read.bytes t ∙ ap Some (sym c.as_slice.ensures.value)) c.parse.ensures.err;
       frame = read.frame;
       images = read.images;

@@ -1,4 +1,5 @@
 use Rattle.std.proofs.Common.{Ok, refl}
+use Rattle.tv_model.specs.Names.{meta_name}
 use Rattle.tv_base.specs.declared.io.IoError.TheVariants as io
 use Rattle.tv_index.proofs.Managing.{manages_between, manages_err, manages_none}
 use Rattle.tv_index.proofs.Openings.{not_written, notes_unless, reads_unless, same_error, unless_before, unless_later, wrote}
@@ -61,21 +62,21 @@ returns-clause-frame g c =
     unless_before (unless_later synced.below (λ m. m) (wrote (Ok c.in_ok-atomic_write.field-0) c.in_ok-atomic_write.ensures.frame)) later.below
 
 pub returns-in_err-sync_directory-clause-safe : goal.returns-in_err-sync_directory-clause-safe
-returns-in_err-sync_directory-clause-safe g c tells = saves_unsynced g.D.Directory c.args.text.now io.Memory c.from_residual.result c.from_residual.ensures.0 (c.in_err-sync_directory.ensures.safe tells)
+returns-in_err-sync_directory-clause-safe g c tells = saves_unsynced g.D.Directory meta_name c.args.text.now io.Memory c.from_residual.result c.from_residual.ensures.0 (c.in_err-sync_directory.ensures.safe tells)
 
 pub returns-in_err-atomic_write-clause-safe : goal.returns-in_err-atomic_write-clause-safe
 returns-in_err-atomic_write-clause-safe g c tells =
     let synced = c.in_ok-sync_directory.ensures in
     let answer = c.from_residual-in_err-atomic_write in
-    saves_unwritten g.D.Directory c.args.text.now c.in_err-atomic_write.field-0.0 (synced.safe tells) synced.frame.names (c.in_err-atomic_write.ensures.safe tells) answer.result answer.ensures.0 answer.ensures.1
+    saves_unwritten g.D.Directory meta_name c.args.text.now c.in_err-atomic_write.field-0.0 (synced.safe tells) synced.frame.names (c.in_err-atomic_write.ensures.safe tells) answer.result answer.ensures.0 answer.ensures.1
 
 pub returns-in_err-sync_directory-2-clause-safe : goal.returns-in_err-sync_directory-2-clause-safe
 returns-in_err-sync_directory-2-clause-safe g c tells =
     let synced = c.in_ok-sync_directory.ensures in
     let answer = c.from_residual-in_err-sync_directory-2 in
-    saves_unkept g.D.Directory c.args.text.now (synced.safe tells) synced.frame.names (c.in_ok-atomic_write.ensures.safe tells) answer.result c.in_err-sync_directory-2.field-0.0 answer.ensures.0 answer.ensures.1 (c.in_err-sync_directory-2.ensures.safe tells)
+    saves_unkept g.D.Directory meta_name c.args.text.now (synced.safe tells) synced.frame.names (c.in_ok-atomic_write.ensures.safe tells) answer.result c.in_err-sync_directory-2.field-0.0 answer.ensures.0 answer.ensures.1 (c.in_err-sync_directory-2.ensures.safe tells)
 
 pub returns-clause-safe : goal.returns-clause-safe
 returns-clause-safe g c tells =
     let synced = c.in_ok-sync_directory.ensures in
-    saves_kept g.D.Directory c.args.text.now io.Memory tt (synced.safe tells) synced.frame.names (c.in_ok-atomic_write.ensures.safe tells) (c.in_ok-sync_directory-2.ensures.safe tells)
+    saves_kept g.D.Directory meta_name c.args.text.now io.Memory tt (synced.safe tells) synced.frame.names (c.in_ok-atomic_write.ensures.safe tells) (c.in_ok-sync_directory-2.ensures.safe tells)

@@ -1,4 +1,5 @@
 use Rattle.std.proofs.Common.{◌∙◌, refl}
+use Rattle.tv_model.specs.Names.{meta_name}
 use Rattle.tv_base.specs.declared.error.TantivyError.TheVariants as errors
 use Rattle.tv_index.specs.TrackedMetas.{tracked_settings}
 use Rattle.tv_index.proofs.Managing.{manages_err, manages_none, manages_ok}
@@ -48,7 +49,7 @@ returns-in_err-save_meta_text-clause-frame g c =
     notes_unless (same_memory saving.result c.in_err-save_meta_text.field-0.0 saving.ensures.1) c.in_err-save_meta_text.ensures.frame
 
 pub returns-in_err-text-clause-safe : goal.returns-in_err-text-clause-safe
-returns-in_err-text-clause-safe g c tells commit order = saves_none g.D.Directory _ errors.Memory c.from_residual.result c.from_residual.ensures.0
+returns-in_err-text-clause-safe g c tells commit order = saves_none g.D.Directory meta_name _ errors.Memory c.from_residual.result c.from_residual.ensures.0
 
 pub returns-in_err-save_meta_text-clause-safe : goal.returns-in_err-save_meta_text-clause-safe
 returns-in_err-save_meta_text-clause-safe g c tells commit order =

@@ -7,6 +7,6 @@ returns c = record {
   collects = λ s outcomes sorted free. collects s outcomes sorted;
   in_runs = collects_in;
   in_steps = collects_in_steps_in;
-  at_once = collects_at_once;
+  at_once = λ s outcomes free. collects_at_once s outcomes;
   all_else = collects_all_else;
 }

@@ -1,4 +1,4 @@
-use Rattle.std.proofs.Common.{ap, sym, length, ◌∙◌}
+use Rattle.std.proofs.Common.{sym, ◌∙◌}
 use Rattle.std.proofs.lemmas.List.{length-map}
 use Rattle.std.proofs.lemmas.Result.{IfOk-weaker}
 use Rattle.tv_model.specs.Machine.{Turn, events_of}

@@ -4,7 +4,9 @@ use Rattle.tv_model.specs.Machine.{after}
 use Rattle.tv_model.specs.Names.{meta_name}
 use Rattle.tv_model.specs.Files.{Rose}
 use Rattle.tv_store.specs.Applying.{GoneAt, RefusedAt}
-use Rattle.tv_store.specs.ReadCauses.{ReadsCommit, TakesMetaLock}
+use Rattle.tv_model.specs.Living.{is_busy}
+use Rattle.tv_replay.proofs.KeptLocks.{same_locks}
+use Rattle.tv_store.specs.ReadCauses.{LoadsCommit, TakesMetaLock}
 use Rattle.tv_store.specs.StoreCauses.{IsBusy}
 use Rattle.tv_replay.specs.ScriptLines.{IsNoEvent, IsTooLong, pending}
 use Rattle.std.proofs.lemmas.Result.{err_from_is_err_and, IfErr-weaker, on_ok_weaker}
@@ -45,7 +47,7 @@ loop-events-preserved g c =
       short = subst (λ (bound : ℕ). AtMost bound c.apply.new.self.kept) (one_more_line c.loop-events.events) (applied.grows.lens (c.loop-events.events * line_limit) line_limit line.small before.short);
       few = subst (λ (bound : ℕ). FewNumbers bound c.apply.new.self.kept.catalog.reading c.apply.new.self.kept.collections) (one_more_line c.loop-events.events) (applied.grows.numbers (c.loop-events.events * line_limit) line_limit line.small before.few);
       quiet = (applied.faults.quiet ∙ before.quiet.0, c.in-Ok-Some.ensures.faults.quiet ∙ before.quiet.1);
-      frame = frame_then before.frame (record { dotted = applied.frame.dotted; goes_on = applied.frame.goes_on; locks = applied.frame.locks; watched = may_note c.in-Ok-Some.event _ _ applied.frame.watched });
+      frame = frame_then before.frame (record { dotted = applied.frame.dotted; goes_on = applied.frame.goes_on; locks = λ t. same_locks (is_busy c.loop-events.store.kept.catalog) (is_busy c.apply.new.self.kept.catalog) (g.O.Directory.view c.loop-events.store.outside).locks (g.O.Directory.view c.apply.new.self.outside).locks refl (applied.frame.locks t); watched = may_note c.in-Ok-Some.event _ _ applied.frame.watched });
     }
 
 pub returns-in-Ok-None-clause-done : goal.returns-in-Ok-None-clause-done
@@ -70,7 +72,7 @@ returns-in_err-_answer-clause-faults g c =
     let e = err_from_is_err_and c.from_residual-in_err-_answer.result c.from_residual-in_err-_answer.ensures.1 in
     let script = g.R.Source.view c.args.script.now in
     rw (e.1, e.2) (fails (event_cause (run_causes g.O.Directory c.args.store.now c.apply.new.self script (g.R.Source.view c.next_event.new.source))
-    (ReadsCommit c.loop-events.store.kept.catalog event) g.O.Directory.told.content c.loop-events.store.kept.form.schema ((g.O.Directory.view c.loop-events.store.outside).reads meta_name)
+    (LoadsCommit c.loop-events.store.kept.catalog event) g.O.Directory.told.content c.loop-events.store.kept.form.schema ((g.O.Directory.view c.loop-events.store.outside).reads meta_name)
     (RefusedAt g.O.Directory c.loop-events.store event) (λ path. GoneAt g.O.Directory c.loop-events.store event) c.in_err-_answer.field-0.0 c.in_err-_answer.ensures.faults.cause
     (λ b. busy_since _ _ _ _ _ (λ told held. sym (before.frame.locks told meta_lock_name) ∙ held) before.quiet.0 b.1)
     (λ rose. inl (rose_from _ _ _ before.quiet.0 rose)) (λ quiet. (quiet ∙ before.quiet.0, c.in-Ok-Some.ensures.faults.quiet ∙ before.quiet.1))
@@ -127,7 +129,7 @@ returns-in_err-_answer-clause-stops g c =
     let failed = c.in_err-_answer.ensures in
     rw (e.1, e.2) (stops_in g.O.Directory c.args.store.now c.loop-events.store c.apply.new.self (g.R.Source.view c.args.script.now) (g.R.Source.view c.next_event.new.source) _ _ c.in_err-_answer.field-0.0 run _ event taken (λ quiet. c.in-Ok-Some.ensures.ahead.ok) before.quiet.0 failed.frame.goes_on failed.tells.err failed.leaves.meta failed.leaves.memory
     (λ tells s held whole. event_stops text s run.turns _ _ (Rose (g.O.Directory.view c.loop-events.store.outside).faults (g.O.Directory.view c.apply.new.self.outside).faults) ((g.O.Directory.view c.apply.new.self.outside).faults ≡ (g.O.Directory.view c.loop-events.store.outside).faults)
-    (ReadsCommit c.loop-events.store.kept.catalog event) g.O.Directory.told.content c.loop-events.store.kept.form.schema ((g.O.Directory.view c.loop-events.store.outside).reads meta_name)
+    (LoadsCommit c.loop-events.store.kept.catalog event) g.O.Directory.told.content c.loop-events.store.kept.form.schema ((g.O.Directory.view c.loop-events.store.outside).reads meta_name)
     {busy = TakesMetaLock c.loop-events.store.kept.catalog event × IsBusy g.O.Directory.told.locks ((g.O.Directory.view c.loop-events.store.outside).locks meta_lock_name ≡ true) (Rose (g.O.Directory.view c.loop-events.store.outside).faults (g.O.Directory.view c.apply.new.self.outside).faults)}
     {bad = RefusedAt g.O.Directory c.loop-events.store event} {absent = λ path. GoneAt g.O.Directory c.loop-events.store event}
     event c.in_err-_answer.field-0.0 (begins_next text _ _ run.turns event run.read taken) failed.faults.cause

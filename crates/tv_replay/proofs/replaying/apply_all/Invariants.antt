@@ -14,7 +14,7 @@ invariant-loop-events g l =
     record {
       run : Progress g.O.Directory l.fn.store l.store (source l.fn.script).left (pending l.buffer (source l.script).left) l.events;
       held : length l.buffer ≤ line_limit + 1;
-      is_open : l.store.is_open ≡ true;
+      is_open : l.store.standing.is_open ≡ true;
       short : AtMost (l.events * line_limit) l.store.kept;
       few : FewNumbers (l.events * line_limit) l.store.kept.catalog.reading l.store.kept.collections;
       quiet : IsQuietAt (view l.fn.store.outside) (view l.store.outside) (source l.fn.script) (source l.script);

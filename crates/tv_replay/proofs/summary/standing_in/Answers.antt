@@ -2,7 +2,6 @@ use Rattle.std.proofs.Common.{◌≡◌, List, ℕ}
 use Rattle.std.proofs.lemmas.Result.{IfOk-weaker}
 use Rattle.tv_model.specs.Commits.{Settings}
 use Rattle.tv_model.specs.Index.{DirectoryHolds}
-use Rattle.tv_model.specs.Names.{list_name}
 use Rattle.tv_model.specs.State.{State}
 use Rattle.tv_replay.specs.Summaries.{IsStanding}
 use Rattle.tv_replay.proofs.StandingIndexes.{managed_are, same_holds}
@@ -18,5 +17,5 @@ returns g c t =
     (λ standing. (settings : Settings) (schema : List ℕ) (s : State) → s.managed ≡ wrapped.1.managed → DirectoryHolds settings schema (D.view wrapped.0).reads s → IsStanding s standing.opstamp standing.files)
     (λ standing. (settings : Settings) (schema : List ℕ) (s : State) → DirectoryHolds settings schema before s → IsStanding s standing.opstamp standing.files)
     (λ standing h settings schema s holds.
-    h settings schema s (managed_are (before list_name) wrapped.1.managed s.managed (wraps.names t) holds.listing) (same_holds settings schema before (D.view wrapped.0).reads s (wraps.frame.content t) holds))
+    h settings schema s (managed_are before wrapped.1.managed s.managed (wraps.names t) holds.listing) (same_holds settings schema before (D.view wrapped.0).reads s (wraps.frame.content t) holds))
     (c.look_into-standing.ensures t)

@@ -19,7 +19,7 @@ invariant_of-result c =
     let begins : starts_with nat_eq c.args.text.items (91 ∷ []) ≡ true = search rules in
     let d = view c.in_ok-tree.tree in
     let form = text_form c.args.text.items c.as_slice.result.now d
-    (texts c.in_ok-names.names) c.as_slice.ensures.value c.in_ok-tree.ensures.ok begins c.in_ok-names.ensures.names (search rules) in
+    (texts c.in_ok-names.names) c.as_slice.ensures.value c.in_ok-tree.ensures.ok begins c.in_ok-names.ensures.names in
     kept_form _ _ d (texts c.in_ok-names.names) form (schema_to d
     (texts c.in_ok-names.names) c.in_ok-names.ensures.names) c.in_ok-canonical.ensures.text c.in_ok-canonical.ensures.reads
 
@@ -30,5 +30,5 @@ returns-clause-form c =
     record {
       tree = d;
       text_is = text_form c.args.text.items c.as_slice.result.now d
-          (texts c.in_ok-names.names) c.as_slice.ensures.value c.in_ok-tree.ensures.ok begins c.in_ok-names.ensures.names (search rules);
+          (texts c.in_ok-names.names) c.as_slice.ensures.value c.in_ok-tree.ensures.ok begins c.in_ok-names.ensures.names;
     }

@@ -1,5 +1,5 @@
 use Rattle.tv_managed.proofs.SetsOfTexts.{managed_inserted}
-use Rattle.std.proofs.Common.{◌≡◌, ap, map, string_bytes, ◌∙◌, refl, List, ℕ}
+use Rattle.std.proofs.Common.{ap, map, string_bytes, ◌∙◌, refl, List, ℕ}
 use Rattle.tv_model.proofs.TextSets.{texts_inserted}
 use Rattle.tv_model.specs.Names.{byte_cmp}
 use Rattle.std.specs.BTreeSet.{insert_key}

@@ -28,7 +28,7 @@ returns-in_err-try_each-clause-collects g c =
     let at = begin.begins in
     let taken = taken_by (names_of at.0.keys) c.args.self.now.1 in
     let tried = c.try_each.ensures in
-    let f : Far D taken c.args.self.now c.try_each.new.self = far D taken c.in_ok-number.number at.2 begin.frame begin.faults.quiet begin.safe tried.leaves tried.only tried.safe in
+    let f : Far D taken c.args.self.now c.try_each.new.self = far D taken c.in_ok-number.number at.2 begin.frame begin.faults.quiet begin.safe tried.leaves tried.only in
     (taken, collects_far D taken c.from_residual-in_err-try_each.result c.from_residual-in_err-try_each.ensures.0 f, inr (at.0, at.1, refl))
 
 pub collect_end-requires : goal.collect_end-requires
@@ -38,7 +38,7 @@ collect_end-requires g c =
     let at = begin.begins in
     let taken = taken_by (names_of at.0.keys) c.args.self.now.1 in
     let tried = c.try_each.ensures in
-    let f : Far D taken c.args.self.now c.try_each.new.self = far D taken c.in_ok-number.number at.2 begin.frame begin.faults.quiet begin.safe tried.leaves tried.only tried.safe in
+    let f : Far D taken c.args.self.now c.try_each.new.self = far D taken c.in_ok-number.number at.2 begin.frame begin.faults.quiet begin.safe tried.leaves tried.only in
     ap is_some (at_far D c.in_ok-number.number at.2.numbered f)
 
 pub returns-in_err-result-clause-collects : goal.returns-in_err-result-clause-collects
@@ -48,7 +48,7 @@ returns-in_err-result-clause-collects g c =
     let at = begin.begins in
     let taken = taken_by (names_of at.0.keys) c.args.self.now.1 in
     let tried = c.try_each.ensures in
-    let f : Far D taken c.args.self.now c.try_each.new.self = far D taken c.in_ok-number.number at.2 begin.frame begin.faults.quiet begin.safe tried.leaves tried.only tried.safe in
+    let f : Far D taken c.args.self.now c.try_each.new.self = far D taken c.in_ok-number.number at.2 begin.frame begin.faults.quiet begin.safe tried.leaves tried.only in
     let end = c.in_err-result.ensures in
     (taken, collects_unended D taken c.in_ok-number.number {new = c.collect_end.new.self} _ c.from_residual-in_err-result.result c.from_residual-in_err-result.ensures.0 at.2.numbered f end.ends end.frame end.safe, inr (at.0, at.1, refl))
 
@@ -59,7 +59,7 @@ give_back-requires-clause-above g c =
     let at = begin.begins in
     let taken = taken_by (names_of at.0.keys) c.args.self.now.1 in
     let tried = c.try_each.ensures in
-    let f : Far D taken c.args.self.now c.try_each.new.self = far D taken c.in_ok-number.number at.2 begin.frame begin.faults.quiet begin.safe tried.leaves tried.only tried.safe in
+    let f : Far D taken c.args.self.now c.try_each.new.self = far D taken c.in_ok-number.number at.2 begin.frame begin.faults.quiet begin.safe tried.leaves tried.only in
     let may = may_give_back D taken c.in_ok-number.number {new = c.collect_end.new.self} c.in_ok-result.result at.2.numbered f c.in_ok-result.ensures.ends in
     subst (λ v. 0 < v.1.collections.next) (sym c.self.view_is) may.0
 
@@ -70,7 +70,7 @@ give_back-requires-clause-free g c =
     let at = begin.begins in
     let taken = taken_by (names_of at.0.keys) c.args.self.now.1 in
     let tried = c.try_each.ensures in
-    let f : Far D taken c.args.self.now c.try_each.new.self = far D taken c.in_ok-number.number at.2 begin.frame begin.faults.quiet begin.safe tried.leaves tried.only tried.safe in
+    let f : Far D taken c.args.self.now c.try_each.new.self = far D taken c.in_ok-number.number at.2 begin.frame begin.faults.quiet begin.safe tried.leaves tried.only in
     let may = may_give_back D taken c.in_ok-number.number {new = c.collect_end.new.self} c.in_ok-result.result at.2.numbered f c.in_ok-result.ensures.ends in
     ap (λ v. collection_at v.1.collections (v.1.collections.next - 1)) c.self.view_is ∙ may.1
 
@@ -81,7 +81,7 @@ returns-clause-collects g c =
     let at = begin.begins in
     let taken = taken_by (names_of at.0.keys) c.args.self.now.1 in
     let tried = c.try_each.ensures in
-    let f : Far D taken c.args.self.now c.try_each.new.self = far D taken c.in_ok-number.number at.2 begin.frame begin.faults.quiet begin.safe tried.leaves tried.only tried.safe in
+    let f : Far D taken c.args.self.now c.try_each.new.self = far D taken c.in_ok-number.number at.2 begin.frame begin.faults.quiet begin.safe tried.leaves tried.only in
     let With : Collections → ManagedNames = λ cs. record { managed = map string_bytes c.self.inside.managed.keys; collections = cs } in
     let back : With c.give_back.new.self ≡ given_back c.collect_end.new.self.1 = ap With c.give_back.ensures ∙ ap given_back (ap (λ v. v.1) c.self.view_is) in
     let end = c.in_ok-result.ensures in

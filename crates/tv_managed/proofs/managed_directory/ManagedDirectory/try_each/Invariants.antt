@@ -1,17 +1,15 @@
 use Rattle.std.proofs.Common.{◌≡◌, List, ℕ}
 use Rattle.tv_model.specs.Collections.{begun, collection_at}
-use Rattle.tv_managed.specs.Collecting.{OnlyDeletes, TriesSome, standing}
-use Rattle.tv_managed.specs.Crashes.{LeavesSafely, LosesNames}
+use Rattle.tv_managed.specs.Collecting.{OnlyDeletes, standing}
+use Rattle.tv_managed.specs.Crashes.{TriesSafely}
 use Rattle.tv_managed.specs.Names.{ManagedNames}
 use Rattle.tv_managed.proofs.Trying.{left_of}
 use Rattle.tv_managed.proofs.managed_directory.ManagedDirectory.try_each.Given as goal
 
 abbrev pub invariant-loop-self : goal.invariant-loop-self
 invariant-loop-self g l = record {
-  some : (before : ManagedNames) (names : List (List ℕ)) → l.initial.self.1 ≡ standing before (begun names) → l.number ≡ before.collections.next → TriesSome g.D.Directory before names l.initial.self l.self;
+  some : (before : ManagedNames) (names : List (List ℕ)) → l.initial.self.1 ≡ standing before (begun names) → l.number ≡ before.collections.next → TriesSafely g.D.Directory before names l.initial.self l.self;
   only : OnlyDeletes g.D.Directory l.initial.self l.self;
-  safe : g.D.Directory.tells_images → (before : ManagedNames) (names : List (List ℕ)) → l.initial.self.1 ≡ standing before (begun names) → l.number ≡ before.collections.next
-      → LeavesSafely g.D.Directory (LosesNames names (g.D.Directory.disk l.initial.self.0) (g.D.Directory.disk l.self.0)) l.initial.self l.self;
 }
 
 abbrev pub decreases-loop-self : goal.decreases-loop-self

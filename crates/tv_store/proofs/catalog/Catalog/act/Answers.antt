@@ -2,12 +2,15 @@ use Rattle.std.proofs.Common.{sym, subst}
 use Rattle.std.proofs.lemmas.Result.{err_from_is_err_and}
 use Rattle.tv_model.specs.declared.event.Event.{Event}
 use Rattle.tv_store.specs.Catalogs.{CatalogCause}
-use Rattle.tv_store.specs.Exhausted.{PassesEnd, number_after}
+use Rattle.tv_store.specs.Exhausted.{SpendsSearcher}
 use Rattle.tv_store.proofs.catalog.Catalog.act.Goals as goal
 
-pub returns-in_err-answer-in-Searcher-clause-cause : goal.returns-in_err-answer-in-Searcher-clause-cause
-returns-in_err-answer-in-Searcher-clause-cause c =
+pub returns-in_err-answer-in-Searcher-clause-faults : goal.returns-in_err-answer-in-Searcher-clause-faults
+returns-in_err-answer-in-Searcher-clause-faults c =
     let failed = c.from_residual-in_err-answer-in-Searcher in
     let e = err_from_is_err_and failed.result failed.ensures.1 in
-    rw (e.1, e.2) (subst (λ (event : Event). CatalogCause (PassesEnd (number_after c.args.self.now event)) c.in_err-answer-in-Searcher.field-0.0)
-    (sym c.in-Searcher.is) c.in_err-answer-in-Searcher.ensures.cause)
+    rw (e.1, e.2) (record {
+      fits = tt;
+      cause = subst (λ (event : Event). CatalogCause (SpendsSearcher c.args.self.now event) c.in_err-answer-in-Searcher.field-0.0)
+          (sym c.in-Searcher.is) c.in_err-answer-in-Searcher.ensures.faults.cause;
+    })

@@ -5,6 +5,7 @@ use Rattle.tv_model.specs.Names.{has, is_plain, meta_name}
 use Rattle.tv_model.specs.State.{at}
 use Rattle.tv_managed.specs.Collecting.{SparesWriters}
 use Rattle.tv_store.specs.Kept.{names_below}
+use Rattle.tv_store.proofs.Changed.{no_texts}
 use Rattle.tv_store.proofs.CollectingFiles.{collected_spares, gc_fails, gc_faults}
 use Rattle.tv_store.proofs.Removals.{told_plain, tried_as, tried_of, collected_open, bodies_gone, lens_left, living_stands, dotted_stands}
 use Rattle.tv_store.proofs.OpenFiles.{AreOpen, bodies, same_open}
@@ -49,6 +50,9 @@ returns-clause-collects g c = record {
   left = λ n.
       c.remove_names.ensures n ∙ ap (λ v. not (has c.as_slice-2.result.now n) && has v.left n) c.self.view_is
       ∙ ap (λ (ns : List (List ℕ)). not (has ns n) && has c.args.self.now.left n) c.as_slice-2.ensures.value;
+  same = λ tells none n.
+      (c.in_ok-result.ensures.collects.1.saves_none tells (no_texts c.in_ok-result.result.deleted_files.items (sym c.in_ok-collected.ensures.deleted ∙ none)) n)
+      ∙ ap (λ d. (g.O.Directory.view d.0).reads n) c.directory_mut.ensures.value ∙ ap (λ v. (g.O.Directory.view v.outside).reads n) c.self.view_is;
 }
 
 pub returns-clause-lens : goal.returns-clause-lens

@@ -16,6 +16,7 @@ returns-in_err-_result-clause-faults g c =
     let error = c.in_err-_result.field-0.0 in
     record {
       quiet = search rules;
+      fits = search rules;
       cause =
           handed_on c.from_residual.result error (EventCause (Rose (D.view c.args.self.now.outside).faults after) (after ≡ (D.view c.args.self.now.outside).faults) ⊥) c.from_residual.ensures.1
           (subst (λ o. EventCause (Rose (D.view o).faults after) (after ≡ (D.view o).faults) ⊥ error) (ap (λ d. d.0) c.directory_mut.ensures.value ∙ ap (λ v. v.outside) c.self.view_is)

@@ -88,6 +88,7 @@ returns-clause-faults g c = record {
   quiet =
       quiet_then g.O.Directory c.directory_mut.result.now c.open_write-opened.new.self c.args.self.now (c.directory_mut.ensures.value ∙ ap names_below c.self.view_is) c.as_str.result.now c.args.name c.as_str.ensures.text
       (made_then c.open_write-opened.result c.in-Some.writer _ (was_made c.open_write-opened.result _ c.in-Some.writer c.in_ok-writer.ensures c.in-Some.is) c.open_write-opened.ensures.faults.quiet);
+  fits = λ never. never;
   cause = tt;
 }
 

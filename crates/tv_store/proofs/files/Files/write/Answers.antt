@@ -87,6 +87,6 @@ pub returns-clause-rest : goal.returns-clause-rest
 returns-clause-rest g c =
     let D = g.O.Directory in
     record {
-      faults = record { quiet = c.in_ok-write.ensures.faults.quiet ∙ ap (λ d. (D.view d.0).faults) c.directory_mut.ensures.value ∙ ap (λ v. (D.view v.outside).faults) c.self.view_is; cause = tt };
+      faults = record { quiet = c.in_ok-write.ensures.faults.quiet ∙ ap (λ d. (D.view d.0).faults) c.directory_mut.ensures.value ∙ ap (λ v. (D.view v.outside).faults) c.self.view_is; fits = λ never. never; cause = tt };
       frame = kept_managed (Kept D.told) D.view _ _ _ _ c.directory_mut.result.now c.write.new.self _ c.directory_mut.ensures.value c.self.view_is _ c.write.ensures.frame;
     }

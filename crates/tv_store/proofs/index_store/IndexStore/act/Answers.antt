@@ -6,7 +6,7 @@ use Rattle.tv_model.specs.State.{Catalog, StepResult}
 use Rattle.tv_directory.specs.View.{OnlyReads}
 use Rattle.tv_store.specs.Acting.{Acts}
 use Rattle.tv_store.specs.Applying.{AsksNoFile}
-use Rattle.tv_store.specs.Exhausted.{PassesEnd, number_after}
+use Rattle.tv_store.specs.Exhausted.{SpendsSearcher}
 use Rattle.tv_store.specs.Catalogs.{CatalogCause}
 use Rattle.tv_store.specs.Kept.{kept_of}
 use Rattle.tv_store.proofs.Acting.{acts_known, acts_unknown, asks_known, asks_unknown}
@@ -18,10 +18,10 @@ returns-in_err-answer-clause-acts g c =
     let event = c.args.event.now in
     let inside = c.self.inside in
     let error = c.in_err-answer.field-0.0 in
-    let same = ap (λ (catalog : Catalog). record { kept = kept_of catalog inside.files; outside = inside.files.outside; is_open = inside.is_open }) c.in_err-answer.ensures.kept ∙ c.self.view_is in
+    let same = ap (λ (catalog : Catalog). record { kept = kept_of catalog inside.files; outside = inside.files.outside; standing = record { is_open = inside.is_open } }) c.in_err-answer.ensures.kept ∙ c.self.view_is in
     let e = err_from_is_err_and c.from_residual.result c.from_residual.ensures.1 in
     rw (e.1, e.2) (subst (λ v. Acts D c.args.self.now v event (Err error)) (sym same)
-    (acts_unknown D c.args.self.now event error (subst (λ v. CatalogCause (PassesEnd (number_after v.kept.catalog event)) error) c.self.view_is c.in_err-answer.ensures.cause)))
+    (acts_unknown D c.args.self.now event error (subst (λ v. CatalogCause (SpendsSearcher v.kept.catalog event) error) c.self.view_is c.in_err-answer.ensures.faults.cause)))
 
 pub returns-in-Some-clause-acts : goal.returns-in-Some-clause-acts
 returns-in-Some-clause-acts g c =
@@ -32,9 +32,9 @@ returns-in-Some-clause-acts g c =
     let steps : catalog_step inside.catalog inside.files.managed event ≡ Some known =
     subst (λ (names : List (List ℕ)). catalog_step inside.catalog names event ≡ Some known) c.managed.ensures.names
     (sym c.in_ok-answer.ensures.step ∙ ap (option_map (λ (answer : List ℕ). (answer, c.act.new.self))) c.in-Some.is) in
-    acts_known g.O.Directory c.args.self.now (record { kept = kept_of c.act.new.self inside.files; outside = inside.files.outside; is_open = inside.is_open }) c.told.new.self event known c.told.result
-    (subst (λ v. catalog_step v.kept.catalog v.kept.managed event ≡ Some known) same steps) c.in_ok-answer.ensures.fits
-    (ap (λ v. record v.kept { catalog = c.act.new.self }) same) (ap (λ v. v.outside) same) (ap (λ v. v.is_open) same)
+    acts_known g.O.Directory c.args.self.now (record { kept = kept_of c.act.new.self inside.files; outside = inside.files.outside; standing = record { is_open = inside.is_open } }) c.told.new.self event known c.told.result
+    (subst (λ v. catalog_step v.kept.catalog v.kept.managed event ≡ Some known) same steps) c.in_ok-answer.ensures.fits (subst (λ v. SpendsSearcher v.kept.catalog event → ⊥) same c.in_ok-answer.ensures.faults.fits)
+    (ap (λ v. record v.kept { catalog = c.act.new.self }) same) (ap (λ v. v.outside) same) (ap (λ v. v.standing) same)
     c.told.ensures.answer c.told.ensures.room c.told.ensures.asks.faults c.told.ensures.asks.frame
 
 pub returns-in_err-answer-clause-alone : goal.returns-in_err-answer-clause-alone
@@ -42,12 +42,12 @@ returns-in_err-answer-clause-alone g c some =
     let D = g.O.Directory in
     let inside = c.self.inside in
     let error = c.in_err-answer.field-0.0 in
-    let same = ap (λ (catalog : Catalog). record { kept = kept_of catalog inside.files; outside = inside.files.outside; is_open = inside.is_open }) c.in_err-answer.ensures.kept ∙ c.self.view_is in
+    let same = ap (λ (catalog : Catalog). record { kept = kept_of catalog inside.files; outside = inside.files.outside; standing = record { is_open = inside.is_open } }) c.in_err-answer.ensures.kept ∙ c.self.view_is in
     let e = err_from_is_err_and c.from_residual.result c.from_residual.ensures.1 in
-    rw (e.1, e.2) (subst (λ v. AsksNoFile (OnlyReads D.told) D c.args.self.now v (Err error)) (sym same) (asks_unknown D (PassesEnd (number_after inside.catalog c.args.event.now)) c.args.self.now error c.in_err-answer.ensures.cause))
+    rw (e.1, e.2) (subst (λ v. AsksNoFile (OnlyReads D.told) D c.args.self.now v (Err error)) (sym same) (asks_unknown D (SpendsSearcher inside.catalog c.args.event.now) c.args.self.now error c.in_err-answer.ensures.faults.cause))
 
 pub returns-in-Some-clause-alone : goal.returns-in-Some-clause-alone
 returns-in-Some-clause-alone g c some =
     let inside = c.self.inside in
-    asks_known g.O.Directory c.args.self.now (record { kept = kept_of c.act.new.self inside.files; outside = inside.files.outside; is_open = inside.is_open }) c.told.new.self c.told.result
+    asks_known g.O.Directory c.args.self.now (record { kept = kept_of c.act.new.self inside.files; outside = inside.files.outside; standing = record { is_open = inside.is_open } }) c.told.new.self c.told.result
     (ap (λ v. v.outside) c.self.view_is) c.told.ensures.asks.faults c.told.ensures.asks.frame.below

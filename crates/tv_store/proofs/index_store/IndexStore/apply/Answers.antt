@@ -1,4 +1,4 @@
-use Rattle.std.proofs.Common.{ℕ, false, Ok, Err, refl, subst}
+use Rattle.std.proofs.Common.{ℕ, Ok, Err, refl, subst}
 use Rattle.std.specs.Prelude.{IsSome}
 use Rattle.std.proofs.lemmas.Result.{err_from_is_err_and}
 use Rattle.tv_base.specs.declared.error.TantivyError.TheVariants as errors
@@ -7,62 +7,62 @@ use Rattle.tv_model.specs.Files.{Rose}
 use Rattle.tv_model.specs.Machine.{catalog_step}
 use Rattle.tv_store.specs.Acting.{Acts}
 use Rattle.tv_store.specs.Applying.{AsksNoFile}
-use Rattle.tv_store.proofs.Applied.{frame_failed, frame_tried, grows_failed, faults_failed, grows_told, tells_untold, grows_untold, undisturbed, leaves_untold, step_told}
+use Rattle.tv_store.proofs.Applied.{closed, frame_failed, frame_tried, grows_failed, faults_failed, grows_told, tells_untold, grows_untold, undisturbed, leaves_untold, step_told}
 use Rattle.tv_store.proofs.index_store.IndexStore.apply.Goals as goal
 
 pub returns-in_err-answer-clause-grows : goal.returns-in_err-answer-clause-grows
 returns-in_err-answer-clause-grows g c =
     let e = err_from_is_err_and c.from_residual.result c.from_residual.ensures.1 in
     rw (e.1, e.2) (grows_failed g.O.Directory c.args.self.now c.act.new.self c.args.event.now c.in_err-answer.field-0.0
-    (subst (λ v. Acts g.O.Directory (record v { is_open = false }) c.act.new.self c.args.event.now (Err c.in_err-answer.field-0.0)) c.self.view_is c.in_err-answer.ensures.acts))
+    (subst (λ v. Acts g.O.Directory (closed v) c.act.new.self c.args.event.now (Err c.in_err-answer.field-0.0)) c.self.view_is c.in_err-answer.ensures.acts))
 
 pub returns-in_err-answer-clause-faults : goal.returns-in_err-answer-clause-faults
 returns-in_err-answer-clause-faults g c =
     let e = err_from_is_err_and c.from_residual.result c.from_residual.ensures.1 in
     rw (e.1, e.2) (faults_failed g.O.Directory c.args.self.now c.act.new.self c.args.event.now c.in_err-answer.field-0.0
-    (subst (λ v. Acts g.O.Directory (record v { is_open = false }) c.act.new.self c.args.event.now (Err c.in_err-answer.field-0.0)) c.self.view_is c.in_err-answer.ensures.acts))
+    (subst (λ v. Acts g.O.Directory (closed v) c.act.new.self c.args.event.now (Err c.in_err-answer.field-0.0)) c.self.view_is c.in_err-answer.ensures.acts))
 
 pub returns-in_err-tell-clause-tells : goal.returns-in_err-tell-clause-tells
 returns-in_err-tell-clause-tells g c =
-    let acted = subst (λ v. Acts g.O.Directory (record v { is_open = false }) c.act.new.self c.args.event.now (Ok c.in_ok-answer.answer)) c.self.view_is c.in_ok-answer.ensures.acts in
+    let acted = subst (λ v. Acts g.O.Directory (closed v) c.act.new.self c.args.event.now (Ok c.in_ok-answer.answer)) c.self.view_is c.in_ok-answer.ensures.acts in
     let did = c.in_err-tell.ensures in
     let e = err_from_is_err_and c.from_residual-in_err-tell.result c.from_residual-in_err-tell.ensures.1 in
     rw (e.1, e.2) (tells_untold g.O.Directory c.args.self.now c.act.new.self c.tell.new.self c.args.event.now c.in_ok-answer.answer acted did.kept did.frame c.in_err-tell.field-0.0 (errors.IoError c.in_err-tell.field-0.0) did.tells)
 
 pub returns-in_err-tell-clause-grows : goal.returns-in_err-tell-clause-grows
 returns-in_err-tell-clause-grows g c =
-    let acted = subst (λ v. Acts g.O.Directory (record v { is_open = false }) c.act.new.self c.args.event.now (Ok c.in_ok-answer.answer)) c.self.view_is c.in_ok-answer.ensures.acts in
+    let acted = subst (λ v. Acts g.O.Directory (closed v) c.act.new.self c.args.event.now (Ok c.in_ok-answer.answer)) c.self.view_is c.in_ok-answer.ensures.acts in
     let did = c.in_err-tell.ensures in
     let e = err_from_is_err_and c.from_residual-in_err-tell.result c.from_residual-in_err-tell.ensures.1 in
     rw (e.1, e.2) (grows_untold g.O.Directory c.args.self.now c.act.new.self c.tell.new.self c.args.event.now c.in_ok-answer.answer acted did.kept did.frame c.in_err-tell.field-0.0 (errors.IoError c.in_err-tell.field-0.0) did.tells)
 
 pub returns-clause-grows : goal.returns-clause-grows
 returns-clause-grows g c =
-    let acted = subst (λ v. Acts g.O.Directory (record v { is_open = false }) c.act.new.self c.args.event.now (Ok c.in_ok-answer.answer)) c.self.view_is c.in_ok-answer.ensures.acts in
+    let acted = subst (λ v. Acts g.O.Directory (closed v) c.act.new.self c.args.event.now (Ok c.in_ok-answer.answer)) c.self.view_is c.in_ok-answer.ensures.acts in
     let did = c.in_ok-tell.ensures in
     grows_told g.O.Directory c.args.self.now c.act.new.self c.tell.new.self c.args.event.now c.in_ok-answer.answer acted did.kept did.frame
 
 pub returns-in_err-answer-clause-complete : goal.returns-in_err-answer-clause-complete
 returns-in_err-answer-clause-complete g c u =
-    let acted = subst (λ v. Acts g.O.Directory (record v { is_open = false }) c.act.new.self c.args.event.now (Err c.in_err-answer.field-0.0)) c.self.view_is c.in_err-answer.ensures.acts in
+    let acted = subst (λ v. Acts g.O.Directory (closed v) c.act.new.self c.args.event.now (Err c.in_err-answer.field-0.0)) c.self.view_is c.in_err-answer.ensures.acts in
     let e = err_from_is_err_and c.from_residual.result c.from_residual.ensures.1 in
     rw (e.1, e.2) (undisturbed g.O.Directory c.args.self.now c.act.new.self c.args.event.now u c.in_err-answer.field-0.0 acted.faults.cause)
 
 pub returns-in_err-tell-clause-complete : goal.returns-in_err-tell-clause-complete
 returns-in_err-tell-clause-complete g c u =
-    let acted = subst (λ v. Acts g.O.Directory (record v { is_open = false }) c.act.new.self c.args.event.now (Ok c.in_ok-answer.answer)) c.self.view_is c.in_ok-answer.ensures.acts in
+    let acted = subst (λ v. Acts g.O.Directory (closed v) c.act.new.self c.args.event.now (Ok c.in_ok-answer.answer)) c.self.view_is c.in_ok-answer.ensures.acts in
     absurd (u.quiet (subst (λ (n : ℕ). Rose n (g.O.Directory.view c.tell.new.self.outside).faults) acted.faults.quiet c.in_err-tell.ensures.faults.cause.1))
 
 pub returns-in_err-tell-clause-leaves : goal.returns-in_err-tell-clause-leaves
 returns-in_err-tell-clause-leaves g c =
-    let acted = subst (λ v. Acts g.O.Directory (record v { is_open = false }) c.act.new.self c.args.event.now (Ok c.in_ok-answer.answer)) c.self.view_is c.in_ok-answer.ensures.acts in
+    let acted = subst (λ v. Acts g.O.Directory (closed v) c.act.new.self c.args.event.now (Ok c.in_ok-answer.answer)) c.self.view_is c.in_ok-answer.ensures.acts in
     let did = c.in_err-tell.ensures in
     let e = err_from_is_err_and c.from_residual-in_err-tell.result c.from_residual-in_err-tell.ensures.1 in
     rw (e.1, e.2) (leaves_untold g.O.Directory c.args.self.now c.act.new.self c.tell.new.self c.args.event.now c.in_ok-answer.answer acted did.kept did.frame c.in_err-tell.field-0.0 did.tells did.faults.cause.1)
 
 pub returns-clause-step : goal.returns-clause-step
 returns-clause-step g c =
-    let acted = subst (λ v. Acts g.O.Directory (record v { is_open = false }) c.act.new.self c.args.event.now (Ok c.in_ok-answer.answer)) c.self.view_is c.in_ok-answer.ensures.acts in
+    let acted = subst (λ v. Acts g.O.Directory (closed v) c.act.new.self c.args.event.now (Ok c.in_ok-answer.answer)) c.self.view_is c.in_ok-answer.ensures.acts in
     let did = c.in_ok-tell.ensures in
     step_told g.O.Directory c.args.self.now c.act.new.self c.tell.new.self c.args.event.now c.in_ok-answer.answer acted did.kept did.frame
 
@@ -70,8 +70,8 @@ pub returns-in_err-answer-clause-frame : goal.returns-in_err-answer-clause-frame
 returns-in_err-answer-clause-frame g c =
     let D = g.O.Directory in
     let event = c.args.event.now in
-    let acted = subst (λ v. Acts D (record v { is_open = false }) c.act.new.self event (Err c.in_err-answer.field-0.0)) c.self.view_is c.in_err-answer.ensures.acts in
-    let alone = subst (λ v. IsSome (catalog_step v.kept.catalog v.kept.managed event) → AsksNoFile (OnlyReads D.told) D (record v { is_open = false }) c.act.new.self (Err c.in_err-answer.field-0.0)) c.self.view_is c.in_err-answer.ensures.alone in
+    let acted = subst (λ v. Acts D (closed v) c.act.new.self event (Err c.in_err-answer.field-0.0)) c.self.view_is c.in_err-answer.ensures.acts in
+    let alone = subst (λ v. IsSome (catalog_step v.kept.catalog v.kept.managed event) → AsksNoFile (OnlyReads D.told) D (closed v) c.act.new.self (Err c.in_err-answer.field-0.0)) c.self.view_is c.in_err-answer.ensures.alone in
     let e = err_from_is_err_and c.from_residual.result c.from_residual.ensures.1 in
     rw (e.1, e.2) (frame_failed D c.args.self.now c.act.new.self event (Err c.in_err-answer.field-0.0) acted alone c.in_err-answer.field-0.0 refl)
 
@@ -79,8 +79,8 @@ pub returns-in_err-tell-clause-frame : goal.returns-in_err-tell-clause-frame
 returns-in_err-tell-clause-frame g c =
     let D = g.O.Directory in
     let event = c.args.event.now in
-    let acted = subst (λ v. Acts D (record v { is_open = false }) c.act.new.self event (Ok c.in_ok-answer.answer)) c.self.view_is c.in_ok-answer.ensures.acts in
-    let alone = subst (λ v. IsSome (catalog_step v.kept.catalog v.kept.managed event) → AsksNoFile (OnlyReads D.told) D (record v { is_open = false }) c.act.new.self (Ok c.in_ok-answer.answer)) c.self.view_is c.in_ok-answer.ensures.alone in
+    let acted = subst (λ v. Acts D (closed v) c.act.new.self event (Ok c.in_ok-answer.answer)) c.self.view_is c.in_ok-answer.ensures.acts in
+    let alone = subst (λ v. IsSome (catalog_step v.kept.catalog v.kept.managed event) → AsksNoFile (OnlyReads D.told) D (closed v) c.act.new.self (Ok c.in_ok-answer.answer)) c.self.view_is c.in_ok-answer.ensures.alone in
     let did = c.in_err-tell.ensures in
     let e = err_from_is_err_and c.from_residual-in_err-tell.result c.from_residual-in_err-tell.ensures.1 in
     rw (e.1, e.2) (frame_tried D c.args.self.now c.act.new.self event (Ok c.in_ok-answer.answer) acted alone c.tell.new.self (Err (errors.IoError c.in_err-tell.field-0.0)) did.kept did.open did.frame (λ never. never))
@@ -89,7 +89,7 @@ pub returns-clause-frame : goal.returns-clause-frame
 returns-clause-frame g c =
     let D = g.O.Directory in
     let event = c.args.event.now in
-    let acted = subst (λ v. Acts D (record v { is_open = false }) c.act.new.self event (Ok c.in_ok-answer.answer)) c.self.view_is c.in_ok-answer.ensures.acts in
-    let alone = subst (λ v. IsSome (catalog_step v.kept.catalog v.kept.managed event) → AsksNoFile (OnlyReads D.told) D (record v { is_open = false }) c.act.new.self (Ok c.in_ok-answer.answer)) c.self.view_is c.in_ok-answer.ensures.alone in
+    let acted = subst (λ v. Acts D (closed v) c.act.new.self event (Ok c.in_ok-answer.answer)) c.self.view_is c.in_ok-answer.ensures.acts in
+    let alone = subst (λ v. IsSome (catalog_step v.kept.catalog v.kept.managed event) → AsksNoFile (OnlyReads D.told) D (closed v) c.act.new.self (Ok c.in_ok-answer.answer)) c.self.view_is c.in_ok-answer.ensures.alone in
     let did = c.in_ok-tell.ensures in
     frame_tried D c.args.self.now c.act.new.self event (Ok c.in_ok-answer.answer) acted alone c.tell.new.self (Ok c.in_ok-answer.answer) did.kept did.open did.frame tt

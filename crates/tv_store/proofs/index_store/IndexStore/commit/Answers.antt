@@ -1,13 +1,33 @@
-use Rattle.std.proofs.Common.{◌≡◌, sym, ap, subst, ◌∙◌}
+use Rattle.std.proofs.Common.{◌≡◌, [], ◌∷◌, codes, sym, ap, subst, ◌∙◌}
 use Rattle.std.specs.List.{AllByRecursion}
 use Rattle.std.proofs.lemmas.Bool.{ne_eqb}
 use Rattle.tv_model.specs.Commits.{IsSegment}
 use Rattle.tv_model.specs.State.{Catalog}
 use Rattle.tv_model.specs.CommitEvents.{chosen, commit_step, first_unknown, last_stamp}
-use Rattle.tv_store.specs.Committing.{commit_of}
+use Rattle.tv_model.specs.Lines.{line}
+use Rattle.tv_store.specs.Committing.{commit_of, unknown_line}
 use Rattle.tv_store.proofs.CommitEvents.{chosen_are_segments}
-use Rattle.tv_store.proofs.Committing.{commits_as, known_step}
+use Rattle.tv_store.proofs.Committing.{commits_as, known_step, refuses, spent_step, unknown_step}
 use Rattle.tv_store.proofs.index_store.IndexStore.commit.Goals as goal
+
+pub returns-then-next_opstamp : goal.returns-then-next_opstamp
+returns-then-next_opstamp g c =
+    refuses g.O.Directory (Unit {0}) c.args.self.now c.refuse.new.self (λ s. commit_step s c.args.payload.now c.args.ids.now) (line (codes "refused") (codes "stamps-spent" ∷ [])) c.refuse.result
+    c.refuse.ensures.asks.frame c.refuse.ensures.asks.faults c.refuse.ensures.answer c.refuse.ensures.room
+    (λ tells s held known.
+    let is = ap (λ v. v.kept.catalog) c.self.view_is ∙ held.catalog in
+    spent_step s c.args.payload.now c.args.ids.now (sym (c.next_opstamp.ensures ∙ ap (λ (k : Catalog). k.next) is) ∙ c.if-next_opstamp.true))
+
+pub returns-in-Some : goal.returns-in-Some
+returns-in-Some g c =
+    let ids = c.args.ids.now in
+    refuses g.O.Directory (Unit {0}) c.args.self.now c.refuse_unknown.new.self (λ s. commit_step s c.args.payload.now ids) (unknown_line c.in-Some.id) c.refuse_unknown.result
+    c.refuse_unknown.ensures.asks.frame c.refuse_unknown.ensures.asks.faults c.refuse_unknown.ensures.answer c.refuse_unknown.ensures.room
+    (λ tells s held known.
+    let is = ap (λ v. v.kept.catalog) c.self.view_is ∙ held.catalog in
+    unknown_step s c.args.payload.now ids c.in-Some.id
+    (ne_eqb s.catalog.next last_stamp (λ e. c.if-next_opstamp.false (c.next_opstamp.ensures ∙ ap (λ (k : Catalog). k.next) is ∙ e)))
+    (ap (first_unknown s.catalog) (sym c.as_slice.ensures) ∙ ap (λ (k : Catalog). first_unknown k c.as_slice.result.now) (sym is) ∙ sym c.first_unknown.ensures ∙ c.in-Some.is))
 
 pub returns : goal.returns
 returns g c =

@@ -2,7 +2,7 @@ use Rattle.std.proofs.Common.{ℕ, List, ◌++◌, ◌∷◌, [], ap, ◌∙◌}
 use Rattle.std.specs.List.{AllByRecursion}
 use Rattle.tv_model.specs.Commits.{Commit, IndexForm, IsSegment, Settings, printed}
 use Rattle.tv_store.proofs.FoundStates.{means_commit}
-use Rattle.tv_store.specs.Committing.{IsPrinted, commit_of}
+use Rattle.tv_store.specs.Committing.{PrintsNext, commit_of}
 use Rattle.tv_store.proofs.Committing.{commits_as}
 use Rattle.tv_store.proofs.index_store.IndexStore.commit_chosen.Goals as goal
 
@@ -13,7 +13,7 @@ returns g c =
     let commit = c.in_ok-commit.commit in
     let made = c.in_ok-commit.ensures in
     let text = c.as_slice.result.now in
-    commits_as g.O.Directory (IsPrinted kept commit text) c.args.self.now c.commit_printed.new.self (AllByRecursion IsSegment segments)
+    commits_as g.O.Directory (PrintsNext kept commit text) c.args.self.now c.commit_printed.new.self (AllByRecursion IsSegment segments)
     (λ s. commit_of s commit.payload commit.segments) (λ s. commit_of s c.args.payload.now segments) c.commit_printed.result c.commit_printed.ensures
     (λ tells s held are_segments. (
       record {

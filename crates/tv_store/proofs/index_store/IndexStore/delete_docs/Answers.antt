@@ -38,10 +38,11 @@ returns-clause-step g c live tells s held =
     let same : inside.catalog ≡ old.kept.catalog = ap (λ v. v.kept.catalog) c.self-2.view_is ∙ ap (λ (k : Kept). k.catalog) asked.kept in
     let next : inside.catalog.next < last_stamp = subst (λ (k : Catalog). k.next < last_stamp) (sym same) c.requires.next in
     let left : LeavesFiles (delete_name id segment.deletes ∷ []) inside.files new = subst (λ names. LeavesFiles names inside.files new) c.in_ok-names.ensures done.left in
-    let holds = deleted_holds D inside.catalog inside.files new (ap (λ v. v.form) done.others) s id segment c.args.n now there c.requires.within next done.others left in (
-      c.in_ok-answer-2.ensures.answer ∙ c.in_ok-answer.ensures ∙ ap (λ (stamp : ℕ). line (codes "deletes") (encode_lower id ∷ decimal c.args.n ∷ decimal stamp ∷ [])) (c.next_opstamp.ensures ∙ ap (λ v. v.kept.catalog.next) c.self.view_is ∙ ap (λ (k : Catalog). k.next) held.catalog),
-      subst (λ (k : Catalog). Holds (D.view new.outside).reads (kept_of k new) (having_deleted_docs s id c.args.n segment).1) (sym c.in_ok-set_deletes.ensures.deletes) holds,
-    )
+    let holds = deleted_holds D inside.catalog inside.files new (ap (λ v. v.form) done.others) s id segment c.args.n now there c.requires.within next done.others left in
+    record {
+      told = c.in_ok-answer-2.ensures.answer ∙ c.in_ok-answer.ensures ∙ ap (λ (stamp : ℕ). line (codes "deletes") (encode_lower id ∷ decimal c.args.n ∷ decimal stamp ∷ [])) (c.next_opstamp.ensures ∙ ap (λ v. v.kept.catalog.next) c.self.view_is ∙ ap (λ (k : Catalog). k.next) held.catalog);
+      held = subst (λ (k : Catalog). Holds (D.view new.outside).reads (kept_of k new) (having_deleted_docs s id c.args.n segment).1) (sym c.in_ok-set_deletes.ensures.deletes) holds;
+    }
 
 pub returns-in_err-names-clause-does : goal.returns-in_err-names-clause-does
 returns-in_err-names-clause-does g c = wants_first g.O.Directory _ (λ old new h. h) _ c.args.self.now c.from_residual.result c.from_residual.ensures.1

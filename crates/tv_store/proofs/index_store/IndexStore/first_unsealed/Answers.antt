@@ -49,11 +49,11 @@ pub returns-then-not-branch-clause-asks : goal.returns-then-not-branch-clause-as
 returns-then-not-branch-clause-asks g c =
     let so_far = c.loop-name.invariant in
     let asked = c.in_ok-is_sealed.ensures.asks in
-    record { faults = record { quiet = asked.faults.quiet ∙ so_far.quiet; cause = tt }; frame = asks_later so_far.asks asked.frame }
+    record { faults = record { quiet = asked.faults.quiet ∙ so_far.quiet; fits = λ never. never; cause = tt }; frame = asks_later so_far.asks asked.frame }
 
 pub returns-clause-found : goal.returns-clause-found
 returns-clause-found g c tells s held files =
     sym (c.loop-name.invariant.found tells s held files) ∙ ap (find (λ name. not (is_sealed (file_at s name)))) (take_all c.loop-name.name-index c.args.names.now c.loop-name-test.false)
 
 pub returns-clause-asks : goal.returns-clause-asks
-returns-clause-asks g c = record { faults = record { quiet = c.loop-name.invariant.quiet; cause = tt }; frame = c.loop-name.invariant.asks }
+returns-clause-asks g c = record { faults = record { quiet = c.loop-name.invariant.quiet; fits = λ never. never; cause = tt }; frame = c.loop-name.invariant.asks }

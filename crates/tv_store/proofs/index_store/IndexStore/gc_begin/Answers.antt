@@ -31,9 +31,10 @@ returns-clause-step g c tells s held =
     (same_holds (D.view old.outside).reads (D.view mid.outside).reads old.kept mid.kept s (asked.below.content tells) asked.kept held) in
     let needs : (n : List ℕ) → has needed n ≡ has (living inside.catalog) n = λ n. c.in_ok-living.ensures n ∙ ap (λ (k : Catalog). has (living k) n) catalog in
     let names = begun_told D inside.catalog inside.files new form s now number needed needs told c.in_ok-names.names.items c.in_ok-names.ensures.names in
-    let is = told.number_is ∙ ap (λ (k : Collections). k.next) now.collections in (
-      c.in_ok-answer-2.ensures.answer ∙ c.in_ok-answer.ensures ∙ ap (λ (ns : List (List ℕ)). line (codes "gc") (decimal number ∷ ns)) (c.as_slice.ensures.value ∙ names)
-          ∙ ap (λ (n : ℕ). line (codes "gc") (decimal n ∷ garbage s)) is,
-      same_holds (D.view new.outside).reads (D.view end.outside).reads _ end.kept _ (made.below.content tells) made.kept
-          (begun_holds D inside.catalog inside.files new form s now number needed needs told (frame.below.content tells) frame.rest),
-    )
+    let is = told.number_is ∙ ap (λ (k : Collections). k.next) now.collections in
+    record {
+      told = c.in_ok-answer-2.ensures.answer ∙ c.in_ok-answer.ensures ∙ ap (λ (ns : List (List ℕ)). line (codes "gc") (decimal number ∷ ns)) (c.as_slice.ensures.value ∙ names)
+          ∙ ap (λ (n : ℕ). line (codes "gc") (decimal n ∷ garbage s)) is;
+      held = same_holds (D.view new.outside).reads (D.view end.outside).reads _ end.kept _ (made.below.content tells) made.kept
+          (begun_holds D inside.catalog inside.files new form s now number needed needs told (frame.below.content tells) frame.rest);
+    }

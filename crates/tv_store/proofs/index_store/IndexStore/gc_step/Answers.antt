@@ -1,11 +1,15 @@
-use Rattle.std.proofs.Common.{◌≡◌, ◌∷◌, [], ℕ, Some, codes, sym, ap, subst, ◌∙◌}
+use Rattle.std.proofs.Common.{◌≡◌, ◌∷◌, [], List, ℕ, Some, codes, cond, sym, ap, subst, ◌∙◌}
+use Rattle.std.specs.Fmt.{decimal}
 use Rattle.tv_model.specs.CollectionEvents.{gc_step_step}
 use Rattle.tv_model.specs.Files.{RoseBy}
+use Rattle.tv_model.specs.Lines.{line}
 use Rattle.tv_model.specs.Machine.{refused_in}
 use Rattle.tv_model.specs.State.{State, StepResult}
 use Rattle.tv_store.specs.Kept.{AtMost, Holds, kept_of}
 use Rattle.tv_store.proofs.CollectingEvents.{found_there, nothing_step, refused_deleting, stepped_holds, tried_step, unknown_step}
+use Rattle.tv_store.proofs.Changed.{tried_less}
 use Rattle.tv_store.proofs.Holding.{same_holds}
+use Rattle.tv_store.proofs.Results.{on_ok}
 use Rattle.tv_store.proofs.AskedEvents.{may_delete, only_asked, wants}
 use Rattle.tv_store.proofs.index_store.IndexStore.gc_step.Goals as goal
 
@@ -21,14 +25,11 @@ returns-then-left-eq0-clause-step g c =
     refused_deleting g.O.Directory c.args.self.now c.refuse-then-left-eq0.new.self (λ s outcomes. gc_step_step s c.args.number outcomes) (codes "nothing-left") c.refuse-then-left-eq0.result c.refuse-then-left-eq0.ensures.answer c.refuse-then-left-eq0.ensures.asks
     (λ s held. nothing_step s c.args.number [] c.self.inside.files.collections (same ∙ held) (ap (λ n. Some n) (sym c.if-left-eq0.true) ∙ sym c.in-Some.is ∙ c.collect_left.ensures))
 
-pub returns-in_err-name-clause-lens : goal.returns-in_err-name-clause-lens
-returns-in_err-name-clause-lens g c bound h = c.collect_delete.ensures.lens bound (subst (λ v. AtMost bound v.kept) (sym c.self-2.view_is) (subst (AtMost bound) (sym c.ready_for_step.ensures.asks.frame.kept) h))
+pub returns-in_err-tried-clause-lens : goal.returns-in_err-tried-clause-lens
+returns-in_err-tried-clause-lens g c bound h = c.collect_delete.ensures.lens bound (subst (λ v. AtMost bound v.kept) (sym c.self-2.view_is) (subst (AtMost bound) (sym c.ready_for_step.ensures.asks.frame.kept) h))
 
 pub returns-in_err-answer-clause-lens : goal.returns-in_err-answer-clause-lens
-returns-in_err-answer-clause-lens g c bound h = c.collect_delete.ensures.lens bound (subst (λ v. AtMost bound v.kept) (sym c.self-2.view_is) (subst (AtMost bound) (sym c.ready_for_step.ensures.asks.frame.kept) h))
-
-pub returns-in_err-answer-2-clause-lens : goal.returns-in_err-answer-2-clause-lens
-returns-in_err-answer-2-clause-lens g c bound h =
+returns-in_err-answer-clause-lens g c bound h =
     subst (AtMost bound) (sym c.ready.ensures.asks.frame.kept) (c.collect_delete.ensures.lens bound (subst (λ v. AtMost bound v.kept) (sym c.self-2.view_is) (subst (AtMost bound) (sym c.ready_for_step.ensures.asks.frame.kept) h)))
 
 pub returns-clause-lens : goal.returns-clause-lens
@@ -44,31 +45,41 @@ returns-clause-step g c =
     let inside = c.self-2.inside in
     let new = c.collect_delete.new.self in
     let end = c.ready.new.self in
-    let name = c.in_ok-name.field-0.name in
-    let done = c.in_ok-name.field-0.is_done in
-    let told = c.in_ok-name.ensures.tries in
+    let name = c.in_ok-tried.tried.name in
+    let done = c.in_ok-tried.tried.is_done in
+    let told = c.in_ok-tried.ensures.tries in
+    let found : c.in_ok-name.name ≡ name = c.in_ok-name.ensures told.collection name told.left_names told.there told.first in
     let form = c.collect_delete.ensures.frame.form in
     let asked = c.ready_for_step.ensures.asks.frame in
     let made = c.ready.ensures.asks.frame in
-    let first : (D.view inside.files.outside).refusals ≡ (D.view old.outside).refusals = ap (λ v. (D.view v.outside).refusals) c.self-2.view_is ∙ asked.below.kept.frame.tells_none.deletes_none.refusals in (
-      done ∷ [],
-      subst (λ (n : ℕ). RoseBy (refused_in (done ∷ [])) n (D.view end.outside).refusals) first
-          (subst (λ (n : ℕ). RoseBy (refused_in (done ∷ [])) (D.view inside.files.outside).refusals n) (sym made.below.kept.frame.tells_none.deletes_none.refusals) told.counted),
-      λ tells s held.
+    let first : (D.view inside.files.outside).refusals ≡ (D.view old.outside).refusals = ap (λ v. (D.view v.outside).refusals) c.self-2.view_is ∙ asked.below.kept.frame.tells_none.deletes_none.refusals in
+    record {
+      outcomes = done ∷ [];
+      refused = subst (λ (n : ℕ). RoseBy (refused_in (done ∷ [])) n (D.view end.outside).refusals) first
+          (subst (λ (n : ℕ). RoseBy (refused_in (done ∷ [])) (D.view inside.files.outside).refusals n) (sym made.below.kept.frame.tells_none.deletes_none.refusals) told.counted);
+      each = λ tells s held.
           let now = subst (λ v. Holds (D.view v.outside).reads v.kept s) (sym c.self-2.view_is)
           (same_holds (D.view old.outside).reads (D.view mid.outside).reads old.kept mid.kept s (asked.below.content tells) asked.kept held) in
-          let step = tried_step s number told.collection name told.left_names done (found_there D inside.catalog inside.files new form s now number told.collection told.there) told.first in (
-            c.in_ok-answer-2.ensures.answer ∙ c.in_ok-answer.ensures ∙ sym (ap (λ (t : StepResult State). t.0) step),
-            same_holds (D.view new.outside).reads (D.view end.outside).reads _ end.kept _ (made.below.content tells) made.kept
-                (subst (λ (t : StepResult State). Holds (D.view new.outside).reads (kept_of inside.catalog new) t.1) (sym step) (stepped_holds D inside.catalog inside.files new form s now number name done tells told)),
-          ),
-    )
+          let step = tried_step s number told.collection name told.left_names done (found_there D inside.catalog inside.files new form s now number told.collection told.there) told.first in
+          record {
+            step = record {
+              told = c.in_ok-answer.ensures.answer ∙ c.of.ensures ∙ c.in_ok-lines.ensures done
+                  ∙ ap (λ (n : List ℕ). line (codes "gc") (decimal number ∷ cond done (codes "done") (codes "failed") ∷ n ∷ [])) found ∙ sym (ap (λ (t : StepResult State). t.0) step);
+              held = same_holds (D.view new.outside).reads (D.view end.outside).reads _ end.kept _ (made.below.content tells) made.kept
+                  (subst (λ (t : StepResult State). Holds (D.view new.outside).reads (kept_of inside.catalog new) t.1) (sym step) (stepped_holds D inside.catalog inside.files new form s now number name done tells told));
+            };
+            same = λ by_step stays. absurd (
+                tried_less s number told.collection name told.left_names done (found_there D inside.catalog inside.files new form s now number told.collection told.there) told.first
+                (sym (ap (λ (t : StepResult State). t.1) step) ∙ stays)
+                );
+          };
+    }
 
 pub returns-in_default-clause-does : goal.returns-in_default-clause-does
-returns-in_default-clause-does g c = only_asked g.O.Directory _ (λ old new. may_delete) _ c.args.self.now c.refuse.new.self c.refuse.result c.refuse.ensures.room c.refuse.ensures.asks
+returns-in_default-clause-does g c = only_asked g.O.Directory _ (λ old new. may_delete) _ c.args.self.now c.refuse.new.self c.refuse.result c.refuse.ensures.room c.refuse.ensures.asks (on_ok c.refuse.result (λ never. never))
 
 pub returns-then-left-eq0-clause-does : goal.returns-then-left-eq0-clause-does
-returns-then-left-eq0-clause-does g c = only_asked g.O.Directory _ (λ old new. may_delete) _ c.args.self.now c.refuse-then-left-eq0.new.self c.refuse-then-left-eq0.result c.refuse-then-left-eq0.ensures.room c.refuse-then-left-eq0.ensures.asks
+returns-then-left-eq0-clause-does g c = only_asked g.O.Directory _ (λ old new. may_delete) _ c.args.self.now c.refuse-then-left-eq0.new.self c.refuse-then-left-eq0.result c.refuse-then-left-eq0.ensures.room c.refuse-then-left-eq0.ensures.asks (on_ok c.refuse-then-left-eq0.result (λ never. never))
 
 pub returns-in_err-ready_for_step-clause-does : goal.returns-in_err-ready_for_step-clause-does
 returns-in_err-ready_for_step-clause-does g c =

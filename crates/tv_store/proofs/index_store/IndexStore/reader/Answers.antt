@@ -1,16 +1,15 @@
-use Rattle.std.proofs.Common.{◌≡◌, true, false, Some, refl, sym, ap, subst, ◌∙◌, rules}
+use Rattle.std.proofs.Common.{◌≡◌, true, false, refl, sym, ap, subst, ◌∙◌, rules}
 use Rattle.tv_model.specs.Files.{Rose}
+use Rattle.tv_model.specs.declared.event.Event.{Event}
 use Rattle.tv_model.specs.declared.event.Event.TheVariants as events
-use Rattle.tv_index.specs.Standing.{MetaCause}
-use Rattle.tv_model.specs.Names.{meta_name}
 use Rattle.tv_store.proofs.Results.{handed_on}
 use Rattle.tv_managed.specs.Collecting.{meta_lock_name}
 use Rattle.tv_store.specs.Kept.{Kept}
-use Rattle.tv_store.specs.Exhausted.{PassesEnd, number_after}
+use Rattle.tv_store.specs.Exhausted.{SomePassesEnd, numbers_after}
 use Rattle.tv_store.specs.ReaderNumbers.{FewNumbers}
-use Rattle.tv_store.specs.Applying.{BadIn, HoldsNone}
+use Rattle.tv_store.specs.Applying.{GoneAt, RefusedAt, UnloadedAt}
 use Rattle.tv_store.specs.StoreCauses.{IsBusy}
-use Rattle.tv_store.specs.ReadCauses.{IsReadError, LoadingCause}
+use Rattle.tv_store.specs.ReadCauses.{IsReadError, LoadingCause, LoadsCommit, ReadsFiles, TakesMetaLock}
 use Rattle.tv_store.proofs.ReaderEvents.{busy_before, few_with_new, later_fails}
 use Rattle.tv_store.proofs.Asking.{asks_later}
 use Rattle.tv_store.proofs.AskedReads.{no_answer, only_reads, wants_memory}
@@ -25,19 +24,21 @@ returns-in_err-shown-clause-faults g c =
     let room = c.in_ok-answer-2.ensures.asks in
     let end = (D.view c.snapshot.new.self.outside).faults in
     let start = (D.view old.outside).faults in
-    let busy : Type 0 = Unit {0} × IsBusy D.told.locks ((D.view old.outside).locks meta_lock_name ≡ true) (Rose start end) in
+    let event : Event = events.Reader c.args.policy in
+    let busy : Type 0 = TakesMetaLock old.kept.catalog event × IsBusy D.told.locks ((D.view old.outside).locks meta_lock_name ≡ true) (Rose start end) in
     record {
       quiet = search rules;
       free = search rules;
+      fits = search rules;
       reads = λ told. handed_on c.from_residual-in_err-shown.result c.in_err-shown.field-0.0 (λ error. IsReadError error → (D.view old.outside).locks meta_lock_name ≡ false) c.from_residual-in_err-shown.ensures.1
           (λ r. sym (room.frame.below.kept.frame.locks told meta_lock_name) ∙ c.in_err-shown.ensures.faults.reads told r);
       cause =
           handed_on c.from_residual-in_err-shown.result c.in_err-shown.field-0.0
-          (LoadingCause busy (Rose start end) (end ≡ start) (PassesEnd (number_after old.kept.catalog (events.Reader c.args.policy))) (λ error. (Unit {0}) × MetaCause tells (Some old.kept.form.schema) ((D.view old.outside).reads meta_name) (Rose start end) (end ≡ start) error) (λ error. (Unit {0}) × BadIn tells (D.view old.outside).reads old.kept (events.Reader c.args.policy) error) (λ path. (Unit {0}) × HoldsNone tells (D.view old.outside).reads old.kept))
+          (LoadingCause busy (Rose start end) (end ≡ start) (SomePassesEnd (numbers_after old.kept event)) (UnloadedAt D old c.snapshot.new.self event) (RefusedAt D old event) (λ path. GoneAt D old event))
           c.from_residual-in_err-shown.ensures.1
-          (later_fails tells (D.view old.outside).reads (D.view c.ready.new.self.outside).reads old.kept c.ready.new.self.kept (events.Reader c.args.policy) (λ s held. refl) (PassesEnd (number_after old.kept.catalog (events.Reader c.args.policy))) _ busy (Unit {0})
-          start (D.view c.ready.new.self.outside).faults end c.in_err-shown.field-0.0 tt
-          (λ b. (tt, busy_before _ _ _ _ _ (λ told. room.frame.below.kept.frame.locks told meta_lock_name) room.faults b)) room.frame.below.content room.frame.kept room.faults c.in_err-shown.ensures.faults.cause);
+          (later_fails tells (D.view old.outside).reads (D.view c.ready.new.self.outside).reads old.kept c.ready.new.self.kept event (λ s held. refl) (SomePassesEnd (numbers_after old.kept event)) _ busy (LoadsCommit old.kept.catalog event) (ReadsFiles old.kept.catalog event)
+          start (D.view c.ready.new.self.outside).faults end c.in_err-shown.field-0.0 refl refl
+          (λ b. (refl, busy_before _ _ _ _ _ (λ told. room.frame.below.kept.frame.locks told meta_lock_name) room.faults b)) room.frame.below.content room.frame.kept room.faults c.in_err-shown.ensures.faults.cause);
     }
 
 pub returns-clause-numbers : goal.returns-clause-numbers
@@ -55,7 +56,7 @@ returns-in_err-answer-clause-does g c =
     only_reads g.O.Directory store store failed.result (no_answer failed.result _ failed.ensures.0) (asked_nothing g.O.Directory.told g.O.Directory.view store)
 
 pub returns-in_err-answer-clause-faults : goal.returns-in_err-answer-clause-faults
-returns-in_err-answer-clause-faults g c = wants_memory g.O.Directory _ _ c.args.self.now c.args.self.now _ c.from_residual.result c.from_residual.ensures.1 refl
+returns-in_err-answer-clause-faults g c = wants_memory g.O.Directory _ c.args.self.now c.args.self.now _ c.from_residual.result c.from_residual.ensures.1 refl
 
 pub returns-in_err-answer-2-clause-does : goal.returns-in_err-answer-2-clause-does
 returns-in_err-answer-2-clause-does g c =
@@ -65,7 +66,7 @@ returns-in_err-answer-2-clause-does g c =
 pub returns-in_err-answer-2-clause-faults : goal.returns-in_err-answer-2-clause-faults
 returns-in_err-answer-2-clause-faults g c =
     let failed = c.from_residual-in_err-answer-2 in
-    wants_memory g.O.Directory _ _ c.args.self.now c.ready.new.self _ failed.result failed.ensures.1 c.in_err-answer-2.ensures.asks.faults
+    wants_memory g.O.Directory _ c.args.self.now c.ready.new.self _ failed.result failed.ensures.1 c.in_err-answer-2.ensures.asks.faults
 
 pub returns-in_err-shown-clause-does : goal.returns-in_err-shown-clause-does
 returns-in_err-shown-clause-does g c =

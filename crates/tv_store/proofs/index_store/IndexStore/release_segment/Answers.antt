@@ -5,6 +5,7 @@ use Rattle.tv_store.specs.FileCalls.{LeavesFiles}
 use Rattle.tv_store.specs.Kept.{AtMost, Holds, kept_of}
 use Rattle.tv_store.proofs.Holding.{same_holds}
 use Rattle.tv_store.proofs.CollectionEvents.{released_holds}
+use Rattle.tv_store.proofs.Results.{on_ok}
 use Rattle.tv_store.proofs.AskedEvents.{only_asked, wants, wants_first}
 use Rattle.tv_store.proofs.index_store.IndexStore.release_segment.Goals as goal
 
@@ -32,14 +33,15 @@ returns-clause-step g c tells s held =
     (same_holds (D.view old.outside).reads (D.view mid.outside).reads old.kept mid.kept s (asked.below.content tells) asked.kept held) in
     let holds =
     released_holds D inside.catalog inside.files new (ap (λ v. v.form) done.others) s id segment now done.others
-    (subst (λ names. LeavesFiles names inside.files new) c.in_ok-names.ensures done.left) in (
-      c.in_ok-answer-2.ensures.answer ∙ c.in_ok-answer.ensures ∙ sym (ap (λ (t : StepResult State). t.0) step),
-      subst (λ (t : StepResult State). Holds (D.view new.outside).reads (kept_of c.remove.new.self new) t.1) (sym step)
-          (subst (λ (k : Catalog). Holds (D.view new.outside).reads (kept_of k new) (released s id segment).1) (sym c.remove.ensures) holds),
-    )
+    (subst (λ names. LeavesFiles names inside.files new) c.in_ok-names.ensures done.left) in
+    record {
+      told = c.in_ok-answer-2.ensures.answer ∙ c.in_ok-answer.ensures ∙ sym (ap (λ (t : StepResult State). t.0) step);
+      held = subst (λ (t : StepResult State). Holds (D.view new.outside).reads (kept_of c.remove.new.self new) t.1) (sym step)
+          (subst (λ (k : Catalog). Holds (D.view new.outside).reads (kept_of k new) (released s id segment).1) (sym c.remove.ensures) holds);
+    }
 
 pub returns-in_default-clause-does : goal.returns-in_default-clause-does
-returns-in_default-clause-does g c = only_asked g.O.Directory _ (λ old new h. h) _ c.args.self.now c.refuse.new.self c.refuse.result c.refuse.ensures.room c.refuse.ensures.asks
+returns-in_default-clause-does g c = only_asked g.O.Directory _ (λ old new h. h) _ c.args.self.now c.refuse.new.self c.refuse.result c.refuse.ensures.room c.refuse.ensures.asks (on_ok c.refuse.result (λ never. never))
 
 pub returns-in_err-names-clause-does : goal.returns-in_err-names-clause-does
 returns-in_err-names-clause-does g c = wants_first g.O.Directory _ (λ old new h. h) _ c.args.self.now c.from_residual.result c.from_residual.ensures.1

@@ -27,11 +27,12 @@ returns-clause-step g c tells s held =
     let asked = c.ready.ensures.asks.frame in
     let done = c.in_ok-reopen.ensures in
     let now = subst (λ v. Holds (D.view v.outside).reads v.kept s) (sym c.self-2.view_is)
-    (same_holds (D.view old.outside).reads (D.view mid.outside).reads old.kept mid.kept s (asked.below.content tells) asked.kept held) in (
-      c.in_ok-answer.ensures.answer ∙ c.in_ok-line.ensures
-          ∙ ap (λ (k : Commit). opening_of k) (c.commit.ensures ∙ ap (λ v. v.kept.catalog.commit) c.self.view_is ∙ ap (λ (k : Catalog). k.commit) held.catalog),
-      subst (λ (k : Catalog). Holds (D.view new.outside).reads (kept_of k new) (reopened s)) (sym c.reopen-2.ensures) (reopened_holds D inside.catalog inside.files new s now done.others done.reopened),
-    )
+    (same_holds (D.view old.outside).reads (D.view mid.outside).reads old.kept mid.kept s (asked.below.content tells) asked.kept held) in
+    record {
+      told = c.in_ok-answer.ensures.answer ∙ c.in_ok-line.ensures
+          ∙ ap (λ (k : Commit). opening_of k) (c.commit.ensures ∙ ap (λ v. v.kept.catalog.commit) c.self.view_is ∙ ap (λ (k : Catalog). k.commit) held.catalog);
+      held = subst (λ (k : Catalog). Holds (D.view new.outside).reads (kept_of k new) (reopened s)) (sym c.reopen-2.ensures) (reopened_holds D inside.catalog inside.files new s now done.others done.reopened);
+    }
 
 pub returns-in_err-segments-clause-does : goal.returns-in_err-segments-clause-does
 returns-in_err-segments-clause-does g c =
