@@ -24,7 +24,7 @@ PUBLIC = re.compile(r"\bpub\s+(?:const\s+)?(?:unsafe\s+)?$")
 NO_CODE = re.compile(
     r"""//[^\n]*|/\*.*?\*/|b?r(?P<hashes>\#*)".*?"(?P=hashes)|b?"(?:\\.|[^"\\])*"|b?'(?:\\[^']+|[^\\'\n])'""", re.DOTALL
 )
-NAMED = re.compile(r"(?:(?:abbrev|pub|record|data|opaque) )*([^\s:({=]+)")
+NAMED = re.compile(r"(?:(?:abbrev|pub|record|data|opaque) )*([^\s:({=)}\]][^\s:({=]*)")
 
 
 def blanked(text):
@@ -35,6 +35,11 @@ def blanked(text):
 def plain(text):
     """A text without comments, and with single blanks."""
     return " ".join(re.sub(r"(//|--)[^\n]*", " ", text).split())
+
+
+def bare(text):
+    """A text without blanks at brackets, and without a sign that only ends the last part of a value."""
+    return re.sub(r"([({]) | ?[;,]? (?=[)}])|[;,](?=[)}])", r"\1", text)
 
 
 def behind(code, at, ends):
@@ -138,7 +143,7 @@ def lost(old, new):
     for key in before | after:
         one, two = before.get(key), after.get(key)
         is_demand = key[0] == "requires"
-        if one and two and one.text != two.text or two is None and not is_demand or one is None and is_demand:
+        if one and two and bare(one.text) != bare(two.text) or two is None and not is_demand or one is None and is_demand:
             yield one, two
 
 

@@ -12,6 +12,7 @@ has no words, and where no call is named so.
 """
 
 import dataclasses
+import itertools
 import pathlib
 import re
 import sys
@@ -135,9 +136,10 @@ def definitions_of(crate, path, text):
 
 
 def header_of(path):
-    """The first comment of a file."""
-    first = path.read_text(encoding="utf-8").splitlines()[:1]
-    return first[0][2:].strip() if first and first[0].startswith("--") else ""
+    """The comment that a file begins with."""
+    lines = path.read_text(encoding="utf-8").splitlines()
+    header = itertools.takewhile(lambda line: line.startswith("--"), lines)
+    return " ".join(line[2:].strip() for line in header)
 
 
 def imports_of(text, word="ghost use"):
@@ -160,12 +162,18 @@ def exported(crate):
     return names, modules
 
 
+def braces(text):
+    """How many more braces open in a text than close, but for those in strings."""
+    bare = re.sub(r'"(?:\\.|[^"\\])*"', "", text)
+    return bare.count("{") - bare.count("}")
+
+
 def clause_at(lines, at):
     """The clause that begins at this line, and the line behind it."""
     first = re.match(r"\s*(requires|ensures)\*?(?: (\w+))?\s*\{(.*)", lines[at])
     text, depth, end = first[3], 1, at
     while True:
-        depth = 1 + text.count("{") - text.count("}")
+        depth = 1 + braces(text)
         if depth <= 0:
             break
         end += 1

@@ -1,7 +1,7 @@
 -- The spellings of some numbers, computed.
 use Rattle.std.specs.Prelude.{◌≡◌, [], ◌∷◌}
 use Rattle.std.proofs.Common.{refl}
-use Rattle.tv_model.specs.VInt.{vint}
+use Rattle.tv_formats.specs.VInt.{vint}
 
 none : vint 0 ≡ 128 ∷ []
 none = refl

@@ -7,8 +7,8 @@ use Rattle.std.proofs.lemmas.Option.{same_Some}
 use Rattle.std.proofs.lemmas.List.Quantifiers.{position-Some}
 use Rattle.std.specs.Int.Digits.{digits_of, number_from_digits, number_from_digits_after, AllBelowBase}
 use Rattle.std.proofs.lemmas.Int.Digits.{digits_of_step, number_push, number_after_ge, first_digits_of}
-use Rattle.tv_model.specs.VInt.{groups, marked, vint}
-use Rattle.tv_base.specs.Bytes.{is_last, of_groups}
+use Rattle.tv_formats.specs.VInt.{groups, marked, vint}
+use Rattle.tv_base.specs.Bytes.{is_last_byte, of_groups}
 
 -- what comes next from the groups below is in the number
 pub at_least : (n : ℕ) (xs : List ℕ) (k : ℕ) → k < length xs → n * 128 + get_or xs k 0 ≤ number_from_digits_after 128 n (reverse (take (suc k) xs))
@@ -76,7 +76,7 @@ spelled_back h (g ∷ gs) lt below alone =
 
 -- how the spelling of a number is found at the front of some bytes
 pub record Found (n last : ℕ) (bytes : List ℕ) : Type 0 where
-  pub is : position is_last bytes ≡ Some last
+  pub is : position is_last_byte bytes ≡ Some last
   pub number : of_groups (get_or bytes last 0 - 128) (take last bytes) ≡ n
   pub alone : get_or bytes last 0 - 128 ≡ 0 → last ≡ 0
   pub size : last + 1 ≡ length (vint n)
@@ -115,7 +115,7 @@ found_by (suc bound) n rest le =
 pub found_in : (n : ℕ) (rest bytes : List ℕ) → bytes ≡ vint n ++ rest → (last : ℕ) × Found n last bytes
 found_in n rest bytes is = let f = found_by n n rest (omega arith) in (f.0, subst (Found n f.0) (sym is) f.1)
 
-pub found_at : (n i : ℕ) (rest bytes : List ℕ) → bytes ≡ vint n ++ rest → position is_last bytes ≡ Some i → Found n i bytes
+pub found_at : (n i : ℕ) (rest bytes : List ℕ) → bytes ≡ vint n ++ rest → position is_last_byte bytes ≡ Some i → Found n i bytes
 found_at n i rest bytes is at = let f = found_in n rest bytes is in subst (λ k. Found n k bytes) (same_Some f.0 i (sym f.1.is ∙ at)) f.1
 
 below_all : (xs : List ℕ) (i : ℕ) → ((k : ℕ) → k < i → nat_le 128 (get_or xs k 0) ≡ false) → AllBelowBase 128 (take i xs)
@@ -130,9 +130,9 @@ pub record Read (n : ℕ) (last : ℕ) (bytes : List ℕ) : Type 0 where
   pub whole : bytes ≡ vint n ++ rest
   pub size : last + 1 ≡ length (vint n)
 
-pub read_only : (bytes : List ℕ) (i n : ℕ) → position is_last bytes ≡ Some i → get_or bytes i 0 < 256 → (get_or bytes i 0 - 128 ≡ 0 → i ≡ 0) → n ≡ of_groups (get_or bytes i 0 - 128) (take i bytes) → Read n i bytes
+pub read_only : (bytes : List ℕ) (i n : ℕ) → position is_last_byte bytes ≡ Some i → get_or bytes i 0 < 256 → (get_or bytes i 0 - 128 ≡ 0 → i ≡ 0) → n ≡ of_groups (get_or bytes i 0 - 128) (take i bytes) → Read n i bytes
 read_only bytes i n is byte alone number =
-    let p = position-Some is_last bytes i 0 is in
+    let p = position-Some is_last_byte bytes i 0 is in
     let b = get_or bytes i 0 in
     let le : 128 ≤ b = grind (arith, p.1) in
     let back : b - 128 + 128 ≡ b = omega (arith, le) in
@@ -151,8 +151,8 @@ read_only bytes i n is byte alone number =
 
 -- where the code looks
 
-pub last_large : (bytes : List ℕ) (i : ℕ) → position is_last bytes ≡ Some i → 128 ≤ get_or bytes i 0
-last_large bytes i is = let p = position-Some is_last bytes i 0 is in grind (arith, p.1)
+pub last_large : (bytes : List ℕ) (i : ℕ) → position is_last_byte bytes ≡ Some i → 128 ≤ get_or bytes i 0
+last_large bytes i is = let p = position-Some is_last_byte bytes i 0 is in grind (arith, p.1)
 
 -- where the code writes
 

@@ -9,8 +9,8 @@ pub record InventoryState (T : Type 0) : Type 0 where
   pub entries : List (Entry T)
 
 -- an entry of this number
-abbrev pub is_at : {T : Type 0} → ℕ → Entry T → Bool
-is_at number e = eqb e.number number
+abbrev pub is_numbered : {T : Type 0} → ℕ → Entry T → Bool
+is_numbered number e = eqb e.number number
 
 -- the entries after a value was taken in under this number: one share of it is out
 abbrev pub tracked : {T : Type 0} → ℕ → T → List (Entry T) → List (Entry T)
@@ -44,5 +44,5 @@ is_last (Some e) = nat_lt e.count 2
 -- one share of a number less; the last one takes the entry out
 abbrev pub released : {T : Type 0} → ℕ → List (Entry T) → List (Entry T)
 released number es =
-    if is_last (find (is_at number) es) then take_out (is_at number) es
-    else change_at (is_at number) one_fewer es
+    if is_last (find (is_numbered number) es) then take_out (is_numbered number) es
+    else change_at (is_numbered number) one_fewer es

@@ -28,7 +28,8 @@ of_lock lock.Memory = errors.Memory
 abbrev pub of_open_directory : OpenDirectoryError → TantivyError
 of_open_directory (directory.DoesNotExist path) = errors.OpenDirectoryError (directory.DoesNotExist path)
 of_open_directory (directory.NotADirectory path) = errors.OpenDirectoryError (directory.NotADirectory path)
-of_open_directory (directory.FailedToCreateTempDir fault) = errors.OpenDirectoryError (directory.FailedToCreateTempDir fault)
+of_open_directory (directory.FailedToCreateTempDir fault) =
+    errors.OpenDirectoryError (directory.FailedToCreateTempDir fault)
 of_open_directory (directory.IoError fault path) = errors.OpenDirectoryError (directory.IoError fault path)
 of_open_directory directory.Memory = errors.Memory
 

@@ -6,10 +6,16 @@ use Rattle.std.proofs.lemmas.Option.{slice_get_past}
 use Rattle.tv_base.specs.Places.{change_at, take_out, IsPlace, IsAbsent}
 
 -- the elements before i fail, and i's passes
-pub place_of : {X : Type 0} (p : X → Bool) (xs : List X) (i : ℕ) (d : X) → i < length xs → p (get_or xs i d) ≡ true → ((k : ℕ) → k < i → p (get_or xs k d) ≡ false) → IsPlace p xs i
+pub place_of : {X : Type 0} (p : X → Bool) (xs : List X) (i : ℕ) (d : X) → i < length xs
+    → p (get_or xs i d) ≡ true → ((k : ℕ) → k < i → p (get_or xs k d) ≡ false) → IsPlace p xs i
 place_of p [] i d lt good before = grind (arith, lt)
 place_of p (x ∷ xs) zero d lt good before =
-    record { inside = lt; found = λ e. rw good refl; written = λ f e is. rw good (ap (λ v. f v ∷ xs) is); removed = rw good refl }
+    record {
+      inside = lt;
+      found = λ e. rw good refl;
+      written = λ f e is. rw good (ap (λ v. f v ∷ xs) is);
+      removed = rw good refl;
+    }
 place_of p (x ∷ xs) (suc i) d lt good before =
     let r = place_of p xs i d (grind (arith, lt)) good (λ k less. before (suc k) (grind (arith, less))) in
     let no = before zero (grind arith) in
@@ -35,11 +41,13 @@ pub no_place : {X : Type 0} (p : X → Bool) (xs : List X) → position p xs ≡
 no_place p xs is = find_at p xs ∙ slice_get_past xs _ (past_end _ _ is)
 
 -- Where the first one fails the test and nothing is found, nothing is found among the others.
-pub passed : {X : Type 0} (p : X → Bool) (x : X) (xs : List X) → p x ≡ false → find p (x ∷ xs) ≡ None → find p xs ≡ None
+pub passed : {X : Type 0} (p : X → Bool) (x : X) (xs : List X) → p x ≡ false
+    → find p (x ∷ xs) ≡ None → find p xs ≡ None
 passed p x xs is none = cc
 
 -- A change of what isn't there changes nothing, first one by first one.
-pub by_test : {X : Type 0} (p : X → Bool) (f : X → X) (x : X) (xs : List X) (b : Bool) → p x ≡ b → find p (x ∷ xs) ≡ None → (find p xs ≡ None → change_at p f xs ≡ xs) → change_at p f (x ∷ xs) ≡ x ∷ xs
+pub by_test : {X : Type 0} (p : X → Bool) (f : X → X) (x : X) (xs : List X) (b : Bool) → p x ≡ b
+    → find p (x ∷ xs) ≡ None → (find p xs ≡ None → change_at p f xs ≡ xs) → change_at p f (x ∷ xs) ≡ x ∷ xs
 by_test p f x xs true is none rest = cc
 by_test p f x xs false is none rest = rw is (ap (λ ys. x ∷ ys) (rest (passed p x xs is none)))
 
@@ -49,7 +57,8 @@ stays p f [] is = refl
 stays p f (x ∷ xs) is = by_test p f x xs (p x) refl is (λ none. stays p f xs none)
 
 -- A removal of what isn't there takes nothing out, first one by first one.
-pub kept_by_test : {X : Type 0} (p : X → Bool) (x : X) (xs : List X) (b : Bool) → p x ≡ b → find p (x ∷ xs) ≡ None → (find p xs ≡ None → take_out p xs ≡ xs) → take_out p (x ∷ xs) ≡ x ∷ xs
+pub kept_by_test : {X : Type 0} (p : X → Bool) (x : X) (xs : List X) (b : Bool) → p x ≡ b
+    → find p (x ∷ xs) ≡ None → (find p xs ≡ None → take_out p xs ≡ xs) → take_out p (x ∷ xs) ≡ x ∷ xs
 kept_by_test p x xs true is none rest = cc
 kept_by_test p x xs false is none rest = rw is (ap (λ ys. x ∷ ys) (rest (passed p x xs is none)))
 
@@ -59,11 +68,14 @@ keeps p [] is = refl
 keeps p (x ∷ xs) is = kept_by_test p x xs (p x) refl is (λ none. keeps p xs none)
 
 -- What a search for a place tells: nothing passes the test, or the first that does stands there.
-pub answered : {X : Type 0} (p : X → Bool) (xs : List X) (o : Option ℕ) → position p xs ≡ o → MatchOption o (IsAbsent p xs) (λ i. IsPlace p xs i)
-answered p xs None is = let none = no_place p xs is in record { missing = none; unchanged = λ f. stays p f xs none; kept = keeps p xs none }
+pub answered : {X : Type 0} (p : X → Bool) (xs : List X) (o : Option ℕ) → position p xs ≡ o
+    → MatchOption o (IsAbsent p xs) (λ i. IsPlace p xs i)
+answered p xs None is = let none = no_place p xs is in
+    record { missing = none; unchanged = λ f. stays p f xs none; kept = keeps p xs none }
 answered p xs (Some i) is = some_place p xs i is
 
 -- The same from the equation read the other way: nothing passes the test, or the first that does stands
 -- there.
-pub places : {X : Type 0} (p : X → Bool) (xs : List X) (o : Option ℕ) → o ≡ position p xs → MatchOption o (IsAbsent p xs) (λ i. IsPlace p xs i)
+pub places : {X : Type 0} (p : X → Bool) (xs : List X) (o : Option ℕ) → o ≡ position p xs
+    → MatchOption o (IsAbsent p xs) (λ i. IsPlace p xs i)
 places p xs o is = answered p xs o (sym is)

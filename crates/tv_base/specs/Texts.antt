@@ -2,7 +2,8 @@
 use Rattle.std.specs.Prelude.{ℕ, ◌+◌, ◌==◌, ◌&&◌, Bool, nat_lt, List, drop, min}
 use Rattle.std.specs.List.{list_any}
 
--- what is left, the numbers of the calls that are refused, the number of the next call, and how many were refused
+-- what is left, the numbers of the calls that are refused, the number of the next call, and how many were
+-- refused
 pub record TextState : Type 0 where
   pub left : List ℕ
   pub fail_at : List ℕ

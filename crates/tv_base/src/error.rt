@@ -8,7 +8,7 @@ use crate::versions::Incompatibility;
 use std::alloc::{AllocError, AllocFailed};
 use std::error::Error;
 use std::fmt;
-use tv_model::Memory;
+use tv_formats::Memory;
 
 /// Bytes that are not what they should be, and in which file.
 #[derive(Drop)]

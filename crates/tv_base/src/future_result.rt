@@ -13,7 +13,7 @@ use std::alloc::Global;
 use std::marker::Model;
 use std::mem;
 use std::sync::Wait;
-use tv_model::Memory;
+use tv_formats::Memory;
 
 type Answer<T> = Result<T, TantivyError>;
 

@@ -2,14 +2,14 @@
 ghost use Rattle.std.specs.Prelude.{◌≡◌, ◌<◌, ◌+◌, ℕ, [], ◌↔◌, None, true, All, IfOk, IfSome, IsSome, IsErr, OnOk, OnErr, MatchOption, find, map, position, vec_len};
 ghost use Rattle.std.specs.List.{AllZip, list_any};
 ghost use Rattle.std.specs.Option.{IsSomeAnd};
-ghost use Rattle.tv_base.specs.Entries.{IsFull, MayCount, is_at, is_full, one_more, released, tracked};
+ghost use Rattle.tv_base.specs.Entries.{IsFull, MayCount, is_numbered, is_full, one_more, released, tracked};
 ghost use Rattle.tv_base.specs.Places.{IsAbsent, IsPlace, change_at};
 ghost use Rattle.tv_base.specs.Visits.{IsCountedAt, IsVisited, IsVisitedAt};
 
 use crate::exhausted::Exhausted;
 use std::alloc::Global;
 use std::marker::Model;
-use tv_model::Memory;
+use tv_formats::Memory;
 
 /// What can be visited.
 pub trait Visit {
@@ -101,7 +101,7 @@ impl<T: Drop> Inventory<T> {
     /// had. Where memory is wanted, or no number is left, nothing changes and the value is dropped.
     pub fn track(&mut self, value: T) -> Result<Ticket, Memory>
         ensures next { IfOk result (λ ticket. ticket ≡ self.old.next) }
-        ensures fresh { IfOk result (λ ticket. find (is_at ticket) self.old.entries ≡ None) }
+        ensures fresh { IfOk result (λ ticket. find (is_numbered ticket) self.old.entries ≡ None) }
         ensures ok { IfOk result (λ ticket. self.new ≡ record {
           next = ticket + 1;
           entries = tracked ticket value self.old.entries;
@@ -126,10 +126,10 @@ impl<T: Drop> Inventory<T> {
     pub fn share(&mut self, t: &Ticket) -> Result<Ticket, Exhausted>
         ensures number { IfOk result (λ other. other ≡ t.now) }
         ensures ok { OnOk result (self.new ≡ record self.old {
-          entries = change_at (is_at t.now) one_more self.old.entries;
+          entries = change_at (is_numbered t.now) one_more self.old.entries;
         }) }
         ensures err { OnErr result (self.new ≡ self.old) }
-        ensures full { IsErr result ↔ IsSomeAnd (find (is_at t.now) self.old.entries) IsFull }
+        ensures full { IsErr result ↔ IsSomeAnd (find (is_numbered t.now) self.old.entries) IsFull }
     {
         count_more(&mut self.entries, t.number)?;
         Ok(Ticket::new(t.number))
@@ -137,8 +137,8 @@ impl<T: Drop> Inventory<T> {
 
     /// The value of a ticket.
     pub fn get(&self, t: &Ticket) -> &T
-        requires here { IsSome (find (is_at t.now) self.now.entries) }
-        ensures value { IfSome (find (is_at t.now) self.now.entries) (λ e. result.now ≡ e.value) }
+        requires here { IsSome (find (is_numbered t.now) self.now.entries) }
+        ensures value { IfSome (find (is_numbered t.now) self.now.entries) (λ e. result.now ≡ e.value) }
     {
         let number = t.number;
         let Some(i) = place_of(&self.entries, number) else {
@@ -205,15 +205,15 @@ impl<T: Visit> Inventory<T> {
 
 // The index of the first entry of a number.
 fn position_of<T>(entries: &Vec<Entry<T>>, number: u64) -> Option<usize>
-    ensures { result ≡ position (is_at number) entries.now.items }
+    ensures { result ≡ position (is_numbered number) entries.now.items }
 {
     entries.iter().position(|e| e.number == number)
 }
 
 // The same index, and what stands there.
 fn place_of<T>(entries: &Vec<Entry<T>>, number: u64) -> Option<usize>
-    ensures { MatchOption result (IsAbsent (is_at number) entries.now.items)
-        (IsPlace (is_at number) entries.now.items) }
+    ensures { MatchOption result (IsAbsent (is_numbered number) entries.now.items)
+        (IsPlace (is_numbered number) entries.now.items) }
 {
     position_of(entries, number)
 }
@@ -221,9 +221,9 @@ fn place_of<T>(entries: &Vec<Entry<T>>, number: u64) -> Option<usize>
 // One share more of the entry of a number, if there is one. The numbers stay.
 fn count_more<T>(entries: &mut Vec<Entry<T>>, number: u64) -> Result<(), Exhausted>
     ensures ok { OnOk result
-        (entries.new.items ≡ change_at (is_at number) one_more entries.old.items) }
+        (entries.new.items ≡ change_at (is_numbered number) one_more entries.old.items) }
     ensures err { OnErr result (entries.new.items ≡ entries.old.items) }
-    ensures full { IsErr result ↔ IsSomeAnd (find (is_at number) entries.old.items) IsFull }
+    ensures full { IsErr result ↔ IsSomeAnd (find (is_numbered number) entries.old.items) IsFull }
     ensures below { (n : ℕ) → All (λ e. e.number < n) entries.old.items
         → All (λ e. e.number < n) entries.new.items }
 {

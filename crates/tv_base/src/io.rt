@@ -4,7 +4,7 @@ ghost use Rattle.std.specs.Prelude.{◌≡◌, string_bytes, Some};
 use std::alloc::{AllocError, AllocFailed};
 use std::fmt;
 use thiserror::Error;
-use tv_model::Memory;
+use tv_formats::Memory;
 
 /// Of what kind a fault is.
 #[derive(Clone, Copy, Debug, PartialEq, Eq)]

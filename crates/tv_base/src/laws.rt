@@ -16,7 +16,7 @@ use crate::vint::VInt;
 use futures::task::{Context, Poll};
 use std::alloc::{AllocError, Global};
 use std::cmp::Ordering;
-use tv_model::Memory;
+use tv_formats::Memory;
 
 /// An inventory gives a number once: that of a value which is taken in is no smaller than the next
 /// one was, and smaller than the next one is.

@@ -32,7 +32,7 @@ pub use open_errors::{DeleteError, LockError, OpenDirectoryError, OpenReadError,
 pub use sink::{Sink, VecSink};
 pub use slices::{FileSlice, OwnedBytes};
 pub use source::{Source, TextSource};
-pub use tv_model::{MANAGED_FILEPATH, META_FILEPATH, Memory, Opstamp};
+pub use tv_formats::{MANAGED_FILEPATH, META_FILEPATH, Memory, Opstamp};
 pub use versions::{
     INDEX_FORMAT_OLDEST_SUPPORTED_VERSION, INDEX_FORMAT_VERSION, Incompatibility, Version,
 };

@@ -1,7 +1,7 @@
 //! The names of files.
 ghost use Rattle.std.specs.Prelude.{◌≡◌};
 ghost use Rattle.std.specs.List.{list_all};
-ghost use Rattle.tv_model.specs.Names.{begins_with_dot, is_name_byte, is_plain};
+ghost use Rattle.tv_formats.specs.Names.{begins_with_dot, is_name_byte, is_plain};
 
 // No name is longer.
 const LONGEST: usize = 255;

@@ -5,7 +5,7 @@ use crate::io::IoFault;
 use crate::versions::Incompatibility;
 use std::alloc::{AllocError, AllocFailed};
 use thiserror::Error;
-use tv_model::Memory;
+use tv_formats::Memory;
 
 /// Why a lock was not acquired. `Memory` is own, the other variants are tantivy's.
 #[derive(Debug, Drop, Error)]

@@ -3,12 +3,12 @@ ghost use Rattle.std.specs.Prelude.{◌≡◌, ◌+◌, ◌<◌, ◌++◌, ◌�
 ghost use Rattle.tv_base.specs.Streams.{Takes, TakesPart};
 ghost use Rattle.tv_base.specs.Causes.{IsDevice};
 ghost use Rattle.tv_base.specs.Texts.{counted};
-ghost use Rattle.tv_model.specs.Files.{Rose};
+ghost use Rattle.tv_formats.specs.Files.{Rose};
 
 use crate::io::{IoFault, IoKind};
 use std::alloc::Global;
 use std::marker::Model;
-use tv_model::Memory;
+use tv_formats::Memory;
 
 /// What takes bytes.
 pub trait Sink {

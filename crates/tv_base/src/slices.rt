@@ -4,7 +4,7 @@ ghost use Rattle.std.specs.Prelude.{◌≡◌, ◌-◌, ◌≤◌, [], length, t
 use bytes::Bytes;
 use std::marker::Model;
 use std::ops::Range;
-use tv_model::Memory;
+use tv_formats::Memory;
 
 /// Bytes that have several owners. A share copies none of them.
 #[derive(Drop)]

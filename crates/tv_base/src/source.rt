@@ -1,6 +1,6 @@
 //! Where a script comes from.
 ghost use Rattle.std.specs.Prelude.{◌≡◌, ◌≤◌, ◌<◌, ◌↔◌, Some, true, length, take, min, IfOk, IfErr, OnErr, IsErr};
-ghost use Rattle.tv_base.specs.Streams.{Reads, IsAtEnd, SourceView, SourceFaults};
+ghost use Rattle.tv_base.specs.Streams.{ReadsPiece, IsAtEnd, SourceView, SourceFaults};
 ghost use Rattle.tv_base.specs.Causes.{IsDevice};
 ghost use Rattle.tv_base.specs.Texts.{is_refused, after_refusal, after_read};
 
@@ -17,7 +17,7 @@ pub trait Source {
     fn read(&mut self, into: &mut [u8]) -> Result<usize, IoFault>
         ensures count { IfOk result (λ n. n ≤ length into.old) }
         ensures bytes { IfOk result
-            (λ n. Reads (take n into.new) (view self.old).left (view self.new).left) }
+            (λ n. ReadsPiece (take n into.new) (view self.old).left (view self.new).left) }
         ensures end { IfOk result
             (λ n. n ≡ 0 → 0 < length into.old → IsAtEnd (view self.old).left) }
         ensures faults { SourceFaults (view self.old) (view self.new) result };

@@ -1,9 +1,9 @@
 //! Numbers in groups of seven bits.
 ghost use Rattle.std.specs.Prelude.{◌≡◌, ◌<◌, ◌^◌, ◌++◌, List, ℕ, Some, length, take, position, IfSome, OnOk, OnErr};
-ghost use Rattle.tv_base.specs.Bytes.{is_last, of_groups};
-ghost use Rattle.tv_model.specs.VInt.{vint};
+ghost use Rattle.tv_base.specs.Bytes.{is_last_byte, of_groups};
+ghost use Rattle.tv_formats.specs.VInt.{vint};
 
-use tv_model::Memory;
+use tv_formats::Memory;
 
 // Added to the last byte of a spelling, and to no other.
 const STOP: u8 = 128;
@@ -61,7 +61,7 @@ fn put_groups(out: &mut Vec<u8>, number: u64) -> Result<(), Memory>
 
 // The place of the first byte that may be the last of a spelling.
 fn last_of(bytes: &[u8]) -> Option<usize>
-    ensures { result ≡ position is_last bytes.now }
+    ensures { result ≡ position is_last_byte bytes.now }
 {
     bytes.iter().position(|byte| *byte >= STOP)
 }

@@ -1,6 +1,6 @@
 //! Runs over a directory in memory, whose device refuses calls, of a script that comes in pieces.
 ghost use Rattle.std.specs.Prelude.{◌≡◌, None, IfOk, IfSome, true};
-ghost use Rattle.tv_model.specs.Names.{is_file_name};
+ghost use Rattle.tv_formats.specs.Names.{is_file_name};
 
 use crate::case::{Given, Locks};
 use anyhow::Context;

@@ -5,7 +5,7 @@ use Rattle.std.specs.List.{concat}
 use Rattle.std.specs.Simd.{first_chunks}
 use Rattle.std.proofs.lemmas.List.{take_more}
 use Rattle.std.proofs.lemmas.List.Folds.{concat-append}
-use Rattle.tv_model.specs.Checksum.{register_after}
+use Rattle.tv_formats.specs.Checksum.{register_after}
 use Rattle.tv_checksum.specs.Crc32.{register_with}
 use Rattle.tv_checksum.proofs.Registers.{with-append}
 

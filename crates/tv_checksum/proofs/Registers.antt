@@ -8,7 +8,7 @@ use Rattle.std.proofs.lemmas.List.{drop_all}
 use Rattle.std.proofs.lemmas.List.Sums.{fold-append}
 use Rattle.std.proofs.lemmas.Grind.{flat_map-append}
 use lib.Bits.{xor_shifted, xor_assoc, xor_zero_r, xor_add_and}
-use Rattle.tv_model.specs.Checksum.{bits, polynomial, shift_in}
+use Rattle.tv_formats.specs.Checksum.{bits, polynomial, shift_in}
 use Rattle.tv_checksum.specs.Crc32.{register_with, after_zeros}
 
 -- the middle of three

@@ -1,7 +1,7 @@
 -- What a checksum in progress has taken, and its register after more bytes.
 use Rattle.std.specs.Prelude.{ℕ, ◌≡◌, List, fold, replicate}
 use Rattle.std.specs.List.{flat_map}
-use Rattle.tv_model.specs.Checksum.{bits, shift_in, register_after}
+use Rattle.tv_formats.specs.Checksum.{bits, shift_in, register_after}
 use Rattle.tv_checksum.specs.declared.crc32.Crc32.{Crc32}
 
 -- a checksum has taken these bytes

@@ -1,7 +1,7 @@
 //! CRC-32, sixteen bytes at a time.
 ghost use Rattle.std.specs.Prelude.{◌≡◌, ◌+◌, ◌<◌, [], ◌∷◌};
 ghost use Rattle.std.specs.List.{concat};
-ghost use Rattle.tv_model.specs.Checksum.{crc32};
+ghost use Rattle.tv_formats.specs.Checksum.{crc32};
 ghost use Rattle.tv_checksum.specs.Crc32.{register_with, after_zeros};
 
 use crate::Checksum;

@@ -13,13 +13,13 @@ use Rattle.tv_base.specs.declared.open_errors.DeleteError.{DeleteError}
 use Rattle.tv_base.specs.declared.open_errors.DeleteError.TheVariants as delete
 use Rattle.tv_base.specs.declared.open_errors.OpenWriteError.{OpenWriteError}
 use Rattle.tv_base.specs.declared.open_errors.OpenWriteError.TheVariants as write
-use Rattle.tv_model.specs.Disk.{Absent, Disk, DiskState, IsThere}
-use Rattle.tv_model.specs.Files.{MaySet, Rose, Same}
-use Rattle.tv_model.specs.State.{at}
+use Rattle.tv_formats.specs.Disk.{Absent, Disk, DiskState, IsThere}
+use Rattle.tv_formats.specs.Files.{MaySet, Rose, Same}
+use Rattle.tv_formats.specs.Names.{at}
 use Rattle.tv_directory.specs.Bench.{Numbered, WritesOut, disk_in, of_io, view_in}
 use Rattle.tv_directory.specs.Calls.{IoFaults, Notes}
 use Rattle.tv_directory.specs.Device.{DeviceState, Faulted, IsSilent, after_call, after_refusal}
-use Rattle.tv_directory.specs.Device.{counted, last}
+use Rattle.tv_base.specs.Texts.{counted, last}
 use Rattle.tv_directory.specs.Images.{DeletesState, GivesState, KeepsDisk, KeepsStates, MayOpen, OpensState}
 use Rattle.tv_directory.specs.Ram.{KeepsWriters, ram_lives, ram_reads, ram_state, ram_watched}
 use Rattle.tv_directory.specs.Record.{RecordedRefused}

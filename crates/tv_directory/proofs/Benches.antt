@@ -2,7 +2,7 @@
 use Rattle.std.proofs.Common.{◌≡◌, ◌≤◌, ◌++◌, ◌∷◌, ◌∙◌, [], ℕ, List, true, sym, ap, subst, length}
 use Rattle.std.proofs.Common.{arith, if◌then◌else◌}
 use Rattle.std.proofs.lemmas.List.{length-append}
-use Rattle.tv_model.specs.Files.{Same}
+use Rattle.tv_formats.specs.Files.{Same}
 use Rattle.tv_directory.specs.Bench.{OnlyRecords, Timed, Untold, Untouched, view_in}
 use Rattle.tv_directory.specs.Device.{DeviceState, Faulted, after_call, after_fault, is_refused}
 use Rattle.tv_directory.specs.Ram.{ram_reads, ram_view}

@@ -1,11 +1,11 @@
 -- Files that are copied one after the other.
 use Rattle.std.proofs.Common.{◌≡◌, ◌≢◌, ℕ, suc, Bool, false, cond, List, [], ◌∷◌, Option, Some, None, All, refl, sym, ap, subst, ◌∙◌, is_some, option_map, arith}
-use Rattle.tv_model.specs.State.{at}
-use Rattle.tv_model.specs.Files.{Sets}
+use Rattle.tv_formats.specs.Names.{at}
+use Rattle.tv_formats.specs.Files.{Sets}
 use Rattle.tv_directory.specs.StoredFiles.{bytes_of, reads_of}
 use Rattle.tv_directory.specs.declared.files.StoredFile.{StoredFile}
 use Rattle.tv_directory.proofs.StoredFiles.{isnt_at, same_or}
-use Rattle.tv_model.proofs.Entries.{same_at}
+use Rattle.tv_formats.proofs.Entries.{same_at}
 
 -- where some files are still to be copied, every other name reads in the copy what it reads in the original
 pub record CopiesRest (all rest copy : List (List ℕ × StoredFile)) : Type 0 where

@@ -12,12 +12,11 @@ use Rattle.std.specs.List.Sorted.{IsStrictlySortedBy}
 use Rattle.std.specs.Ordering.{is_eq}
 use Rattle.std.specs.declared.cmp.Ordering.TheVariants.{Less}
 use Rattle.std.proofs.lemmas.Map.Keys.{Less-from_sorted}
-use Rattle.tv_model.specs.Disk.{Disk, DiskState, Absent, IsImage, MayRead}
-use Rattle.tv_model.specs.Disk as disk
-use Rattle.tv_model.specs.Files.{Reads, Same, Sets}
-use Rattle.tv_model.specs.Names.{byte_cmp, has, is}
-use Rattle.tv_model.specs.State.{at}
-use Rattle.tv_model.proofs.Entries.{at_itself, is_by_order, is_itself, is_text}
+use Rattle.tv_formats.specs.Disk.{Disk, DiskState, Absent, IsImage, MayRead}
+use Rattle.tv_formats.specs.Disk as disk
+use Rattle.tv_formats.specs.Files.{Reads, Same, Sets}
+use Rattle.tv_formats.specs.Names.{byte_cmp, has, is, at}
+use Rattle.tv_formats.proofs.Entries.{at_itself, is_by_order, is_itself, is_text}
 use Rattle.tv_directory.specs.declared.bench.Bench.{Bench}
 use Rattle.tv_directory.specs.declared.bench_record.Call.{Call}
 use Rattle.tv_directory.specs.declared.bench_record.Call.TheVariants.{Replaced, Refused, Told, Synced}
@@ -26,7 +25,7 @@ use Rattle.tv_directory.specs.Bench.{disk_in}
 use Rattle.tv_directory.specs.Crashes.{LeavesBy, changes, is_known, left_in, left_of, numbered}
 use Rattle.tv_directory.specs.Ram.{ram_reads, ram_states}
 use Rattle.tv_directory.specs.Record.{found_by, since_sync, states_at, stood_before}
-use Rattle.tv_directory.specs.StoredFiles.{bytes_of, is_there, state_of}
+use Rattle.tv_directory.specs.StoredFiles.{bytes_of, is_there, disk_state_of}
 
 -- where no call names it, a name stood as it stands
 stood_still : (calls : List Call) (name : List ℕ) (now : DiskState) → list_any (changes name) calls ≡ false → stood_before calls name now ≡ now
@@ -42,7 +41,7 @@ none_later calls moment name none =
     (sym (list_any-append (changes name) (take moment calls) (drop moment calls)) ∙ ap (list_any (changes name)) (take-append-drop moment calls) ∙ none)).1
 
 -- a name that reads nothing has no file
-no_file : (file : Option StoredFile) → is_some (option_map (λ file. bytes_of file.content) file) ≡ false → state_of (option_map (λ file. file.content) file) ≡ Absent
+no_file : (file : Option StoredFile) → is_some (option_map (λ file. bytes_of file.content) file) ≡ false → disk_state_of (option_map (λ file. file.content) file) ≡ Absent
 no_file None e = refl
 no_file (Some file) e = absurd (true≢false e)
 

@@ -1,8 +1,7 @@
 -- Locks whose names a map keeps.
 use Rattle.std.proofs.Common.{◌≡◌, ℕ, false, List, Some, None, ap, is_some}
 use Rattle.std.specs.BTreeMap.{is_at}
-use Rattle.tv_model.specs.Names.{byte_cmp}
-use Rattle.tv_model.specs.State.{at}
+use Rattle.tv_formats.specs.Names.{byte_cmp, at}
 use Rattle.tv_directory.specs.Locks.{TakesLock, FreesLock, held_in}
 use Rattle.tv_directory.proofs.StoredFiles.{isnt_at}
 

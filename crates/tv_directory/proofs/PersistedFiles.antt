@@ -1,9 +1,8 @@
 -- Files that are written to another directory, one after the other.
 use Rattle.std.proofs.Common.{◌≡◌, ◌≢◌, ℕ, Bool, true, false, cond, List, [], ◌∷◌, ◌++◌, Option, Some, None, refl, sym, ap, subst, ◌∙◌, append_assoc, true≢false}
 use Rattle.std.specs.BTreeMap.{is_at}
-use Rattle.tv_model.specs.Names.{byte_cmp}
-use Rattle.tv_model.specs.State.{at}
-use Rattle.tv_model.specs.Files.{Reads, Sets, Rose}
+use Rattle.tv_formats.specs.Names.{byte_cmp, at}
+use Rattle.tv_formats.specs.Files.{Reads, Sets, Rose}
 use Rattle.tv_base.specs.declared.error.TantivyError.{TantivyError}
 use Rattle.tv_directory.specs.View.{View, Told}
 use Rattle.tv_directory.specs.Persisting.{Persists, PersistCause, Refuses, StopsAt, contents}
@@ -12,7 +11,7 @@ use Rattle.tv_directory.specs.declared.files.StoredFile.{StoredFile}
 use Rattle.std.specs.Prelude.{is_some}
 use Rattle.std.proofs.lemmas.Option.{none-some}
 use Rattle.tv_directory.proofs.StoredFiles.{same_or, isnt_at}
-use Rattle.tv_model.proofs.Entries.{at_itself, same_at}
+use Rattle.tv_formats.proofs.Entries.{at_itself, same_at}
 
 -- some files are still to be written
 pub record PersistsRest (told : Type 0) (all rest : List (List ℕ × List ℕ)) (old new : Reads) : Type 0 where

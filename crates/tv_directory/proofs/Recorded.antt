@@ -7,21 +7,20 @@ use Rattle.std.proofs.lemmas.List.{take-append-le, drop-append-le, length-append
 use Rattle.std.proofs.lemmas.List.Elements.{Contains-append_left, Contains-push, Contains-push_cases}
 use Rattle.std.proofs.lemmas.List.Sums.{fold-append}
 use Rattle.std.specs.List.{Contains, flat_map}
-use Rattle.tv_model.specs.Disk.{Disk, DiskState, Absent, IsThere, Possible, possible_now, Within, SamePossible, MayAdd, IsSettled, Elapses}
-use Rattle.tv_model.specs.Names.{is}
-use Rattle.tv_model.proofs.DiskLaws.{same}
-use Rattle.tv_model.proofs.Entries.{is_itself, is_text, isnt_text}
+use Rattle.tv_formats.specs.Disk.{Disk, DiskState, Absent, IsThere, Possible, possible_now, Within, SamePossible, MayAdd, IsSettled, Elapses}
+use Rattle.tv_formats.specs.Names.{is, at}
+use Rattle.tv_formats.proofs.DiskLaws.{same}
+use Rattle.tv_formats.proofs.Entries.{is_itself, is_text, isnt_text}
 use Rattle.tv_directory.specs.declared.bench_record.Call.{Call}
 use Rattle.tv_directory.specs.declared.bench_record.Call.TheVariants.{Replaced, Refused, Told, Synced}
 use Rattle.tv_directory.specs.declared.files.Content.{Content}
 use Rattle.tv_directory.specs.declared.files.Content.TheVariants as content
 use Rattle.tv_directory.specs.declared.files.StoredFile.{StoredFile}
 use Rattle.std.specs.Prelude.{option_map}
-use Rattle.tv_model.specs.State.{at}
 use Rattle.tv_directory.specs.Images.{KeepsDisk, SetsState}
 use Rattle.tv_directory.specs.Record.{AddsAtMost, RecordState, RecordedRefused, has_line_room, and_since, disk_by, found_by, is_settled, since_sync, settled_by, states_at, stood_before}
 use Rattle.tv_directory.specs.RecordLaws.{stands_now, states_now}
-use Rattle.tv_directory.specs.StoredFiles.{StandsAs, States, bytes_of, is_made, is_number, reads_of, state_of, states_of}
+use Rattle.tv_directory.specs.StoredFiles.{StandsAs, States, bytes_of, is_made, is_number, reads_of, disk_state_of, states_of}
 
 -- A call was recorded that gave this name this state.
 pub record Recorded (old new : Disk) (name : List ℕ) (state : DiskState) : Type 0 where
@@ -39,7 +38,7 @@ by_name {P} name n same other =
 -- how a name stood before some calls and one more
 stood_then : (calls : List Call) (e : Call) (name : List ℕ) (now : DiskState) → stood_before (calls ++ e ∷ []) name now ≡ stood_before calls name (stood_before (e ∷ []) name now)
 stood_then [] e name now = refl
-stood_then (Replaced other before ∷ calls) e name now = ap (λ s. if is other name then state_of before else s) (stood_then calls e name now)
+stood_then (Replaced other before ∷ calls) e name now = ap (λ s. if is other name then disk_state_of before else s) (stood_then calls e name now)
 stood_then (Refused other before after ∷ calls) e name now = stood_then calls e name now
 stood_then (Told ∷ calls) e name now = stood_then calls e name now
 stood_then (Synced ∷ calls) e name now = stood_then calls e name now
@@ -83,7 +82,7 @@ module _ (calls : List Call) (e : Call) (old new : States) (found : (n : List �
   }
 
 -- A name was given another file.
-module _ (calls : List Call) (name : List ℕ) (before : Option Content) (old new : States) (state : DiskState) (was : state_of before ≡ old name) (stands : StandsAs old new name state) where
+module _ (calls : List Call) (name : List ℕ) (before : Option Content) (old new : States) (state : DiskState) (was : disk_state_of before ≡ old name) (stands : StandsAs old new name state) where
   abbrev call : Call
   call = Replaced name before
 
@@ -136,17 +135,17 @@ module _ (calls : List Call) (name : List ℕ) (before : Option Content) (old ne
   replaced now is = subst (λ (l : List Call). Recorded (disk_by calls old) (disk_by l new) name state) (sym is) replaced_one
 
 -- The device refused to give a name another file.
-module _ (calls : List Call) (name : List ℕ) (before after : Option Content) (old : States) (was : state_of before ≡ old name) where
+module _ (calls : List Call) (name : List ℕ) (before after : Option Content) (old : States) (was : disk_state_of before ≡ old name) where
   abbrev attempt : Call
   attempt = Refused name before after
 
-  this_too : (n : List ℕ) → is name n ≡ true → name ≡ n → states_at (calls ++ attempt ∷ []) (length (calls ++ attempt ∷ [])) n (old n) ≡ (states_at calls (length calls) n (old n) ++ state_of after ∷ []) ++ old n ∷ []
+  this_too : (n : List ℕ) → is name n ≡ true → name ≡ n → states_at (calls ++ attempt ∷ []) (length (calls ++ attempt ∷ [])) n (old n) ≡ (states_at calls (length calls) n (old n) ++ disk_state_of after ∷ []) ++ old n ∷ []
   this_too n is_it eq =
-      let b : found_by n attempt ≡ old n ∷ state_of after ∷ [] = rw is_it (ap (λ (s : DiskState). s ∷ state_of after ∷ []) (was ∙ ap old eq)) in
+      let b : found_by n attempt ≡ old n ∷ disk_state_of after ∷ [] = rw is_it (ap (λ (s : DiskState). s ∷ disk_state_of after ∷ []) (was ∙ ap old eq)) in
       more_states calls attempt n (old n) refl
       ∙ ap (λ (l : List DiskState). (flat_map (found_by n) (since_sync calls) ++ l) ++ old n ∷ []) b
-      ∙ ap (λ (l : List DiskState). l ++ old n ∷ []) (sym (append_assoc (flat_map (found_by n) (since_sync calls)) (old n ∷ []) (state_of after ∷ [])))
-      ∙ ap (λ (l : List DiskState). (l ++ state_of after ∷ []) ++ old n ∷ []) (sym (states_now calls n (old n)))
+      ∙ ap (λ (l : List DiskState). l ++ old n ∷ []) (sym (append_assoc (flat_map (found_by n) (since_sync calls)) (old n ∷ []) (disk_state_of after ∷ [])))
+      ∙ ap (λ (l : List DiskState). (l ++ disk_state_of after ∷ []) ++ old n ∷ []) (sym (states_now calls n (old n)))
 
   others_too : (n : List ℕ) → is name n ≡ false → states_at (calls ++ attempt ∷ []) (length (calls ++ attempt ∷ [])) n (old n) ≡ states_at calls (length calls) n (old n)
   others_too n isnt =
@@ -156,17 +155,17 @@ module _ (calls : List Call) (name : List ℕ) (before after : Option Content) (
       ∙ ap (λ (l : List DiskState). l ++ old n ∷ []) (append-nil (flat_map (found_by n) (since_sync calls)))
       ∙ sym (states_now calls n (old n))
 
-  refused_one : RecordedRefused (disk_by calls old) (disk_by (calls ++ attempt ∷ []) old) name (state_of after)
+  refused_one : RecordedRefused (disk_by calls old) (disk_by (calls ++ attempt ∷ []) old) name (disk_state_of after)
   refused_one = record {
     sets = record {
       now = inr refl;
       others = λ n other. refl;
       possible = record {
-        added = subst (λ (l : List DiskState). Contains l (state_of after)) (sym (this_too name (is_itself name) refl))
-            (Contains-append_left _ (old name ∷ []) (state_of after) (Contains-push (states_at calls (length calls) name (old name)) (state_of after)));
+        added = subst (λ (l : List DiskState). Contains l (disk_state_of after)) (sym (this_too name (is_itself name) refl))
+            (Contains-append_left _ (old name ∷ []) (disk_state_of after) (Contains-push (states_at calls (length calls) name (old name)) (disk_state_of after)));
         kept = record {
           each = λ n s is. by_name name n
-              (λ is_it eq. subst (λ (l : List DiskState). Contains l s) (sym (this_too n is_it eq)) (Contains-append_left _ (old n ∷ []) s (Contains-append_left _ (state_of after ∷ []) s is)))
+              (λ is_it eq. subst (λ (l : List DiskState). Contains l s) (sym (this_too n is_it eq)) (Contains-append_left _ (old n ∷ []) s (Contains-append_left _ (disk_state_of after ∷ []) s is)))
               (λ isnt other. subst (λ (l : List DiskState). Contains l s) (sym (others_too n isnt)) is);
         };
       };
@@ -175,7 +174,7 @@ module _ (calls : List Call) (name : List ℕ) (before after : Option Content) (
       no_more = record {
         each = λ n s is. by_name name n
             (λ is_it eq. ⊎_elim
-            (λ front. ⊎_elim inl (λ e. inr (sym eq, sym e)) (Contains-push_cases _ (state_of after) s front))
+            (λ front. ⊎_elim inl (λ e. inr (sym eq, sym e)) (Contains-push_cases _ (disk_state_of after) s front))
             (λ e. inl (subst (λ (t : DiskState). Contains (states_at calls (length calls) n (old n)) t) e (stands_now calls n (old n))))
             (Contains-push_cases _ (old n) s (subst (λ (l : List DiskState). Contains l s) (this_too n is_it eq) is)))
             (λ isnt other. inl (subst (λ (l : List DiskState). Contains l s) (others_too n isnt) is));
@@ -184,11 +183,11 @@ module _ (calls : List Call) (name : List ℕ) (before after : Option Content) (
     };
   }
 
-  pub refused : (now : List Call) → now ≡ calls ++ Refused name before after ∷ [] → RecordedRefused (disk_by calls old) (disk_by now old) name (state_of after)
-  refused now is = subst (λ (l : List Call). RecordedRefused (disk_by calls old) (disk_by l old) name (state_of after)) (sym is) refused_one
+  pub refused : (now : List Call) → now ≡ calls ++ Refused name before after ∷ [] → RecordedRefused (disk_by calls old) (disk_by now old) name (disk_state_of after)
+  refused now is = subst (λ (l : List Call). RecordedRefused (disk_by calls old) (disk_by l old) name (disk_state_of after)) (sym is) refused_one
 
-pub refused_by : (calls now : List Call) (old new : States) (name : List ℕ) (before after : Option Content) → new ≡ old → state_of before ≡ old name → now ≡ calls ++ Refused name before after ∷ [] → RecordedRefused (disk_by calls old) (disk_by now new) name (state_of after)
-refused_by calls now old new name before after as_before was is_now = subst (λ (s : States). RecordedRefused (disk_by calls old) (disk_by now s) name (state_of after)) (sym as_before) (refused calls name before after old was now is_now)
+pub refused_by : (calls now : List Call) (old new : States) (name : List ℕ) (before after : Option Content) → new ≡ old → disk_state_of before ≡ old name → now ≡ calls ++ Refused name before after ∷ [] → RecordedRefused (disk_by calls old) (disk_by now new) name (disk_state_of after)
+refused_by calls now old new name before after as_before was is_now = subst (λ (s : States). RecordedRefused (disk_by calls old) (disk_by now s) name (disk_state_of after)) (sym as_before) (refused calls name before after old was now is_now)
 
 -- where nothing was recorded, nothing changed
 pub unchanged : (calls : List Call) (old : States) → KeepsDisk (disk_by calls old) (disk_by calls old)
@@ -198,7 +197,7 @@ unchanged calls old = record {
 }
 
 -- A call was recorded that gave a name another file, in a directory that hadn't changed before.
-pub replaced_by : (calls now : List Call) (name : List ℕ) (before : Option Content) (old mid new : States) (state : DiskState) → mid ≡ old → state_of before ≡ old name → StandsAs mid new name state → now ≡ calls ++ Replaced name before ∷ []
+pub replaced_by : (calls now : List Call) (name : List ℕ) (before : Option Content) (old mid new : States) (state : DiskState) → mid ≡ old → disk_state_of before ≡ old name → StandsAs mid new name state → now ≡ calls ++ Replaced name before ∷ []
     → Recorded (disk_by calls old) (disk_by now new) name state
 replaced_by calls now name before old mid new state as_before was stands is_now =
     replaced calls name before old new state was (subst (λ (s : States). StandsAs s new name state) as_before stands) now is_now
@@ -286,12 +285,12 @@ room_kept old new prepared goes_on = room_by (has_line_room old) (has_line_room 
 pub kept_by : (calls now : List Call) (old mid new : States) → mid ≡ old → now ≡ calls → ((n : List ℕ) → new n ≡ mid n) → KeepsDisk (disk_by calls old) (disk_by now new)
 kept_by calls now old mid new as_before same_calls stands = kept calls now old new same_calls (λ n. stands n ∙ ap (λ (s : States). s n) as_before)
 
-content_there : (content : Content) → IsThere (state_of (Some content))
+content_there : (content : Content) → IsThere (disk_state_of (Some content))
 content_there (content.Unsealed bytes) = tt
 content_there (content.Sealed bytes) = tt
 
 -- a file that a writer made is there
-file_there : (number : ℕ) (file : Option StoredFile) → is_number number (option_map (λ file. file.number) file) ≡ true → IsThere (state_of (option_map (λ file. file.content) file))
+file_there : (number : ℕ) (file : Option StoredFile) → is_number number (option_map (λ file. file.number) file) ≡ true → IsThere (disk_state_of (option_map (λ file. file.content) file))
 file_there number None e = absurd (true≢false (sym e))
 file_there number (Some file) e = content_there file.content
 
@@ -300,7 +299,7 @@ made_there files name number is_it = file_there number (at files name) is_it
 
 -- so is one that its name reads, and a name that reads nothing has none
 file_read : (file : Option StoredFile) → IsSome (option_map (λ file. bytes_of file.content) file)
-    → IsThere (state_of (option_map (λ file. file.content) file))
+    → IsThere (disk_state_of (option_map (λ file. file.content) file))
 file_read None read = absurd (true≢false (sym read))
 file_read (Some file) read = content_there file.content
 
@@ -309,7 +308,7 @@ pub read_there : (files : List (List ℕ × StoredFile)) (name : List ℕ) → I
 read_there files name read = file_read (at files name) read
 
 file_unread : (file : Option StoredFile) → option_map (λ file. bytes_of file.content) file ≡ None
-    → state_of (option_map (λ file. file.content) file) ≡ Absent
+    → disk_state_of (option_map (λ file. file.content) file) ≡ Absent
 file_unread None none = refl
 file_unread (Some file) none = absurd cc
 

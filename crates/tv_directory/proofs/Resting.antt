@@ -1,9 +1,9 @@
 -- What a crash leaves of sealed and settled files.
 use Rattle.std.proofs.Common.{◌≡◌, ◌∙◌, ℕ, Bool, false, List, Option, None, Some, sym, subst}
 use Rattle.std.proofs.Math.Path.{fun_ext}
-use Rattle.tv_model.specs.Disk.{Disk, DiskState, Left, MayRead}
-use Rattle.tv_model.specs.Files.{Reads}
-use Rattle.tv_model.specs.Index.{IsSoundDirectory, IsSoundImage}
+use Rattle.tv_formats.specs.Disk.{Disk, DiskState, MayLeave, MayRead}
+use Rattle.tv_formats.specs.Files.{Reads}
+use Rattle.tv_formats.specs.Sound.{IsSoundDirectory, IsSoundImage}
 use Rattle.tv_directory.specs.Bench.{IsAtRest}
 use Rattle.tv_directory.specs.StoredFiles.{at_rest}
 
@@ -12,7 +12,7 @@ reads_at_rest None read is = is
 reads_at_rest (Some bytes) read is = is
 
 -- a crash leaves just these files
-pub leaves_them : (files : Reads) (disk : Disk) → IsAtRest files disk → (image : Reads) → Left disk disk.moment image → (n : List ℕ) → image n ≡ files n
+pub leaves_them : (files : Reads) (disk : Disk) → IsAtRest files disk → (image : Reads) → MayLeave disk disk.moment image → (n : List ℕ) → image n ≡ files n
 leaves_them files disk rests image left n =
     let (s, possible, reads) = left.each n in
     reads_at_rest (files n) (image n) (subst (λ (t : DiskState). MayRead t (image n)) (rests.settled.each n s possible ∙ rests.states n) reads)

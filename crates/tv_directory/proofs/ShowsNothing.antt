@@ -6,8 +6,8 @@ use Rattle.tv_base.specs.Causes.{IoCause, IsDevice}
 use Rattle.tv_base.specs.declared.io.IoError.{IoError}
 use Rattle.tv_base.specs.declared.io.IoError.TheVariants as io
 use Rattle.tv_base.specs.declared.io.IoFault.{IoFault}
-use Rattle.tv_model.specs.Files.{Rose, Same}
-use Rattle.tv_model.specs.State.{at}
+use Rattle.tv_formats.specs.Files.{Rose, Same}
+use Rattle.tv_formats.specs.Names.{at}
 use Rattle.tv_directory.specs.Calls.{Flushes, Gives, Seals}
 use Rattle.tv_directory.specs.Ram.{ram_lives, ram_reads}
 use Rattle.tv_directory.specs.StoredFiles.{bytes_of, is_number}

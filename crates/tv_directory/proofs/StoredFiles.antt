@@ -5,13 +5,12 @@ use Rattle.std.proofs.lemmas.Bool.{false_from_ne_true}
 use Rattle.std.proofs.lemmas.List.{reverse-append}
 use Rattle.std.specs.List.{AllByRecursion}
 use Rattle.std.specs.BTreeMap.{is_at}
-use Rattle.tv_model.specs.Names.{byte_cmp, is_file_name}
-use Rattle.tv_model.specs.State.{at}
-use Rattle.tv_model.specs.Disk.{Sealed}
-use Rattle.tv_model.specs.Files.{Reads, Same, Sets}
-use Rattle.tv_model.proofs.Entries.{at_itself, text_at}
+use Rattle.tv_formats.specs.Names.{byte_cmp, is_file_name, at}
+use Rattle.tv_formats.specs.Disk.{Sealed}
+use Rattle.tv_formats.specs.Files.{Reads, Same, Sets}
+use Rattle.tv_formats.proofs.Entries.{at_itself, text_at}
 use Rattle.tv_directory.specs.declared.files.StoredFile.{StoredFile}
-use Rattle.tv_directory.specs.StoredFiles.{AreSealed, StandsAs, at_rest, bytes_of, reads_of, state_of, states_of, number_at, named, last_of}
+use Rattle.tv_directory.specs.StoredFiles.{AreSealed, StandsAs, at_rest, bytes_of, reads_of, disk_state_of, states_of, number_at, named, last_of}
 
 -- another name isn't at this one's place
 pub isnt_at : (name n : List ℕ) → n ≢ name → is_at (byte_cmp name) n ≡ false
@@ -32,10 +31,10 @@ sets_to old new name file given = record {
   others = λ n other. ap (option_map (λ file. bytes_of file.content)) (given.others n other);
 }
 
-pub stands_as : (old new : List (List ℕ × StoredFile)) (name : List ℕ) (file : Option StoredFile) → Gives old new name file → StandsAs (states_of old) (states_of new) name (state_of (option_map (λ file. file.content) file))
+pub stands_as : (old new : List (List ℕ × StoredFile)) (name : List ℕ) (file : Option StoredFile) → Gives old new name file → StandsAs (states_of old) (states_of new) name (disk_state_of (option_map (λ file. file.content) file))
 stands_as old new name file given = record {
-  changed = ap (λ file. state_of (option_map (λ file. file.content) file)) given.changed;
-  others = λ n other. ap (λ file. state_of (option_map (λ file. file.content) file)) (given.others n other);
+  changed = ap (λ file. disk_state_of (option_map (λ file. file.content) file)) given.changed;
+  others = λ n other. ap (λ file. disk_state_of (option_map (λ file. file.content) file)) (given.others n other);
 }
 
 -- whether a name is this one

@@ -1,11 +1,10 @@
 -- Names that calls don't touch.
 use Rattle.std.proofs.Common.{◌≡◌, ◌++◌, ◌∷◌, ℕ, Bool, true, false, cond, List, [], Some, Result, Ok, Err, IsSome, refl, sym, subst}
 use Rattle.std.specs.BTreeMap.{is_at}
-use Rattle.tv_model.specs.Disk.{DiskState, Absent, Unsealed, Sealed, IsThere, Disk, TouchesOnly}
-use Rattle.tv_model.specs.Names.{byte_cmp}
-use Rattle.tv_model.specs.State.{at}
-use Rattle.tv_model.proofs.DiskLaws.{touches_file, touches_more, touches_none}
-use Rattle.tv_model.proofs.Entries.{at_itself}
+use Rattle.tv_formats.specs.Disk.{DiskState, Absent, Unsealed, Sealed, IsThere, Disk, TouchesOnly}
+use Rattle.tv_formats.specs.Names.{byte_cmp, at}
+use Rattle.tv_formats.proofs.DiskLaws.{touches_file, touches_more, touches_none}
+use Rattle.tv_formats.proofs.Entries.{at_itself}
 use Rattle.tv_base.specs.declared.io.IoError.{IoError}
 use Rattle.tv_base.specs.declared.io.IoError.TheVariants as io
 use Rattle.tv_base.specs.declared.open_errors.OpenWriteError.{OpenWriteError}

@@ -5,14 +5,14 @@ use Rattle.std.specs.List.{AllByRecursion, AllZip, IsDistinct}
 use Rattle.std.proofs.lemmas.Bool.{cond_both}
 use Rattle.std.proofs.lemmas.List.{map-append}
 use Rattle.tv_base.specs.declared.inventory.Entry.{Entry}
-use Rattle.tv_base.specs.Entries.{is_at, is_last, one_fewer, one_more, released}
+use Rattle.tv_base.specs.Entries.{is_numbered, is_last, one_fewer, one_more, released}
 use Rattle.tv_base.specs.Places.{change_at, take_out}
 use Rattle.tv_base.specs.PlaceLaws.{passed}
 use Rattle.tv_base.specs.Visits.{IsVisited}
 use Rattle.tv_directory.specs.declared.watch_list.Watcher.{Watcher}
 use Rattle.tv_directory.specs.declared.watch_list.Watchers.{Watchers}
 use Rattle.tv_directory.specs.Watch.{called, called_once, has_number, is_last_of, subscribed, unsubscribed, without_handle}
-use Rattle.tv_directory.specs.WatchList.{AreApart, released_by, seen, state_of}
+use Rattle.tv_directory.specs.WatchList.{AreApart, released_by, seen, watch_state_of}
 
 -- what is done to a list, and what is then seen of it
 
@@ -32,28 +32,28 @@ last_of_some : {C : Type 0} (calls_of : C → ℕ) (o : Option (Entry (Watcher C
 last_of_some calls_of None = refl
 last_of_some calls_of (Some e) = refl
 
-last_seen : {C : Type 0} (calls_of : C → ℕ) (n : ℕ) (es : List (Entry (Watcher C))) → is_last_of (find (has_number n) (map (seen calls_of) es)) ≡ is_last (find (is_at n) es)
-last_seen calls_of n es = ap is_last_of (found_in (has_number n) (seen calls_of) es) ∙ last_of_some calls_of (find (is_at n) es)
+last_seen : {C : Type 0} (calls_of : C → ℕ) (n : ℕ) (es : List (Entry (Watcher C))) → is_last_of (find (has_number n) (map (seen calls_of) es)) ≡ is_last (find (is_numbered n) es)
+last_seen calls_of n es = ap is_last_of (found_in (has_number n) (seen calls_of) es) ∙ last_of_some calls_of (find (is_numbered n) es)
 
-less_seen : {C : Type 0} (calls_of : C → ℕ) (n : ℕ) (es : List (Entry (Watcher C))) → change_at (has_number n) (λ r. record r { count = r.count - 1 }) (map (seen calls_of) es) ≡ map (seen calls_of) (change_at (is_at n) one_fewer es)
+less_seen : {C : Type 0} (calls_of : C → ℕ) (n : ℕ) (es : List (Entry (Watcher C))) → change_at (has_number n) (λ r. record r { count = r.count - 1 }) (map (seen calls_of) es) ≡ map (seen calls_of) (change_at (is_numbered n) one_fewer es)
 less_seen calls_of n es = changed_in (has_number n) (seen calls_of) one_fewer (λ r. record r { count = r.count - 1 }) (λ e. refl) es
 
 -- a handle that was given back
 released_seen : {C : Type 0} (calls_of : C → ℕ) (n : ℕ) (es : List (Entry (Watcher C))) → map (seen calls_of) (released n es) ≡ without_handle n (map (seen calls_of) es)
 released_seen calls_of n es =
     rw (last_seen calls_of n es, taken_in (has_number n) (seen calls_of) es, less_seen calls_of n es)
-    (cond_both (is_last (find (is_at n) es)) _ _ (λ l. map (seen calls_of) (released n es) ≡ l) (λ b. rw b refl) (λ b. rw b refl))
+    (cond_both (is_last (find (is_numbered n) es)) _ _ (λ l. map (seen calls_of) (released n es) ≡ l) (λ b. rw b refl) (λ b. rw b refl))
 
-pub unwatched : {C : Type 0} (calls_of : C → ℕ) (w v : Watchers C) (handle : Option ℕ) → v.list.entries ≡ released_by handle w.list.entries → v.notice ≡ w.notice → state_of calls_of v ≡ unsubscribed handle (state_of calls_of w)
+pub unwatched : {C : Type 0} (calls_of : C → ℕ) (w v : Watchers C) (handle : Option ℕ) → v.list.entries ≡ released_by handle w.list.entries → v.notice ≡ w.notice → watch_state_of calls_of v ≡ unsubscribed handle (watch_state_of calls_of w)
 unwatched calls_of w v None list notice = rw (list, notice) refl
 unwatched calls_of w v (Some n) list notice = rw (list, notice, released_seen calls_of n w.list.entries) refl
 
 -- one more who registered
-pub watched : {C : Type 0} (calls_of : C → ℕ) (w v : Watchers C) (n : ℕ) (callback : C) → v.list.entries ≡ w.list.entries ++ record { number = n; count = 1; value = record { callback = callback } } ∷ [] → v.notice ≡ w.notice → state_of calls_of v ≡ subscribed n (calls_of callback) (state_of calls_of w)
+pub watched : {C : Type 0} (calls_of : C → ℕ) (w v : Watchers C) (n : ℕ) (callback : C) → v.list.entries ≡ w.list.entries ++ record { number = n; count = 1; value = record { callback = callback } } ∷ [] → v.notice ≡ w.notice → watch_state_of calls_of v ≡ subscribed n (calls_of callback) (watch_state_of calls_of w)
 watched calls_of w v n callback list notice =
     rw (list, notice, map-append (seen calls_of) w.list.entries (record { number = n; count = 1; value = record { callback = callback } } ∷ [])) refl
 
-pub none_seen : {C : Type 0} (calls_of : C → ℕ) (n : ℕ) (es : List (Entry (Watcher C))) → find (is_at n) es ≡ None → find (has_number n) (map (seen calls_of) es) ≡ None
+pub none_seen : {C : Type 0} (calls_of : C → ℕ) (n : ℕ) (es : List (Entry (Watcher C))) → find (is_numbered n) es ≡ None → find (has_number n) (map (seen calls_of) es) ≡ None
 none_seen calls_of n es none = found_in (has_number n) (seen calls_of) es ∙ ap (option_map (seen calls_of)) none
 
 -- visits that call are seen as calls
@@ -80,7 +80,7 @@ others_fewer m p [] others = tt
 others_fewer m p (d ∷ es) others =
     cond_both (p d) es (d ∷ take_out p es) (λ l. AllByRecursion (λ y. eqb m y ≡ false) (map (λ d. d.number) l)) (λ b. others.1) (λ b. (others.0, others_fewer m p es others.1))
 
-none_of : {T : Type 0} (n : ℕ) (es : List (Entry T)) → AllByRecursion (λ y. eqb n y ≡ false) (map (λ d. d.number) es) → find (is_at n) es ≡ None
+none_of : {T : Type 0} (n : ℕ) (es : List (Entry T)) → AllByRecursion (λ y. eqb n y ≡ false) (map (λ d. d.number) es) → find (is_numbered n) es ≡ None
 none_of n [] others = refl
 none_of n (d ∷ es) others =
     let differs : eqb d.number n ≡ false = grind (arith, others.0) in
@@ -92,12 +92,12 @@ unfolding IsDistinct
 apart_none es is = rw is tt
 
 -- one more, with a number that nobody has
-pub apart_more : {T : Type 0} (n : ℕ) (es : List (Entry T)) (e : Entry T) → e.number ≡ n → find (is_at n) es ≡ None → AreApart es → AreApart (es ++ e ∷ [])
+pub apart_more : {T : Type 0} (n : ℕ) (es : List (Entry T)) (e : Entry T) → e.number ≡ n → find (is_numbered n) es ≡ None → AreApart es → AreApart (es ++ e ∷ [])
 unfolding IsDistinct
 apart_more n [] e is none apart = (tt, tt)
 apart_more n (d ∷ es) e is none apart =
-    let differs : eqb d.number n ≡ false = not_first (is_at n) d es (eqb d.number n) refl none in
-    (others_more d.number es e (rw is differs) apart.0, apart_more n es e is (passed (is_at n) d es differs none) apart.1)
+    let differs : eqb d.number n ≡ false = not_first (is_numbered n) d es (eqb d.number n) refl none in
+    (others_more d.number es e (rw is differs) apart.0, apart_more n es e is (passed (is_numbered n) d es differs none) apart.1)
 
 -- one fewer
 apart_fewer : {T : Type 0} (p : Entry T → Bool) (es : List (Entry T)) → AreApart es → AreApart (take_out p es)
@@ -119,34 +119,34 @@ visited_numbers R (e ∷ es) (f ∷ fs) so = rw so.0.same_number (ap (λ ns. e.n
 pub apart_visited : {T : Type 0} (R : T → T → Type 0) (es fs : List (Entry T)) → AllZip (IsVisited R) es fs → AreApart es → AreApart fs
 apart_visited R es fs so apart = rw (visited_numbers R es fs so) apart
 
-pub apart_shared : {T : Type 0} (n : ℕ) (es : List (Entry T)) → AreApart es → AreApart (change_at (is_at n) one_more es)
-apart_shared n es apart = rw (same_numbers (is_at n) one_more (λ e. refl) es) apart
+pub apart_shared : {T : Type 0} (n : ℕ) (es : List (Entry T)) → AreApart es → AreApart (change_at (is_numbered n) one_more es)
+apart_shared n es apart = rw (same_numbers (is_numbered n) one_more (λ e. refl) es) apart
 
 pub apart_released : {T : Type 0} (n : ℕ) (es : List (Entry T)) → AreApart es → AreApart (released n es)
 apart_released n es apart =
-    cond_both (is_last (find (is_at n) es)) (take_out (is_at n) es) (change_at (is_at n) one_fewer es) AreApart (λ b. apart_fewer (is_at n) es apart) (λ b. rw (same_numbers (is_at n) one_fewer (λ e. refl) es) apart)
+    cond_both (is_last (find (is_numbered n) es)) (take_out (is_numbered n) es) (change_at (is_numbered n) one_fewer es) AreApart (λ b. apart_fewer (is_numbered n) es apart) (λ b. rw (same_numbers (is_numbered n) one_fewer (λ e. refl) es) apart)
 
 -- where the first of a number goes, none is left
-gone_by : {T : Type 0} (n : ℕ) (d : Entry T) (es : List (Entry T)) (b : Bool) → eqb d.number n ≡ b → AreApart (d ∷ es) → find (is_at n) (take_out (is_at n) es) ≡ None → find (is_at n) (cond b es (d ∷ take_out (is_at n) es)) ≡ None
+gone_by : {T : Type 0} (n : ℕ) (d : Entry T) (es : List (Entry T)) (b : Bool) → eqb d.number n ≡ b → AreApart (d ∷ es) → find (is_numbered n) (take_out (is_numbered n) es) ≡ None → find (is_numbered n) (cond b es (d ∷ take_out (is_numbered n) es)) ≡ None
 unfolding IsDistinct
 gone_by n d es true is apart rest =
     let same : n ≡ d.number = grind (arith, is) in
     rw same (none_of d.number es apart.0)
 gone_by n d es false is apart rest = rw is rest
 
-gone : {T : Type 0} (n : ℕ) (es : List (Entry T)) → AreApart es → find (is_at n) (take_out (is_at n) es) ≡ None
+gone : {T : Type 0} (n : ℕ) (es : List (Entry T)) → AreApart es → find (is_numbered n) (take_out (is_numbered n) es) ≡ None
 unfolding IsDistinct
 gone n [] apart = refl
 gone n (d ∷ es) apart = gone_by n d es (eqb d.number n) refl apart (gone n es apart.1)
 
-pub last_gone : {T : Type 0} (n : ℕ) (es : List (Entry T)) → AreApart es → is_last (find (is_at n) es) ≡ true → find (is_at n) (released n es) ≡ None
+pub last_gone : {T : Type 0} (n : ℕ) (es : List (Entry T)) → AreApart es → is_last (find (is_numbered n) es) ≡ true → find (is_numbered n) (released n es) ≡ None
 last_gone n es apart last = rw last (gone n es apart)
 
 -- who is gone isn't visited
-pub none_visited : {T : Type 0} (R : T → T → Type 0) (n : ℕ) (es fs : List (Entry T)) → AllZip (IsVisited R) es fs → find (is_at n) es ≡ None → find (is_at n) fs ≡ None
+pub none_visited : {T : Type 0} (R : T → T → Type 0) (n : ℕ) (es fs : List (Entry T)) → AllZip (IsVisited R) es fs → find (is_numbered n) es ≡ None → find (is_numbered n) fs ≡ None
 none_visited {T} R n es fs so none =
-    let find_number : (xs : List (Entry T)) → find (λ m. eqb m n) (map (λ e. e.number) xs) ≡ option_map (λ e. e.number) (find (is_at n) xs) = found_in (λ m. eqb m n) (λ e. e.number) in
-    nothing_of (find (is_at n) fs) (sym (find_number fs) ∙ ap (find (λ m. eqb m n)) (visited_numbers R es fs so) ∙ find_number es ∙ ap (option_map (λ e. e.number)) none)
+    let find_number : (xs : List (Entry T)) → find (λ m. eqb m n) (map (λ e. e.number) xs) ≡ option_map (λ e. e.number) (find (is_numbered n) xs) = found_in (λ m. eqb m n) (λ e. e.number) in
+    nothing_of (find (is_numbered n) fs) (sym (find_number fs) ∙ ap (find (λ m. eqb m n)) (visited_numbers R es fs so) ∙ find_number es ∙ ap (option_map (λ e. e.number)) none)
   where
     nothing_of : (o : Option (Entry T)) → option_map (λ e. e.number) o ≡ None → o ≡ None
     nothing_of None is = refl

@@ -1,8 +1,8 @@
 -- A directory in memory that fails, and is told lines.
 use Rattle.std.specs.Prelude.{ℕ, ◌≡◌, [], false, List, Result, length, OnOk, IfErr, if◌then◌else◌}
-use Rattle.tv_model.specs.Disk.{Disk, IsSettled}
-use Rattle.tv_model.specs.Files.{Reads, Same}
-use Rattle.tv_model.specs.Index.{IsSoundDirectory, IsSoundImage}
+use Rattle.tv_formats.specs.Disk.{Disk, IsSettled}
+use Rattle.tv_formats.specs.Files.{Reads, Same}
+use Rattle.tv_formats.specs.Sound.{IsSoundDirectory, IsSoundImage}
 use Rattle.tv_base.specs.Causes.{IsDevice, IoCause, DeleteCause}
 use Rattle.tv_base.specs.declared.io.IoError.{IoError}
 use Rattle.tv_base.specs.declared.io.IoFault.{IoFault}
@@ -38,7 +38,8 @@ pub record IsAtRest (files : Reads) (disk : Disk) : Type 0 where
 
 -- where these files are sound, so is the directory: each image that a crash may leave is, and no lock is held
 abbrev pub IsSoundWhere : Reads → Disk → Locks → Type 0
-IsSoundWhere files disk locks = (schema : List ℕ) → IsSoundImage schema files → IsSoundDirectory schema disk locks
+IsSoundWhere files disk locks =
+    (schema : List ℕ) → IsSoundImage schema files → IsSoundDirectory schema disk locks
 
 -- the device of a bench: which calls it refuses, and how many there were
 abbrev pub device_in : {C : Type 0} → Bench C → DeviceState
@@ -58,7 +59,8 @@ pub record IsNewBench {W : Type 0} (files : Reads) (view : View W) : Type 0 wher
 
 -- nothing changed but the device, and how much can be recorded without memory
 abbrev pub Untouched : {C : Type 0} → Bench C → Bench C → Type 0
-Untouched old new = new ≡ record old { device = new.device; recorded = record old.recorded { free = new.recorded.free } }
+Untouched old new =
+    new ≡ record old { device = new.device; recorded = record old.recorded { free = new.recorded.free } }
 
 -- nothing changed but the device and what was recorded
 abbrev pub Timed : {C : Type 0} → Bench C → Bench C → Type 0
@@ -74,7 +76,8 @@ OnlyTold old new = new ≡ record old { device = new.device; recorded = new.reco
 
 -- nothing changed but the room for a line, and for recording it
 abbrev pub OnlyRoom : {C : Type 0} → Bench C → Bench C → Type 0
-OnlyRoom old new = new ≡ record old { told = new.told; recorded = record old.recorded { free = new.recorded.free } }
+OnlyRoom old new =
+    new ≡ record old { told = new.told; recorded = record old.recorded { free = new.recorded.free } }
 
 -- nothing changed but what was recorded
 abbrev pub OnlyRecords : {C : Type 0} → Bench C → Bench C → Type 0
@@ -86,31 +89,40 @@ Below keeps old new = (new ≡ record old { ram = new.ram }) × keeps old.ram ne
 
 -- nothing changed but the device, which took the call's number, and the files, locks and watchers as the
 -- directory below says
-abbrev pub NumberedBelow : {C : Type 0} → (RamDirectory C → RamDirectory C → Type 0) → Bench C → Bench C → Type 0
-NumberedBelow keeps old new = (new ≡ record old { device = new.device; ram = new.ram }) × keeps old.ram new.ram
+abbrev pub NumberedBelow : {C : Type 0} → (RamDirectory C → RamDirectory C → Type 0)
+    → Bench C → Bench C → Type 0
+NumberedBelow keeps old new =
+    (new ≡ record old { device = new.device; ram = new.ram }) × keeps old.ram new.ram
 
--- A write shows nothing before the flush: nothing changed but the device, and of the writer nothing but what was written.
+-- A write shows nothing before the flush: nothing changed but the device, and of the writer nothing but what
+-- was written.
 abbrev pub ShowsNothing : {C : Type 0} → (before after : RamWriter) → Bench C → Bench C → Type 0
 ShowsNothing before after old new = Untouched old new × SameFile before after
 
--- A call on this writer: nothing was told, and nothing changed but the device where its name was deleted. The writers are as before.
+-- A call on this writer: nothing was told, and nothing changed but the device where its name was deleted. The
+-- writers are as before.
 pub record WritesOut {C : Type 0} (writer : RamWriter) (old new : Bench C) : Type 0 where
   pub untold : Untold old new
   pub writers : KeepsWriters writer old.ram new.ram
   pub gone : ram_lives old.ram writer ≡ false → Untouched old new
 
--- A call takes its number, and is refused exactly where that one is listed: then it is counted as a fault, and nothing changes but what was recorded. It changes no more
--- than `keeps` says.
-pub record Numbered {A C E : Type 0} (keeps : Bench C → Bench C → Type 0) (why : (passed refused quiet : Type 0) → E → Type 0) (old new : Bench C) (result : Result A E) : Type 0 where
+-- A call takes its number, and is refused exactly where that one is listed: then it is counted as a fault,
+-- and nothing changes but what was recorded. It changes no more than `keeps` says.
+pub record Numbered {A C E : Type 0} (keeps : Bench C → Bench C → Type 0)
+    (why : (passed refused quiet : Type 0) → E → Type 0) (old new : Bench C)
+    (result : Result A E) : Type 0 where
   pub passed : OnOk result (Passed old.device new.device)
-  pub cause : IfErr result (why (Untouched old new × Passed old.device new.device) (Timed old new × Faulted old.device new.device) (new.device ≡ after_call old.device))
+  pub cause : IfErr result (why (Untouched old new × Passed old.device new.device)
+      (Timed old new × Faulted old.device new.device) (new.device ≡ after_call old.device))
   pub kept : keeps old new
 
 -- A delete takes its number, and is refused exactly where that one is listed: then it is counted as a
 -- refusal, and nothing else changes.
-pub record NumberedDelete {A C : Type 0} (old new : Bench C) (name : List ℕ) (result : Result A DeleteError) : Type 0 where
+pub record NumberedDelete {A C : Type 0} (old new : Bench C) (name : List ℕ)
+    (result : Result A DeleteError) : Type 0 where
   pub passed : OnOk result (Passed old.device new.device)
-  pub cause : IfErr result (DeleteCause name (Passed old.device new.device) (Untouched old new × Refused old.device new.device) (new.device ≡ after_call old.device))
+  pub cause : IfErr result (DeleteCause name (Passed old.device new.device)
+      (Untouched old new × Refused old.device new.device) (new.device ≡ after_call old.device))
   pub kept : Untold old new
 
 -- why a call gives an error: the device refused it, or memory was wanted

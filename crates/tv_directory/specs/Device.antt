@@ -1,23 +1,17 @@
 -- The device of a directory in memory.
-use Rattle.std.specs.Prelude.{ℕ, ◌≡◌, ◌≤◌, ◌+◌, ◌==◌, ◌&&◌, Bool, true, false, nat_lt, List, [], min, string_bytes}
+use Rattle.std.specs.Prelude.{ℕ, ◌≡◌, ◌≤◌, ◌+◌, ◌==◌, ◌&&◌, Bool, true, false, nat_lt, List, [], string_bytes}
 use Rattle.std.specs.List.{list_any}
 use Rattle.tv_base.specs.declared.io.IoFault.{IoFault}
 use Rattle.tv_base.specs.Causes.{IsDevice}
+use Rattle.tv_base.specs.Texts.{counted, last}
 
--- the numbers of the calls that are refused, the number of the next call, and how many calls and how many deletes were refused
+-- the numbers of the calls that are refused, the number of the next call, and how many calls and how many
+-- deletes were refused
 pub record DeviceState : Type 0 where
   pub fail_at : List ℕ
   pub call : ℕ
   pub faults : ℕ
   pub refusals : ℕ
-
--- the largest number of 64 bits, at which numbers and counts stop
-abbrev pub last : ℕ
-last = 18446744073709551615
-
--- one more, as far as that
-abbrev pub counted : ℕ → ℕ
-counted n = min (n + 1) last
 
 -- the next call is refused: its number is in the list, and it isn't the last one
 abbrev pub is_refused : DeviceState → Bool

@@ -1,6 +1,6 @@
 -- A writer that holds its directory.
 use Rattle.std.specs.Prelude.{◌≡◌, Bool, true, false, not, List, ℕ, [], Option, Some, None, IsSome, Result, IfErr}
-use Rattle.tv_model.specs.Files.{KeepsOthers, MaySet, Same, Sets}
+use Rattle.tv_formats.specs.Files.{KeepsOthers, MaySet, Same, Sets}
 use Rattle.tv_base.specs.Causes.{IoCause}
 use Rattle.tv_base.specs.Writers.{WriterView}
 use Rattle.tv_base.specs.declared.io.IoError.{IoError}
@@ -54,18 +54,25 @@ pub record HeldStays {D W C : Type 0} (g : Ghosts D W C) (old new : DirWriter D 
 
 -- the file is still there, unless its name was deleted before
 abbrev pub IsStillThere : {D W C : Type 0} → Ghosts D W C → DirWriter D W C → DirWriter D W C → Type 0
-IsStillThere g old new = g.told.content → held_lives g old ≡ true → IsSome ((held_view g new).reads (held_name g old))
+IsStillThere g old new =
+    g.told.content → held_lives g old ≡ true → IsSome ((held_view g new).reads (held_name g old))
 
 -- the file reads these bytes, unless its name was deleted before
 abbrev pub Reaches : {D W C : Type 0} → Ghosts D W C → DirWriter D W C → DirWriter D W C → List ℕ → Type 0
-Reaches g old new bytes = g.told.content → held_lives g old ≡ true → Sets (held_view g old).reads (held_view g new).reads (held_name g old) (Some bytes)
+Reaches g old new bytes =
+    g.told.content → held_lives g old ≡ true
+    → Sets (held_view g old).reads (held_view g new).reads (held_name g old) (Some bytes)
 
 -- where memory was wanted, each name reads what it read
-abbrev pub HeldFilesStay : {D W C A : Type 0} → Ghosts D W C → DirWriter D W C → DirWriter D W C → Result A IoError → Type 0
-HeldFilesStay g old new result = g.told.content → IfErr result (IoCause (Unit {0}) (Same (held_view g old).reads (held_view g new).reads))
+abbrev pub HeldFilesStay : {D W C A : Type 0} → Ghosts D W C → DirWriter D W C → DirWriter D W C
+    → Result A IoError → Type 0
+HeldFilesStay g old new result =
+    g.told.content → IfErr result (IoCause (Unit {0}) (Same (held_view g old).reads (held_view g new).reads))
 
--- Where the device refused to seal the file, that reads all that was written or what it read, and every other name what it read; where memory was wanted, each name
--- reads what it read.
-abbrev pub MayReach : {D W C A : Type 0} → Ghosts D W C → DirWriter D W C → DirWriter D W C → Result A IoError → Type 0
+-- Where the device refused to seal the file, that reads all that was written or what it read, and every other
+-- name what it read; where memory was wanted, each name reads what it read.
+abbrev pub MayReach : {D W C A : Type 0} → Ghosts D W C → DirWriter D W C → DirWriter D W C
+    → Result A IoError → Type 0
 MayReach g old new result =
-    g.told.content → IfErr result (IoCause (MaySet (held_view g old).reads (held_view g new).reads (held_name g old) (Some (held_bytes g old))) (Same (held_view g old).reads (held_view g new).reads))
+    g.told.content → IfErr result (IoCause (MaySet (held_view g old).reads (held_view g new).reads
+    (held_name g old) (Some (held_bytes g old))) (Same (held_view g old).reads (held_view g new).reads))

@@ -3,7 +3,7 @@ use Rattle.std.specs.Prelude.{◌≡◌, ◌≢◌, ℕ, Bool, true, false, List
 use Rattle.tv_base.specs.Causes.{IsDevice}
 use Rattle.tv_base.specs.declared.open_errors.LockError.{LockError}
 use Rattle.tv_base.specs.declared.open_errors.LockError.TheVariants as lock
-use Rattle.tv_model.specs.State.{at}
+use Rattle.tv_formats.specs.Names.{at}
 
 -- whether the lock of each name is held
 abbrev pub Locks : Type 0
@@ -24,7 +24,8 @@ pub record FreesLock (old new : Locks) (name : List ℕ) : Type 0 where
   pub is_free : new name ≡ false
   pub others : (n : List ℕ) → n ≢ name → new n ≡ old n
 
--- What is true of each answer of a call that takes a lock: `busy` where it isn't given, `refused` where the device refused the call, `quiet` where memory was wanted.
+-- What is true of each answer of a call that takes a lock: `busy` where it isn't given, `refused` where the
+-- device refused the call, `quiet` where memory was wanted.
 abbrev pub LockCause : (busy refused quiet : Type 0) → LockError → Type 0
 LockCause busy refused quiet lock.LockBusy = busy
 LockCause busy refused quiet (lock.IoError fault) = IsDevice fault × refused

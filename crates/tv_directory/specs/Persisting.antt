@@ -5,8 +5,8 @@ use Rattle.tv_base.specs.declared.error.TantivyError.{TantivyError}
 use Rattle.tv_base.specs.declared.error.TantivyError.TheVariants as error
 use Rattle.tv_base.specs.declared.open_errors.OpenWriteError.{OpenWriteError}
 use Rattle.tv_base.specs.declared.open_errors.OpenWriteError.TheVariants as write
-use Rattle.tv_model.specs.State.{at}
-use Rattle.tv_model.specs.Files.{Reads, Same, Sets, KeepsOthers, Rose}
+use Rattle.tv_formats.specs.Names.{at}
+use Rattle.tv_formats.specs.Files.{Reads, Same, Sets, KeepsOthers, Rose}
 use Rattle.tv_directory.specs.StoredFiles.{bytes_of}
 use Rattle.tv_directory.specs.View.{View, Told}
 use Rattle.tv_directory.specs.declared.files.StoredFile.{StoredFile}
@@ -26,19 +26,20 @@ pub record Persists (files : List (List ℕ × List ℕ)) (old new : Reads) : Ty
   pub others : (n : List ℕ) → at files n ≡ None → new n ≡ old n
 
 -- the name was there already
-pub record IsThere (new tried : Reads) (name : List ℕ) : Type 0 where
+pub record WasThere (new tried : Reads) (name : List ℕ) : Type 0 where
   pub there : IsSome (tried name)
   pub same : Same tried new
 
 -- the name may read anything
-abbrev pub MayRead : Reads → Reads → List ℕ → Type 0
-MayRead new tried name = KeepsOthers tried new name
+abbrev pub MayReadAnything : Reads → Reads → List ℕ → Type 0
+MayReadAnything new tried name = KeepsOthers tried new name
 
--- What is true of each answer for a file of this name, which the errors name: `there` where it is there already, `refused` where the device refused a call, `quiet`
--- where memory was wanted.
+-- What is true of each answer for a file of this name, which the errors name: `there` where it is there
+-- already, `refused` where the device refused a call, `quiet` where memory was wanted.
 abbrev pub of_open_write : (name : List ℕ) (there refused : Type 0) → OpenWriteError → Type 0
 of_open_write name there refused (write.FileAlreadyExists path) = (string_bytes path ≡ name) × there
-of_open_write name there refused (write.IoError fault path) = (string_bytes path ≡ name) × IsDevice fault × refused
+of_open_write name there refused (write.IoError fault path) =
+    (string_bytes path ≡ name) × IsDevice fault × refused
 of_open_write name there refused (write.Leaving path) = ⊥
 of_open_write name there refused write.Memory = ⊥
 
@@ -50,22 +51,28 @@ PersistCause name there refused quiet error.Memory = quiet
 PersistCause name there refused quiet e = ⊥
 
 -- the file that couldn't be written, of which is said what was read before it was tried
-pub record Refuses {W : Type 0} (told : Told) (old new : View W) (tried : Reads) (name : List ℕ) (error : TantivyError) : Type 0 where
-  pub cause : PersistCause name (new.faults ≡ old.faults) (Rose old.faults new.faults) (new.faults ≡ old.faults) error
-  pub left : told.content → PersistCause name (IsThere new.reads tried name) (MayRead new.reads tried name) (MayRead new.reads tried name) error
+pub record Refuses {W : Type 0} (told : Told) (old new : View W) (tried : Reads) (name : List ℕ)
+    (error : TantivyError) : Type 0 where
+  pub cause :
+      PersistCause name (new.faults ≡ old.faults) (Rose old.faults new.faults) (new.faults ≡ old.faults) error
+  pub left : told.content → PersistCause name (WasThere new.reads tried name)
+      (MayReadAnything new.reads tried name) (MayReadAnything new.reads tried name) error
 
 -- one file is written: its name wasn't there
-pub record PersistsFile {A W : Type 0} (told : Told) (old new : View W) (name bytes : List ℕ) (result : Result A TantivyError) : Type 0 where
+pub record PersistsFile {A W : Type 0} (told : Told) (old new : View W) (name bytes : List ℕ)
+    (result : Result A TantivyError) : Type 0 where
   pub absent : told.content → OnOk result (old.reads name ≡ None)
   pub ok : told.content → OnOk result (Sets old.reads new.reads name (Some bytes))
 
 -- why one file isn't written to the destination
-pub record FileFaults {A W : Type 0} (told : Told) (old new : View W) (name : List ℕ) (result : Result A TantivyError) : Type 0 where
+pub record FileFaults {A W : Type 0} (told : Told) (old new : View W) (name : List ℕ)
+    (result : Result A TantivyError) : Type 0 where
   pub quiet : OnOk result (new.faults ≡ old.faults)
   pub cause : IfErr result (Refuses told old new old.reads name)
 
 -- those before one of the files are written, and it stopped there
-pub record StopsAt {W : Type 0} (told : Told) (old new : View W) (files : List (List ℕ × List ℕ)) (error : TantivyError) : Type 0 where
+pub record StopsAt {W : Type 0} (told : Told) (old new : View W) (files : List (List ℕ × List ℕ))
+    (error : TantivyError) : Type 0 where
   pub before : List (List ℕ × List ℕ)
   pub name : List ℕ
   pub bytes : List ℕ
@@ -76,6 +83,7 @@ pub record StopsAt {W : Type 0} (told : Told) (old new : View W) (files : List (
   pub refused : Refuses told old new tried name error
 
 -- At Ok the count of faults stands still. At an error it stopped at one of the files.
-pub record PersistFaults {A W : Type 0} (told : Told) (old new : View W) (files : List (List ℕ × List ℕ)) (result : Result A TantivyError) : Type 0 where
+pub record PersistFaults {A W : Type 0} (told : Told) (old new : View W) (files : List (List ℕ × List ℕ))
+    (result : Result A TantivyError) : Type 0 where
   pub quiet : OnOk result (new.faults ≡ old.faults)
   pub cause : IfErr result (StopsAt told old new files)

@@ -1,14 +1,14 @@
 -- A directory in memory.
 use Rattle.std.specs.Prelude.{ℕ, List, [], ◌≡◌, ◌-◌, Bool, Result, IfErr, false, nat_lt}
-use Rattle.tv_model.specs.Disk.{Unsealed}
-use Rattle.tv_model.specs.Files.{Reads, Same}
+use Rattle.tv_formats.specs.Disk.{Unsealed}
+use Rattle.tv_formats.specs.Files.{Reads, Same}
 use Rattle.tv_base.specs.Causes.{OpenWriteCause}
 use Rattle.tv_base.specs.declared.open_errors.OpenWriteError.{OpenWriteError}
 use Rattle.tv_directory.specs.Locks.{Locks, held_in}
 use Rattle.tv_directory.specs.StoredFiles.{PutsState, States, reads_of, states_of, is_made}
 use Rattle.tv_directory.specs.View.{View, WriterState}
 use Rattle.tv_directory.specs.Watch.{WatchState}
-use Rattle.tv_directory.specs.WatchList.{state_of}
+use Rattle.tv_directory.specs.WatchList.{watch_state_of}
 use Rattle.tv_directory.specs.declared.ram_directory.RamDirectory.{RamDirectory}
 use Rattle.tv_directory.specs.declared.ram_directory.RamWriter.{RamWriter}
 
@@ -34,7 +34,7 @@ ram_locks ram = held_in ram.held.entries
 
 -- who is registered, and whether a notice stands
 abbrev pub ram_watched : {C : Type 0} → (C → ℕ) → RamDirectory C → WatchState
-ram_watched calls ram = state_of calls ram.watchers
+ram_watched calls ram = watch_state_of calls ram.watchers
 
 -- all that is said of it: it has no device and no clock, and is told nothing
 abbrev pub ram_view : {C : Type 0} → (C → ℕ) → RamDirectory C → View RamWriter
@@ -65,7 +65,8 @@ OnlyFiles old new = new ≡ record old { files = new.files }
 
 -- nothing changed but the files and whether a notice stands
 abbrev pub OnlyNoted : {C : Type 0} → RamDirectory C → RamDirectory C → Type 0
-OnlyNoted old new = new ≡ record old { files = new.files; watchers = record old.watchers { notice = new.watchers.notice } }
+OnlyNoted old new =
+    new ≡ record old { files = new.files; watchers = record old.watchers { notice = new.watchers.notice } }
 
 -- nothing changed but which locks are held
 abbrev pub OnlyHeld : {C : Type 0} → RamDirectory C → RamDirectory C → Type 0
@@ -75,17 +76,19 @@ OnlyHeld old new = new ≡ record old { held = new.held }
 abbrev pub OnlyWatchers : {C : Type 0} → RamDirectory C → RamDirectory C → Type 0
 OnlyWatchers old new = new ≡ record old { watchers = new.watchers }
 
--- A call on this writer: nothing changed but the files, and nothing at all where its name was deleted. The same writers may be handed in, and each has its file or
--- lost it as before, also those that were never opened here.
+-- A call on this writer: nothing changed but the files, and nothing at all where its name was deleted. The
+-- same writers may be handed in, and each has its file or lost it as before, also those that were never
+-- opened here.
 pub record KeepsWriters {C : Type 0} (writer : RamWriter) (old new : RamDirectory C) : Type 0 where
   pub others : OnlyFiles old new
   pub opened : (w : RamWriter) → ram_opened new w ≡ ram_opened old w
   pub lives : (w : RamWriter) → ram_lives new w ≡ ram_lives old w
   pub gone : ram_lives old writer ≡ false → new ≡ old
 
--- A call that makes an empty file, where there was none: nothing changed but the files, and of these at most that of this name; nothing at all where it was there and
--- the call says so.
-pub record MakesRamFile {A C : Type 0} (old new : RamDirectory C) (name : List ℕ) (result : Result A OpenWriteError) : Type 0 where
+-- A call that makes an empty file, where there was none: nothing changed but the files, and of these at most
+-- that of this name; nothing at all where it was there and the call says so.
+pub record MakesRamFile {A C : Type 0} (old new : RamDirectory C) (name : List ℕ)
+    (result : Result A OpenWriteError) : Type 0 where
   pub states : PutsState (ram_states old) (ram_states new) name Unsealed result
   pub there : IfErr result (OpenWriteCause name (new ≡ old) ⊥ (Unit {0}))
   pub others : OnlyFiles old new

@@ -1,10 +1,10 @@
 -- What a directory in memory records of its calls, and what a crash may leave by that.
 use Rattle.std.specs.Prelude.{ℕ, ◌++◌, ◌∷◌, Bool, true, false, List, [], drop, length, nat_eq, nat_le, take, if◌then◌else◌}
 use Rattle.std.specs.List.{Contains, flat_map, fold}
-use Rattle.tv_model.specs.Disk.{Disk, DiskState, Unsealed, MayAdd, Elapses, possible_now}
-use Rattle.tv_model.specs.Names.{is}
+use Rattle.tv_formats.specs.Disk.{Disk, DiskState, Unsealed, MayAdd, Elapses, possible_now}
+use Rattle.tv_formats.specs.Names.{is}
 use Rattle.tv_directory.specs.Images.{MayOpen, MaySetState}
-use Rattle.tv_directory.specs.StoredFiles.{States, state_of}
+use Rattle.tv_directory.specs.StoredFiles.{States, disk_state_of}
 use Rattle.tv_directory.specs.declared.bench_record.Call.{Call}
 use Rattle.tv_directory.specs.declared.bench_record.Call.TheVariants.{Replaced, Refused, Told, Synced}
 
@@ -37,23 +37,28 @@ is_settled calls = nat_eq (length (since_sync calls)) 0
 
 -- how a call found this name; and, where the device refused the call, how it may have left it
 abbrev pub found_by : List ℕ → Call → List DiskState
-found_by name (Replaced other before) = if is other name then state_of before ∷ [] else []
-found_by name (Refused other before after) = if is other name then state_of before ∷ state_of after ∷ [] else []
+found_by name (Replaced other before) = if is other name then disk_state_of before ∷ [] else []
+found_by name (Refused other before after) =
+    if is other name then disk_state_of before ∷ disk_state_of after ∷ [] else []
 found_by name Told = []
 found_by name Synced = []
 
--- how a name stood before these calls, after which it stands so: as the first of them found it that gave it another file
+-- how a name stood before these calls, after which it stands so: as the first of them found it that gave it
+-- another file
 abbrev pub stood_before : List Call → List ℕ → DiskState → DiskState
 stood_before [] name now = now
-stood_before (Replaced other before ∷ calls) name now = if is other name then state_of before else stood_before calls name now
+stood_before (Replaced other before ∷ calls) name now =
+    if is other name then disk_state_of before else stood_before calls name now
 stood_before (Refused other before after ∷ calls) name now = stood_before calls name now
 stood_before (Told ∷ calls) name now = stood_before calls name now
 stood_before (Synced ∷ calls) name now = stood_before calls name now
 
--- The states in which a crash at this moment may leave a name that stands so now, the oldest first: each in which a call since the last sync found it or may have
--- left it, and the one in which it was then.
+-- The states in which a crash at this moment may leave a name that stands so now, the oldest first: each in
+-- which a call since the last sync found it or may have left it, and the one in which it was then.
 abbrev pub states_at : List Call → ℕ → List ℕ → DiskState → List DiskState
-states_at calls moment name now = flat_map (found_by name) (since_sync (take moment calls)) ++ stood_before (drop moment calls) name now ∷ []
+states_at calls moment name now =
+    flat_map (found_by name) (since_sync (take moment calls))
+    ++ stood_before (drop moment calls) name now ∷ []
 
 -- what is said of the disk of a directory that recorded these calls, and in which each name stands so
 abbrev pub disk_by : List Call → States → Disk

@@ -1,9 +1,9 @@
 -- The files of a directory in memory.
 use Rattle.std.specs.Prelude.{ℕ, ◌≡◌, ◌≢◌, ◌==◌, Bool, false, List, Option, Some, None, Result, OnOk, OnErr, String, Vec, length, map, reverse, sum, is_some, option_map, string_bytes}
-use Rattle.tv_model.specs.State.{at}
-use Rattle.tv_model.specs.Files.{Reads, Sets}
-use Rattle.tv_model.specs.Disk.{DiskState, Absent}
-use Rattle.tv_model.specs.Disk as disk
+use Rattle.tv_formats.specs.Names.{at}
+use Rattle.tv_formats.specs.Files.{Reads, Sets}
+use Rattle.tv_formats.specs.Disk.{DiskState, Absent}
+use Rattle.tv_formats.specs.Disk as disk
 use Rattle.tv_directory.specs.declared.files.StoredFile.{StoredFile}
 use Rattle.tv_directory.specs.declared.files.Files.{Files}
 use Rattle.tv_directory.specs.declared.files.Content.{Content}
@@ -19,10 +19,10 @@ abbrev pub reads_of : List (List ℕ × StoredFile) → Reads
 reads_of files name = option_map (λ file. bytes_of file.content) (at files name)
 
 -- how a name stands on the disk that has this content, or no file
-abbrev pub state_of : Option Content → DiskState
-state_of None = Absent
-state_of (Some (Unsealed bytes)) = disk.Unsealed
-state_of (Some (Sealed bytes)) = disk.Sealed bytes
+abbrev pub disk_state_of : Option Content → DiskState
+disk_state_of None = Absent
+disk_state_of (Some (Unsealed bytes)) = disk.Unsealed
+disk_state_of (Some (Sealed bytes)) = disk.Sealed bytes
 
 -- how each name stands
 abbrev pub States : Type 0
@@ -30,7 +30,7 @@ States = List ℕ → DiskState
 
 -- how each name stands among these files
 abbrev pub states_of : List (List ℕ × StoredFile) → States
-states_of files name = state_of (option_map (λ file. file.content) (at files name))
+states_of files name = disk_state_of (option_map (λ file. file.content) (at files name))
 
 -- how a name stands that has a sealed file of these bytes, or none
 abbrev pub at_rest : Option (List ℕ) → DiskState
@@ -48,7 +48,8 @@ pub record StandsAs (old new : States) (name : List ℕ) (state : DiskState) : T
 
 -- At Ok a call left this name in this state, and every other one as it stood; after an error each name
 -- stands as it stood.
-pub record PutsState {A E : Type 0} (old new : States) (name : List ℕ) (state : DiskState) (result : Result A E) : Type 0 where
+pub record PutsState {A E : Type 0} (old new : States) (name : List ℕ) (state : DiskState)
+    (result : Result A E) : Type 0 where
   pub ok : OnOk result (StandsAs old new name state)
   pub err : OnErr result ((n : List ℕ) → new n ≡ old n)
 
@@ -70,17 +71,22 @@ abbrev pub is_made : List (List ℕ × StoredFile) → List ℕ → ℕ → Bool
 is_made files name number = is_number number (number_at files name)
 
 -- A name was given this file, and no other name another one. After an error nothing changed.
-pub record PutsFile {A E : Type 0} (old new : List (List ℕ × StoredFile)) (name : List ℕ) (file : StoredFile) (result : Result A E) : Type 0 where
+pub record PutsFile {A E : Type 0} (old new : List (List ℕ × StoredFile)) (name : List ℕ) (file : StoredFile)
+    (result : Result A E) : Type 0 where
   pub ok : OnOk result (Sets (reads_of old) (reads_of new) name (Some (bytes_of file.content)))
-  pub state : OnOk result (StandsAs (states_of old) (states_of new) name (state_of (Some file.content)))
+  pub state : OnOk result (StandsAs (states_of old) (states_of new) name (disk_state_of (Some file.content)))
   pub number : OnOk result (number_at new name ≡ Some file.number)
   pub numbers : OnOk result ((n : List ℕ) → n ≢ name → number_at new n ≡ number_at old n)
   pub err : OnErr result (new ≡ old)
 
--- The file of this name was given another content, and all files keep their numbers. After an error nothing changed.
-pub record ReplacesFile {A E : Type 0} (old new : Files) (name : List ℕ) (content : Content) (result : Result A E) : Type 0 where
-  pub ok : OnOk result (Sets (reads_of old.map.entries) (reads_of new.map.entries) name (Some (bytes_of content)))
-  pub state : OnOk result (StandsAs (states_of old.map.entries) (states_of new.map.entries) name (state_of (Some content)))
+-- The file of this name was given another content, and all files keep their numbers. After an error nothing
+-- changed.
+pub record ReplacesFile {A E : Type 0} (old new : Files) (name : List ℕ) (content : Content)
+    (result : Result A E) : Type 0 where
+  pub ok :
+      OnOk result (Sets (reads_of old.map.entries) (reads_of new.map.entries) name (Some (bytes_of content)))
+  pub state : OnOk result (StandsAs (states_of old.map.entries) (states_of new.map.entries) name
+      (disk_state_of (Some content)))
   pub numbers : (n : List ℕ) → number_at new.map.entries n ≡ number_at old.map.entries n
   pub last : new.last ≡ old.last
   pub err : OnErr result (new.map.entries ≡ old.map.entries)

@@ -1,12 +1,13 @@
 -- What is heard, and the room for it.
 use Rattle.std.specs.Prelude.{ℕ, ◌≡◌, ◌<◌, ◌≤◌, Result, OnOk, ◌⊎◌, List, [], ◌∷◌, ◌++◌, drop, flat_map, nat_lt, take, if◌then◌else◌}
 use Rattle.std.specs.List.{sum_by}
-use Rattle.tv_model.specs.Files.{Heard}
+use Rattle.tv_formats.specs.Files.{Heard}
 
 -- Of a line whose telling was refused nothing was told, or a first part without its line feed.
 abbrev pub TellsPart : Heard → Heard → ℕ → List ℕ → Type 0
 TellsPart before now moment line =
-    (now ≡ before) ⊎ ((part : List ℕ) × (rest : List ℕ) × (line ≡ part ++ rest) × (now ≡ before ++ (moment, part) ∷ []))
+    (now ≡ before)
+    ⊎ ((part : List ℕ) × (rest : List ℕ) × (line ≡ part ++ rest) × (now ≡ before ++ (moment, part) ∷ []))
 
 -- all pieces, one after the other
 abbrev pub bytes_heard : Heard → List ℕ

@@ -1,6 +1,6 @@
 -- All that is said of a directory, and what its calls keep of it.
 use Rattle.std.specs.Prelude.{◌≡◌, ◌≤◌, ℕ, List, Bool, true, false}
-use Rattle.tv_model.specs.Files.{Reads, Heard, Same}
+use Rattle.tv_formats.specs.Files.{Reads, Heard, Same}
 use Rattle.tv_directory.specs.Locks.{Locks, SameLocks}
 use Rattle.tv_directory.specs.Watch.{WatchState}
 
@@ -45,7 +45,8 @@ pub record WriterState : Type 0 where
   pub name : List ℕ
   pub written : List ℕ
 
--- What every call keeps: writers may still be handed in, and what was deleted stays so; time doesn't go back, nor does the count of refused deletes.
+-- What every call keeps: writers may still be handed in, and what was deleted stays so; time doesn't go back,
+-- nor does the count of refused deletes.
 pub record GoesOn {W : Type 0} (told : Told) (old new : View W) : Type 0 where
   pub writers : (w : W) → old.opened w ≡ true → new.opened w ≡ true
   pub ended : told.content → (w : W) → old.opened w ≡ true → old.lives w ≡ false → new.lives w ≡ false
@@ -101,7 +102,8 @@ pub record OnlyTells {W : Type 0} (told : Told) (old new : View W) : Type 0 wher
   pub watched : new.watched ≡ old.watched
   pub content : told.content → Same old.reads new.reads
 
--- What a call keeps that may delete files: nothing was told, no lock was taken or freed, nobody was registered or called.
+-- What a call keeps that may delete files: nothing was told, no lock was taken or freed, nobody was
+-- registered or called.
 pub record MayDelete {W : Type 0} (told : Told) (old new : View W) : Type 0 where
   pub goes_on : GoesOn told old new
   pub heard : new.heard ≡ old.heard

@@ -1,7 +1,7 @@
 -- Watchers of a directory.
 use Rattle.std.specs.Prelude.{ℕ, ◌≡◌, ◌⊎◌, ◌+◌, ◌-◌, ◌||◌, Bool, false, eqb, nat_lt, List, [], ◌∷◌, ◌++◌, Option, Some, None, find, map, min, if◌then◌else◌}
 use Rattle.tv_base.specs.Places.{change_at, take_out}
-use Rattle.tv_model.specs.Names.{is, meta_name}
+use Rattle.tv_formats.specs.Names.{is, meta_name}
 
 -- one more call, as far as 64 bits count
 abbrev pub called : ℕ → ℕ
@@ -24,7 +24,8 @@ has_number number r = eqb r.number number
 
 -- one more registers, with one handle
 abbrev pub subscribed : (number calls : ℕ) → WatchState → WatchState
-subscribed number calls s = record s { registered = s.registered ++ record { number = number; count = 1; calls = calls } ∷ [] }
+subscribed number calls s =
+    record s { registered = s.registered ++ record { number = number; count = 1; calls = calls } ∷ [] }
 
 -- at most one handle of it is out
 abbrev pub is_last_of : Option Registration → Bool

@@ -1,8 +1,8 @@
 //! A directory in memory, for tests.
 ghost use Rattle.std.specs.Prelude.{◌≡◌, [], true, string_bytes, IfOk};
 ghost use Rattle.std.specs.List.{AllByRecursion};
-ghost use Rattle.tv_model.specs.Files.{Reads, Same};
-ghost use Rattle.tv_model.specs.Names.{is_file_name};
+ghost use Rattle.tv_formats.specs.Files.{Reads, Same};
+ghost use Rattle.tv_formats.specs.Names.{is_file_name};
 ghost use Rattle.tv_base.specs.Causes.{OpenReadCause};
 ghost use Rattle.tv_directory.specs.Bench.{device_in, disk_in, view_in, IsAtRest, IsNewBench, IsSoundWhere, Untouched};
 ghost use Rattle.tv_directory.specs.Device.{after_fault};
@@ -18,7 +18,7 @@ use crate::ram_directory::RamDirectory;
 use crate::watch::WatchCall;
 use std::alloc::Global;
 use tv_base::OpenReadError;
-use tv_model::Memory;
+use tv_formats::Memory;
 
 /// A directory in memory, which is also told lines. Its device refuses exactly the calls that
 /// `fail_at` lists. `C` is who may watch it.

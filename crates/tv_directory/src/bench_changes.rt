@@ -1,11 +1,11 @@
 //! How the calls of a directory in memory are recorded that change a file.
 ghost use Rattle.std.specs.Prelude.{◌≡◌, ◌<◌, true, false, Some, IfOk, OnOk, OnErr};
-ghost use Rattle.tv_model.specs.Names.{is_file_name};
-ghost use Rattle.tv_model.specs.Disk.{Sealed, Unsealed};
+ghost use Rattle.tv_formats.specs.Names.{is_file_name};
+ghost use Rattle.tv_formats.specs.Disk.{Sealed, Unsealed};
 ghost use Rattle.tv_directory.specs.Bench.{OnlyRecords, disk_in};
 ghost use Rattle.tv_directory.specs.Ram.{ram_states};
 ghost use Rattle.tv_directory.specs.Record.{RecordedRefused, RefusedOpening, has_line_room};
-ghost use Rattle.tv_directory.specs.StoredFiles.{state_of};
+ghost use Rattle.tv_directory.specs.StoredFiles.{disk_state_of};
 
 use crate::bench::Bench;
 use crate::bench_record::Call;
@@ -13,11 +13,11 @@ use crate::files::Content;
 use crate::ram_calls::file_name;
 use crate::ram_directory::RamWriter;
 use tv_base::OwnedBytes;
-use tv_model::{FileName, Memory};
+use tv_formats::{FileName, Memory};
 
 // A file that isn't sealed.
 pub(crate) fn unsealed() -> Option<Content>
-    ensures { state_of result ≡ Unsealed }
+    ensures { disk_state_of result ≡ Unsealed }
 {
     Some(Content::Unsealed(OwnedBytes::empty()))
 }
@@ -27,7 +27,7 @@ impl<C> Bench<C> {
     pub(crate) fn before(&mut self, name: &str) -> Result<(FileName, Option<Content>), Memory>
         requires { is_file_name name.now ≡ true }
         ensures found { IfOk result (λ found. (found.0 ≡ name.now)
-            × (state_of found.1 ≡ ram_states self.old.ram name.now)) }
+            × (disk_state_of found.1 ≡ ram_states self.old.ram name.now)) }
         ensures room { OnOk result (3 < self.new.recorded.free) }
         ensures line { has_line_room self.old.recorded ≡ true
             → has_line_room self.new.recorded ≡ true }
@@ -48,7 +48,7 @@ impl<C> Bench<C> {
     ) -> Result<(), Memory>
         requires { is_file_name name.now ≡ true }
         ensures images { OnOk result (RecordedRefused (disk_in self.old) (disk_in self.new)
-            name.now (state_of after)) }
+            name.now (disk_state_of after)) }
         ensures err { OnErr result (self.new.recorded.calls ≡ self.old.recorded.calls) }
         ensures room { has_line_room self.old.recorded ≡ true
             → has_line_room self.new.recorded ≡ true }
@@ -103,7 +103,7 @@ impl<C> Bench<C> {
     ) -> Result<(), Memory>
         requires { is_file_name name.now ≡ true }
         ensures images { lives ≡ true → OnOk result (RecordedRefused (disk_in self.old)
-            (disk_in self.new) name.now (state_of after)) }
+            (disk_in self.new) name.now (disk_state_of after)) }
         ensures gone { lives ≡ false → self.new ≡ self.old }
         ensures err { OnErr result (self.new.recorded.calls ≡ self.old.recorded.calls) }
         ensures room { has_line_room self.old.recorded ≡ true

@@ -1,12 +1,12 @@
 //! What a crash leaves of a directory in memory.
 ghost use Rattle.std.specs.Prelude.{◌≡◌, ◌≤◌, ◌<◌, ℕ, List, [], None, IfOk, OnOk, length, map};
-ghost use Rattle.tv_model.specs.Disk.{Left};
-ghost use Rattle.tv_model.specs.Files.{Reads, Sets};
-ghost use Rattle.tv_model.specs.Names.{has};
+ghost use Rattle.tv_formats.specs.Disk.{MayLeave};
+ghost use Rattle.tv_formats.specs.Files.{Reads, Sets};
+ghost use Rattle.tv_formats.specs.Names.{has};
 ghost use Rattle.tv_directory.specs.Bench.{device_in, disk_in, IsAtRest, IsNewBench, IsSoundWhere};
 ghost use Rattle.tv_directory.specs.Crashes.{is_known, left_in, left_of, numbered, LeavesBy};
 ghost use Rattle.tv_directory.specs.Ram.{ram_reads};
-ghost use Rattle.tv_directory.specs.StoredFiles.{AreSealed, reads_of, state_of};
+ghost use Rattle.tv_directory.specs.StoredFiles.{AreSealed, reads_of, disk_state_of};
 
 use crate::bench::Bench;
 use crate::directory::Directory;
@@ -14,7 +14,7 @@ use crate::files::{Content, Files};
 use crate::watch::WatchCall;
 use std::collections::BTreeSet;
 use tv_base::OwnedBytes;
-use tv_model::{FileName, Memory};
+use tv_formats::{FileName, Memory};
 
 impl<C: WatchCall> Bench<C> {
     /// What a crash at this moment, which isn't later than now, leaves: a directory of its own, as `new`
@@ -33,7 +33,7 @@ impl<C: WatchCall> Bench<C> {
             × LeavesBy self.now moment choice.now image
             × IsNewBench image (⟦<Bench<C> as Directory>⟧.view left)
             × IsAtRest image (disk_in left)) }
-        ensures image { IfOk result (λ left. Left (⟦<Bench<C> as Directory>⟧.disk self.now) moment
+        ensures image { IfOk result (λ left. MayLeave (⟦<Bench<C> as Directory>⟧.disk self.now) moment
             (⟦<Bench<C> as Directory>⟧.view left).reads) }
         ensures sound { IfOk result (λ left. IsSoundWhere
             (⟦<Bench<C> as Directory>⟧.view left).reads (disk_in left)
@@ -117,7 +117,7 @@ impl<C: WatchCall> Bench<C> {
 // What a crash leaves that chooses this number among these states.
 fn left_of(states: &[Option<Content>], number: u32) -> Result<Option<OwnedBytes>, Memory>
     requires { 0 < length states.now }
-    ensures { IfOk result (λ left. left ≡ left_of (numbered (map state_of states.now) number)) }
+    ensures { IfOk result (λ left. left ≡ left_of (numbered (map disk_state_of states.now) number)) }
 {
     match &states[number as usize % states.len()] {
         None => Ok(None),

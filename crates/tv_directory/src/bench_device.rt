@@ -21,7 +21,8 @@ pub struct Device {
 
 impl Model for Device {
     ghost use Rattle.std.specs.Prelude.{◌≤◌};
-    ghost use Rattle.tv_directory.specs.Device.{DeviceState, last};
+    ghost use Rattle.tv_directory.specs.Device.{DeviceState};
+    ghost use Rattle.tv_base.specs.Texts.{last};
 
     ghost Value = { DeviceState };
 

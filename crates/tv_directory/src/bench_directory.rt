@@ -1,8 +1,8 @@
 //! The calls of a directory in memory.
-ghost use Rattle.tv_model.specs.Disk.{Sealed, Unsealed};
+ghost use Rattle.tv_formats.specs.Disk.{Sealed, Unsealed};
 ghost use Rattle.std.specs.Prelude.{refl, ◌≡◌, ◌<◌, true, length, is_some, Some, IfOk, IfErr, OnErr};
-ghost use Rattle.tv_model.specs.Names.{is_file_name};
-ghost use Rattle.tv_model.specs.Lines.{has_no_feed};
+ghost use Rattle.tv_formats.specs.Names.{is_file_name};
+ghost use Rattle.tv_formats.specs.Files.{has_no_feed};
 ghost use Rattle.tv_base.specs.Causes.{OpenReadCause, OpenWriteCause};
 ghost use Rattle.tv_directory.specs.View.{tells_all, Frame, Kept, OnlyReads, OnlyLocks, OnlyWatches, OnlyTells, MayDelete};
 ghost use Rattle.tv_directory.specs.Calls.{AskFaults, ReadFaults, OpenFaults, IoFaults, DeviceFaults, DeleteFaults, LockFaults, Frees, MakesRoom};
@@ -28,7 +28,7 @@ use crate::watch::{WatchCall, WatchHandle};
 use tv_base::{
     DeleteError, FileSlice, IoError, IoFault, LockError, OpenReadError, OpenWriteError, OwnedBytes,
 };
-use tv_model::Memory;
+use tv_formats::Memory;
 
 // Each call takes its number first. A refused one then changes nothing that reads; it is recorded where a
 // crash could leave what the call would have made.

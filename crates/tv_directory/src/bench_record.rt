@@ -1,11 +1,11 @@
 //! What a directory in memory records of its calls.
 ghost use Rattle.std.specs.Prelude.{◌≡◌, ◌≤◌, ◌<◌, ◌+◌, ◌-◌, ◌++◌, ◌∷◌, ◌||◌, ℕ, List, [], true, false, length, map, IfNone, IfOk, IfSome, OnOk};
 ghost use Rattle.std.specs.List.{flat_map, list_any};
-ghost use Rattle.tv_model.specs.Disk.{DiskState};
-ghost use Rattle.tv_model.specs.Names.{has, is};
+ghost use Rattle.tv_formats.specs.Disk.{DiskState};
+ghost use Rattle.tv_formats.specs.Names.{has, is};
 ghost use Rattle.tv_directory.specs.Crashes.{changes};
 ghost use Rattle.tv_directory.specs.Record.{and_since, found_by, has_line_room, is_settled, is_sync, settled_by, since_sync, states_at, stood_before};
-ghost use Rattle.tv_directory.specs.StoredFiles.{state_of};
+ghost use Rattle.tv_directory.specs.StoredFiles.{disk_state_of};
 ghost use Rattle.tv_directory.specs.declared.bench_record.Call.{Call};
 
 use crate::files::Content;
@@ -13,7 +13,7 @@ use crate::ram_calls::file_name;
 use std::alloc::Global;
 use std::collections::BTreeSet;
 use std::marker::Model;
-use tv_model::{FileName, Memory};
+use tv_formats::{FileName, Memory};
 
 /// A call that is recorded.
 #[derive(Drop)]
@@ -55,7 +55,7 @@ impl Call {
     // What the file of this name had before, where the call gave it another one.
     fn replaced(&self, name: &FileName) -> Option<&Option<Content>>
         ensures some { IfSome result (λ before. (calls : List Call) (now : DiskState)
-            → stood_before (self.now ∷ calls) name.now now ≡ state_of before.now) }
+            → stood_before (self.now ∷ calls) name.now now ≡ disk_state_of before.now) }
         ensures none { IfNone result ((calls : List Call) (now : DiskState)
             → stood_before (self.now ∷ calls) name.now now ≡ stood_before calls name.now now) }
     {
@@ -72,8 +72,8 @@ impl Call {
     // stood before.
     fn add_found(&self, states: &mut Vec<Option<Content>>, name: &FileName) -> Result<(), Memory>
         ensures { OnOk result ((since : List Call)
-            → map state_of states.old.items ≡ flat_map (found_by name.now) since
-            → map state_of states.new.items
+            → map disk_state_of states.old.items ≡ flat_map (found_by name.now) since
+            → map disk_state_of states.new.items
             ≡ flat_map (found_by name.now) (and_since since self.now)) }
     {
         match self {
@@ -208,8 +208,8 @@ impl Record {
         now: Option<Content>,
     ) -> Result<Vec<Option<Content>>, Memory>
         requires { moment ≤ length self.now.calls }
-        ensures { IfOk result (λ states. map state_of states.items
-            ≡ states_at self.now.calls moment name.now (state_of now)) }
+        ensures { IfOk result (λ states. map disk_state_of states.items
+            ≡ states_at self.now.calls moment name.now (disk_state_of now)) }
     {
         let (past, later) = self.calls.as_slice().split_at(moment as usize);
         let last = stood(later, name, now)?;
@@ -234,7 +234,7 @@ pub(crate) fn add_name(
 
 // How the calls since the last sync among these found a name, and how they may have left it.
 fn found(alloc: Global, calls: &[Call], name: &FileName) -> Result<Vec<Option<Content>>, Memory>
-    ensures { IfOk result (λ states. map state_of states.items
+    ensures { IfOk result (λ states. map disk_state_of states.items
         ≡ flat_map (found_by name.now) (since_sync calls.now)) }
 {
     let mut states = Vec::new(alloc);
@@ -246,8 +246,8 @@ fn found(alloc: Global, calls: &[Call], name: &FileName) -> Result<Vec<Option<Co
 
 // What the file of a name had before these calls, which it now has so.
 fn stood(calls: &[Call], name: &FileName, now: Option<Content>) -> Result<Option<Content>, Memory>
-    ensures { IfOk result (λ before. state_of before
-        ≡ stood_before calls.now name.now (state_of now)) }
+    ensures { IfOk result (λ before. disk_state_of before
+        ≡ stood_before calls.now name.now (disk_state_of now)) }
 {
     match replaced(calls, name) {
         Some(before) => share(before),
@@ -258,7 +258,7 @@ fn stood(calls: &[Call], name: &FileName, now: Option<Content>) -> Result<Option
 // The same, where one of the calls gave it another one.
 fn replaced<'a>(calls: &'a [Call], name: &FileName) -> Option<&'a Option<Content>>
     ensures some { IfSome result (λ before. (now : DiskState)
-        → stood_before calls.now name.now now ≡ state_of before.now) }
+        → stood_before calls.now name.now now ≡ disk_state_of before.now) }
     ensures none { IfNone result ((now : DiskState)
         → stood_before calls.now name.now now ≡ now) }
 {

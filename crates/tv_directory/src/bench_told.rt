@@ -4,7 +4,7 @@ ghost use Rattle.tv_directory.specs.Telling.{ReservesRoom, bytes_heard};
 
 use std::alloc::Global;
 use std::marker::Model;
-use tv_model::Memory;
+use tv_formats::Memory;
 
 /// The pieces that were told, each with its moment, and the room for one more.
 /// To a contract it is these pieces, and how many bytes the next may have.
@@ -19,7 +19,7 @@ pub struct Told {
 
 impl Model for Told {
     ghost use Rattle.std.specs.Prelude.{ℕ, ◌≡◌, ◌-◌, length, vec_len, vec_capacity};
-    ghost use Rattle.tv_model.specs.Files.{Heard};
+    ghost use Rattle.tv_formats.specs.Files.{Heard};
     ghost use Rattle.tv_directory.specs.Telling.{cut, cut_length, room_of};
 
     ghost Value = { Heard × ℕ };

@@ -1,6 +1,6 @@
 //! A directory whose lines are told to a sink.
 ghost use Rattle.std.specs.Prelude.{◌≡◌, ◌<◌, ◌++◌, ◌∷◌, [], true, length, vec_capacity, vec_len};
-ghost use Rattle.tv_model.specs.Lines.{has_no_feed};
+ghost use Rattle.tv_formats.specs.Files.{has_no_feed};
 ghost use Rattle.tv_directory.specs.View.{OnlyTells};
 ghost use Rattle.tv_directory.specs.Calls.{DeviceFaults, TellsLineTo};
 ghost use Rattle.tv_directory.specs.Desk.{TellsSink, desk_view, told_at};
@@ -15,7 +15,7 @@ use tv_base::{
     DeleteError, FileSlice, IoError, IoFault, LockError, OpenReadError, OpenWriteError, OwnedBytes,
     Sink,
 };
-use tv_model::Memory;
+use tv_formats::Memory;
 
 /// A directory, and a sink that takes its lines.
 #[derive(Drop)]

@@ -1,10 +1,10 @@
 //! A directory as the layers above see it.
 ghost use Rattle.std.specs.Prelude.{◌≡◌, true, Some, is_some, IfOk, IfErr, OnErr};
-ghost use Rattle.tv_model.specs.Names.{is_file_name};
+ghost use Rattle.tv_formats.specs.Names.{is_file_name};
 ghost use Rattle.tv_directory.specs.View.{View, Told, WriterState, Frame, Kept, OnlyReads, OnlyLocks, OnlyWatches, MayDelete};
 ghost use Rattle.tv_directory.specs.Calls.{AskFaults, ReadFaults, OpenFaults, IoFaults, DeviceFaults, DeleteFaults, LockFaults, Frees};
 ghost use Rattle.tv_directory.specs.Calls.{IsNewWriter, Makes, Appends, HandsBack, Touches, Flushes, Seals, Gives, Notes, Deletes, EndsWriters, Acquires};
-ghost use Rattle.tv_model.specs.Disk.{Disk, Sealed, Unsealed};
+ghost use Rattle.tv_formats.specs.Disk.{Disk, Sealed, Unsealed};
 ghost use Rattle.tv_directory.specs.Images.{StandsNow, KeepsDisk, GivesState, OpensState, WritesState, DeletesState, Settles};
 ghost use Rattle.tv_directory.specs.Device.{IsSilent};
 ghost use Rattle.tv_directory.specs.Watch.{IsNewWatcher, delivered, unsubscribed};
@@ -14,7 +14,7 @@ use crate::watch::{WatchCall, WatchHandle};
 use tv_base::{
     DeleteError, FileSlice, IoError, IoFault, LockError, OpenReadError, OpenWriteError, OwnedBytes,
 };
-use tv_model::Memory;
+use tv_formats::Memory;
 
 /// Files that are written once, under plain or dotted names.
 ///

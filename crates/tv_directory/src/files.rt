@@ -2,17 +2,17 @@
 ghost use Rattle.std.specs.Prelude.{◌≡◌, ◌≢◌, ◌+◌, ◌≤◌, ◌||◌, [], List, ℕ, true, false, string_bytes, Some, None, IfOk, OnOk, OnErr, is_some, length, min, option_map};
 ghost use Rattle.std.specs.Bool.{OnFalse};
 ghost use Rattle.std.specs.List.{AllByRecursion};
-ghost use Rattle.tv_model.specs.Names.{has, is_file_name};
-ghost use Rattle.tv_model.specs.Files.{Same, Sets};
-ghost use Rattle.tv_model.specs.Disk.{Absent};
-ghost use Rattle.tv_directory.specs.Device.{last};
-ghost use Rattle.tv_directory.specs.StoredFiles.{AreSealed, PutsFile, PutsState, ReplacesFile, StandsAs, bytes_of, reads_of, state_of, states_of, is_there, number_at, is_made, named, last_of, total_len};
+ghost use Rattle.tv_formats.specs.Names.{has, is_file_name};
+ghost use Rattle.tv_formats.specs.Files.{Same, Sets};
+ghost use Rattle.tv_formats.specs.Disk.{Absent};
+ghost use Rattle.tv_base.specs.Texts.{last};
+ghost use Rattle.tv_directory.specs.StoredFiles.{AreSealed, PutsFile, PutsState, ReplacesFile, StandsAs, bytes_of, reads_of, disk_state_of, states_of, is_there, number_at, is_made, named, last_of, total_len};
 
 use crate::bench_record::add_name;
 use std::alloc::Global;
 use std::collections::{BTreeMap, BTreeSet};
 use tv_base::OwnedBytes;
-use tv_model::{FileName, Memory};
+use tv_formats::{FileName, Memory};
 
 /// What a file holds. The bytes never change, so that those who read the file own them too.
 #[derive(Drop)]
@@ -153,7 +153,7 @@ impl Files {
 
     /// The content of the name's file. Its bytes aren't copied.
     pub fn content(&self, name: &FileName) -> Result<Option<Content>, Memory>
-        ensures { IfOk result (λ found. state_of found ≡ states_of self.now.map.entries name.now) }
+        ensures { IfOk result (λ found. disk_state_of found ≡ states_of self.now.map.entries name.now) }
     {
         match self.map.get(name) {
             Some(file) => Ok(Some(file.content.share()?)),
@@ -167,7 +167,7 @@ impl Files {
             (Sets (reads_of self.old.map.entries) (reads_of self.new.map.entries)
             name (Some (bytes_of content))) }
         ensures state { PutsState (states_of self.old.map.entries) (states_of self.new.map.entries)
-            name (state_of (Some content)) result }
+            name (disk_state_of (Some content)) result }
         ensures number { IfOk result (λ number. number ≡ self.old.last + 1) }
         ensures made { OnOk result ((self.new.last ≡ self.old.last + 1)
             × (is_made self.new.map.entries name (self.old.last + 1) ≡ true)) }
@@ -252,7 +252,7 @@ impl Files {
             (Sets (reads_of self.old.map.entries) (reads_of self.new.map.entries)
             name (Some (bytes_of content))) }
         ensures state { PutsState (states_of self.old.map.entries) (states_of self.new.map.entries)
-            name (state_of (Some content)) result }
+            name (disk_state_of (Some content)) result }
         ensures last { self.old.last ≤ self.new.last }
         ensures kept { (n : List ℕ) (k : ℕ)
             → is_made self.old.map.entries n k ≡ true → is_made self.new.map.entries n k ≡ true }

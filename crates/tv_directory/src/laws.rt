@@ -2,11 +2,11 @@
 ghost use Rattle.std.specs.Prelude.{◌≡◌, ◌<◌, ◌≤◌, ℕ, List, [], None, Some, true, IsErr, IsSome, IfErr, IfOk, OnOk, get_or, length};
 ghost use Rattle.tv_base.specs.Causes.{IoCause};
 ghost use Rattle.tv_directory.specs.Crashes.{AreKnown, left_in};
-ghost use Rattle.tv_model.specs.Disk.{Left, Sealed, possible_now};
-ghost use Rattle.tv_model.specs.Files.{Reads, Same};
-ghost use Rattle.tv_model.specs.Index.{IsSoundDirectory, IsSoundStart};
-ghost use Rattle.tv_model.specs.Listed.{ImagesListTheirFiles, IsListSettled, ListsEachFile};
-ghost use Rattle.tv_model.specs.Names.{is_file_name};
+ghost use Rattle.tv_formats.specs.Disk.{MayLeave, Sealed, possible_now};
+ghost use Rattle.tv_formats.specs.Files.{Reads, Same};
+ghost use Rattle.tv_formats.specs.Sound.{IsSoundDirectory, IsSoundStart};
+ghost use Rattle.tv_formats.specs.Listed.{ImagesListTheirFiles, IsListSettled, ListsEachFile};
+ghost use Rattle.tv_formats.specs.Names.{is_file_name};
 
 use crate::bench::Bench;
 use crate::directory::Directory;
@@ -14,13 +14,13 @@ use crate::lock::{DirectoryLock, Lock};
 use crate::watch::WatchCall;
 use std::alloc::Global;
 use tv_base::{DeleteError, IoError, LockError, OpenWriteError};
-use tv_model::Memory;
+use tv_formats::Memory;
 
 /// Where it is told what a crash may leave, what a directory reads is one of the images that a crash now
 /// may leave. So a sound directory is a sound start. Each of its images lists its files; and where a crash leaves
 /// the list as it is, and each image lists its files, the list forgets none.
 pub fn what_reads_is_an_image<D: Directory>(directory: &D)
-    ensures image { D.tells_images → Left (D.disk directory.now) (D.disk directory.now).moment
+    ensures image { D.tells_images → MayLeave (D.disk directory.now) (D.disk directory.now).moment
         (D.view directory.now).reads }
     ensures sound { D.tells_images → (schema : List ℕ) → IsSoundDirectory schema
         (D.disk directory.now) (D.view directory.now).locks
@@ -133,7 +133,7 @@ pub fn a_synced_write_outlives_a_crash<D: Directory>(
 ) -> Result<(), IoError>
     requires { is_file_name name.now ≡ true }
     ensures { D.tells_images → OnOk result ((image : Reads)
-        → Left (D.disk directory.new) (D.disk directory.new).moment image
+        → MayLeave (D.disk directory.new) (D.disk directory.new).moment image
         → image name.now ≡ Some bytes.now) }
 {
     directory.atomic_write(name, bytes)?;
@@ -149,7 +149,7 @@ pub fn a_crash_before_a_write_leaves_nothing_of_it<C: WatchCall>(
     choice: &[u32],
 ) -> Result<Bench<C>, Memory>
     requires { is_file_name name.now ≡ true }
-    ensures { IfOk result (λ left. Left (⟦<Bench<C> as Directory>⟧.disk bench.old)
+    ensures { IfOk result (λ left. MayLeave (⟦<Bench<C> as Directory>⟧.disk bench.old)
         (⟦<Bench<C> as Directory>⟧.view bench.old).moment
         (⟦<Bench<C> as Directory>⟧.view left).reads) }
 {

@@ -1,9 +1,9 @@
 //! Locks of a directory.
 ghost use Rattle.std.specs.Prelude.{◌≡◌, true, false, codes, string_bytes};
-ghost use Rattle.tv_model.specs.Names.{is_file_name};
+ghost use Rattle.tv_formats.specs.Names.{is_file_name};
 
 use std::marker::Model;
-use tv_model::FileName;
+use tv_formats::FileName;
 
 /// A lock of a directory: its name, and whether who takes it may wait until it is free.
 #[derive(Clone, Copy)]

@@ -1,13 +1,13 @@
 //! A directory whose owner is also told lines.
 ghost use Rattle.std.specs.Prelude.{◌≡◌, ◌<◌, true, length};
-ghost use Rattle.tv_model.specs.Lines.{has_no_feed};
+ghost use Rattle.tv_formats.specs.Files.{has_no_feed};
 ghost use Rattle.tv_directory.specs.View.{OnlyTells};
 ghost use Rattle.tv_directory.specs.Images.{KeepsDisk};
 ghost use Rattle.tv_directory.specs.Calls.{DeviceFaults, MakesRoom, TellsLineTo};
 
 use crate::directory::Directory;
 use tv_base::IoFault;
-use tv_model::Memory;
+use tv_formats::Memory;
 
 /// A directory, and who is told the answers.
 pub trait Outside: Directory {

@@ -1,7 +1,7 @@
 //! Writing a directory's files to another one.
 ghost use Rattle.std.specs.Prelude.{◌≡◌, true, OnOk};
-ghost use Rattle.tv_model.specs.Names.{is_file_name};
-ghost use Rattle.tv_model.specs.Disk.{TouchesOnly};
+ghost use Rattle.tv_formats.specs.Names.{is_file_name};
+ghost use Rattle.tv_formats.specs.Disk.{TouchesOnly};
 ghost use Rattle.tv_directory.specs.View.{Kept};
 ghost use Rattle.tv_directory.specs.Persisting.{FileFaults, IsAmong, PersistFaults, Persists, PersistsFile, contents};
 

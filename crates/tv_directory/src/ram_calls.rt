@@ -1,14 +1,14 @@
 //! The calls of a directory in memory.
-ghost use Rattle.tv_model.specs.Disk.{Absent, Sealed, Unsealed, no_disk};
+ghost use Rattle.tv_formats.specs.Disk.{Absent, Sealed, Unsealed, no_disk};
 ghost use Rattle.std.specs.Prelude.{◌≡◌, true, is_some, Some, IfOk, IfErr, OnErr};
-ghost use Rattle.tv_model.specs.Names.{is_file_name};
+ghost use Rattle.tv_formats.specs.Names.{is_file_name};
 ghost use Rattle.tv_directory.specs.View.{tells_all, Frame, Kept, MayDelete};
 ghost use Rattle.tv_directory.specs.Calls.{AskFaults, ReadFaults, OpenFaults, IoFaults, DeleteFaults, LockFaults};
 ghost use Rattle.tv_directory.specs.Calls.{IsNewWriter, Makes, Appends, HandsBack, Touches, Flushes, Seals, Gives, Notes, Deletes, EndsWriters, Acquires};
 ghost use Rattle.tv_directory.specs.Locks.{FreesLock, LockCause};
 ghost use Rattle.tv_directory.specs.Ram.{ram_view, ram_state, ram_states, ram_reads, ram_opened, ram_lives, ram_locks, ram_watched};
 ghost use Rattle.tv_directory.specs.Ram.{MakesRamFile, SameFile, OnlyFiles, OnlyNoted, OnlyHeld, OnlyWatchers, KeepsWriters};
-ghost use Rattle.tv_directory.specs.StoredFiles.{PutsState, bytes_of, state_of};
+ghost use Rattle.tv_directory.specs.StoredFiles.{PutsState, bytes_of, disk_state_of};
 ghost use Rattle.tv_directory.specs.Watch.{IsNewWatcher, delivered, unsubscribed};
 
 use crate::directory::Directory;
@@ -21,7 +21,7 @@ use tv_base::{
     DeleteError, FileSlice, IoError, IoFault, LockError, META_FILEPATH, OpenReadError,
     OpenWriteError, OwnedBytes,
 };
-use tv_model::{FileName, Memory};
+use tv_formats::{FileName, Memory};
 
 // A name with this text.
 pub(crate) fn file_name(alloc: Global, name: &str) -> Result<FileName, Memory>
@@ -35,7 +35,7 @@ pub(crate) fn file_name(alloc: Global, name: &str) -> Result<FileName, Memory>
 // What a flush of this writer gives to its file.
 fn flushed_file(alloc: Global, writer: &RamWriter) -> Result<(FileName, Content), Memory>
     ensures { IfOk result (λ file. (file.0 ≡ writer.now.name)
-        × (bytes_of file.1 ≡ writer.now.bytes.items) × (state_of (Some file.1) ≡ Unsealed)) }
+        × (bytes_of file.1 ≡ writer.now.bytes.items) × (disk_state_of (Some file.1) ≡ Unsealed)) }
 {
     let name = file_name(alloc, writer.name.as_str())?;
     let bytes = Vec::from_slice(alloc, writer.bytes.as_slice())?;
@@ -46,7 +46,7 @@ fn flushed_file(alloc: Global, writer: &RamWriter) -> Result<(FileName, Content)
 fn sealed_file(alloc: Global, name: &str, bytes: &[u8]) -> Result<(FileName, Content), Memory>
     requires { is_file_name name.now ≡ true }
     ensures { IfOk result (λ file. (file.0 ≡ name.now) × (bytes_of file.1 ≡ bytes.now)
-        × (state_of (Some file.1) ≡ Sealed bytes.now)) }
+        × (disk_state_of (Some file.1) ≡ Sealed bytes.now)) }
 {
     let name = file_name(alloc, name)?;
     let bytes = Vec::from_slice(alloc, bytes)?;

@@ -1,11 +1,11 @@
 //! A directory in memory.
 ghost use Rattle.std.specs.Prelude.{◌≡◌, ℕ, [], None, true, false, IfOk, IfNone, OnErr, MatchOption, min};
-ghost use Rattle.tv_model.specs.Names.{is_file_name};
+ghost use Rattle.tv_formats.specs.Names.{is_file_name};
 ghost use Rattle.tv_directory.specs.Locks.{SameLocks, TakesLock};
-ghost use Rattle.tv_directory.specs.Device.{last};
+ghost use Rattle.tv_base.specs.Texts.{last};
 ghost use Rattle.tv_directory.specs.Ram.{IsNewRam, ram_locks, ram_reads};
 ghost use Rattle.tv_directory.specs.StoredFiles.{total_len};
-ghost use Rattle.tv_directory.specs.WatchList.{state_of};
+ghost use Rattle.tv_directory.specs.WatchList.{watch_state_of};
 
 use crate::files::Files;
 use crate::lock::DirectoryLock;
@@ -14,7 +14,7 @@ use crate::watch::WatchCall;
 use crate::watch_list::Watchers;
 use std::alloc::Global;
 use std::collections::BTreeMap;
-use tv_model::{FileName, Memory};
+use tv_formats::{FileName, Memory};
 
 /// A directory in memory, whose calls no device refuses. `C` is who may watch it.
 #[derive(Drop)]
@@ -66,7 +66,7 @@ impl<C> RamDirectory<C> {
         ensures files { result.files ≡ files }
         ensures free { result.held.entries ≡ [] }
         ensures watchers { (calls : C → ℕ)
-            → state_of calls result.watchers ≡ record { registered = []; notice = false } }
+            → watch_state_of calls result.watchers ≡ record { registered = []; notice = false } }
     {
         RamDirectory {
             alloc,

@@ -1,15 +1,15 @@
 //! Callbacks that are registered, in order of subscription.
 ghost use Rattle.std.specs.Prelude.{◌≡◌, ℕ, ◌++◌, [], ◌∷◌, ◌↔◌, Some, None, Ok, false, true, find, map, IfOk, IfSome, IsErr, OnErr};
 ghost use Rattle.std.specs.Option.{IsSomeAnd};
-ghost use Rattle.tv_base.specs.Entries.{is_at, is_last};
+ghost use Rattle.tv_base.specs.Entries.{is_numbered, is_last};
 ghost use Rattle.tv_directory.specs.Watch.{called, called_once, delivered, has_number, subscribed, unsubscribed};
-ghost use Rattle.tv_directory.specs.WatchList.{CallsAll, released_by, seen, shared_by, state_of};
+ghost use Rattle.tv_directory.specs.WatchList.{CallsAll, released_by, seen, shared_by, watch_state_of};
 
 use crate::watch::{WatchCall, WatchCallback, WatchHandle};
 use std::alloc::Global;
 use std::marker::Model;
 use tv_base::{Exhausted, FutureResult, Inventory, Ticket, Visit};
-use tv_model::Memory;
+use tv_formats::Memory;
 
 /// A callback in an inventory. To visit it is to call it.
 #[derive(Drop)]
@@ -37,7 +37,7 @@ impl<C> Watchers<C> {
     /// Nobody, and no notice. Takes no memory.
     pub fn new(alloc: Global) -> Watchers<C>
         ensures nobody { (calls : C → ℕ)
-            → state_of calls result ≡ record { registered = []; notice = false } }
+            → watch_state_of calls result ≡ record { registered = []; notice = false } }
     {
         Watchers {
             list: Inventory::new(alloc),
@@ -48,7 +48,7 @@ impl<C> Watchers<C> {
     /// A notice stands from now on.
     pub fn note(&mut self)
         ensures noted { (calls : C → ℕ)
-            → state_of calls self.new ≡ record (state_of calls self.old) { notice = true } }
+            → watch_state_of calls self.new ≡ record (watch_state_of calls self.old) { notice = true } }
         ensures others { self.new ≡ record self.old { notice = true } }
     {
         self.notice = true;
@@ -59,10 +59,10 @@ impl<C: WatchCall> Watchers<C> {
     /// Registers a callback under a number that nobody has. Where memory is wanted, it is dropped.
     pub fn watch(&mut self, callback: C) -> Result<WatchHandle, Memory>
         ensures ok { IfOk result (λ handle. (n : ℕ) × (handle ≡ Some n)
-            × (find (has_number n) (state_of C.calls self.old).registered ≡ None)
-            × (state_of C.calls self.new
-            ≡ subscribed n (C.calls callback) (state_of C.calls self.old))) }
-        ensures err { OnErr result (state_of C.calls self.new ≡ state_of C.calls self.old) }
+            × (find (has_number n) (watch_state_of C.calls self.old).registered ≡ None)
+            × (watch_state_of C.calls self.new
+            ≡ subscribed n (C.calls callback) (watch_state_of C.calls self.old))) }
+        ensures err { OnErr result (watch_state_of C.calls self.new ≡ watch_state_of C.calls self.old) }
         ensures kept { OnErr result (self.new ≡ self.old) }
     {
         let ticket = self.list.track(Watcher { callback })?;
@@ -71,8 +71,8 @@ impl<C: WatchCall> Watchers<C> {
 
     /// Gives a handle back; with the last one the callback goes. Takes no memory.
     pub fn unwatch(&mut self, handle: WatchHandle)
-        ensures unsubscribed { state_of C.calls self.new ≡ unsubscribed handle
-            (state_of C.calls self.old) }
+        ensures unsubscribed { watch_state_of C.calls self.new ≡ unsubscribed handle
+            (watch_state_of C.calls self.old) }
     {
         if let Some(number) = handle.number() {
             self.list.release(Ticket::new(number));
@@ -82,8 +82,8 @@ impl<C: WatchCall> Watchers<C> {
     /// Where a notice stands, calls everybody once, and ends it. Answers whether one stood. Takes
     /// no memory.
     pub fn deliver(&mut self) -> bool
-        ensures answer { result ≡ (state_of C.calls self.old).notice }
-        ensures delivered { state_of C.calls self.new ≡ delivered (state_of C.calls self.old) }
+        ensures answer { result ≡ (watch_state_of C.calls self.old).notice }
+        ensures delivered { watch_state_of C.calls self.new ≡ delivered (watch_state_of C.calls self.old) }
     {
         if !self.notice {
             return false;
@@ -133,7 +133,7 @@ impl<C: Drop> CallbackList<C> {
     /// is dropped.
     pub fn subscribe(&mut self, callback: C) -> Result<WatchHandle, Memory>
         ensures ok { IfOk result
-            (λ handle. (n : ℕ) × (handle ≡ Some n) × (find (is_at n) self.old ≡ None)
+            (λ handle. (n : ℕ) × (handle ≡ Some n) × (find (is_numbered n) self.old ≡ None)
             × (self.new ≡ self.old
             ++ record { number = n; count = 1; value = record { callback = callback } } ∷ [])) }
         ensures err { OnErr result (self.new ≡ self.old) }
@@ -149,7 +149,7 @@ impl<C: Drop> CallbackList<C> {
         ensures ok { IfOk result (λ _. self.new ≡ shared_by handle.now self.old) }
         ensures err { OnErr result (self.new ≡ self.old) }
         ensures full { IsErr result ↔ IsSomeAnd handle.now (λ n.
-            IsSomeAnd (find (is_at n) self.old) (λ e. e.count ≡ 18446744073709551615)) }
+            IsSomeAnd (find (is_numbered n) self.old) (λ e. e.count ≡ 18446744073709551615)) }
     {
         let Some(number) = handle.number() else {
             return Ok(WatchHandle::empty());
@@ -164,7 +164,7 @@ impl<C: Drop> CallbackList<C> {
     pub fn release(&mut self, handle: WatchHandle)
         ensures released { self.new ≡ released_by handle self.old }
         ensures gone { IfSome handle (λ n.
-            is_last (find (is_at n) self.old) ≡ true → find (is_at n) self.new ≡ None) }
+            is_last (find (is_numbered n) self.old) ≡ true → find (is_numbered n) self.new ≡ None) }
     {
         if let Some(number) = handle.number() {
             self.entries.release(Ticket::new(number));
@@ -178,7 +178,7 @@ impl<C: WatchCall> CallbackList<C> {
     pub fn broadcast(&mut self) -> FutureResult<()>
         ensures called { map (seen C.calls) self.new ≡ map called_once
             (map (seen C.calls) self.old) }
-        ensures gone { (n : ℕ) → find (is_at n) self.old ≡ None → find (is_at n) self.new ≡ None }
+        ensures gone { (n : ℕ) → find (is_numbered n) self.old ≡ None → find (is_numbered n) self.new ≡ None }
         ensures finished { result.finished ≡ Some (Ok tt) }
         ensures unanswered { result.answered ≡ false }
     {

@@ -1,6 +1,6 @@
 -- What is said of calls of a folder, of whose content and locks nothing is told.
 use Rattle.std.proofs.Common.{◌≡◌, ◌≤◌, ◌∙◌, ◌⊎◌, ℕ, List, Ok, Err, refl, sym, ap, inl, inr, arith}
-use Rattle.tv_model.specs.Files.{Rose}
+use Rattle.tv_formats.specs.Files.{Rose}
 use Rattle.tv_base.specs.Causes.{DeleteCause, IoCause, OpenReadCause, OpenWriteCause}
 use Rattle.tv_base.specs.declared.io.IoError.{IoError}
 use Rattle.tv_base.specs.declared.io.IoError.TheVariants as io
@@ -13,10 +13,10 @@ use Rattle.tv_base.specs.declared.open_errors.DeleteError.TheVariants as delete
 use Rattle.tv_base.specs.declared.open_errors.LockError.{LockError}
 use Rattle.tv_base.specs.declared.open_errors.LockError.TheVariants as lock
 use Rattle.tv_directory.specs.Calls.{AskFaults, DeleteFaults, IoFaults, LockFaults, Notes, OpenFaults, ReadFaults}
-use Rattle.tv_directory.specs.Device.{counted, last}
+use Rattle.tv_base.specs.Texts.{counted, last}
 use Rattle.tv_directory.specs.Locks.{LockCause}
 use Rattle.tv_directory.specs.View.{MayDelete, OnlyLocks, OnlyReads, tells_nothing}
-use Rattle.tv_directory.specs.WatchList.{state_of}
+use Rattle.tv_directory.specs.WatchList.{watch_state_of}
 use Rattle.tv_files.specs.Folders.{FolderState, after_fault, after_refusal, folder_view}
 
 -- what is as it was is so but for its count of faults
@@ -39,7 +39,7 @@ only_reads calls old new kept = record {
       };
       locks = λ t. absurd t;
     };
-    watched = ap (λ f. state_of calls f.watchers) kept;
+    watched = ap (λ f. watch_state_of calls f.watchers) kept;
   };
   content = λ t. absurd t;
 }
@@ -110,10 +110,10 @@ may_delete calls old new more kept = record {
   heard = refl;
   room = omega arith;
   locks = λ t. absurd t;
-  watched = ap (λ f. state_of calls f.watchers) kept;
+  watched = ap (λ f. watch_state_of calls f.watchers) kept;
 }
 
 -- a refused write leaves no notice
 pub notes_none : {A C : Type 0} (calls : C → ℕ) (old new : FolderState C) (name : List ℕ) (error : IoError) → IoCause (new ≡ after_fault old) (new ≡ old) error → Notes {A = A} (folder_view calls old) (folder_view calls new) name (Err error)
-notes_none calls old new name (io.Fault fault) cause = record { ok = tt; err = (cause.0, inl (ap (λ f. state_of calls f.watchers) cause.1)) }
-notes_none calls old new name io.Memory cause = record { ok = tt; err = ap (λ f. state_of calls f.watchers) cause }
+notes_none calls old new name (io.Fault fault) cause = record { ok = tt; err = (cause.0, inl (ap (λ f. watch_state_of calls f.watchers) cause.1)) }
+notes_none calls old new name io.Memory cause = record { ok = tt; err = ap (λ f. watch_state_of calls f.watchers) cause }

@@ -3,9 +3,9 @@ use Rattle.std.specs.Prelude.{ℕ, ◌≡◌, true, false, List, [], None, strin
 use Rattle.tv_base.specs.Causes.{IsDevice}
 use Rattle.tv_base.specs.declared.open_errors.OpenDirectoryError.{OpenDirectoryError}
 use Rattle.tv_base.specs.declared.open_errors.OpenDirectoryError.TheVariants as directory
-use Rattle.tv_directory.specs.Device.{counted}
+use Rattle.tv_base.specs.Texts.{counted}
 use Rattle.tv_directory.specs.View.{View, WriterState}
-use Rattle.tv_directory.specs.WatchList.{state_of}
+use Rattle.tv_directory.specs.WatchList.{watch_state_of}
 use Rattle.tv_directory.specs.declared.watch_list.Watchers.{Watchers}
 
 -- who watches, and how many calls other than deletes the operating system refused, and how many deletes
@@ -19,7 +19,7 @@ abbrev pub folder_view : {C : Type 0} → (C → ℕ) → FolderState C → View
 folder_view calls folder = record {
   reads = λ name. None;
   locks = λ name. false;
-  watched = state_of calls folder.watchers;
+  watched = watch_state_of calls folder.watchers;
   moment = 0;
   heard = [];
   room = 0;
@@ -37,10 +37,11 @@ after_fault folder = record folder { faults = counted folder.faults }
 abbrev pub after_refusal : {C : Type 0} → FolderState C → FolderState C
 after_refusal folder = record folder { refusals = counted folder.refusals }
 
--- Why a folder isn't opened: the error names its path, and a refusal of the operating system is one of the device.
-abbrev pub OpenCause : List ℕ → OpenDirectoryError → Type 0
-OpenCause path (directory.DoesNotExist text) = string_bytes text ≡ path
-OpenCause path (directory.NotADirectory text) = string_bytes text ≡ path
-OpenCause path (directory.FailedToCreateTempDir fault) = ⊥
-OpenCause path (directory.IoError fault text) = (string_bytes text ≡ path) × IsDevice fault
-OpenCause path directory.Memory = Unit {0}
+-- Why a folder isn't opened: the error names its path, and a refusal of the operating system is one of the
+-- device.
+abbrev pub OpenFolderCause : List ℕ → OpenDirectoryError → Type 0
+OpenFolderCause path (directory.DoesNotExist text) = string_bytes text ≡ path
+OpenFolderCause path (directory.NotADirectory text) = string_bytes text ≡ path
+OpenFolderCause path (directory.FailedToCreateTempDir fault) = ⊥
+OpenFolderCause path (directory.IoError fault text) = (string_bytes text ≡ path) × IsDevice fault
+OpenFolderCause path directory.Memory = Unit {0}

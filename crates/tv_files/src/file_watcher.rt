@@ -1,7 +1,7 @@
 //! A file that is watched.
 ghost use Rattle.std.specs.Prelude.{◌≡◌, [], None, flat_map, IfOk, IfErr, OnOk, OnErr};
 ghost use Rattle.std.specs.Str.Lines.{lines};
-ghost use Rattle.tv_model.specs.Checksum.{crc32};
+ghost use Rattle.tv_formats.specs.Checksum.{crc32};
 ghost use Rattle.tv_base.specs.Causes.{IoCause};
 ghost use Rattle.tv_files.specs.Watching.{Looks, Subscribes, watcher_fault};
 
@@ -14,7 +14,7 @@ use std::rt::Files;
 use tv_base::IoError;
 use tv_checksum::{Checksum, Crc32};
 use tv_directory::{CallbackList, WatchCall, WatchHandle};
-use tv_model::Memory;
+use tv_formats::Memory;
 
 /// A file that is watched: whoever is registered is called when the checksum of its lines is
 /// another one.

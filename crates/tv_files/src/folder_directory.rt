@@ -1,5 +1,5 @@
 //! The calls of a directory of plain files.
-ghost use Rattle.tv_model.specs.Disk.{no_disk};
+ghost use Rattle.tv_formats.specs.Disk.{no_disk};
 ghost use Rattle.tv_directory.specs.View.{tells_nothing};
 ghost use Rattle.tv_files.specs.Folders.{folder_view};
 
@@ -12,7 +12,7 @@ use tv_base::{
     DeleteError, FileSlice, IoError, IoFault, LockError, OpenReadError, OpenWriteError, OwnedBytes,
 };
 use tv_directory::{Directory, DirectoryLock, Lock, WatchCall, WatchHandle};
-use tv_model::Memory;
+use tv_formats::Memory;
 
 impl<R: Files<File = File> + Drop, C: WatchCall> Directory for MmapDirectory<R, C> {
     type Writer = MmapWriter;

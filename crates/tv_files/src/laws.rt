@@ -1,8 +1,8 @@
 //! Laws of folders of plain files and of watched files: what one may rely on, said of the calls.
 ghost use Rattle.std.specs.Prelude.{◌≡◌, ◌++◌, true, OnOk, IfOk};
 ghost use Rattle.std.specs.Str.Lines.{lines};
-ghost use Rattle.tv_model.specs.Names.{is_file_name};
-ghost use Rattle.tv_directory.specs.WatchList.{state_of};
+ghost use Rattle.tv_formats.specs.Names.{is_file_name};
+ghost use Rattle.tv_directory.specs.WatchList.{watch_state_of};
 
 use crate::file_watcher::{FileWatcher, checksum_of_lines};
 use crate::mmap_directory::MmapDirectory;
@@ -17,7 +17,7 @@ pub fn a_commit_leaves_a_notice<R: Files<File = File> + Drop, C: WatchCall>(
     directory: &mut MmapDirectory<R, C>,
     bytes: &[u8],
 ) -> Result<(), IoError>
-    ensures { OnOk result ((state_of C.calls directory.new.watchers).notice ≡ true) }
+    ensures { OnOk result ((watch_state_of C.calls directory.new.watchers).notice ≡ true) }
 {
     directory.atomic_write(META_FILEPATH, bytes)
 }

@@ -1,12 +1,12 @@
 //! A directory of plain files.
 ghost use Rattle.std.specs.Prelude.{◌≡◌, [], true, false, IfOk, IfErr};
-ghost use Rattle.tv_model.specs.Names.{is_file_name};
+ghost use Rattle.tv_formats.specs.Names.{is_file_name};
 ghost use Rattle.tv_base.specs.Causes.{DeleteCause, IoCause, IsDevice, OpenReadCause, OpenWriteCause};
 ghost use Rattle.tv_directory.specs.Device.{IsSilent};
 ghost use Rattle.tv_directory.specs.Locks.{LockCause};
 ghost use Rattle.tv_directory.specs.Watch.{noted};
-ghost use Rattle.tv_directory.specs.WatchList.{state_of};
-ghost use Rattle.tv_files.specs.Folders.{OpenCause, after_fault, after_refusal};
+ghost use Rattle.tv_directory.specs.WatchList.{watch_state_of};
+ghost use Rattle.tv_files.specs.Folders.{OpenFolderCause, after_fault, after_refusal};
 
 use crate::folder::Folder;
 use std::alloc::Global;
@@ -20,7 +20,7 @@ use tv_base::{
     OpenReadError, OpenWriteError,
 };
 use tv_directory::{DirectoryLock, Lock, WatchCall, Watchers, index_writer_lock};
-use tv_model::{FileName, Memory};
+use tv_formats::{FileName, Memory};
 
 /// A lock that this directory holds: its lock file, locked while it is open.
 #[derive(Drop)]
@@ -46,7 +46,7 @@ pub struct MmapDirectory<R: Drop, C> {
 
 impl<R: Drop, C> Model for MmapDirectory<R, C> {
     ghost use Rattle.std.specs.Prelude.{◌≤◌};
-    ghost use Rattle.tv_directory.specs.Device.{last};
+    ghost use Rattle.tv_base.specs.Texts.{last};
     ghost use Rattle.tv_files.specs.Folders.{FolderState};
 
     ghost Value = { FolderState C };
@@ -74,11 +74,11 @@ impl<R: Files<File = File> + Drop, C: WatchCall> MmapDirectory<R, C> {
         alloc: Global,
         directory_path: &str,
     ) -> Result<MmapDirectory<R, C>, OpenDirectoryError>
-        ensures nobody { IfOk result (λ directory. state_of C.calls directory.watchers
+        ensures nobody { IfOk result (λ directory. watch_state_of C.calls directory.watchers
             ≡ record { registered = []; notice = false }) }
         ensures counts { IfOk result
             (λ directory. (directory.faults ≡ 0) × (directory.refusals ≡ 0)) }
-        ensures cause { IfErr result (OpenCause directory_path.now) }
+        ensures cause { IfErr result (OpenFolderCause directory_path.now) }
     {
         match Folder::open(rt, alloc, directory_path) {
             Ok(folder) => Ok(MmapDirectory {
@@ -95,8 +95,8 @@ impl<R: Files<File = File> + Drop, C: WatchCall> MmapDirectory<R, C> {
 
     // Leaves a notice for those who watch, where the file of this name is the current commit.
     pub(crate) fn note(&mut self, name: &str)
-        ensures watched { state_of C.calls self.new.watchers
-            ≡ noted name.now (state_of C.calls self.old.watchers) }
+        ensures watched { watch_state_of C.calls self.new.watchers
+            ≡ noted name.now (watch_state_of C.calls self.old.watchers) }
         ensures kept { self.new ≡ record self.old { watchers = self.new.watchers } }
     {
         if name == META_FILEPATH {
@@ -267,7 +267,7 @@ impl<R: Drop, C> MmapDirectory<R, C> {
 
 // Why a folder isn't opened.
 fn not_opened(alloc: Global, error: &io::Error, path: &str) -> OpenDirectoryError
-    ensures { OpenCause path.now result }
+    ensures { OpenFolderCause path.now result }
 {
     let Ok(text) = String::from_str(alloc, path) else {
         return OpenDirectoryError::Memory;

@@ -6,7 +6,7 @@ use std::fs::File;
 use std::io;
 use std::io::Write;
 use std::marker::Model;
-use tv_model::{FileName, Memory};
+use tv_formats::{FileName, Memory};
 
 /// What writes a file of a folder. To a contract it is the name of the file, and what was written
 /// so far.

@@ -1,7 +1,7 @@
 -- How the list of a composite file is found at its end.
 use Rattle.std.proofs.Common.{◌≡◌, ◌≤◌, ◌<◌, ◌+◌, ◌-◌, ◌^◌, ℕ, List, [], ◌∷◌, ◌++◌, length, take, drop, refl, sym, ap, ◌∙◌, arith, append_assoc, append-nil, length-append, length-drop}
 use Rattle.std.proofs.lemmas.List.{drop_at, take_at, take_rest, take-take, length-take-le, take-append-drop}
-use Rattle.tv_model.specs.Footer.{four_bytes}
+use Rattle.tv_formats.specs.Footer.{four_bytes}
 
 -- the bytes without the last four, and those
 pub record Cut (bytes : List ℕ) (end : ℕ) (before last : List ℕ) : Type 0 where

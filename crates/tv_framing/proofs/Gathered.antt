@@ -11,7 +11,7 @@ use Rattle.std.proofs.lemmas.List.{set-get_or}
 use Rattle.std.proofs.lemmas.List.Elements.{filter-append}
 use Rattle.std.proofs.lemmas.List.Sorted.{searchable_from_sorted}
 use Rattle.std.proofs.lemmas.List.Sums.{fold-append}
-use Rattle.tv_model.specs.Names.{byte_cmp}
+use Rattle.tv_formats.specs.Names.{byte_cmp}
 use Rattle.tv_framing.specs.Fields.{FieldSpace}
 use Rattle.tv_framing.specs.PerField.{AreByName, InNameOrder, IsBelow, all_of, gathered, is_named, joined}
 use Rattle.tv_framing.specs.Places.{IsGap, IsPlace, by_name, with_field}

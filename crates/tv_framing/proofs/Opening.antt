@@ -1,9 +1,9 @@
 -- What is found in a composite file.
 use Rattle.std.proofs.Common.{◌≡◌, ◌≤◌, ◌<◌, ◌^◌, ℕ, List, [], ◌∷◌, ◌++◌, length, take, Option, Some, option_map, Vec, Global, sym, ap, subst, ◌∙◌, arith, length-append}
 use Rattle.std.proofs.lemmas.List.{length-take-le, take_at}
-use Rattle.tv_model.specs.Footer.{four_bytes}
-use Rattle.tv_model.specs.VInt.{vint}
-use Rattle.tv_framing.specs.declared.entries.Entry.{Entry}
+use Rattle.tv_formats.specs.Footer.{four_bytes}
+use Rattle.tv_formats.specs.VInt.{vint}
+use Rattle.tv_framing.specs.declared.entries.PartEntry.{PartEntry}
 use Rattle.tv_framing.specs.declared.starts.Start.{Start}
 use Rattle.tv_framing.specs.Composite.{Part, AreDistinct, IsComposite, addresses, bodies, footing, listed}
 use Rattle.tv_framing.specs.Entries.{IsLayout, entries_text, entry_text, starts_after}
@@ -11,7 +11,7 @@ use Rattle.tv_framing.specs.Fitting.{AreListed, SpellsEntries}
 use Rattle.tv_framing.specs.Starts.{Fill, parts_of}
 use Rattle.tv_framing.proofs.Reading.{composite_of, count_entries, entries_of, fill_after, fits_entries, layout_of, listed_entries, parts_are}
 
-no_more : (es : List Entry) → length es ≤ length (entries_text es)
+no_more : (es : List PartEntry) → length es ≤ length (entries_text es)
 no_more [] = omega arith
 no_more (e ∷ es) =
     omega (arith, no_more es, length-append (entry_text e) (entries_text es), length-append (vint e.gap) (four_bytes e.addr.field ++ vint e.addr.idx), length-append (four_bytes e.addr.field) (vint e.addr.idx))
@@ -37,7 +37,7 @@ told file bytes len foot parts h same small found =
 
 -- where the parts of the file begin
 pub starts_told : (parts : List Part) (len : ℕ) (foot : List ℕ) (o : Option (Vec Start Global)) → AreDistinct (addresses parts)
-    → ((es : List Entry) → length es < 2 ^ 64 → SpellsEntries foot es → IsLayout es len → option_map (λ (v : Vec Start Global). v.items) o ≡ Some (starts_after 0 es)) → Told parts len foot → option_map (λ (v : Vec Start Global). v.items) o ≡ Some (starts_after 0 (entries_of 0 parts))
+    → ((es : List PartEntry) → length es < 2 ^ 64 → SpellsEntries foot es → IsLayout es len → option_map (λ (v : Vec Start Global). v.items) o ≡ Some (starts_after 0 es)) → Told parts len foot → option_map (λ (v : Vec Start Global). v.items) o ≡ Some (starts_after 0 (entries_of 0 parts))
 starts_told parts len foot o distinct found t = found (entries_of 0 parts) t.few t.spells (subst (IsLayout (entries_of 0 parts)) (sym t.long) (layout_of parts distinct))
 
 pub fills : (file bytes foot : List ℕ) (len : ℕ) (starts : List Start) → AreListed foot len starts → len ≤ length file → bytes ≡ take len file → Fill starts (length bytes)

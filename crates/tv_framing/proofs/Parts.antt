@@ -4,8 +4,8 @@ use Rattle.std.proofs.lemmas.List.{map-append, take-append-drop, length-take-le,
 use Rattle.std.proofs.lemmas.List.Folds.{list_any-append}
 use Rattle.std.proofs.lemmas.Bool.Decides.{nat_tests}
 use Rattle.std.specs.List.{AllByRecursion, list_any}
-use Rattle.tv_model.specs.Footer.{four_bytes}
-use Rattle.tv_model.specs.VInt.{vint}
+use Rattle.tv_formats.specs.Footer.{four_bytes}
+use Rattle.tv_formats.specs.VInt.{vint}
 use Rattle.tv_framing.specs.declared.address.FileAddr.{FileAddr}
 use Rattle.tv_framing.specs.declared.starts.Start.{Start}
 use Rattle.tv_framing.specs.Composite.{Part, AreDistinct, IsAddress, IsComposite, addresses, bodies, composite, footing, grown, is_at, listed}

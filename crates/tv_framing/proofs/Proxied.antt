@@ -2,7 +2,7 @@
 use Rattle.std.proofs.Common.{◌≡◌, Bool, true, false, ◌||◌, not, ◌++◌, ◌∷◌, [], ◌-◌, ℕ, List, length, Option, Some, None, refl, sym, ap, subst, ◌∙◌, append_assoc, arith}
 use Rattle.std.specs.Prelude.{is_some, Result, Ok, Err}
 use Rattle.std.proofs.lemmas.List.{take_all}
-use Rattle.tv_model.specs.Footer.{footer}
+use Rattle.tv_formats.specs.Footer.{footer}
 use Rattle.tv_base.specs.Writers.{Ends, TakesNone, WriteFaults}
 use Rattle.tv_base.specs.declared.io.IoError.{IoError}
 use Rattle.tv_base.specs.declared.io.IoError.TheVariants as io

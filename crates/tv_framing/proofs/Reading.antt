@@ -2,10 +2,10 @@
 use Rattle.std.proofs.Common.{◌≡◌, ◌≤◌, ◌<◌, ◌==◌, ◌+◌, ◌-◌, ◌^◌, ℕ, suc, Bool, true, false, ◌||◌, ◌&&◌, cond, eqb, List, [], ◌∷◌, ◌++◌, length, take, drop, get_or, slice_range, Option, Some, None, refl, sym, ap, subst, ◌∙◌, arith, append_assoc, append-nil, length-append, length-drop}
 use Rattle.std.proofs.lemmas.List.{drop_at, drop_more, take_at, take_more, length-take-le}
 use Rattle.std.specs.List.{AllByRecursion, list_any}
-use Rattle.tv_model.specs.Footer.{four_bytes}
-use Rattle.tv_model.specs.VInt.{vint}
+use Rattle.tv_formats.specs.Footer.{four_bytes}
+use Rattle.tv_formats.specs.VInt.{vint}
 use Rattle.tv_framing.specs.declared.address.FileAddr.{FileAddr}
-use Rattle.tv_framing.specs.declared.entries.Entry.{Entry}
+use Rattle.tv_framing.specs.declared.entries.PartEntry.{PartEntry}
 use Rattle.tv_framing.specs.declared.starts.Start.{Start}
 use Rattle.std.specs.BTreeSet.{BTreeSet}
 use Rattle.std.specs.BTreeSet as tree
@@ -25,7 +25,7 @@ use Rattle.tv_framing.proofs.Parts.{addresses_of, addresses_push, all_get, all_p
 
 -- ---- the entries of some parts
 
-abbrev pub entries_of : ℕ → List Part → List Entry
+abbrev pub entries_of : ℕ → List Part → List PartEntry
 entries_of gap [] = []
 entries_of gap (part ∷ parts) = record { gap = gap; addr = part.addr } ∷ entries_of (length part.body) parts
 
@@ -69,36 +69,36 @@ layout_of parts h = record {
 
 -- ---- the parts of some entries
 
-pub start_addresses_after : (o : ℕ) (es : List Entry) → start_addresses (starts_after o es) ≡ entry_addresses es
+pub start_addresses_after : (o : ℕ) (es : List PartEntry) → start_addresses (starts_after o es) ≡ entry_addresses es
 start_addresses_after o [] = refl
 start_addresses_after o (e ∷ es) = ap (λ (l : List FileAddr). e.addr ∷ l) (start_addresses_after (o + e.gap) es)
 
-ascend_after : (o len : ℕ) (es : List Entry) → o + gaps es ≤ len → Ascend o (starts_after o es) len
+ascend_after : (o len : ℕ) (es : List PartEntry) → o + gaps es ≤ len → Ascend o (starts_after o es) len
 ascend_after o len [] h = omega (arith, h)
 ascend_after o len (e ∷ es) h = (omega arith, ascend_after (o + e.gap) len es (omega (arith, h)))
 
-pub fill_after : (len : ℕ) (es : List Entry) → IsLayout es len → Fill (starts_after 0 es) len
+pub fill_after : (len : ℕ) (es : List PartEntry) → IsLayout es len → Fill (starts_after 0 es) len
 fill_after len [] h = h.first
 fill_after len (e ∷ es) h =
     let at : 0 + e.gap ≡ 0 = omega (arith, h.first) in
     (at, subst (λ n. Ascend n (starts_after (0 + e.gap) es) len) at (ascend_after (0 + e.gap) len es (omega (arith, h.within))))
 
-entries_back : (bytes : List ℕ) (o : ℕ) (e : Entry) (es : List Entry) → o + (e.gap + gaps es) ≤ length bytes → entries_of e.gap (parts_of bytes (starts_after o (e ∷ es))) ≡ e ∷ es
+entries_back : (bytes : List ℕ) (o : ℕ) (e : PartEntry) (es : List PartEntry) → o + (e.gap + gaps es) ≤ length bytes → entries_of e.gap (parts_of bytes (starts_after o (e ∷ es))) ≡ e ∷ es
 entries_back bytes o e [] h = refl
 entries_back bytes o e (f ∷ fs) h =
     grind (arith, length-take-le, length-drop, entries_back bytes (o + e.gap) f fs (omega (arith, h)))
 
-pub entries_whole : (bytes : List ℕ) (es : List Entry) → IsLayout es (length bytes) → entries_of 0 (parts_of bytes (starts_after 0 es)) ≡ es
+pub entries_whole : (bytes : List ℕ) (es : List PartEntry) → IsLayout es (length bytes) → entries_of 0 (parts_of bytes (starts_after 0 es)) ≡ es
 entries_whole bytes [] h = refl
 entries_whole bytes (e ∷ es) h =
     ap (λ n. entries_of n (parts_of bytes (starts_after 0 (e ∷ es)))) (sym h.first) ∙ entries_back bytes 0 e es (omega (arith, h.within))
 
-fits_addresses : (es : List Entry) → AllByRecursion EntryFits es → AllByRecursion IsAddress (entry_addresses es)
+fits_addresses : (es : List PartEntry) → AllByRecursion EntryFits es → AllByRecursion IsAddress (entry_addresses es)
 fits_addresses [] h = tt
 fits_addresses (e ∷ es) h = (h.0.1, fits_addresses es h.1)
 
 -- a file whose list has these entries is made of the parts that begin there
-pub composite_of : (bytes front foot : List ℕ) (es : List Entry) → bytes ≡ front ++ (foot ++ four_bytes (length foot)) → length foot < 2 ^ 32 → foot ≡ vint (length es) ++ entries_text es
+pub composite_of : (bytes front foot : List ℕ) (es : List PartEntry) → bytes ≡ front ++ (foot ++ four_bytes (length foot)) → length foot < 2 ^ 32 → foot ≡ vint (length es) ++ entries_text es
     → IsLayout es (length front) → AllByRecursion EntryFits es → IsComposite bytes (parts_of front (starts_after 0 es))
 composite_of bytes front foot es whole short list layout fits =
     let parts = parts_of front (starts_after 0 es) in
@@ -116,24 +116,24 @@ composite_of bytes front foot es whole short list layout fits =
 
 -- ---- reading entry by entry
 
-text_push : (es : List Entry) (e : Entry) → entries_text (es ++ e ∷ []) ≡ entries_text es ++ entry_text e
+text_push : (es : List PartEntry) (e : PartEntry) → entries_text (es ++ e ∷ []) ≡ entries_text es ++ entry_text e
 text_push [] e = append-nil (entry_text e)
 text_push (x ∷ xs) e = ap (λ (l : List ℕ). entry_text x ++ l) (text_push xs e) ∙ sym (append_assoc (entry_text x) (entries_text xs) (entry_text e))
 
-pub read_more : (bytes front : List ℕ) (es now : List Entry) (e : Entry) (left after : List ℕ) → bytes ≡ front ++ (entries_text es ++ left) → left ≡ entry_text e ++ after → now ≡ es ++ e ∷ [] → bytes ≡ front ++ (entries_text now ++ after)
+pub read_more : (bytes front : List ℕ) (es now : List PartEntry) (e : PartEntry) (left after : List ℕ) → bytes ≡ front ++ (entries_text es ++ left) → left ≡ entry_text e ++ after → now ≡ es ++ e ∷ [] → bytes ≡ front ++ (entries_text now ++ after)
 read_more bytes front es now e left after whole is now_is =
     grind (arith, append_assoc, text_push)
 
 -- so many entries were read behind their number
-pub record IsReading (bytes : List ℕ) (count i : ℕ) (done : List Entry) (left : List ℕ) : Type 0 where
+pub record IsReading (bytes : List ℕ) (count i : ℕ) (done : List PartEntry) (left : List ℕ) : Type 0 where
   pub number : length done ≡ i
   pub within : i ≤ count
   pub text : bytes ≡ vint count ++ (entries_text done ++ left)
   pub each : AllByRecursion EntryFits done
-  pub goes_on : (entries : List Entry) → length entries < 2 ^ 64 → AllByRecursion EntryFits entries → bytes ≡ vint (length entries) ++ entries_text entries → (count ≡ length entries) × (done ≡ take i entries) × (left ≡ entries_text (drop i entries))
+  pub goes_on : (entries : List PartEntry) → length entries < 2 ^ 64 → AllByRecursion EntryFits entries → bytes ≡ vint (length entries) ++ entries_text entries → (count ≡ length entries) × (done ≡ take i entries) × (left ≡ entries_text (drop i entries))
 
-pub reads_on : (bytes : List ℕ) (count i : ℕ) (done now : List Entry) (left after : List ℕ) (x : Entry) → IsReading bytes count i done left → i < count
-    → ((e : Entry) (rest : List ℕ) → EntryFits e → left ≡ entry_text e ++ rest → (◌≡◌ {A = Option Entry} (Some x) (Some e)) × (after ≡ rest))
+pub reads_on : (bytes : List ℕ) (count i : ℕ) (done now : List PartEntry) (left after : List ℕ) (x : PartEntry) → IsReading bytes count i done left → i < count
+    → ((e : PartEntry) (rest : List ℕ) → EntryFits e → left ≡ entry_text e ++ rest → (◌≡◌ {A = Option PartEntry} (Some x) (Some e)) × (after ≡ rest))
     → left ≡ entry_text x ++ after → EntryFits x → now ≡ done ++ x ∷ [] → IsReading bytes count (i + 1) now after
 reads_on bytes count i done now left after x r below found is fits_x now_is = record {
   number = omega (arith, ap length now_is, length-append done (x ∷ []), r.number);
@@ -145,23 +145,23 @@ reads_on bytes count i done now left after x r below found is fits_x now_is = re
       let lt : i < length entries = omega (arith, g.0, below) in
       let f = found (get_or entries i x) (entries_text (drop (i + 1) entries)) (all_get EntryFits entries i x lt fits) (g.2 ∙ ap entries_text (drop_more entries i x lt)) in (
         g.0,
-        now_is ∙ ap (λ (l : List Entry). l ++ x ∷ []) g.1 ∙ ap (λ (e : Entry). take i entries ++ e ∷ []) (same_Some x (get_or entries i x) f.0) ∙ sym (take_more entries i x lt),
+        now_is ∙ ap (λ (l : List PartEntry). l ++ x ∷ []) g.1 ∙ ap (λ (e : PartEntry). take i entries ++ e ∷ []) (same_Some x (get_or entries i x) f.0) ∙ sym (take_more entries i x lt),
         f.1,
       );
 }
 
 -- no entry comes next where the list would go on
-pub stops_short : (bytes : List ℕ) (count i : ℕ) (done : List Entry) (left after : List ℕ) → IsReading bytes count i done left → i < count
-    → ((e : Entry) (rest : List ℕ) → EntryFits e → left ≡ entry_text e ++ rest → (◌≡◌ {A = Option Entry} None (Some e)) × (after ≡ rest))
-    → (entries : List Entry) → length entries < 2 ^ 64 → AllByRecursion EntryFits entries → bytes ≡ vint (length entries) ++ entries_text entries → ⊥
+pub stops_short : (bytes : List ℕ) (count i : ℕ) (done : List PartEntry) (left after : List ℕ) → IsReading bytes count i done left → i < count
+    → ((e : PartEntry) (rest : List ℕ) → EntryFits e → left ≡ entry_text e ++ rest → (◌≡◌ {A = Option PartEntry} None (Some e)) × (after ≡ rest))
+    → (entries : List PartEntry) → length entries < 2 ^ 64 → AllByRecursion EntryFits entries → bytes ≡ vint (length entries) ++ entries_text entries → ⊥
 stops_short bytes count i done left after r below found entries short fits whole =
-    let none : Entry = record { gap = 0; addr = record { field = 0; idx = 0 } } in
+    let none : PartEntry = record { gap = 0; addr = record { field = 0; idx = 0 } } in
     let g = r.goes_on entries short fits whole in
     let lt : i < length entries = omega (arith, g.0, below) in
     none-some (get_or entries i none) (found (get_or entries i none) (entries_text (drop (i + 1) entries)) (all_get EntryFits entries i none lt fits) (g.2 ∙ ap entries_text (drop_more entries i none lt))).0
 
 -- the list was read to its end
-pub reads_all : (bytes : List ℕ) (count i : ℕ) (done : List Entry) (left : List ℕ) → IsReading bytes count i done left → count ≤ i → (length left == 0) ≡ true → SpellsEntries bytes done
+pub reads_all : (bytes : List ℕ) (count i : ℕ) (done : List PartEntry) (left : List ℕ) → IsReading bytes count i done left → count ≤ i → (length left == 0) ≡ true → SpellsEntries bytes done
 reads_all bytes count i done [] r over none =
     let all : count ≡ length done = omega (arith, r.number, r.within, over) in
     record { fits = r.each; text = r.text ∙ ap (λ (l : List ℕ). vint count ++ l) (append-nil (entries_text done)) ∙ ap (λ n. vint n ++ entries_text done) all }
@@ -170,7 +170,7 @@ reads_all bytes count i done (x ∷ xs) r over none = absurd (omega (arith, eqb-
 -- ---- adding up the gaps
 
 -- so many starts were made of the entries
-pub record IsSoFar (entries : List Entry) (i offset len : ℕ) (starts : List Start) : Type 0 where
+pub record IsSoFar (entries : List PartEntry) (i offset len : ℕ) (starts : List Start) : Type 0 where
   pub within : offset ≤ len
   pub sum : offset + gaps (drop i entries) ≡ gaps entries
   pub made : starts ++ starts_after offset (drop i entries) ≡ starts_after 0 entries
@@ -178,10 +178,10 @@ pub record IsSoFar (entries : List Entry) (i offset len : ℕ) (starts : List St
   pub named : start_addresses starts ++ entry_addresses (drop i entries) ≡ entry_addresses entries
   pub first : BeginsAtFirst entries len
 
-pub at_front : (entries : List Entry) (i : ℕ) (e : Entry) → i < length entries → e ≡ get_or entries i e → drop i entries ≡ e ∷ drop (i + 1) entries
-at_front entries i e lt is = drop_more entries i e lt ∙ ap (λ (x : Entry). x ∷ drop (i + 1) entries) (sym is)
+pub at_front : (entries : List PartEntry) (i : ℕ) (e : PartEntry) → i < length entries → e ≡ get_or entries i e → drop i entries ≡ e ∷ drop (i + 1) entries
+at_front entries i e lt is = drop_more entries i e lt ∙ ap (λ (x : PartEntry). x ∷ drop (i + 1) entries) (sym is)
 
-pub so_far_more : (entries : List Entry) (i offset len : ℕ) (starts now : List Start) (e : Entry) → IsSoFar entries i offset len starts → drop i entries ≡ e ∷ drop (i + 1) entries → e.gap ≤ len - offset
+pub so_far_more : (entries : List PartEntry) (i offset len : ℕ) (starts now : List Start) (e : PartEntry) → IsSoFar entries i offset len starts → drop i entries ≡ e ∷ drop (i + 1) entries → e.gap ≤ len - offset
     → list_any (is_at e.addr) (start_addresses starts) ≡ false → now ≡ starts ++ record { addr = e.addr; offset = offset + e.gap } ∷ [] → IsSoFar entries (i + 1) (offset + e.gap) len now
 so_far_more entries i offset len starts now e s front le new is =
     let start : Start = record { addr = e.addr; offset = offset + e.gap } in
@@ -191,11 +191,11 @@ so_far_more entries i offset len starts now e s front le new is =
       sum = omega (arith, s.sum, ap gaps front);
       made = ap (λ (l : List Start). l ++ starts_after (offset + e.gap) (drop (i + 1) entries)) is
           ∙ append_assoc starts (record { addr = e.addr; offset = offset + e.gap } ∷ []) (starts_after (offset + e.gap) (drop (i + 1) entries))
-          ∙ ap (λ (l : List Entry). starts ++ starts_after offset l) (sym front) ∙ s.made;
+          ∙ ap (λ (l : List PartEntry). starts ++ starts_after offset l) (sym front) ∙ s.made;
       distinct = subst AreDistinct (sym names) (distinct_push (start_addresses starts) e.addr s.distinct new);
       named = ap (λ (l : List FileAddr). l ++ entry_addresses (drop (i + 1) entries)) names
           ∙ append_assoc (start_addresses starts) (e.addr ∷ []) (entry_addresses (drop (i + 1) entries))
-          ∙ ap (λ (l : List Entry). start_addresses starts ++ entry_addresses l) (sym front) ∙ s.named;
+          ∙ ap (λ (l : List PartEntry). start_addresses starts ++ entry_addresses l) (sym front) ∙ s.named;
       first = s.first;
     }
 
@@ -213,7 +213,7 @@ twice : (front : List FileAddr) (a : FileAddr) (rest : List FileAddr) → list_a
 twice [] a rest is h = cc
 twice (x ∷ xs) a rest is h = twice_by x xs a rest (is_at a x) (twice xs a rest) refl is h
 
-pub stands_twice : (entries : List Entry) (i offset len : ℕ) (starts : List Start) (e : Entry) → IsSoFar entries i offset len starts → drop i entries ≡ e ∷ drop (i + 1) entries → list_any (is_at e.addr) (start_addresses starts) ≡ true → IsLayout entries len → ⊥
+pub stands_twice : (entries : List PartEntry) (i offset len : ℕ) (starts : List Start) (e : PartEntry) → IsSoFar entries i offset len starts → drop i entries ≡ e ∷ drop (i + 1) entries → list_any (is_at e.addr) (start_addresses starts) ≡ true → IsLayout entries len → ⊥
 stands_twice entries i offset len starts e s front is h =
     grind (arith, twice)
 
@@ -244,7 +244,7 @@ or_so false false false false p q = refl
 or_so false false true false p q = absurd (cc)
 or_so false false false true p q = absurd (cc)
 
-pub seen_more : (old new : BTreeSet FileAddr) (starts now : List Start) (e : Entry) (offset : ℕ) → HasSeen old starts
+pub seen_more : (old new : BTreeSet FileAddr) (starts now : List Start) (e : PartEntry) (offset : ℕ) → HasSeen old starts
     → ((q : FileAddr) → tree.contains order.cmp-value.it new q ≡ cond (is_eq (order.cmp-value.it e.addr q)) true (tree.contains order.cmp-value.it old q))
     → now ≡ starts ++ record { addr = e.addr; offset = offset } ∷ [] → HasSeen new now
 seen_more old new starts now e offset seen updates is q =

@@ -8,7 +8,7 @@ use Rattle.std.proofs.lemmas.Bool.{cases_lt}
 use Rattle.std.proofs.lemmas.List.{get_or_past, take_all}
 use Rattle.std.proofs.lemmas.List.FromFn.{sum_by-map-range_with_len_more}
 use Rattle.std.proofs.lemmas.List.Sums.{sum_by-cons, sum_by_more}
-use Rattle.tv_model.specs.Names.{byte_cmp}
+use Rattle.tv_formats.specs.Names.{byte_cmp}
 use Rattle.tv_base.specs.declared.byte_count.ByteCount.{ByteCount}
 use Rattle.tv_framing.specs.declared.column_usage.ColumnSpaceUsage.{ColumnSpaceUsage}
 use Rattle.tv_framing.specs.Usage.{bytes_of, capped, together}

@@ -1,6 +1,6 @@
 -- What one kind of file of a segment takes.
-use Rattle.tv_model.specs.declared.segment.SegmentComponent.{SegmentComponent}
-use Rattle.tv_model.specs.declared.segment.SegmentComponent.TheVariants as components
+use Rattle.tv_formats.specs.declared.segment.SegmentComponent.{SegmentComponent}
+use Rattle.tv_formats.specs.declared.segment.SegmentComponent.TheVariants as components
 use Rattle.tv_framing.specs.Segments.{SegmentSpace}
 use Rattle.tv_framing.specs.declared.component_usage.ComponentSpaceUsage.{ComponentSpaceUsage}
 use Rattle.tv_framing.specs.declared.component_usage.ComponentSpaceUsage.TheVariants.{PerField, Store, Basic}

@@ -18,7 +18,8 @@ abbrev pub begun : {W : Type 0} → Composing W → (field idx : ℕ) → Compos
 begun c field idx = record c { parts = c.parts ++ record { addr = address field idx; body = [] } ∷ [] }
 
 -- The body that was begun last has these bytes too. Where memory is wanted, none of them was taken.
-pub record GrowsComposite {W A : Type 0} (old new : Composing W) (bytes : List ℕ) (result : Result A IoError) : Type 0 where
+pub record GrowsComposite {W A : Type 0} (old new : Composing W) (bytes : List ℕ)
+    (result : Result A IoError) : Type 0 where
   pub ok : OnOk result ((new.parts ≡ grown old.parts bytes) × (new.before ≡ old.before))
   pub memory : IfErr result (IoCause (Unit {0}) ((new.parts ≡ old.parts) × (new.before ≡ old.before)))
 

@@ -1,8 +1,8 @@
 -- Files that are made of the bodies of several fields.
 use Rattle.std.specs.Prelude.{ℕ, ◌≡◌, ◌<◌, ◌^◌, ◌==◌, ◌&&◌, nat_lt, Bool, false, List, [], ◌∷◌, ◌++◌, length, map, Option, Some, None, if◌then◌else◌, codes}
 use Rattle.std.specs.List.{AllByRecursion, list_all, list_any}
-use Rattle.tv_model.specs.Footer.{four_bytes}
-use Rattle.tv_model.specs.VInt.{vint}
+use Rattle.tv_formats.specs.Footer.{four_bytes}
+use Rattle.tv_formats.specs.VInt.{vint}
 use Rattle.tv_framing.specs.declared.address.FileAddr.{FileAddr}
 
 -- a body, and the address under which it is found: a field, and the body's index among those of the field
@@ -19,11 +19,12 @@ abbrev pub bodies : List Part → List ℕ
 bodies [] = []
 bodies (part ∷ parts) = part.body ++ bodies parts
 
--- The list of the parts: of each one how far it begins behind the beginning of the one before, which is that one's length, its field in four bytes, and its index.
--- The number is that of the first part.
+-- The list of the parts: of each one how far it begins behind the beginning of the one before, which is that
+-- one's length, its field in four bytes, and its index. The number is that of the first part.
 abbrev pub listed : ℕ → List Part → List ℕ
 listed gap [] = []
-listed gap (part ∷ parts) = vint gap ++ (four_bytes part.addr.field ++ (vint part.addr.idx ++ listed (length part.body) parts))
+listed gap (part ∷ parts) =
+    vint gap ++ (four_bytes part.addr.field ++ (vint part.addr.idx ++ listed (length part.body) parts))
 
 -- how many parts there are, and the list of them; the first begins at 0
 abbrev pub footing : List Part → List ℕ

@@ -1,6 +1,6 @@
 -- The end of a file that has a footer.
 use Rattle.std.specs.Prelude.{ℕ, ◌≡◌, ◌≤◌, ◌<◌, ◌+◌, ◌^◌, List, ◌++◌, length, take, drop, slice_range}
-use Rattle.tv_model.specs.Footer.{four_bytes, footer_magic, stated}
+use Rattle.tv_formats.specs.Footer.{four_bytes, footer_magic, stated}
 use Rattle.tv_framing.specs.Footers.{last_four, stated_json}
 
 -- the bytes end in eight that are these two numbers, and so many stand before them
@@ -19,4 +19,5 @@ pub record HasEnd (bytes : List ℕ) (start end : ℕ) : Type 0 where
   pub short : stated bytes ≤ 50000
   pub json : slice_range bytes start end ≡ stated_json bytes
   pub long : length (slice_range bytes start end) ≡ stated bytes
-  pub whole : bytes ≡ take start bytes ++ (slice_range bytes start end ++ (four_bytes (stated bytes) ++ four_bytes footer_magic))
+  pub whole : bytes ≡ take start bytes
+      ++ (slice_range bytes start end ++ (four_bytes (stated bytes) ++ four_bytes footer_magic))

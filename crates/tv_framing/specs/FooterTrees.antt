@@ -1,7 +1,7 @@
 -- How the version of a footer stands in its JSON.
 use Rattle.std.specs.Prelude.{◌≡◌, codes, Some}
 use Rattle.serde_json.specs.Data.{Data}
-use Rattle.tv_model.specs.FooterForm.{u32_at}
+use Rattle.tv_formats.specs.FooterForm.{u32_at}
 use Rattle.tv_base.specs.declared.versions.Version.{Version}
 
 -- the tree is an object that has the fields of the version, whatever else it has

@@ -3,7 +3,7 @@ use Rattle.std.specs.Prelude.{ℕ, ◌≡◌, Bool, List, [], ◌∷◌, Option,
 use Rattle.std.specs.List.{AllByRecursion, range_with_len}
 use Rattle.std.specs.Ordering.{is_eq}
 use Rattle.std.specs.declared.cmp.Ordering.TheVariants.{Less}
-use Rattle.tv_model.specs.Names.{byte_cmp}
+use Rattle.tv_formats.specs.Names.{byte_cmp}
 use Rattle.tv_base.specs.declared.byte_count.ByteCount.{ByteCount}
 use Rattle.tv_framing.specs.declared.column_usage.ColumnSpaceUsage.{ColumnSpaceUsage}
 use Rattle.tv_framing.specs.Usage.{capped, merged_columns, together}
@@ -11,7 +11,9 @@ use Rattle.tv_framing.specs.Fields.{FieldSpace, field_sum}
 
 -- the parts of two usages, index by index
 abbrev pub joined_parts : List (Option ByteCount) → List (Option ByteCount) → List (Option ByteCount)
-joined_parts parts others = map (λ i. together (get_or parts i None) (get_or others i None)) (range_with_len 0 (max (length parts) (length others)))
+joined_parts parts others =
+    map (λ i. together (get_or parts i None) (get_or others i None))
+    (range_with_len 0 (max (length parts) (length others)))
 
 -- the columns of two usages together
 abbrev pub joined_columns : Option ColumnSpaceUsage → Option ColumnSpaceUsage → Option ColumnSpaceUsage
@@ -21,7 +23,11 @@ joined_columns (Some one) (Some other) = Some (merged_columns one other)
 
 -- two usages of one name
 abbrev pub joined : FieldSpace → FieldSpace → FieldSpace
-joined one other = record { name = one.name; parts = joined_parts one.parts other.parts; column = joined_columns one.column other.column }
+joined one other = record {
+  name = one.name;
+  parts = joined_parts one.parts other.parts;
+  column = joined_columns one.column other.column;
+}
 
 -- whether a usage is that of the field of this name
 abbrev pub is_named : List ℕ → FieldSpace → Bool

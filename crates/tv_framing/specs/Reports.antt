@@ -6,7 +6,8 @@ use Rattle.tv_framing.specs.Fields.{FieldSpace, part_alone}
 
 -- what a body takes, under the name of its field
 abbrev pub usage_of : List (List ℕ) → Part → FieldSpace
-usage_of names part = part_alone (get_or names part.addr.field []) part.addr.idx (record { 0 = length part.body })
+usage_of names part =
+    part_alone (get_or names part.addr.field []) part.addr.idx (record { 0 = length part.body })
 
 -- what each of some bodies takes, under the names of their fields
 abbrev pub usages : List (List ℕ) → List Part → List FieldSpace

@@ -18,7 +18,9 @@ pub record SegmentSpace : Type 0 where
 
 -- how many bytes a segment takes: the sum of its parts
 abbrev pub segment_sum : SegmentSpace → ℕ
-segment_sum s = fields_sum s.termdict + fields_sum s.postings + fields_sum s.positions + fields_sum s.fast_fields + fields_sum s.fieldnorms + store_sum s.store + s.deletes.0
+segment_sum s =
+    fields_sum s.termdict + fields_sum s.postings + fields_sum s.positions + fields_sum s.fast_fields
+    + fields_sum s.fieldnorms + store_sum s.store + s.deletes.0
 
 -- how many bytes some segments take together
 abbrev pub segments_sum : List SegmentSpace → ℕ

@@ -1,7 +1,7 @@
 -- Where the bodies of a composite file begin.
 use Rattle.std.specs.Prelude.{ℕ, ◌≡◌, ◌≤◌, ◌-◌, List, [], ◌∷◌, ◌++◌, length, map, slice_range}
-use Rattle.tv_model.specs.Footer.{four_bytes}
-use Rattle.tv_model.specs.VInt.{vint}
+use Rattle.tv_formats.specs.Footer.{four_bytes}
+use Rattle.tv_formats.specs.VInt.{vint}
 use Rattle.tv_framing.specs.declared.address.FileAddr.{FileAddr}
 use Rattle.tv_framing.specs.declared.starts.Start.{Start}
 use Rattle.tv_framing.specs.Composite.{Part}
@@ -15,7 +15,8 @@ next_start end (start ∷ starts) = start.offset
 abbrev pub parts_of : List ℕ → List Start → List Part
 parts_of bytes [] = []
 parts_of bytes (start ∷ starts) =
-    record { addr = start.addr; body = slice_range bytes start.offset (next_start (length bytes) starts) } ∷ parts_of bytes starts
+    record { addr = start.addr; body = slice_range bytes start.offset (next_start (length bytes) starts) }
+    ∷ parts_of bytes starts
 
 -- no start lies before the one before it, or behind the end
 abbrev pub Ascend : ℕ → List Start → ℕ → Type 0
@@ -35,7 +36,8 @@ start_addresses starts = map (λ start. start.addr) starts
 abbrev pub listed_from : ℕ → List Start → List ℕ
 listed_from before [] = []
 listed_from before (start ∷ starts) =
-    vint (start.offset - before) ++ (four_bytes start.addr.field ++ (vint start.addr.idx ++ listed_from start.offset starts))
+    vint (start.offset - before)
+    ++ (four_bytes start.addr.field ++ (vint start.addr.idx ++ listed_from start.offset starts))
 
 -- the list of a composite file's bodies as it is written: their number, and then each start
 abbrev pub footing_text : List Start → List ℕ

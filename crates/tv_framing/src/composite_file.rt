@@ -1,6 +1,6 @@
 //! Reads a composite file.
 ghost use Rattle.std.specs.Prelude.{◌≡◌, ◌≤◌, ◌<◌, ◌^◌, ◌++◌, ℕ, List, [], IfOk, IfErr, IfSome, MatchOption, false, true, length, map, string_bytes, take};
-ghost use Rattle.tv_model.specs.Footer.{four_bytes};
+ghost use Rattle.tv_formats.specs.Footer.{four_bytes};
 ghost use Rattle.tv_base.specs.declared.io.IoKind.TheVariants.{InvalidData};
 ghost use Rattle.tv_framing.specs.Composite.{AreTheParts, IsComposite, IsNotComposite, address, bodies, body_at, fields_below, not_composite};
 ghost use Rattle.tv_framing.specs.Faults.{IsFault, OfFault};

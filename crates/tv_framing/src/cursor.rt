@@ -1,7 +1,7 @@
 //! Reads bytes from the front on.
 ghost use Rattle.std.specs.Prelude.{◌≡◌, ◌<◌, ◌^◌, ◌++◌, ◌==◌, ℕ, length, List, Some, IfSome, MatchOption};
-ghost use Rattle.tv_model.specs.Footer.{four_bytes};
-ghost use Rattle.tv_model.specs.VInt.{vint};
+ghost use Rattle.tv_formats.specs.Footer.{four_bytes};
+ghost use Rattle.tv_formats.specs.VInt.{vint};
 
 use std::marker::Model;
 use tv_base::VInt;

@@ -1,7 +1,7 @@
 //! Reads the list of a composite file.
 ghost use Rattle.std.specs.Prelude.{◌≡◌, ◌<◌, ◌^◌, ◌++◌, ◌↔◌, ℕ, IsTrue, List, Some, IfOk, IfSome, MatchOption, length, option_map};
 ghost use Rattle.std.specs.List.{AllByRecursion};
-ghost use Rattle.tv_model.specs.VInt.{vint};
+ghost use Rattle.tv_formats.specs.VInt.{vint};
 ghost use Rattle.tv_framing.specs.Entries.{BeginsAtFirst, IsLayout, entry_text, entries_text, starts_after};
 ghost use Rattle.tv_framing.specs.Fitting.{AreListed, EntryFits, SpellsEntries};
 
@@ -14,14 +14,14 @@ use tv_base::{Field, Memory};
 
 /// A body's address, and how far the body begins behind the one before.
 #[derive(Clone, Copy)]
-pub(crate) struct Entry {
+pub(crate) struct PartEntry {
     pub(crate) gap: u64,
     pub(crate) addr: FileAddr,
 }
 
 // The entry that comes next.
-fn next_entry(cursor: &mut Cursor<'_>) -> Option<Entry>
-    ensures found { (entry : Entry) (rest : List ℕ) → EntryFits entry
+fn next_entry(cursor: &mut Cursor<'_>) -> Option<PartEntry>
+    ensures found { (entry : PartEntry) (rest : List ℕ) → EntryFits entry
         → cursor.old ≡ entry_text entry ++ rest
         → (result ≡ Some entry) × (cursor.new ≡ rest) }
     ensures only { IfSome result (λ entry. EntryFits entry
@@ -31,7 +31,7 @@ fn next_entry(cursor: &mut Cursor<'_>) -> Option<Entry>
     let field = Field::from_field_id(cursor.four_bytes()?);
     let idx = cursor.vint()?;
     let addr = FileAddr { field, idx };
-    Some(Entry { gap, addr })
+    Some(PartEntry { gap, addr })
 }
 
 /// Where the bodies of a list begin in so many bytes. Nothing where the bytes are no list, or its bodies
@@ -41,7 +41,7 @@ pub(crate) fn starts_in(
     footing: &[u8],
     len: u64,
 ) -> Result<Option<Vec<Start>>, Memory>
-    ensures found { (entries : List Entry) → length entries < 2 ^ 64
+    ensures found { (entries : List PartEntry) → length entries < 2 ^ 64
         → SpellsEntries footing.now entries → IsLayout entries len
         → IfOk result (λ found. option_map (λ v. v.items) found
         ≡ Some (starts_after 0 entries)) }
@@ -55,8 +55,8 @@ pub(crate) fn starts_in(
 }
 
 // The entries that the bytes spell behind their number, and nothing for all other bytes.
-fn entries_in(alloc: Global, footing: &[u8]) -> Result<Option<Vec<Entry>>, Memory>
-    ensures found { (entries : List Entry) → length entries < 2 ^ 64
+fn entries_in(alloc: Global, footing: &[u8]) -> Result<Option<Vec<PartEntry>>, Memory>
+    ensures found { (entries : List PartEntry) → length entries < 2 ^ 64
         → AllByRecursion EntryFits entries
         → footing.now ≡ vint (length entries) ++ entries_text entries
         → IfOk result (λ found. option_map (λ v. v.items) found ≡ Some entries) }
@@ -81,7 +81,7 @@ fn entries_in(alloc: Global, footing: &[u8]) -> Result<Option<Vec<Entry>>, Memor
 }
 
 // Where the bodies of these entries begin in so many bytes, if they can.
-fn starts_of(alloc: Global, entries: &[Entry], len: u64) -> Result<Option<Vec<Start>>, Memory>
+fn starts_of(alloc: Global, entries: &[PartEntry], len: u64) -> Result<Option<Vec<Start>>, Memory>
     ensures { IfOk result (λ found. MatchOption found (IsLayout entries.now len → ⊥)
         (λ v. IsLayout entries.now len × (v.items ≡ starts_after 0 entries.now))) }
 {
@@ -108,7 +108,7 @@ fn starts_of(alloc: Global, entries: &[Entry], len: u64) -> Result<Option<Vec<St
 }
 
 // Whether the first body begins at 0. Without a body there are no bytes.
-fn begins_at_first(entries: &[Entry], len: u64) -> bool
+fn begins_at_first(entries: &[PartEntry], len: u64) -> bool
     ensures { IsTrue result ↔ BeginsAtFirst entries.now len }
 {
     match entries.first() {

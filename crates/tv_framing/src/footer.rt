@@ -1,11 +1,11 @@
 //! The footer of a file.
 ghost use Rattle.std.specs.Prelude.{◌≡◌, ◌≤◌, ℕ, false, IfOk, IfErr, MatchResult, OnOk, length, take};
-ghost use Rattle.tv_model.specs.Footer.{IsOtherFormat, IsReadFormat, footer};
+ghost use Rattle.tv_formats.specs.Footer.{IsOtherFormat, IsReadFormat, footer};
 ghost use Rattle.tv_base.specs.Versions.{library_version};
 ghost use Rattle.tv_base.specs.Writers.{TakesAll, WriteFaults};
 ghost use Rattle.tv_framing.specs.Faults.{OfFault};
 ghost use Rattle.tv_framing.specs.declared.footer.Footer.{Footer};
-ghost use Rattle.tv_framing.specs.Footers.{IsFramed, IsNotFramed, Refuses, footer_text, own_footer};
+ghost use Rattle.tv_framing.specs.Footers.{IsFramedAs, IsNotFramed, Refuses, footer_text, own_footer};
 ghost use Rattle.tv_framing.specs.Sealing.{Steps};
 
 use crate::faults::refusal;
@@ -79,7 +79,7 @@ impl Footer {
     /// The footer of a file, and the body before it, whatever the checksum is. The file is refused
     /// where it ends in no footer, for the first reason that holds.
     pub fn extract_footer(alloc: Global, file: FileSlice) -> Result<(Footer, FileSlice), IoError>
-        ensures ok { IfOk result (λ found. IsFramed file found.0 found.1) }
+        ensures ok { IfOk result (λ found. IsFramedAs file found.0 found.1) }
         ensures err { IfErr result (OfFault (Refuses file)) }
         ensures outside { IfErr result (OfFault (λ _. IsNotFramed file)) }
     {
@@ -106,7 +106,7 @@ impl Footer {
 
 // The footer of a file, and the body before it.
 fn framed(alloc: Global, file: &FileSlice) -> Result<(Footer, FileSlice), IoError>
-    ensures { MatchResult result (λ found. IsFramed file.now found.0 found.1)
+    ensures { MatchResult result (λ found. IsFramedAs file.now found.0 found.1)
         (OfFault (Refuses file.now)) }
 {
     let bytes = file.read_bytes()?;
@@ -117,7 +117,7 @@ fn framed(alloc: Global, file: &FileSlice) -> Result<(Footer, FileSlice), IoErro
 // The footer with which the bytes end, and how many bytes stand before it.
 fn footer_in(alloc: Global, bytes: &[u8]) -> Result<(Footer, usize), IoError>
     ensures { MatchResult result (λ found. (found.1 ≤ length bytes.now)
-        × IsFramed bytes.now found.0 (take found.1 bytes.now)) (OfFault (Refuses bytes.now)) }
+        × IsFramedAs bytes.now found.0 (take found.1 bytes.now)) (OfFault (Refuses bytes.now)) }
 {
     let range = json_range(alloc, bytes)?;
     let start = range.start;

@@ -1,9 +1,9 @@
 //! The JSON of a footer.
 ghost use Rattle.std.specs.Prelude.{◌≡◌, ℕ, IfOk, MatchOption};
 ghost use Rattle.serde_json.specs.View.{view};
-ghost use Rattle.tv_model.specs.FooterForm.{u32_at};
+ghost use Rattle.tv_formats.specs.FooterForm.{u32_at};
 ghost use Rattle.tv_framing.specs.declared.footer.Footer.{Footer};
-ghost use Rattle.tv_framing.specs.Footers.{IsFooter, Spells, footer_json};
+ghost use Rattle.tv_framing.specs.Footers.{HasFooterFields, SpellsFooter, footer_json};
 ghost use Rattle.tv_framing.specs.FooterTrees.{IsVersion};
 
 use crate::footer::Footer;
@@ -15,8 +15,8 @@ use tv_base::{Memory, Version};
 /// bytes.
 pub(crate) fn read_footer(alloc: Global, bytes: &[u8]) -> Result<Option<Footer>, Memory>
     ensures { IfOk result (λ found. MatchOption found
-        ((footer : Footer) (length : ℕ) → Spells bytes.now length footer → ⊥)
-        (λ footer. (length : ℕ) → Spells bytes.now length footer)) }
+        ((footer : Footer) (length : ℕ) → SpellsFooter bytes.now length footer → ⊥)
+        (λ footer. (length : ℕ) → SpellsFooter bytes.now length footer)) }
 {
     match Value::from_slice(alloc, bytes) {
         Ok(tree) => Ok(footer_of(&tree)),
@@ -33,8 +33,8 @@ pub(crate) fn read_footer(alloc: Global, bytes: &[u8]) -> Result<Option<Footer>,
 // The footer that a tree holds, whatever the length of the body is, if it has its fields.
 fn footer_of(tree: &Value) -> Option<Footer>
     ensures { MatchOption result
-        ((footer : Footer) (length : ℕ) → IsFooter (view tree.now) length footer → ⊥)
-        (λ footer. (length : ℕ) → IsFooter (view tree.now) length footer) }
+        ((footer : Footer) (length : ℕ) → HasFooterFields (view tree.now) length footer → ⊥)
+        (λ footer. (length : ℕ) → HasFooterFields (view tree.now) length footer) }
 {
     Some(Footer {
         version: version_of(tree.get("version")?)?,

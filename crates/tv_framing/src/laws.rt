@@ -2,11 +2,11 @@
 ghost use Rattle.std.specs.Prelude.{◌≡◌, ◌≢◌, ◌≤◌, ◌<◌, ◌+◌, ◌++◌, ◌^◌, List, ℕ, false, length};
 ghost use Rattle.std.specs.Prelude.{IfErr, IfOk, OnOk};
 ghost use Rattle.std.specs.Ordering.{nat_cmp, ordering_then};
-ghost use Rattle.tv_model.specs.Footer.{footer, footer_magic, four_bytes, stated};
+ghost use Rattle.tv_formats.specs.Footer.{footer, footer_magic, four_bytes, stated};
 ghost use Rattle.tv_framing.specs.declared.footer.Footer.{Footer};
 ghost use Rattle.tv_framing.specs.Composite.{AreDistinct, addresses};
 ghost use Rattle.tv_framing.specs.Faults.{OfFault};
-ghost use Rattle.tv_framing.specs.Footers.{FooterFits, HasOtherMagic, IsFramed};
+ghost use Rattle.tv_framing.specs.Footers.{HasFittingNumbers, HasOtherMagic, IsFramedAs};
 ghost use Rattle.tv_framing.specs.Footers.{footer_text, last_four, own_footer};
 ghost use Rattle.tv_framing.specs.Proxies.{SumsUp, seen};
 
@@ -22,15 +22,15 @@ use tv_checksum::Checksum;
 /// A footer that is written behind a body is read back, and so is the body: any footer, and the one
 /// with which a sealed file ends.
 pub fn footers_are_read_back()
-    ensures framed { (footer : Footer) (body : List ℕ) → FooterFits footer
-        → IsFramed (body ++ footer_text footer) footer body }
+    ensures framed { (footer : Footer) (body : List ℕ) → HasFittingNumbers footer
+        → IsFramedAs (body ++ footer_text footer) footer body }
     ensures sealed { (crc : ℕ) (body : List ℕ) → crc < 2 ^ 32
-        → IsFramed (body ++ footer crc) (own_footer crc) body }
+        → IsFramedAs (body ++ footer crc) (own_footer crc) body }
 {}
 
 /// A footer states how long its JSON is: that, and the eight bytes behind it, are the whole footer.
 pub fn states_its_length(alloc: Global, footer: &Footer) -> Result<Vec<u8>, Memory>
-    ensures { FooterFits footer.now
+    ensures { HasFittingNumbers footer.now
         → IfOk result (λ bytes. stated bytes.items + 8 ≡ length bytes.items) }
 {
     footer.to_bytes(alloc)

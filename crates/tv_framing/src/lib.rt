@@ -36,4 +36,4 @@ pub use per_field_usage::{FieldUsages, PerFieldSpaceUsage};
 pub use searcher_usage::SearcherSpaceUsage;
 pub use segment_usage::SegmentSpaceUsage;
 pub use store_usage::StoreSpaceUsage;
-pub use tv_model::SegmentComponent;
+pub use tv_formats::SegmentComponent;

@@ -9,7 +9,7 @@ use crate::per_field_usage::PerFieldSpaceUsage;
 use crate::store_usage::StoreSpaceUsage;
 use std::marker::Model;
 use tv_base::{ByteCount, Memory};
-use tv_model::SegmentComponent;
+use tv_formats::SegmentComponent;
 
 /// The space that the files of a segment take.
 #[derive(Drop)]

@@ -1,7 +1,7 @@
 //! Where the bodies of a composite file begin.
 ghost use Rattle.std.specs.Prelude.{◌≡◌, ◌≤◌, ◌-◌, ◌++◌, nat_le, nat_lt, IfOk, OnOk};
-ghost use Rattle.tv_model.specs.Footer.{four_bytes};
-ghost use Rattle.tv_model.specs.VInt.{vint};
+ghost use Rattle.tv_formats.specs.Footer.{four_bytes};
+ghost use Rattle.tv_formats.specs.VInt.{vint};
 ghost use Rattle.tv_framing.specs.Composite.{is_at};
 ghost use Rattle.tv_framing.specs.Starts.{Ascend, footing_text, start_addresses};
 ghost use Rattle.std.specs.List.{list_all, list_any};

@@ -1,6 +1,6 @@
 -- The blanks that are left out byte by byte are those outside the string literals.
 use Rattle.std.proofs.Common.{◌≡◌, ℕ, Bool, true, false, cond, ◌==◌, List, [], ◌∷◌, ◌++◌, refl, sym, ap, ◌∙◌, true≢false, eqb-true}
-use Rattle.tv_model.specs.Schemas.{is_blank, stripped, stripped_inside, stripped_escaped}
+use Rattle.tv_formats.specs.Schemas.{is_blank, stripped, stripped_inside, stripped_escaped}
 use Rattle.tv_index.specs.declared.stripping.Place.TheVariants.{Outside, Inside, Escaped}
 use Rattle.tv_index.specs.Stripping.{stripped_from}
 

@@ -5,7 +5,7 @@ use Rattle.json.specs.Tree as json
 use Rattle.serde_json.specs.Data.{Data, Num, unsigned, negative, float, null, boolean, number, string, array, object, Items, no_items, item, Members, no_members, member, depth, items_depth, members_depth}
 use Rattle.serde_json.specs.Find.{is_float}
 use Rattle.serde_json.specs.Written.{has_float, items_have_float, members_have_float, outline, items_outline, members_outline}
-use Rattle.tv_model.specs.Schemas.{is_bounded, are_bounded, have_bounded, is_integer}
+use Rattle.tv_formats.specs.Schemas.{is_bounded, are_bounded, have_bounded, is_integer}
 
 -- what is known of a tree that nests at most so deep
 pub record IsShallow (n : ℕ) (d : Data) : Type 0 where

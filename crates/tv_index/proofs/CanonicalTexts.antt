@@ -4,7 +4,7 @@ use Rattle.std.specs.Prelude.{IsUtf8}
 use Rattle.serde_json.specs.Data.{Data}
 use Rattle.serde_json.specs.Read.{read}
 use Rattle.serde_json.specs.Written.{compact_text, items_text}
-use Rattle.tv_model.specs.Schemas.{IsSchemaText, IsSchemaTree}
+use Rattle.tv_formats.specs.Schemas.{IsSchemaText, IsSchemaTree}
 
 pub canonical_form : (text : List ℕ) (d : Data) (names : List (List ℕ)) → IsSchemaTree d names → IsUtf8 text → text ≡ compact_text d → read text ≡ Some d
     → IsSchemaText text d

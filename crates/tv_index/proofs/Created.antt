@@ -10,9 +10,9 @@ use Rattle.tv_directory.specs.declared.directory.Directory.{Ghosts}
 use Rattle.tv_managed.specs.Managed.{KeepsOtherFiles}
 use Rattle.tv_managed.specs.Names.{ManagedNames}
 use Rattle.tv_managed.specs.Wrapping.{ListRefusal, NotWrapped, Wraps}
-use Rattle.tv_model.specs.Commits.{IndexForm}
-use Rattle.tv_model.specs.Files.{Rose}
-use Rattle.tv_model.specs.Names.{meta_name}
+use Rattle.tv_formats.specs.Commits.{IndexForm}
+use Rattle.tv_formats.specs.Files.{Rose}
+use Rattle.tv_formats.specs.Names.{meta_name}
 use Rattle.tv_index.specs.Indexes.{CreatesIndex, NotCreated}
 use Rattle.tv_index.specs.NewForms.{form_with, new_text}
 use Rattle.tv_index.specs.Saving.{FrameNotesUnless, LeavesText, SavesMeta}

@@ -16,12 +16,12 @@ use Rattle.tv_directory.specs.View.{OnlyReads}
 use Rattle.tv_directory.specs.declared.directory.Directory.{Ghosts}
 use Rattle.tv_managed.specs.Reading.{FooterFaults, OpenBodyCause, ReadsRefused, ReadsSuch, SomeRefused}
 use Rattle.tv_managed.specs.Names.{ManagedNames}
-use Rattle.tv_model.specs.Files.{Reads, Rose, Same}
-use Rattle.tv_model.specs.Meaning.{Means}
-use Rattle.tv_model.specs.Names.{has, is, meta_name}
-use Rattle.tv_model.proofs.Entries.{has_put, is_text}
-use Rattle.tv_model.proofs.Required.{by_one}
-use Rattle.tv_model.proofs.TextSets.{texts_inserted}
+use Rattle.tv_formats.specs.Files.{Reads, Rose, Same}
+use Rattle.tv_formats.specs.Meaning.{Means}
+use Rattle.tv_formats.specs.Names.{has, is, meta_name}
+use Rattle.tv_formats.proofs.Entries.{has_put, is_text}
+use Rattle.tv_formats.proofs.Required.{by_one}
+use Rattle.tv_formats.proofs.TextSets.{texts_inserted}
 use Rattle.tv_index.specs.Checksums.{AreDamaged, TellsFile, UnreadCause, UnreadFaults, UnreadFile, ValidateCause, ValidateFaults, looked_at}
 use Rattle.tv_index.specs.Indexes.{MeansSuch}
 use Rattle.tv_index.specs.Metas.{commit_of, settings_of}

@@ -3,8 +3,8 @@ use Rattle.std.proofs.Common.{◌≡◌, ℕ, List, [], ◌∷◌, codes, Some, 
 use Rattle.std.specs.Prelude.{is_some}
 use Rattle.serde_json.specs.Data.{Items, no_items, item}
 use Rattle.serde_json.specs.Find.{as_str}
-use Rattle.tv_model.specs.JsonFields.{field}
-use Rattle.tv_model.specs.Schemas.{AreFields}
+use Rattle.tv_formats.specs.JsonFields.{field}
+use Rattle.tv_formats.specs.Schemas.{AreFields}
 use Rattle.tv_index.specs.SchemaReading.{names_in}
 use Rattle.tv_index.proofs.Options.{and_then_some, and_then_is, map_some, is_there}
 

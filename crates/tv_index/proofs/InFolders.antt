@@ -6,8 +6,8 @@ use Rattle.tv_base.specs.declared.error.TantivyError.{TantivyError}
 use Rattle.tv_directory.specs.View.{OnlyReads}
 use Rattle.tv_directory.specs.Watch.{noted}
 use Rattle.tv_directory.specs.declared.directory.Directory.{Ghosts}
-use Rattle.tv_model.specs.Commits.{IndexForm}
-use Rattle.tv_model.specs.Names.{meta_name}
+use Rattle.tv_formats.specs.Commits.{IndexForm}
+use Rattle.tv_formats.specs.Names.{meta_name}
 use Rattle.tv_index.specs.Building.{Builder, LacksSchema}
 use Rattle.tv_index.specs.Folders.{IsUnmade, Makes, UnmadeCause}
 use Rattle.tv_index.specs.Indexes.{CreatesIndex, IndexState, NotCreated}

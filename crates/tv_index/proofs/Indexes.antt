@@ -8,15 +8,15 @@ use Rattle.tv_directory.specs.declared.directory.Directory.{Ghosts}
 use Rattle.tv_managed.specs.Frames.{KeepsNames}
 use Rattle.tv_managed.specs.Wrapping.{Wraps}
 use Rattle.tv_managed.specs.Names.{ManagedNames}
-use Rattle.tv_model.specs.Commits.{Commit, IsCommit, IsSegment, Settings}
-use Rattle.tv_model.specs.Meaning.{Means}
-use Rattle.tv_model.specs.Names.{meta_name}
-use Rattle.tv_model.specs.Segments.{num_deleted}
+use Rattle.tv_formats.specs.Commits.{Commit, IsCommit, IsSegment, Settings}
+use Rattle.tv_formats.specs.Meaning.{Means}
+use Rattle.tv_formats.specs.Names.{meta_name}
+use Rattle.tv_formats.specs.Segments.{num_deleted}
 use Rattle.tv_index.specs.Indexes.{KeepsIndex, MeansSuch}
 use Rattle.tv_index.specs.Metas.{commit_of, settings_of}
 use Rattle.tv_index.specs.Segments.{entry_of}
 use Rattle.tv_index.specs.Standing.{LoadsMeta}
-use Rattle.tv_index.specs.Tracked.{Kept, Share}
+use Rattle.tv_index.specs.Tracked.{KeptMetas, Share}
 use Rattle.tv_index.specs.declared.index_meta.UntrackedIndexMeta.{UntrackedIndexMeta}
 use Rattle.tv_index.specs.declared.index_settings.IndexSettings.{IndexSettings}
 use Rattle.tv_index.specs.declared.segment_meta.InnerSegmentMeta.{InnerSegmentMeta}
@@ -84,6 +84,6 @@ module _ {D W C : Type 0} (g : Ghosts D W C) (before : D) (wrapped : D × Manage
   }
 
 -- an index keeps all else where its directory's names stay
-pub keeps_index : {D W : Type 0} {keeps : View W → View W → Type 0} {view : D → View W} {old now : D × ManagedNames} (settings : IndexSettings) (schema : List ℕ) (kept : Kept) → KeepsNames keeps view old now
+pub keeps_index : {D W : Type 0} {keeps : View W → View W → Type 0} {view : D → View W} {old now : D × ManagedNames} (settings : IndexSettings) (schema : List ℕ) (kept : KeptMetas) → KeepsNames keeps view old now
     → KeepsIndex keeps view (record { directory = old; settings = settings; schema = schema; kept = kept }) (record { directory = now; settings = settings; schema = schema; kept = kept })
 keeps_index settings schema kept h = record { form = record { directory = h; settings = refl; schema = refl }; kept = refl }

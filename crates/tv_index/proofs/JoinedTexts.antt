@@ -1,7 +1,7 @@
 -- Texts that are printed piece by piece, and in lists with commas.
 use Rattle.std.proofs.Common.{◌≡◌, ℕ, Bool, List, [], ◌∷◌, ◌++◌, map, refl, sym, ap, ◌∙◌, append_assoc}
 use Rattle.std.specs.List.{join_with_byte}
-use Rattle.tv_model.proofs.JoinedTexts.{is_nil, join_last, separator}
+use Rattle.tv_formats.proofs.JoinedTexts.{is_nil, join_last, separator}
 
 -- two maps in a row are one
 pub map_map : {A B C : Type 0} (f : B → C) (g : A → B) (xs : List A) → map f (map g xs) ≡ map (λ x. f (g x)) xs

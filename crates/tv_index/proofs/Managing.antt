@@ -5,8 +5,8 @@ use Rattle.std.proofs.lemmas.Result.{on_err_weaker, on_ok_weaker}
 use Rattle.tv_directory.specs.declared.directory.Directory.{Ghosts}
 use Rattle.tv_managed.specs.Managed.{Covers, ManagesFile, registering}
 use Rattle.tv_managed.specs.Names.{ManagedNames}
-use Rattle.tv_model.specs.Listing.{IsOnList, Listing}
-use Rattle.tv_model.specs.Names.{has, meta_name}
+use Rattle.tv_formats.specs.Listing.{IsOnList, Listing}
+use Rattle.tv_formats.specs.Names.{has, meta_name}
 use Rattle.tv_index.proofs.Listings.{listing_after}
 use Rattle.tv_index.proofs.Options.{no_some}
 

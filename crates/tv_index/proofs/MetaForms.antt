@@ -5,10 +5,10 @@ use Rattle.std.specs.Str.{bytes_eq}
 use Rattle.std.proofs.lemmas.Slice.Eq.{bytes_eq-Decides}
 use Rattle.serde_json.specs.Data.{Data, string}
 use Rattle.serde_json.specs.Find.{get, as_array, as_object, as_str}
-use Rattle.tv_model.specs.Commits.{Commit, Settings}
-use Rattle.tv_model.specs.JsonFields.{IsOptional, field, or_default, bool_or, u64_or, u64_of}
-use Rattle.tv_model.specs.MetaJson.{AreSettingsAt, IsMetaTree, IsUncompressed}
-use Rattle.tv_model.specs.Schemas.{IsSchemaTree}
+use Rattle.tv_formats.specs.Commits.{Commit, Settings}
+use Rattle.tv_formats.specs.JsonFields.{IsOptional, field, or_default, bool_or, u64_or, u64_of}
+use Rattle.tv_formats.specs.MetaJson.{AreSettingsAt, IsMetaTree, IsUncompressed}
+use Rattle.tv_formats.specs.Schemas.{IsSchemaTree}
 use Rattle.tv_index.specs.declared.index_settings.Compressor.{Compressor}
 use Rattle.tv_index.specs.declared.index_settings.Compressor.TheVariants as compressors
 use Rattle.tv_index.specs.declared.index_settings.IndexSettings.{IndexSettings}

@@ -2,9 +2,9 @@
 use Rattle.std.proofs.Common.{◌≡◌, ℕ, Bool, true, false, ◌||◌, List, ◌∷◌, map, refl, sym, ap, ◌∙◌, string_bytes, String, Global}
 use Rattle.std.specs.String.{string_cmp}
 use Rattle.std.specs.BTreeSet.{insert_key}
-use Rattle.tv_model.specs.Names.{has, is}
-use Rattle.tv_model.proofs.Entries.{has_put}
-use Rattle.tv_model.proofs.TextSets.{texts_inserted}
+use Rattle.tv_formats.specs.Names.{has, is}
+use Rattle.tv_formats.proofs.Entries.{has_put}
+use Rattle.tv_formats.proofs.TextSets.{texts_inserted}
 
 grouped : (a b c : Bool) → ((a || b) || c) ≡ (b || (a || c))
 grouped true true c = refl

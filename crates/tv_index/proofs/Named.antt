@@ -8,9 +8,9 @@ use Rattle.std.specs.List.Sorted.{IsStrictlySortedBy}
 use Rattle.std.specs.String.{string_cmp}
 use Rattle.std.proofs.lemmas.Bool.Decides.{nat_tests}
 use Rattle.hex.specs.Hex.{encode_lower}
-use Rattle.tv_model.specs.Names.{byte_cmp}
-use Rattle.tv_model.specs.SegmentEvents.{is_named}
-use Rattle.tv_model.proofs.PlainNames.{both}
+use Rattle.tv_formats.specs.Names.{byte_cmp}
+use Rattle.tv_formats.specs.Segments.{is_named}
+use Rattle.tv_formats.proofs.PlainNames.{both}
 
 -- whether a text begins with some bytes
 abbrev begins : List ℕ → List ℕ → Bool

@@ -6,10 +6,10 @@ use Rattle.tv_directory.specs.ViewLaws.{reads_then}
 use Rattle.tv_directory.specs.declared.directory.Directory.{Ghosts}
 use Rattle.tv_managed.specs.Names.{ManagedNames}
 use Rattle.tv_managed.specs.Wrapping.{NotWrapped, Wraps}
-use Rattle.tv_model.specs.Commits.{Commit, Settings, default_settings, first_commit, new_form}
-use Rattle.tv_model.specs.Files.{Rose}
-use Rattle.tv_model.specs.Index.{FindsCommit, managed_with}
-use Rattle.tv_model.specs.Names.{meta_name}
+use Rattle.tv_formats.specs.Commits.{Commit, Settings, default_settings, first_commit, new_form}
+use Rattle.tv_formats.specs.Files.{Rose}
+use Rattle.tv_formats.specs.Sound.{FindsCommit, managed_with}
+use Rattle.tv_formats.specs.Names.{meta_name}
 use Rattle.tv_index.specs.Metas.{commit_of, settings_of}
 use Rattle.tv_index.specs.Openable.{FindsOpenable, IsOpenable, NotOpenable}
 use Rattle.tv_index.specs.Opening.{LoadCause, Loads}

@@ -1,16 +1,16 @@
 -- What a crash may leave at each moment of an opening: a sync, a wrap, a read, and a save where an index is made.
 use Rattle.std.proofs.Common.{◌≡◌, ⊎_elim, inl, inr, ℕ, List, Result, Ok, Err, subst, sym}
 use Rattle.std.specs.Prelude.{IfErr, IfOk, IsErr, IsErrAnd, MatchResult, OnOk}
-use Rattle.tv_model.specs.Names.{meta_name}
+use Rattle.tv_formats.specs.Names.{meta_name}
 use Rattle.tv_base.specs.Errors.{of_io}
 use Rattle.tv_base.specs.declared.error.TantivyError.{TantivyError}
 use Rattle.tv_base.specs.declared.error.TantivyError.TheVariants as errors
 use Rattle.tv_base.specs.declared.io.IoError.{IoError}
 use Rattle.tv_base.specs.declared.io.IoError.TheVariants as io
-use Rattle.tv_model.specs.Disk.{Disk, IsSettled, possible_now, Throughout}
-use Rattle.tv_model.specs.Listed.{ImagesListTheirFiles}
-use Rattle.tv_model.proofs.DiskLaws.{goes_on_run, weaker, within_step}
-use Rattle.tv_model.proofs.ListedImages.{images_list}
+use Rattle.tv_formats.specs.Disk.{Disk, IsSettled, possible_now, Throughout}
+use Rattle.tv_formats.specs.Listed.{ImagesListTheirFiles}
+use Rattle.tv_formats.proofs.DiskLaws.{goes_on_run, weaker, within_step}
+use Rattle.tv_formats.proofs.ListedImages.{images_list}
 use Rattle.tv_directory.specs.Images.{KeepsDisk, Settles}
 use Rattle.tv_directory.specs.declared.directory.Directory.{Ghosts}
 use Rattle.tv_managed.specs.Crashes.{LeavesSafely, WrapsDisk}

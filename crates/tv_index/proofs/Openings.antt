@@ -18,12 +18,12 @@ use Rattle.tv_managed.specs.Managed.{KeepsOtherFiles}
 use Rattle.tv_managed.specs.Wrapping.{ListRefusal, NotWrapped, Wraps}
 use Rattle.tv_managed.specs.declared.managed_directory.Refused.{Refused}
 use Rattle.tv_managed.specs.Names.{ManagedNames}
-use Rattle.tv_model.specs.Commits.{Commit, IndexForm, Settings, IsCommit, first_commit, new_form}
-use Rattle.tv_model.specs.Files.{Reads, Rose, Same}
-use Rattle.tv_model.specs.Index.{FindsCommit}
-use Rattle.tv_model.specs.Meaning.{Means, MeansNothing, MeansOther}
-use Rattle.tv_model.specs.Names.{meta_name}
-use Rattle.tv_model.proofs.SpelledCommits.{means_commit}
+use Rattle.tv_formats.specs.Commits.{Commit, IndexForm, Settings, IsCommit, first_commit, new_form}
+use Rattle.tv_formats.specs.Files.{Reads, Rose, Same}
+use Rattle.tv_formats.specs.Sound.{FindsCommit}
+use Rattle.tv_formats.specs.Meaning.{Means, MeansNothing, MeansOther}
+use Rattle.tv_formats.specs.Names.{meta_name}
+use Rattle.tv_formats.proofs.SpelledCommits.{means_commit}
 use Rattle.tv_index.specs.Metas.{commit_of, settings_of}
 use Rattle.tv_index.specs.NewForms.{FindsOrMakes, IsFirst, LeavesUnmade, NotLoaded, NotOpenedForm, OpensForm, new_text}
 use Rattle.tv_index.specs.Opening.{FrameNotesRefused, HasCommit, HasList, IsRefusedBytes, LoadCause, Loads, NotOpened, OfBytes, OpenCause, OpensIndex, TellsMeta}

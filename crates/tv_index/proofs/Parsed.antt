@@ -6,10 +6,10 @@ use Rattle.std.proofs.lemmas.Option.{same_Some}
 use Rattle.std.proofs.lemmas.Str.{IsUtf8-string_bytes}
 use Rattle.serde_json.specs.Data.{Data}
 use Rattle.serde_json.specs.Read.{read}
-use Rattle.tv_model.specs.Commits.{Commit, Settings}
-use Rattle.tv_model.specs.Meaning.{MeansNothing, SpellsNothing}
-use Rattle.tv_model.specs.MetaJson.{SpellsMeta}
-use Rattle.tv_model.specs.Schemas.{IsSchemaText}
+use Rattle.tv_formats.specs.Commits.{Commit, Settings}
+use Rattle.tv_formats.specs.Meaning.{MeansNothing, SpellsNothing}
+use Rattle.tv_formats.specs.MetaJson.{SpellsMeta}
+use Rattle.tv_formats.specs.Schemas.{IsSchemaText}
 use Rattle.tv_index.specs.declared.read_error.ReadError.{ReadError}
 use Rattle.tv_index.specs.declared.read_error.ReadError.TheVariants.{Corrupt, Memory}
 use Rattle.tv_index.specs.Choosing.{Chooses, IsOtherThan}

@@ -1,9 +1,9 @@
 -- Plain names.
 use Rattle.std.proofs.Common.{◌≡◌, ℕ, true, true≢false, List, ◌∷◌, map, sym, subst, string_bytes, String, Global}
 use Rattle.std.specs.List.{list_all}
-use Rattle.tv_model.specs.Listing.{IsListFile}
-use Rattle.tv_model.specs.Names.{is_plain}
-use Rattle.tv_model.proofs.PlainNames.{both}
+use Rattle.tv_formats.specs.Listing.{IsListFile}
+use Rattle.tv_formats.specs.Names.{is_plain}
+use Rattle.tv_formats.proofs.PlainNames.{both}
 
 pub plain_isnt_list : (name : List ℕ) → is_plain name ≡ true → IsListFile name → ⊥
 plain_isnt_list name plain is =

@@ -8,12 +8,12 @@ use Rattle.std.proofs.lemmas.Bool.Decides.{nat_tests}
 use Rattle.std.proofs.lemmas.List.Quantifiers.{position-Some}
 use Rattle.std.proofs.lemmas.List.Sums.{fails_before_first}
 use Rattle.serde_json.specs.Data.{Data, array, no_items}
-use Rattle.tv_model.specs.Commits.{Commit, Settings, printed}
-use Rattle.tv_model.specs.Meaning.{IsPrinted, IsNotPrinted, Means, SpellsNothing}
-use Rattle.tv_model.specs.MetaJson.{SpellsMeta}
-use Rattle.tv_model.proofs.CutApart.{after_schema, bare_spells, before_close, free_before, printed_cut}
-use Rattle.tv_model.proofs.OneMeaning.{one_meaning}
-use Rattle.tv_model.proofs.SpelledCommits.{spells_commit}
+use Rattle.tv_formats.specs.Commits.{Commit, Settings, printed}
+use Rattle.tv_formats.specs.Meaning.{IsPrinted, IsNotPrinted, Means, SpellsNothing}
+use Rattle.tv_formats.specs.MetaJson.{SpellsMeta}
+use Rattle.tv_formats.proofs.CutApart.{after_schema, bare_spells, before_close, free_before, printed_cut}
+use Rattle.tv_formats.proofs.OneMeaning.{one_meaning}
+use Rattle.tv_formats.proofs.SpelledCommits.{spells_commit}
 use Rattle.tv_index.specs.declared.index_meta.UntrackedIndexMeta.{UntrackedIndexMeta}
 use Rattle.tv_index.specs.declared.read_error.ReadError.{ReadError}
 use Rattle.tv_index.specs.Metas.{commit_of, settings_of}

@@ -14,21 +14,20 @@ use Rattle.tv_base.specs.declared.error.TantivyError.{TantivyError}
 use Rattle.tv_base.specs.declared.error.TantivyError.TheVariants as errors
 use Rattle.tv_directory.specs.declared.directory.Directory.{Ghosts}
 use Rattle.tv_managed.specs.declared.managed_directory.Refused.{Refused}
-use Rattle.tv_model.specs.declared.segment.DeleteMeta.{DeleteMeta}
-use Rattle.tv_model.specs.declared.segment.LiveSegment.{LiveSegment}
-use Rattle.tv_model.specs.Commits.{Commit, IndexForm, IsCommit, Settings, payload_text, printed, segment_text, settings_text}
-use Rattle.tv_model.specs.Files.{Same}
-use Rattle.tv_model.specs.JsonFields.{IsOptional, field, u32_of}
-use Rattle.tv_model.specs.Meaning.{Means, SpellsNothing}
-use Rattle.tv_model.specs.MetaJson.{AreSettings, AreSettingsAt, IsDeleteMeta, IsUncompressed, SpellEach, SpellsMeta, SpellsSegment}
-use Rattle.tv_model.specs.Names.{has, meta_name}
-use Rattle.tv_model.specs.Schemas.{IsSchemaText}
-use Rattle.tv_model.specs.SegmentEvents.{is_named}
-use Rattle.tv_model.specs.Segments.{num_deleted}
-use Rattle.tv_model.proofs.MeansOne.{means_no_other, means_one, means_something, means_spelled, spelled_means}
-use Rattle.tv_model.proofs.OneMeaning.{one_meaning}
-use Rattle.tv_model.proofs.ReadPrinted.{printed_means}
-use Rattle.tv_model.proofs.Required.{begins_named}
+use Rattle.tv_formats.specs.declared.segment.DeleteMeta.{DeleteMeta}
+use Rattle.tv_formats.specs.declared.segment.LiveSegment.{LiveSegment}
+use Rattle.tv_formats.specs.Commits.{Commit, IndexForm, IsCommit, Settings, payload_text, printed, segment_text, settings_text}
+use Rattle.tv_formats.specs.Files.{Same}
+use Rattle.tv_formats.specs.JsonFields.{IsOptional, field, u32_of}
+use Rattle.tv_formats.specs.Meaning.{Means, SpellsNothing}
+use Rattle.tv_formats.specs.MetaJson.{AreSettings, AreSettingsAt, IsDeleteMeta, IsUncompressed, SpellEach, SpellsMeta, SpellsSegment}
+use Rattle.tv_formats.specs.Names.{has, meta_name}
+use Rattle.tv_formats.specs.Schemas.{IsSchemaText}
+use Rattle.tv_formats.specs.Segments.{is_named, num_deleted}
+use Rattle.tv_formats.proofs.MeansOne.{means_no_other, means_one, means_something, means_spelled, spelled_means}
+use Rattle.tv_formats.proofs.OneMeaning.{one_meaning}
+use Rattle.tv_formats.proofs.ReadPrinted.{printed_means}
+use Rattle.tv_formats.proofs.Required.{begins_named}
 use Rattle.tv_index.specs.Laws.{DeletesTooMany, NamesCompression, ReadsBack, SaysCorrupt}
 use Rattle.tv_index.specs.Indexes.{IndexState, NewSegmentCause, OpensIndexOf, OpensStanding, is_id_used}
 use Rattle.tv_index.specs.Metas.{commit_of, settings_of}

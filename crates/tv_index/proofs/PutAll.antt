@@ -3,9 +3,9 @@ use Rattle.std.proofs.Common.{◌≡◌, ℕ, List, [], ◌∷◌, ◌++◌, Opt
 use Rattle.std.specs.Prelude.{IsPermutation}
 use Rattle.std.specs.BTreeMap.{insert_entry}
 use Rattle.std.proofs.lemmas.List.Sorted.{IsPermutation-sym, IsPermutation-trans}
-use Rattle.tv_model.specs.Names.{byte_cmp}
-use Rattle.tv_model.specs.Commits.{Commit}
-use Rattle.tv_model.proofs.OneMeaning.{one_permutation}
+use Rattle.tv_formats.specs.Names.{byte_cmp}
+use Rattle.tv_formats.specs.Commits.{Commit}
+use Rattle.tv_formats.proofs.OneMeaning.{one_permutation}
 use Rattle.tv_index.specs.TrackedMetas.{IsInOrder, put_all}
 use Rattle.tv_index.proofs.InOrder.{Entry, InIdOrder, in_order_put, stands_once}
 use Rattle.tv_index.proofs.SegmentForms.{moved, no_order}

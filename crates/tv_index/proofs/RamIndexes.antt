@@ -5,11 +5,11 @@ use Rattle.tv_base.specs.declared.error.TantivyError.{TantivyError}
 use Rattle.tv_base.specs.declared.error.TantivyError.TheVariants as errors
 use Rattle.tv_directory.specs.declared.directory.Directory.{Ghosts}
 use Rattle.tv_managed.specs.Wrapping.{ListRefusal}
-use Rattle.tv_model.specs.Commits.{IndexForm}
-use Rattle.tv_model.specs.Files.{Rose}
-use Rattle.tv_model.specs.Listing.{IsListFile}
-use Rattle.tv_model.specs.Names.{byte_cmp, meta_name}
-use Rattle.tv_model.proofs.ListTexts.{listing_of_none, listing_one}
+use Rattle.tv_formats.specs.Commits.{IndexForm}
+use Rattle.tv_formats.specs.Files.{Rose}
+use Rattle.tv_formats.specs.Listing.{IsListFile}
+use Rattle.tv_formats.specs.Names.{byte_cmp, meta_name}
+use Rattle.tv_formats.proofs.ListTexts.{listing_of_none, listing_one}
 use Rattle.tv_index.specs.Indexes.{CreatesIndex, IndexState, NotCreated}
 use Rattle.tv_index.specs.declared.index_settings.IndexSettings.{IndexSettings}
 

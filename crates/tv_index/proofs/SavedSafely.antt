@@ -8,10 +8,10 @@ use Rattle.tv_base.specs.declared.io.IoError.{IoError}
 use Rattle.tv_base.specs.declared.io.IoError.TheVariants as io
 use Rattle.tv_base.specs.declared.io.IoFault.{IoFault}
 use Rattle.tv_base.specs.Causes.{IoCause}
-use Rattle.tv_model.specs.Disk.{Sealed, Disk, possible_now, IsSettled, Throughout}
-use Rattle.tv_model.specs.Listed.{ListsEachFile}
-use Rattle.tv_model.specs.Names.{meta_name}
-use Rattle.tv_model.proofs.DiskLaws.{HoldsOfFewer, at_end, fewer_listed, fewer_within, goes_on_run, started, weaker, within_step}
+use Rattle.tv_formats.specs.Disk.{Sealed, Disk, possible_now, IsSettled, Throughout}
+use Rattle.tv_formats.specs.Listed.{ListsEachFile}
+use Rattle.tv_formats.specs.Names.{meta_name}
+use Rattle.tv_formats.proofs.DiskLaws.{HoldsOfFewer, at_end, fewer_listed, fewer_within, goes_on_run, started, weaker, within_step}
 use Rattle.tv_directory.specs.Images.{Settles}
 use Rattle.tv_directory.specs.declared.directory.Directory.{Ghosts}
 use Rattle.tv_managed.specs.Crashes.{AreListed, Gains, GivesSafely, GivesStates, IsNewList, IsTracked, KeepsTrack, LeavesSafely}

@@ -11,10 +11,10 @@ use Rattle.tv_base.specs.declared.io.IoError.{IoError}
 use Rattle.tv_base.specs.declared.io.IoError.TheVariants as io
 use Rattle.tv_directory.specs.declared.directory.Directory.{Ghosts}
 use Rattle.tv_managed.specs.Names.{ManagedNames}
-use Rattle.tv_model.specs.Commits.{Commit, IsCommit, IsSegment, Settings}
-use Rattle.tv_model.specs.Meaning.{Means}
-use Rattle.tv_model.specs.Names.{meta_name}
-use Rattle.tv_model.proofs.ReadPrinted.{printed_means}
+use Rattle.tv_formats.specs.Commits.{Commit, IsCommit, IsSegment, Settings}
+use Rattle.tv_formats.specs.Meaning.{Means}
+use Rattle.tv_formats.specs.Names.{meta_name}
+use Rattle.tv_formats.proofs.ReadPrinted.{printed_means}
 use Rattle.tv_index.specs.Saving.{LeavesText, SaveCause, SavesCommit, SavesMeta, saved_text}
 use Rattle.tv_index.specs.Schemas.{HasSchemaTree}
 use Rattle.tv_index.specs.TrackedMetas.{IsInOrder, tracked_commit}

@@ -3,8 +3,8 @@ use Rattle.std.proofs.Common.{◌≡◌, ℕ, List, Some, None, cond, option_and
 use Rattle.std.proofs.lemmas.Option.{same_Some}
 use Rattle.serde_json.specs.Data.{Data, null, boolean, number, string, array, object, Items, Members}
 use Rattle.serde_json.specs.Find.{as_array, as_object, as_str}
-use Rattle.tv_model.specs.Ids.{are_distinct}
-use Rattle.tv_model.specs.Schemas.{IsSchemaTree, is_bounded}
+use Rattle.tv_formats.specs.Ids.{are_distinct}
+use Rattle.tv_formats.specs.Schemas.{IsSchemaTree, is_bounded}
 use Rattle.tv_index.specs.SchemaReading.{names_in, names_of, if_distinct}
 use Rattle.tv_index.proofs.Options.{and_then_some, and_then_is, where_some}
 use Rattle.tv_index.proofs.FieldNames.{fields_to, fields_back}

@@ -9,7 +9,7 @@ use Rattle.std.proofs.lemmas.Str.{IsUtf8-string_bytes}
 use Rattle.serde_json.specs.Data.{Data}
 use Rattle.serde_json.specs.Read.{read}
 use Rattle.serde_json.specs.Written.{compact_text}
-use Rattle.tv_model.specs.Schemas.{IsSchema, IsSchemaText, IsSchemaTree, IsNoSchema, stripped}
+use Rattle.tv_formats.specs.Schemas.{IsSchema, IsSchemaText, IsSchemaTree, IsNoSchema, stripped}
 use Rattle.tv_index.specs.declared.read_error.ReadError.{ReadError}
 use Rattle.tv_index.specs.Reads.{IfCorrupt}
 use Rattle.tv_index.specs.SchemaReading.{names_of}

@@ -8,10 +8,10 @@ use Rattle.std.specs.BTreeMap.{is_at}
 use Rattle.std.specs.BTreeSet.{insert_key}
 use Rattle.std.specs.List.{list_any}
 use Rattle.std.specs.Ordering.{match_ordering}
-use Rattle.tv_model.specs.Ids.{are_distinct}
-use Rattle.tv_model.specs.Names.{byte_cmp, has, is}
-use Rattle.tv_model.proofs.Apart.{are_news, first, more}
-use Rattle.tv_model.proofs.Entries.{has_put, is_by_order, same_at}
+use Rattle.tv_formats.specs.Ids.{are_distinct}
+use Rattle.tv_formats.specs.Names.{byte_cmp, has, is}
+use Rattle.tv_formats.proofs.Apart.{are_news, first, more}
+use Rattle.tv_formats.proofs.Entries.{has_put, is_by_order, same_at}
 
 abbrev pub Text : Type 0
 Text = Bor (List ℕ)

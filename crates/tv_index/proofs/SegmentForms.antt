@@ -7,14 +7,13 @@ use Rattle.std.proofs.lemmas.Bool.Decides.{nat_tests}
 use Rattle.std.proofs.lemmas.List.Sorted.{IsPermutation-refl, IsPermutation-sym, IsPermutation-trans, IsPermutation-middle, IsPermutation-append_left}
 use Rattle.serde_json.specs.Data.{Data, null, boolean, number, string, array, object, Items, no_items, item}
 use Rattle.serde_json.specs.Find.{get, as_null}
-use Rattle.tv_model.specs.declared.segment.DeleteMeta.{DeleteMeta}
-use Rattle.tv_model.specs.declared.segment.LiveSegment.{LiveSegment}
-use Rattle.tv_model.specs.Names.{byte_cmp}
-use Rattle.tv_model.specs.JsonFields.{field, u32_of, u64_of, id_of, IsOptional}
-use Rattle.tv_model.specs.MetaJson.{IsDeleteMeta, SpellsSegment, SpellEach, SpellSegments}
-use Rattle.tv_model.specs.Segments.{num_deleted}
-use Rattle.tv_model.specs.State.{at}
-use Rattle.tv_model.proofs.OneMeaning.{one_permutation}
+use Rattle.tv_formats.specs.declared.segment.DeleteMeta.{DeleteMeta}
+use Rattle.tv_formats.specs.declared.segment.LiveSegment.{LiveSegment}
+use Rattle.tv_formats.specs.Names.{byte_cmp, at}
+use Rattle.tv_formats.specs.JsonFields.{field, u32_of, u64_of, id_of, IsOptional}
+use Rattle.tv_formats.specs.MetaJson.{IsDeleteMeta, SpellsSegment, SpellEach, SpellSegments}
+use Rattle.tv_formats.specs.Segments.{num_deleted}
+use Rattle.tv_formats.proofs.OneMeaning.{one_permutation}
 use Rattle.tv_index.specs.Segments.{unless_null, optional, delete_meta_of, if_within, segment_of, gathered}
 use Rattle.tv_index.proofs.Options.{and_then_some, map_some, and_then_is, where_some, unless_some}
 use Rattle.tv_index.proofs.InOrder.{Entry, InIdOrder, in_order_put, put_among, stands_once}

@@ -7,9 +7,9 @@ use Rattle.tv_base.specs.declared.error.TantivyError.TheVariants as errors
 use Rattle.tv_base.specs.declared.open_errors.OpenReadError.{OpenReadError}
 use Rattle.tv_base.specs.declared.open_errors.OpenReadError.TheVariants as opening
 use Rattle.tv_directory.specs.declared.directory.Directory.{Ghosts}
-use Rattle.tv_model.specs.Files.{Rose}
-use Rattle.tv_model.specs.Meaning.{Means, MeansNothing, MeansOther}
-use Rattle.tv_model.specs.Names.{meta_name}
+use Rattle.tv_formats.specs.Files.{Rose}
+use Rattle.tv_formats.specs.Meaning.{Means, MeansNothing, MeansOther}
+use Rattle.tv_formats.specs.Names.{meta_name}
 use Rattle.tv_index.specs.Metas.{commit_of, settings_of}
 use Rattle.tv_index.specs.Parsing.{IsForExpected, ParseCause, SpellsUnlessExpected}
 use Rattle.tv_index.specs.Opening.{HasCommit, LoadCause, LoadFaults, Loads, NoneIfAbsent, OfBytes}

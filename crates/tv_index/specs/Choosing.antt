@@ -2,8 +2,8 @@
 use Rattle.std.specs.Prelude.{◌≢◌, ℕ, List, Option, Some, None}
 use Rattle.serde_json.specs.Data.{Data}
 use Rattle.serde_json.specs.Read.{read}
-use Rattle.tv_model.specs.Meaning.{Means}
-use Rattle.tv_model.specs.Schemas.{IsSchemaText}
+use Rattle.tv_formats.specs.Meaning.{Means}
+use Rattle.tv_formats.specs.Schemas.{IsSchemaText}
 use Rattle.tv_index.specs.declared.index_meta.UntrackedIndexMeta.{UntrackedIndexMeta}
 use Rattle.tv_index.specs.Metas.{commit_of, settings_of}
 use Rattle.tv_index.specs.Parsing.{IsForExpected, MeansOtherThan, SpellsUnlessExpected}
@@ -19,8 +19,8 @@ Chooses expected tree None = IsOtherThan expected tree
 Chooses expected tree (Some schema) = IsSchemaText schema tree × IsForExpected expected schema
 
 -- the commit that the bytes mean, under such a schema
-abbrev pub Reads : (expected : Option (List ℕ)) → List ℕ → Option UntrackedIndexMeta → Type 0
-Reads expected bytes None = MeansOtherThan expected bytes
-Reads expected bytes (Some meta) =
+abbrev pub ReadsMeta : (expected : Option (List ℕ)) → List ℕ → Option UntrackedIndexMeta → Type 0
+ReadsMeta expected bytes None = MeansOtherThan expected bytes
+ReadsMeta expected bytes (Some meta) =
     Means (settings_of meta) meta.schema bytes (commit_of meta) × IsForExpected expected meta.schema
     × SpellsUnlessExpected expected bytes (settings_of meta) (commit_of meta)

@@ -1,9 +1,8 @@
 -- What calls leave to a crash, one after the other, where at most one of them makes an index.
 use Rattle.std.proofs.Common.{◌∙◌, ⊎_elim, inl, inr, ℕ, List, Result, refl, sym}
-use Rattle.tv_model.specs.Disk.{Disk, IsSettled, possible_now, Throughout, Within}
-use Rattle.tv_model.specs.Listed.{ImagesListTheirFiles}
-use Rattle.tv_model.proofs.DiskLaws.{HoldsOfFewer, at_end, fewer_within, goes_on_run, started, weaker}
-use Rattle.tv_model.proofs.DiskLaws.{within_step}
+use Rattle.tv_formats.specs.Disk.{Disk, IsSettled, possible_now, Throughout, Within}
+use Rattle.tv_formats.specs.Listed.{ImagesListTheirFiles}
+use Rattle.tv_formats.proofs.DiskLaws.{HoldsOfFewer, at_end, fewer_within, goes_on_run, started, weaker, within_step}
 use Rattle.tv_directory.specs.Images.{KeepsDisk, SameStates, Settles}
 use Rattle.tv_directory.specs.declared.directory.Directory.{Ghosts}
 use Rattle.tv_managed.specs.Names.{ManagedNames}
@@ -47,7 +46,8 @@ made_behind {old} {mid} text made making so first stands second =
     (weaker second (λ p states. ⊎_elim
     (λ within. inl (fewer_within (possible_now old) (possible_now mid) p within (at_end first)))
     (λ gains. inr (record {
-      each = λ n s is. ⊎_elim (λ standing. inl (standing ∙ stands n)) (λ given. inr (so given.0, given.1)) (gains.each n s is);
+      each = λ n s is. ⊎_elim (λ standing. inl (standing ∙ stands n))
+          (λ given. inr (so given.0, given.1)) (gains.each n s is);
     })) states))
 
 -- what is listed behind calls that make nothing
@@ -59,7 +59,8 @@ relisted_behind {old} {mid} made making so first stands second =
     (weaker second (λ p states. ⊎_elim
     (λ within. inl (fewer_within (possible_now old) (possible_now mid) p within (at_end first)))
     (λ gains. inr (record {
-      each = λ n s is. ⊎_elim (λ standing. inl (standing ∙ stands n)) (λ given. inr (so given.0, given.1)) (gains.each n s is);
+      each = λ n s is. ⊎_elim (λ standing. inl (standing ∙ stands n))
+          (λ given. inr (so given.0, given.1)) (gains.each n s is);
     })) states))
 
 module _ {D W C : Type 0} (g : Ghosts D W C) where
@@ -78,11 +79,13 @@ module _ {D W C : Type 0} (g : Ghosts D W C) where
   }
 
   -- a sync
-  pub looks_settled : {A E : Type 0} {before now : D} {result : Result A E} → Settles (g.disk before) (g.disk now) result → OnlyLooks g before now
+  pub looks_settled : {A E : Type 0} {before now : D} {result : Result A E}
+      → Settles (g.disk before) (g.disk now) result → OnlyLooks g before now
   looks_settled settles = record { moments = within_step settles.time settles.no_more; stands = settles.now }
 
   -- nothing was made, and then nothing was
-  pub looks_then : {before mid now : D} → OnlyLooks g before mid → OnlyLooks g mid now → OnlyLooks g before now
+  pub looks_then : {before mid now : D} → OnlyLooks g before mid
+      → OnlyLooks g mid now → OnlyLooks g before now
   looks_then first second = record {
     moments = within_then first.moments second.moments;
     stands = λ n. second.stands n ∙ first.stands n;
@@ -93,7 +96,8 @@ module _ {D W C : Type 0} (g : Ghosts D W C) where
     pub looks_make : {before now : D} → OnlyLooks g before now → MayMake g made text before now
     looks_make {before} looks = record {
       moments = weaker looks.moments (λ p within. inl within);
-      listed = λ lists. weaker looks.moments (λ p within. fewer_imaged (possible_now (g.disk before)) p within lists);
+      listed = λ lists. weaker looks.moments (λ p within.
+          fewer_imaged (possible_now (g.disk before)) p within lists);
     }
 
     -- nothing was, and then an index may have been
@@ -102,26 +106,32 @@ module _ {D W C : Type 0} (g : Ghosts D W C) where
     makes_behind {before} {mid} making so looks makes = record {
       moments = made_behind text made making so looks.moments looks.stands makes.moments;
       listed = λ lists.
-          let first = weaker looks.moments (λ p within. fewer_imaged (possible_now (g.disk before)) p within lists) in
+          let first =
+          weaker looks.moments (λ p within. fewer_imaged (possible_now (g.disk before)) p within lists) in
           goes_on_run ImagesListTheirFiles fewer_imaged first (makes.listed (at_end first));
     }
 
     -- an index may have been made, and then nothing was
-    pub makes_then : {before mid now : D} → MayMake g made text before mid → OnlyLooks g mid now → MayMake g made text before now
+    pub makes_then : {before mid now : D} → MayMake g made text before mid → OnlyLooks g mid now
+        → MayMake g made text before now
     makes_then {before} {mid} makes looks = record {
       moments = goes_on_run _ (fewer_made made (g.disk before) text) makes.moments
-          (weaker looks.moments (λ p within. fewer_made made (g.disk before) text (possible_now (g.disk mid)) p within (at_end makes.moments)));
+          (weaker looks.moments (λ p within. fewer_made made (g.disk before) text
+          (possible_now (g.disk mid)) p within (at_end makes.moments)));
       listed = λ lists.
           let first = makes.listed lists in
           goes_on_run ImagesListTheirFiles fewer_imaged first
-          (weaker looks.moments (λ p within. fewer_imaged (possible_now (g.disk mid)) p within (at_end first)));
+          (weaker looks.moments (λ p within. fewer_imaged
+          (possible_now (g.disk mid)) p within (at_end first)));
     }
 
   -- track is kept behind calls that make nothing
-  pub tracks_behind : {before mid : D} {now : D × ManagedNames} → OnlyLooks g before mid → TracksFrom g mid now
+  pub tracks_behind : {before mid : D} {now : D × ManagedNames}
+      → OnlyLooks g before mid → TracksFrom g mid now
       → TracksFrom g before now
   tracks_behind {before} {mid} looks tracks =
-      let fewer = fewer_imaged (possible_now (g.disk before)) (possible_now (g.disk mid)) (at_end looks.moments) in
+      let fewer =
+      fewer_imaged (possible_now (g.disk before)) (possible_now (g.disk mid)) (at_end looks.moments) in
       record {
         settled = tracks.settled;
         tracked = λ images. tracks.tracked (fewer images);

@@ -2,10 +2,10 @@
 use Rattle.std.specs.Prelude.{◌≡◌, ◌⊎◌, ℕ, List, None, Result, IfErr, MatchResult, OnOk}
 use Rattle.tv_base.specs.declared.error.TantivyError.{TantivyError}
 use Rattle.tv_base.specs.declared.error.TantivyError.TheVariants as errors
-use Rattle.tv_model.specs.Disk.{DiskState, Sealed, Possible, Disk, possible_now, Within, IsSettled, Throughout, OnlyMoves}
-use Rattle.tv_model.specs.Listed.{ImagesListTheirFiles}
-use Rattle.tv_model.specs.Listing.{IsListFile}
-use Rattle.tv_model.specs.Names.{meta_name}
+use Rattle.tv_formats.specs.Disk.{DiskState, Sealed, Possible, Disk, possible_now, Within, IsSettled, Throughout, OnlyMoves}
+use Rattle.tv_formats.specs.Listed.{ImagesListTheirFiles}
+use Rattle.tv_formats.specs.Listing.{IsListFile}
+use Rattle.tv_formats.specs.Names.{meta_name}
 use Rattle.tv_directory.specs.Images.{SameStates}
 use Rattle.tv_directory.specs.declared.directory.Directory.{Ghosts}
 use Rattle.tv_managed.specs.Crashes.{AreListed, Gains, IsGiven, IsNewList, IsTracked, OrItsList}
@@ -85,7 +85,8 @@ pub record OnlyLooks {D W C : Type 0} (g : Ghosts D W C) (before now : D) : Type
 -- An opening that makes an index with this first text where `made` is so, whatever it answers: at each
 -- moment a crash leaves no more than it might before, or what may be left of making it. Where each image
 -- that it might leave before listed its files, each that it may leave at any moment does.
-pub record MayMake {D W C : Type 0} (g : Ghosts D W C) (made : Type 0) (text : List ℕ) (before now : D) : Type 0 where
+pub record MayMake {D W C : Type 0} (g : Ghosts D W C) (made : Type 0) (text : List ℕ)
+    (before now : D) : Type 0 where
   pub moments : Throughout (IsOldOrMade made (g.disk before) text) (g.disk before) (g.disk now)
   pub listed : ImagesListTheirFiles (possible_now (g.disk before))
       → Throughout ImagesListTheirFiles (g.disk before) (g.disk now)

@@ -8,16 +8,17 @@ use Rattle.tv_base.specs.declared.error.TantivyError.TheVariants as errors
 use Rattle.tv_base.specs.declared.open_errors.OpenDirectoryError.{OpenDirectoryError}
 use Rattle.tv_directory.specs.View.{OnlyReads}
 use Rattle.tv_directory.specs.declared.directory.Directory.{Ghosts}
-use Rattle.tv_files.specs.Folders.{OpenCause}
-use Rattle.tv_model.specs.Files.{Rose}
-use Rattle.tv_model.specs.Names.{meta_name}
+use Rattle.tv_files.specs.Folders.{OpenFolderCause}
+use Rattle.tv_formats.specs.Files.{Rose}
+use Rattle.tv_formats.specs.Names.{meta_name}
 use Rattle.tv_index.specs.Building.{Builder, IsUnpassed}
 use Rattle.tv_index.specs.Indexes.{CreatesIndex, IndexState, NotCreated, NotStanding, OpensStanding}
 use Rattle.tv_index.specs.NewForms.{form_with}
 
 -- the folder of this path isn't opened, for its cause
 abbrev pub IsNoFolder : (path : List ℕ) → TantivyError → Type 0
-IsNoFolder path error = (why : OpenDirectoryError) × OpenCause path why × (error ≡ of_open_directory why)
+IsNoFolder path error =
+    (why : OpenDirectoryError) × OpenFolderCause path why × (error ≡ of_open_directory why)
 
 -- a directory that was just opened: nobody watches it, no notice stands, and no call was refused
 pub record IsJustOpened {D W C : Type 0} (g : Ghosts D W C) (directory : D) : Type 0 where
@@ -26,11 +27,13 @@ pub record IsJustOpened {D W C : Type 0} (g : Ghosts D W C) (directory : D) : Ty
   pub refusals : (g.view directory).refusals ≡ 0
 
 -- a directory that was just opened was refused so
-abbrev pub IsRefused : {D W C : Type 0} → Ghosts D W C → (why : (before now : D) → TantivyError → Type 0) → TantivyError → Type 0
+abbrev pub IsRefused : {D W C : Type 0} → Ghosts D W C
+    → (why : (before now : D) → TantivyError → Type 0) → TantivyError → Type 0
 IsRefused {D} g why error = (before : D) × IsJustOpened g before × ((now : D) × why before now error)
 
 -- Why there is no index in a folder: it isn't opened, or the directory that was opened in it was refused.
-abbrev pub RefusedIn : {D W C : Type 0} → Ghosts D W C → (path : List ℕ) → (why : (before now : D) → TantivyError → Type 0) → TantivyError → Type 0
+abbrev pub RefusedIn : {D W C : Type 0} → Ghosts D W C → (path : List ℕ)
+    → (why : (before now : D) → TantivyError → Type 0) → TantivyError → Type 0
 RefusedIn g path why error = IsNoFolder path error ⊎ IsRefused g why error
 
 -- the index that stands in a directory that was just opened is open
@@ -41,7 +44,8 @@ IsOpenIn {D} g index = (before : D) × IsJustOpened g before × OpensStanding g 
 abbrev pub NotOpenIn : {D W C : Type 0} → Ghosts D W C → (path : List ℕ) → TantivyError → Type 0
 NotOpenIn g path error = RefusedIn g path (NotStanding g) error
 
--- Why a directory is refused in which an index stands, which is `stands`; the device may refuse to say so, and memory may be wanted.
+-- Why a directory is refused in which an index stands, which is `stands`; the device may refuse to say so,
+-- and memory may be wanted.
 abbrev pub StandsCause : (stands refused quiet : Type 0) → TantivyError → Type 0
 StandsCause stands refused quiet errors.IndexAlreadyExists = stands
 StandsCause stands refused quiet (errors.IoError fault) = IsDevice fault × refused
@@ -50,7 +54,9 @@ StandsCause stands refused quiet other = ⊥
 
 -- A directory is refused where `meta.json` reads, or where that isn't known. Nothing was changed.
 pub record HasIndex {D W C : Type 0} (g : Ghosts D W C) (before now : D) (error : TantivyError) : Type 0 where
-  pub cause : StandsCause ((g.told.content → IsSome ((g.view before).reads meta_name)) × ((g.view now).faults ≡ (g.view before).faults)) (Rose (g.view before).faults (g.view now).faults) ((g.view now).faults ≡ (g.view before).faults) error
+  pub cause : StandsCause ((g.told.content → IsSome ((g.view before).reads meta_name))
+      × ((g.view now).faults ≡ (g.view before).faults)) (Rose (g.view before).faults (g.view now).faults)
+      ((g.view now).faults ≡ (g.view before).faults) error
   pub frame : OnlyReads g.told (g.view before) (g.view now)
 
 -- None stands there: `meta.json` doesn't read. Nothing was changed.
@@ -66,12 +72,15 @@ pub record IsUnsaid {D W C : Type 0} (g : Ghosts D W C) (before now : D) (error 
   pub frame : OnlyReads g.told (g.view before) (g.view now)
 
 -- an index isn't made of what a builder has: no schema was passed, or the directory refused it
-abbrev pub UnmadeCause : {D W C : Type 0} → Ghosts D W C → Builder → (schema : Option (List ℕ)) → (before now : D) → TantivyError → Type 0
+abbrev pub UnmadeCause : {D W C : Type 0} → Ghosts D W C → Builder → (schema : Option (List ℕ))
+    → (before now : D) → TantivyError → Type 0
 UnmadeCause g builder None before now error = IsUnsaid g before now error
-UnmadeCause g builder (Some schema) before now error = NotCreated g before (form_with builder.settings schema) now error
+UnmadeCause g builder (Some schema) before now error =
+    NotCreated g before (form_with builder.settings schema) now error
 
 -- No index stands in the directory, and none is made of what a builder has.
-pub record IsUnmade {D W C : Type 0} (g : Ghosts D W C) (builder : Builder) (before now : D) (error : TantivyError) : Type 0 where
+pub record IsUnmade {D W C : Type 0} (g : Ghosts D W C) (builder : Builder) (before now : D)
+    (error : TantivyError) : Type 0 where
   pub absent : g.told.content → (g.view before).reads meta_name ≡ None
   pub cause : UnmadeCause g builder builder.schema before now error
 
@@ -85,7 +94,8 @@ abbrev pub NotMadeIn : {D W C : Type 0} → Ghosts D W C → (path : List ℕ) �
 NotMadeIn g path builder error = RefusedIn g path (NotMade g builder) error
 
 -- A new index of what a builder has stands in a directory in which none stood.
-pub record Makes {D W C : Type 0} (g : Ghosts D W C) (builder : Builder) (before : D) (index : IndexState D) : Type 0 where
+pub record Makes {D W C : Type 0} (g : Ghosts D W C) (builder : Builder) (before : D)
+    (index : IndexState D) : Type 0 where
   pub absent : g.told.content → (g.view before).reads meta_name ≡ None
   pub creates : IsSomeAnd builder.schema (λ schema. CreatesIndex g before builder.settings schema index)
 

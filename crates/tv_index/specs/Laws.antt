@@ -5,9 +5,9 @@ use Rattle.serde_json.specs.Find.{at, get}
 use Rattle.serde_json.specs.Read.{read}
 use Rattle.tv_base.specs.declared.error.TantivyError.{TantivyError}
 use Rattle.tv_base.specs.declared.error.TantivyError.TheVariants as errors
-use Rattle.tv_model.specs.Disk.{Disk, DiskState, Possible, possible_now}
-use Rattle.tv_model.specs.JsonFields.{field, u32_of}
-use Rattle.tv_model.specs.Names.{meta_name}
+use Rattle.tv_formats.specs.Disk.{Disk, DiskState, Possible, possible_now}
+use Rattle.tv_formats.specs.JsonFields.{field, u32_of}
+use Rattle.tv_formats.specs.Names.{meta_name}
 use Rattle.tv_index.specs.Metas.{commit_of, settings_of}
 use Rattle.tv_index.specs.declared.index_meta.UntrackedIndexMeta.{UntrackedIndexMeta}
 

@@ -1,7 +1,7 @@
 -- The commit and the settings that a value has.
 use Rattle.std.specs.Prelude.{ℕ, List, Option, option_map, map, String, string_bytes}
 use Rattle.std.specs.declared.alloc.Global.{Global}
-use Rattle.tv_model.specs.Commits.{Commit, Settings}
+use Rattle.tv_formats.specs.Commits.{Commit, Settings}
 use Rattle.tv_index.specs.declared.index_meta.UntrackedIndexMeta.{UntrackedIndexMeta}
 use Rattle.tv_index.specs.Settings.{settings_view}
 use Rattle.tv_index.specs.Segments.{entry_of}
@@ -16,4 +16,8 @@ settings_of meta = settings_view meta.index_settings
 
 -- the commit that was read, as definitions see it
 abbrev pub commit_of : UntrackedIndexMeta → Commit
-commit_of meta = record { opstamp = meta.opstamp; payload = text_of meta.payload; segments = map entry_of meta.segments.items }
+commit_of meta = record {
+  opstamp = meta.opstamp;
+  payload = text_of meta.payload;
+  segments = map entry_of meta.segments.items;
+}

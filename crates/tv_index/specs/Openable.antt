@@ -4,8 +4,8 @@ use Rattle.tv_base.specs.declared.error.TantivyError.{TantivyError}
 use Rattle.tv_directory.specs.View.{OnlyReads}
 use Rattle.tv_directory.specs.declared.directory.Directory.{Ghosts}
 use Rattle.tv_index.specs.Opening.{Finds, OpenCause}
-use Rattle.tv_model.specs.Commits.{Commit, IndexForm}
-use Rattle.tv_model.specs.Files.{Reads, Rose}
+use Rattle.tv_formats.specs.Commits.{Commit, IndexForm}
+use Rattle.tv_formats.specs.Files.{Reads, Rose}
 
 -- With some settings, some commit and some managed names an index of this schema opens in a directory
 -- that reads so: what reads as the list is one, or isn't there, and `meta.json` means a commit of this

@@ -3,9 +3,9 @@
 use Rattle.std.specs.Prelude.{ℕ, ◌≡◌, ◌==◌, List, ◌++◌, Bool, true, not, codes, Option, Some, None}
 use Rattle.std.specs.List.{list_all}
 use Rattle.serde_json.specs.Data.{Data}
-use Rattle.tv_model.specs.Commits.{Commit, Settings}
-use Rattle.tv_model.specs.Meaning.{IsPrinted, IsNotPrinted}
-use Rattle.tv_model.specs.MetaJson.{SpellsMeta}
+use Rattle.tv_formats.specs.Commits.{Commit, Settings}
+use Rattle.tv_formats.specs.Meaning.{IsPrinted, IsNotPrinted}
+use Rattle.tv_formats.specs.MetaJson.{SpellsMeta}
 use Rattle.tv_index.specs.declared.reading.Body.{Body}
 use Rattle.tv_index.specs.MetaReading.{held_by}
 

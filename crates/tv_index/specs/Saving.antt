@@ -9,13 +9,14 @@ use Rattle.tv_directory.specs.View.{View, Told, Frame}
 use Rattle.tv_directory.specs.Watch.{MayNote, noted}
 use Rattle.tv_directory.specs.declared.directory.Directory.{Ghosts}
 use Rattle.tv_managed.specs.Names.{ManagedNames}
-use Rattle.tv_model.specs.Commits.{Commit, Settings, printed}
-use Rattle.tv_model.specs.Files.{Rose}
-use Rattle.tv_model.specs.Listing.{Listing}
-use Rattle.tv_model.specs.Meaning.{Means}
-use Rattle.tv_model.specs.Names.{byte_cmp, meta_name}
+use Rattle.tv_formats.specs.Commits.{Commit, Settings, printed}
+use Rattle.tv_formats.specs.Files.{Rose}
+use Rattle.tv_formats.specs.Listing.{Listing}
+use Rattle.tv_formats.specs.Meaning.{Means}
+use Rattle.tv_formats.specs.Names.{byte_cmp, meta_name}
 
--- Nothing was told, no lock was taken or freed, and nobody was registered or called; a notice of a commit may stand.
+-- Nothing was told, no lock was taken or freed, and nobody was registered or called; a notice of a commit may
+-- stand.
 pub record FrameNotes {W : Type 0} (told : Told) (old new : View W) : Type 0 where
   pub frame : Frame told old new
   pub watched : MayNote meta_name old.watched new.watched
@@ -31,7 +32,8 @@ IsUnrefused (errors.IoError fault) = ⊥
 IsUnrefused other = Unit {0}
 
 -- The text is that of `meta.json`, which is managed, and a notice of it stands.
-pub record SavesMeta {D W C : Type 0} (g : Ghosts D W C) (old new : D × ManagedNames) (text : List ℕ) : Type 0 where
+pub record SavesMeta {D W C : Type 0} (g : Ghosts D W C) (old new : D × ManagedNames)
+    (text : List ℕ) : Type 0 where
   pub names : new.1 ≡ record old.1 { managed = insert_key byte_cmp old.1.managed meta_name }
   pub saved : g.told.content → (g.view new.0).reads meta_name ≡ Some text
   pub list : g.told.content → Listing (g.view old.0).reads old.1.managed
@@ -39,15 +41,20 @@ pub record SavesMeta {D W C : Type 0} (g : Ghosts D W C) (old new : D × Managed
   pub notes : (g.view new.0).watched ≡ noted meta_name (g.view old.0).watched
 
 -- After an error `meta.json` has this text, or what it had; after want of memory what it had.
-pub record LeavesText {A D W C : Type 0} (g : Ghosts D W C) (old new : D) (text : List ℕ) (result : Result A IoError) : Type 0 where
-  pub either : g.told.content → OnErr result (((g.view new).reads meta_name ≡ Some text) ⊎ ((g.view new).reads meta_name ≡ (g.view old).reads meta_name))
-  pub memory : g.told.content → IfErr result (IoCause (Unit {0}) ((g.view new).reads meta_name ≡ (g.view old).reads meta_name))
+pub record LeavesText {A D W C : Type 0} (g : Ghosts D W C) (old new : D) (text : List ℕ)
+    (result : Result A IoError) : Type 0 where
+  pub either : g.told.content → OnErr result
+      (((g.view new).reads meta_name ≡ Some text)
+      ⊎ ((g.view new).reads meta_name ≡ (g.view old).reads meta_name))
+  pub memory : g.told.content
+      → IfErr result (IoCause (Unit {0}) ((g.view new).reads meta_name ≡ (g.view old).reads meta_name))
 
 -- the text of `meta.json` of a commit
 abbrev pub saved_text : Settings → (schema : List ℕ) → Commit → List ℕ
 saved_text settings schema commit = printed settings schema commit ++ 10 ∷ []
 
--- What is true of each answer of a call that saves: `refused` where the device refused it, `quiet` where memory was wanted.
+-- What is true of each answer of a call that saves: `refused` where the device refused it, `quiet` where
+-- memory was wanted.
 abbrev pub SaveCause : (refused quiet : Type 0) → TantivyError → Type 0
 SaveCause refused quiet (errors.IoError fault) = IsDevice fault × refused
 SaveCause refused quiet errors.Memory = quiet
@@ -60,12 +67,18 @@ pub record SaveFaults {A W : Type 0} (old new : View W) (result : Result A Tanti
   pub cause : IfErr result (SaveCause (Rose old.faults new.faults) (new.faults ≡ old.faults))
 
 -- After an error `meta.json` has this text, or what it had; after want of memory what it had.
-pub record LeavesOne {A D W C : Type 0} (g : Ghosts D W C) (old new : D) (text : List ℕ) (result : Result A TantivyError) : Type 0 where
-  pub either : g.told.content → OnErr result (((g.view new).reads meta_name ≡ Some text) ⊎ ((g.view new).reads meta_name ≡ (g.view old).reads meta_name))
-  pub memory : g.told.content → IfErr result (SaveCause (Unit {0}) ((g.view new).reads meta_name ≡ (g.view old).reads meta_name))
+pub record LeavesOne {A D W C : Type 0} (g : Ghosts D W C) (old new : D) (text : List ℕ)
+    (result : Result A TantivyError) : Type 0 where
+  pub either : g.told.content → OnErr result
+      (((g.view new).reads meta_name ≡ Some text)
+      ⊎ ((g.view new).reads meta_name ≡ (g.view old).reads meta_name))
+  pub memory : g.told.content
+      → IfErr result (SaveCause (Unit {0}) ((g.view new).reads meta_name ≡ (g.view old).reads meta_name))
 
--- `meta.json`, which is managed, has the text of this commit, and means it. After an error it has that text, or what it had.
-pub record SavesCommit {A D W C : Type 0} (g : Ghosts D W C) (old new : D × ManagedNames) (settings : Settings) (schema : List ℕ) (commit : Commit) (result : Result A TantivyError) : Type 0 where
+-- `meta.json`, which is managed, has the text of this commit, and means it. After an error it has that text,
+-- or what it had.
+pub record SavesCommit {A D W C : Type 0} (g : Ghosts D W C) (old new : D × ManagedNames)
+    (settings : Settings) (schema : List ℕ) (commit : Commit) (result : Result A TantivyError) : Type 0 where
   pub saves : OnOk result (SavesMeta g old new (saved_text settings schema commit))
   pub means : Means settings schema (saved_text settings schema commit) commit
   pub leaves : LeavesOne g old.0 new.0 (saved_text settings schema commit) result

@@ -3,7 +3,7 @@ use Rattle.std.specs.Prelude.{◌≡◌, ℕ, List, codes, Some, string_bytes}
 use Rattle.serde_json.specs.Data.{Data}
 use Rattle.serde_json.specs.Read.{read}
 use Rattle.serde_json.specs.Written.{compact_text}
-use Rattle.tv_model.specs.Schemas.{IsSchemaText, IsSchemaTree, IsNoSchema}
+use Rattle.tv_formats.specs.Schemas.{IsSchemaText, IsSchemaTree, IsNoSchema}
 use Rattle.tv_base.specs.declared.error.TantivyError.{TantivyError}
 use Rattle.tv_base.specs.declared.error.TantivyError.TheVariants as errors
 
@@ -22,7 +22,8 @@ pub record HasNames (text : List ℕ) (names : List (List ℕ)) : Type 0 where
 abbrev pub IsNoSchemaText : List ℕ → Type 0
 IsNoSchemaText text = (tree : Data) → IsSchemaText text tree → ⊥
 
--- What is kept of a schema: its text, the names of its fields, and the text of its tree with the keys in the order of their bytes and without blanks.
+-- What is kept of a schema: its text, the names of its fields, and the text of its tree with the keys in the
+-- order of their bytes and without blanks.
 pub record IsKept (text : List ℕ) (names : List (List ℕ)) (canonical : List ℕ) : Type 0 where
   pub tree : Data
   pub text_is : IsSchemaText text tree
@@ -32,6 +33,7 @@ pub record IsKept (text : List ℕ) (names : List (List ℕ)) (canonical : List 
 
 -- bytes are refused where they spell no schema, and only there, but for want of memory
 abbrev pub SchemaCause : List ℕ → TantivyError → Type 0
-SchemaCause bytes (errors.InvalidArgument text) = (string_bytes text ≡ codes "the schema is not of the stated form") × IsNoSchema bytes
+SchemaCause bytes (errors.InvalidArgument text) =
+    (string_bytes text ≡ codes "the schema is not of the stated form") × IsNoSchema bytes
 SchemaCause bytes errors.Memory = Unit {0}
 SchemaCause bytes other = ⊥

@@ -1,6 +1,6 @@
 -- How the blanks of a text are left out, byte by byte.
 use Rattle.std.specs.Prelude.{ℕ, List, [], ◌∷◌, ◌++◌, ◌==◌, Bool, false, if◌then◌else◌}
-use Rattle.tv_model.specs.Schemas.{is_blank}
+use Rattle.tv_formats.specs.Schemas.{is_blank}
 use Rattle.tv_index.specs.declared.stripping.Place.{Place}
 use Rattle.tv_index.specs.declared.stripping.Place.TheVariants.{Outside, Inside, Escaped}
 
@@ -19,4 +19,5 @@ is_left_out Escaped b = false
 -- the text without the blanks outside of strings, from a place on
 abbrev pub stripped_from : Place → List ℕ → List ℕ
 stripped_from place [] = []
-stripped_from place (b ∷ bytes) = (if is_left_out place b then [] else b ∷ []) ++ stripped_from (place_after place b) bytes
+stripped_from place (b ∷ bytes) =
+    (if is_left_out place b then [] else b ∷ []) ++ stripped_from (place_after place b) bytes

@@ -2,9 +2,9 @@
 use Rattle.std.specs.Prelude.{ℕ, ◌≡◌, List, [], ◌∷◌, map, IsPermutation}
 use Rattle.std.specs.BTreeMap.{insert_entry}
 use Rattle.std.specs.List.Sorted.{IsStrictlySortedBy}
-use Rattle.tv_model.specs.declared.segment.LiveSegment.{LiveSegment}
-use Rattle.tv_model.specs.Commits.{Commit, Settings}
-use Rattle.tv_model.specs.Names.{byte_cmp}
+use Rattle.tv_formats.specs.declared.segment.LiveSegment.{LiveSegment}
+use Rattle.tv_formats.specs.Commits.{Commit, Settings}
+use Rattle.tv_formats.specs.Names.{byte_cmp}
 use Rattle.tv_index.specs.declared.tracked_meta.IndexMeta.{IndexMeta}
 use Rattle.tv_index.specs.Metas.{text_of}
 use Rattle.tv_index.specs.Settings.{settings_view}
@@ -15,7 +15,11 @@ tracked_settings meta = settings_view meta.index_settings
 
 -- a tracked commit as definitions see it, with the segments in the order in which they stand there
 abbrev pub tracked_commit : IndexMeta → Commit
-tracked_commit meta = record { opstamp = meta.opstamp; payload = text_of meta.payload; segments = map (λ s. s.1) meta.segments.items }
+tracked_commit meta = record {
+  opstamp = meta.opstamp;
+  payload = text_of meta.payload;
+  segments = map (λ s. s.1) meta.segments.items;
+}
 
 -- a commit has the same segments as another one, in the order of their ids, none of which stands twice
 pub record IsInOrder (commit ordered : Commit) : Type 0 where

@@ -1,7 +1,7 @@
 //! The fields of JSON objects.
 ghost use Rattle.std.specs.Prelude.{◌≡◌};
 ghost use Rattle.serde_json.specs.View.{view};
-ghost use Rattle.tv_model.specs.JsonFields.{bool_or, field, u32_of, u64_of, u64_or};
+ghost use Rattle.tv_formats.specs.JsonFields.{bool_or, field, u32_of, u64_of, u64_or};
 
 use serde_json::Value;
 

@@ -6,9 +6,9 @@ ghost use Rattle.tv_base.specs.Entries.{is_full, one_more};
 ghost use Rattle.tv_directory.specs.Calls.{AskFaults};
 ghost use Rattle.tv_directory.specs.Images.{KeepsDisk};
 ghost use Rattle.tv_directory.specs.View.{OnlyReads};
-ghost use Rattle.tv_model.specs.Commits.{new_form};
-ghost use Rattle.tv_model.specs.Names.{meta_name};
-ghost use Rattle.tv_model.specs.SegmentEvents.{fresh_segment};
+ghost use Rattle.tv_formats.specs.Commits.{new_form};
+ghost use Rattle.tv_formats.specs.Names.{meta_name};
+ghost use Rattle.tv_formats.specs.Segments.{fresh_segment};
 ghost use Rattle.tv_index.specs.Crashes.{LacksMeta, LooksSafely, MakesSafely};
 ghost use Rattle.tv_index.specs.Indexes.{CreatesIndex, IsNewInRam, KeepsForm, KeepsIndex, LoadsCommit, LoadsShares, MeansSuch};
 ghost use Rattle.tv_index.specs.Indexes.{NewSegmentCause, is_id_used};
@@ -35,8 +35,8 @@ use std::alloc::Global;
 use std::marker::Model;
 use tv_base::{META_FILEPATH, OpenReadError, TantivyError};
 use tv_directory::{Directory, RamDirectory, WatchCall};
+use tv_formats::{Memory, SegmentId};
 use tv_managed::{ManagedDirectory, Refused};
-use tv_model::{Memory, SegmentId};
 
 /// An index: its directory, how it is made, and the segments of which a share is out. To a contract
 /// it is the record of these.

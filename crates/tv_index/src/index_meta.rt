@@ -1,12 +1,12 @@
 //! A commit, as `meta.json` has it.
 ghost use Rattle.std.specs.Prelude.{◌≡◌, ℕ, List, Option, IfOk, IfErr, MatchResult, option_map};
 ghost use Rattle.serde_json.specs.View.{view};
-ghost use Rattle.tv_model.specs.Commits.{printed};
-ghost use Rattle.tv_model.specs.Meaning.{Means, MeansNothing};
-ghost use Rattle.tv_model.specs.Schemas.{IsSchemaTree};
+ghost use Rattle.tv_formats.specs.Commits.{printed};
+ghost use Rattle.tv_formats.specs.Meaning.{Means, MeansNothing};
+ghost use Rattle.tv_formats.specs.Schemas.{IsSchemaTree};
 ghost use Rattle.tv_index.specs.Metas.{commit_of, settings_of};
 ghost use Rattle.tv_index.specs.Parsing.{IsForExpected, MeansOtherThan, ParseCause, SpellsUnlessExpected};
-ghost use Rattle.tv_index.specs.Choosing.{Chooses, Reads};
+ghost use Rattle.tv_index.specs.Choosing.{Chooses, ReadsMeta};
 ghost use Rattle.tv_index.specs.Printed.{IsUnprinted};
 ghost use Rattle.tv_index.specs.Reads.{IfCorrupt};
 ghost use Rattle.tv_index.specs.SchemaReading.{texts};
@@ -22,7 +22,7 @@ use crate::segment_meta::InnerSegmentMeta;
 use serde_json::Value;
 use std::alloc::Global;
 use tv_base::{DataCorruption, META_FILEPATH, Opstamp, TantivyError};
-use tv_model::Memory;
+use tv_formats::Memory;
 
 /// A commit, its settings and its schema, as `meta.json` has them.
 #[derive(Drop)]
@@ -89,7 +89,7 @@ fn read(
     expected: Option<&Schema>,
 ) -> Result<Option<UntrackedIndexMeta>, ReadError>
     ensures { MatchResult result
-        (Reads (option_map (λ s. s.now) expected.entry) bytes.now)
+        (ReadsMeta (option_map (λ s. s.now) expected.entry) bytes.now)
         (λ e. IfCorrupt e (MeansNothing (option_map (λ s. s.now) expected.entry) bytes.now)) }
 {
     if let Some(schema) = expected {
@@ -111,7 +111,7 @@ fn read_spelled(
 ) -> Result<Option<UntrackedIndexMeta>, ReadError>
     requires unprinted { IsUnprinted (option_map (λ s. s.now) expected) bytes.now }
     ensures { MatchResult result
-        (Reads (option_map (λ s. s.now) expected.entry) bytes.now)
+        (ReadsMeta (option_map (λ s. s.now) expected.entry) bytes.now)
         (λ e. IfCorrupt e (MeansNothing (option_map (λ s. s.now) expected.entry) bytes.now)) }
 {
     let tree = tree_of(alloc, bytes)?;

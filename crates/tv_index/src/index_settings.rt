@@ -1,6 +1,6 @@
 //! The settings of an index.
 ghost use Rattle.std.specs.Prelude.{◌≡◌, ◌↔◌, IsTrue};
-ghost use Rattle.tv_model.specs.Commits.{default_settings};
+ghost use Rattle.tv_formats.specs.Commits.{default_settings};
 ghost use Rattle.tv_index.specs.Settings.{default_index_settings, settings_view};
 
 /// How the document store is compressed.

@@ -6,15 +6,15 @@ ghost use Rattle.std.specs.Str.Iter.{HasSubslice};
 ghost use Rattle.hex.specs.Hex.{encode_lower};
 ghost use Rattle.serde_json.specs.Data.{Data};
 ghost use Rattle.serde_json.specs.Read.{read};
-ghost use Rattle.tv_model.specs.declared.segment.LiveSegment.{LiveSegment};
-ghost use Rattle.tv_model.specs.Collections.{held};
-ghost use Rattle.tv_model.specs.Commits.{Commit, IsCommit, Settings};
-ghost use Rattle.tv_model.specs.Disk.{IsSettled, Throughout};
-ghost use Rattle.tv_model.specs.Files.{Same};
-ghost use Rattle.tv_model.specs.Meaning.{Means};
-ghost use Rattle.tv_model.specs.MetaJson.{SpellsMeta};
-ghost use Rattle.tv_model.specs.Names.{has, meta_name};
-ghost use Rattle.tv_model.specs.Schemas.{IsSchemaText};
+ghost use Rattle.tv_formats.specs.declared.segment.LiveSegment.{LiveSegment};
+ghost use Rattle.tv_formats.specs.Collections.{held};
+ghost use Rattle.tv_formats.specs.Commits.{Commit, IsCommit, Settings};
+ghost use Rattle.tv_formats.specs.Disk.{IsSettled, Throughout};
+ghost use Rattle.tv_formats.specs.Files.{Same};
+ghost use Rattle.tv_formats.specs.Meaning.{Means};
+ghost use Rattle.tv_formats.specs.MetaJson.{SpellsMeta};
+ghost use Rattle.tv_formats.specs.Names.{has, meta_name};
+ghost use Rattle.tv_formats.specs.Schemas.{IsSchemaText};
 ghost use Rattle.tv_index.specs.Laws.{DeletesTooMany, HoldsNoOtherMeta, NamesCompression, ReadsBack, SaysCorrupt};
 ghost use Rattle.tv_index.specs.Metas.{commit_of};
 ghost use Rattle.tv_index.specs.Settings.{settings_view};
@@ -27,8 +27,8 @@ use crate::segment::Segment;
 use std::alloc::Global;
 use tv_base::{IoError, TantivyError};
 use tv_directory::Directory;
+use tv_formats::{Memory, SegmentId};
 use tv_managed::{ManagedDirectory, Refused};
-use tv_model::{Memory, SegmentId};
 
 /// Where an index stands, an opening leaves each file as it reads, whatever it answers.
 pub fn open_or_create_spares_an_index<D: Directory>(

@@ -44,4 +44,4 @@ pub use segment_meta::InnerSegmentMeta;
 pub use segments::metas_of;
 pub use tracked::{SegmentMeta, SegmentMetaInventory};
 pub use tracked_meta::IndexMeta;
-pub use tv_model::{DeleteMeta, SegmentId, SegmentIdParseError};
+pub use tv_formats::{DeleteMeta, SegmentId, SegmentIdParseError};

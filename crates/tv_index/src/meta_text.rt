@@ -1,6 +1,6 @@
 //! The text of `meta.json`, of the parts of a commit.
 ghost use Rattle.std.specs.Prelude.{◌≡◌, ◌++◌, IfOk, OnOk, map, option_map};
-ghost use Rattle.tv_model.specs.Commits.{payload_text, printed};
+ghost use Rattle.tv_formats.specs.Commits.{payload_text, printed};
 ghost use Rattle.tv_index.specs.Segments.{entry_of};
 ghost use Rattle.tv_index.specs.Settings.{settings_view};
 
@@ -9,7 +9,7 @@ use crate::printing::{put, put_opstamp, put_payload_text, put_schema, put_segmen
 use crate::schema::Schema;
 use crate::segment_meta::InnerSegmentMeta;
 use std::alloc::Global;
-use tv_model::{Memory, Opstamp};
+use tv_formats::{Memory, Opstamp};
 
 // Adds a payload, where there is one.
 fn put_payload(out: &mut Vec<u8>, payload: Option<&str>) -> Result<(), Memory>

@@ -2,14 +2,12 @@
 ghost use Rattle.std.specs.Prelude.{◌≡◌, ◌++◌, [], ◌∷◌, ℕ, List, true, IfOk, OnOk, filter, map, string_bytes};
 ghost use Rattle.std.specs.List.{list_all};
 ghost use Rattle.hex.specs.Hex.{encode_lower};
-ghost use Rattle.tv_model.specs.Living.{segment_names};
-ghost use Rattle.tv_model.specs.Names.{has, is_plain};
-ghost use Rattle.tv_model.specs.SegmentEvents.{is_named};
-ghost use Rattle.tv_model.specs.Segments.{name_of};
+ghost use Rattle.tv_formats.specs.Segments.{segment_names, is_named, name_of};
+ghost use Rattle.tv_formats.specs.Names.{has, is_plain};
 
 use std::alloc::Global;
 use std::collections::BTreeSet;
-use tv_model::{FileName, LiveSegment, Memory, SegmentComponent, SegmentId, segment_file_name};
+use tv_formats::{FileName, LiveSegment, Memory, SegmentComponent, SegmentId, segment_file_name};
 
 /// Adds the name of one file of a segment.
 pub fn push_name(

@@ -1,8 +1,8 @@
 //! How an index is opened, or made where there is none.
 ghost use Rattle.std.specs.Prelude.{◌≡◌, ◌<◌, ◌^◌, IfOk, IfErr, IfSome, IsErrAnd, MatchResult, OnOk, false, option_map};
-ghost use Rattle.tv_model.specs.Collections.{held};
-ghost use Rattle.tv_model.specs.Commits.{first_commit};
-ghost use Rattle.tv_model.specs.Names.{has, meta_name};
+ghost use Rattle.tv_formats.specs.Collections.{held};
+ghost use Rattle.tv_formats.specs.Commits.{first_commit};
+ghost use Rattle.tv_formats.specs.Names.{has, meta_name};
 ghost use Rattle.tv_directory.specs.Calls.{IoFaults};
 ghost use Rattle.tv_directory.specs.Images.{KeepsDisk};
 ghost use Rattle.tv_directory.specs.View.{OnlyReads};
@@ -26,8 +26,8 @@ use crate::schema::Schema;
 use std::alloc::Global;
 use tv_base::{IoError, META_FILEPATH, OpenReadError, TantivyError};
 use tv_directory::Directory;
+use tv_formats::Memory;
 use tv_managed::{ManagedDirectory, Refused};
-use tv_model::Memory;
 
 // What a read of `meta.json` that failed tells of it.
 fn unread(error: OpenReadError) -> TantivyError

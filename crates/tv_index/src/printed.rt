@@ -5,8 +5,8 @@
 //! under the expected schema, and compared with them.
 ghost use Rattle.std.specs.Prelude.{◌≡◌, ◌==◌, MatchOption, MatchResult, Some};
 ghost use Rattle.std.specs.List.{position};
-ghost use Rattle.tv_model.specs.Meaning.{IsNotPrinted, SpellsNothing};
-ghost use Rattle.tv_index.specs.Choosing.{Reads};
+ghost use Rattle.tv_formats.specs.Meaning.{IsNotPrinted, SpellsNothing};
+ghost use Rattle.tv_index.specs.Choosing.{ReadsMeta};
 ghost use Rattle.tv_index.specs.Printed.{SpellsBody, IsAround, IsAroundNone, IsBared};
 ghost use Rattle.tv_index.specs.Reads.{IfCorrupt};
 
@@ -65,7 +65,7 @@ pub(crate) fn read_printed(
     bytes: &[u8],
     schema: &Schema,
 ) -> Result<UntrackedIndexMeta, ReadError>
-    ensures { MatchResult result (λ meta. Reads (Some schema.now) bytes.now (Some meta))
+    ensures { MatchResult result (λ meta. ReadsMeta (Some schema.now) bytes.now (Some meta))
         (λ e. IfCorrupt e (IsNotPrinted schema.now bytes.now)) }
 {
     let text = under_no_fields(alloc, bytes, schema.text())?;

@@ -2,7 +2,7 @@
 ghost use Rattle.std.specs.Prelude.{◌≡◌, ◌<◌, ◌++◌, [], ◌∷◌, Some, OnOk, codes, if◌then◌else◌, map};
 ghost use Rattle.std.specs.Fmt.{decimal};
 ghost use Rattle.std.specs.List.{join_with_byte};
-ghost use Rattle.tv_model.specs.Commits.{deletes_text, escaped, escaped_byte, hex_digit, payload_text, segment_text, settings_text, thread_text};
+ghost use Rattle.tv_formats.specs.Commits.{deletes_text, escaped, escaped_byte, lower_digit, payload_text, segment_text, settings_text, thread_text};
 ghost use Rattle.tv_index.specs.Segments.{entry_of};
 ghost use Rattle.tv_index.specs.Settings.{settings_view};
 
@@ -10,7 +10,7 @@ use crate::index_settings::IndexSettings;
 use crate::schema::Schema;
 use crate::segment_meta::InnerSegmentMeta;
 use std::alloc::Global;
-use tv_model::{DeleteMeta, Memory, Opstamp};
+use tv_formats::{DeleteMeta, Memory, Opstamp};
 
 // Adds a text.
 pub(crate) fn put(out: &mut Vec<u8>, text: &str) -> Result<(), Memory>
@@ -183,7 +183,7 @@ fn put_all_escaped(out: &mut Vec<u8>, text: &str) -> Result<(), Memory>
 // The hexadecimal digit of a number below sixteen, in lower case.
 fn digit_of(number: u8) -> u8
     requires { number < 16 }
-    ensures { result ≡ hex_digit number }
+    ensures { result ≡ lower_digit number }
 {
     if number < 10 {
         b'0' + number

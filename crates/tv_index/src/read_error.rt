@@ -2,7 +2,7 @@
 ghost use Rattle.std.specs.Prelude.{◌≡◌};
 
 use std::alloc::{AllocError, AllocFailed};
-use tv_model::Memory;
+use tv_formats::Memory;
 
 /// Why a text or a tree is not read.
 #[derive(Drop)]

@@ -17,7 +17,7 @@ use crate::segments::segments_at;
 use crate::settings::settings_or_default;
 use serde_json::Value;
 use std::alloc::Global;
-use tv_model::Opstamp;
+use tv_formats::Opstamp;
 
 /// What `meta.json` holds, with the names of its schema's fields in place of the schema.
 #[derive(Drop)]

@@ -1,9 +1,9 @@
 //! How the text of `meta.json` is saved.
 ghost use Rattle.std.specs.Prelude.{◌≡◌, ◌<◌, ◌^◌, IfOk, IsErrAnd, OnOk, false, map};
 ghost use Rattle.std.specs.List.{AllByRecursion};
-ghost use Rattle.tv_model.specs.Collections.{held};
-ghost use Rattle.tv_model.specs.Commits.{Commit, IsCommit, IsSegment};
-ghost use Rattle.tv_model.specs.Names.{has, meta_name};
+ghost use Rattle.tv_formats.specs.Collections.{held};
+ghost use Rattle.tv_formats.specs.Commits.{Commit, IsCommit, IsSegment};
+ghost use Rattle.tv_formats.specs.Names.{has, meta_name};
 ghost use Rattle.tv_directory.specs.Calls.{IoFaults};
 ghost use Rattle.tv_managed.specs.Crashes.{LeavesSafely};
 ghost use Rattle.tv_managed.specs.Managed.{KeepsOtherFiles, ManagesFile};
@@ -17,8 +17,8 @@ use crate::tracked_meta::IndexMeta;
 use std::alloc::Global;
 use tv_base::{IoError, META_FILEPATH, TantivyError};
 use tv_directory::Directory;
+use tv_formats::Memory;
 use tv_managed::ManagedDirectory;
-use tv_model::Memory;
 
 /// Makes these bytes the text of `meta.json`, by one atomic write. The directory is synced before
 /// and afterwards: a crash leaves what it might have left before the call, or the text that stood

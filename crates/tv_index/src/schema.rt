@@ -3,7 +3,7 @@ ghost use Rattle.std.specs.Prelude.{◌≡◌, ◌≢◌, ◌↔◌, ℕ, List, 
 ghost use Rattle.serde_json.specs.Read.{read};
 ghost use Rattle.serde_json.specs.View.{view};
 ghost use Rattle.serde_json.specs.Written.{compact_text};
-ghost use Rattle.tv_model.specs.Schemas.{IsNoSchema, IsSchema, IsSchemaText, IsSchemaTree, is_bounded};
+ghost use Rattle.tv_formats.specs.Schemas.{IsNoSchema, IsSchema, IsSchemaText, IsSchemaTree, is_bounded};
 ghost use Rattle.tv_index.specs.Reads.{IfCorrupt};
 ghost use Rattle.tv_index.specs.SchemaReading.{texts};
 ghost use Rattle.tv_index.specs.Schemas.{HasNames, HasSchemaTree, IsNoSchemaText, SchemaCause};
@@ -16,7 +16,7 @@ use serde_json::Value;
 use std::alloc::Global;
 use std::marker::Model;
 use tv_base::TantivyError;
-use tv_model::Memory;
+use tv_formats::Memory;
 
 // How many bytes spell a schema at most.
 const MAX_SIZE: usize = 1_048_576;

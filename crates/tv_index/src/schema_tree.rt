@@ -4,9 +4,9 @@ ghost use Rattle.serde_json.specs.Find.{as_str};
 ghost use Rattle.serde_json.specs.Read.{read};
 ghost use Rattle.serde_json.specs.View.{items_view, members_view, view};
 ghost use Rattle.serde_json.specs.Written.{compact_text};
-ghost use Rattle.tv_model.specs.Ids.{are_distinct};
-ghost use Rattle.tv_model.specs.JsonFields.{field};
-ghost use Rattle.tv_model.specs.Schemas.{are_bounded, have_bounded, is_bounded};
+ghost use Rattle.tv_formats.specs.Ids.{are_distinct};
+ghost use Rattle.tv_formats.specs.JsonFields.{field};
+ghost use Rattle.tv_formats.specs.Schemas.{are_bounded, have_bounded, is_bounded};
 ghost use Rattle.tv_index.specs.Reads.{Gives};
 ghost use Rattle.tv_index.specs.SchemaReading.{names_in, names_of, texts};
 
@@ -14,7 +14,7 @@ use crate::read_error::ReadError;
 use serde_json::{Map, Value};
 use std::alloc::Global;
 use std::collections::BTreeSet;
-use tv_model::Memory;
+use tv_formats::Memory;
 
 // How deep a schema nests at most, the outer array counting as 1.
 const MAX_NESTING: usize = 32;

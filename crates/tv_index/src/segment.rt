@@ -1,14 +1,14 @@
 //! A segment, and its files.
 ghost use Rattle.std.specs.Prelude.{◌≡◌, ◌≤◌, None, Some, IfOk, OnErr, string_bytes};
 ghost use Rattle.tv_base.specs.Entries.{released};
-ghost use Rattle.tv_model.specs.Segments.{name_of};
+ghost use Rattle.tv_formats.specs.Segments.{name_of};
 ghost use Rattle.tv_index.specs.Tracked.{Retracks};
 
 use crate::tracked::{SegmentMeta, SegmentMetaInventory};
 use std::alloc::Global;
 use std::marker::Model;
 use tv_base::Opstamp;
-use tv_model::{Memory, SegmentComponent, SegmentId};
+use tv_formats::{Memory, SegmentComponent, SegmentId};
 
 /// A segment, by a share of what is known of it. To a contract it is that share.
 #[derive(Drop)]

@@ -14,8 +14,8 @@ use crate::segment::Segment;
 use std::alloc::Global;
 use tv_base::{FileSlice, OpenReadError, OpenWriteError};
 use tv_directory::Directory;
+use tv_formats::SegmentComponent;
 use tv_managed::ManagedWriter;
-use tv_model::SegmentComponent;
 
 impl Segment {
     /// The body of a file of the segment, as `ManagedDirectory::open_read` gives it.

@@ -1,11 +1,11 @@
 //! What is known of a segment of a commit.
 ghost use Rattle.std.specs.Prelude.{◌≡◌, ◌≤◌, IfOk, OnErr};
-ghost use Rattle.tv_model.specs.Segments.{num_deleted};
+ghost use Rattle.tv_formats.specs.Segments.{num_deleted};
 ghost use Rattle.tv_index.specs.Segments.{entry_of};
 ghost use Rattle.tv_index.specs.Tracked.{Tracks};
 
 use crate::tracked::{SegmentMeta, SegmentMetaInventory};
-use tv_model::{DeleteMeta, LiveSegment, Memory, SegmentId};
+use tv_formats::{DeleteMeta, LiveSegment, Memory, SegmentId};
 
 /// What is known of a segment of a commit, as `meta.json` has it.
 #[derive(Clone, Copy)]

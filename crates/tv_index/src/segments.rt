@@ -2,8 +2,8 @@
 ghost use Rattle.std.specs.Prelude.{◌≡◌, [], IfOk, codes, map};
 ghost use Rattle.serde_json.specs.Find.{as_array, get};
 ghost use Rattle.serde_json.specs.View.{items_view, view};
-ghost use Rattle.tv_model.specs.JsonFields.{id_of};
-ghost use Rattle.tv_model.specs.Segments.{num_deleted};
+ghost use Rattle.tv_formats.specs.JsonFields.{id_of};
+ghost use Rattle.tv_formats.specs.Segments.{num_deleted};
 ghost use Rattle.tv_index.specs.MetaReading.{segments_at};
 ghost use Rattle.tv_index.specs.Reads.{Gives};
 ghost use Rattle.tv_index.specs.Segments.{delete_meta_of, entry_of, gathered, optional, segment_of};
@@ -14,7 +14,7 @@ use crate::segment_meta::InnerSegmentMeta;
 use serde_json::Value;
 use std::alloc::Global;
 use std::collections::BTreeMap;
-use tv_model::{DeleteMeta, LiveSegment, Memory, SegmentId};
+use tv_formats::{DeleteMeta, LiveSegment, Memory, SegmentId};
 
 // The id that a text spells.
 fn id_of(tree: &Value) -> Option<SegmentId>

@@ -1,10 +1,10 @@
 //! Texts without the blanks outside their string literals.
 ghost use Rattle.std.specs.Prelude.{◌≡◌, IfOk};
-ghost use Rattle.tv_model.specs.Schemas.{is_blank, stripped};
+ghost use Rattle.tv_formats.specs.Schemas.{is_blank, stripped};
 ghost use Rattle.tv_index.specs.Stripping.{is_left_out, place_after};
 
 use std::alloc::Global;
-use tv_model::Memory;
+use tv_formats::Memory;
 
 // Where a byte of a JSON text stands.
 #[derive(Clone, Copy)]

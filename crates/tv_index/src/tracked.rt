@@ -2,12 +2,11 @@
 ghost use Rattle.std.specs.Prelude.{◌≡◌, ◌≤◌, ◌↔◌, [], ℕ, List, Some, None, All, IfOk, IsErr, MatchResult, OnErr, OnOk, false, find, map, nat_lt, option_map, string_bytes};
 ghost use Rattle.std.specs.List.{list_any};
 ghost use Rattle.std.specs.Option.{IsSomeAnd};
-ghost use Rattle.tv_base.specs.Entries.{IsFull, is_at, is_full, one_more, released};
-ghost use Rattle.tv_model.specs.Commits.{IsSegment};
-ghost use Rattle.tv_model.specs.Listing.{IsListFile};
-ghost use Rattle.tv_model.specs.Living.{segment_names};
-ghost use Rattle.tv_model.specs.Names.{has};
-ghost use Rattle.tv_model.specs.Segments.{delete_opstamp, name_of, num_deleted, num_docs};
+ghost use Rattle.tv_base.specs.Entries.{IsFull, is_numbered, is_full, one_more, released};
+ghost use Rattle.tv_formats.specs.Commits.{IsSegment};
+ghost use Rattle.tv_formats.specs.Listing.{IsListFile};
+ghost use Rattle.tv_formats.specs.Segments.{segment_names, delete_opstamp, name_of, num_deleted, num_docs};
+ghost use Rattle.tv_formats.specs.Names.{has};
 ghost use Rattle.tv_index.specs.Segments.{entry_of};
 ghost use Rattle.tv_index.specs.Tracked.{IsWithin, Retracks, ShareAllCause, Shares, Tracks, file_of, has_id, share_of};
 
@@ -17,7 +16,7 @@ use std::alloc::Global;
 use std::collections::BTreeSet;
 use std::marker::Model;
 use tv_base::{Entry, Exhausted, Inventory, Opstamp, TantivyError, Ticket};
-use tv_model::{
+use tv_formats::{
     DeleteMeta, FileName, LiveSegment, Memory, SegmentComponent, SegmentId, segment_file_name,
 };
 
@@ -31,8 +30,8 @@ pub struct SegmentMeta {
 
 impl Model for SegmentMeta {
     ghost use Rattle.std.specs.Prelude.{◌≤◌, List, ℕ};
-    ghost use Rattle.tv_model.specs.declared.segment.LiveSegment.{LiveSegment};
-    ghost use Rattle.tv_model.specs.Segments.{num_deleted};
+    ghost use Rattle.tv_formats.specs.declared.segment.LiveSegment.{LiveSegment};
+    ghost use Rattle.tv_formats.specs.Segments.{num_deleted};
     ghost use Rattle.tv_index.specs.Segments.{entry_of};
 
     ghost Value = { ℕ × (List ℕ × LiveSegment) };
@@ -212,9 +211,9 @@ pub struct SegmentMetaInventory {
 
 impl Model for SegmentMetaInventory {
     ghost use Rattle.std.specs.Prelude.{All};
-    ghost use Rattle.tv_index.specs.Tracked.{IsWithin, Kept};
+    ghost use Rattle.tv_index.specs.Tracked.{IsWithin, KeptMetas};
 
-    ghost Value = { Kept };
+    ghost Value = { KeptMetas };
 
     ghost view = { λ a. a.segments.entries };
 
@@ -252,7 +251,7 @@ impl SegmentMetaInventory {
     pub fn share(&mut self, meta: &SegmentMeta) -> Result<SegmentMeta, Exhausted>
         ensures ok { IfOk result (Shares meta.now self.old self.new) }
         ensures err { OnErr result (self.new ≡ self.old) }
-        ensures full { IsErr result ↔ IsSomeAnd (find (is_at meta.now.0) self.old) IsFull }
+        ensures full { IsErr result ↔ IsSomeAnd (find (is_numbered meta.now.0) self.old) IsFull }
     {
         let ticket = self.segments.share(&meta.ticket)?;
         Ok(SegmentMeta {

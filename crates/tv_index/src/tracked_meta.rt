@@ -1,7 +1,7 @@
 //! A commit whose segments an inventory keeps.
 ghost use Rattle.std.specs.Prelude.{◌≡◌, ◌≤◌, [], All, IfOk, OnErr, map};
-ghost use Rattle.tv_model.specs.Commits.{Commit, default_settings, first_commit, printed};
-ghost use Rattle.tv_model.specs.Segments.{num_deleted};
+ghost use Rattle.tv_formats.specs.Commits.{Commit, default_settings, first_commit, printed};
+ghost use Rattle.tv_formats.specs.Segments.{num_deleted};
 ghost use Rattle.tv_index.specs.Metas.{commit_of, settings_of};
 ghost use Rattle.tv_index.specs.Tracked.{TrackAll};
 ghost use Rattle.tv_index.specs.TrackedMetas.{IsInOrder, put_all, tracked_commit, tracked_settings};
@@ -15,7 +15,7 @@ use crate::tracked::{SegmentMeta, SegmentMetaInventory};
 use crate::tracking::track_all;
 use std::alloc::Global;
 use std::collections::BTreeMap;
-use tv_model::{LiveSegment, Memory, Opstamp, SegmentId};
+use tv_formats::{LiveSegment, Memory, Opstamp, SegmentId};
 
 /// A commit, its settings and its schema, with a share of each segment.
 #[derive(Drop)]

@@ -1,15 +1,15 @@
 //! Segments that are taken into an inventory together.
 ghost use Rattle.std.specs.Prelude.{◌≡◌, ◌≤◌, [], All, IfOk, OnErr, OnOk, map, vec_len};
 ghost use Rattle.std.specs.Vec.{vec_capacity};
-ghost use Rattle.tv_model.specs.Segments.{num_deleted};
+ghost use Rattle.tv_formats.specs.Segments.{num_deleted};
 ghost use Rattle.tv_index.specs.Segments.{entry_of};
-ghost use Rattle.tv_index.specs.Tracked.{Kept, TrackAll};
+ghost use Rattle.tv_index.specs.Tracked.{KeptMetas, TrackAll};
 
 use crate::segment::Segment;
 use crate::segment_meta::InnerSegmentMeta;
 use crate::tracked::{SegmentMeta, SegmentMetaInventory};
 use std::alloc::Global;
-use tv_model::Memory;
+use tv_formats::Memory;
 
 /// Takes segments in; none of them where memory is wanted.
 pub(crate) fn track_all(
@@ -56,7 +56,7 @@ fn track_each(
 
 // Gives shares back, the last one first.
 fn release_all(shares: Vec<SegmentMeta>, inventory: &mut SegmentMetaInventory)
-    ensures { (before : Kept) → TrackAll shares.items before inventory.old
+    ensures { (before : KeptMetas) → TrackAll shares.items before inventory.old
         → inventory.new ≡ before }
 {
     let mut shares = shares;

@@ -4,8 +4,8 @@ ghost use Rattle.std.specs.List.{flat_map, list_all};
 ghost use Rattle.tv_directory.specs.Images.{KeepsDisk};
 ghost use Rattle.tv_directory.specs.View.{OnlyReads};
 ghost use Rattle.tv_managed.specs.Frames.{KeepsNames};
-ghost use Rattle.tv_model.specs.Living.{segment_names};
-ghost use Rattle.tv_model.specs.Names.{has, is, is_plain, meta_name};
+ghost use Rattle.tv_formats.specs.Segments.{segment_names};
+ghost use Rattle.tv_formats.specs.Names.{has, is, is_plain, meta_name};
 ghost use Rattle.tv_index.specs.Checksums.{AreDamaged, UnreadFaults, ValidateFaults, looked_at};
 ghost use Rattle.tv_index.specs.Indexes.{KeepsIndex, MeansSuch};
 ghost use Rattle.tv_index.specs.Segments.{entry_of};
@@ -18,8 +18,8 @@ use std::alloc::Global;
 use std::collections::BTreeSet;
 use tv_base::TantivyError;
 use tv_directory::Directory;
+use tv_formats::{FileName, Memory};
 use tv_managed::ManagedDirectory;
-use tv_model::{FileName, Memory};
 
 impl<D: Directory> Index<D> {
     /// The names of the damaged files of the last commit: of the managed ones, among all names that

@@ -7,15 +7,15 @@ use Rattle.std.specs.List.{flat_map}
 use Rattle.std.specs.Ordering.{nat_cmp}
 use Rattle.std.proofs.lemmas.Bool.{false_from_ne_true, or_left, or_parts}
 use Rattle.std.proofs.lemmas.Result.{IfOk-from_err, on_err_weaker}
-use Rattle.tv_model.specs.Collections.{Collection, begun, collection_at, done_of, without}
-use Rattle.tv_model.specs.Disk.{Disk, Throughout, possible_now, TouchesOnly}
-use Rattle.tv_model.specs.Files.{Same}
-use Rattle.tv_model.specs.Listing.{Lists, list_text}
-use Rattle.tv_model.specs.Names.{is, has, list_name}
-use Rattle.tv_model.proofs.CollectionStates.{done_within, has_append}
-use Rattle.tv_model.proofs.Entries.{is_itself, is_text}
-use Rattle.tv_model.proofs.DiskLaws.{weaker, touches_then}
-use Rattle.tv_model.proofs.Numbered.{put_found}
+use Rattle.tv_formats.specs.Collections.{Collection, begun, collection_at, done_of, without}
+use Rattle.tv_formats.specs.Disk.{Disk, Throughout, possible_now, TouchesOnly}
+use Rattle.tv_formats.specs.Files.{Same}
+use Rattle.tv_formats.specs.Listing.{Lists, list_text}
+use Rattle.tv_formats.specs.Names.{is, has, list_name}
+use Rattle.tv_formats.proofs.CollectedNames.{done_within, has_append}
+use Rattle.tv_formats.proofs.Entries.{is_itself, is_text}
+use Rattle.tv_formats.proofs.DiskLaws.{weaker, touches_then}
+use Rattle.tv_formats.proofs.Numbered.{put_found}
 use Rattle.tv_managed.proofs.Results.{on_err}
 use Rattle.tv_directory.specs.View.{Kept, OnlyReads}
 use Rattle.tv_directory.specs.declared.directory.Directory.{Ghosts}

@@ -1,10 +1,10 @@
 -- How the beginning of a collection keeps track.
 use Rattle.std.proofs.Common.{◌≡◌, ℕ, List, [], refl, sym, ap, subst, ◌∙◌, None, Result, Ok, Err}
 use Rattle.std.specs.Prelude.{IfOk, OnErr}
-use Rattle.tv_model.specs.Disk.{possible_now}
-use Rattle.tv_model.specs.Names.{has}
-use Rattle.tv_model.specs.Collections.{begun, collection_at, with_begun}
-use Rattle.tv_model.proofs.DiskLaws.{at_end}
+use Rattle.tv_formats.specs.Disk.{possible_now}
+use Rattle.tv_formats.specs.Names.{has}
+use Rattle.tv_formats.specs.Collections.{begun, collection_at, with_begun}
+use Rattle.tv_formats.proofs.DiskLaws.{at_end}
 use Rattle.tv_directory.specs.declared.directory.Directory.{Ghosts}
 use Rattle.tv_managed.specs.Collecting.{Begins, beginning}
 use Rattle.tv_managed.specs.Crashes.{IsCovered, LeavesSafely, SettlesStates}

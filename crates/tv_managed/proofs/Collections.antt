@@ -9,9 +9,9 @@ use Rattle.std.specs.Cmp.{nat_cmp_is}
 use Rattle.std.specs.Ordering.{is_eq, match_ordering, nat_cmp}
 use Rattle.std.specs.declared.cmp.Ordering.{Ordering}
 use Rattle.std.specs.declared.cmp.Ordering.TheVariants.{Less, Equal, Greater}
-use Rattle.tv_model.specs.Names.{has}
-use Rattle.tv_model.specs.Collections.{Collection, taken}
-use Rattle.tv_model.proofs.CollectionStates.{has_append}
+use Rattle.tv_formats.specs.Names.{has}
+use Rattle.tv_formats.specs.Collections.{Collection, taken}
+use Rattle.tv_formats.proofs.CollectedNames.{has_append}
 
 -- a number is the same as itself
 nat_cmp_same : (n : ℕ) → nat_cmp n n ≡ Equal

@@ -2,9 +2,9 @@
 use Rattle.std.proofs.Common.{◌≡◌, ◌≢◌, ◌⊎◌, ℕ, false, true≢false, List, [], sym, ap, subst, ◌∙◌, ⊎_elim, inl, inr, Option, None, Some, Ok, Err}
 use Rattle.std.specs.Prelude.{IsSome, is_some}
 use Rattle.std.proofs.lemmas.Bool.{both_ways}
-use Rattle.tv_model.specs.Collections.{held}
-use Rattle.tv_model.specs.Files.{Reads, Rose, KeepsOthers, Same}
-use Rattle.tv_model.specs.Names.{has, list_name}
+use Rattle.tv_formats.specs.Collections.{held}
+use Rattle.tv_formats.specs.Files.{Reads, Rose, KeepsOthers, Same}
+use Rattle.tv_formats.specs.Names.{has, list_name}
 use Rattle.tv_base.specs.Causes.{OpenWriteCause}
 use Rattle.tv_base.specs.declared.open_errors.OpenWriteError.{OpenWriteError}
 use Rattle.tv_base.specs.declared.open_errors.OpenWriteError.TheVariants as write

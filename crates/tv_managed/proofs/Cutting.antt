@@ -2,11 +2,11 @@
 use Rattle.std.proofs.Common.{◌≡◌, ⊎_elim, ℕ, true, false, true≢false, List, refl, sym, ap, subst, ◌∙◌, Result, Ok, Err}
 use borrow.Table.Steps.{cases}
 use Rattle.std.specs.List.{list_all}
-use Rattle.tv_model.specs.Disk.{DiskState, Absent, Sealed, IsThere, Possible, possible_now, MayAdd, Throughout}
-use Rattle.tv_model.specs.Listed.{ListsEachFile}
-use Rattle.tv_model.specs.Listing.{IsListOf, list_text}
-use Rattle.tv_model.specs.Names.{has, is_plain, is_undotted, list_name}
-use Rattle.tv_model.proofs.DiskLaws.{at_end, fewer_listed, goes_on, goes_on_run, started, weaker}
+use Rattle.tv_formats.specs.Disk.{DiskState, Absent, Sealed, IsThere, Possible, possible_now, MayAdd, Throughout}
+use Rattle.tv_formats.specs.Listed.{ListsEachFile}
+use Rattle.tv_formats.specs.Listing.{IsListOf, list_text}
+use Rattle.tv_formats.specs.Names.{has, is_plain, is_undotted, list_name}
+use Rattle.tv_formats.proofs.DiskLaws.{at_end, fewer_listed, goes_on, goes_on_run, started, weaker}
 use Rattle.tv_base.specs.declared.io.IoError.{IoError}
 use Rattle.tv_directory.specs.Images.{Settles}
 use Rattle.tv_directory.specs.declared.directory.Directory.{Ghosts}

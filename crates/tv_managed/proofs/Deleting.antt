@@ -2,8 +2,8 @@
 use Rattle.std.proofs.Common.{◌≡◌, ◌≢◌, ℕ, Bool, true, false, true≢false, List, refl, sym, ap, subst, ◌∙◌, String, Global, Result, Ok, Err}
 use Rattle.std.specs.Prelude.{IfOk, OnErr, is_some}
 use Rattle.std.proofs.lemmas.Bool.{both_ways}
-use Rattle.tv_model.specs.Disk.{Disk, Absent}
-use Rattle.tv_model.specs.Names.{list_name}
+use Rattle.tv_formats.specs.Disk.{Disk, Absent}
+use Rattle.tv_formats.specs.Names.{list_name}
 use Rattle.tv_base.specs.declared.error.TantivyError.TheVariants as errors
 use Rattle.tv_base.specs.declared.open_errors.DeleteError.{DeleteError}
 use Rattle.tv_base.specs.declared.open_errors.DeleteError.TheVariants as delete
@@ -21,9 +21,9 @@ use Rattle.tv_managed.proofs.Giving.{deleted_stays}
 -- ---- what reads, and the writers
 
 -- it was there, and is gone
-pub tries_done : {A D W C : Type 0} (g : Ghosts D W C) {inside old new : D × ManagedNames} {name : List ℕ} {x : A} → inside ≡ old → Deletes g.told (g.view inside.0) (g.view new.0) name (Ok x) → EndsWriters g.told (g.view inside.0) (g.view new.0) g.state_of name (Ok x) → DeleteFaults g.told (g.view inside.0) (g.view new.0) name (Ok x)
+pub tries_done : {A D W C : Type 0} (g : Ghosts D W C) {old new : D × ManagedNames} {name : List ℕ} {x : A} → Deletes g.told (g.view old.0) (g.view new.0) name (Ok x) → EndsWriters g.told (g.view old.0) (g.view new.0) g.state_of name (Ok x) → DeleteFaults g.told (g.view old.0) (g.view new.0) name (Ok x)
     → TriesName g name old new true
-tries_done g {new = new} {name} same deletes ends faults = subst (λ v. TriesName g name v new true) same (record {
+tries_done g deletes ends faults = record {
   gone = λ tells is. (deletes.ok tells).1.changed;
   others = λ tells. (deletes.ok tells).1.others;
   same = λ tells no. absurd (true≢false no);
@@ -33,14 +33,14 @@ tries_done g {new = new} {name} same deletes ends faults = subst (λ v. TriesNam
   kept = λ tells no. absurd (true≢false no);
   ended = λ tells is some. ends.lost tells;
   fits = faults.fits;
-})
+}
 
 -- it wasn't there
-pub tries_absent : {A D W C : Type 0} (g : Ghosts D W C) {inside old new : D × ManagedNames} {name : List ℕ} {e : DeleteError} {path : String Global} → e ≡ delete.FileDoesNotExist path → inside ≡ old → Deletes {A = A} g.told (g.view inside.0) (g.view new.0) name (Err e) → EndsWriters {A = A} g.told (g.view inside.0) (g.view new.0) g.state_of name (Err e)
-    → DeleteFaults {A = A} g.told (g.view inside.0) (g.view new.0) name (Err e) → TriesName g name old new true
-tries_absent {A} g {inside = inside} {new = new} {name} is same deletes ends refused =
-    let faults = subst (λ x. DeleteFaults {A = A} g.told (g.view inside.0) (g.view new.0) name (Err x)) is refused in
-    subst (λ v. TriesName g name v new true) same (record {
+pub tries_absent : {A D W C : Type 0} (g : Ghosts D W C) {old new : D × ManagedNames} {name : List ℕ} {e : DeleteError} {path : String Global} → e ≡ delete.FileDoesNotExist path → Deletes {A = A} g.told (g.view old.0) (g.view new.0) name (Err e) → EndsWriters {A = A} g.told (g.view old.0) (g.view new.0) g.state_of name (Err e)
+    → DeleteFaults {A = A} g.told (g.view old.0) (g.view new.0) name (Err e) → TriesName g name old new true
+tries_absent {A} g {old} {new = new} {name} is deletes ends refused =
+    let faults = subst (λ x. DeleteFaults {A = A} g.told (g.view old.0) (g.view new.0) name (Err x)) is refused in
+    record {
       gone = λ tells it. deletes.err tells name ∙ faults.cause.1.0 tells;
       others = λ tells n ne. deletes.err tells n;
       same = λ tells no. absurd (true≢false no);
@@ -50,14 +50,14 @@ tries_absent {A} g {inside = inside} {new = new} {name} is same deletes ends ref
       kept = λ tells no. absurd (true≢false no);
       ended = λ tells it some. absurd (both_ways _ (ap is_some (faults.cause.1.0 tells)) some);
       fits = faults.fits;
-    })
+    }
 
 -- the device refused it
-pub tries_refused : {A D W C : Type 0} (g : Ghosts D W C) {inside old new : D × ManagedNames} {name : List ℕ} {e : DeleteError} {fault : IoFault} {path : String Global} → e ≡ delete.IoError fault path → inside ≡ old → Deletes {A = A} g.told (g.view inside.0) (g.view new.0) name (Err e) → EndsWriters {A = A} g.told (g.view inside.0) (g.view new.0) g.state_of name (Err e)
-    → DeleteFaults {A = A} g.told (g.view inside.0) (g.view new.0) name (Err e) → TriesName g name old new false
-tries_refused {A} g {inside = inside} {new = new} {name} is same deletes ends refused =
-    let faults = subst (λ x. DeleteFaults {A = A} g.told (g.view inside.0) (g.view new.0) name (Err x)) is refused in
-    subst (λ v. TriesName g name v new false) same (record {
+pub tries_refused : {A D W C : Type 0} (g : Ghosts D W C) {old new : D × ManagedNames} {name : List ℕ} {e : DeleteError} {fault : IoFault} {path : String Global} → e ≡ delete.IoError fault path → Deletes {A = A} g.told (g.view old.0) (g.view new.0) name (Err e) → EndsWriters {A = A} g.told (g.view old.0) (g.view new.0) g.state_of name (Err e)
+    → DeleteFaults {A = A} g.told (g.view old.0) (g.view new.0) name (Err e) → TriesName g name old new false
+tries_refused {A} g {old} {new = new} {name} is deletes ends refused =
+    let faults = subst (λ x. DeleteFaults {A = A} g.told (g.view old.0) (g.view new.0) name (Err x)) is refused in
+    record {
       gone = λ tells no. absurd (true≢false (sym no));
       others = λ tells n ne. deletes.err tells n;
       same = λ tells it. deletes.err tells;
@@ -67,14 +67,14 @@ tries_refused {A} g {inside = inside} {new = new} {name} is same deletes ends re
       kept = λ tells it. ends.kept tells;
       ended = λ tells no. absurd (true≢false (sym no));
       fits = faults.fits;
-    })
+    }
 
 -- memory was wanted
-pub changes_nothing : {A D W C : Type 0} (g : Ghosts D W C) {inside old : D × ManagedNames} {new : D} {name : List ℕ} {e : DeleteError} → e ≡ delete.Memory → inside ≡ old → Deletes {A = A} g.told (g.view inside.0) (g.view new) name (Err e) → EndsWriters {A = A} g.told (g.view inside.0) (g.view new) g.state_of name (Err e)
-    → DeleteFaults {A = A} g.told (g.view inside.0) (g.view new) name (Err e) → MayDelete g.told (g.view inside.0) (g.view new) → ChangesNothing g old (new, inside.1)
-changes_nothing {A} g {inside = inside} {new = new} {name} is same deletes ends refused frame =
-    let faults = subst (λ x. DeleteFaults {A = A} g.told (g.view inside.0) (g.view new) name (Err x)) is refused in
-    subst (λ v. ChangesNothing g v (new, inside.1)) same (record {
+pub changes_nothing : {A D W C : Type 0} (g : Ghosts D W C) {old new : D} {names : ManagedNames} {name : List ℕ} {e : DeleteError} → e ≡ delete.Memory → Deletes {A = A} g.told (g.view old) (g.view new) name (Err e) → EndsWriters {A = A} g.told (g.view old) (g.view new) g.state_of name (Err e)
+    → DeleteFaults {A = A} g.told (g.view old) (g.view new) name (Err e) → MayDelete g.told (g.view old) (g.view new) → ChangesNothing g (old, names) (new, names)
+changes_nothing {A} g {old} {new = new} {name = name} is deletes ends refused frame =
+    let faults = subst (λ x. DeleteFaults {A = A} g.told (g.view old) (g.view new) name (Err x)) is refused in
+    record {
       frame = record {
         names = refl;
         below = record {
@@ -86,7 +86,7 @@ changes_nothing {A} g {inside = inside} {new = new} {name} is same deletes ends 
         };
       };
       faults = faults.faults;
-    })
+    }
 
 pub changes_none : {D W C : Type 0} (g : Ghosts D W C) (old : D × ManagedNames) → ChangesNothing g old old
 changes_none g old = record { frame = record { names = refl; below = record { kept = kept_itself g.told (g.view old.0); content = λ tells n. refl } }; faults = refl }
@@ -99,9 +99,9 @@ list_stays : {A D W C : Type 0} (g : Ghosts D W C) {old new : D} {name : List �
 list_stays g (Ok x) other deletes tells = (deletes.ok tells).1.others list_name (λ e. other (sym e))
 list_stays g (Err e) other deletes tells = deletes.err tells list_name
 
-pub only_deletes : {A D W C : Type 0} (g : Ghosts D W C) {inside old new : D × ManagedNames} {name : List ℕ} (result : Result A DeleteError) → inside ≡ old → name ≢ list_name → Deletes g.told (g.view inside.0) (g.view new.0) name result → DeleteFaults g.told (g.view inside.0) (g.view new.0) name result
-    → MayDelete g.told (g.view inside.0) (g.view new.0) → OnlyDeletes g old new
-only_deletes g {new = new} result same other deletes faults frame = subst (λ v. OnlyDeletes g v new) same (record { list = λ tells. list_stays g result other deletes tells; faults = faults.faults; frame = frame })
+pub only_deletes : {A D W C : Type 0} (g : Ghosts D W C) {old new : D × ManagedNames} {name : List ℕ} (result : Result A DeleteError) → name ≢ list_name → Deletes g.told (g.view old.0) (g.view new.0) name result → DeleteFaults g.told (g.view old.0) (g.view new.0) name result
+    → MayDelete g.told (g.view old.0) (g.view new.0) → OnlyDeletes g old new
+only_deletes g result other deletes faults frame = record { list = λ tells. list_stays g result other deletes tells; faults = faults.faults; frame = frame }
 
 -- ---- what a crash may leave
 
@@ -112,35 +112,32 @@ others_deleted (Err (delete.FileDoesNotExist path)) deletes n ne = deletes.err.1
 others_deleted (Err (delete.IoError fault path)) deletes n ne = deletes.err.2.now n
 others_deleted (Err delete.Memory) deletes n ne = deletes.err.now n
 
-state_tried : {A E D W C : Type 0} (g : Ghosts D W C) {inside old : D × ManagedNames} {new : D} {name : List ℕ} (result : Result A DeleteError) (told : Result Bool E) → inside ≡ old → DeletesState (g.disk inside.0) (g.disk new) name result → IfOk told (λ is_gone. is_gone ≡ true → (g.disk new).now name ≡ Absent)
-    → IfOk told (λ is_gone. is_gone ≡ false → KeepsDisk (g.disk inside.0) (g.disk new)) → OnErr told (KeepsDisk (g.disk inside.0) (g.disk new)) → TriesState (g.disk old.0) (g.disk new) name told
-state_tried g {inside} {new = new} {name} result told same deletes gone refused err = subst (λ v. TriesState (g.disk v.0) (g.disk new) name told) same (record {
+state_tried : {A E : Type 0} {old new : Disk} {name : List ℕ} (result : Result A DeleteError) (told : Result Bool E) → DeletesState old new name result → IfOk told (λ is_gone. is_gone ≡ true → new.now name ≡ Absent)
+    → IfOk told (λ is_gone. is_gone ≡ false → KeepsDisk old new) → OnErr told (KeepsDisk old new) → TriesState old new name told
+state_tried {old = old} {new = new} {name = name} result told deletes gone refused err = record {
   gone = gone;
   refused = refused;
   err = err;
-  stays = deleted_stays result (g.disk inside.0) (g.disk new) name deletes;
+  stays = deleted_stays result old new name deletes;
   others = others_deleted result deletes;
   no_more = deletes.no_more;
   time = deletes.time;
-})
+}
 
-pub state_done : {A E D W C : Type 0} (g : Ghosts D W C) {inside old : D × ManagedNames} {new : D} {name : List ℕ} {x : A} → inside ≡ old → DeletesState (g.disk inside.0) (g.disk new) name (Ok x) → TriesState {E = E} (g.disk old.0) (g.disk new) name (Ok true)
-state_done g {x = x} same deletes = state_tried g (Ok x) (Ok true) same deletes (λ it. deletes.ok.1.now) (λ no. absurd (true≢false no)) tt
+pub state_done : {A E : Type 0} {old new : Disk} {name : List ℕ} {x : A} → DeletesState old new name (Ok x) → TriesState {E = E} old new name (Ok true)
+state_done {x = x} deletes = state_tried (Ok x) (Ok true) deletes (λ it. deletes.ok.1.now) (λ no. absurd (true≢false no)) tt
 
-pub state_absent : {A E D W C : Type 0} (g : Ghosts D W C) {inside old : D × ManagedNames} {new : D} {name : List ℕ} {e : DeleteError} {path : String Global} → e ≡ delete.FileDoesNotExist path → inside ≡ old → DeletesState {A = A} (g.disk inside.0) (g.disk new) name (Err e)
-    → TriesState {E = E} (g.disk old.0) (g.disk new) name (Ok true)
-state_absent {A} g {inside} {new = new} {name} {path = path} is same refused =
-    let deletes = subst (λ x. DeletesState {A = A} (g.disk inside.0) (g.disk new) name (Err x)) is refused in
-    state_tried g (Err (delete.FileDoesNotExist path)) (Ok true) same deletes (λ it. deletes.err.1.1.now name ∙ deletes.err.1.0) (λ no. absurd (true≢false no)) tt
+pub state_absent : {A E : Type 0} {old new : Disk} {name : List ℕ} {e : DeleteError} {path : String Global} → e ≡ delete.FileDoesNotExist path → DeletesState {A = A} old new name (Err e) → TriesState {E = E} old new name (Ok true)
+state_absent {A} {old = old} {new = new} {name = name} {path = path} is refused =
+    let deletes = subst (λ x. DeletesState {A = A} old new name (Err x)) is refused in
+    state_tried (Err (delete.FileDoesNotExist path)) (Ok true) deletes (λ it. deletes.err.1.1.now name ∙ deletes.err.1.0) (λ no. absurd (true≢false no)) tt
 
-pub state_refused : {A E D W C : Type 0} (g : Ghosts D W C) {inside old : D × ManagedNames} {new : D} {name : List ℕ} {e : DeleteError} {fault : IoFault} {path : String Global} → e ≡ delete.IoError fault path → inside ≡ old → DeletesState {A = A} (g.disk inside.0) (g.disk new) name (Err e)
-    → TriesState {E = E} (g.disk old.0) (g.disk new) name (Ok false)
-state_refused {A} g {inside} {new = new} {name} {fault = fault} {path = path} is same refused =
-    let deletes = subst (λ x. DeletesState {A = A} (g.disk inside.0) (g.disk new) name (Err x)) is refused in
-    state_tried g (Err (delete.IoError fault path)) (Ok false) same deletes (λ no. absurd (true≢false (sym no))) (λ it. record { states = deletes.err.2; time = deletes.time }) tt
+pub state_refused : {A E : Type 0} {old new : Disk} {name : List ℕ} {e : DeleteError} {fault : IoFault} {path : String Global} → e ≡ delete.IoError fault path → DeletesState {A = A} old new name (Err e) → TriesState {E = E} old new name (Ok false)
+state_refused {A} {old = old} {new = new} {name = name} {fault = fault} {path = path} is refused =
+    let deletes = subst (λ x. DeletesState {A = A} old new name (Err x)) is refused in
+    state_tried (Err (delete.IoError fault path)) (Ok false) deletes (λ no. absurd (true≢false (sym no))) (λ it. record { states = deletes.err.2; time = deletes.time }) tt
 
-pub state_wanted : {A E D W C : Type 0} (g : Ghosts D W C) {inside old : D × ManagedNames} {new : D} {name : List ℕ} {e : DeleteError} (f : E) → e ≡ delete.Memory → inside ≡ old → DeletesState {A = A} (g.disk inside.0) (g.disk new) name (Err e)
-    → TriesState (g.disk old.0) (g.disk new) name (Err f)
-state_wanted {A} g {inside} {new = new} {name} f is same refused =
-    let deletes = subst (λ x. DeletesState {A = A} (g.disk inside.0) (g.disk new) name (Err x)) is refused in
-    state_tried g (Err delete.Memory) (Err f) same deletes tt tt (record { states = deletes.err; time = deletes.time })
+pub state_wanted : {A E : Type 0} {old new : Disk} {name : List ℕ} {e : DeleteError} (f : E) → e ≡ delete.Memory → DeletesState {A = A} old new name (Err e) → TriesState old new name (Err f)
+state_wanted {A} {old = old} {new = new} {name = name} f is refused =
+    let deletes = subst (λ x. DeletesState {A = A} old new name (Err x)) is refused in
+    state_tried (Err delete.Memory) (Err f) deletes tt tt (record { states = deletes.err; time = deletes.time })

@@ -3,11 +3,11 @@ use Rattle.std.proofs.Common.{◌≡◌, ℕ, Bool, true, false, true≢false, n
 use Rattle.std.specs.Result.{IsErr}
 use Rattle.std.proofs.lemmas.Result.{IfOk-from_err}
 use Rattle.std.proofs.lemmas.Bool.{not-true, or_left, or_right}
-use Rattle.tv_model.specs.Names.{has}
-use Rattle.tv_model.specs.Listing.{Lists}
-use Rattle.tv_model.specs.Collections.{Collection, collection_at, without, without_collection}
-use Rattle.tv_model.proofs.CollectionStates.{has_without}
-use Rattle.tv_model.proofs.PlainNames.{both}
+use Rattle.tv_formats.specs.Names.{has}
+use Rattle.tv_formats.specs.Listing.{Lists}
+use Rattle.tv_formats.specs.Collections.{Collection, collection_at, without, without_collection}
+use Rattle.tv_formats.proofs.CollectedNames.{has_without}
+use Rattle.tv_formats.proofs.PlainNames.{both}
 use Rattle.tv_directory.specs.declared.directory.Directory.{Ghosts}
 use Rattle.tv_managed.specs.Collecting.{ending}
 use Rattle.tv_managed.specs.Crashes.{IsCovered, LacksDone, ShortensSafely, ShortensStates}

@@ -1,10 +1,10 @@
 -- What is read at the end of a file, and why it isn't.
 use Rattle.std.proofs.Common.{◌≡◌, ℕ, List, Option, Some, ⊎_elim, inl, inr, sym, ap, subst, ◌∙◌}
 use Rattle.std.proofs.lemmas.Option.{same_Some}
-use Rattle.tv_model.specs.Files.{KeepsOthers, Reads, Sets}
-use Rattle.tv_model.specs.Footer.{HasBody, IsFramed, IsOtherFormat, IsReadFormat, sealed}
-use Rattle.tv_model.specs.FooterForm.{FooterNumbers}
-use Rattle.tv_model.proofs.Bodies.{body_of_good, one_footer}
+use Rattle.tv_formats.specs.Files.{KeepsOthers, Reads, Sets}
+use Rattle.tv_formats.specs.Footer.{HasBody, IsFramed, IsOtherFormat, IsReadFormat, sealed}
+use Rattle.tv_formats.specs.FooterForm.{FooterNumbers}
+use Rattle.tv_formats.proofs.Bodies.{body_of_good, one_footer}
 use Rattle.tv_base.specs.declared.open_errors.OpenReadError.{OpenReadError}
 use Rattle.tv_base.specs.declared.open_errors.OpenReadError.TheVariants as read
 use Rattle.tv_framing.specs.declared.footer.Footer.{Footer}
@@ -25,7 +25,7 @@ less_known was (read.IncompatibleIndex why) h = absurd h
 less_known was read.Memory h = h
 
 -- no footer by its struct is none by its numbers
-pub numbered : (bytes : List ℕ) → ((footer : Footer) (body : List ℕ) → framing.IsFramed bytes footer body → ⊥) → HasNoFooter bytes
+pub numbered : (bytes : List ℕ) → ((footer : Footer) (body : List ℕ) → framing.IsFramedAs bytes footer body → ⊥) → HasNoFooter bytes
 numbered bytes none footer body h =
     none (record { version = record { major = footer.major; minor = footer.minor; patch = footer.patch; index_format_version = footer.format }; crc = footer.crc }) body h
 

@@ -1,7 +1,7 @@
 -- Why a collection is given up, and what its steps leave alone, put together.
 use Rattle.std.proofs.Common.{◌≡◌, true, true≢false, sym, ap, subst, ◌∙◌, arith, Result, Ok, Err}
 use Rattle.std.specs.Prelude.{OnErr}
-use Rattle.tv_model.specs.Files.{Rose}
+use Rattle.tv_formats.specs.Files.{Rose}
 use Rattle.tv_base.specs.declared.error.TantivyError.{TantivyError}
 use Rattle.tv_base.specs.declared.error.TantivyError.TheVariants as errors
 use Rattle.tv_base.specs.declared.open_errors.LockError.TheVariants as lock

@@ -1,11 +1,11 @@
 -- How the calls that make, write, seal and delete a file keep track.
 use Rattle.std.proofs.Common.{◌≡◌, ◌≢◌, inl, inr, ℕ, true, false, true≢false, List, Option, None, refl, sym, ap, subst, ◌∙◌, Result, Ok, Err}
 use borrow.Table.Steps.{cases}
-use Rattle.tv_model.specs.Disk.{DiskState, Absent, Unsealed, Sealed, Disk, possible_now, MayRead, MayAdd, Elapses, IsSettled, OnlyMoves, Throughout}
-use Rattle.tv_model.proofs.DiskLaws.{at_end, fewer_listed, weaker, within_step}
+use Rattle.tv_formats.specs.Disk.{DiskState, Absent, Unsealed, Sealed, Disk, possible_now, MayRead, MayAdd, Elapses, IsSettled, OnlyMoves, Throughout}
+use Rattle.tv_formats.proofs.DiskLaws.{at_end, fewer_listed, weaker, within_step}
 use Rattle.std.specs.Prelude.{IfErr, OnOk}
-use Rattle.tv_model.specs.Names.{has, is, is_undotted, list_name}
-use Rattle.tv_model.proofs.Entries.{is_itself, is_text}
+use Rattle.tv_formats.specs.Names.{has, is, is_undotted, list_name}
+use Rattle.tv_formats.proofs.Entries.{is_itself, is_text}
 use Rattle.tv_base.specs.Causes.{IoCause, OpenWriteCause}
 use Rattle.tv_base.specs.declared.io.IoError.{IoError}
 use Rattle.tv_base.specs.declared.io.IoError.TheVariants as io

@@ -10,10 +10,10 @@ use Rattle.std.proofs.lemmas.Str.{IsUtf8-string_bytes}
 use Rattle.serde_json.specs.Data.{Data, null, boolean, number, string, array, object, Items, no_items, item}
 use Rattle.serde_json.specs.Find.{as_array}
 use Rattle.serde_json.specs.Read.{read}
-use Rattle.tv_model.specs.Names.{byte_cmp, has, is, is_plain}
-use Rattle.tv_model.specs.Listing.{AreStrings, IsManagedName, IsListOf, Lists}
-use Rattle.tv_model.proofs.Entries.{has_put, is_itself, is_text, sorted_put}
-use Rattle.tv_model.proofs.PlainNames.{both}
+use Rattle.tv_formats.specs.Names.{byte_cmp, has, is, is_plain}
+use Rattle.tv_formats.specs.Listing.{AreStrings, IsManagedName, IsListOf, Lists}
+use Rattle.tv_formats.proofs.Entries.{has_put, is_itself, is_text, sorted_put}
+use Rattle.tv_formats.proofs.PlainNames.{both}
 use Rattle.tv_base.specs.Causes.{OpenReadCause}
 use Rattle.tv_base.specs.declared.open_errors.OpenReadError.{OpenReadError}
 use Rattle.tv_base.specs.declared.open_errors.OpenReadError.TheVariants.{FileDoesNotExist}

@@ -2,15 +2,15 @@
 use Rattle.std.proofs.Common.{◌≡◌, ℕ, true, true≢false, List, [], refl, sym, ap, subst, ◌∙◌, Option, None, Some, Result, Ok}
 use Rattle.json.proofs.OnLiterals.{json_on_literals}
 use Rattle.serde_json.specs.Data.{array}
-use Rattle.tv_model.specs.Disk.{DiskState, Absent, Unsealed, Sealed, IsImage, IsThere, MayRead, Possible, Disk, possible_now, Throughout}
-use Rattle.tv_model.specs.Collections.{no_collections}
-use Rattle.tv_model.specs.Listed.{ImagesListTheirFiles, IsAList, IsAlwaysListed, IsListSettled, ListsEachFile}
-use Rattle.tv_model.specs.Listing.{IsListOf, IsOnList, Listing, Lists, list_text}
-use Rattle.tv_model.specs.Names.{has, is_undotted, list_name}
-use Rattle.tv_model.proofs.Entries.{has_inserted}
-use Rattle.tv_model.proofs.ListTexts.{lists_one}
-use Rattle.tv_model.proofs.ListedImages.{settled_lists}
-use Rattle.tv_model.proofs.DiskLaws.{at_end, weaker}
+use Rattle.tv_formats.specs.Disk.{DiskState, Absent, Unsealed, Sealed, IsImage, IsThere, MayRead, Possible, Disk, possible_now, Throughout}
+use Rattle.tv_formats.specs.Collections.{no_collections}
+use Rattle.tv_formats.specs.Listed.{ImagesListTheirFiles, IsAList, IsAlwaysListed, IsListSettled, ListsEachFile}
+use Rattle.tv_formats.specs.Listing.{IsListOf, IsOnList, Listing, Lists, list_text}
+use Rattle.tv_formats.specs.Names.{has, is_undotted, list_name}
+use Rattle.tv_formats.proofs.Entries.{has_inserted}
+use Rattle.tv_formats.proofs.ListTexts.{lists_one}
+use Rattle.tv_formats.proofs.ListedImages.{settled_lists}
+use Rattle.tv_formats.proofs.DiskLaws.{at_end, weaker}
 use Rattle.tv_base.specs.declared.io.IoError.{IoError}
 use Rattle.tv_directory.specs.Images.{KeepsDisk, KeepsOtherStates, StandsNow}
 use Rattle.tv_directory.specs.View.{View}

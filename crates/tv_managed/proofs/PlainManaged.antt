@@ -2,9 +2,9 @@
 use Rattle.std.proofs.Common.{◌≡◌, ℕ, true, true≢false, List, [], ◌∷◌, sym, subst, ⊎_elim}
 use Rattle.std.specs.List.{list_all}
 use Rattle.std.proofs.lemmas.Bool.{or_cases}
-use Rattle.tv_model.specs.Names.{has, is, is_plain, is_undotted}
-use Rattle.tv_model.proofs.Entries.{is_text}
-use Rattle.tv_model.proofs.PlainNames.{both, plain_is_undotted}
+use Rattle.tv_formats.specs.Names.{has, is, is_plain, is_undotted}
+use Rattle.tv_formats.proofs.Entries.{is_text}
+use Rattle.tv_formats.proofs.PlainNames.{both, plain_is_undotted}
 
 pub plain_undotted : (names : List (List ℕ)) (n : List ℕ) → list_all is_plain names ≡ true → has names n ≡ true → is_undotted n ≡ true
 plain_undotted [] n plain h = absurd (true≢false (sym h))

@@ -12,10 +12,10 @@ use Rattle.std.proofs.Math.Bool.{or-false}
 use Rattle.std.proofs.lemmas.List.Elements.{All-filter}
 use Rattle.std.proofs.lemmas.List.Kept.{IsStrictlySortedBy-filter}
 use Rattle.std.proofs.lemmas.List.Sums.{AllPass-from_list_all, list_all-from_AllPass}
-use Rattle.tv_model.specs.Names.{byte_cmp, is, has, is_plain}
-use Rattle.tv_model.specs.Collections.{done_of, failed_of, without}
-use Rattle.tv_model.proofs.Entries.{is_text, remove_inserted, sorted_put}
-use Rattle.tv_model.proofs.CollectionStates.{has_append}
+use Rattle.tv_formats.specs.Names.{byte_cmp, is, has, is_plain}
+use Rattle.tv_formats.specs.Collections.{Collection, done_of, failed_of, having_tried, without}
+use Rattle.tv_formats.proofs.Entries.{is_text, remove_inserted, sorted_put}
+use Rattle.tv_formats.proofs.CollectedNames.{has_append}
 use Rattle.tv_managed.specs.Names.{AreManaged}
 use Rattle.tv_managed.proofs.SetsOfTexts.{bytes_removed}
 
@@ -62,6 +62,10 @@ still_managed names gone h = record { plain = list_all-from_AllPass is_plain _ (
 
 pub texts_left : (keys new : List (String Global)) (name : List ℕ) → new ≡ remove_key (is_at (λ k. byte_cmp name (string_bytes k))) keys → AreManaged (map string_bytes keys) → AreManaged (map string_bytes new)
 texts_left keys new name cut h = rw (texts_without keys new name cut h) (still_managed (map string_bytes keys) (name ∷ []) h)
+
+-- one name more is without
+pub without_more : (done names : List (List ℕ)) (name : List ℕ) (left : List (List ℕ)) (c : Collection) → c.done ≡ done → without (having_tried c name left true).done names ≡ without (name ∷ []) (without done names)
+without_more done names name left c is = rw is (sym (without_twice done (name ∷ []) names))
 
 -- one more of some names was taken out of a set
 pub one_out : (gone keys new : List (String Global)) (i : ℕ) (text : String Global) (name : List ℕ) (all : List (List ℕ)) → i < length gone → text ≡ get_or gone i text → name ≡ string_bytes text

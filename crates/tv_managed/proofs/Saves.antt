@@ -1,8 +1,8 @@
 -- What a save of the list changes.
 use Rattle.std.proofs.Common.{◌≡◌, ◌⊎◌, ℕ, true, false, true≢false, List, sym, subst, ◌∙◌, ⊎_elim, Option}
-use Rattle.tv_model.specs.Names.{is, has, is_undotted, list_name}
-use Rattle.tv_model.specs.Files.{Reads, Same}
-use Rattle.tv_model.specs.Listing.{Lists}
+use Rattle.tv_formats.specs.Names.{is, has, is_undotted, list_name}
+use Rattle.tv_formats.specs.Files.{Reads, Same}
+use Rattle.tv_formats.specs.Listing.{Lists}
 use Rattle.tv_managed.specs.Managed.{Covers, NeedsNoListing}
 use Rattle.tv_managed.specs.Names.{ManagedNames, done_names}
 

@@ -1,9 +1,9 @@
 -- What a save of the list does, put together from its write and the sync behind it.
 use Rattle.std.proofs.Common.{◌≡◌, ℕ, List, refl, subst, ◌∙◌, ⊎_elim, inl, inr, Some, Ok, Err}
-use Rattle.tv_model.specs.Disk.{Disk, Sealed, Within, possible_now}
-use Rattle.tv_model.specs.Files.{Reads, MaySet, Same, Rose}
-use Rattle.tv_model.specs.Listing.{list_text}
-use Rattle.tv_model.specs.Names.{list_name}
+use Rattle.tv_formats.specs.Disk.{Disk, Sealed, Within, possible_now}
+use Rattle.tv_formats.specs.Files.{Reads, MaySet, Same, Rose}
+use Rattle.tv_formats.specs.Listing.{list_text}
+use Rattle.tv_formats.specs.Names.{list_name}
 use Rattle.tv_base.specs.Causes.{IoCause, IsDevice}
 use Rattle.tv_base.specs.declared.io.IoError.{IoError}
 use Rattle.tv_base.specs.declared.io.IoError.TheVariants as io

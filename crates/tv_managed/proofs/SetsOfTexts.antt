@@ -17,12 +17,12 @@ use Rattle.std.proofs.lemmas.List.Folds.{list_any_at, list_any_none}
 use Rattle.std.proofs.lemmas.List.Sorted.{searchable_from_sorted}
 use Rattle.std.proofs.lemmas.Map.Keys.{Less-from_sorted}
 use Rattle.std.proofs.lemmas.Str.{IsUtf8-string_bytes}
-use Rattle.tv_model.specs.Names.{byte_cmp, has, is, is_plain}
-use Rattle.tv_model.specs.Listing.{IsManagedName, IsListOf, list_text}
-use Rattle.tv_model.proofs.Entries.{sorted_put}
-use Rattle.tv_model.proofs.ListTexts.{written_is_list}
-use Rattle.tv_model.proofs.PlainNames.{both}
-use Rattle.tv_model.proofs.TextSets.{bytes_had, texts_inserted}
+use Rattle.tv_formats.specs.Names.{byte_cmp, has, is, is_plain}
+use Rattle.tv_formats.specs.Listing.{IsManagedName, IsListOf, list_text}
+use Rattle.tv_formats.proofs.Entries.{sorted_put}
+use Rattle.tv_formats.proofs.ListTexts.{written_is_list}
+use Rattle.tv_formats.proofs.PlainNames.{both}
+use Rattle.tv_formats.proofs.TextSets.{bytes_had, texts_inserted}
 use Rattle.tv_managed.specs.Names.{AreManaged}
 
 cut : (b : Bool) (x : String Global) (xs rest : List (String Global)) (rest' : List (List ℕ)) → map string_bytes rest ≡ rest'

@@ -4,11 +4,11 @@ use borrow.Table.Steps.{cases}
 use Rattle.std.specs.Prelude.{OnOk, OnErr}
 use Rattle.std.specs.List.{AllZip}
 use Rattle.std.proofs.lemmas.Result.{on_ok_weaker}
-use Rattle.tv_model.specs.Names.{has, list_name}
-use Rattle.tv_model.specs.Collections.{without}
-use Rattle.tv_model.specs.Listing.{IsListOf, list_text}
-use Rattle.tv_model.proofs.CollectionStates.{has_without}
-use Rattle.tv_model.proofs.PlainNames.{both}
+use Rattle.tv_formats.specs.Names.{has, list_name}
+use Rattle.tv_formats.specs.Collections.{without}
+use Rattle.tv_formats.specs.Listing.{IsListOf, list_text}
+use Rattle.tv_formats.proofs.CollectedNames.{has_without}
+use Rattle.tv_formats.proofs.PlainNames.{both}
 use Rattle.tv_base.specs.declared.io.IoError.{IoError}
 use Rattle.tv_directory.specs.View.{OnlyReads}
 use Rattle.tv_directory.specs.declared.directory.Directory.{Ghosts}

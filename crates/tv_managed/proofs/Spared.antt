@@ -5,12 +5,12 @@ use Rattle.std.specs.Prelude.{IfErr, IfOk}
 use Rattle.std.proofs.lemmas.Bool.{or_left, or_right}
 use Rattle.tv_base.specs.declared.open_errors.OpenWriteError.{OpenWriteError}
 use Rattle.tv_base.specs.declared.open_errors.OpenWriteError.TheVariants as write
-use Rattle.tv_model.specs.Disk.{Disk, IsImage, Left, MayRead, Possible, Within, possible_now}
-use Rattle.tv_model.specs.Files.{Reads}
-use Rattle.tv_model.specs.Names.{has}
-use Rattle.tv_model.specs.Collections.{Collection, begun, collectable, collection_at, held, with_begun}
-use Rattle.tv_model.proofs.CollectionStates.{has_append, has_without}
-use Rattle.tv_model.proofs.Numbered.{put_found}
+use Rattle.tv_formats.specs.Disk.{Disk, IsImage, MayLeave, MayRead, Possible, Within, possible_now}
+use Rattle.tv_formats.specs.Files.{Reads}
+use Rattle.tv_formats.specs.Names.{has}
+use Rattle.tv_formats.specs.Collections.{Collection, begun, collectable, collection_at, held, with_begun}
+use Rattle.tv_formats.proofs.CollectedNames.{has_append, has_without}
+use Rattle.tv_formats.proofs.Numbered.{put_found}
 use Rattle.tv_directory.specs.Images.{KeepsDisk}
 use Rattle.tv_directory.specs.View.{Kept, OnlyReads}
 use Rattle.tv_directory.specs.declared.directory.Directory.{Ghosts}
@@ -70,7 +70,7 @@ spares_needed g spared answered living names {old} {new} {result} needed leaves 
 
 -- at each moment a crash may leave what it might before, or each name that was needed as it stood
 pub stands_or_before : (spared names : List (List ℕ)) (text : List ℕ) (old : Disk) (possible : Possible) (image : Reads) → ((n : List ℕ) → has spared n ≡ true → has names n ≡ false) → Within (possible_now old) possible ⊎ IsSettledBut old.now names text possible → IsImage possible image
-    → Left old old.moment image ⊎ StandsFor spared old.now image
+    → MayLeave old old.moment image ⊎ StandsFor spared old.now image
 stands_or_before spared names text old possible image untried synced left =
     ⊎_elim
     (λ within. inl (record { each = λ n. let it = left.each n in (it.0, within.each n it.0 it.1, it.2) }))
@@ -82,8 +82,8 @@ stands_or_before spared names text old possible image untried synced left =
 
 -- and so it does each name that is told as failed
 pub failed_stand : {E D W C : Type 0} (g : Ghosts D W C) (names : List (List ℕ)) {old new : D × ManagedNames} (result : Result GarbageCollectionResult E) → CollectsNames g names old new result → g.tells_images
-    → IfOk result (λ told. (x : ℕ) (image : Reads) → (g.disk old.0).moment ≤ x → x ≤ (g.disk new.0).moment → Left (g.disk new.0) x image
-    → Left (g.disk old.0) (g.disk old.0).moment image ⊎ StandsFor (names_of told.failed_to_delete_files.items) (g.disk old.0).now image)
+    → IfOk result (λ told. (x : ℕ) (image : Reads) → (g.disk old.0).moment ≤ x → x ≤ (g.disk new.0).moment → MayLeave (g.disk new.0) x image
+    → MayLeave (g.disk old.0) (g.disk old.0).moment image ⊎ StandsFor (names_of told.failed_to_delete_files.items) (g.disk old.0).now image)
 failed_stand g names {old} (Ok told) did tells = λ x image from upto left.
     stands_or_before (names_of told.failed_to_delete_files.items) _ _ (g.disk old.0) _ image (λ n h. ap (λ l. has l n) (sym did.told) ∙ did.tries.apart n h) ((did.safe tells).states.synced.each x from upto) left
 failed_stand g names (Err e) did tells = tt

@@ -4,11 +4,11 @@ use Rattle.std.specs.Prelude.{IfOk}
 use Rattle.std.proofs.lemmas.Result.{IfOk-weaker}
 use Rattle.std.proofs.Math.Bool.{or-false}
 use Rattle.std.proofs.lemmas.Bool.{and_parts, or_cases, or_parts}
-use Rattle.tv_model.specs.Disk.{Absent}
-use Rattle.tv_model.specs.Names.{has, is, is_plain, list_name}
-use Rattle.tv_model.specs.Collections.{Collection, Collections, collection_at, having_tried, with_collection}
-use Rattle.tv_model.proofs.Entries.{is_text}
-use Rattle.tv_model.proofs.CollectionStates.{has_append}
+use Rattle.tv_formats.specs.Disk.{Absent}
+use Rattle.tv_formats.specs.Names.{has, is, is_plain, list_name}
+use Rattle.tv_formats.specs.Collections.{Collection, Collections, collection_at, having_tried, with_collection}
+use Rattle.tv_formats.proofs.Entries.{is_text}
+use Rattle.tv_formats.proofs.CollectedNames.{has_append}
 use Rattle.tv_directory.specs.declared.directory.Directory.{Ghosts}
 use Rattle.tv_managed.specs.Collecting.{TriesName, is_done}
 use Rattle.tv_managed.specs.Crashes.{KeepsTrack, LeavesSafely, TriesState, TriesStates}
@@ -35,10 +35,10 @@ pub done_after : (cs : Collections) (number : ℕ) (d : Collection) (name : List
 done_after cs number d name left gone n at = more_done cs.unfinished number d (having_tried d name left gone) n (gone && is name n) at (tried_done d name left gone n)
 
 -- a name was tried, and that was noted
-pub step_safely : {E F D W C : Type 0} (g : Ghosts D W C) (number : ℕ) (d : Collection) (name : List ℕ) (left : List (List ℕ)) (gone : Bool) {old : D × ManagedNames} {new : D} {now : ManagedNames} (step : CollectStep) → TriesState {E = E} (g.disk old.0) (g.disk new) name (Ok gone) → is_plain name ≡ true
-    → collection_at old.1.collections number ≡ Some d → now ≡ record old.1 { collections = with_collection old.1.collections number (having_tried d name left gone) } → is_done step ≡ gone
-    → LeavesSafely g (TriesStates {E = F} (g.disk old.0) (g.disk new) name (Ok step)) old (new, now)
-step_safely g number d name left gone {old} {new} {now} step tries plain at so same = record {
+pub step_safely : {F E D W C : Type 0} (g : Ghosts D W C) (number : ℕ) (d : Collection) (name : List ℕ) (left : List (List ℕ)) (gone : Bool) {old : D × ManagedNames} {new : D} {now : ManagedNames} → TriesState {E = E} (g.disk old.0) (g.disk new) name (Ok gone) → is_plain name ≡ true
+    → collection_at old.1.collections number ≡ Some d → now ≡ record old.1 { collections = with_collection old.1.collections number (having_tried d name left gone) }
+    → LeavesSafely g (TriesStates {E = F} (λ it. it) (g.disk old.0) (g.disk new) name (Ok gone)) old (new, now)
+step_safely g number d name left gone {old} {new} {now} tries plain at so = record {
   tracks = λ was.
       let first : KeepsTrack g old (new, old.1) = track_deleted g tries.time tries.no_more tries.stays (plain_other name plain) was in
       let later = with_collection old.1.collections number (having_tried d name left gone) in
@@ -56,38 +56,68 @@ step_safely g number d name left gone {old} {new} {now} step tries plain at so s
   states = record {
     moments = adds_run (gained_one tries.time tries.no_more);
     now = record { each = tries.others };
-    gone = λ done. tries.gone (sym same ∙ done);
-    refused = λ no. tries.refused (sym same ∙ no);
+    gone = tries.gone;
+    refused = tries.refused;
     err = tt;
   };
 }
 
 -- no name could be tried
-pub step_none : {E F D W C : Type 0} (g : Ghosts D W C) (name : List ℕ) {old new : D × ManagedNames} (e : E) (result : Result CollectStep F) → TriesState {E = E} (g.disk old.0) (g.disk new.0) name (Err e) → is_plain name ≡ true → new.1 ≡ old.1 → IfOk result (λ step. ⊥)
-    → LeavesSafely g (TriesStates {E = F} (g.disk old.0) (g.disk new.0) name result) old new
-step_none g name {old} {new} e result tries plain same none = record {
+pub step_none : {A E F D W C : Type 0} (says_done : A → Bool) (g : Ghosts D W C) (name : List ℕ) {old new : D × ManagedNames} (e : E) (result : Result A F) → TriesState {E = E} (g.disk old.0) (g.disk new.0) name (Err e) → is_plain name ≡ true → new.1 ≡ old.1 → IfOk result (λ answer. ⊥)
+    → LeavesSafely g (TriesStates says_done (g.disk old.0) (g.disk new.0) name result) old new
+step_none says_done g name {old} {new} e result tries plain same none = record {
   tracks = λ was. subst (λ v. KeepsTrack g old (new.0, v)) (sym same) (track_deleted g tries.time tries.no_more tries.stays (plain_other name plain) was);
   listed = listed_file g old new.0 new.1 (ap (λ v. v.managed) same) tries.no_more (plain_other name plain);
   states = record {
     moments = adds_run (gained_one tries.time tries.no_more);
     now = record { each = tries.others };
-    gone = IfOk-weaker result _ _ (λ step h. absurd h) none;
-    refused = IfOk-weaker result _ _ (λ step h. absurd h) none;
+    gone = IfOk-weaker result _ _ (λ answer h. absurd h) none;
+    refused = IfOk-weaker result _ _ (λ answer h. absurd h) none;
     err = on_err result tries.err;
   };
 }
 
 -- no name was found
-pub step_same : {F D W C : Type 0} (g : Ghosts D W C) (name : List ℕ) (old : D × ManagedNames) (result : Result CollectStep F) → IfOk result (λ step. ⊥) → LeavesSafely g (TriesStates {E = F} (g.disk old.0) (g.disk old.0) name result) old old
-step_same g name old result none = record {
+pub step_same : {A F D W C : Type 0} (says_done : A → Bool) (g : Ghosts D W C) (name : List ℕ) (old : D × ManagedNames) (result : Result A F) → IfOk result (λ answer. ⊥) → LeavesSafely g (TriesStates says_done (g.disk old.0) (g.disk old.0) name result) old old
+step_same says_done g name old result none = record {
   tracks = track_same g;
   listed = λ was. was;
   states = record {
     moments = adds_run (gained_same _ (g.disk old.0));
     now = record { each = λ n other. refl };
-    gone = IfOk-weaker result _ _ (λ step h. absurd h) none;
-    refused = IfOk-weaker result _ _ (λ step h. absurd h) none;
+    gone = IfOk-weaker result _ _ (λ answer h. absurd h) none;
+    refused = IfOk-weaker result _ _ (λ answer h. absurd h) none;
     err = on_err result (keeps_same (g.disk old.0));
+  };
+}
+
+-- an outcome that was noted, as a step tells it
+pub step_told : {E F D W C : Type 0} (g : Ghosts D W C) (name : List ℕ) {old new : D × ManagedNames} (gone : Bool) (step : CollectStep) → is_done step ≡ gone → LeavesSafely g (TriesStates {E = E} (λ it. it) (g.disk old.0) (g.disk new.0) name (Ok gone)) old new
+    → LeavesSafely g (TriesStates {E = F} is_done (g.disk old.0) (g.disk new.0) name (Ok step)) old new
+step_told g name gone step same safe = record {
+  tracks = safe.tracks;
+  listed = safe.listed;
+  states = record {
+    moments = safe.states.moments;
+    now = safe.states.now;
+    gone = λ done. safe.states.gone (sym same ∙ done);
+    refused = λ no. safe.states.refused (sym same ∙ no);
+    err = tt;
+  };
+}
+
+-- and where it could not be noted
+pub step_wanted : {E F D W C : Type 0} (g : Ghosts D W C) (name : List ℕ) {old new : D × ManagedNames} (e : E) (result : Result CollectStep F) → IfOk result (λ step. ⊥) → LeavesSafely g (TriesStates {A = Bool} (λ it. it) (g.disk old.0) (g.disk new.0) name (Err e)) old new
+    → LeavesSafely g (TriesStates is_done (g.disk old.0) (g.disk new.0) name result) old new
+step_wanted g name e result none safe = record {
+  tracks = safe.tracks;
+  listed = safe.listed;
+  states = record {
+    moments = safe.states.moments;
+    now = safe.states.now;
+    gone = IfOk-weaker result _ _ (λ answer h. absurd h) none;
+    refused = IfOk-weaker result _ _ (λ answer h. absurd h) none;
+    err = on_err result safe.states.err;
   };
 }
 

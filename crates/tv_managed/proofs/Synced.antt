@@ -1,15 +1,13 @@
 -- What a crash may leave of a collection at once, which tries its names behind a sync.
 use Rattle.std.proofs.Common.{◌≡◌, ⊎_elim, ◌⊎◌, inl, inr, ℕ, Bool, true, false, cond, List, [], ◌∷◌, ◌++◌, refl, ap, ◌∙◌, Result, Ok}
 use Rattle.std.proofs.lemmas.Bool.{or_left, or_right}
-use Rattle.tv_model.specs.Disk.{Sealed, Possible, Disk, possible_now, Within, MayAdd, Throughout, TouchesOnly}
-use Rattle.tv_model.specs.Names.{has, is, list_name}
-use Rattle.tv_model.proofs.CollectionStates.{has_append}
-use Rattle.tv_model.proofs.Entries.{is_itself}
-use Rattle.tv_model.proofs.DiskLaws.{HoldsOfFewer, goes_on_run, at_end, weaker, touches_then}
+use Rattle.tv_formats.specs.Disk.{Sealed, Possible, Disk, possible_now, Within, MayAdd, Throughout, TouchesOnly}
+use Rattle.tv_formats.specs.Names.{has, is, list_name}
+use Rattle.tv_formats.proofs.CollectedNames.{has_append}
+use Rattle.tv_formats.proofs.Entries.{is_itself}
+use Rattle.tv_formats.proofs.DiskLaws.{HoldsOfFewer, goes_on_run, at_end, weaker, touches_then}
 use Rattle.tv_managed.specs.Crashes.{AnyOrList, Gains, IsLost, IsSettledBut, LosesNames, SettlesStates, TriesStates}
 use Rattle.tv_directory.specs.Images.{KeepsDisk}
-use Rattle.tv_managed.specs.Collecting.{is_done}
-use Rattle.tv_managed.specs.declared.collection.CollectStep.{CollectStep}
 use Rattle.tv_managed.proofs.Touching.{gained_more, gained_none, gained_same, gained_then}
 
 -- ---- names that are tried
@@ -30,7 +28,7 @@ loses_more among loses = record {
 }
 
 -- one of them was
-pub loses_one : {E : Type 0} {old new : Disk} {name : List ℕ} {result : Result CollectStep E} (names : List (List ℕ)) → has names name ≡ true → TriesStates old new name result → LosesNames names old new
+pub loses_one : {A E : Type 0} {says_done : A → Bool} {old new : Disk} {name : List ℕ} {result : Result A E} (names : List (List ℕ)) → has names name ≡ true → TriesStates says_done old new name result → LosesNames names old new
 loses_one names one tries = record {
   moments = weaker tries.moments (λ p adds. record { each = λ n s is. ⊎_elim (λ before. inl before) (λ it. inr (ap (has names) it.0 ∙ one, it.1)) (adds.each n s is) });
   now = record { each = λ n other. tries.now.each n (λ same. other (ap (has names) same ∙ one)) };
@@ -41,9 +39,9 @@ pub loses_then : {names : List (List ℕ)} {old mid new : Disk} → LosesNames n
 loses_then first second = record { moments = gained_then first.moments second.moments; now = record { each = λ n other. second.now.each n other ∙ first.now.each n other } }
 
 -- one name was tried, after these: it is among those that are done, or nothing changed
-pub loses_tried : {E : Type 0} (step : CollectStep) (deleted : List (List ℕ)) {old new : Disk} {name : List ℕ} → TriesStates {E = E} old new name (Ok step) → LosesNames (deleted ++ cond (is_done step) (name ∷ []) []) old new
-loses_tried step deleted {old} {new} {name} tries = either (is_done step) refl where
-  either : (b : Bool) → is_done step ≡ b → LosesNames (deleted ++ cond b (name ∷ []) []) old new
+pub loses_tried : {E : Type 0} (gone : Bool) (deleted : List (List ℕ)) {old new : Disk} {name : List ℕ} → TriesStates {E = E} (λ it. it) old new name (Ok gone) → LosesNames (deleted ++ cond gone (name ∷ []) []) old new
+loses_tried gone deleted {old} {new} {name} tries = either gone refl where
+  either : (b : Bool) → gone ≡ b → LosesNames (deleted ++ cond b (name ∷ []) []) old new
   either true done = loses_one (deleted ++ name ∷ []) (has_append deleted (name ∷ []) name ∙ or_right (has deleted name) _ (or_left (is name name) _ (is_itself name))) tries
   either false failed = loses_kept _ (tries.refused failed)
 

@@ -1,8 +1,8 @@
 -- What each step leaves alone of the files on a disk.
 use Rattle.std.proofs.Common.{◌≡◌, ◌≢◌, ⊎_elim, ℕ, Bool, true, false, List, refl, sym, ap, subst, ◌∙◌, inl, inr, arith, Result, Ok, Err}
-use Rattle.tv_model.specs.Disk.{DiskState, Absent, Unsealed, Sealed, IsThere, Possible, Disk, possible_now, Within, MayAdd, Elapses, Throughout, TouchesOnly}
-use Rattle.tv_model.specs.Names.{list_name}
-use Rattle.tv_model.proofs.DiskLaws.{HoldsOfFewer, at_end, goes_on, goes_on_run, same, started, touches_file, touches_none, weaker}
+use Rattle.tv_formats.specs.Disk.{DiskState, Absent, Unsealed, Sealed, IsThere, Possible, Disk, possible_now, Within, MayAdd, Elapses, Throughout, TouchesOnly}
+use Rattle.tv_formats.specs.Names.{list_name}
+use Rattle.tv_formats.proofs.DiskLaws.{HoldsOfFewer, at_end, goes_on, goes_on_run, same, started, touches_file, touches_none, weaker}
 use Rattle.tv_base.specs.declared.io.IoError.{IoError}
 use Rattle.tv_base.specs.declared.io.IoError.TheVariants as io
 use Rattle.tv_base.specs.declared.open_errors.OpenWriteError.TheVariants as write

@@ -1,12 +1,12 @@
 -- What each step keeps of the list, where it forgets no file that a crash may leave.
 use Rattle.std.proofs.Common.{◌≡◌, ◌≢◌, ⊎_elim, ℕ, true, false, true≢false, List, refl, sym, ap, subst, ◌∙◌, Some}
 use Rattle.std.proofs.lemmas.Bool.{false_from_ne_true}
-use Rattle.tv_model.specs.Disk.{DiskState, Sealed, IsThere, MayRead, Possible, possible_now, Within, MayAdd, Elapses}
-use Rattle.tv_model.specs.Listed.{IsAList, IsAlwaysListed, IsOnEach, ListsEachFile}
-use Rattle.tv_model.specs.Listing.{IsListFile, IsListOf, Lists}
-use Rattle.tv_model.specs.Names.{has, is_undotted, list_name}
-use Rattle.tv_model.specs.Collections.{Collections}
-use Rattle.tv_model.proofs.DiskLaws.{fewer_listed, started}
+use Rattle.tv_formats.specs.Disk.{DiskState, Sealed, IsThere, MayRead, Possible, possible_now, Within, MayAdd, Elapses}
+use Rattle.tv_formats.specs.Listed.{IsAList, IsAlwaysListed, IsOnEach, ListsEachFile}
+use Rattle.tv_formats.specs.Listing.{IsListFile, IsListOf, Lists}
+use Rattle.tv_formats.specs.Names.{has, is_undotted, list_name}
+use Rattle.tv_formats.specs.Collections.{Collections}
+use Rattle.tv_formats.proofs.DiskLaws.{fewer_listed, started}
 use Rattle.tv_directory.specs.declared.directory.Directory.{Ghosts}
 use Rattle.tv_managed.specs.Crashes.{AreListed, IsCovered, IsTracked, KeepsTrack}
 use Rattle.tv_managed.specs.Names.{ManagedNames, done_names}

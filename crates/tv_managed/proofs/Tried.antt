@@ -5,10 +5,10 @@ use Rattle.std.specs.Prelude.{IsSome}
 use Rattle.std.proofs.Math.Bool.{or-false}
 use Rattle.std.proofs.lemmas.Bool.{false_from_ne_true, or_parts}
 use Rattle.std.proofs.lemmas.List.{nil_from_length}
-use Rattle.tv_model.specs.Names.{is, has, is_plain, list_name}
-use Rattle.tv_model.specs.Files.{KeepsOthers}
-use Rattle.tv_model.proofs.Entries.{is_text, isnt_one}
-use Rattle.tv_model.proofs.CollectionStates.{has_append}
+use Rattle.tv_formats.specs.Names.{is, has, is_plain, list_name}
+use Rattle.tv_formats.specs.Files.{KeepsOthers}
+use Rattle.tv_formats.proofs.Entries.{is_text, isnt_one}
+use Rattle.tv_formats.proofs.CollectedNames.{has_append}
 use Rattle.tv_directory.specs.View.{Kept, MayDelete, OnlyReads}
 use Rattle.tv_directory.specs.declared.directory.Directory.{Ghosts}
 use Rattle.tv_managed.specs.Collecting.{FailsAtMost, Tried, TriesName}

@@ -1,14 +1,14 @@
 -- What a collection's outcomes say of its names.
-use Rattle.std.proofs.Common.{◌≡◌, ℕ, ◌<◌, ◌≤◌, ◌+◌, suc, Bool, true, false, true≢false, ◌||◌, ⊎_elim, List, [], ◌∷◌, ◌++◌, length, drop, take, get_or, drop-cons, length-drop, set, string_bytes, String, Global, refl, sym, ap, ◌∙◌, arith}
+use Rattle.std.proofs.Common.{◌≡◌, ◌≢◌, ℕ, ◌<◌, ◌≤◌, ◌+◌, suc, Bool, true, false, true≢false, ◌||◌, ⊎_elim, List, [], ◌∷◌, ◌++◌, length, drop, take, get_or, drop-cons, length-drop, set, string_bytes, String, Global, refl, sym, ap, ◌∙◌, arith}
 use Rattle.std.proofs.lemmas.Bool.{both_ways, false_from_ne_true, or_cases, or_left, or_right, true_from_ne_false}
 use Rattle.std.proofs.lemmas.List.Folds.{list_all_at}
 use Rattle.std.proofs.lemmas.List.{length-take-le, map-append, take_more, take_more_set}
 use Rattle.std.specs.Prelude.{if◌then◌else◌}
-use Rattle.std.specs.List.{list_all}
-use Rattle.tv_model.specs.Names.{has, is, is_plain}
-use Rattle.tv_model.proofs.CollectionStates.{has_append}
-use Rattle.tv_model.proofs.Entries.{is_text}
-use Rattle.tv_model.specs.Collections.{AreOnce, Collection, having_tried, taken}
+use Rattle.std.specs.List.{list_all, list_any}
+use Rattle.tv_formats.specs.Names.{has, is, is_plain}
+use Rattle.tv_formats.proofs.CollectedNames.{has_append}
+use Rattle.tv_formats.proofs.Entries.{is_text}
+use Rattle.tv_formats.specs.Collections.{AreOnce, Collection, having_tried, taken}
 use Rattle.tv_managed.specs.Collecting.{names_of}
 use Rattle.tv_managed.specs.Names.{IsCollection, tried_so, trying_first}
 
@@ -67,6 +67,19 @@ marked names outcomes tried o name left is next =
     let some : length (tried_so names (take tried outcomes)).untried ≡ suc (length left) = ap length next in
     let lt : tried < length outcomes = omega (arith, left_count names outcomes tried is, is.each, some) in
     ap (tried_so names) (take_more_set outcomes tried o lt) ∙ tried_more names (take tried outcomes) o name left next
+
+-- none is done where no outcome says so, and some are where one does
+pub none_done : (names : List (List ℕ)) (outcomes : List Bool) → list_any (λ b. b) outcomes ≡ false → (tried_so names outcomes).done ≡ []
+none_done names [] h = refl
+none_done [] (o ∷ outcomes) h = refl
+none_done (name ∷ names) (true ∷ outcomes) h = absurd (true≢false h)
+none_done (name ∷ names) (false ∷ outcomes) h = none_done names outcomes h
+
+pub some_done : (names : List (List ℕ)) (outcomes : List Bool) → length outcomes ≤ length names → list_any (λ b. b) outcomes ≡ true → (tried_so names outcomes).done ≢ []
+some_done names [] le h none = absurd (true≢false (sym h))
+some_done [] (o ∷ outcomes) le h none = absurd (omega arith)
+some_done (name ∷ names) (true ∷ outcomes) le h none = absurd cc
+some_done (name ∷ names) (false ∷ outcomes) le h none = some_done names outcomes (omega arith) h none
 
 -- the texts of what was told, to which one was added or not
 pub told_done : (gone : Bool) (c : Collection) (name : List ℕ) (left : List (List ℕ)) (texts more : List (String Global)) (text : String Global) → more ≡ (if gone then texts ++ text ∷ [] else texts) → names_of texts ≡ c.done → string_bytes text ≡ name

@@ -1,18 +1,17 @@
 -- How a collection tries its names one after another.
 use Rattle.std.proofs.Common.{◌≡◌, ◌<◌, ◌≤◌, ◌+◌, suc, Err, Ok, ℕ, Bool, true, false, cond, List, [], ◌∷◌, ◌++◌, length, Option, None, Some, refl, sym, ap, subst, ◌∙◌, arith, append-nil, append_assoc}
 use Rattle.std.specs.Option.{IsSomeAnd}
-use Rattle.tv_base.specs.declared.error.TantivyError.{TantivyError}
-use Rattle.tv_model.proofs.Numbered.{put_found}
-use Rattle.tv_model.specs.Collections.{Collection, begun, collection_at, having_tried, with_collection}
+use Rattle.tv_formats.specs.declared.memory.Memory.{Memory}
+use Rattle.tv_formats.proofs.Numbered.{put_found}
+use Rattle.tv_formats.specs.Collections.{Collection, begun, collection_at, having_tried, with_collection}
 use Rattle.tv_directory.specs.View.{Kept}
 use Rattle.tv_directory.specs.declared.directory.Directory.{Ghosts}
-use Rattle.tv_managed.specs.Collecting.{ChangesNothing, HasLeft, OnlyDeletes, TriesFirst, TriesSome, is_done, standing}
+use Rattle.tv_managed.specs.Collecting.{ChangesNothing, HasLeft, NotesFirst, NotesNext, OnlyDeletes, TriesSome, standing}
 use Rattle.tv_managed.specs.Crashes.{LeavesSafely, StepsSafely, TriesSafely, TriesStates}
 use Rattle.tv_managed.specs.Names.{ManagedNames}
 use Rattle.tv_managed.proofs.Synced.{loses_kept, loses_none, loses_on, loses_then, loses_tried}
 use Rattle.tv_managed.proofs.Tracking.{track_same}
 use Rattle.tv_managed.specs.TrackLaws.{track_then}
-use Rattle.tv_managed.specs.declared.collection.CollectStep.{CollectStep}
 use Rattle.tv_managed.proofs.Collections.{put_twice}
 use Rattle.tv_managed.proofs.Tried.{tried_name, tried_none, tried_on, tried_quiet, tried_then}
 
@@ -39,13 +38,12 @@ with_standing : ℕ → Collection → ManagedNames → ManagedNames
 with_standing number c names = record names { collections = with_collection names.collections number c }
 
 -- one more was tried
-pub some_more : {D W C : Type 0} (g : Ghosts D W C) (before : ManagedNames) (names : List (List ℕ)) {first old new : D × ManagedNames} (step : CollectStep) (name : List ℕ) (left : List (List ℕ)) (t : TriesSafely g before names first old) → t.some.rest ≡ name ∷ left
-    → TriesFirst g before.collections.next (record { untried = t.some.rest; done = t.some.deleted; failed = t.some.failed }) name left old new step → OnlyDeletes g old new
-    → (g.tells_images → LeavesSafely g (TriesStates {E = TantivyError} (g.disk old.0) (g.disk new.0) name (Ok step)) old new) → TriesSafely g before names first new
+pub some_more : {D W C : Type 0} (g : Ghosts D W C) (before : ManagedNames) (names : List (List ℕ)) {first old new : D × ManagedNames} (gone : Bool) (name : List ℕ) (left : List (List ℕ)) (t : TriesSafely g before names first old) → t.some.rest ≡ name ∷ left
+    → NotesFirst g before.collections.next (record { untried = t.some.rest; done = t.some.deleted; failed = t.some.failed }) name left old new gone → OnlyDeletes g old new
+    → (g.tells_images → LeavesSafely g (TriesStates {E = Memory} (λ it. it) (g.disk old.0) (g.disk new.0) name (Ok gone)) old new) → TriesSafely g before names first new
 unfolding with_standing
-some_more g before names {first} {old} {new} step name left so_far next t only safe =
+some_more g before names {first} {old} {new} gone name left so_far next t only safe =
     let s = so_far.some in
-    let gone = is_done step in
     let c : Collection = record { untried = s.rest; done = s.deleted; failed = s.failed } in
     let put = tried_as s.rest s.deleted s.failed name left gone in
     record {
@@ -66,7 +64,7 @@ some_more g before names {first} {old} {new} step name left so_far next t only s
           record {
             tracks = λ was. let before = was_safe.tracks was in track_then g before (one.tracks before.tracked);
             listed = λ was. one.listed (was_safe.listed was);
-            states = loses_on s.deleted _ was_safe.states (loses_tried step s.deleted one.states);
+            states = loses_on s.deleted _ was_safe.states (loses_tried gone s.deleted one.states);
           };
     }
 
@@ -74,19 +72,15 @@ left_tried : (d : Collection) (name : List ℕ) (left : List (List ℕ)) (gone :
 left_tried d name left true = refl
 left_tried d name left false = refl
 
--- the first name left was tried, whatever it is
-abbrev pub TriesNext : {D W C : Type 0} → Ghosts D W C → ℕ → (old new : D × ManagedNames) → CollectStep → Type 0
-TriesNext g number old new step = (d : Collection) (name : List ℕ) (left : List (List ℕ)) → collection_at old.1.collections number ≡ Some d → d.untried ≡ name ∷ left → TriesFirst g number d name left old new step
-
 -- the collection that stands has the names that are left
 left_at : {D W C : Type 0} (g : Ghosts D W C) (before : ManagedNames) (names : List (List ℕ)) (number : ℕ) {first old : D × ManagedNames} → number ≡ before.collections.next → (s : TriesSome g before names first old)
     → collection_at old.1.collections number ≡ Some (record { untried = s.rest; done = s.deleted; failed = s.failed })
 left_at g before names number {first} {old} same s =
     ap (λ n. collection_at old.1.collections n) same ∙ ap (λ v. collection_at v.collections before.collections.next) s.names ∙ at_standing before (record { untried = s.rest; done = s.deleted; failed = s.failed })
 
-pub some_next : {D W C : Type 0} (g : Ghosts D W C) (before : ManagedNames) (names : List (List ℕ)) (number : ℕ) {first old new : D × ManagedNames} (step : CollectStep) → number ≡ before.collections.next → HasLeft old.1.collections number → TriesNext g number old new step → OnlyDeletes g old new
-    → (g.tells_images → StepsSafely {E = TantivyError} g number old new (Ok step)) → TriesSafely g before names first old → TriesSafely g before names first new
-some_next g before names number {first} {old} {new} step same has tries only safe so_far = by so_far.some.rest refl where
+pub some_next : {D W C : Type 0} (g : Ghosts D W C) (before : ManagedNames) (names : List (List ℕ)) (number : ℕ) {first old new : D × ManagedNames} (gone : Bool) → number ≡ before.collections.next → HasLeft old.1.collections number → NotesNext g number old new gone → OnlyDeletes g old new
+    → (g.tells_images → StepsSafely {E = Memory} (λ it. it) g number old new (Ok gone)) → TriesSafely g before names first old → TriesSafely g before names first new
+some_next g before names number {first} {old} {new} gone same has tries only safe so_far = by so_far.some.rest refl where
   c : Collection
   c = record { untried = so_far.some.rest; done = so_far.some.deleted; failed = so_far.some.failed }
 
@@ -98,12 +92,12 @@ some_next g before names number {first} {old} {new} step same has tries only saf
 
   by : (r : List (List ℕ)) → so_far.some.rest ≡ r → TriesSafely g before names first new
   by [] none = absurd (omega (arith, some has, ap length none))
-  by (name ∷ left) next = some_more g before names step name left so_far next
-      (subst (λ n. TriesFirst g n c name left old new step) same (tries c name left at next)) only (λ tells. safe tells c name left at next)
+  by (name ∷ left) next = some_more g before names gone name left so_far next
+      (subst (λ n. NotesFirst g n c name left old new gone) same (tries c name left at next)) only (λ tells. safe tells c name left at next)
 
 -- none could be tried, and nothing changed
-pub some_wanted : {D W C : Type 0} (g : Ghosts D W C) (before : ManagedNames) (names : List (List ℕ)) (number : ℕ) {first old new : D × ManagedNames} (e : TantivyError) → number ≡ before.collections.next → HasLeft old.1.collections number → ChangesNothing g old new
-    → (g.tells_images → StepsSafely g number old new (Err e)) → TriesSafely g before names first old → TriesSafely g before names first new
+pub some_wanted : {D W C : Type 0} (g : Ghosts D W C) (before : ManagedNames) (names : List (List ℕ)) (number : ℕ) {first old new : D × ManagedNames} (e : Memory) → number ≡ before.collections.next → HasLeft old.1.collections number → ChangesNothing g old new
+    → (g.tells_images → StepsSafely {A = Bool} (λ it. it) g number old new (Err e)) → TriesSafely g before names first old → TriesSafely g before names first new
 some_wanted g before names number {first} {old} {new} e same has none safe so_far = by so_far.some.rest refl where
   c : Collection
   c = record { untried = so_far.some.rest; done = so_far.some.deleted; failed = so_far.some.failed }
@@ -137,14 +131,14 @@ some_wanted g before names number {first} {old} {new} e same has none safe so_fa
   }
 
 -- and fewer are left
-pub fewer_left : {D W C : Type 0} (g : Ghosts D W C) (number : ℕ) (old new : D × ManagedNames) (step : CollectStep) → HasLeft old.1.collections number → TriesNext g number old new step → suc (left_of (collection_at new.1.collections number)) ≤ left_of (collection_at old.1.collections number)
-fewer_left g number old new step has tries = by (collection_at old.1.collections number) refl has where
+pub fewer_left : {D W C : Type 0} (g : Ghosts D W C) (number : ℕ) (old new : D × ManagedNames) (gone : Bool) → HasLeft old.1.collections number → NotesNext g number old new gone → suc (left_of (collection_at new.1.collections number)) ≤ left_of (collection_at old.1.collections number)
+fewer_left g number old new gone has tries = by (collection_at old.1.collections number) refl has where
   tried : (d : Collection) (rest : List (List ℕ)) → d.untried ≡ rest → collection_at old.1.collections number ≡ Some d → 0 < length d.untried → suc (left_of (collection_at new.1.collections number)) ≤ length d.untried
   tried d [] none at some = absurd (omega (arith, ap length none))
   tried d (name ∷ left) next at some =
       let t = tries d name left at next in
-      let now : collection_at new.1.collections number ≡ Some (having_tried d name left (is_done step)) = ap (λ v. collection_at v.collections number) t.names ∙ put_found old.1.collections.unfinished number _ in
-      omega (arith, ap left_of now, left_tried d name left (is_done step), ap length next)
+      let now : collection_at new.1.collections number ≡ Some (having_tried d name left gone) = ap (λ v. collection_at v.collections number) t.names ∙ put_found old.1.collections.unfinished number _ in
+      omega (arith, ap left_of now, left_tried d name left gone, ap length next)
 
   by : (o : Option Collection) → collection_at old.1.collections number ≡ o → IsSomeAnd o (λ d. 0 < length d.untried) → suc (left_of (collection_at new.1.collections number)) ≤ left_of o
   by None at some = absurd some

@@ -1,8 +1,8 @@
 -- What is written, listed and sealed, put together from the steps of a call.
 use Rattle.std.proofs.Common.{◌≡◌, ◌≢◌, ◌++◌, ◌⊎◌, ⊎_elim, inl, inr, ℕ, List, refl, sym, ap, subst, ◌∙◌, Some, Result, Ok, Err}
 use Rattle.std.specs.Prelude.{IfErr, OnOk}
-use Rattle.tv_model.specs.Files.{MaySet, Reads, Rose, Same, Sets}
-use Rattle.tv_model.specs.Names.{list_name}
+use Rattle.tv_formats.specs.Files.{MaySet, Reads, Rose, Same, Sets}
+use Rattle.tv_formats.specs.Names.{list_name}
 use Rattle.tv_base.specs.Causes.{IoCause}
 use Rattle.tv_base.specs.declared.io.IoError.{IoError}
 use Rattle.tv_base.specs.declared.io.IoError.TheVariants as io

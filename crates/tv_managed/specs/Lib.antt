@@ -1,6 +1,7 @@
 pub mod Reading
 pub mod Writers
 pub mod Names
+pub mod Answers
 pub mod Managed
 pub mod Collecting
 pub mod Crashes

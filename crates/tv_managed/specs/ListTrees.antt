@@ -3,7 +3,7 @@ use Rattle.std.specs.Prelude.{ℕ, List, [], Option, Some, None, if◌then◌els
 use Rattle.std.specs.BTreeSet.{insert_key}
 use Rattle.serde_json.specs.Data.{Data, Items, no_items, item}
 use Rattle.serde_json.specs.Find.{as_array, as_str}
-use Rattle.tv_model.specs.Names.{byte_cmp, is_plain}
+use Rattle.tv_formats.specs.Names.{byte_cmp, is_plain}
 
 -- the name that a tree is, where it is a plain one
 abbrev pub name_of : Data → Option (List ℕ)

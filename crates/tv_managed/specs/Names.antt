@@ -2,8 +2,8 @@
 use Rattle.std.specs.Prelude.{ℕ, ◌≡◌, ◌≤◌, true, Bool, List, [], ◌∷◌, None, length, if◌then◌else◌}
 use Rattle.std.specs.List.{flat_map, list_all}
 use Rattle.std.specs.List.Sorted.{IsStrictlySortedBy}
-use Rattle.tv_model.specs.Names.{byte_cmp, is_plain}
-use Rattle.tv_model.specs.Collections.{Collection, Collections, collection_at}
+use Rattle.tv_formats.specs.Names.{byte_cmp, is_plain}
+use Rattle.tv_formats.specs.Collections.{Collection, Collections, collection_at}
 
 -- the managed names in their order, and the unfinished collections
 pub record ManagedNames : Type 0 where
@@ -15,14 +15,16 @@ pub record AreManaged (names : List (List ℕ)) : Type 0 where
   pub plain : list_all is_plain names ≡ true
   pub ordered : IsStrictlySortedBy byte_cmp names
 
--- the names that unfinished collections have done: no crash leaves a file of theirs once the device has kept that, and they are still managed
+-- the names that unfinished collections have done: no crash leaves a file of theirs once the device has kept
+-- that, and they are still managed
 abbrev pub done_names : Collections → List (List ℕ)
 done_names collections = flat_map (λ e. e.1.done) collections.unfinished
 
 -- a name was tried before those of a collection
 abbrev pub trying_first : (name : List ℕ) → (is_done : Bool) → Collection → Collection
 trying_first name is_done c =
-    if is_done then record { untried = c.untried; done = name ∷ c.done; failed = c.failed } else record { untried = c.untried; done = c.done; failed = name ∷ c.failed }
+    if is_done then record { untried = c.untried; done = name ∷ c.done; failed = c.failed }
+    else record { untried = c.untried; done = c.done; failed = name ∷ c.failed }
 
 -- a collection of these names, of which the first were tried with these outcomes
 abbrev pub tried_so : List (List ℕ) → List Bool → Collection

@@ -1,14 +1,14 @@
 //! Deletes the managed files that nothing needs, at once or in steps.
 ghost use Rattle.std.specs.Prelude.{◌≡◌, ◌≢◌, [], ◌++◌, ◌∷◌, ℕ, List, length, true, false, Option, Some, None, IsSome, option_map, IfOk, IfErr, OnErr};
-ghost use Rattle.tv_model.specs.Names.{has, is_file_name, is_plain, list_name};
-ghost use Rattle.tv_model.specs.Collections.{Collection as CollectionState, begun, collectable, collection_at, held, no_collections, taken, without};
+ghost use Rattle.tv_formats.specs.Names.{has, is_file_name, is_plain, list_name};
+ghost use Rattle.tv_formats.specs.Collections.{Collection as CollectionState, begun, collectable, collection_at, held, no_collections, taken, without};
 ghost use Rattle.tv_directory.specs.Images.{DeletesState};
 ghost use Rattle.tv_directory.specs.View.{Kept, MayDelete, OnlyReads};
-ghost use Rattle.tv_directory.specs.Calls.{DeleteFaults, Deletes, EndsWriters};
+ghost use Rattle.tv_directory.specs.Calls.{DeleteFaults, Deletes, EndsWriters, IoFaults};
 ghost use Rattle.tv_managed.specs.Crashes.{AreListed, CollectsNames, EndsSafely, IsTracked, LeavesSafely, CutsList, SettlesStates, StepsSafely, TriesSafely, TriesState};
 ghost use Rattle.tv_managed.specs.Frames.{KeepsNames, OnlyAsks};
 ghost use Rattle.tv_managed.specs.Names.{AreManaged, ManagedNames};
-ghost use Rattle.tv_managed.specs.Collecting.{Among, BeginFaults, Begins, BeginsBeside, ChangesNothing, CollectFaults, EndFaults, EndsCollection, HasLeft, LockedFaults, OnlyDeletes, Shortens, Steps, TriesAll, TriesName, names_of, standing, taken_by};
+ghost use Rattle.tv_managed.specs.Collecting.{Among, BeginFaults, Begins, BeginsBeside, ChangesNothing, CollectFaults, EndFaults, EndsCollection, HasLeft, LockedFaults, NotesNext, OnlyDeletes, Shortens, Steps, TriesAll, TriesName, is_done, names_of, standing, taken_by};
 
 use crate::collection::{CollectStep, Collections, GarbageCollectionResult};
 use crate::list::save_managed_paths;
@@ -17,7 +17,7 @@ use std::alloc::Global;
 use std::collections::BTreeSet;
 use tv_base::{DeleteError, IoError, TantivyError};
 use tv_directory::{Directory, meta_lock};
-use tv_model::Memory;
+use tv_formats::Memory;
 
 impl<D: Directory> ManagedDirectory<D> {
     /// Deletes the file. `FileDoesNotExist` comes where the name doesn't read. The name stays managed.
@@ -146,11 +146,10 @@ impl<D: Directory> ManagedDirectory<D> {
         ensures steps { Steps D.Directory id self.old self.new result }
         ensures only { OnlyDeletes D.Directory self.old self.new }
         ensures safe { D.tells_images
-            → StepsSafely D.Directory id self.old self.new result }
+            → StepsSafely is_done D.Directory id self.old self.new result }
     {
         let name = self.collections.next_name(self.alloc, id)?;
-        let is_done = self.delete_managed(name.as_str())?;
-        self.collections.mark(id, is_done);
+        let is_done = self.try_next(id)?;
         Ok(CollectStep::new(name, is_done))
     }
 
@@ -168,10 +167,8 @@ impl<D: Directory> ManagedDirectory<D> {
         ensures frame { Kept D.told (D.view self.old.0) (D.view self.new.0) }
         ensures safe { D.tells_images → EndsSafely D.Directory id self.old self.new result }
     {
-        let result = self.collections.result(self.alloc, id)?;
-        self.take_out(result.deleted_files.as_slice())?;
-        self.collections.finish(id);
-        Ok(result)
+        self.take_out_done(id)?;
+        Ok(self.collections.finish(id))
     }
 
     /// No collection is unfinished from now on, and numbers begin at 0, as after a new wrap. What was done of one
@@ -245,7 +242,7 @@ impl<D: Directory> ManagedDirectory<D> {
         ensures only { OnlyDeletes D.Directory self.old self.new }
     {
         while self.has_left(number) {
-            self.collect_delete(number)?;
+            self.try_next(number)?;
         }
         Ok(())
     }
@@ -261,42 +258,41 @@ impl<D: Directory> ManagedDirectory<D> {
         }
     }
 
-    // Deletes a managed name, and answers whether it is gone.
-    fn delete_managed(&mut self, name: &str) -> Result<bool, Memory>
-        requires { is_plain name.now ≡ true }
-        ensures tried { IfOk result (TriesName D.Directory name.now self.old self.new) }
+    // Tries the first name that a collection has left, and answers whether it is done. Wants no memory but
+    // what the device does.
+    fn try_next(&mut self, id: u64) -> Result<bool, Memory>
+        requires { HasLeft self.old.1.collections id }
+        ensures notes { IfOk result (NotesNext D.Directory id self.old self.new) }
         ensures err { OnErr result (ChangesNothing D.Directory self.old self.new) }
-        ensures names { self.new.1 ≡ self.old.1 }
         ensures only { OnlyDeletes D.Directory self.old self.new }
-        ensures images { D.tells_images
-            → TriesState (D.disk self.old.0) (D.disk self.new.0) name.now result }
+        ensures safe { D.tells_images
+            → StepsSafely (λ gone. gone) D.Directory id self.old self.new result }
     {
-        match self.directory.delete(name) {
-            Ok(()) => Ok(true),
-            Err(DeleteError::FileDoesNotExist(_)) => Ok(true),
-            Err(
-                DeleteError::IoError {
-                    io_error: _,
-                    filepath: _,
-                },
-            ) => Ok(false),
-            Err(DeleteError::Memory) => Err(Memory),
-        }
+        let is_done = delete_managed(&mut self.directory, self.collections.next(id))?;
+        self.collections.mark(id, is_done);
+        Ok(is_done)
     }
 
-    // Takes these names out of the managed ones, where there are some.
-    fn take_out(&mut self, done: &[String]) -> Result<(), IoError>
-        ensures shortens { Shortens D.Directory (without (names_of done.now) self.old.1.managed)
-            self.old self.new result }
-        ensures saves_none { done.now ≡ [] → self.new ≡ self.old }
-        ensures safe { D.tells_images → CutsList D.Directory
-            (without (names_of done.now) self.old.1.managed) self.old self.new result }
+    // Takes the names that a collection has done out of the managed ones, where there are some.
+    fn take_out_done(&mut self, id: u64) -> Result<(), IoError>
+        requires { IsSome (collection_at self.old.1.collections id) }
+        ensures shortens { (c : CollectionState) → collection_at self.old.1.collections id ≡ Some c
+            → Shortens D.Directory (without c.done self.old.1.managed) self.old self.new result }
+        ensures saves_none { (c : CollectionState)
+            → collection_at self.old.1.collections id ≡ Some c
+            → c.done ≡ [] → self.new ≡ self.old }
+        ensures safe { D.tells_images → (c : CollectionState)
+            → collection_at self.old.1.collections id ≡ Some c
+            → CutsList D.Directory (without c.done self.old.1.managed) self.old self.new result }
+        ensures faults { IoFaults (D.view self.old.0) (D.view self.new.0) result }
+        ensures frame { Kept D.told (D.view self.old.0) (D.view self.new.0) }
     {
-        if done.is_empty() {
+        if !self.collections.has_done(id) {
             return Ok(());
         }
         let managed = self.managed.clone()?;
-        self.save_shorter(without(managed, done))
+        let left = self.collections.without_done(id, managed);
+        self.save_shorter(left)
     }
 
     // Waits until the device has kept what was deleted, and saves the list of the names that are left.
@@ -317,16 +313,29 @@ impl<D: Directory> ManagedDirectory<D> {
     }
 }
 
-// The names without these.
-fn without(names: BTreeSet<String>, gone: &[String]) -> BTreeSet<String>
-    requires { AreManaged (names_of names.keys) }
-    ensures { names_of result.keys ≡ without (names_of gone.now) (names_of names.keys) }
+// Deletes a managed name, and answers whether it is gone, whatever names are kept in memory.
+fn delete_managed<D: Directory>(directory: &mut D, name: &str) -> Result<bool, Memory>
+    requires { is_plain name.now ≡ true }
+    ensures tried { (names : ManagedNames) → IfOk result
+        (TriesName D.Directory name.now (directory.old, names) (directory.new, names)) }
+    ensures err { (names : ManagedNames) → OnErr result
+        (ChangesNothing D.Directory (directory.old, names) (directory.new, names)) }
+    ensures only { (names : ManagedNames)
+        → OnlyDeletes D.Directory (directory.old, names) (directory.new, names) }
+    ensures images { D.tells_images
+        → TriesState (D.disk directory.old) (D.disk directory.new) name.now result }
 {
-    let mut names = names;
-    for name in gone {
-        names.remove(name.as_str());
+    match directory.delete(name) {
+        Ok(()) => Ok(true),
+        Err(DeleteError::FileDoesNotExist(_)) => Ok(true),
+        Err(
+            DeleteError::IoError {
+                io_error: _,
+                filepath: _,
+            },
+        ) => Ok(false),
+        Err(DeleteError::Memory) => Err(Memory),
     }
-    names
 }
 
 // Whether a name is living, or an unfinished collection has it.

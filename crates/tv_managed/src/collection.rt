@@ -1,14 +1,15 @@
 //! Collections: what they take, and what they told so far.
-ghost use Rattle.std.specs.Prelude.{◌≡◌, ◌≤◌, ◌<◌, ◌+◌, ◌-◌, ◌∷◌, ◌++◌, [], ℕ, List, length, map, string_bytes, true, false, IsSome, Option, Some, None, option_map, IfOk, OnOk, OnErr, if◌then◌else◌};
-ghost use Rattle.tv_model.specs.Names.{has, is_plain};
-ghost use Rattle.tv_model.specs.Collections.{Collection as CollectionState, begun, collection_at, having_tried, held, no_collections, taken, with_begun, with_collection, without_collection};
+ghost use Rattle.std.specs.Prelude.{◌≡◌, ◌≢◌, ◌≤◌, ◌<◌, ◌+◌, ◌-◌, ◌∷◌, ◌++◌, [], ℕ, List, length, map, string_bytes, true, false, IsSome, Option, Some, None, option_map, IfOk, OnOk, OnErr, if◌then◌else◌};
+ghost use Rattle.tv_formats.specs.Names.{has, is_plain};
+ghost use Rattle.tv_formats.specs.Collections.{Collection as CollectionState, begun, collection_at, having_tried, held, no_collections, taken, with_begun, with_collection, without, without_collection};
+ghost use Rattle.tv_managed.specs.Answers.{HasRoom, IsReady};
 ghost use Rattle.tv_managed.specs.Collecting.{HasLeft, IsLast, is_done, names_of, tried_name};
 ghost use Rattle.tv_managed.specs.Names.{AreManaged, tried_so};
 
 use std::alloc::Global;
-use std::collections::BTreeMap;
+use std::collections::{BTreeMap, BTreeSet};
 use std::marker::Model;
-use tv_model::Memory;
+use tv_formats::Memory;
 
 /// What a step of a collection did with its name.
 #[derive(Debug, Drop)]
@@ -44,36 +45,52 @@ impl CollectStep {
 }
 
 impl GarbageCollectionResult {
-    // Adds a name that was tried: it is gone, or its delete was refused.
-    fn add(&mut self, name: String, gone: bool) -> Result<(), Memory>
-        ensures deleted { OnOk result (self.new.deleted_files.items ≡ (if gone
+    // No name yet, and room for this many of each kind.
+    fn with_room(alloc: Global, count: usize) -> Result<GarbageCollectionResult, Memory>
+        ensures { IfOk result (IsReady count) }
+    {
+        let deleted_files = Vec::with_capacity(alloc, count)?;
+        let failed_to_delete_files = Vec::with_capacity(alloc, count)?;
+        Ok(GarbageCollectionResult {
+            deleted_files,
+            failed_to_delete_files,
+        })
+    }
+
+    // Adds a name that was tried: it is gone, or its delete was refused. Takes no memory.
+    fn add(&mut self, name: String, gone: bool)
+        requires { HasRoom 1 self.old }
+        ensures deleted { self.new.deleted_files.items ≡ (if gone
             then self.old.deleted_files.items ++ name ∷ []
-            else self.old.deleted_files.items)) }
-        ensures failed { OnOk result (self.new.failed_to_delete_files.items ≡ (if gone
+            else self.old.deleted_files.items) }
+        ensures failed { self.new.failed_to_delete_files.items ≡ (if gone
             then self.old.failed_to_delete_files.items
-            else self.old.failed_to_delete_files.items ++ name ∷ [])) }
+            else self.old.failed_to_delete_files.items ++ name ∷ []) }
+        ensures room { (left : ℕ) → HasRoom (1 + left) self.old → HasRoom left self.new }
     {
         if gone {
-            self.deleted_files.push(name)?;
+            self.deleted_files.push_reserved(name);
         } else {
-            self.failed_to_delete_files.push(name)?;
+            self.failed_to_delete_files.push_reserved(name);
         }
-        Ok(())
     }
 }
 
-/// A collection: the names that it took, in their order, with a place for the outcome of each, and how many
-/// were tried. So nothing is wanted of the memory once a name was tried.
+/// A collection: the names that it took, in their order, with a place for the outcome of each, how many were
+/// tried, and an answer with room for each. So nothing is wanted of the memory once a name was tried, not for
+/// the answer either.
 #[derive(Drop)]
 pub(crate) struct Collection {
     names: Vec<String>,
     outcomes: Vec<bool>,
     tried: usize,
+    answer: GarbageCollectionResult,
 }
 
 impl Model for Collection {
-    ghost use Rattle.std.specs.Prelude.{map, string_bytes, take};
-    ghost use Rattle.tv_model.specs.Collections.{Collection as CollectionState};
+    ghost use Rattle.std.specs.Prelude.{length, map, string_bytes, take};
+    ghost use Rattle.tv_formats.specs.Collections.{Collection as CollectionState};
+    ghost use Rattle.tv_managed.specs.Answers.{IsReady};
     ghost use Rattle.tv_managed.specs.Names.{IsCollection, tried_so};
 
     ghost Value = { CollectionState };
@@ -81,7 +98,8 @@ impl Model for Collection {
     ghost view = { λ a. tried_so (map string_bytes a.names.items) (take a.tried a.outcomes.items) };
 
     ghost invariant = { λ a.
-        IsCollection (map string_bytes a.names.items) a.outcomes.items a.tried };
+        IsCollection (map string_bytes a.names.items) a.outcomes.items a.tried
+        × IsReady (length a.names.items) a.answer };
 }
 
 impl Collection {
@@ -91,10 +109,12 @@ impl Collection {
         ensures { IfOk result (λ c. c ≡ begun (names_of names.items)) }
     {
         let outcomes = vec![in alloc; false; names.len()]?;
+        let answer = GarbageCollectionResult::with_room(alloc, names.len())?;
         Ok(Collection {
             names,
             outcomes,
             tried: 0,
+            answer,
         })
     }
 
@@ -141,38 +161,75 @@ impl Collection {
         self.tried += 1;
     }
 
-    // What it told so far.
-    fn result(&self, alloc: Global) -> Result<GarbageCollectionResult, Memory>
-        ensures deleted { IfOk result (λ r. names_of r.deleted_files.items ≡ self.now.done) }
-        ensures failed { IfOk result (λ r.
-            names_of r.failed_to_delete_files.items ≡ self.now.failed) }
-        ensures apart { (n : List ℕ) → has self.now.failed n ≡ true → has self.now.done n ≡ false }
+    // Whether a name of it is done. Takes no memory.
+    fn has_done(&self) -> bool
+        ensures some { result ≡ true → self.now.done ≢ [] }
+        ensures none { result ≡ false → self.now.done ≡ [] }
     {
-        outcomes_of(alloc, self.names.as_slice(), &self.outcomes[..self.tried])
+        self.outcomes[..self.tried].iter().any(|is_done| *is_done)
+    }
+
+    // These names without those that it has done. Takes no memory.
+    fn without_done(&self, names: BTreeSet<String>) -> BTreeSet<String>
+        requires { AreManaged (names_of names.keys) }
+        ensures { names_of result.keys ≡ without self.now.done (names_of names.keys) }
+    {
+        without_done(names, self.names.as_slice(), &self.outcomes[..self.tried])
+    }
+
+    // What it told so far. Takes no memory.
+    fn into_answer(self) -> GarbageCollectionResult
+        ensures deleted { names_of result.deleted_files.items ≡ self.done }
+        ensures failed { names_of result.failed_to_delete_files.items ≡ self.failed }
+        ensures apart { (n : List ℕ) → has self.failed n ≡ true → has self.done n ≡ false }
+    {
+        let Collection {
+            names,
+            outcomes,
+            tried,
+            answer,
+        } = self;
+        told_in(answer, names, &outcomes[..tried])
     }
 }
 
-// The outcomes of the first ones of these names.
-fn outcomes_of(
-    alloc: Global,
-    names: &[String],
-    outcomes: &[bool],
-) -> Result<GarbageCollectionResult, Memory>
-    requires { length outcomes.now ≤ length names.now }
-    ensures deleted { IfOk result (λ r. names_of r.deleted_files.items
-        ≡ (tried_so (names_of names.now) outcomes.now).done) }
-    ensures failed { IfOk result (λ r. names_of r.failed_to_delete_files.items
-        ≡ (tried_so (names_of names.now) outcomes.now).failed) }
+// These names without those that were tried and are done.
+fn without_done(names: BTreeSet<String>, tried: &[String], outcomes: &[bool]) -> BTreeSet<String>
+    requires managed { AreManaged (names_of names.keys) }
+    requires within { length outcomes.now ≤ length tried.now }
+    ensures { names_of result.keys
+        ≡ without (tried_so (names_of tried.now) outcomes.now).done (names_of names.keys) }
 {
-    let mut told = GarbageCollectionResult {
-        deleted_files: Vec::new(alloc),
-        failed_to_delete_files: Vec::new(alloc),
-    };
-    for i in 0..outcomes.len() {
-        let name = String::from_str(alloc, names[i].as_str())?;
-        told.add(name, outcomes[i])?;
+    let mut names = names;
+    for (i, is_done) in outcomes.iter().enumerate() {
+        if *is_done {
+            names.remove(tried[i].as_str());
+        }
     }
-    Ok(told)
+    names
+}
+
+// An answer that has room for these names, with the outcomes of the first ones.
+fn told_in(
+    answer: GarbageCollectionResult,
+    names: Vec<String>,
+    outcomes: &[bool],
+) -> GarbageCollectionResult
+    requires ready { IsReady (length names.items) answer }
+    requires within { length outcomes.now ≤ length names.items }
+    ensures deleted { names_of result.deleted_files.items
+        ≡ (tried_so (names_of names.items) outcomes.now).done }
+    ensures failed { names_of result.failed_to_delete_files.items
+        ≡ (tried_so (names_of names.items) outcomes.now).failed }
+{
+    let mut answer = answer;
+    let mut names = names.into_iter();
+    for gone in outcomes {
+        if let Some(name) = names.next() {
+            answer.add(name, *gone);
+        }
+    }
+    answer
 }
 
 /// The unfinished collections by their numbers, and the number that the next one gets.
@@ -183,7 +240,7 @@ pub(crate) struct Collections {
 }
 
 impl Model for Collections {
-    ghost use Rattle.tv_model.specs.Collections.{Collections as CollectionsState};
+    ghost use Rattle.tv_formats.specs.Collections.{Collections as CollectionsState};
     ghost use Rattle.tv_managed.specs.Names.{AreNumbered};
 
     ghost Value = { CollectionsState };
@@ -293,27 +350,38 @@ impl Collections {
         self.unfinished.get_mut(&number).unwrap().mark(is_done);
     }
 
-    /// What the collection told so far.
-    pub(crate) fn result(
-        &self,
-        alloc: Global,
-        number: u64,
-    ) -> Result<GarbageCollectionResult, Memory>
+    /// Whether a name of the collection is done. Takes no memory.
+    pub(crate) fn has_done(&self, number: u64) -> bool
         requires { IsSome (collection_at self.now number) }
-        ensures told { (c : CollectionState) → collection_at self.now number ≡ Some c
-            → IfOk result (λ r. (names_of r.deleted_files.items ≡ c.done)
-            × (names_of r.failed_to_delete_files.items ≡ c.failed)) }
-        ensures apart { (c : CollectionState) → collection_at self.now number ≡ Some c
-            → (n : List ℕ) → has c.failed n ≡ true → has c.done n ≡ false }
+        ensures some { (c : CollectionState) → collection_at self.now number ≡ Some c
+            → result ≡ true → c.done ≢ [] }
+        ensures none { (c : CollectionState) → collection_at self.now number ≡ Some c
+            → result ≡ false → c.done ≡ [] }
     {
-        self.unfinished[&number].result(alloc)
+        self.unfinished[&number].has_done()
     }
 
-    /// The collection is finished. Takes no memory.
-    pub(crate) fn finish(&mut self, number: u64)
-        ensures { self.new ≡ without_collection self.old number }
+    /// These names without those that the collection has done. Takes no memory.
+    pub(crate) fn without_done(&self, number: u64, names: BTreeSet<String>) -> BTreeSet<String>
+        requires there { IsSome (collection_at self.now number) }
+        requires managed { AreManaged (names_of names.keys) }
+        ensures { (c : CollectionState) → collection_at self.now number ≡ Some c
+            → names_of result.keys ≡ without c.done (names_of names.keys) }
     {
-        let _ = self.unfinished.remove(&number);
+        self.unfinished[&number].without_done(names)
+    }
+
+    /// The collection is finished: what it told. Takes no memory.
+    pub(crate) fn finish(&mut self, number: u64) -> GarbageCollectionResult
+        requires { IsSome (collection_at self.old number) }
+        ensures names { self.new ≡ without_collection self.old number }
+        ensures told { (c : CollectionState) → collection_at self.old number ≡ Some c
+            → (names_of result.deleted_files.items ≡ c.done)
+            × (names_of result.failed_to_delete_files.items ≡ c.failed) }
+        ensures apart { (c : CollectionState) → collection_at self.old number ≡ Some c
+            → (n : List ℕ) → has c.failed n ≡ true → has c.done n ≡ false }
+    {
+        self.unfinished.remove(&number).unwrap().into_answer()
     }
 
     /// The number before the next one is free again, which no unfinished collection has. Takes no memory.

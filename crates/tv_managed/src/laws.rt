@@ -1,11 +1,11 @@
 //! Laws of managed directories: what one may rely on, whatever the directory is. Each makes the calls of which it
 //! speaks, and its contract is the law.
 ghost use Rattle.std.specs.Prelude.{◌≡◌, ◌≢◌, ◌≤◌, ◌<◌, ◌⊎◌, ℕ, List, Option, true, false, IsSome, IfOk, IfErr, OnErr};
-ghost use Rattle.tv_model.specs.Names.{is_file_name, list_name};
-ghost use Rattle.tv_model.specs.Collections.{collection_at, held};
-ghost use Rattle.tv_model.specs.Disk.{IsThere, Left};
-ghost use Rattle.tv_model.specs.Files.{Reads};
-ghost use Rattle.tv_model.specs.Listed.{ListsItsFiles};
+ghost use Rattle.tv_formats.specs.Names.{is_file_name, list_name};
+ghost use Rattle.tv_formats.specs.Collections.{collection_at, held};
+ghost use Rattle.tv_formats.specs.Disk.{IsThere, MayLeave};
+ghost use Rattle.tv_formats.specs.Files.{Reads};
+ghost use Rattle.tv_formats.specs.Listed.{ListsItsFiles};
 ghost use Rattle.tv_directory.specs.View.{OnlyReads};
 ghost use Rattle.tv_managed.specs.Collecting.{HasLeft, KeepsFailed, Spares, TookNoneOf, is_done, names_of};
 ghost use Rattle.tv_managed.specs.Crashes.{IsTracked, LeavesWhatMight, StandsFor};
@@ -31,7 +31,7 @@ pub fn open_write_forgets_no_file<D: Directory>(
     ensures { D.tells_images → IsTracked D.Directory directory.old
         → (x : ℕ) (image : List ℕ → Option (List ℕ))
         → (D.disk directory.old.0).moment ≤ x → x ≤ (D.disk directory.new.0).moment
-        → Left (D.disk directory.new.0) x image → ListsItsFiles image }
+        → MayLeave (D.disk directory.new.0) x image → ListsItsFiles image }
 {
     directory.open_write(name)
 }
@@ -61,8 +61,8 @@ pub fn open_write_unseals_no_file_that_is_there<D: Directory>(
     ensures { D.tells_images → IsThere ((D.disk directory.old.0).now name.now)
         → (x : ℕ) (image : Reads)
         → (D.disk directory.old.0).moment ≤ x → x ≤ (D.disk directory.new.0).moment
-        → Left (D.disk directory.new.0) x image
-        → Left (D.disk directory.old.0) (D.disk directory.old.0).moment image }
+        → MayLeave (D.disk directory.new.0) x image
+        → MayLeave (D.disk directory.old.0) (D.disk directory.old.0).moment image }
 {
     directory.open_write(name)
 }
@@ -160,13 +160,13 @@ pub fn garbage_collect_deletes_behind_a_sync<D: Directory>(
 ) -> Result<GarbageCollectionResult, TantivyError>
     ensures living { D.tells_images → (x : ℕ) (image : Reads)
         → (D.disk directory.old.0).moment ≤ x → x ≤ (D.disk directory.new.0).moment
-        → Left (D.disk directory.new.0) x image
-        → Left (D.disk directory.old.0) (D.disk directory.old.0).moment image
+        → MayLeave (D.disk directory.new.0) x image
+        → MayLeave (D.disk directory.old.0) (D.disk directory.old.0).moment image
         ⊎ StandsFor (names_of living.keys) (D.disk directory.old.0).now image }
     ensures failed { D.tells_images → IfOk result (λ told. (x : ℕ) (image : Reads)
         → (D.disk directory.old.0).moment ≤ x → x ≤ (D.disk directory.new.0).moment
-        → Left (D.disk directory.new.0) x image
-        → Left (D.disk directory.old.0) (D.disk directory.old.0).moment image
+        → MayLeave (D.disk directory.new.0) x image
+        → MayLeave (D.disk directory.old.0) (D.disk directory.old.0).moment image
         ⊎ StandsFor (names_of told.failed_to_delete_files.items)
         (D.disk directory.old.0).now image) }
 {

@@ -1,7 +1,7 @@
 //! The file that lists the managed files.
 ghost use Rattle.std.specs.Prelude.{◌≡◌, [], ◌∷◌, ◌++◌, Some, IfOk, OnOk, map, option_map, string_bytes, if◌then◌else◌};
-ghost use Rattle.tv_model.specs.Names.{list_name};
-ghost use Rattle.tv_model.specs.Listing.{Listing, list_text, quoted};
+ghost use Rattle.tv_formats.specs.Names.{list_name};
+ghost use Rattle.tv_formats.specs.Listing.{Listing, list_text, in_quotes};
 ghost use Rattle.tv_directory.specs.Images.{KeepsDisk};
 ghost use Rattle.tv_directory.specs.View.{OnlyReads};
 ghost use Rattle.tv_managed.specs.Collecting.{names_of};
@@ -15,12 +15,12 @@ use std::alloc::Global;
 use std::collections::BTreeSet;
 use tv_base::{DataCorruption, IoError, MANAGED_FILEPATH, OpenReadError, TantivyError};
 use tv_directory::Directory;
-use tv_model::Memory;
+use tv_formats::Memory;
 
 // Adds a name in quotation marks, and a comma before it where it isn't the first.
 fn push_name(text: &mut Vec<u8>, name: &str, is_first: bool) -> Result<(), Memory>
     ensures { OnOk result (text.new.items
-        ≡ text.old.items ++ ((if is_first then [] else 44 ∷ []) ++ quoted name.now)) }
+        ≡ text.old.items ++ ((if is_first then [] else 44 ∷ []) ++ in_quotes name.now)) }
 {
     if !is_first {
         text.push(b',')?;

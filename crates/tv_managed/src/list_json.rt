@@ -2,8 +2,8 @@
 ghost use Rattle.std.specs.Prelude.{◌≡◌, List, ℕ, [], IfOk, OnOk, MatchOption, option_map};
 ghost use Rattle.std.specs.BTreeSet.{insert_key};
 ghost use Rattle.serde_json.specs.View.{view, items_view};
-ghost use Rattle.tv_model.specs.Names.{byte_cmp};
-ghost use Rattle.tv_model.specs.Listing.{IsListOf};
+ghost use Rattle.tv_formats.specs.Names.{byte_cmp};
+ghost use Rattle.tv_formats.specs.Listing.{IsListOf};
 ghost use Rattle.tv_managed.specs.Collecting.{names_of};
 ghost use Rattle.tv_managed.specs.ListTrees.{name_of, names_in, put_items};
 
@@ -11,7 +11,7 @@ use serde_json::Value;
 use std::alloc::Global;
 use std::collections::BTreeSet;
 use tv_base::is_plain_name;
-use tv_model::Memory;
+use tv_formats::Memory;
 
 /// The names that the bytes list, and nothing where they are no list.
 pub(crate) fn read_names(alloc: Global, bytes: &[u8]) -> Result<Option<BTreeSet<String>>, Memory>
@@ -58,7 +58,7 @@ fn names_of(alloc: Global, items: &[Value]) -> Result<Option<BTreeSet<String>>, 
 }
 
 // Puts a name among the names.
-#[tactic(auto, using(tv_model::proofs::TextSets::texts_inserted))]
+#[tactic(auto, using(tv_formats::proofs::TextSets::texts_inserted))]
 fn put(alloc: Global, names: &mut BTreeSet<String>, name: &str) -> Result<(), Memory>
     ensures { OnOk result (names_of names.new.keys
         ≡ insert_key byte_cmp (names_of names.old.keys) name.now) }

@@ -2,13 +2,13 @@
 ghost use Rattle.std.specs.Prelude.{List, Option, ℕ, ◌≡◌, ◌≢◌, ◌<◌, ◌+◌, ◌^◌, [], ◌∷◌, true, false, length, Some, None, is_some, IfOk, IfErr, OnOk, OnErr, map, string_bytes};
 ghost use Rattle.std.specs.List.{list_all};
 ghost use Rattle.std.specs.BTreeSet.{insert_key};
-ghost use Rattle.tv_model.specs.Names.{byte_cmp, has, is_file_name, is_plain, is_undotted, list_name};
-ghost use Rattle.tv_model.specs.Disk.{Left, Sealed, Unsealed};
-ghost use Rattle.tv_model.specs.Listed.{ListsEachFile, ListsItsFiles};
-ghost use Rattle.tv_model.specs.Listing.{Listing};
-ghost use Rattle.tv_model.specs.Collections.{held, without};
-ghost use Rattle.tv_model.specs.Checksum.{crc32};
-ghost use Rattle.tv_model.specs.Footer.{footer};
+ghost use Rattle.tv_formats.specs.Names.{byte_cmp, has, is_file_name, is_plain, is_undotted, list_name};
+ghost use Rattle.tv_formats.specs.Disk.{MayLeave, Sealed, Unsealed};
+ghost use Rattle.tv_formats.specs.Listed.{ListsEachFile, ListsItsFiles};
+ghost use Rattle.tv_formats.specs.Listing.{Listing};
+ghost use Rattle.tv_formats.specs.Collections.{held, without};
+ghost use Rattle.tv_formats.specs.Checksum.{crc32};
+ghost use Rattle.tv_formats.specs.Footer.{footer};
 ghost use Rattle.tv_checksum.specs.Crc32.{HasTaken};
 ghost use Rattle.tv_directory.specs.View.{Kept, OnlyReads};
 ghost use Rattle.tv_directory.specs.Calls.{AskFaults, ReadFaults, IoFaults, DeviceFaults, Appends, HandsBack, Touches, Flushes};
@@ -30,8 +30,8 @@ use std::marker::Model;
 use tv_base::{IoError, IoFault, OpenReadError, OpenWriteError, TantivyError};
 use tv_checksum::{Checksum, Crc32};
 use tv_directory::Directory;
+use tv_formats::Memory;
 use tv_framing::Footer;
-use tv_model::Memory;
 
 /// A directory with the list of the files that it manages. To a contract it is the directory, and what is
 /// kept in memory beside it: the managed names in their order, and the unfinished collections.
@@ -144,7 +144,7 @@ impl<D: Directory> ManagedDirectory<D> {
     pub fn images_list_their_files(&self)
         ensures { (x : ℕ) (image : List ℕ → Option (List ℕ))
             → ListsEachFile ((D.disk self.now.0).possible x)
-            → Left (D.disk self.now.0) x image → ListsItsFiles image }
+            → MayLeave (D.disk self.now.0) x image → ListsItsFiles image }
     {}
 
     // Adds a name without a dot in front to the list, where it isn't there yet.
@@ -182,7 +182,7 @@ impl<D: Directory> ManagedDirectory<D> {
     }
 
     // Adds a name to the managed ones.
-    #[tactic(auto, using(tv_model::proofs::TextSets::texts_inserted))]
+    #[tactic(auto, using(tv_formats::proofs::TextSets::texts_inserted))]
     fn add(&mut self, name: &str) -> Result<(), Memory>
         requires { is_plain name.now ≡ true }
         ensures names { OnOk result (self.new.1 ≡ record self.old.1 {

@@ -1,8 +1,8 @@
 //! Reads the bodies of sealed files, and their checksums.
 ghost use Rattle.std.specs.Prelude.{◌≡◌, ◌==◌, List, ℕ, true, IfOk, IfErr, string_bytes};
-ghost use Rattle.tv_model.specs.Checksum.{crc32};
-ghost use Rattle.tv_model.specs.Names.{is_file_name};
-ghost use Rattle.tv_framing.specs.Footers.{IsFramed, Refuses};
+ghost use Rattle.tv_formats.specs.Checksum.{crc32};
+ghost use Rattle.tv_formats.specs.Names.{is_file_name};
+ghost use Rattle.tv_framing.specs.Footers.{IsFramedAs, Refuses};
 ghost use Rattle.tv_directory.specs.Images.{KeepsDisk};
 ghost use Rattle.tv_directory.specs.View.{OnlyReads};
 ghost use Rattle.tv_managed.specs.Frames.{KeepsNames, OnlyAsks};
@@ -73,10 +73,10 @@ impl<D: Directory> ManagedDirectory<D> {
     // The footer of the file, and the body before it.
     fn framed(&mut self, name: &str) -> Result<(Footer, FileSlice), OpenReadError>
         requires { is_file_name name.now ≡ true }
-        ensures framed { IfOk result (λ found. (bytes : List ℕ) × IsFramed bytes found.0 found.1) }
+        ensures framed { IfOk result (λ found. (bytes : List ℕ) × IsFramedAs bytes found.0 found.1) }
         ensures read { D.told.content → IfOk result (λ found.
             ReadsSuch ((D.view self.old.0).reads name.now)
-            (λ bytes. IsFramed bytes found.0 found.1)) }
+            (λ bytes. IsFramedAs bytes found.0 found.1)) }
         ensures asks { OnlyAsks D.Directory self.old self.new
             (FooterFaults D.Directory self.old.0 self.new.0 name.now result) }
     {
@@ -111,7 +111,7 @@ fn footer_of(
     file: FileSlice,
     filepath: String,
 ) -> Result<(Footer, FileSlice), OpenReadError>
-    ensures framed { IfOk result (λ found. IsFramed file found.0 found.1) }
+    ensures framed { IfOk result (λ found. IsFramedAs file found.0 found.1) }
     ensures bad { IfErr result (OpenBodyCause ⊥ (Refuses file) (λ _. ⊥) ⊥ (Unit {0})) }
     ensures outside { IfErr result
         (OpenBodyCause (Unit {0}) (λ _. HasNoFooter file) (λ _. ⊥) (Unit {0}) (Unit {0})) }

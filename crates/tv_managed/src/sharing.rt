@@ -1,6 +1,6 @@
 //! Locks of a managed directory, and those who watch it.
 ghost use Rattle.std.specs.Prelude.{◌≡◌, true, IfOk, OnErr};
-ghost use Rattle.tv_model.specs.Names.{is_file_name};
+ghost use Rattle.tv_formats.specs.Names.{is_file_name};
 ghost use Rattle.tv_directory.specs.Images.{KeepsDisk};
 ghost use Rattle.tv_directory.specs.View.{OnlyLocks, OnlyWatches};
 ghost use Rattle.tv_directory.specs.Calls.{Acquires, Frees, LockFaults};
@@ -10,7 +10,7 @@ ghost use Rattle.tv_managed.specs.Frames.{KeepsNames};
 use crate::managed_directory::ManagedDirectory;
 use tv_base::LockError;
 use tv_directory::{Directory, DirectoryLock, Lock, WatchHandle};
-use tv_model::Memory;
+use tv_formats::Memory;
 
 impl<D: Directory> ManagedDirectory<D> {
     /// Takes a lock. `LockBusy` comes where it is held. Over plain files a blocking lock waits until it

@@ -1,6 +1,6 @@
 //! Lines that are told on to the directory's owner.
 ghost use Rattle.std.specs.Prelude.{◌≡◌, ◌<◌, true, length};
-ghost use Rattle.tv_model.specs.Lines.{has_no_feed};
+ghost use Rattle.tv_formats.specs.Files.{has_no_feed};
 ghost use Rattle.tv_directory.specs.Images.{KeepsDisk};
 ghost use Rattle.tv_directory.specs.View.{OnlyTells};
 ghost use Rattle.tv_directory.specs.Calls.{DeviceFaults, MakesRoom, TellsLineTo};
@@ -9,7 +9,7 @@ ghost use Rattle.tv_managed.specs.Frames.{KeepsNames};
 use crate::managed_directory::ManagedDirectory;
 use tv_base::IoFault;
 use tv_directory::Outside;
-use tv_model::Memory;
+use tv_formats::Memory;
 
 impl<O: Outside> ManagedDirectory<O> {
     /// Makes room for a line of this length.

@@ -14,36 +14,37 @@ use Rattle.tv_base.specs.declared.open_errors.OpenWriteError.{OpenWriteError}
 use Rattle.tv_base.specs.declared.open_errors.OpenWriteError.TheVariants as write
 use Rattle.tv_base.specs.declared.open_errors.OpenReadError.{OpenReadError}
 use Rattle.tv_base.specs.declared.open_errors.OpenReadError.TheVariants as read
-use Rattle.tv_model.specs.declared.event.Event.{Event}
-use Rattle.tv_model.specs.declared.event.Event.TheVariants as events
-use Rattle.tv_model.specs.declared.segment.LiveSegment.{LiveSegment}
-use Rattle.tv_model.specs.Names.{byte_cmp, meta_name}
-use Rattle.tv_model.specs.Files.{Reads, Heard, Rose, RoseBy}
-use Rattle.tv_model.specs.Commits.{IndexForm}
-use Rattle.tv_model.specs.Segments.{name_of}
-use Rattle.tv_model.specs.State.{Catalog, State, Reader, FileState, Left, at, file_at, live_at, reader_at}
-use Rattle.tv_model.specs.Lines.{opening_of}
-use Rattle.tv_model.specs.Machine.{Turn, step, answers, report, after, events_of, refused_in, all_refused}
-use Rattle.tv_model.specs.Index.{FileReads, DirectoryHolds, FoundIndex, OpenedIndex, IsSoundImage}
-use Rattle.tv_model.specs.CommitEvents.{is_sealed}
-use Rattle.tv_model.specs.Readable.{CanRead}
-use Rattle.tv_model.proofs.SoundOpenings.{sound_index, opens_managed_sorted}
+use Rattle.tv_machine.specs.declared.event.Event.{Event}
+use Rattle.tv_machine.specs.declared.event.Event.TheVariants as events
+use Rattle.tv_formats.specs.declared.segment.LiveSegment.{LiveSegment}
+use Rattle.tv_formats.specs.Names.{byte_cmp, meta_name, at}
+use Rattle.tv_formats.specs.Files.{Reads, Heard, Rose, RoseBy}
+use Rattle.tv_formats.specs.Commits.{IndexForm}
+use Rattle.tv_formats.specs.Segments.{name_of}
+use Rattle.tv_machine.specs.State.{Catalog, State, Reader, FileState, Left, file_at, live_at, reader_at}
+use Rattle.tv_machine.specs.Lines.{opening_of}
+use Rattle.tv_machine.specs.Machine.{Turn, step, answers, report, after, events_of, refused_in, all_refused}
+use Rattle.tv_machine.specs.Index.{FileReads, DirectoryHolds, FoundIndex, OpenedIndex}
+use Rattle.tv_formats.specs.Sound.{IsSoundImage}
+use Rattle.tv_machine.specs.CommitEvents.{is_sealed}
+use Rattle.tv_machine.specs.Readable.{CanRead}
+use Rattle.tv_machine.proofs.SoundOpenings.{sound_index, opens_managed_sorted}
 use Rattle.tv_store.specs.OpeningCauses.{CallFacts, IsSomeSchema}
-use Rattle.tv_model.proofs.OpenedStates.{opens_sound}
-use Rattle.tv_model.specs.Script.{line_limit, lines_of, Fits}
-use Rattle.tv_model.specs.SoundStates.{IsWhole}
-use Rattle.tv_model.proofs.SoundStates.{holds_sound}
-use Rattle.tv_model.proofs.HeldStates.{nothing_held}
-use Rattle.tv_model.proofs.WholeStates.{after_whole}
-use Rattle.tv_model.proofs.Serving.{serves, serves_as_sealed, sound_after}
-use Rattle.tv_model.proofs.Collects.{collects_in}
-use Rattle.tv_model.proofs.CollectsInSteps.{collects_in_steps_in}
-use Rattle.tv_model.proofs.Validating.{validates}
+use Rattle.tv_machine.proofs.OpenedStates.{opens_sound}
+use Rattle.tv_machine.specs.Script.{line_limit, lines_of, Fits}
+use Rattle.tv_machine.specs.SoundStates.{IsWhole}
+use Rattle.tv_machine.proofs.SoundStates.{holds_sound}
+use Rattle.tv_machine.proofs.HeldStates.{nothing_held}
+use Rattle.tv_machine.proofs.WholeStates.{after_whole}
+use Rattle.tv_machine.proofs.Serving.{serves, serves_as_sealed, sound_after}
+use Rattle.tv_machine.proofs.Collects.{collects_in}
+use Rattle.tv_machine.proofs.CollectsInSteps.{collects_in_steps_in}
+use Rattle.tv_machine.proofs.Validating.{validates}
 use Rattle.tv_replay.specs.declared.next_event.ScriptError.{ScriptError}
 use Rattle.tv_replay.specs.declared.next_event.ScriptError.TheVariants as failed
 use Rattle.tv_replay.specs.declared.lines.LineError.TheVariants as line
 use Rattle.tv_replay.specs.declared.replaying.Tally.{Tally}
-use Rattle.tv_store.specs.Kept.{Kept, StoreState, FileHolds, Holds, AtMost}
+use Rattle.tv_store.specs.Kept.{KeptState, StoreState, FileHolds, Holds, AtMost}
 use Rattle.tv_directory.specs.declared.directory.Directory.{Ghosts}
 use Rattle.tv_store.specs.Opening.{Opens}
 use Rattle.tv_store.specs.Telling.{AreBetween, TellsLine, TellsLines}
@@ -51,15 +52,16 @@ use Rattle.tv_replay.specs.ScriptLines.{pending, TakesNextEvent, IsNoEvent, IsTo
 use Rattle.tv_store.specs.ReaderNumbers.{FewNumbers}
 use Rattle.tv_index.specs.Opening.{NotesMade}
 use Rattle.tv_index.specs.Standing.{MetaCause, OfRead}
-use Rattle.tv_model.specs.Meaning.{Means, MeansNothing, MeansOther}
-use Rattle.tv_model.proofs.MeansOne.{means_no_other, means_something}
-use Rattle.tv_store.specs.ReadCauses.{ReadFault, LoadingCause, TakesMetaLock}
+use Rattle.tv_formats.specs.Meaning.{Means, MeansNothing, MeansOther}
+use Rattle.tv_formats.proofs.MeansOne.{means_no_other, means_something}
+use Rattle.tv_store.specs.Effects.{TakesMetaLock, after_each, length_after, numbers_after, written_by}
+use Rattle.tv_store.specs.ReadCauses.{ReadFault, LoadingCause}
 use Rattle.tv_managed.specs.Collecting.{meta_lock_name}
 use Rattle.tv_replay.specs.ScriptCauses.{IsRefused, ScriptCause}
 use Rattle.tv_store.specs.StoreCauses.{WriteFault, IsRefusal}
 use Rattle.tv_replay.specs.Replays.{Replays, ReplayCause, StopsAtLine, LineRefusal, IsTooMany, TakesNoLock, line_refusal, long_refusal}
-use Rattle.tv_store.specs.Applying.{Stepped, written_by}
-use Rattle.tv_store.specs.Exhausted.{IsExhausted, PassesEnd, SomePassesEnd, after_each, length_after, numbers_after}
+use Rattle.tv_store.specs.Applying.{Stepped}
+use Rattle.tv_store.specs.Exhausted.{IsExhausted, PassesEnd, SomePassesEnd}
 use Rattle.tv_replay.specs.AppliedEvents.{Applies, Runs, RunFaults, Causes, RunCause, run_causes, FailsRun, EndCause, IsErrorOf}
 use Rattle.tv_replay.proofs.LineLemmas.{pending_some}
 use Rattle.tv_replay.proofs.Progress.{after-last, answers-last, events-last, readable-last, refused-last, AreLines-length, ReadSoFar, HasRead, nothing_read, one_more_read, all_read}
@@ -133,7 +135,7 @@ few_each number None bound few small h = h
 few_each number (Some x) bound few small (inl much) = let le = small x refl in omega (arith, le, few, much)
 few_each number (Some x) bound few small (inr none) = none
 
-few_numbers : (kept : Kept) (event : Event) (bound : ℕ) → bound + 1 < 2 ^ 64 → FewNumbers bound kept.catalog.reading kept.collections → SomePassesEnd (numbers_after kept event) → ⊥
+few_numbers : (kept : KeptState) (event : Event) (bound : ℕ) → bound + 1 < 2 ^ 64 → FewNumbers bound kept.catalog.reading kept.collections → SomePassesEnd (numbers_after kept event) → ⊥
 few_numbers kept (events.Reader policy) bound few numbers (inl much) = omega (arith, numbers.next_reader, few, much)
 few_numbers kept (events.Reader policy) bound few numbers (inr none) = none
 few_numbers kept (events.Searcher number) bound few numbers spent = few_each (λ (r : Reader). kept.catalog.reading.next_searcher) (reader_at kept.catalog number) bound few (λ r there. numbers.next_searcher) spent
@@ -145,7 +147,7 @@ few_numbers kept events.GcBegin bound few numbers (inl much) = omega (arith, num
 few_numbers kept events.GcBegin bound few numbers (inr none) = none
 few_numbers kept other bound few numbers spent = absurd spent
 
-short_files : (kept : Kept) (event : Event) (bound more : ℕ) → bound + more < 2 ^ 64 → written_by event ≤ more → AtMost bound kept → PassesEnd (length_after kept event) → ⊥
+short_files : (kept : KeptState) (event : Event) (bound more : ℕ) → bound + more < 2 ^ 64 → written_by event ≤ more → AtMost bound kept → PassesEnd (length_after kept event) → ⊥
 short_files kept (events.Write id component bytes) bound more few small all (n, is, much) =
     let segment = then_there (λ (segment : LiveSegment). option_map (λ (body : List ℕ). length (body ++ bytes)) (at kept.open_files (name_of id segment.deletes component))) (live_at kept.catalog id) n is in
     let found = mapped (λ (body : List ℕ). length (body ++ bytes)) (at kept.open_files (name_of id segment.0.deletes component)) n segment.1 in
@@ -155,7 +157,7 @@ short_files kept (events.Write id component bytes) bound more few small all (n, 
 short_files kept other bound more few small all (n, is, much) = absurd cc
 
 -- files stay far shorter than 64 bits of bytes, and numbers far below
-pub never_spent : (kept : Kept) (event : Event) (count : ℕ) → count < 2 ^ 32 → written_by event ≤ line_limit → AtMost (count * line_limit) kept → FewNumbers (count * line_limit) kept.catalog.reading kept.collections → IsExhausted kept event → ⊥
+pub never_spent : (kept : KeptState) (event : Event) (count : ℕ) → count < 2 ^ 32 → written_by event ≤ line_limit → AtMost (count * line_limit) kept → FewNumbers (count * line_limit) kept.catalog.reading kept.collections → IsExhausted kept event → ⊥
 never_spent kept event count few small all numbers (inl spent) = few_numbers kept event (count * line_limit) (omega arith) numbers spent
 never_spent kept event count few small all numbers (inr spent) = short_files kept event (count * line_limit) line_limit (omega arith) small all spent
 
@@ -290,7 +292,7 @@ some_left (b ∷ rest) line lines e none = absurd cc
 -- ---- what `meta.json` means
 
 -- the text that means the commit of a state
-module _ (tells : Type 0) (reads : Reads) (kept : Kept) where
+module _ (tells : Type 0) (reads : Reads) (kept : KeptState) where
   stands : (says : List ℕ → Type 0) → ((text : List ℕ) (s : State) → Means kept.form.settings kept.form.schema text s.catalog.commit → says text → ⊥) → OfRead tells (reads meta_name) says → tells → (s : State) → Holds reads kept s → ⊥
   stands says never (bytes, is, said) t s held =
       let text = held.meta in
@@ -396,7 +398,7 @@ file_reads : (file : Option FileState) (read written : Option (List ℕ)) → Fi
 file_reads (Some Left) read written h = h.0
 file_reads other read written h = h.0
 
-directory_holds : (form : IndexForm) (reads : Reads) (kept : Kept) (s : State) → kept.form ≡ form → Holds reads kept s → DirectoryHolds form.settings form.schema reads s
+directory_holds : (form : IndexForm) (reads : Reads) (kept : KeptState) (s : State) → kept.form ≡ form → Holds reads kept s → DirectoryHolds form.settings form.schema reads s
 directory_holds form reads kept s is h = record {
   names = h.names;
   files = λ n file. file_reads (file_at s n) (reads n) _ (h.files n file);

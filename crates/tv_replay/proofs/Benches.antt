@@ -3,9 +3,8 @@ use Rattle.std.proofs.Common.{◌≡◌, ℕ, ◌+◌, ◌<◌, Bool, true, fals
 use Rattle.std.specs.Prelude.{String, Vec, string_bytes}
 use Rattle.std.specs.BTreeMap.{is_at}
 use Rattle.std.proofs.lemmas.List.{drop_more}
-use Rattle.tv_model.specs.Names.{byte_cmp, is}
-use Rattle.tv_model.specs.State.{at}
-use Rattle.tv_model.proofs.Entries.{at_itself, text_at, is_text, is_itself}
+use Rattle.tv_formats.specs.Names.{byte_cmp, is, at}
+use Rattle.tv_formats.proofs.Entries.{at_itself, text_at, is_text, is_itself}
 use Rattle.tv_directory.specs.StoredFiles.{named}
 
 -- under a path stands what the first pair has, where that is of the path

@@ -5,7 +5,7 @@ use Rattle.std.specs.List.{slice_split, onto_first, sum_by}
 use Rattle.std.proofs.lemmas.List.{take_all}
 use Rattle.std.proofs.lemmas.List.Splits.{length-slice_split}
 use Rattle.std.proofs.lemmas.List.Sums.{count_by-le-length, sum_by-le-sum_by, sum_by_more_le, sum_by-cons}
-use Rattle.tv_model.specs.Names.{is}
+use Rattle.tv_formats.specs.Names.{is}
 use Rattle.tv_replay.specs.Summaries.{before_failed, deleted_in, collected_in}
 
 within : (b : Bool) (n m : ℕ) → n ≤ m → cond b n 0 ≤ m

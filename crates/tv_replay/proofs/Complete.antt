@@ -9,29 +9,31 @@ use Rattle.tv_base.specs.declared.open_errors.OpenWriteError.TheVariants as writ
 use Rattle.tv_base.specs.declared.error.TantivyError.{TantivyError}
 use Rattle.tv_base.specs.declared.open_errors.LockError.TheVariants as lock
 use Rattle.tv_base.specs.declared.error.TantivyError.TheVariants as errors
-use Rattle.tv_model.specs.declared.event.Event.{Event}
-use Rattle.tv_model.specs.declared.event.Event.TheVariants as events
-use Rattle.tv_model.specs.Footer.{IsGood, HasBody}
+use Rattle.tv_machine.specs.declared.event.Event.{Event}
+use Rattle.tv_machine.specs.declared.event.Event.TheVariants as events
+use Rattle.tv_formats.specs.Footer.{IsGood, HasBody}
 use Rattle.tv_directory.specs.Locks.{Locks}
-use Rattle.tv_model.specs.State.{State, FileState, Reader, Sealed, reader_at}
-use Rattle.tv_model.specs.Machine.{Turn, after, events_of}
-use Rattle.tv_model.specs.Readable.{read_by}
-use Rattle.tv_model.specs.Names.{has, meta_name}
-use Rattle.tv_model.specs.Segments.{all_required}
-use Rattle.tv_model.specs.SoundStates.{IsSoundState}
-use Rattle.tv_model.proofs.Entries.{is_itself}
-use Rattle.tv_model.proofs.MeansOne.{means_no_other, means_one, means_something}
-use Rattle.tv_model.proofs.OpenedStates.{opens_sound}
-use Rattle.tv_model.proofs.SoundOpenings.{sound_index}
-use Rattle.tv_model.proofs.SoundStates.{sound_reads}
-use Rattle.tv_model.specs.Files.{Reads}
+use Rattle.tv_machine.specs.State.{State, FileState, Reader, SealedFile, reader_at}
+use Rattle.tv_machine.specs.Machine.{Turn, after, events_of}
+use Rattle.tv_machine.specs.Readable.{read_by}
+use Rattle.tv_formats.specs.Names.{has, meta_name}
+use Rattle.tv_formats.specs.Commits.{required_by, Commit, Settings}
+use Rattle.tv_formats.specs.Segments.{all_required}
+use Rattle.tv_machine.specs.SoundStates.{IsSoundState}
+use Rattle.tv_formats.proofs.Entries.{is_itself}
+use Rattle.tv_formats.proofs.MeansOne.{means_no_other, means_one, means_something}
+use Rattle.tv_machine.proofs.OpenedStates.{opens_sound}
+use Rattle.tv_formats.proofs.Required.{has_files_from}
+use Rattle.tv_machine.proofs.SoundOpenings.{sound_index}
+use Rattle.tv_machine.proofs.SoundStates.{sound_reads}
+use Rattle.tv_formats.specs.Files.{Reads}
 use Rattle.tv_base.specs.declared.error.DataCorruption.{DataCorruption}
-use Rattle.tv_model.specs.Commits.{Commit, Settings}
-use Rattle.tv_model.specs.Meaning.{Means, MeansOther, MeansNothing}
-use Rattle.tv_model.specs.Schemas.{IsSchema}
-use Rattle.tv_model.specs.Index.{FindsCommit, FoundIndex, HasFiles, IsSoundImage, IsSoundMeta}
-use Rattle.tv_model.specs.Script.{line_limit, lines_of, Fits, IsLine, AreLines}
-use Rattle.tv_model.proofs.Serving.{sound_after}
+use Rattle.tv_formats.specs.Meaning.{Means, MeansOther, MeansNothing}
+use Rattle.tv_formats.specs.Schemas.{IsSchema}
+use Rattle.tv_formats.specs.Sound.{FindsCommit, HasFiles, IsSoundImage, IsSoundMeta}
+use Rattle.tv_machine.specs.Index.{FoundIndex, found_commits}
+use Rattle.tv_machine.specs.Script.{line_limit, lines_of, Fits, IsLine, AreLines}
+use Rattle.tv_machine.proofs.Serving.{sound_after}
 use Rattle.tv_replay.specs.ScriptLines.{IsNoEvent, IsTooLong}
 use Rattle.tv_index.specs.Opening.{OfBytes, OpenCause}
 use Rattle.tv_store.specs.StoreCauses.{WriteFault, writer_lock_name}
@@ -104,22 +106,25 @@ some_text e k = let both = sym e ∙ k in cc
 no_text : {o : Option (List ℕ)} {a : List ℕ} → o ≡ None → o ≡ Some a → ⊥
 no_text e k = let both = sym e ∙ k in cc
 
-sealed_text : {o : Option FileState} {a b : List ℕ} → o ≡ Some (Sealed a) → o ≡ Some (Sealed b) → a ≡ b
+sealed_text : {o : Option FileState} {a b : List ℕ} → o ≡ Some (SealedFile a) → o ≡ Some (SealedFile b) → a ≡ b
 sealed_text e k = let both = sym e ∙ k in cc
 
 -- from a sound start the index that stands has one commit, and its files can be read
 module _ (schema form : List ℕ) (reads : Reads) (spelled : IsSchema schema form) (sound : IsSoundImage form reads) where
-  same_commit : (text : List ℕ) (read : Option (List ℕ)) (settings : Settings) (commit : Commit) → text ≡ form → FindsCommit text read settings commit → IsSoundMeta form reads read → HasFiles reads commit
-  same_commit text None settings commit is found h = record { each = λ n required. absurd (true≢false (sym required ∙ ap (λ (c : Commit). has (all_required c.segments) n) found.1)) }
+  same_commit : (text : List ℕ) (read : Option (List ℕ)) (settings : Settings) (commit : Commit) → text ≡ form → FindsCommit text read settings commit → IsSoundMeta form reads read → HasFiles reads (commit ∷ [])
+  same_commit text None settings commit is found h =
+      has_files_from reads commit
+      (λ n required.
+      absurd (true≢false (sym required ∙ ap (λ (c : Commit). has (all_required c.segments) n) found.1)))
   same_commit text (Some bytes) settings commit is found h =
       let means : Means settings form bytes commit = subst (λ (x : List ℕ). Means settings x bytes commit) is found in
       let same : commit ≡ h.1 = (means_one settings h.0 form bytes commit h.1 means h.2).1 in
-      subst (HasFiles reads) (sym same) h.3
+      subst (λ commit. HasFiles reads (commit ∷ [])) (sym same) h.3
 
-  has_files : (index : FoundIndex schema reads) → HasFiles reads index.commit
+  has_files : (index : FoundIndex schema reads) → HasFiles reads (found_commits index)
   has_files index = same_commit index.form.schema (reads meta_name) index.form.settings index.commit (index.spelled.text_is ∙ sym spelled.text_is) index.found sound.commit
 
-  there_good : (index : FoundIndex schema reads) (path : List ℕ) → IsFirstBad reads (all_required index.commit.segments) path → (bytes : List ℕ) × (reads path ≡ Some bytes) × IsGood bytes
+  there_good : (index : FoundIndex schema reads) (path : List ℕ) → IsFirstBad reads (required_by (found_commits index)) path → (bytes : List ℕ) × (reads path ≡ Some bytes) × IsGood bytes
   there_good index path bad =
       (has_files index).each path (subst (λ (names : List (List ℕ)). has names path ≡ true) (sym bad.split) (has_middle bad.front path bad.rest))
 

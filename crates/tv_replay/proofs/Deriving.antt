@@ -1,8 +1,8 @@
 -- The headline from the clauses of a replay, and of a run.
 use Rattle.std.proofs.Common.{◌≡◌, ℕ, List, Some, None, Option, ◌∙◌, sym, ap, subst}
 use Rattle.tv_directory.specs.declared.directory.Directory.{Ghosts}
-use Rattle.tv_model.specs.Index.{IsSoundStart}
-use Rattle.tv_model.specs.Schemas.{IsSchema, stripped}
+use Rattle.tv_formats.specs.Sound.{IsSoundStart}
+use Rattle.tv_formats.specs.Schemas.{IsSchema, stripped}
 use Rattle.tv_replay.specs.declared.replaying.Tally.{Tally}
 use Rattle.tv_replay.specs.Headline.{Headline, RunsSoundly, StartsSoundly}
 use Rattle.tv_replay.specs.PlaceView.{PlaceTold}

@@ -3,13 +3,14 @@ use Rattle.std.proofs.Common.{◌≡◌, true≢false, inl, inr, ℕ, List, [], 
 use Rattle.std.specs.Prelude.{option_map}
 use Rattle.std.specs.List.{flat_map}
 use Rattle.std.proofs.lemmas.List.Folds.{flat_map-map}
-use Rattle.tv_model.specs.Commits.{default_settings, first_commit}
-use Rattle.tv_model.specs.Files.{Heard, Reads, RoseBy}
-use Rattle.tv_model.specs.Index.{FindsCommit, first_state, managed_with, OpensTo, OpenedIndex}
-use Rattle.tv_model.proofs.ListTexts.{listing_of_none}
-use Rattle.tv_model.specs.Names.{meta_name}
-use Rattle.tv_model.specs.State.{Sealed}
-use Rattle.tv_model.specs.Machine.{after, all_refused, report}
+use Rattle.tv_formats.specs.Commits.{default_settings, first_commit}
+use Rattle.tv_formats.specs.Files.{Heard, Reads, RoseBy}
+use Rattle.tv_formats.specs.Sound.{FindsCommit, managed_with}
+use Rattle.tv_machine.specs.Index.{first_state, OpensTo, OpenedIndex}
+use Rattle.tv_formats.proofs.ListTexts.{listing_of_none}
+use Rattle.tv_formats.specs.Names.{meta_name}
+use Rattle.tv_machine.specs.State.{SealedFile}
+use Rattle.tv_machine.specs.Machine.{after, all_refused, report}
 use Rattle.tv_directory.specs.Telling.{bytes_heard}
 use Rattle.tv_directory.specs.declared.directory.Directory.{Ghosts}
 use Rattle.tv_replay.specs.declared.replaying.Tally.{Tally}
@@ -30,7 +31,7 @@ opens_first schema reads none = record {
   reading = refl;
   collections = refl;
   names = λ n is. absurd (true≢false (sym is));
-  files = λ n is. ap (λ (r : Option (List ℕ)). option_map Sealed r) (sym (none n));
+  files = λ n is. ap (λ (r : Option (List ℕ)). option_map SealedFile r) (sym (none n));
 }
 
 -- what was heard of these lines is their text

@@ -1,34 +1,34 @@
 -- What is read from words is the event of these words, and the words of an event are read as that event.
-use Rattle.std.proofs.Common.{◌≡◌, ℕ, zero, suc, ◌<◌, ◌^◌, ◌==◌, ◌/◌, ◌%◌, Bool, true, false, not, List, [], ◌∷◌, ◌++◌, Some, Result, Ok, Err, refl, sym, ap, ◌∙◌, arith, cond, map, Option, None, length, subst, ◌≤◌, codes}
+use Rattle.std.proofs.Common.{◌≡◌, ℕ, zero, suc, ◌<◌, ◌^◌, ◌==◌, ◌/◌, ◌%◌, Bool, true, false, not, nat_lt, List, [], ◌∷◌, ◌++◌, Some, Result, Ok, Err, refl, sym, ap, ◌∙◌, arith, cond, map, ◌&&◌, Option, None, length, subst, ◌≤◌, codes}
 use Rattle.std.specs.List.{list_all, slice_split, join_with_byte, AllByRecursion}
 use Rattle.std.specs.Fmt.{decimal}
 use Rattle.std.specs.Str.{all_ascii_digits}
 use Rattle.std.specs.Char.{is_ascii_digit}
 use Rattle.std.specs.Prelude.{slice_index, find, IfSome, IsUtf8, option_map}
-use Rattle.std.specs.Str.{is_utf8}
+use Rattle.std.specs.Str.{IsAscii, is_utf8}
 use Rattle.std.specs.Cmp.Lexicographic.{bytes_decides}
-use Rattle.std.proofs.lemmas.Bool.{eqb-true}
-use Rattle.std.proofs.lemmas.Str.{IsUtf8-from_is_utf8, is_utf8-from_IsUtf8}
+use Rattle.std.proofs.lemmas.Bool.{eqb-true, ltb-true}
+use Rattle.std.proofs.lemmas.Str.{IsUtf8-from_ascii, IsUtf8-from_is_utf8, is_utf8-from_IsUtf8}
 use Rattle.std.proofs.lemmas.Bool.Decides.{nat_tests}
 use Rattle.std.proofs.lemmas.Fmt.{digits_decimal}
 use Rattle.std.proofs.lemmas.Str.Parse.{numerals_by_value, tells_all_ascii_digits}
 use Rattle.hex.specs.Hex.{encode_lower, encode_with, lower_digits, decode_sized, decode_of, is_hex_digit}
 use Rattle.hex.specs.declared.error.FromHexError.{FromHexError}
 use Rattle.hex.proofs.HexLemmas.{decode_sized-encode_lower, decode_sized-ok, decode_sized-twice, decode_of-ok}
-use Rattle.tv_model.specs.Ids.{IsId, are_distinct}
-use Rattle.tv_model.specs.Names.{is}
+use Rattle.tv_formats.specs.Ids.{IsId, are_distinct}
+use Rattle.tv_formats.specs.Names.{is}
 use Rattle.tv_replay.specs.Fields.{id_at, printed_id, component_at, bytes_at, some_bytes, number_at, payload_at, signed_text_at, some_text, text_at}
 use Rattle.tv_replay.proofs.Numbers.{isnt, chosen, both, number_found, number_again}
 use Rattle.std.proofs.lemmas.List.Elements.{recursion_from_All}
-use Rattle.tv_model.specs.declared.segment.SegmentComponent.{SegmentComponent}
-use Rattle.tv_model.specs.declared.segment.SegmentComponent.TheVariants.{Postings}
-use Rattle.tv_model.specs.Segments.{components, extension}
-use Rattle.tv_model.specs.Script.{line_limit, Fits, IsLine, SpellsPayload, keyword, AreArguments}
-use Rattle.tv_replay.specs.EventWords.{◌>>=◌, ids_in, segment_in, open_in, write_in, seal_in, docs_in, deletes_in, commit_of, commit_in, alone_in, gc_step_in, gc_end_in, reader_in, reload_in, searcher_in, show_in, bytes_in, release_in, event_in}
+use Rattle.tv_formats.specs.declared.segment.SegmentComponent.{SegmentComponent}
+use Rattle.tv_formats.specs.declared.segment.SegmentComponent.TheVariants.{Postings}
+use Rattle.tv_formats.specs.Segments.{components, extension}
+use Rattle.tv_machine.specs.Script.{line_limit, Kind, Word, Id, Component, Bytes, Small, Number, Payload, Policy, Value, LineWord, word, line_of, IsWithin, NamesEachOnce, Fits, IsLine, SpellsPayload, Spells, AllSpell}
+use Rattle.tv_replay.specs.EventWords.{◌>>=◌, value_at, text_in, Makes, are_as_many, event_of, read, ids_in, commit_event, commit_in, released_by, release_in, event_by, event_in}
 use Rattle.std.proofs.lemmas.List.Splits.{join_with_byte-slice_split}
-use Rattle.tv_model.specs.declared.event.Event.{Event}
-use Rattle.tv_model.specs.declared.event.Event.TheVariants as events
-use Rattle.tv_model.specs.declared.reload_policy.ReloadPolicy.TheVariants.{Manual}
+use Rattle.tv_machine.specs.declared.event.Event.{Event}
+use Rattle.tv_machine.specs.declared.event.Event.TheVariants as events
+use Rattle.tv_machine.specs.declared.reload_policy.ReloadPolicy.TheVariants.{Manual}
 
 abbrev pub is_space : ℕ → Bool
 is_space b = b == 32
@@ -168,11 +168,11 @@ bytes_have_no_space digits bytes e = passing_have_no_space is_hex_digit refl dig
 
 -- ---- payloads
 
-text_found : (r : Result (List ℕ) FromHexError) (text : List ℕ) → some_text r ≡ Some text → (r ≡ Ok text) × IsUtf8 text
-text_found (Ok bytes) text e =
+digits_found : (r : Result (List ℕ) FromHexError) (text : List ℕ) → some_text r ≡ Some text → (r ≡ Ok text) × IsUtf8 text
+digits_found (Ok bytes) text e =
     let h = chosen (is_utf8 bytes) bytes text e in
     (ap (λ (x : List ℕ). Ok x) h.1, subst IsUtf8 h.1 (IsUtf8-from_is_utf8 bytes h.0))
-text_found (Err d) text e = absurd cc
+digits_found (Err d) text e = absurd cc
 
 pub text_again : (digits text : List ℕ) → decode_of digits ≡ Ok text → IsUtf8 text → text_at digits ≡ Some text
 text_again digits text e h = rw (e, is_utf8-from_IsUtf8 text h) refl
@@ -181,7 +181,7 @@ signed_found : (word text : List ℕ) → signed_text_at word ≡ Some text → 
 signed_found [] text e = absurd cc
 signed_found (sign ∷ digits) text e = plus (sign == 43) refl e where
   plus : (b : Bool) → (sign == 43) ≡ b → cond b (text_at digits) None ≡ Some text → SpellsPayload (Some text) (sign ∷ digits) × IsUtf8 text
-  plus true is e = let h = text_found (decode_of digits) text e in ((digits, h.0, ap (λ (n : ℕ). n ∷ digits) (eqb-true sign 43 is)), h.1)
+  plus true is e = let h = digits_found (decode_of digits) text e in ((digits, h.0, ap (λ (n : ℕ). n ∷ digits) (eqb-true sign 43 is)), h.1)
   plus false is e = absurd cc
 
 pub payload_found : (word : List ℕ) (payload : Option (List ℕ)) → payload_at word ≡ Some payload → SpellsPayload payload word × IfSome payload IsUtf8
@@ -202,239 +202,315 @@ pub payload_has_no_space : (payload : Option (List ℕ)) (word : List ℕ) → S
 payload_has_no_space None word h = rw h refl
 payload_has_no_space (Some text) word h = rw h.2 (bytes_have_no_space h.0 text h.1)
 
+-- ---- words, by their kinds
+
+abbrev Within : List LineWord → Type 0
+Within line = AllByRecursion (λ meant. IsWithin meant.0 meant.1) line
+
+-- a word spells what it is read to stand for, which is within its range
+value_found : (kind : Kind) (word : List ℕ) (value : Value kind) → value_at kind word ≡ Some value → Spells kind value word × IsWithin kind value
+value_found (Word text) word value e = ((bytes_decides word text).0 (chosen (is word text) tt value e).0, tt)
+value_found Id word id e = id_found word id e
+value_found Component word c e = (component_found word c e, tt)
+value_found Bytes word bytes e = bytes_found (decode_of word) bytes e
+value_found Small word n e = number_found (2 ^ 32) n word e
+value_found Number word n e = number_found (2 ^ 64) n word e
+value_found Payload word payload e = payload_found word payload e
+value_found Policy word policy e = let h = chosen (is word (codes "manual")) Manual policy e in ((bytes_decides word (codes "manual")).0 h.0, sym h.1)
+
+-- and is read to stand for what it spells, where that is within its range
+value_again : (kind : Kind) (word : List ℕ) (value : Value kind) → IsWithin kind value → Spells kind value word → value_at kind word ≡ Some value
+value_again (Word text) word value within spells = rw ((bytes_decides word text).1 spells) refl
+value_again Id word id within spells = rw spells (id_again id within)
+value_again Component word c within spells = rw spells (component_again c)
+value_again Bytes word bytes within spells = bytes_again word bytes spells within
+value_again Small word n within spells = rw spells (number_again (2 ^ 32) n within (omega arith))
+value_again Number word n within spells = rw spells (number_again (2 ^ 64) n within within)
+value_again Payload word payload within spells = payload_again payload word spells within
+value_again Policy word policy within spells = rw (spells, within) refl
+
+-- a word that stands for itself has no space, and isn't empty
+abbrev pub is_plain : LineWord → Bool
+is_plain (Word text, value) = has_no_space text && not (is text [])
+is_plain (other, value) = true
+
+no_space : (kind : Kind) (value : Value kind) (word : List ℕ) → is_plain (kind, value) ≡ true → IsWithin kind value → Spells kind value word → NoSpace word
+no_space (Word text) value word plain within spells = rw spells (both (has_no_space text) (not (is text [])) plain).0
+no_space Id id word plain within spells = rw spells (id_has_no_space id)
+no_space Component c word plain within spells = rw spells (extension_has_no_space c)
+no_space Bytes bytes word plain within spells = bytes_have_no_space word bytes spells
+no_space Small n word plain within spells = rw spells (number_has_no_space n (omega arith))
+no_space Number n word plain within spells = rw spells (number_has_no_space n within)
+no_space Payload payload word plain within spells = payload_has_no_space payload word spells
+no_space Policy policy word plain within spells = rw spells refl
+
+no_spaces : (line : List LineWord) (words : List (List ℕ)) → list_all is_plain line ≡ true → Within line → AllSpell line words → AllByRecursion NoSpace words
+no_spaces [] [] plain within spell = tt
+no_spaces [] (word ∷ words) plain within spell = absurd spell
+no_spaces (meant ∷ line) [] plain within spell = absurd spell
+no_spaces (meant ∷ line) (word ∷ words) plain within spell =
+    let p = both (is_plain meant) (list_all is_plain line) plain in (
+      no_space meant.0 meant.1 word p.0 within.0 spell.0,
+      no_spaces line words p.1 within.1 spell.1,
+    )
+
+plain_ids : (ids : List (List ℕ)) → list_all is_plain (map (λ id. (Id, id)) ids) ≡ true
+plain_ids [] = refl
+plain_ids (id ∷ ids) = plain_ids ids
+
+pub plain_words : (e : Event) → list_all is_plain (line_of e) ≡ true
+plain_words (events.Commit payload ids) = plain_ids ids
+plain_words other = refl
+
 -- ---- lists of ids
 
-pub ids_found : (words ids : List (List ℕ)) → ids_in words ≡ Some ids → (words ≡ map encode_lower ids) × AllByRecursion IsId ids
-ids_found [] ids e = rw (← some_is [] ids e) (refl, tt)
+pub ids_found : (words ids : List (List ℕ)) → ids_in words ≡ Some ids → AllSpell (map (λ id. (Id, id)) ids) words × Within (map (λ id. (Id, id)) ids)
+ids_found [] ids e = rw (← some_is [] ids e) (tt, tt)
 ids_found (word ∷ words) ids e =
     let id = bind_some (id_at word) (λ id. ids_in words >>= λ ids. Some (id ∷ ids)) ids e in
     let others = bind_some (ids_in words) (λ ids. Some (id.0 ∷ ids)) ids id.2 in
     let f = id_found word id.0 id.1 in
     let g = ids_found words others.0 others.1 in
-    rw (← some_is (id.0 ∷ others.0) ids others.2) (ap (λ (w : List ℕ). w ∷ words) f.0 ∙ ap (λ (ws : List (List ℕ)). encode_lower id.0 ∷ ws) g.0, (f.1, g.1))
+    rw (← some_is (id.0 ∷ others.0) ids others.2) ((f.0, g.0), (f.1, g.1))
 
-pub ids_again : (ids : List (List ℕ)) → AllByRecursion IsId ids → ids_in (map encode_lower ids) ≡ Some ids
-ids_again [] are = refl
-ids_again (id ∷ ids) are = rw (id_again id are.0, ids_again ids are.1) refl
+pub ids_again : (ids words : List (List ℕ)) → Within (map (λ id. (Id, id)) ids) → AllSpell (map (λ id. (Id, id)) ids) words → ids_in words ≡ Some ids
+ids_again [] [] within spell = refl
+ids_again [] (word ∷ words) within spell = absurd spell
+ids_again (id ∷ ids) [] within spell = absurd spell
+ids_again (id ∷ ids) (word ∷ words) within spell = rw (spell.0, id_again id within.0, ids_again ids words within.1 spell.1) refl
 
-pub ids_have_no_space : (ids : List (List ℕ)) → AllByRecursion NoSpace (map encode_lower ids)
-ids_have_no_space [] = tt
-ids_have_no_space (id ∷ ids) = (id_has_no_space id, ids_have_no_space ids)
+pub ids_spell : (ids : List (List ℕ)) → AllSpell (map (λ id. (Id, id)) ids) (map encode_lower ids)
+ids_spell [] = tt
+ids_spell (id ∷ ids) = (refl, ids_spell ids)
 
--- an event with its words, as they were read
-record IsReadAs (word : List ℕ) (args : List (List ℕ)) (event : Event) : Type 0 where
+-- ---- words of some kinds
+
+-- what words of these kinds stand for
+abbrev Values : List Kind → Type 0
+Values [] = Unit {0}
+Values (kind ∷ kinds) = Value kind × Values kinds
+
+-- the event that is made of it
+abbrev made : (kinds : List Kind) → Makes kinds → Values kinds → Event
+made [] event values = event
+made (kind ∷ kinds) make values = made kinds (make values.0) values.1
+
+-- and the words of these kinds
+abbrev meant : (kinds : List Kind) → Values kinds → List LineWord
+meant [] values = []
+meant (kind ∷ kinds) values = (kind, values.0) ∷ meant kinds values.1
+
+-- the words spell what an event was made of
+record Reads (kinds : List Kind) (make : Makes kinds) (words : List (List ℕ)) (e : Event) : Type 0 where
+  pub values : Values kinds
+  pub is : made kinds make values ≡ e
+  pub within : Within (meant kinds values)
+  pub spell : AllSpell (meant kinds values) words
+
+passed : {A : Type 0} (b : Bool) (o : Option A) (x : A) → cond b o None ≡ Some x → (b ≡ true) × (o ≡ Some x)
+passed true o x h = (refl, h)
+passed false o x h = absurd cc
+
+event_of_found : (kinds : List Kind) (make : Makes kinds) (words : List (List ℕ)) (e : Event) → are_as_many kinds words ≡ true → event_of kinds make words ≡ Some e → Reads kinds make words e
+event_of_found [] event [] e many h = record { values = tt; is = some_is event e h; within = tt; spell = tt }
+event_of_found [] event (word ∷ words) e many h = absurd cc
+event_of_found (kind ∷ kinds) make [] e many h = absurd cc
+event_of_found (kind ∷ kinds) make (word ∷ words) e many h =
+    let first = bind_some (value_at kind word) (λ value. event_of kinds (make value) words) e h in
+    let found = value_found kind word first.0 first.1 in
+    let others = event_of_found kinds (make first.0) words e many first.2 in
+    record { values = (first.0, others.values); is = others.is; within = (found.1, others.within); spell = (found.0, others.spell) }
+
+read_found : (kinds : List Kind) (make : Makes kinds) (words : List (List ℕ)) (e : Event) → read kinds make words ≡ Some e → Reads kinds make words e
+read_found kinds make words e h = let p = passed (are_as_many kinds words) (event_of kinds make words) e h in event_of_found kinds make words e p.0 p.1
+
+as_many : (kinds : List Kind) (values : Values kinds) (words : List (List ℕ)) → AllSpell (meant kinds values) words → are_as_many kinds words ≡ true
+as_many [] values [] spell = refl
+as_many [] values (word ∷ words) spell = absurd spell
+as_many (kind ∷ kinds) values [] spell = absurd spell
+as_many (kind ∷ kinds) values (word ∷ words) spell = as_many kinds values.1 words spell.1
+
+event_of_again : (kinds : List Kind) (make : Makes kinds) (values : Values kinds) (words : List (List ℕ)) → Within (meant kinds values) → AllSpell (meant kinds values) words → event_of kinds make words ≡ Some (made kinds make values)
+event_of_again [] event values words within spell = refl
+event_of_again (kind ∷ kinds) make values [] within spell = absurd spell
+event_of_again (kind ∷ kinds) make values (word ∷ words) within spell =
+    rw (value_again kind word values.0 within.0 spell.0) (event_of_again kinds (make values.0) values.1 words within.1 spell.1)
+
+read_again : (kinds : List Kind) (make : Makes kinds) (values : Values kinds) (words : List (List ℕ)) → Within (meant kinds values) → AllSpell (meant kinds values) words → read kinds make words ≡ Some (made kinds make values)
+read_again kinds make values words within spell = rw (as_many kinds values words spell) (event_of_again kinds make values words within spell)
+
+-- ---- events
+
+-- the event fits, and these words spell it
+record IsReadAs (words : List (List ℕ)) (event : Event) : Type 0 where
   pub fits : Fits event
-  pub name : word ≡ keyword event
-  pub are : AreArguments event args
+  pub spell : AllSpell (line_of event) words
 
-read_as : {word : List ℕ} {args : List (List ℕ)} {x e : Event} → ◌≡◌ {A = Option Event} (Some x) (Some e) → Fits x → word ≡ keyword x → AreArguments x args → IsReadAs word args e
-read_as {word} {args} {x} {e} is fits name are = subst (IsReadAs word args) (some_is x e is) (record { fits = fits; name = name; are = are })
+-- words that stand for themselves, and others after them
+names_within : (names : List (List ℕ)) (line : List LineWord) → Within line → Within (map word names ++ line)
+names_within [] line within = within
+names_within (name ∷ names) line within = (tt, names_within names line within)
 
--- with the first word as it was tested
-read_again : (word name : List ℕ) (args : List (List ℕ)) (e : Event) → word ≡ name → IsReadAs name args e → IsReadAs word args e
-read_again word name args e is r = record { fits = r.fits; name = is ∙ r.name; are = r.are }
+names_spell : (names : List (List ℕ)) (line : List LineWord) (words : List (List ℕ)) → AllSpell line words → AllSpell (map word names ++ line) (names ++ words)
+names_spell [] line words spell = spell
+names_spell (name ∷ names) line words spell = (refl, names_spell names line words spell)
 
--- ---- one word, and what is read after it
+-- an event whose line is these names, and words of these kinds
+module _ (names : List (List ℕ)) (kinds : List Kind) (make : Makes kinds) (line : (v : Values kinds) → line_of (made kinds make v) ≡ map word names ++ meant kinds v) (once : (v : Values kinds) → NamesEachOnce (made kinds make v)) where
+  named : (words args : List (List ℕ)) (e : Event) → words ≡ names ++ args → read kinds make args ≡ Some e → IsReadAs words e
+  named words args e is h =
+      let r = read_found kinds make args e h in
+      subst (IsReadAs words) r.is (record {
+        fits = (subst Within (sym (line r.values)) (names_within names (meant kinds r.values) r.within), once r.values);
+        spell = rw (is, line r.values) (names_spell names (meant kinds r.values) args r.spell);
+      })
 
-module _ {P : Type 0} {e : Event} where
-  with_id : (word : List ℕ) (f : List ℕ → Option Event) → (id_at word >>= f) ≡ Some e → ((id : List ℕ) → word ≡ encode_lower id → IsId id → f id ≡ Some e → P) → P
-  with_id word f h k =
-      let b = bind_some (id_at word) f e h in
-      let found = id_found word b.0 b.1 in
-      k b.0 found.0 found.1 b.2
+-- an event with one keyword
+one : {word : List ℕ} {args : List (List ℕ)} {e : Event} (name : List ℕ) (kinds : List Kind) (make : Makes kinds) → ((v : Values kinds) → line_of (made kinds make v) ≡ (Word name, tt) ∷ meant kinds v) → ((v : Values kinds) → NamesEachOnce (made kinds make v)) → is word name ≡ true → read kinds make args ≡ Some e → IsReadAs (word ∷ args) e
+one {word} {args} {e} name kinds make line once t h = named (name ∷ []) kinds make line once (word ∷ args) args e (ap (λ (w : List ℕ). w ∷ args) ((bytes_decides word name).0 t)) h
 
-  with_number : (limit : ℕ) (word : List ℕ) (f : ℕ → Option Event) → (number_at limit word >>= f) ≡ Some e → ((n : ℕ) → word ≡ decimal n → n < limit → f n ≡ Some e → P) → P
-  with_number limit word f h k =
-      let b = bind_some (number_at limit word) f e h in
-      let found = number_found limit b.0 word b.1 in
-      k b.0 found.0 found.1 b.2
+-- a release of such a thing
+release : {word kind : List ℕ} {args : List (List ℕ)} {e : Event} → is word (codes "release") ≡ true → (name : List ℕ) (kinds : List Kind) (make : Makes kinds) → ((v : Values kinds) → line_of (made kinds make v) ≡ (Word (codes "release"), tt) ∷ (Word name, tt) ∷ meant kinds v) → ((v : Values kinds) → NamesEachOnce (made kinds make v)) → is kind name ≡ true → read kinds make args ≡ Some e → IsReadAs (word ∷ kind ∷ args) e
+release {word} {kind} {args} {e} released name kinds make line once t h =
+    named (codes "release" ∷ name ∷ []) kinds make line once (word ∷ kind ∷ args) args e
+    (rw ((bytes_decides word (codes "release")).0 released, (bytes_decides kind name).0 t) refl) h
 
-  with_component : (word : List ℕ) (f : SegmentComponent → Option Event) → (component_at word >>= f) ≡ Some e → ((c : SegmentComponent) → word ≡ extension c → f c ≡ Some e → P) → P
-  with_component word f h k =
-      let b = bind_some (component_at word) f e h in
-      k b.0 (component_found word b.0 b.1) b.2
+-- one test of a chain
+either : {A P : Type 0} {e : A} (b : Bool) (x y : Option A) → cond b x y ≡ Some e → (b ≡ true → x ≡ Some e → P) → (y ≡ Some e → P) → P
+either true x y h here later = here refl h
+either false x y h here later = later h
 
-  -- one test of a chain
-  either : (b : Bool) (x y : Option Event) → cond b x y ≡ Some e → (b ≡ true → x ≡ Some e → P) → (y ≡ Some e → P) → P
-  either true x y h here later = here refl h
-  either false x y h here later = later h
+text_found : (word text : List ℕ) → text_in word ≡ Some text → word ≡ text
+text_found word text e = (chosen (is_utf8 word) word text e).1
 
--- ---- the events, one by one
-
-segment_found : (args : List (List ℕ)) (e : Event) → segment_in args ≡ Some e → IsReadAs (codes "segment") args e
-segment_found (word ∷ []) e h = with_id word (λ id. Some (events.Segment id)) h (λ id is fits h. read_as h fits refl (rw is refl))
-segment_found other e h = absurd cc
-
-open_found : (args : List (List ℕ)) (e : Event) → open_in args ≡ Some e → IsReadAs (codes "open") args e
-open_found (word ∷ part ∷ []) e h =
-    with_id word (λ id. component_at part >>= λ c. Some (events.Open id c)) h (λ id is fits h.
-    with_component part (λ c. Some (events.Open id c)) h (λ c named h. read_as h fits refl (rw (is, named) refl)))
-open_found other e h = absurd cc
-
-write_found : (args : List (List ℕ)) (e : Event) → write_in args ≡ Some e → IsReadAs (codes "write") args e
-write_found (word ∷ part ∷ digits ∷ []) e h =
-    with_id word (λ id. component_at part >>= λ c. bytes_at digits >>= λ bytes. Some (events.Write id c bytes)) h (λ id is fits h.
-    with_component part (λ c. bytes_at digits >>= λ bytes. Some (events.Write id c bytes)) h (λ c named h.
-    let bytes = bind_some (bytes_at digits) (λ bytes. Some (events.Write id c bytes)) e h in
-    let k = bytes_found (decode_of digits) bytes.0 bytes.1 in
-    read_as bytes.2 (fits, k.1) refl (digits, k.0, rw (is, named) refl)))
-write_found other e h = absurd cc
-
-seal_found : (args : List (List ℕ)) (e : Event) → seal_in args ≡ Some e → IsReadAs (codes "seal") args e
-seal_found (word ∷ part ∷ []) e h =
-    with_id word (λ id. component_at part >>= λ c. Some (events.Seal id c)) h (λ id is fits h.
-    with_component part (λ c. Some (events.Seal id c)) h (λ c named h. read_as h fits refl (rw (is, named) refl)))
-seal_found other e h = absurd cc
-
-docs_found : (args : List (List ℕ)) (e : Event) → docs_in args ≡ Some e → IsReadAs (codes "docs") args e
-docs_found (word ∷ digits ∷ []) e h =
-    with_id word (λ id. number_at (2 ^ 32) digits >>= λ n. Some (events.Docs id n)) h (λ id is fits h.
-    with_number (2 ^ 32) digits (λ n. Some (events.Docs id n)) h (λ n spelled lt h. read_as h (fits, lt) refl (rw (is, spelled) refl)))
-docs_found other e h = absurd cc
-
-deletes_found : (args : List (List ℕ)) (e : Event) → deletes_in args ≡ Some e → IsReadAs (codes "deletes") args e
-deletes_found (word ∷ digits ∷ []) e h =
-    with_id word (λ id. number_at (2 ^ 32) digits >>= λ n. Some (events.Deletes id n)) h (λ id is fits h.
-    with_number (2 ^ 32) digits (λ n. Some (events.Deletes id n)) h (λ n spelled lt h. read_as h (fits, lt) refl (rw (is, spelled) refl)))
-deletes_found other e h = absurd cc
-
-commit_found : (args : List (List ℕ)) (e : Event) → commit_in args ≡ Some e → IsReadAs (codes "commit") args e
-commit_found [] e h = absurd cc
-commit_found (word ∷ words) e h =
-    let payload = bind_some (payload_at word) (λ payload. ids_in words >>= commit_of payload) e h in
-    let p = payload_found word payload.0 payload.1 in
-    let ids = bind_some (ids_in words) (commit_of payload.0) e payload.2 in
+commit_found : (word : List ℕ) (args : List (List ℕ)) (e : Event) → is word (codes "commit") ≡ true → commit_in args ≡ Some e → IsReadAs (word ∷ args) e
+commit_found word [] e t h = absurd cc
+commit_found word (first ∷ words) e t h =
+    let payload = bind_some (payload_at first) (λ payload. ids_in words >>= commit_event payload) e h in
+    let p = payload_found first payload.0 payload.1 in
+    let ids = bind_some (ids_in words) (commit_event payload.0) e payload.2 in
     let f = ids_found words ids.0 ids.1 in
     let c = chosen (are_distinct ids.0) (events.Commit payload.0 ids.0) e ids.2 in
-    read_as (ap Some c.1) (p.1, f.1, c.0) refl (word, p.0, ap (λ (ws : List (List ℕ)). word ∷ ws) f.0)
+    subst (IsReadAs (word ∷ first ∷ words)) c.1 (record {
+      fits = ((tt, (p.1, f.1)), c.0);
+      spell = ((bytes_decides word (codes "commit")).0 t, (p.0, f.0));
+    })
 
-alone_found : (event : Event) (args : List (List ℕ)) (e : Event) → Fits event → AreArguments event [] → alone_in event args ≡ Some e → IsReadAs (keyword event) args e
-alone_found event [] e fits are h = read_as h fits refl are
-alone_found event (x ∷ args) e fits are h = absurd cc
-
-gc_step_found : (args : List (List ℕ)) (e : Event) → gc_step_in args ≡ Some e → IsReadAs (codes "gc-step") args e
-gc_step_found (word ∷ []) e h = with_number (2 ^ 64) word (λ n. Some (events.GcStep n)) h (λ n spelled lt h. read_as h lt refl (rw spelled refl))
-gc_step_found other e h = absurd cc
-
-gc_end_found : (args : List (List ℕ)) (e : Event) → gc_end_in args ≡ Some e → IsReadAs (codes "gc-end") args e
-gc_end_found (word ∷ []) e h = with_number (2 ^ 64) word (λ n. Some (events.GcEnd n)) h (λ n spelled lt h. read_as h lt refl (rw spelled refl))
-gc_end_found other e h = absurd cc
-
-reader_found : (args : List (List ℕ)) (e : Event) → reader_in args ≡ Some e → IsReadAs (codes "reader") args e
-reader_found (policy ∷ []) e h =
-    let c = chosen (is policy (codes "manual")) (events.Reader Manual) e h in
-    let manual : policy ≡ codes "manual" = (bytes_decides policy (codes "manual")).0 c.0 in
-    read_as (ap Some c.1) refl refl (rw manual refl)
-reader_found other e h = absurd cc
-
-reload_found : (args : List (List ℕ)) (e : Event) → reload_in args ≡ Some e → IsReadAs (codes "reload") args e
-reload_found (word ∷ []) e h = with_number (2 ^ 64) word (λ n. Some (events.Reload n)) h (λ n spelled lt h. read_as h lt refl (rw spelled refl))
-reload_found other e h = absurd cc
-
-searcher_found : (args : List (List ℕ)) (e : Event) → searcher_in args ≡ Some e → IsReadAs (codes "searcher") args e
-searcher_found (word ∷ []) e h = with_number (2 ^ 64) word (λ n. Some (events.Searcher n)) h (λ n spelled lt h. read_as h lt refl (rw spelled refl))
-searcher_found other e h = absurd cc
-
-show_found : (args : List (List ℕ)) (e : Event) → show_in args ≡ Some e → IsReadAs (codes "show") args e
-show_found (word ∷ []) e h = with_number (2 ^ 64) word (λ n. Some (events.Show n)) h (λ n spelled lt h. read_as h lt refl (rw spelled refl))
-show_found other e h = absurd cc
-
-bytes_event_found : (args : List (List ℕ)) (e : Event) → bytes_in args ≡ Some e → IsReadAs (codes "bytes") args e
-bytes_event_found (word ∷ place ∷ part ∷ []) e h =
-    with_number (2 ^ 64) word (λ n. number_at (2 ^ 32) place >>= λ ord. component_at part >>= λ c. Some (events.Bytes n ord c)) h (λ n spelled lt h.
-    with_number (2 ^ 32) place (λ ord. component_at part >>= λ c. Some (events.Bytes n ord c)) h (λ ord placed few h.
-    with_component part (λ c. Some (events.Bytes n ord c)) h (λ c named h. read_as h (lt, few) refl (rw (spelled, placed, named) refl))))
-bytes_event_found other e h = absurd cc
-
-release_found : (args : List (List ℕ)) (e : Event) → release_in args ≡ Some e → IsReadAs (codes "release") args e
-release_found (kind ∷ word ∷ []) e h =
-    let of = λ (name : List ℕ) (t : is kind name ≡ true). (bytes_decides kind name).0 t in
-    either _ _ _ h (λ t h. with_id word (λ id. Some (events.ReleaseSegment id)) h (λ id is fits h. read_as h fits refl (rw (of (codes "segment") t, is) refl))) (λ h.
-    either _ _ _ h (λ t h. with_number (2 ^ 64) word (λ n. Some (events.ReleaseReader n)) h (λ n is lt h. read_as h lt refl (rw (of (codes "reader") t, is) refl))) (λ h.
-    either _ _ _ h (λ t h. with_number (2 ^ 64) word (λ n. Some (events.ReleaseSearcher n)) h (λ n is lt h. read_as h lt refl (rw (of (codes "searcher") t, is) refl))) (λ h.
+release_found : (word : List ℕ) (args : List (List ℕ)) (e : Event) → is word (codes "release") ≡ true → release_in args ≡ Some e → IsReadAs (word ∷ args) e
+release_found word [] e t h = absurd cc
+release_found word (kind ∷ args) e t h =
+    either _ _ _ h (release t (codes "segment") (Id ∷ []) events.ReleaseSegment (λ v. refl) (λ v. tt)) (λ h.
+    either _ _ _ h (release t (codes "reader") (Number ∷ []) events.ReleaseReader (λ v. refl) (λ v. tt)) (λ h.
+    either _ _ _ h (release t (codes "searcher") (Number ∷ []) events.ReleaseSearcher (λ v. refl) (λ v. tt)) (λ h.
     absurd cc)))
-release_found other e h = absurd cc
 
--- ---- all events
-
-event_found : (word : List ℕ) (args : List (List ℕ)) (e : Event) → event_in (word ∷ args) ≡ Some e → IsReadAs word args e
-event_found word args e h =
-    let named = λ (name : List ℕ) (t : is word name ≡ true) (r : IsReadAs name args e). read_again word name args e ((bytes_decides word name).0 t) r in
-    either _ _ _ h (λ t h. named (codes "segment") t (segment_found args e h)) (λ h.
-    either _ _ _ h (λ t h. named (codes "open") t (open_found args e h)) (λ h.
-    either _ _ _ h (λ t h. named (codes "write") t (write_found args e h)) (λ h.
-    either _ _ _ h (λ t h. named (codes "seal") t (seal_found args e h)) (λ h.
-    either _ _ _ h (λ t h. named (codes "docs") t (docs_found args e h)) (λ h.
-    either _ _ _ h (λ t h. named (codes "deletes") t (deletes_found args e h)) (λ h.
-    either _ _ _ h (λ t h. named (codes "commit") t (commit_found args e h)) (λ h.
-    either _ _ _ h (λ t h. named (codes "managed") t (alone_found events.Managed args e tt refl h)) (λ h.
-    either _ _ _ h (λ t h. named (codes "validate") t (alone_found events.Validate args e tt refl h)) (λ h.
-    either _ _ _ h (λ t h. named (codes "reopen") t (alone_found events.Reopen args e tt refl h)) (λ h.
-    either _ _ _ h (λ t h. named (codes "gc") t (alone_found events.Gc args e tt refl h)) (λ h.
-    either _ _ _ h (λ t h. named (codes "gc-begin") t (alone_found events.GcBegin args e tt refl h)) (λ h.
-    either _ _ _ h (λ t h. named (codes "gc-step") t (gc_step_found args e h)) (λ h.
-    either _ _ _ h (λ t h. named (codes "gc-end") t (gc_end_found args e h)) (λ h.
-    either _ _ _ h (λ t h. named (codes "reader") t (reader_found args e h)) (λ h.
-    either _ _ _ h (λ t h. named (codes "reload") t (reload_found args e h)) (λ h.
-    either _ _ _ h (λ t h. named (codes "searcher") t (searcher_found args e h)) (λ h.
-    either _ _ _ h (λ t h. named (codes "show") t (show_found args e h)) (λ h.
-    either _ _ _ h (λ t h. named (codes "bytes") t (bytes_event_found args e h)) (λ h.
-    either _ _ _ h (λ t h. named (codes "release") t (release_found args e h)) (λ h.
+event_by_found : (word : List ℕ) (args : List (List ℕ)) (e : Event) → event_by word args ≡ Some e → IsReadAs (word ∷ args) e
+event_by_found word args e h =
+    either _ _ _ h (one (codes "write") (Id ∷ Component ∷ Bytes ∷ []) events.Write (λ v. refl) (λ v. tt)) (λ h.
+    either _ _ _ h (commit_found word args e) (λ h.
+    either _ _ _ h (one (codes "segment") (Id ∷ []) events.Segment (λ v. refl) (λ v. tt)) (λ h.
+    either _ _ _ h (one (codes "docs") (Id ∷ Small ∷ []) events.Docs (λ v. refl) (λ v. tt)) (λ h.
+    either _ _ _ h (one (codes "deletes") (Id ∷ Small ∷ []) events.Deletes (λ v. refl) (λ v. tt)) (λ h.
+    either _ _ _ h (one (codes "open") (Id ∷ Component ∷ []) events.Open (λ v. refl) (λ v. tt)) (λ h.
+    either _ _ _ h (one (codes "seal") (Id ∷ Component ∷ []) events.Seal (λ v. refl) (λ v. tt)) (λ h.
+    either _ _ _ h (one (codes "gc") [] events.Gc (λ v. refl) (λ v. tt)) (λ h.
+    either _ _ _ h (one (codes "gc-begin") [] events.GcBegin (λ v. refl) (λ v. tt)) (λ h.
+    either _ _ _ h (one (codes "gc-step") (Number ∷ []) events.GcStep (λ v. refl) (λ v. tt)) (λ h.
+    either _ _ _ h (one (codes "gc-end") (Number ∷ []) events.GcEnd (λ v. refl) (λ v. tt)) (λ h.
+    either _ _ _ h (one (codes "managed") [] events.Managed (λ v. refl) (λ v. tt)) (λ h.
+    either _ _ _ h (one (codes "validate") [] events.Validate (λ v. refl) (λ v. tt)) (λ h.
+    either _ _ _ h (one (codes "reopen") [] events.Reopen (λ v. refl) (λ v. tt)) (λ h.
+    either _ _ _ h (one (codes "reader") (Policy ∷ []) events.Reader (λ v. refl) (λ v. tt)) (λ h.
+    either _ _ _ h (one (codes "reload") (Number ∷ []) events.Reload (λ v. refl) (λ v. tt)) (λ h.
+    either _ _ _ h (one (codes "searcher") (Number ∷ []) events.Searcher (λ v. refl) (λ v. tt)) (λ h.
+    either _ _ _ h (one (codes "show") (Number ∷ []) events.Show (λ v. refl) (λ v. tt)) (λ h.
+    either _ _ _ h (one (codes "bytes") (Number ∷ Small ∷ Component ∷ []) events.Bytes (λ v. refl) (λ v. tt)) (λ h.
+    either _ _ _ h (release_found word args e) (λ h.
     absurd cc))))))))))))))))))))
 
-event_again : (e : Event) (args : List (List ℕ)) → Fits e → AreArguments e args → event_in (keyword e ∷ args) ≡ Some e
-event_again (events.Segment id) args fits are = rw (are, id_again id fits) refl
-event_again (events.Open id c) args fits are = rw (are, id_again id fits, component_again c) refl
-event_again (events.Write id c bytes) args fits are = rw (are.2, id_again id fits.0, component_again c, bytes_again are.0 bytes are.1 fits.1) refl
-event_again (events.Seal id c) args fits are = rw (are, id_again id fits, component_again c) refl
-event_again (events.Docs id n) args fits are = rw (are, id_again id fits.0, number_again (2 ^ 32) n fits.1 (omega arith)) refl
-event_again (events.Deletes id n) args fits are = rw (are, id_again id fits.0, number_again (2 ^ 32) n fits.1 (omega arith)) refl
-event_again (events.Commit payload ids) args fits are = rw (are.2, payload_again payload are.0 are.1 fits.0, ids_again ids fits.1, fits.2) refl
-event_again (events.GcStep n) args fits are = rw (are, number_again (2 ^ 64) n fits fits) refl
-event_again (events.GcEnd n) args fits are = rw (are, number_again (2 ^ 64) n fits fits) refl
-event_again (events.Reader policy) args fits are = rw (are, fits) refl
-event_again (events.Reload n) args fits are = rw (are, number_again (2 ^ 64) n fits fits) refl
-event_again (events.Searcher n) args fits are = rw (are, number_again (2 ^ 64) n fits fits) refl
-event_again (events.Show n) args fits are = rw (are, number_again (2 ^ 64) n fits fits) refl
-event_again (events.Bytes n ord c) args fits are = rw (are, number_again (2 ^ 64) n fits.0 fits.0, number_again (2 ^ 32) ord fits.1 (omega arith), component_again c) refl
-event_again (events.ReleaseSegment id) args fits are = rw (are, id_again id fits) refl
-event_again (events.ReleaseReader n) args fits are = rw (are, number_again (2 ^ 64) n fits fits) refl
-event_again (events.ReleaseSearcher n) args fits are = rw (are, number_again (2 ^ 64) n fits fits) refl
-event_again other args fits are = rw are refl
+event_found : (words : List (List ℕ)) (e : Event) → event_in words ≡ Some e → IsReadAs words e
+event_found [] e h = absurd cc
+event_found (word ∷ args) e h =
+    let text = bind_some (text_in word) (λ keyword. event_by keyword args) e h in
+    subst (λ (w : List ℕ). IsReadAs (w ∷ args) e) (sym (text_found word text.0 text.1)) (event_by_found text.0 args e text.2)
 
-words_have_no_space : (e : Event) (args : List (List ℕ)) → Fits e → AreArguments e args → AllByRecursion NoSpace (keyword e ∷ args)
-words_have_no_space (events.Segment id) args fits are = rw are (refl, (id_has_no_space id, tt))
-words_have_no_space (events.Open id c) args fits are = rw are (refl, (id_has_no_space id, (extension_has_no_space c, tt)))
-words_have_no_space (events.Write id c bytes) args fits are = rw are.2 (refl, (id_has_no_space id, (extension_has_no_space c, (bytes_have_no_space are.0 bytes are.1, tt))))
-words_have_no_space (events.Seal id c) args fits are = rw are (refl, (id_has_no_space id, (extension_has_no_space c, tt)))
-words_have_no_space (events.Docs id n) args fits are = rw are (refl, (id_has_no_space id, (number_has_no_space n (omega arith), tt)))
-words_have_no_space (events.Deletes id n) args fits are = rw are (refl, (id_has_no_space id, (number_has_no_space n (omega arith), tt)))
-words_have_no_space (events.Commit payload ids) args fits are = rw are.2 (refl, (payload_has_no_space payload are.0 are.1, ids_have_no_space ids))
-words_have_no_space (events.GcStep n) args fits are = rw are (refl, (number_has_no_space n fits, tt))
-words_have_no_space (events.GcEnd n) args fits are = rw are (refl, (number_has_no_space n fits, tt))
-words_have_no_space (events.Reader policy) args fits are = rw are (refl, (refl, tt))
-words_have_no_space (events.Reload n) args fits are = rw are (refl, (number_has_no_space n fits, tt))
-words_have_no_space (events.Searcher n) args fits are = rw are (refl, (number_has_no_space n fits, tt))
-words_have_no_space (events.Show n) args fits are = rw are (refl, (number_has_no_space n fits, tt))
-words_have_no_space (events.Bytes n ord c) args fits are = rw are (refl, (number_has_no_space n fits.0, (number_has_no_space ord (omega arith), (extension_has_no_space c, tt))))
-words_have_no_space (events.ReleaseSegment id) args fits are = rw are (refl, (refl, (id_has_no_space id, tt)))
-words_have_no_space (events.ReleaseReader n) args fits are = rw are (refl, (refl, (number_has_no_space n fits, tt)))
-words_have_no_space (events.ReleaseSearcher n) args fits are = rw are (refl, (refl, (number_has_no_space n fits, tt)))
-words_have_no_space other args fits are = rw are (refl, tt)
+no_words : {P : Type 0} (e : Event) → AllSpell (line_of e) [] → P
+no_words events.Gc spell = absurd spell
+no_words other spell = absurd spell
+
+event_by_again : (e : Event) (word : List ℕ) (args : List (List ℕ)) → Fits e → AllSpell (line_of e) (word ∷ args) → event_by word args ≡ Some e
+event_by_again (events.Segment id) w args fits spell = rw (spell.0, read_again (Id ∷ []) events.Segment (id, tt) args fits.0.1 spell.1) refl
+event_by_again (events.Open id c) w args fits spell = rw (spell.0, read_again (Id ∷ Component ∷ []) events.Open (id, (c, tt)) args fits.0.1 spell.1) refl
+event_by_again (events.Write id c bytes) w args fits spell = rw (spell.0, read_again (Id ∷ Component ∷ Bytes ∷ []) events.Write (id, (c, (bytes, tt))) args fits.0.1 spell.1) refl
+event_by_again (events.Seal id c) w args fits spell = rw (spell.0, read_again (Id ∷ Component ∷ []) events.Seal (id, (c, tt)) args fits.0.1 spell.1) refl
+event_by_again (events.Docs id n) w args fits spell = rw (spell.0, read_again (Id ∷ Small ∷ []) events.Docs (id, (n, tt)) args fits.0.1 spell.1) refl
+event_by_again (events.Deletes id n) w args fits spell = rw (spell.0, read_again (Id ∷ Small ∷ []) events.Deletes (id, (n, tt)) args fits.0.1 spell.1) refl
+event_by_again (events.Commit payload ids) w [] fits spell = absurd spell.1
+event_by_again (events.Commit payload ids) w (p ∷ args) fits spell =
+    rw (spell.0, payload_again payload p spell.1.0 fits.0.1.0, ids_again ids args fits.0.1.1 spell.1.1, fits.1) refl
+event_by_again events.Gc w args fits spell = rw (spell.0, read_again [] events.Gc tt args fits.0.1 spell.1) refl
+event_by_again events.GcBegin w args fits spell = rw (spell.0, read_again [] events.GcBegin tt args fits.0.1 spell.1) refl
+event_by_again (events.GcStep n) w args fits spell = rw (spell.0, read_again (Number ∷ []) events.GcStep (n, tt) args fits.0.1 spell.1) refl
+event_by_again (events.GcEnd n) w args fits spell = rw (spell.0, read_again (Number ∷ []) events.GcEnd (n, tt) args fits.0.1 spell.1) refl
+event_by_again (events.Reader policy) w args fits spell = rw (spell.0, read_again (Policy ∷ []) events.Reader (policy, tt) args fits.0.1 spell.1) refl
+event_by_again (events.Reload n) w args fits spell = rw (spell.0, read_again (Number ∷ []) events.Reload (n, tt) args fits.0.1 spell.1) refl
+event_by_again (events.Searcher n) w args fits spell = rw (spell.0, read_again (Number ∷ []) events.Searcher (n, tt) args fits.0.1 spell.1) refl
+event_by_again (events.Show n) w args fits spell = rw (spell.0, read_again (Number ∷ []) events.Show (n, tt) args fits.0.1 spell.1) refl
+event_by_again (events.Bytes n ord c) w args fits spell = rw (spell.0, read_again (Number ∷ Small ∷ Component ∷ []) events.Bytes (n, (ord, (c, tt))) args fits.0.1 spell.1) refl
+event_by_again (events.ReleaseSegment id) w [] fits spell = absurd spell.1
+event_by_again (events.ReleaseSegment id) w (kind ∷ args) fits spell = rw (spell.0, spell.1.0, read_again (Id ∷ []) events.ReleaseSegment (id, tt) args fits.0.1.1 spell.1.1) refl
+event_by_again (events.ReleaseReader n) w [] fits spell = absurd spell.1
+event_by_again (events.ReleaseReader n) w (kind ∷ args) fits spell = rw (spell.0, spell.1.0, read_again (Number ∷ []) events.ReleaseReader (n, tt) args fits.0.1.1 spell.1.1) refl
+event_by_again (events.ReleaseSearcher n) w [] fits spell = absurd spell.1
+event_by_again (events.ReleaseSearcher n) w (kind ∷ args) fits spell = rw (spell.0, spell.1.0, read_again (Number ∷ []) events.ReleaseSearcher (n, tt) args fits.0.1.1 spell.1.1) refl
+event_by_again events.Managed w args fits spell = rw (spell.0, read_again [] events.Managed tt args fits.0.1 spell.1) refl
+event_by_again events.Validate w args fits spell = rw (spell.0, read_again [] events.Validate tt args fits.0.1 spell.1) refl
+event_by_again events.Reopen w args fits spell = rw (spell.0, read_again [] events.Reopen tt args fits.0.1 spell.1) refl
+
+-- the word that a line begins with
+abbrev pub heading : List LineWord → List ℕ
+heading [] = []
+heading ((Word text, value) ∷ line) = text
+heading ((other, value) ∷ line) = []
+
+pub heading_is : (e : Event) (word : List ℕ) (words : List (List ℕ)) → AllSpell (line_of e) (word ∷ words) → heading (line_of e) ≡ word
+heading_is events.Gc word words spell = sym spell.0
+heading_is other word words spell = sym spell.0
+
+ascii_of : (bs : List ℕ) → list_all (λ b. nat_lt b 128) bs ≡ true → IsAscii bs
+ascii_of [] h k = omega arith
+ascii_of (b ∷ bs) h zero = ltb-true b 128 (both (nat_lt b 128) (list_all (λ b. nat_lt b 128) bs) h).0
+ascii_of (b ∷ bs) h (suc k) = ascii_of bs (both (nat_lt b 128) (list_all (λ b. nat_lt b 128) bs) h).1 k
+
+heading_is_ascii : (e : Event) → list_all (λ b. nat_lt b 128) (heading (line_of e)) ≡ true
+heading_is_ascii events.Gc = refl
+heading_is_ascii other = refl
+
+begins_with_text : (e : Event) (word : List ℕ) (args : List (List ℕ)) → AllSpell (line_of e) (word ∷ args) → is_utf8 word ≡ true
+begins_with_text e word args spell =
+    let ascii : IsAscii word = subst IsAscii (heading_is e word args spell) (ascii_of (heading (line_of e)) (heading_is_ascii e)) in
+    is_utf8-from_IsUtf8 word (IsUtf8-from_ascii word ascii)
+
+event_again : (e : Event) (words : List (List ℕ)) → Fits e → AllSpell (line_of e) words → event_in words ≡ Some e
+event_again e [] fits spell = no_words e spell
+event_again e (word ∷ args) fits spell = rw (begins_with_text e word args spell) (event_by_again e word args fits spell)
 
 -- ---- lines
 
 pub line_found : (text : List ℕ) (ws : List (List ℕ)) (o : Option Event) → length text ≤ line_limit → ws ≡ slice_split is_space text → o ≡ event_in ws → IfSome o (IsLine text)
 line_found text ws None short split read = tt
-line_found text [] (Some e) short split read = absurd cc
-line_found text (word ∷ args) (Some e) short split read =
-    let r = event_found word args e (sym read) in
-    record { short = short; fits = r.fits; arguments = args; are = r.are; spelled = sym (join_with_byte-slice_split 32 text) ∙ ap (join_with_byte 32) (sym split ∙ ap (λ (w : List ℕ). w ∷ args) r.name) }
+line_found text ws (Some e) short split read =
+    let r = event_found ws e (sym read) in
+    record { short = short; fits = r.fits; words = ws; spell = r.spell; joined = sym (join_with_byte-slice_split 32 text) ∙ ap (join_with_byte 32) (sym split) }
+
+split_words : (e : Event) (words : List (List ℕ)) → Fits e → AllSpell (line_of e) words → slice_split is_space (join_with_byte 32 words) ≡ words
+split_words e [] fits spell = no_words e spell
+split_words e (word ∷ words) fits spell = split_joined word words (no_spaces (line_of e) (word ∷ words) (plain_words e) fits.0 spell)
 
 -- the words of an event's line, which stand one space apart
-pub words_of_line : (text : List ℕ) (e : Event) (line : IsLine text e) → slice_split is_space text ≡ keyword e ∷ line.arguments
-words_of_line text e line = ap (slice_split is_space) line.spelled ∙ split_joined (keyword e) line.arguments (words_have_no_space e line.arguments line.fits line.are)
+pub words_of_line : (text : List ℕ) (e : Event) (line : IsLine text e) → slice_split is_space text ≡ line.words
+words_of_line text e line = ap (slice_split is_space) line.joined ∙ split_words e line.words line.fits line.spell
 
 pub line_only : (text : List ℕ) (ws : List (List ℕ)) (o : Option Event) → ws ≡ slice_split is_space text → o ≡ event_in ws → (e : Event) → IsLine text e → o ≡ Some e
 line_only text ws o split read e line =
-    read ∙ ap event_in (split ∙ words_of_line text e line) ∙ event_again e line.arguments line.fits line.are
+    read ∙ ap event_in (split ∙ words_of_line text e line) ∙ event_again e line.words line.fits line.spell

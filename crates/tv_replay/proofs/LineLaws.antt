@@ -1,21 +1,23 @@
 -- The laws of a script's lines, from what a line is.
-use Rattle.std.proofs.Common.{◌≡◌, ◌≢◌, ℕ, zero, suc, ◌<◌, ◌≤◌, ◌^◌, ◌||◌, Bool, true, false, true≢false, List, [], ◌∷◌, ◌++◌, Option, Some, None, Ok, codes, length, get_or, map, refl, sym, ap, subst, ◌∙◌, arith, cond}
+use Rattle.std.proofs.Common.{◌≡◌, ◌≢◌, ℕ, zero, suc, ◌<◌, ◌≤◌, ◌^◌, ◌||◌, Bool, true, false, true≢false, not, List, [], ◌∷◌, ◌++◌, Option, Some, None, Ok, codes, length, get_or, map, refl, sym, ap, subst, ◌∙◌, arith, cond}
 use Rattle.std.specs.Prelude.{IfSome}
 use Rattle.std.specs.Cmp.Lexicographic.{bytes_decides}
 use Rattle.std.specs.Fmt.{decimal}
-use Rattle.std.specs.List.{AllByRecursion, join_with_byte, onto_first, slice_split}
+use Rattle.std.specs.List.{AllByRecursion, join_with_byte, list_all, onto_first, slice_split}
+use Rattle.std.proofs.lemmas.List.Splits.{join_with_byte-slice_split}
 use Rattle.std.proofs.lemmas.Fmt.{decimal_digit, decimal_nonempty, first_decimal}
 use Rattle.hex.specs.Hex.{decode_of, encode_lower, encode_with}
 use Rattle.hex.proofs.HexLemmas.{decode_of-ok}
-use Rattle.tv_model.specs.declared.event.Event.{Event}
-use Rattle.tv_model.specs.declared.event.Event.TheVariants as events
-use Rattle.tv_model.specs.declared.segment.SegmentComponent.{SegmentComponent}
-use Rattle.tv_model.specs.declared.segment.SegmentComponent.TheVariants.{Postings}
-use Rattle.tv_model.specs.Ids.{IsId}
-use Rattle.tv_model.specs.Names.{has, is}
-use Rattle.tv_model.specs.Script.{AreArguments, Fits, IsLine, SpellsPayload, keyword, line_limit}
-use Rattle.tv_model.specs.Segments.{extension}
-use Rattle.tv_replay.proofs.GrammarLaws.{is_space, words_of_line}
+use Rattle.tv_machine.specs.declared.event.Event.{Event}
+use Rattle.tv_machine.specs.declared.event.Event.TheVariants as events
+use Rattle.tv_formats.specs.declared.segment.SegmentComponent.{SegmentComponent}
+use Rattle.tv_formats.specs.declared.segment.SegmentComponent.TheVariants.{Postings}
+use Rattle.tv_formats.specs.Ids.{IsId}
+use Rattle.tv_formats.specs.Names.{has, is}
+use Rattle.tv_machine.specs.Script.{AllSpell, Bytes, Component, Fits, Id, IsLine, IsWithin, Kind, LineWord, Number, Payload, Policy, Small, Spells, SpellsPayload, Value, Word, line_limit, line_of}
+use Rattle.tv_formats.specs.Segments.{extension}
+use Rattle.tv_replay.proofs.GrammarLaws.{has_no_space, heading, heading_is, ids_spell, is_plain, is_space, plain_words, words_of_line}
+use Rattle.tv_replay.proofs.Numbers.{both, isnt}
 
 -- what holds of no event's line, its event is none
 pub no_event : (text : List ℕ) (found : Option Event) → ((e : Event) → IsLine text e → ⊥) → IfSome found (IsLine text) → found ≡ None
@@ -25,14 +27,21 @@ no_event text (Some e) never h = absurd (never e h)
 differ : (a b : List ℕ) → is a b ≡ false → a ≡ b → ⊥
 differ a b apart e = true≢false (sym ((bytes_decides a b).1 e) ∙ apart)
 
-first_is : {word other : List ℕ} {words others : List (List ℕ)} → word ∷ words ≡ other ∷ others → word ≡ other
-first_is e = cc
-
 -- ---- no leading zero
 
-reloads : (e : Event) → keyword e ≡ codes "reload" → (n : ℕ) × (e ≡ events.Reload n)
+reloads : (e : Event) → heading (line_of e) ≡ codes "reload" → (n : ℕ) × (e ≡ events.Reload n)
 reloads (events.Reload n) h = (n, refl)
-reloads other h = absurd (differ (keyword other) (codes "reload") refl h)
+reloads other h = absurd (differ (heading (line_of other)) (codes "reload") refl h)
+
+-- one word and no other
+alone : (meant : LineWord) (words : List (List ℕ)) → AllSpell (meant ∷ []) words → (word : List ℕ) × (words ≡ word ∷ []) × Spells meant.0 meant.1 word
+alone meant [] spell = absurd spell
+alone meant (word ∷ []) spell = (word, refl, spell.0)
+alone meant (word ∷ next ∷ words) spell = absurd spell.1
+
+-- a text that splits into this word alone is this word
+is_alone : (text word : List ℕ) → slice_split is_space text ≡ word ∷ [] → text ≡ word
+is_alone text word e = sym (join_with_byte-slice_split 32 text) ∙ ap (join_with_byte 32) e
 
 leading : (n : ℕ) (rest : List ℕ) → n < 2 ^ 64 → 48 ∷ rest ≡ decimal n → rest ≢ [] → ⊥
 leading zero rest small e some = some (let whole : 48 ∷ rest ≡ 48 ∷ [] = e ∙ decimal_digit 0 (omega arith) in cc)
@@ -42,12 +51,14 @@ leading (suc n) rest small e some =
 
 pub no_leading_zero : (text rest : List ℕ) → rest ≢ [] → text ≡ codes "reload 0" ++ rest → (e : Event) → IsLine text e → ⊥
 no_leading_zero text rest some is e line =
-    let words : codes "reload" ∷ onto_first 48 (slice_split is_space rest) ≡ keyword e ∷ line.arguments = ap (slice_split is_space) (sym is) ∙ words_of_line text e line in
-    let reload = reloads e (sym (first_is words)) in
-    let again : IsLine text (events.Reload reload.0) = subst (IsLine text) reload.1 line in
-    let spelled : codes "reload 0" ++ rest ≡ codes "reload " ++ decimal reload.0 = sym is ∙ again.spelled ∙ ap (λ (args : List (List ℕ)). join_with_byte 32 (codes "reload" ∷ args)) again.are in
-    let number : 48 ∷ rest ≡ decimal reload.0 = cc in
-    leading reload.0 rest again.fits number some
+    let args = slice_split is_space (48 ∷ rest) in
+    let words : codes "reload" ∷ args ≡ line.words = ap (slice_split is_space) (sym is) ∙ words_of_line text e line in
+    let spell : AllSpell (line_of e) (codes "reload" ∷ args) = subst (AllSpell (line_of e)) (sym words) line.spell in
+    let reload = reloads e (heading_is e (codes "reload") args spell) in
+    let again : AllSpell (line_of (events.Reload reload.0)) (codes "reload" ∷ args) = subst (λ (e : Event). AllSpell (line_of e) (codes "reload" ∷ args)) reload.1 spell in
+    let fits : Fits (events.Reload reload.0) = subst Fits reload.1 line.fits in
+    let number = alone (Number, reload.0) args again.1 in
+    leading reload.0 rest fits.0.1.0 (is_alone (48 ∷ rest) number.0 number.1 ∙ number.2) some
 
 -- ---- no two spaces in a row
 
@@ -59,10 +70,6 @@ some_id : (id : List ℕ) → IsId id → is (encode_lower id) [] ≡ false
 unfolding encode_with
 some_id [] h = absurd (omega (arith, h.size))
 some_id (b ∷ id) h = refl
-
-some_ids : (ids : List (List ℕ)) → AllByRecursion IsId ids → has (map encode_lower ids) [] ≡ false
-some_ids [] h = refl
-some_ids (id ∷ ids) h = rw (some_id id h.0) (some_ids ids h.1)
 
 some_number : (n : ℕ) → n < 2 ^ 64 → is (decimal n) [] ≡ false
 some_number n small = some_word (decimal n) (decimal_nonempty n small)
@@ -78,26 +85,24 @@ some_payload : (payload : Option (List ℕ)) (word : List ℕ) → SpellsPayload
 some_payload None word h = rw h refl
 some_payload (Some text) word h = rw h.2 refl
 
--- none of the words after the first is empty
-no_empty_word : (e : Event) (args : List (List ℕ)) → Fits e → AreArguments e args → has args [] ≡ false
-no_empty_word (events.Segment id) args fits are = rw (are, some_id id fits) refl
-no_empty_word (events.Open id c) args fits are = rw (are, some_id id fits, some_component c) refl
-no_empty_word (events.Write id c bytes) args fits are = rw (are.2, some_id id fits.0, some_component c, some_digits are.0 bytes are.1 fits.1) refl
-no_empty_word (events.Seal id c) args fits are = rw (are, some_id id fits, some_component c) refl
-no_empty_word (events.Docs id n) args fits are = rw (are, some_id id fits.0, some_number n (omega arith)) refl
-no_empty_word (events.Deletes id n) args fits are = rw (are, some_id id fits.0, some_number n (omega arith)) refl
-no_empty_word (events.Commit payload ids) args fits are = rw (are.2, some_payload payload are.0 are.1) (some_ids ids fits.1)
-no_empty_word (events.GcStep n) args fits are = rw (are, some_number n fits) refl
-no_empty_word (events.GcEnd n) args fits are = rw (are, some_number n fits) refl
-no_empty_word (events.Reader policy) args fits are = rw are refl
-no_empty_word (events.Reload n) args fits are = rw (are, some_number n fits) refl
-no_empty_word (events.Searcher n) args fits are = rw (are, some_number n fits) refl
-no_empty_word (events.Show n) args fits are = rw (are, some_number n fits) refl
-no_empty_word (events.Bytes n ord c) args fits are = rw (are, some_number n fits.0, some_number ord (omega arith), some_component c) refl
-no_empty_word (events.ReleaseSegment id) args fits are = rw (are, some_id id fits) refl
-no_empty_word (events.ReleaseReader n) args fits are = rw (are, some_number n fits) refl
-no_empty_word (events.ReleaseSearcher n) args fits are = rw (are, some_number n fits) refl
-no_empty_word other args fits are = rw are refl
+-- no word is empty
+some_spelled : (kind : Kind) (value : Value kind) (word : List ℕ) → is_plain (kind, value) ≡ true → IsWithin kind value → Spells kind value word → is word [] ≡ false
+some_spelled (Word text) value word plain within spells = rw spells (isnt (is text []) (both (has_no_space text) (not (is text [])) plain).1)
+some_spelled Id id word plain within spells = rw spells (some_id id within)
+some_spelled Component c word plain within spells = rw spells (some_component c)
+some_spelled Bytes bytes word plain within spells = some_digits word bytes spells within
+some_spelled Small n word plain within spells = rw spells (some_number n (omega arith))
+some_spelled Number n word plain within spells = rw spells (some_number n within)
+some_spelled Payload payload word plain within spells = some_payload payload word spells
+some_spelled Policy policy word plain within spells = rw spells refl
+
+no_empty_word : (line : List LineWord) (words : List (List ℕ)) → list_all is_plain line ≡ true → AllByRecursion (λ meant. IsWithin meant.0 meant.1) line → AllSpell line words → has words [] ≡ false
+no_empty_word [] [] plain within spell = refl
+no_empty_word [] (word ∷ words) plain within spell = absurd spell
+no_empty_word (meant ∷ line) [] plain within spell = absurd spell
+no_empty_word (meant ∷ line) (word ∷ words) plain within spell =
+    let p = both (is_plain meant) (list_all is_plain line) plain in
+    rw (some_spelled meant.0 meant.1 word p.0 within.0 spell.0) (no_empty_word line words p.1 within.1 spell.1)
 
 -- the words after the first
 abbrev behind : List (List ℕ) → List (List ℕ)
@@ -126,22 +131,24 @@ empty_behind (b ∷ front) rest = behind_either (is_space b) b (slice_split is_s
 
 pub no_two_spaces : (text front rest : List ℕ) → text ≡ front ++ 32 ∷ 32 ∷ rest → (e : Event) → IsLine text e → ⊥
 no_two_spaces text front rest is e line =
-    let words : slice_split is_space (front ++ 32 ∷ 32 ∷ rest) ≡ keyword e ∷ line.arguments = ap (slice_split is_space) (sym is) ∙ words_of_line text e line in
-    true≢false (sym (empty_behind front rest) ∙ ap (λ (ws : List (List ℕ)). has (behind ws) []) words ∙ no_empty_word e line.arguments line.fits line.are)
+    let words : slice_split is_space (front ++ 32 ∷ 32 ∷ rest) ≡ line.words = ap (slice_split is_space) (sym is) ∙ words_of_line text e line in
+    true≢false (sym (behind_cut (slice_split is_space (front ++ 32 ∷ 32 ∷ rest)) (empty_behind front rest)) ∙ ap (λ (ws : List (List ℕ)). has ws []) words ∙ no_empty_word (line_of e) line.words (plain_words e) line.fits.0 line.spell)
 
 -- ---- lower-case digits
 
-segments : (e : Event) → keyword e ≡ codes "segment" → (id : List ℕ) × (e ≡ events.Segment id)
+segments : (e : Event) → heading (line_of e) ≡ codes "segment" → (id : List ℕ) × (e ≡ events.Segment id)
 segments (events.Segment id) h = (id, refl)
-segments other h = absurd (differ (keyword other) (codes "segment") refl h)
+segments other h = absurd (differ (heading (line_of other)) (codes "segment") refl h)
 
 pub lower_case : (text word : List ℕ) (e : Event) → text ≡ codes "segment " ++ word → IsLine text e → (id : List ℕ) × (e ≡ events.Segment id) × (word ≡ encode_lower id)
 lower_case text word e is line =
-    let words : codes "segment" ∷ slice_split is_space word ≡ keyword e ∷ line.arguments = ap (slice_split is_space) (sym is) ∙ words_of_line text e line in
-    let segment = segments e (sym (first_is words)) in
-    let again : IsLine text (events.Segment segment.0) = subst (IsLine text) segment.1 line in
-    let spelled : codes "segment " ++ word ≡ codes "segment " ++ encode_lower segment.0 = sym is ∙ again.spelled ∙ ap (λ (args : List (List ℕ)). join_with_byte 32 (codes "segment" ∷ args)) again.are in
-    (segment.0, segment.1, cc)
+    let args = slice_split is_space word in
+    let words : codes "segment" ∷ args ≡ line.words = ap (slice_split is_space) (sym is) ∙ words_of_line text e line in
+    let spell : AllSpell (line_of e) (codes "segment" ∷ args) = subst (AllSpell (line_of e)) (sym words) line.spell in
+    let segment = segments e (heading_is e (codes "segment") args spell) in
+    let again : AllSpell (line_of (events.Segment segment.0)) (codes "segment" ∷ args) = subst (λ (e : Event). AllSpell (line_of e) (codes "segment" ∷ args)) segment.1 spell in
+    let id = alone (Id, segment.0) args again.1 in
+    (segment.0, segment.1, is_alone word id.0 id.1 ∙ id.2)
 
 pub some_lower_case : (text word : List ℕ) (found : Option Event) → text ≡ codes "segment " ++ word → IfSome found (IsLine text)
     → IfSome found (λ e. (id : List ℕ) × (e ≡ events.Segment id) × (word ≡ encode_lower id))
@@ -155,7 +162,7 @@ pub is_commit : (line text digits : List ℕ) (ids : List (List ℕ)) → Fits (
 is_commit line text digits ids fits decoded is short = record {
   short = short;
   fits = fits;
-  arguments = (43 ∷ digits) ∷ map encode_lower ids;
-  are = (43 ∷ digits, (digits, decoded, refl), refl);
-  spelled = is;
+  words = codes "commit" ∷ (43 ∷ digits) ∷ map encode_lower ids;
+  spell = (refl, ((digits, decoded, refl), ids_spell ids));
+  joined = is;
 }

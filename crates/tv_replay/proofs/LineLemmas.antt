@@ -2,9 +2,9 @@
 use Rattle.std.proofs.Common.{◌≡◌, ℕ, suc, ◌+◌, ◌≤◌, ◌<◌, ◌==◌, Bool, true, false, not, List, [], ◌∷◌, ◌++◌, length, Option, Some, None, refl, sym, ap, ◌∙◌, arith, append_assoc, length-append}
 use Rattle.std.specs.List.{onto_first}
 use Rattle.std.proofs.lemmas.List.{append-nil}
-use Rattle.tv_base.specs.Streams.{Keeps}
-use Rattle.tv_model.specs.Lines.{has_no_feed}
-use Rattle.tv_model.specs.Script.{line_limit, lines_of}
+use Rattle.tv_base.specs.Streams.{KeepsLeft}
+use Rattle.tv_formats.specs.Files.{has_no_feed}
+use Rattle.tv_machine.specs.Script.{line_limit, lines_of}
 use Rattle.tv_replay.proofs.Numbers.{isnt, both}
 use Rattle.tv_replay.specs.ScriptLines.{NoFeed, pending, Moves, TakesLine, IsTooLong, BeginsLine, ReadsAhead}
 
@@ -101,7 +101,7 @@ takes_last script (x ∷ line) left b none shown is some =
     ([], b.1 ∙ ap (λ (xs : List ℕ). Some xs) none, ap lines_of (b.2 ∙ ap (λ (xs : List ℕ). (x ∷ line) ++ xs) none ∙ append-nil (x ∷ line)) ∙ lines_of-last x line b.3)
 
 -- what was read of a script is the line so far and what is held
-pub reads_ahead : (line held : List ℕ) (before mid left : Option (List ℕ)) → ((script : List ℕ) → before ≡ Some script → BeginsLine script line mid) → Keeps mid (pending held left) → length held + length line ≤ line_limit + 1 → ReadsAhead before left
+pub reads_ahead : (line held : List ℕ) (before mid left : Option (List ℕ)) → ((script : List ℕ) → before ≡ Some script → BeginsLine script line mid) → KeepsLeft mid (pending held left) → length held + length line ≤ line_limit + 1 → ReadsAhead before left
 reads_ahead line held before mid left begins keeps most script told =
     let b = begins script told in
     let p = pending_some held b.0 left (keeps b.0 b.1) in
@@ -114,5 +114,5 @@ reads_ahead line held before mid left begins keeps most script told =
     }
 
 -- the bytes that are left stay as they are
-abbrev pub still_begins : (script line : List ℕ) (before after : Option (List ℕ)) → BeginsLine script line before → Keeps before after → BeginsLine script line after
+abbrev pub still_begins : (script line : List ℕ) (before after : Option (List ℕ)) → BeginsLine script line before → KeepsLeft before after → BeginsLine script line after
 still_begins script line before after b keeps = (b.0, keeps b.0 b.1, b.2, b.3)

@@ -5,7 +5,7 @@ use Rattle.std.specs.Fmt.{decimal}
 use Rattle.std.specs.Str.Parse.{digits_value}
 use Rattle.std.proofs.lemmas.Bool.{ltb-true, lt-ltb}
 use Rattle.std.proofs.lemmas.Fmt.{decimal_is_IsNumeral}
-use Rattle.tv_model.specs.Names.{is}
+use Rattle.tv_formats.specs.Names.{is}
 use Rattle.tv_replay.specs.Fields.{number_at}
 
 -- a test that gave something, and one that can't pass

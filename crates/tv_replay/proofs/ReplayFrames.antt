@@ -1,9 +1,9 @@
 -- What one call after the other keeps.
 use Rattle.std.proofs.Common.{◌≡◌, ◌≢◌, ℕ, List, true, false, inl, inr, refl, sym, ap, subst, ◌∙◌}
-use Rattle.tv_model.specs.Names.{is, meta_name}
-use Rattle.tv_model.specs.declared.event.Event.{Event}
-use Rattle.tv_model.specs.declared.event.Event.TheVariants as events
-use Rattle.tv_model.proofs.Entries.{is_text, isnt_text}
+use Rattle.tv_formats.specs.Names.{is, meta_name}
+use Rattle.tv_machine.specs.declared.event.Event.{Event}
+use Rattle.tv_machine.specs.declared.event.Event.TheVariants as events
+use Rattle.tv_formats.proofs.Entries.{is_text, isnt_text}
 use Rattle.tv_directory.specs.Calls.{Frees}
 use Rattle.tv_directory.specs.Locks.{FreesLock, Locks, SameLocks, TakesLock}
 use Rattle.tv_directory.specs.View.{View, Told}

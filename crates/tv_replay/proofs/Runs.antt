@@ -6,10 +6,9 @@ use Rattle.std.specs.List.{starts_with}
 use Rattle.std.specs.Fmt.{decimal, digits, digits_onto, digit_glyph}
 use Rattle.std.proofs.lemmas.Bool.{ne_eqb}
 use Rattle.tv_directory.specs.declared.directory.Directory.{Ghosts}
-use Rattle.tv_model.specs.Files.{Reads, Rose}
-use Rattle.tv_model.specs.Lines.{has_no_feed}
-use Rattle.tv_model.specs.Names.{meta_name}
-use Rattle.tv_model.proofs.NoFeeds.{no_feed_append, no_feed_name}
+use Rattle.tv_formats.specs.Files.{Reads, Rose, has_no_feed}
+use Rattle.tv_formats.specs.Names.{meta_name}
+use Rattle.tv_formats.proofs.NoFeeds.{no_feed_append, no_feed_name}
 use Rattle.tv_base.specs.Causes.{IoCause}
 use Rattle.tv_base.specs.Errors.{of_io, of_open_directory}
 use Rattle.tv_base.specs.declared.io.IoFault.{IoFault}

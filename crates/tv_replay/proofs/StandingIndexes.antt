@@ -5,23 +5,23 @@ use Rattle.std.specs.Prelude.{is_some}
 use Rattle.std.specs.List.{list_all}
 use Rattle.std.proofs.lemmas.Bool.{and_parts}
 use Rattle.serde_json.specs.Data.{Data}
-use Rattle.tv_model.specs.Commits.{Commit, Settings}
-use Rattle.tv_model.specs.Files.{Reads, Same}
-use Rattle.tv_model.specs.Index.{DirectoryHolds, FileReads}
-use Rattle.tv_model.specs.Listing.{Listing}
-use Rattle.tv_model.specs.MetaJson.{SpellsMeta}
-use Rattle.tv_model.specs.Names.{is, is_file_name, is_plain, meta_name}
-use Rattle.tv_model.specs.State.{State, FileState, Sealed, Open, Left, file_at}
-use Rattle.tv_model.proofs.Entries.{is_text, isnt_text}
-use Rattle.tv_model.proofs.ListTexts.{listing_one}
-use Rattle.tv_model.proofs.MeansOne.{means_spelled}
-use Rattle.tv_model.proofs.OneMeaning.{one_meaning}
-use Rattle.tv_model.proofs.PlainNames.{plain_is_file_name, plain_is_undotted}
+use Rattle.tv_formats.specs.Commits.{Commit, Settings}
+use Rattle.tv_formats.specs.Files.{Reads, Same}
+use Rattle.tv_machine.specs.Index.{DirectoryHolds, FileReads}
+use Rattle.tv_formats.specs.Listing.{Listing}
+use Rattle.tv_formats.specs.MetaJson.{SpellsMeta}
+use Rattle.tv_formats.specs.Names.{is, is_file_name, is_plain, meta_name}
+use Rattle.tv_machine.specs.State.{State, FileState, SealedFile, Open, Left, file_at}
+use Rattle.tv_formats.proofs.Entries.{is_text, isnt_text}
+use Rattle.tv_formats.proofs.ListTexts.{listing_one}
+use Rattle.tv_formats.proofs.MeansOne.{means_spelled}
+use Rattle.tv_formats.proofs.OneMeaning.{one_meaning}
+use Rattle.tv_formats.proofs.PlainNames.{plain_is_file_name, plain_is_undotted}
 use Rattle.tv_replay.specs.Summaries.{has_file, IsStanding}
 
 there : (file : Option FileState) (read : Option (List ℕ)) → FileReads file read → is_some read ≡ is_some file
 there None read h = ap is_some h
-there (Some (Sealed bytes)) read h = ap is_some h
+there (Some (SealedFile bytes)) read h = ap is_some h
 there (Some (Open body)) read h = h
 there (Some Left) read h = h
 

@@ -6,17 +6,17 @@ use Rattle.tv_base.specs.declared.error.TantivyError.{TantivyError}
 use Rattle.tv_base.specs.declared.error.TantivyError.TheVariants as errors
 use Rattle.tv_base.specs.declared.open_errors.LockError.TheVariants as lock
 use Rattle.tv_base.specs.declared.open_errors.OpenReadError.{OpenReadError}
-use Rattle.tv_model.specs.Names.{meta_name}
-use Rattle.tv_model.specs.Files.{Reads, Heard, Rose, RoseBy}
-use Rattle.tv_model.specs.Commits.{IndexForm}
-use Rattle.tv_model.specs.Meaning.{Means, MeansNothing, MeansOther}
-use Rattle.tv_model.specs.State.{State}
-use Rattle.tv_model.specs.Lines.{opening_of}
-use Rattle.tv_model.specs.declared.event.Event.{Event}
-use Rattle.tv_model.specs.Machine.{Turn, step, answers, report, after, events_of, all_refused}
-use Rattle.tv_model.specs.Readable.{AllReadGood}
-use Rattle.tv_model.specs.SoundStates.{IsWhole}
-use Rattle.tv_model.proofs.WholeStates.{after_whole}
+use Rattle.tv_formats.specs.Names.{meta_name}
+use Rattle.tv_formats.specs.Files.{Reads, Heard, Rose, RoseBy}
+use Rattle.tv_formats.specs.Commits.{IndexForm}
+use Rattle.tv_formats.specs.Meaning.{Means, MeansNothing, MeansOther}
+use Rattle.tv_machine.specs.State.{State}
+use Rattle.tv_machine.specs.Lines.{opening_of}
+use Rattle.tv_machine.specs.declared.event.Event.{Event}
+use Rattle.tv_machine.specs.Machine.{Turn, step, answers, report, after, events_of, all_refused}
+use Rattle.tv_machine.specs.Readable.{AllReadGood}
+use Rattle.tv_machine.specs.SoundStates.{IsWhole}
+use Rattle.tv_machine.proofs.WholeStates.{after_whole}
 use Rattle.tv_directory.specs.Locks.{Locks, TakesLock}
 use Rattle.tv_directory.specs.View.{View, Told, GoesOn}
 use Rattle.tv_directory.specs.ViewLaws.{goes_on_itself}
@@ -26,7 +26,8 @@ use Rattle.tv_store.specs.Kept.{StoreState, Holds}
 use Rattle.tv_store.specs.Telling.{TellsLine, TellsNoLine}
 use Rattle.tv_store.specs.Applying.{LeavesCommit, LeavesOldOrNew, MeetsBadAt}
 use Rattle.tv_index.specs.Standing.{MetaCause, OfRead}
-use Rattle.tv_store.specs.ReadCauses.{LoadingCause, IsReadError, TakesMetaLock}
+use Rattle.tv_store.specs.Effects.{TakesMetaLock}
+use Rattle.tv_store.specs.ReadCauses.{LoadingCause, IsReadError}
 use Rattle.tv_index.specs.Opening.{OpenCause}
 use Rattle.tv_store.specs.OpeningCauses.{CallFacts, IndexMissing, IndexRefused, OpeningCause}
 use Rattle.tv_store.specs.StoreCauses.{IsBusy, IsRefusal, RefusedBehind, writer_lock_name}

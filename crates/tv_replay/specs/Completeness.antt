@@ -3,11 +3,11 @@ use Rattle.std.specs.Prelude.{ℕ, ◌≡◌, ◌<◌, ◌^◌, List, length, Op
 use Rattle.tv_base.specs.Streams.{SourceView}
 use Rattle.tv_directory.specs.Locks.{Locks}
 use Rattle.tv_directory.specs.declared.directory.Directory.{Ghosts}
-use Rattle.tv_model.specs.declared.event.Event.{Event}
-use Rattle.tv_model.specs.Files.{Reads}
-use Rattle.tv_model.specs.Schemas.{IsSchema}
-use Rattle.tv_model.specs.Index.{IsSoundStart}
-use Rattle.tv_model.specs.Script.{lines_of, AreLines}
+use Rattle.tv_machine.specs.declared.event.Event.{Event}
+use Rattle.tv_formats.specs.Files.{Reads}
+use Rattle.tv_formats.specs.Schemas.{IsSchema}
+use Rattle.tv_formats.specs.Sound.{IsSoundStart}
+use Rattle.tv_machine.specs.Script.{lines_of, AreLines}
 use Rattle.tv_replay.specs.declared.replaying.Replayed.{Replayed}
 use Rattle.tv_replay.specs.Replays.{IsRefusedAt}
 
@@ -24,9 +24,10 @@ pub record IsReady (schema : List ℕ) (script : Option (List ℕ)) (reads : Rea
   pub valid : IsScript text
   pub sound : IsSoundStart form reads held
 
--- A valid schema, a valid script, which is told, and a sound start stand before a directory that tells its content
--- and its locks, and no call but deletes, and no read of the script, is refused.
-pub record IsUndisturbed {O W C : Type 0} (g : Ghosts O W C) (before : O) (schema : List ℕ) (script script_now : SourceView) (result : Replayed O) : Type 0 where
+-- A valid schema, a valid script, which is told, and a sound start stand before a directory that tells its
+-- content and its locks, and no call but deletes, and no read of the script, is refused.
+pub record IsUndisturbed {O W C : Type 0} (g : Ghosts O W C) (before : O) (schema : List ℕ)
+    (script script_now : SourceView) (result : Replayed O) : Type 0 where
   pub content : g.told.content
   pub locks : g.told.locks
   pub ready : IsReady schema script.left (g.view before).reads (g.view before).locks

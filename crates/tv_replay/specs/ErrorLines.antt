@@ -18,7 +18,8 @@ use Rattle.tv_base.specs.declared.error.TantivyError.TheVariants as errors
 
 -- an argument that is refused: a line of the script by its text, others by one word
 abbrev pub argument_line : List ℕ → List ℕ
-argument_line text = if starts_with nat_eq text (codes "line ") then codes "error " ++ text else codes "error argument"
+argument_line text =
+    if starts_with nat_eq text (codes "line ") then codes "error " ++ text else codes "error argument"
 
 -- by the kind of a fault, where no file is named: the device refused a call, or bytes aren't of their form
 abbrev pub io_line : IoKind → List ℕ
@@ -36,7 +37,8 @@ abbrev pub format_line : Incompatibility → List ℕ
 format_line (IndexMismatch library index) = codes "error format " ++ decimal index.index_format_version
 format_line (CompressionMismatch library index) = codes "error"
 
--- A file that can't be read: the device refused it, or it has no footer, or one of another format, or it isn't there.
+-- A file that can't be read: the device refused it, or it has no footer, or one of another format, or it
+-- isn't there.
 abbrev pub read_line : OpenReadError → List ℕ
 read_line (read.IoError fault path) = fault_line fault.kind (string_bytes path)
 read_line (read.FileDoesNotExist path) = codes "error missing " ++ string_bytes path
@@ -61,7 +63,8 @@ lock_line lock.LockBusy = codes "error lock"
 lock_line (lock.IoError fault) = io_line fault.kind
 lock_line lock.Memory = codes "error memory"
 
--- The line of each error, by its variant. So far a replay answers none of those that have no line of their own.
+-- The line of each error, by its variant. So far a replay answers none of those that have no line of their
+-- own.
 abbrev pub error_line : TantivyError → List ℕ
 error_line (errors.IoError fault) = io_line fault.kind
 error_line (errors.OpenWriteError error) = write_line error

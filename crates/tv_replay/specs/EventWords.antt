@@ -1,64 +1,56 @@
 -- Reading the words of a line.
-use Rattle.std.specs.Prelude.{ℕ, ◌^◌, List, [], ◌∷◌, codes, Option, Some, None, if◌then◌else◌}
-use Rattle.tv_model.specs.declared.event.Event.{Event}
-use Rattle.tv_model.specs.declared.event.Event.TheVariants as events
-use Rattle.tv_model.specs.declared.reload_policy.ReloadPolicy.TheVariants.{Manual}
-use Rattle.tv_model.specs.Ids.{are_distinct}
-use Rattle.tv_model.specs.Names.{is}
-use Rattle.tv_replay.specs.Fields.{id_at, number_at, component_at, bytes_at, payload_at}
+use Rattle.std.specs.Prelude.{ℕ, ◌^◌, Bool, true, false, List, [], ◌∷◌, codes, Option, Some, None, if◌then◌else◌}
+use Rattle.std.specs.Str.{is_utf8}
+use Rattle.tv_machine.specs.declared.event.Event.{Event}
+use Rattle.tv_machine.specs.declared.event.Event.TheVariants as events
+use Rattle.tv_machine.specs.Script.{Kind, Word, Id, Component, Bytes, Small, Number, Payload, Policy, Value}
+use Rattle.tv_formats.specs.Ids.{are_distinct}
+use Rattle.tv_formats.specs.Names.{is}
+use Rattle.tv_replay.specs.Fields.{id_at, number_at, component_at, bytes_at, payload_at, policy_at}
 
 infixl 10 ◌>>=◌
 abbrev pub ◌>>=◌ : {A B : Type 0} → Option A → (A → Option B) → Option B
 None >>= f = None
 (Some x) >>= f = f x
 
--- the words after `segment`: an id
-abbrev pub segment_in : List (List ℕ) → Option Event
-segment_in (id ∷ []) = do
-  id ← id_at id
-  Some (events.Segment id)
-segment_in args = None
+-- a word that is a text
+abbrev pub text_in : List ℕ → Option (List ℕ)
+text_in word = if is_utf8 word then Some word else None
 
--- the words after `open`: an id and a component
-abbrev pub open_in : List (List ℕ) → Option Event
-open_in (id ∷ component ∷ []) = do
-  id ← id_at id
-  component ← component_at component
-  Some (events.Open id component)
-open_in args = None
+-- what a word stands for that is read as one of this kind; none where it isn't one
+abbrev pub value_at : (kind : Kind) → List ℕ → Option (Value kind)
+value_at (Word text) word = if is word text then Some tt else None
+value_at Id word = id_at word
+value_at Component word = component_at word
+value_at Bytes word = bytes_at word
+value_at Small word = number_at (2 ^ 32) word
+value_at Number word = number_at (2 ^ 64) word
+value_at Payload word = payload_at word
+value_at Policy word = policy_at word
 
--- the words after `write`: an id, a component and some bytes
-abbrev pub write_in : List (List ℕ) → Option Event
-write_in (id ∷ component ∷ digits ∷ []) = do
-  id ← id_at id
-  component ← component_at component
-  bytes ← bytes_at digits
-  Some (events.Write id component bytes)
-write_in args = None
+-- a function from what words of these kinds stand for to an event
+abbrev pub Makes : List Kind → Type 0
+Makes [] = Event
+Makes (kind ∷ kinds) = Value kind → Makes kinds
 
--- the words after `seal`: an id and a component
-abbrev pub seal_in : List (List ℕ) → Option Event
-seal_in (id ∷ component ∷ []) = do
-  id ← id_at id
-  component ← component_at component
-  Some (events.Seal id component)
-seal_in args = None
+-- there are as many words as kinds
+abbrev pub are_as_many : List Kind → List (List ℕ) → Bool
+are_as_many [] [] = true
+are_as_many [] (word ∷ words) = false
+are_as_many (kind ∷ kinds) [] = false
+are_as_many (kind ∷ kinds) (word ∷ words) = are_as_many kinds words
 
--- the words after `docs`: an id and a number of documents
-abbrev pub docs_in : List (List ℕ) → Option Event
-docs_in (id ∷ n ∷ []) = do
-  id ← id_at id
-  n ← number_at (2 ^ 32) n
-  Some (events.Docs id n)
-docs_in args = None
+-- the event that the first words make, one word for each kind; none where there are fewer words
+abbrev pub event_of : (kinds : List Kind) → Makes kinds → List (List ℕ) → Option Event
+event_of [] event words = Some event
+event_of (kind ∷ kinds) make [] = None
+event_of (kind ∷ kinds) make (word ∷ words) = do
+  value ← value_at kind word
+  event_of kinds (make value) words
 
--- the words after `deletes`: an id and a number of documents
-abbrev pub deletes_in : List (List ℕ) → Option Event
-deletes_in (id ∷ n ∷ []) = do
-  id ← id_at id
-  n ← number_at (2 ^ 32) n
-  Some (events.Deletes id n)
-deletes_in args = None
+-- the event that these words make, one word for each kind; none where there are more or fewer words
+abbrev pub read : (kinds : List Kind) → Makes kinds → List (List ℕ) → Option Event
+read kinds make words = if are_as_many kinds words then event_of kinds make words else None
 
 -- the ids that the words spell, where each of them spells one
 abbrev pub ids_in : List (List ℕ) → Option (List (List ℕ))
@@ -69,8 +61,8 @@ ids_in (word ∷ words) = do
   Some (id ∷ ids)
 
 -- a commit of some ids with this payload, where none of them stands twice
-abbrev pub commit_of : Option (List ℕ) → List (List ℕ) → Option Event
-commit_of payload ids = if are_distinct ids then Some (events.Commit payload ids) else None
+abbrev pub commit_event : Option (List ℕ) → List (List ℕ) → Option Event
+commit_event payload ids = if are_distinct ids then Some (events.Commit payload ids) else None
 
 -- the words after `commit`: a payload and ids, none of them twice
 abbrev pub commit_in : List (List ℕ) → Option Event
@@ -78,113 +70,70 @@ commit_in [] = None
 commit_in (word ∷ words) = do
   payload ← payload_at word
   ids ← ids_in words
-  commit_of payload ids
+  commit_event payload ids
 
--- an event without arguments
-abbrev pub alone_in : Event → List (List ℕ) → Option Event
-alone_in event [] = Some event
-alone_in event args = None
-
--- the words after `reader`: the policy `manual`
-abbrev pub reader_in : List (List ℕ) → Option Event
-reader_in (policy ∷ []) = if is policy (codes "manual") then Some (events.Reader Manual) else None
-reader_in args = None
-
--- the words after `reload`: the number of a reader
-abbrev pub reload_in : List (List ℕ) → Option Event
-reload_in (number ∷ []) = do
-  number ← number_at (2 ^ 64) number
-  Some (events.Reload number)
-reload_in args = None
-
--- the words after `searcher`: the number of a reader
-abbrev pub searcher_in : List (List ℕ) → Option Event
-searcher_in (number ∷ []) = do
-  number ← number_at (2 ^ 64) number
-  Some (events.Searcher number)
-searcher_in args = None
-
--- the words after `show`: the number of a searcher
-abbrev pub show_in : List (List ℕ) → Option Event
-show_in (number ∷ []) = do
-  number ← number_at (2 ^ 64) number
-  Some (events.Show number)
-show_in args = None
-
--- the words after `bytes`: the number of a searcher, the place of a segment and a component
-abbrev pub bytes_in : List (List ℕ) → Option Event
-bytes_in (number ∷ ord ∷ component ∷ []) = do
-  number ← number_at (2 ^ 64) number
-  ord ← number_at (2 ^ 32) ord
-  component ← component_at component
-  Some (events.Bytes number ord component)
-bytes_in args = None
-
--- what is released, by its kind and its id or number
-abbrev pub released_in : List ℕ → List ℕ → Option Event
-released_in kind subject =
-    if is kind (codes "segment") then (do
-      id ← id_at subject
-      Some (events.ReleaseSegment id))
-    else if is kind (codes "reader") then (do
-      number ← number_at (2 ^ 64) subject
-      Some (events.ReleaseReader number))
-    else if is kind (codes "searcher") then (do
-      number ← number_at (2 ^ 64) subject
-      Some (events.ReleaseSearcher number))
+-- the release of such a thing, by the words after its kind
+abbrev pub released_by : List ℕ → List (List ℕ) → Option Event
+released_by kind words =
+    if is kind (codes "segment") then read (Id ∷ []) events.ReleaseSegment words
+    else if is kind (codes "reader") then read (Number ∷ []) events.ReleaseReader words
+    else if is kind (codes "searcher") then read (Number ∷ []) events.ReleaseSearcher words
     else None
 
--- the words after `release`: what is released, and its id or number
+-- the release that the words after `release` stand for
 abbrev pub release_in : List (List ℕ) → Option Event
-release_in (kind ∷ subject ∷ []) = released_in kind subject
-release_in args = None
+release_in [] = None
+release_in (kind ∷ words) = released_by kind words
 
--- the event about a reader or a searcher, or the release, that these words stand for
-abbrev pub reader_event_in : List ℕ → List (List ℕ) → Option Event
-reader_event_in word args =
-    if is word (codes "reader") then reader_in args
-    else if is word (codes "reload") then reload_in args
-    else if is word (codes "searcher") then searcher_in args
-    else if is word (codes "show") then show_in args
-    else if is word (codes "bytes") then bytes_in args
-    else if is word (codes "release") then release_in args
+-- the event of a keyword and of the words after it: one about a reader or a searcher, or a release
+abbrev pub reader_event_by : List ℕ → List (List ℕ) → Option Event
+reader_event_by keyword words =
+    if is keyword (codes "reader") then read (Policy ∷ []) events.Reader words
+    else if is keyword (codes "reload") then read (Number ∷ []) events.Reload words
+    else if is keyword (codes "searcher") then read (Number ∷ []) events.Searcher words
+    else if is keyword (codes "show") then read (Number ∷ []) events.Show words
+    else if is keyword (codes "bytes") then read (Number ∷ Small ∷ Component ∷ []) events.Bytes words
+    else if is keyword (codes "release") then release_in words
     else None
 
--- the words after `gc-step`: the number of a collection
-abbrev pub gc_step_in : List (List ℕ) → Option Event
-gc_step_in (number ∷ []) = do
-  number ← number_at (2 ^ 64) number
-  Some (events.GcStep number)
-gc_step_in args = None
+-- the event of a keyword and of the words after it, where it is about a collection, the whole index, a
+-- reader or a searcher, or is a release
+abbrev pub index_event_by : List ℕ → List (List ℕ) → Option Event
+index_event_by keyword words =
+    if is keyword (codes "gc") then read [] events.Gc words
+    else if is keyword (codes "gc-begin") then read [] events.GcBegin words
+    else if is keyword (codes "gc-step") then read (Number ∷ []) events.GcStep words
+    else if is keyword (codes "gc-end") then read (Number ∷ []) events.GcEnd words
+    else if is keyword (codes "managed") then read [] events.Managed words
+    else if is keyword (codes "validate") then read [] events.Validate words
+    else if is keyword (codes "reopen") then read [] events.Reopen words
+    else reader_event_by keyword words
 
--- the words after `gc-end`: the number of a collection
-abbrev pub gc_end_in : List (List ℕ) → Option Event
-gc_end_in (number ∷ []) = do
-  number ← number_at (2 ^ 64) number
-  Some (events.GcEnd number)
-gc_end_in args = None
+-- the event of a keyword and of the words after it, any but one about a segment, a write and a commit
+abbrev pub file_event_by : List ℕ → List (List ℕ) → Option Event
+file_event_by keyword words =
+    if is keyword (codes "open") then read (Id ∷ Component ∷ []) events.Open words
+    else if is keyword (codes "seal") then read (Id ∷ Component ∷ []) events.Seal words
+    else index_event_by keyword words
 
--- the event about a collection, about a reader or a searcher, or the release, that these words stand for
-abbrev pub collection_event_in : List ℕ → List (List ℕ) → Option Event
-collection_event_in word args =
-    if is word (codes "gc") then alone_in events.Gc args
-    else if is word (codes "gc-begin") then alone_in events.GcBegin args
-    else if is word (codes "gc-step") then gc_step_in args
-    else if is word (codes "gc-end") then gc_end_in args
-    else reader_event_in word args
+-- the event of a keyword and of the words after it, any but a write and a commit
+abbrev pub segment_event_by : List ℕ → List (List ℕ) → Option Event
+segment_event_by keyword words =
+    if is keyword (codes "segment") then read (Id ∷ []) events.Segment words
+    else if is keyword (codes "docs") then read (Id ∷ Small ∷ []) events.Docs words
+    else if is keyword (codes "deletes") then read (Id ∷ Small ∷ []) events.Deletes words
+    else file_event_by keyword words
+
+-- the event of a keyword and of the words after it
+abbrev pub event_by : List ℕ → List (List ℕ) → Option Event
+event_by keyword words =
+    if is keyword (codes "write") then read (Id ∷ Component ∷ Bytes ∷ []) events.Write words
+    else if is keyword (codes "commit") then commit_in words
+    else segment_event_by keyword words
 
 -- the event that these words stand for
 abbrev pub event_in : List (List ℕ) → Option Event
 event_in [] = None
-event_in (word ∷ args) =
-    if is word (codes "segment") then segment_in args
-    else if is word (codes "open") then open_in args
-    else if is word (codes "write") then write_in args
-    else if is word (codes "seal") then seal_in args
-    else if is word (codes "docs") then docs_in args
-    else if is word (codes "deletes") then deletes_in args
-    else if is word (codes "commit") then commit_in args
-    else if is word (codes "managed") then alone_in events.Managed args
-    else if is word (codes "validate") then alone_in events.Validate args
-    else if is word (codes "reopen") then alone_in events.Reopen args
-    else collection_event_in word args
+event_in (word ∷ words) = do
+  keyword ← text_in word
+  event_by keyword words

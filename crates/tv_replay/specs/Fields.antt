@@ -5,9 +5,11 @@ use Rattle.std.specs.Str.{is_utf8}
 use Rattle.std.specs.Str.Parse.{digits_value}
 use Rattle.hex.specs.Hex.{encode_lower, decode_of, decode_sized}
 use Rattle.hex.specs.declared.error.FromHexError.{FromHexError}
-use Rattle.tv_model.specs.declared.segment.SegmentComponent.{SegmentComponent}
-use Rattle.tv_model.specs.Names.{is}
-use Rattle.tv_model.specs.Segments.{components, extension}
+use Rattle.tv_machine.specs.declared.reload_policy.ReloadPolicy.{ReloadPolicy}
+use Rattle.tv_machine.specs.declared.reload_policy.ReloadPolicy.TheVariants.{Manual}
+use Rattle.tv_formats.specs.declared.segment.SegmentComponent.{SegmentComponent}
+use Rattle.tv_formats.specs.Names.{is}
+use Rattle.tv_formats.specs.Segments.{components, extension}
 
 -- the bytes, where the word is how they are printed
 abbrev pub printed_id : List ℕ → Result (List ℕ) FromHexError → Option (List ℕ)
@@ -54,4 +56,9 @@ signed_text_at (sign ∷ digits) = if sign == 43 then text_at digits else None
 
 -- the payload that a word spells: none by a `-`, or a text
 abbrev pub payload_at : List ℕ → Option (Option (List ℕ))
-payload_at word = if is word (codes "-") then Some None else option_map (λ text. Some text) (signed_text_at word)
+payload_at word =
+    if is word (codes "-") then Some None else option_map (λ text. Some text) (signed_text_at word)
+
+-- the policy that a word names
+abbrev pub policy_at : List ℕ → Option ReloadPolicy
+policy_at word = if is word (codes "manual") then Some Manual else None

@@ -1,6 +1,6 @@
 -- A place of real folders and files, of which nothing is told.
 use Rattle.std.specs.Prelude.{ℕ, List, [], Option, None}
-use Rattle.tv_directory.specs.Device.{counted}
+use Rattle.tv_base.specs.Texts.{counted}
 use Rattle.tv_replay.specs.PlaceView.{PlaceView}
 
 -- the folder that is lent, and how many calls were refused
@@ -20,5 +20,5 @@ place_view place = record {
 }
 
 -- after a refused call
-abbrev pub refused : FolderPlaceState → FolderPlaceState
-refused place = record place { faults = counted place.faults }
+abbrev pub folder_refused : FolderPlaceState → FolderPlaceState
+folder_refused place = record place { faults = counted place.faults }

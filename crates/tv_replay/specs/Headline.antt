@@ -1,15 +1,17 @@
--- What a replay that answers Ok gives from a sound start: the lines of a run of the machine, and the files and the list of that run.
+-- What a replay that answers Ok gives from a sound start: the lines of a run of the machine, and the files
+-- and the list of that run.
 use Rattle.std.specs.Prelude.{ℕ, ◌≡◌, List, [], length, Some}
 use Rattle.tv_directory.specs.declared.directory.Directory.{Ghosts}
-use Rattle.tv_model.specs.Files.{RoseBy}
-use Rattle.tv_model.specs.Index.{FileReads, IsFileOf, IsSoundStart, OpenedIndex}
-use Rattle.tv_model.specs.Listing.{Listing}
-use Rattle.tv_model.specs.Machine.{Turn, after, report, events_of, all_refused}
-use Rattle.tv_model.specs.Meaning.{Means}
-use Rattle.tv_model.specs.Names.{meta_name}
-use Rattle.tv_model.specs.Schemas.{stripped}
-use Rattle.tv_model.specs.Script.{lines_of, AreLines}
-use Rattle.tv_model.specs.State.{file_at}
+use Rattle.tv_formats.specs.Files.{RoseBy}
+use Rattle.tv_machine.specs.Index.{FileReads, IsFileOf, OpenedIndex}
+use Rattle.tv_formats.specs.Sound.{IsSoundStart}
+use Rattle.tv_formats.specs.Listing.{Listing}
+use Rattle.tv_machine.specs.Machine.{Turn, after, report, events_of, all_refused}
+use Rattle.tv_formats.specs.Meaning.{Means}
+use Rattle.tv_formats.specs.Names.{meta_name}
+use Rattle.tv_formats.specs.Schemas.{stripped}
+use Rattle.tv_machine.specs.Script.{lines_of, AreLines}
+use Rattle.tv_machine.specs.State.{file_at}
 use Rattle.tv_store.specs.Stays.{KeepsDotted}
 use Rattle.tv_store.specs.Telling.{TellsLines}
 use Rattle.tv_replay.specs.declared.replaying.Tally.{Tally}
@@ -18,7 +20,8 @@ use Rattle.tv_replay.specs.PlaceView.{PlaceTold}
 use Rattle.tv_replay.specs.Runs.{Scene}
 
 -- A run of the machine on the whole script was told, line by line, and its files and its list were left.
-pub record Headline {O W C : Type 0} (g : Ghosts O W C) (before now : O) (schema script : List ℕ) (tally : Tally) : Type 0 where
+pub record Headline {O W C : Type 0} (g : Ghosts O W C) (before now : O) (schema script : List ℕ)
+    (tally : Tally) : Type 0 where
   -- the index that stood in the directory, or a new one where there was none: the run starts at its state
   pub index : OpenedIndex schema (g.view before).reads
   -- the run: its events, each with the outcomes of the deletes that it asked for
@@ -27,14 +30,19 @@ pub record Headline {O W C : Type 0} (g : Ghosts O W C) (before now : O) (schema
   pub whole : AreLines (lines_of script) (events_of turns)
   -- so many lines were counted
   pub counted : tally.events ≡ length turns
-  -- all that was told is the machine's report, one line after the other: the opening line, and what each event answers
-  pub told : TellsLines (g.view before).heard (g.view now).heard (g.view before).moment (g.view now).moment (report index.state turns)
+  -- all that was told is the machine's report, one line after the other: the opening line, and what each
+  -- event answers
+  pub told : TellsLines (g.view before).heard (g.view now).heard (g.view before).moment (g.view now).moment
+      (report index.state turns)
   -- each delete that failed in the run was refused by the directory, which counted it
   pub refused : RoseBy (all_refused turns) (g.view before).refusals (g.view now).refusals
-  -- each file is that of the run's last state: a sealed one reads its bytes, an unsealed one is there, and there is no other
-  pub files : (n : List ℕ) → IsFileOf n → FileReads (file_at (after index.state turns) n) ((g.view now).reads n)
+  -- each file is that of the run's last state: a sealed one reads its bytes, an unsealed one is there, and
+  -- there is no other
+  pub files : (n : List ℕ) → IsFileOf n
+      → FileReads (file_at (after index.state turns) n) ((g.view now).reads n)
   -- `meta.json` means the last state's commit, under the settings and the schema of the index
-  pub meta : (bytes : List ℕ) × ((g.view now).reads meta_name ≡ Some bytes) × Means index.form.settings index.form.schema bytes (after index.state turns).catalog.commit
+  pub meta : (bytes : List ℕ) × ((g.view now).reads meta_name ≡ Some bytes)
+      × Means index.form.settings index.form.schema bytes (after index.state turns).catalog.commit
   -- the list names the last state's managed files, and no other
   pub managed : Listing (g.view now).reads (after index.state turns).managed
   -- every other file with a dot in front reads what it read
@@ -42,9 +50,10 @@ pub record Headline {O W C : Type 0} (g : Ghosts O W C) (before now : O) (schema
   -- what is left is a sound start again
   pub sound : IsSoundStart (stripped schema) (g.view now).reads (g.view now).locks
 
--- A run for `replay FOLDER SCHEMA` that starts soundly: what the place and the directory in this folder have is told, and that directory is a sound start under the
--- schema.
-pub record StartsSoundly {O W C : Type 0} (g : Ghosts O W C) (told : PlaceTold) (words : List (List ℕ)) (old : Scene O) : Type 0 where
+-- A run for `replay FOLDER SCHEMA` that starts soundly: what the place and the directory in this folder have
+-- is told, and that directory is a sound start under the schema.
+pub record StartsSoundly {O W C : Type 0} (g : Ghosts O W C) (told : PlaceTold) (words : List (List ℕ))
+    (old : Scene O) : Type 0 where
   -- the words name a folder and the path of a schema
   pub folder : List ℕ
   pub path : List ℕ
@@ -66,7 +75,8 @@ pub record StartsSoundly {O W C : Type 0} (g : Ghosts O W C) (told : PlaceTold) 
   pub sound : IsSoundStart (stripped schema) (g.view before).reads (g.view before).locks
 
 -- What a run that starts soundly leaves where it ends with 0.
-pub record RunsSoundly {O W C : Type 0} {g : Ghosts O W C} {told : PlaceTold} {words : List (List ℕ)} {old : Scene O} (start : StartsSoundly g told words old) (new : Scene O) : Type 0 where
+pub record RunsSoundly {O W C : Type 0} {g : Ghosts O W C} {told : PlaceTold} {words : List (List ℕ)}
+    {old : Scene O} (start : StartsSoundly g told words old) (new : Scene O) : Type 0 where
   -- the folder holds a directory again
   pub now : O
   pub given_back : new.place.kept start.folder ≡ Some now

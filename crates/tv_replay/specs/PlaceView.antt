@@ -1,6 +1,6 @@
 -- What is said of a place, what its calls do and keep, and why they fail.
 use Rattle.std.specs.Prelude.{ℕ, ◌≡◌, List, [], ◌∷◌, ◌++◌, Option, Some, None, Result, IfOk, IfErr, OnOk, OnErr}
-use Rattle.tv_model.specs.Files.{Rose}
+use Rattle.tv_formats.specs.Files.{Rose}
 use Rattle.tv_base.specs.Causes.{IsDevice, IoCause}
 use Rattle.tv_base.specs.Streams.{SourceView}
 use Rattle.tv_base.specs.declared.io.IoFault.{IoFault}
@@ -38,7 +38,8 @@ pub record OnlyLends {O : Type 0} (told : PlaceTold) (old new : PlaceView O) : T
   pub texts : KeepsTexts told old new
   pub said : new.said ≡ old.said
 
--- What a call keeps that may say something: the schemas, the scripts, what each folder holds, and which one is lent.
+-- What a call keeps that may say something: the schemas, the scripts, what each folder holds, and which one
+-- is lent.
 pub record KeepsFolders {O : Type 0} (told : PlaceTold) (old new : PlaceView O) : Type 0 where
   pub texts : KeepsTexts told old new
   pub folders : told.content → (folder : List ℕ) → new.kept folder ≡ old.kept folder
@@ -49,7 +50,8 @@ pub record PlaceKept {O : Type 0} (told : PlaceTold) (old new : PlaceView O) : T
   pub folders : KeepsFolders told old new
   pub said : new.said ≡ old.said
 
--- A call fails where the place refused it, and the count rose; or where memory was wanted, and then, as at Ok, the count stands still.
+-- A call fails where the place refused it, and the count rose; or where memory was wanted, and then, as at
+-- Ok, the count stands still.
 pub record PlaceFaults {A O : Type 0} (old new : PlaceView O) (result : Result A IoError) : Type 0 where
   pub quiet : OnOk result (new.faults ≡ old.faults)
   pub cause : IfErr result (IoCause (Rose old.faults new.faults) (new.faults ≡ old.faults))
@@ -62,13 +64,16 @@ LendCause refused quiet (directory.FailedToCreateTempDir fault) = ⊥
 LendCause refused quiet (directory.IoError fault path) = IsDevice fault × refused
 LendCause refused quiet directory.Memory = quiet
 
--- A call that lends a folder fails for one of these causes; at Ok, and where memory was wanted, the count stands still.
-pub record LendFaults {A O : Type 0} (old new : PlaceView O) (result : Result A OpenDirectoryError) : Type 0 where
+-- A call that lends a folder fails for one of these causes; at Ok, and where memory was wanted, the count
+-- stands still.
+pub record LendFaults {A O : Type 0} (old new : PlaceView O)
+    (result : Result A OpenDirectoryError) : Type 0 where
   pub quiet : OnOk result (new.faults ≡ old.faults)
   pub cause : IfErr result (LendCause (Rose old.faults new.faults) (new.faults ≡ old.faults))
 
 -- The directory of the folder is lent; where it isn't, nothing is.
-pub record Lends {O : Type 0} (told : PlaceTold) (old new : PlaceView O) (folder : List ℕ) (result : Result O OpenDirectoryError) : Type 0 where
+pub record Lends {O : Type 0} (told : PlaceTold) (old new : PlaceView O) (folder : List ℕ)
+    (result : Result O OpenDirectoryError) : Type 0 where
   pub given : told.content → IfOk result (λ outside. old.kept folder ≡ Some outside)
   pub lent : OnOk result (new.lent ≡ Some folder)
   pub free : OnErr result (new.lent ≡ None)
@@ -89,11 +94,13 @@ abbrev pub SaysPart : List ℕ → List ℕ → List ℕ → Type 0
 SaysPart before now line = (part : List ℕ) × (rest : List ℕ) × (line ≡ part ++ rest) × (now ≡ before ++ part)
 
 -- The line was said, with a line feed; where it was refused, a part of it may have been.
-pub record Says {A O : Type 0} (told : PlaceTold) (old new : PlaceView O) (line : List ℕ) (result : Result A IoFault) : Type 0 where
+pub record Says {A O : Type 0} (told : PlaceTold) (old new : PlaceView O) (line : List ℕ)
+    (result : Result A IoFault) : Type 0 where
   pub ok : told.said → OnOk result (new.said ≡ old.said ++ line ++ 10 ∷ [])
   pub err : told.said → OnErr result (SaysPart old.said new.said line)
 
--- A line isn't said only where the place refused it, and the count rose. A refusal that was counted before is counted still.
+-- A line isn't said only where the place refused it, and the count rose. A refusal that was counted before is
+-- counted still.
 pub record SayFaults {A O : Type 0} (old new : PlaceView O) (result : Result A IoFault) : Type 0 where
   pub quiet : OnOk result (new.faults ≡ old.faults)
   pub cause : IfErr result (λ fault. IsDevice fault × Rose old.faults new.faults)

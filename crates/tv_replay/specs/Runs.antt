@@ -3,7 +3,7 @@ use Rattle.std.specs.Prelude.{ℕ, ◌≡◌, ◌≢◌, ◌<◌, ◌≤◌, ◌
 use Rattle.tv_base.specs.Streams.{SourceView}
 use Rattle.tv_base.specs.declared.error.TantivyError.{TantivyError}
 use Rattle.tv_base.specs.declared.error.TantivyError.TheVariants as errors
-use Rattle.tv_model.specs.Files.{Rose}
+use Rattle.tv_formats.specs.Files.{Rose}
 use Rattle.tv_directory.specs.Telling.{TellsPart}
 use Rattle.tv_directory.specs.View.{View, Told, OnlyTells}
 use Rattle.tv_directory.specs.declared.directory.Directory.{Ghosts}
@@ -18,7 +18,8 @@ use Rattle.tv_replay.specs.Replays.{Replays, ReplayFrame, IsReadOut, IsQuietAt, 
 
 -- what is said where the words are others
 abbrev pub usage_line : List ℕ
-usage_line = codes "usage: tv replay FOLDER SCHEMA | space FOLDER SCHEMA | generate N | race FOLDER SCHEMA HANDLES SCRIPT.."
+usage_line =
+    codes "usage: tv replay FOLDER SCHEMA | space FOLDER SCHEMA | generate N | race FOLDER SCHEMA HANDLES SCRIPT.."
 
 -- what is said of a schema that the place refused
 abbrev pub schema_line : List ℕ
@@ -42,14 +43,15 @@ SaysLine told old new line =
     ((new.faults ≡ old.faults) × (told.said → new.said ≡ old.said ++ line ++ 10 ∷ []))
     ⊎ (Rose old.faults new.faults × (told.said → SaysPart old.said new.said line))
 
--- Only a line was said, or a part of it where the place refused that; the schemas, the scripts and what the folders hold stay. A refusal that was counted before is
--- counted still.
+-- Only a line was said, or a part of it where the place refused that; the schemas, the scripts and what the
+-- folders hold stay. A refusal that was counted before is counted still.
 pub record OnlySays {O : Type 0} (told : PlaceTold) (old new : PlaceView O) (line : List ℕ) : Type 0 where
   pub says : SaysLine told old new line
   pub counted : (before : ℕ) → Rose before old.faults → Rose before new.faults
   pub frame : KeepsFolders told old new
 
--- The place refused a call, and counted that. Then only this line was said, or a part of it where the place refused that too.
+-- The place refused a call, and counted that. Then only this line was said, or a part of it where the place
+-- refused that too.
 pub record PlaceRefuses {O : Type 0} (told : PlaceTold) (old new : PlaceView O) (line : List ℕ) : Type 0 where
   pub refused : Rose old.faults new.faults
   pub says : told.said → (new.said ≡ old.said ++ line ++ 10 ∷ []) ⊎ SaysPart old.said new.said line
@@ -67,7 +69,8 @@ pub record IsStatusOf (error : TantivyError) (status : ℕ) : Type 0 where
   pub statuses : (status ≡ 1) ⊎ (status ≡ 3)
 
 -- Only the line of an error was said, or the one for want of memory, as the status says.
-pub record SaysError {O : Type 0} (told : PlaceTold) (old new : PlaceView O) (error : TantivyError) (status : ℕ) : Type 0 where
+pub record SaysError {O : Type 0} (told : PlaceTold) (old new : PlaceView O) (error : TantivyError)
+    (status : ℕ) : Type 0 where
   pub lent : new.lent ≡ old.lent
   pub other : status ≡ 1 → (error ≢ errors.Memory) × OnlySays told old new (error_line error)
   pub memory : status ≡ 3 → OnlySays told old new memory_line
@@ -82,7 +85,8 @@ pub record SaysSummary {O : Type 0} (told : PlaceTold) (n : ℕ) (old new : Plac
 
 -- The summary of a generated script was to be said, and the place refused that: a part of it was said at
 -- most. Then this line was said, or a part of it where the place refused that too.
-pub record RefusesSummary {O : Type 0} (told : PlaceTold) (n : ℕ) (old new : PlaceView O) (line : List ℕ) : Type 0 where
+pub record RefusesSummary {O : Type 0} (told : PlaceTold) (n : ℕ) (old new : PlaceView O)
+    (line : List ℕ) : Type 0 where
   pub summary : List ℕ
   pub summary_is : IsSummaryOf n summary
   pub between : PlaceView O
@@ -90,8 +94,10 @@ pub record RefusesSummary {O : Type 0} (told : PlaceTold) (n : ℕ) (old new : P
   pub part : told.said → SaysPart old.said between.said summary
   pub says : OnlySays told between new line
 
--- What stands after a script of so many commits was to be generated and replayed, and that ended with this status.
-pub record EndsGenerate {O : Type 0} (told : PlaceTold) (n : ℕ) (old new : PlaceView O) (status : ℕ) : Type 0 where
+-- What stands after a script of so many commits was to be generated and replayed, and that ended with this
+-- status.
+pub record EndsGenerate {O : Type 0} (told : PlaceTold) (n : ℕ) (old new : PlaceView O)
+    (status : ℕ) : Type 0 where
   -- 0: its summary was said
   pub done : status ≡ 0 → SaysSummary told n old new
   -- 1: the place refused that
@@ -102,7 +108,8 @@ pub record EndsGenerate {O : Type 0} (told : PlaceTold) (n : ℕ) (old new : Pla
   pub frame : KeepsFolders told old new
 
 -- The line was told, at a moment of the call; or no more than a first part of it was, without its line feed.
-pub record TellsOrPart {W : Type 0} (told : Told) (old new : View W) (line : List ℕ) (is_told : Bool) : Type 0 where
+pub record TellsOrPart {W : Type 0} (told : Told) (old new : View W) (line : List ℕ)
+    (is_told : Bool) : Type 0 where
   pub whole : told.heard → is_told ≡ true → TellsLine old.heard new.heard old.moment new.moment line
   pub part : told.heard → is_told ≡ false → (told_at : ℕ) × TellsPart old.heard new.heard told_at line
   pub faults : (new.faults ≡ old.faults) ⊎ Rose old.faults new.faults
@@ -117,7 +124,8 @@ pub record Scene (O : Type 0) : Type 0 where
 abbrev pub KeepsScript : {O : Type 0} → (old new : Scene O) → Type 0
 KeepsScript old new = new.script ≡ old.script
 
--- a replay that a run was asked for, over a folder, with the schema of a path; and what the run stood in before and after
+-- a replay that a run was asked for, over a folder, with the schema of a path; and what the run stood in
+-- before and after
 pub record AskedReplay (O : Type 0) : Type 0 where
   pub folder : List ℕ
   pub path : List ℕ
@@ -127,16 +135,20 @@ pub record AskedReplay (O : Type 0) : Type 0 where
 -- the place has no schema there, or it has one and refused the folder; and the line of that was said
 abbrev pub RefusesReplay : {O : Type 0} → PlaceTold → AskedReplay O → Type 0
 RefusesReplay told asked =
-    ((told.content → asked.old.place.schemas asked.path ≡ None) × PlaceRefuses told asked.old.place asked.new.place schema_line)
-    ⊎ ((told.content → IsSome (asked.old.place.schemas asked.path)) × PlaceRefuses told asked.old.place asked.new.place folder_line)
+    ((told.content → asked.old.place.schemas asked.path ≡ None)
+    × PlaceRefuses told asked.old.place asked.new.place schema_line)
+    ⊎ ((told.content → IsSome (asked.old.place.schemas asked.path))
+    × PlaceRefuses told asked.old.place asked.new.place folder_line)
 
 -- memory was wanted for the schema or for the folder, or for the line of a refusal
 abbrev pub WantsMemory : {O : Type 0} → PlaceTold → AskedReplay O → Type 0
-WantsMemory told asked = OnlySays told asked.old.place asked.new.place memory_line ⊎ PlaceRefuses told asked.old.place asked.new.place memory_line
+WantsMemory told asked =
+    OnlySays told asked.old.place asked.new.place memory_line
+    ⊎ PlaceRefuses told asked.old.place asked.new.place memory_line
 
 module _ {O W C : Type 0} (g : Ghosts O W C) (told : PlaceTold) where
-  -- The whole script was replayed over the directory that was lent for the folder, with the schema of the path. It was given back, nothing was said, and no call was
-  -- refused.
+  -- The whole script was replayed over the directory that was lent for the folder, with the schema of the
+  -- path. It was given back, nothing was said, and no call was refused.
   pub record Succeeds (asked : AskedReplay O) : Type 0 where
     pub before : O
     pub now : O
@@ -152,19 +164,24 @@ module _ {O W C : Type 0} (g : Ghosts O W C) (told : PlaceTold) where
     pub texts : KeepsTexts told asked.old.place asked.new.place
     pub silent : SaysNothing asked.old.place asked.new.place
 
-  -- The directory that was lent was given back: it reads what it read when the replay stopped, the same locks are held, and nobody was registered or called. A line
-  -- was told to it, and nothing was said; or no more than a part of the line was told, and the line was said.
+  -- The directory that was lent was given back: it reads what it read when the replay stopped, the same locks
+  -- are held, and nobody was registered or called. A line was told to it, and nothing was said; or no more
+  -- than a part of the line was told, and the line was said.
   pub record Reports (stopped : O) (old new : PlaceView O) (line : List ℕ) : Type 0 where
     pub now : O
     pub given_back : told.content → (folder : List ℕ) → old.lent ≡ Some folder → new.kept folder ≡ Some now
     pub texts : KeepsTexts told old new
-    pub faults : ((g.view now).faults ≡ (g.view stopped).faults) ⊎ Rose (g.view stopped).faults (g.view now).faults
+    pub faults : ((g.view now).faults ≡ (g.view stopped).faults)
+        ⊎ Rose (g.view stopped).faults (g.view now).faults
     pub frame : OnlyTells g.told (g.view stopped) (g.view now)
     pub reported :
-        ((g.told.heard → TellsLine (g.view stopped).heard (g.view now).heard (g.view stopped).moment (g.view now).moment line) × SaysNothing old new)
-        ⊎ ((g.told.heard → (told_at : ℕ) × TellsPart (g.view stopped).heard (g.view now).heard told_at line) × SaysLine told old new line)
+        ((g.told.heard → TellsLine (g.view stopped).heard (g.view now).heard (g.view stopped).moment
+        (g.view now).moment line) × SaysNothing old new)
+        ⊎ ((g.told.heard → (told_at : ℕ) × TellsPart (g.view stopped).heard (g.view now).heard told_at line)
+        × SaysLine told old new line)
 
-  -- The replay over the directory that was lent for the folder, with the schema of the path, answered this error, for its cause, and then a line was reported.
+  -- The replay over the directory that was lent for the folder, with the schema of the path, answered this
+  -- error, for its cause, and then a line was reported.
   pub record Stops (asked : AskedReplay O) (error : TantivyError) (line : List ℕ) : Type 0 where
     pub before : O
     pub stopped : O
@@ -182,32 +199,40 @@ module _ {O W C : Type 0} (g : Ghosts O W C) (told : PlaceTold) where
   pub record EndsReplay (asked : AskedReplay O) (status : ℕ) : Type 0 where
     -- 0: the whole script was replayed
     pub done : status ≡ 0 → Succeeds asked
-    -- 1: the place refused the schema or the folder, and the script is as it was; or the replay answered an error that isn't want of memory
+    -- 1: the place refused the schema or the folder, and the script is as it was; or the replay answered an
+    -- error that isn't want of memory
     pub failed :
         status ≡ 1
         → (RefusesReplay told asked × KeepsScript asked.old asked.new)
         ⊎ ((error : TantivyError) × (error ≢ errors.Memory) × Stops asked error (error_line error))
-    -- 3: memory was wanted before a replay began, and the script is as it was; or it was wanted by the replay or for the line of its error
+    -- 3: memory was wanted before a replay began, and the script is as it was; or it was wanted by the replay
+    -- or for the line of its error
     pub memory :
         status ≡ 3
         → (WantsMemory told asked × KeepsScript asked.old asked.new)
         ⊎ ((error : TantivyError) × Stops asked error memory_line)
     pub statuses : (status ≡ 0) ⊎ (status ≡ 1) ⊎ (status ≡ 3)
 
-  -- The line of an error was reported, or the one for want of memory, as the status says; and no directory is lent.
-  pub record ReportsError (stopped : O) (old new : PlaceView O) (error : TantivyError) (status : ℕ) : Type 0 where
+  -- The line of an error was reported, or the one for want of memory, as the status says; and no directory is
+  -- lent.
+  pub record ReportsError (stopped : O) (old new : PlaceView O) (error : TantivyError)
+      (status : ℕ) : Type 0 where
     pub free : new.lent ≡ None
     pub other : status ≡ 1 → (error ≢ errors.Memory) × Reports stopped old new (error_line error)
     pub memory : status ≡ 3 → Reports stopped old new memory_line
     pub statuses : (status ≡ 1) ⊎ (status ≡ 3)
 
-  -- What stands after a run of these words: a script was replayed, or one was generated, and that of the caller is as it was.
+  -- What stands after a run of these words: a script was replayed, or one was generated, and that of the
+  -- caller is as it was.
   pub record EndsRun (words : List (List ℕ)) (old new : Scene O) (status : ℕ) : Type 0 where
-    pub replayed : (folder path : List ℕ) → words ≡ replay_words folder path → EndsReplay (record { folder = folder; path = path; old = old; new = new }) status
-    pub generated : (n : ℕ) → n ≤ most_commits → words ≡ generate_words n → EndsGenerate told n old.place new.place status × KeepsScript old new
+    pub replayed : (folder path : List ℕ) → words ≡ replay_words folder path
+        → EndsReplay (record { folder = folder; path = path; old = old; new = new }) status
+    pub generated : (n : ℕ) → n ≤ most_commits → words ≡ generate_words n
+        → EndsGenerate told n old.place new.place status × KeepsScript old new
 
-  -- A run that replays a script over a folder, with the schema of a path, where all of this is told: both are there, they and the script are ready for a replay, and
-  -- nothing is refused, neither by the place nor by the directory nor in the script.
+  -- A run that replays a script over a folder, with the schema of a path, where all of this is told: both are
+  -- there, they and the script are ready for a replay, and nothing is refused, neither by the place nor by
+  -- the directory nor in the script.
   pub record IsUndisturbedRun (words : List (List ℕ)) (old new : Scene O) : Type 0 where
     pub folder : List ℕ
     pub path : List ℕ

@@ -1,6 +1,6 @@
 -- Why nothing was taken from a script.
 use Rattle.std.specs.Prelude.{ℕ, ◌≡◌, List, Option, Some, Result, IfErr, OnOk}
-use Rattle.tv_model.specs.Files.{Rose}
+use Rattle.tv_formats.specs.Files.{Rose}
 use Rattle.tv_base.specs.Causes.{IsDevice}
 use Rattle.tv_base.specs.Streams.{SourceView}
 use Rattle.tv_base.specs.declared.error.TantivyError.{TantivyError}
@@ -42,12 +42,14 @@ UnlessIoError known (errors.IoError fault) = Unit {0}
 UnlessIoError known other = known
 
 -- No read was refused where a line was taken; and why none was.
-pub record LineFaults {A : Type 0} (script : Option (List ℕ)) (old new : SourceView) (result : Result A LineError) : Type 0 where
+pub record LineFaults {A : Type 0} (script : Option (List ℕ)) (old new : SourceView)
+    (result : Result A LineError) : Type 0 where
   pub quiet : OnOk result (new.faults ≡ old.faults)
   pub cause : IfErr result (LineCause script (Rose old.faults new.faults) (new.faults ≡ old.faults))
 
 -- No read was refused where an event was taken; and why none was.
-pub record ScriptFaults {A : Type 0} (script : Option (List ℕ)) (old new : SourceView) (result : Result A ScriptError) : Type 0 where
+pub record ScriptFaults {A : Type 0} (script : Option (List ℕ)) (old new : SourceView)
+    (result : Result A ScriptError) : Type 0 where
   pub quiet : OnOk result (new.faults ≡ old.faults)
   pub cause : IfErr result (ScriptCause script (Rose old.faults new.faults) (new.faults ≡ old.faults))
 

@@ -1,10 +1,10 @@
 -- A script that comes in pieces, and what is taken from its front.
 use Rattle.std.specs.Prelude.{ℕ, ◌≡◌, ◌≢◌, ◌<◌, ◌≤◌, Bool, true, false, List, [], ◌∷◌, ◌++◌, ◌+◌, length, slice_index, Option, Some, None, option_map}
-use Rattle.tv_base.specs.Streams.{Reads, IsAtEnd}
-use Rattle.tv_model.specs.declared.event.Event.{Event}
-use Rattle.tv_model.specs.Lines.{has_no_feed}
-use Rattle.tv_model.specs.Script.{line_limit, lines_of, Fits, IsLine}
-use Rattle.tv_store.specs.Applying.{written_by}
+use Rattle.tv_base.specs.Streams.{ReadsPiece, IsAtEnd}
+use Rattle.tv_machine.specs.declared.event.Event.{Event}
+use Rattle.tv_formats.specs.Files.{has_no_feed}
+use Rattle.tv_machine.specs.Script.{line_limit, lines_of, Fits, IsLine}
+use Rattle.tv_store.specs.Effects.{written_by}
 
 -- what is held, and after it what is left, where that is told
 abbrev pub pending : List ℕ → Option (List ℕ) → Option (List ℕ)
@@ -34,17 +34,20 @@ pub record IsFeedAt (bytes : List ℕ) (place : ℕ) : Type 0 where
 
 -- these bytes came off the front of what was left, where that is told; none come only at its end
 pub record Fills (held : List ℕ) (before after : Option (List ℕ)) : Type 0 where
-  pub bytes : Reads held before after
+  pub bytes : ReadsPiece held before after
   pub end : held ≡ [] → IsAtEnd before
 
--- the bytes up to the first line feed were moved to the end of a line, and that line feed was taken out; or all bytes, where there is none
+-- the bytes up to the first line feed were moved to the end of a line, and that line feed was taken out; or
+-- all bytes, where there is none
 abbrev pub Moves : Bool → List ℕ → List ℕ → List ℕ → List ℕ → Type 0
-Moves true held rest line longer = (front : List ℕ) × NoFeed front × (held ≡ front ++ 10 ∷ rest) × (longer ≡ line ++ front)
+Moves true held rest line longer =
+    (front : List ℕ) × NoFeed front × (held ≡ front ++ 10 ∷ rest) × (longer ≡ line ++ front)
 Moves false held rest line longer = NoFeed held × (rest ≡ []) × (longer ≡ line ++ held)
 
 -- the first line of a script was taken; or there is none, and nothing is left
 abbrev pub TakesLine : List ℕ → Option (List ℕ) → Option (List ℕ) → Type 0
-TakesLine script (Some line) left = (rest : List ℕ) × (left ≡ Some rest) × (lines_of script ≡ line ∷ lines_of rest)
+TakesLine script (Some line) left =
+    (rest : List ℕ) × (left ≡ Some rest) × (lines_of script ≡ line ∷ lines_of rest)
 TakesLine script None left = (script ≡ []) × (left ≡ Some [])
 
 -- where the script is told, its first line was taken, or there is none
@@ -53,7 +56,8 @@ TakesNext before found after = (script : List ℕ) → before ≡ Some script �
 
 -- the first line of a script is longer than a line may be
 abbrev pub IsTooLong : List ℕ → Type 0
-IsTooLong script = (line : List ℕ) × (lines : List (List ℕ)) × (lines_of script ≡ line ∷ lines) × (line_limit < length line)
+IsTooLong script =
+    (line : List ℕ) × (lines : List (List ℕ)) × (lines_of script ≡ line ∷ lines) × (line_limit < length line)
 
 -- a script begins with these bytes of its first line, and this is left of it
 abbrev pub BeginsLine : List ℕ → List ℕ → Option (List ℕ) → Type 0
@@ -62,7 +66,8 @@ BeginsLine script line left = (rest : List ℕ) × (left ≡ Some rest) × (scri
 -- the first line of a script was taken, and it is this event's; or there is none, and nothing is left
 abbrev pub TakesEvent : List ℕ → Option Event → Option (List ℕ) → Type 0
 TakesEvent script (Some event) left =
-    (text : List ℕ) × (rest : List ℕ) × (left ≡ Some rest) × (lines_of script ≡ text ∷ lines_of rest) × IsLine text event
+    (text : List ℕ) × (rest : List ℕ) × (left ≡ Some rest)
+    × (lines_of script ≡ text ∷ lines_of rest) × IsLine text event
 TakesEvent script None left = (script ≡ []) × (left ≡ Some [])
 
 -- where the script is told, its first line was taken, and it is this event's; or there is none
@@ -77,4 +82,5 @@ pub record FitsLine (event : Event) : Type 0 where
 -- the first line of a script is no longer than a line may be, and no event's
 abbrev pub IsNoEvent : List ℕ → Type 0
 IsNoEvent script =
-    (text : List ℕ) × (texts : List (List ℕ)) × (lines_of script ≡ text ∷ texts) × (length text ≤ line_limit) × ((event : Event) → IsLine text event → ⊥)
+    (text : List ℕ) × (texts : List (List ℕ)) × (lines_of script ≡ text ∷ texts) × (length text ≤ line_limit)
+    × ((event : Event) → IsLine text event → ⊥)

@@ -2,13 +2,13 @@
 use Rattle.std.specs.Prelude.{ℕ, ◌≡◌, ◌+◌, ◌==◌, ◌&&◌, ◌||◌, Bool, List, [], ◌∷◌, ◌++◌, codes, filter, length, if◌then◌else◌, is_some}
 use Rattle.std.specs.Fmt.{decimal}
 use Rattle.std.specs.List.{flat_map, slice_split, sum_by}
-use Rattle.tv_model.specs.Commits.{default_settings}
-use Rattle.tv_model.specs.Files.{Reads}
-use Rattle.tv_model.specs.Index.{DirectoryHolds, first_state}
-use Rattle.tv_model.specs.Machine.{Turn, after, all_refused, events_of, report}
-use Rattle.tv_model.specs.Names.{is, meta_name}
-use Rattle.tv_model.specs.Script.{AreLines, lines_of}
-use Rattle.tv_model.specs.State.{State, file_at}
+use Rattle.tv_formats.specs.Commits.{default_settings}
+use Rattle.tv_formats.specs.Files.{Reads}
+use Rattle.tv_machine.specs.Index.{DirectoryHolds, first_state}
+use Rattle.tv_machine.specs.Machine.{Turn, after, all_refused, events_of, report}
+use Rattle.tv_formats.specs.Names.{is, meta_name}
+use Rattle.tv_machine.specs.Script.{AreLines, lines_of}
+use Rattle.tv_machine.specs.State.{State, file_at}
 use Rattle.tv_replay.specs.Generated.{generated}
 
 -- the files of an index: the managed names that have a file, `meta.json` among them
@@ -32,7 +32,8 @@ deleted_in other = 0
 
 -- how many names the lines of a text say were deleted
 abbrev pub collected_in : List ℕ → ℕ
-collected_in text = sum_by (λ line. deleted_in (slice_split (λ b. b == 32) line)) (slice_split (λ b. b == 10) text)
+collected_in text =
+    sum_by (λ line. deleted_in (slice_split (λ b. b == 32) line)) (slice_split (λ b. b == 10) text)
 
 -- what is told, as one text: the lines, each with its line feed
 abbrev pub text_of : List (List ℕ) → List ℕ
@@ -43,15 +44,18 @@ pub record RunsGenerated (n : ℕ) (turns : List Turn) : Type 0 where
   pub lines : AreLines (lines_of (generated n)) (events_of turns)
   pub refused : all_refused turns ≡ 0
 
--- what the summary says: the number of events, that of the last commit, how many files are left, and how many were collected
+-- what the summary says: the number of events, that of the last commit, how many files are left, and how many
+-- were collected
 abbrev pub summary_line : (events stamp files collected : ℕ) → List ℕ
 summary_line events stamp files collected =
-    codes "events " ++ decimal events ++ codes " stamp " ++ decimal stamp ++ codes " files " ++ decimal files ++ codes " collected " ++ decimal collected
+    codes "events " ++ decimal events ++ codes " stamp " ++ decimal stamp ++ codes " files " ++ decimal files
+    ++ codes " collected " ++ decimal collected
 
 -- the summary of a run over a new index
 abbrev pub summary_of : List Turn → List ℕ
 summary_of turns =
-    summary_line (length turns) (after first_state turns).catalog.commit.opstamp (length (files_of (after first_state turns))) (collected_in (text_of (report first_state turns)))
+    summary_line (length turns) (after first_state turns).catalog.commit.opstamp
+    (length (files_of (after first_state turns))) (collected_in (text_of (report first_state turns)))
 
 -- the line is the summary of such a run
 pub record IsSummaryOf (n : ℕ) (line : List ℕ) : Type 0 where

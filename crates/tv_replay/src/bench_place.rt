@@ -1,16 +1,16 @@
 //! A place in memory, for tests.
 ghost use Rattle.std.specs.Prelude.{◌≡◌, ◌≤◌, ◌-◌, ◌++◌, [], ◌∷◌, ◌↔◌, List, ℕ, Some, None, IsSome, IsErr, option_map, length, string_bytes, IfOk, IfErr, OnOk};
-ghost use Rattle.tv_model.specs.State.{at};
+ghost use Rattle.tv_formats.specs.Names.{at};
 ghost use Rattle.tv_base.specs.Causes.{IsDevice};
 ghost use Rattle.tv_directory.specs.StoredFiles.{named};
-ghost use Rattle.tv_replay.specs.BenchPlace.{is_there, kept_in, new_place, refused, FolderCause, TextCause};
+ghost use Rattle.tv_replay.specs.BenchPlace.{is_there, kept_in, new_place, bench_refused, FolderCause, TextCause};
 
 use crate::place::Place;
 use std::alloc::Global;
 use std::marker::Model;
 use tv_base::{IoError, IoFault, IoKind, OpenDirectoryError, TextSource};
 use tv_directory::Outside;
-use tv_model::Memory;
+use tv_formats::Memory;
 
 /// A place in memory, which lends its one directory for any folder, or for one folder alone.
 #[derive(Drop)]
@@ -115,14 +115,14 @@ impl<O: Outside + Drop> BenchPlace<O> {
 
     // Counts a refused call.
     fn count_refusal(&mut self)
-        ensures { self.new ≡ refused self.old }
+        ensures { self.new ≡ bench_refused self.old }
     {
         self.faults = self.faults.saturating_add(1);
     }
 
     // Counts a refused call, and makes its fault.
     fn refuse(&mut self) -> IoFault
-        ensures { IsDevice result × (self.new ≡ refused self.old) }
+        ensures { IsDevice result × (self.new ≡ bench_refused self.old) }
     {
         self.count_refusal();
         IoFault {
@@ -213,7 +213,7 @@ impl<O: Outside + Drop> Place for BenchPlace<O> {
 
     fn end_script(&mut self, text: TextSource)
         ensures none { text.faults ≡ 0 → self.new ≡ self.old }
-        ensures some { (text.faults ≡ 0 → ⊥) → self.new ≡ refused self.old }
+        ensures some { (text.faults ≡ 0 → ⊥) → self.new ≡ bench_refused self.old }
     {
         if text.faults() > 0 {
             self.count_refusal();
@@ -235,7 +235,8 @@ impl<O: Outside + Drop> Place for BenchPlace<O> {
         ensures says { OnOk result
             (self.new ≡ record self.old { said = self.old.said ++ line.now ++ 10 ∷ [] }) }
         ensures full { IsErr result ↔ (self.old.room - length self.old.said ≤ length line.now) }
-        ensures faults { IfErr result (λ fault. IsDevice fault × (self.new ≡ refused self.old)) }
+        ensures faults { IfErr result (λ fault. IsDevice fault
+            × (self.new ≡ bench_refused self.old)) }
     {
         if self.room - self.said.len() <= line.len() {
             return Err(self.refuse());

@@ -4,7 +4,7 @@ ghost use Rattle.tv_replay.specs.ErrorLines.{argument_line, io_line, format_line
 
 use std::alloc::Global;
 use tv_base::{Incompatibility, IoKind, LockError, OpenReadError, OpenWriteError, TantivyError};
-use tv_model::Memory;
+use tv_formats::Memory;
 
 // A line of this text.
 fn line(alloc: Global, text: &str) -> Result<Vec<u8>, Memory>

@@ -1,7 +1,7 @@
 //! The place of a program: folders and files of the file system, and standard output.
 ghost use Rattle.std.specs.Prelude.{◌≡◌, None, string_bytes, IfOk};
 ghost use Rattle.tv_base.specs.Causes.{IsDevice};
-ghost use Rattle.tv_replay.specs.FolderPlace.{place_view, refused};
+ghost use Rattle.tv_replay.specs.FolderPlace.{place_view, folder_refused};
 
 use crate::place::Place;
 use std::alloc::Global;
@@ -12,7 +12,7 @@ use std::rt::Files;
 use tv_base::{IoError, IoFault, IoKind, OpenDirectoryError, Sink};
 use tv_directory::{Desk, NoWatch};
 use tv_files::{MmapDirectory, ReadSource, StdoutSink, read_at_most};
-use tv_model::Memory;
+use tv_formats::Memory;
 
 // One byte more than a schema may have, so that a longer one is seen to be too long.
 const MOST_OF_A_SCHEMA: u64 = 1_048_577;
@@ -70,14 +70,14 @@ impl<R: Clone + Drop> FolderPlace<R> {
 impl<R: Drop> FolderPlace<R> {
     // Counts a refused call.
     fn count_refusal(&mut self)
-        ensures { self.new ≡ refused self.old }
+        ensures { self.new ≡ folder_refused self.old }
     {
         self.faults = self.faults.saturating_add(1);
     }
 
     // Counts a refused call, and makes its fault.
     fn refuse(&mut self) -> IoFault
-        ensures { IsDevice result × (self.new ≡ refused self.old) }
+        ensures { IsDevice result × (self.new ≡ folder_refused self.old) }
     {
         self.count_refusal();
         IoFault {

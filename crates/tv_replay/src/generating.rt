@@ -3,7 +3,7 @@ ghost use Rattle.std.specs.Prelude.{◌≡◌, ◌++◌, IfOk, OnOk, codes, stri
 ghost use Rattle.tv_replay.specs.Generated.{numbered_id, numbered_byte, file_text, segment_text, commit_text, generated};
 
 use std::alloc::Global;
-use tv_model::{Memory, SegmentComponent, SegmentId};
+use tv_formats::{Memory, SegmentComponent, SegmentId};
 
 // The files of a segment that is generated, which has no deletes.
 const GENERATED_COMPONENTS: [SegmentComponent; 6] = [
@@ -90,7 +90,8 @@ fn commit_text(alloc: Global, i: u32) -> Result<String, Memory>
 
 // The lines that commit the first segment.
 fn first_commit_text(alloc: Global, id: &str) -> Result<String, Memory>
-    ensures { IfOk result (λ text. string_bytes text ≡ codes "commit - " ++ id.now ++ codes "\ngc\n") }
+    ensures { IfOk result (λ text. string_bytes text
+        ≡ codes "commit - " ++ id.now ++ codes "\ngc\n") }
 {
     let text = format!(in alloc; "commit - {id}\ngc\n")?;
     Ok(text)

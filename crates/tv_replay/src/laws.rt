@@ -3,10 +3,10 @@
 ghost use Rattle.std.specs.Prelude.{◌≡◌, ◌≢◌, ◌≤◌, ◌++◌, [], ◌∷◌, ℕ, List, None, Ok, Some, codes, length, map, IfErr, IfOk, IfSome, OnOk, string_bytes};
 ghost use Rattle.std.specs.List.{join_with_byte};
 ghost use Rattle.hex.specs.Hex.{decode_of, encode_lower};
-ghost use Rattle.tv_model.specs.declared.event.Event.TheVariants as events;
-ghost use Rattle.tv_model.specs.Index.{IsSoundStart};
-ghost use Rattle.tv_model.specs.Schemas.{stripped};
-ghost use Rattle.tv_model.specs.Script.{Fits, line_limit, lines_of};
+ghost use Rattle.tv_machine.specs.declared.event.Event.TheVariants as events;
+ghost use Rattle.tv_formats.specs.Sound.{IsSoundStart};
+ghost use Rattle.tv_formats.specs.Schemas.{stripped};
+ghost use Rattle.tv_machine.specs.Script.{Fits, line_limit, lines_of};
 ghost use Rattle.tv_replay.specs.Commands.{replay_words, IsNoCommand};
 ghost use Rattle.tv_replay.specs.Completeness.{IsUndisturbed};
 ghost use Rattle.tv_replay.specs.Headline.{Headline, RunsSoundly, StartsSoundly};
@@ -19,7 +19,8 @@ use crate::script::parse_event;
 use std::alloc::Global;
 use tv_base::{Source, TantivyError};
 use tv_directory::Outside;
-use tv_model::{Event, Memory};
+use tv_formats::Memory;
+use tv_machine::Event;
 
 /// From a sound start, a replay that answers Ok has told, line by line, a run of the machine on the
 /// whole script, and left its files and its list.

@@ -3,7 +3,6 @@
 #![tactic(auto)]
 
 mod bench_place;
-mod collection_lines;
 mod command;
 mod error_line;
 mod folder_place;
@@ -13,7 +12,6 @@ mod lines;
 mod next_event;
 mod place;
 mod program;
-mod reader_lines;
 mod replaying;
 mod script;
 mod script_buffer;
@@ -27,5 +25,6 @@ pub use place::Place;
 pub use program::run;
 pub use replaying::{Replayed, Tally, replay};
 pub use script::parse_event;
-pub use tv_model::{Answer, Blob, Event, IdList, ReloadPolicy, SegmentComponent, SegmentId, Text};
+pub use tv_formats::{SegmentComponent, SegmentId};
+pub use tv_machine::{Answer, Blob, Event, IdList, ReloadPolicy, Text};
 pub use tv_store::IndexStore;

@@ -1,6 +1,6 @@
 //! The lines of a script, one at a time.
 ghost use Rattle.std.specs.Prelude.{◌≡◌, ◌≤◌, ◌+◌, length, option_map, IfOk, OnOk, IfSome, vec_len};
-ghost use Rattle.tv_model.specs.Script.{line_limit};
+ghost use Rattle.tv_machine.specs.Script.{line_limit};
 ghost use Rattle.tv_replay.specs.ScriptLines.{pending, TakesNext, ReadsAhead};
 ghost use Rattle.tv_replay.specs.ScriptCauses.{LineFaults, LineReads};
 

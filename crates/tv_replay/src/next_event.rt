@@ -1,6 +1,6 @@
 //! The events of a script, one at a time.
 ghost use Rattle.std.specs.Prelude.{◌≡◌, ◌≤◌, ◌+◌, length, IfOk, OnOk, IfSome};
-ghost use Rattle.tv_model.specs.Script.{line_limit};
+ghost use Rattle.tv_machine.specs.Script.{line_limit};
 ghost use Rattle.tv_replay.specs.ScriptLines.{pending, FitsLine, TakesNextEvent, ReadsAhead};
 ghost use Rattle.tv_replay.specs.ScriptCauses.{ScriptFaults, EventReads};
 
@@ -9,7 +9,8 @@ use crate::script::parse_event;
 use crate::script_buffer::ScriptBuffer;
 use std::alloc::Global;
 use tv_base::Source;
-use tv_model::{Event, Memory};
+use tv_formats::Memory;
+use tv_machine::Event;
 
 /// Why there is no next event.
 #[derive(Drop)]

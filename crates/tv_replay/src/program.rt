@@ -1,6 +1,6 @@
 //! The top call of the program.
 ghost use Rattle.std.specs.Prelude.{◌≡◌, ◌⊎◌, ◌↔◌, List, ℕ, None, IsSome, true, map, string_bytes};
-ghost use Rattle.tv_model.specs.Lines.{has_no_feed};
+ghost use Rattle.tv_formats.specs.Files.{has_no_feed};
 ghost use Rattle.tv_replay.specs.ErrorLines.{error_line};
 ghost use Rattle.tv_replay.specs.Commands.{replay_words, IsNoCommand};
 ghost use Rattle.tv_replay.specs.Runs.{usage_line, OnlySays, SaysError, TellsOrPart};

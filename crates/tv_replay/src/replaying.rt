@@ -1,6 +1,6 @@
 //! A script replayed over a directory.
 ghost use Rattle.std.specs.Prelude.{◌≡◌, ◌≤◌, ◌+◌, ℕ, List, None, true, length, IfOk, IfErr, OnOk, string_bytes};
-ghost use Rattle.tv_model.specs.Script.{line_limit};
+ghost use Rattle.tv_machine.specs.Script.{line_limit};
 ghost use Rattle.tv_store.specs.Kept.{AtMost};
 ghost use Rattle.tv_store.specs.ReaderNumbers.{FewNumbers};
 ghost use Rattle.tv_store.specs.StoreCauses.{IsRefusal};

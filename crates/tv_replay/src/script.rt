@@ -1,14 +1,17 @@
 //! The lines of a script, and the events that they are.
-ghost use Rattle.std.specs.Prelude.{◌≡◌, ◌==◌, IfOk, IfSome, map, option_map};
+ghost use Rattle.std.specs.Prelude.{◌≡◌, ◌==◌, [], ◌∷◌, IfOk, IfSome, map, option_map};
 ghost use Rattle.std.specs.List.{slice_split};
-ghost use Rattle.tv_model.specs.declared.event.Event.{Event};
-ghost use Rattle.tv_model.specs.Script.{IsLine};
-ghost use Rattle.tv_replay.specs.EventWords.{event_in, segment_in, open_in, write_in, seal_in, docs_in, deletes_in, ids_in, commit_in, alone_in};
+ghost use Rattle.tv_machine.specs.declared.event.Event.{Event};
+ghost use Rattle.tv_machine.specs.declared.event.Event.TheVariants as events;
+ghost use Rattle.tv_machine.specs.Script.{Id, Component, Bytes, IsLine};
+ghost use Rattle.tv_replay.specs.EventWords.{commit_in, event_by, event_in, file_event_by, ids_in, index_event_by, read, reader_event_by, release_in, released_by, segment_event_by, text_in};
 
-use crate::collection_lines::collection_event_of;
-use crate::words::{bytes_of, component_of, id_of, payload_of, small_number_of};
+use crate::words::{
+    bytes_of, component_of, id_of, number_of, payload_of, policy_of, small_number_of,
+};
 use std::alloc::{AllocError, Global};
-use tv_model::{Event, IdList, Memory, SegmentId};
+use tv_formats::{Memory, SegmentId};
+use tv_machine::{Event, IdList};
 
 /// The most bytes that a line of a script has, its line feed left out.
 pub(crate) const LINE_LIMIT: usize = 1_048_576;
@@ -21,28 +24,21 @@ pub(crate) fn words_of(alloc: Global, line: &[u8]) -> Result<Vec<&[u8]>, AllocEr
     line.split(|b| *b == b' ').collect(alloc)
 }
 
-fn segment_of(args: &[&[u8]]) -> Option<Event>
-    ensures { result ≡ segment_in (map (λ w. w.now) args.now) }
+// The text that a keyword is.
+fn keyword_of(word: &[u8]) -> Option<&str>
+    ensures { option_map (λ text. text.now) result ≡ text_in word.now }
 {
-    match args {
-        [id] => Some(Event::Segment(id_of(id)?)),
-        _ => None,
-    }
+    let Ok(text) = std::str::from_utf8(word) else {
+        return None;
+    };
+    Some(text)
 }
 
-fn open_of(args: &[&[u8]]) -> Option<Event>
-    ensures { result ≡ open_in (map (λ w. w.now) args.now) }
+fn write_of(alloc: Global, words: &[&[u8]]) -> Result<Option<Event>, Memory>
+    ensures { IfOk result (λ found. found
+        ≡ read (Id ∷ Component ∷ Bytes ∷ []) events.Write (map (λ w. w.now) words.now)) }
 {
-    match args {
-        [id, component] => Some(Event::Open(id_of(id)?, component_of(component)?)),
-        _ => None,
-    }
-}
-
-fn write_of(alloc: Global, args: &[&[u8]]) -> Result<Option<Event>, Memory>
-    ensures { IfOk result (λ found. found ≡ write_in (map (λ w. w.now) args.now)) }
-{
-    let [id, component, digits] = args else {
+    let [id, component, digits] = words else {
         return Ok(None);
     };
     let Some(id) = id_of(id) else {
@@ -55,33 +51,6 @@ fn write_of(alloc: Global, args: &[&[u8]]) -> Result<Option<Event>, Memory>
         return Ok(None);
     };
     Ok(Some(Event::Write(id, component, bytes)))
-}
-
-fn seal_of(args: &[&[u8]]) -> Option<Event>
-    ensures { result ≡ seal_in (map (λ w. w.now) args.now) }
-{
-    match args {
-        [id, component] => Some(Event::Seal(id_of(id)?, component_of(component)?)),
-        _ => None,
-    }
-}
-
-fn docs_of(args: &[&[u8]]) -> Option<Event>
-    ensures { result ≡ docs_in (map (λ w. w.now) args.now) }
-{
-    match args {
-        [id, n] => Some(Event::Docs(id_of(id)?, small_number_of(n)?)),
-        _ => None,
-    }
-}
-
-fn deletes_of(args: &[&[u8]]) -> Option<Event>
-    ensures { result ≡ deletes_in (map (λ w. w.now) args.now) }
-{
-    match args {
-        [id, n] => Some(Event::Deletes(id_of(id)?, small_number_of(n)?)),
-        _ => None,
-    }
 }
 
 // The ids that the words spell, where each of them spells one.
@@ -99,16 +68,16 @@ fn ids_of(alloc: Global, words: &[&[u8]]) -> Result<Option<Vec<SegmentId>>, Memo
     Ok(Some(ids))
 }
 
-fn commit_of(alloc: Global, args: &[&[u8]]) -> Result<Option<Event>, Memory>
-    ensures { IfOk result (λ found. found ≡ commit_in (map (λ w. w.now) args.now)) }
+fn commit_of(alloc: Global, words: &[&[u8]]) -> Result<Option<Event>, Memory>
+    ensures { IfOk result (λ found. found ≡ commit_in (map (λ w. w.now) words.now)) }
 {
-    let [payload, words @ ..] = args else {
+    let [payload, ids @ ..] = words else {
         return Ok(None);
     };
     let Some(payload) = payload_of(alloc, payload)? else {
         return Ok(None);
     };
-    let Some(ids) = ids_of(alloc, words)? else {
+    let Some(ids) = ids_of(alloc, ids)? else {
         return Ok(None);
     };
     let Some(ids) = IdList::new(ids) else {
@@ -118,12 +87,158 @@ fn commit_of(alloc: Global, args: &[&[u8]]) -> Result<Option<Event>, Memory>
 }
 
 // An event without arguments.
-pub(crate) fn alone(event: Event, args: &[&[u8]]) -> Option<Event>
-    ensures { result ≡ alone_in event (map (λ w. w.now) args.now) }
+fn alone(event: Event, words: &[&[u8]]) -> Option<Event>
+    ensures { result ≡ read [] event (map (λ w. w.now) words.now) }
 {
-    match args {
+    match words {
         [] => Some(event),
         _ => None,
+    }
+}
+
+// What is released, by its kind and its id or number.
+fn released_of(kind: &[u8], words: &[&[u8]]) -> Option<Event>
+    ensures { result ≡ released_by kind.now (map (λ w. w.now) words.now) }
+{
+    let [subject] = words else {
+        return None;
+    };
+    if kind == b"segment".as_slice() {
+        Some(Event::ReleaseSegment(id_of(subject)?))
+    } else if kind == b"reader".as_slice() {
+        Some(Event::ReleaseReader(number_of(subject)?))
+    } else if kind == b"searcher".as_slice() {
+        Some(Event::ReleaseSearcher(number_of(subject)?))
+    } else {
+        None
+    }
+}
+
+fn release_of(words: &[&[u8]]) -> Option<Event>
+    ensures { result ≡ release_in (map (λ w. w.now) words.now) }
+{
+    match words {
+        [kind, words @ ..] => released_of(kind, words),
+        _ => None,
+    }
+}
+
+// The event about a reader or a searcher, or the release, of a keyword and the words after it.
+fn reader_event_of(keyword: &str, words: &[&[u8]]) -> Option<Event>
+    ensures { result ≡ reader_event_by keyword.now (map (λ w. w.now) words.now) }
+{
+    match keyword {
+        "reader" => match words {
+            [policy] => Some(Event::Reader(policy_of(policy)?)),
+            _ => None,
+        },
+        "reload" => match words {
+            [number] => Some(Event::Reload(number_of(number)?)),
+            _ => None,
+        },
+        "searcher" => match words {
+            [number] => Some(Event::Searcher(number_of(number)?)),
+            _ => None,
+        },
+        "show" => match words {
+            [number] => Some(Event::Show(number_of(number)?)),
+            _ => None,
+        },
+        "bytes" => match words {
+            [number, ord, component] => Some(Event::Bytes(
+                number_of(number)?,
+                small_number_of(ord)?,
+                component_of(component)?,
+            )),
+            _ => None,
+        },
+        "release" => release_of(words),
+        _ => None,
+    }
+}
+
+// The event of a keyword and the words after it, where it is about a collection, the whole index, a reader
+// or a searcher, or is a release.
+fn index_event_of(keyword: &str, words: &[&[u8]]) -> Option<Event>
+    ensures { result ≡ index_event_by keyword.now (map (λ w. w.now) words.now) }
+{
+    match keyword {
+        "gc" => alone(Event::Gc, words),
+        "gc-begin" => alone(Event::GcBegin, words),
+        "gc-step" => match words {
+            [number] => Some(Event::GcStep(number_of(number)?)),
+            _ => None,
+        },
+        "gc-end" => match words {
+            [number] => Some(Event::GcEnd(number_of(number)?)),
+            _ => None,
+        },
+        "managed" => alone(Event::Managed, words),
+        "validate" => alone(Event::Validate, words),
+        "reopen" => alone(Event::Reopen, words),
+        _ => reader_event_of(keyword, words),
+    }
+}
+
+fn open_of(words: &[&[u8]]) -> Option<Event>
+    ensures { result ≡ read (Id ∷ Component ∷ []) events.Open (map (λ w. w.now) words.now) }
+{
+    match words {
+        [id, component] => Some(Event::Open(id_of(id)?, component_of(component)?)),
+        _ => None,
+    }
+}
+
+fn seal_of(words: &[&[u8]]) -> Option<Event>
+    ensures { result ≡ read (Id ∷ Component ∷ []) events.Seal (map (λ w. w.now) words.now) }
+{
+    match words {
+        [id, component] => Some(Event::Seal(id_of(id)?, component_of(component)?)),
+        _ => None,
+    }
+}
+
+// The event of a keyword and the words after it, any but one about a segment, a write and a commit.
+fn file_event_of(keyword: &str, words: &[&[u8]]) -> Option<Event>
+    ensures { result ≡ file_event_by keyword.now (map (λ w. w.now) words.now) }
+{
+    match keyword {
+        "open" => open_of(words),
+        "seal" => seal_of(words),
+        _ => index_event_of(keyword, words),
+    }
+}
+
+// The event of a keyword and the words after it, any but a write and a commit.
+fn segment_event_of(keyword: &str, words: &[&[u8]]) -> Option<Event>
+    ensures { result ≡ segment_event_by keyword.now (map (λ w. w.now) words.now) }
+{
+    match keyword {
+        "segment" => match words {
+            [id] => Some(Event::Segment(id_of(id)?)),
+            _ => None,
+        },
+        "docs" => match words {
+            [id, n] => Some(Event::Docs(id_of(id)?, small_number_of(n)?)),
+            _ => None,
+        },
+        "deletes" => match words {
+            [id, n] => Some(Event::Deletes(id_of(id)?, small_number_of(n)?)),
+            _ => None,
+        },
+        _ => file_event_of(keyword, words),
+    }
+}
+
+// The event of a keyword and the words after it.
+fn event_by_keyword(alloc: Global, keyword: &str, words: &[&[u8]]) -> Result<Option<Event>, Memory>
+    ensures { IfOk result
+        (λ found. found ≡ event_by keyword.now (map (λ w. w.now) words.now)) }
+{
+    match keyword {
+        "write" => write_of(alloc, words),
+        "commit" => commit_of(alloc, words),
+        _ => Ok(segment_event_of(keyword, words)),
     }
 }
 
@@ -131,32 +246,13 @@ pub(crate) fn alone(event: Event, args: &[&[u8]]) -> Option<Event>
 fn event_of(alloc: Global, words: &[&[u8]]) -> Result<Option<Event>, Memory>
     ensures { IfOk result (λ found. found ≡ event_in (map (λ w. w.now) words.now)) }
 {
-    let [word, args @ ..] = words else {
+    let [keyword, words @ ..] = words else {
         return Ok(None);
     };
-    if *word == b"segment".as_slice() {
-        Ok(segment_of(args))
-    } else if *word == b"open".as_slice() {
-        Ok(open_of(args))
-    } else if *word == b"write".as_slice() {
-        write_of(alloc, args)
-    } else if *word == b"seal".as_slice() {
-        Ok(seal_of(args))
-    } else if *word == b"docs".as_slice() {
-        Ok(docs_of(args))
-    } else if *word == b"deletes".as_slice() {
-        Ok(deletes_of(args))
-    } else if *word == b"commit".as_slice() {
-        commit_of(alloc, args)
-    } else if *word == b"managed".as_slice() {
-        Ok(alone(Event::Managed, args))
-    } else if *word == b"validate".as_slice() {
-        Ok(alone(Event::Validate, args))
-    } else if *word == b"reopen".as_slice() {
-        Ok(alone(Event::Reopen, args))
-    } else {
-        Ok(collection_event_of(word, args))
-    }
+    let Some(keyword) = keyword_of(keyword) else {
+        return Ok(None);
+    };
+    event_by_keyword(alloc, keyword, words)
 }
 
 /// The event of a line, which is given without its line feed. A line that is longer than any

@@ -1,7 +1,7 @@
 //! Bytes of a script that were read and are not yet taken.
 ghost use Rattle.std.specs.Prelude.{◌≡◌, ◌<◌, [], ◌≤◌, ◌+◌, length, take, IfOk, OnOk, IsTrue, ◌↔◌};
-ghost use Rattle.tv_model.specs.Script.{line_limit};
-ghost use Rattle.tv_base.specs.Streams.{Reads, Keeps, IsAtEnd, SourceFaults};
+ghost use Rattle.tv_machine.specs.Script.{line_limit};
+ghost use Rattle.tv_base.specs.Streams.{ReadsPiece, KeepsLeft, IsAtEnd, SourceFaults};
 ghost use Rattle.tv_replay.specs.ScriptLines.{IsFeedAt, Fills, Moves, pending};
 
 use crate::script::LINE_LIMIT;
@@ -48,7 +48,7 @@ fn read_block<S: Source>(source: &mut S, block: &mut [u8], len: usize) -> Result
     ensures count { IfOk result (λ n. n ≤ length block.old) }
     ensures room { IfOk result (λ n. n + len ≤ line_limit + 1) }
     ensures bytes { IfOk result
-        (λ n. Reads (take n block.new) (S.view source.old).left (S.view source.new).left) }
+        (λ n. ReadsPiece (take n block.new) (S.view source.old).left (S.view source.new).left) }
     ensures end { IfOk result (λ n. n ≡ 0 → IsAtEnd (S.view source.old).left) }
     ensures faults { SourceFaults (S.view source.old) (S.view source.new) result }
 {
@@ -97,7 +97,7 @@ impl ScriptBuffer {
         requires short { len ≤ line_limit }
         requires room { length self.old + len ≤ line_limit + 1 }
         ensures same { OnOk result
-            (Keeps (pending self.old (S.view source.old).left)
+            (KeepsLeft (pending self.old (S.view source.old).left)
             (pending self.new (S.view source.new).left)) }
         ensures end { OnOk result
             (self.new ≡ [] → IsAtEnd (pending self.old (S.view source.old).left)) }

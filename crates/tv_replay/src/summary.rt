@@ -2,10 +2,10 @@
 ghost use Rattle.std.specs.Prelude.{◌≡◌, ◌<◌, ◌^◌, List, ℕ, map, true, filter, length, is_some, IfOk, string_bytes};
 ghost use Rattle.std.specs.List.{list_all};
 ghost use Rattle.tv_directory.specs.Telling.{bytes_heard};
-ghost use Rattle.tv_model.specs.Commits.{Settings};
-ghost use Rattle.tv_model.specs.Index.{DirectoryHolds};
-ghost use Rattle.tv_model.specs.Names.{is_plain};
-ghost use Rattle.tv_model.specs.State.{State};
+ghost use Rattle.tv_formats.specs.Commits.{Settings};
+ghost use Rattle.tv_machine.specs.Index.{DirectoryHolds};
+ghost use Rattle.tv_formats.specs.Names.{is_plain};
+ghost use Rattle.tv_machine.specs.State.{State};
 ghost use Rattle.tv_replay.specs.Summaries.{before_failed, collected_in, deleted_in, summary_line, IsStanding, IsSummaryOf, ReplaysGenerated};
 
 use crate::generating::generate;
@@ -14,9 +14,9 @@ use crate::script::words_of;
 use std::alloc::Global;
 use tv_base::{META_FILEPATH, OpenReadError, Opstamp, TantivyError, TextSource};
 use tv_directory::{Bench, Directory, NoWatch};
+use tv_formats::Memory;
 use tv_index::UntrackedIndexMeta;
 use tv_managed::{ManagedDirectory, Refused};
-use tv_model::Memory;
 
 // The schema of the index, which has no fields.
 const SCHEMA: &[u8] = b"[]";

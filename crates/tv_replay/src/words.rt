@@ -1,10 +1,11 @@
 //! What single words of a line stand for.
 ghost use Rattle.std.specs.Prelude.{◌≡◌, ◌^◌, IfOk};
-ghost use Rattle.tv_replay.specs.Fields.{id_at, number_at, component_at, bytes_at, text_at, payload_at};
+ghost use Rattle.tv_replay.specs.Fields.{id_at, number_at, component_at, bytes_at, text_at, payload_at, policy_at};
 
 use hex::FromHexError;
 use std::alloc::Global;
-use tv_model::{Blob, Memory, SegmentComponent, SegmentId, Text};
+use tv_formats::{Memory, SegmentComponent, SegmentId};
+use tv_machine::{Blob, ReloadPolicy, Text};
 
 // The id that a word spells.
 pub(crate) fn id_of(word: &[u8]) -> Option<SegmentId>
@@ -56,6 +57,17 @@ pub(crate) fn component_of(word: &[u8]) -> Option<SegmentComponent>
     SegmentComponent::iterator()
         .copied()
         .find(|component| component.extension().as_bytes() == word)
+}
+
+// The policy that a word names.
+pub(crate) fn policy_of(word: &[u8]) -> Option<ReloadPolicy>
+    ensures { result ≡ policy_at word.now }
+{
+    if word == b"manual".as_slice() {
+        Some(ReloadPolicy::Manual)
+    } else {
+        None
+    }
 }
 
 // The bytes that a word spells.

@@ -8,24 +8,25 @@ use Rattle.tv_directory.specs.View.{View, Told as ToldParts, Kept as KeptView, O
 use Rattle.tv_directory.specs.ViewLaws.{goes_on_itself, kept_itself}
 use Rattle.tv_directory.specs.declared.directory.Directory.{Ghosts}
 use Rattle.tv_managed.specs.Collecting.{meta_lock_name}
-use Rattle.tv_model.specs.Living.{is_busy}
-use Rattle.tv_model.specs.Names.{meta_name}
-use Rattle.tv_model.proofs.Changes.{lifted}
-use Rattle.tv_model.specs.Files.{Rose}
-use Rattle.tv_model.specs.Collections.{no_collections}
-use Rattle.tv_model.specs.State.{Catalog, State, StepResult, no_readers, on_catalog}
-use Rattle.tv_model.specs.CommitEvents.{commit_step}
-use Rattle.tv_model.specs.Machine.{catalog_step, step}
-use Rattle.tv_model.specs.Readable.{ReadsGood}
-use Rattle.tv_model.specs.declared.event.Event.{Event}
-use Rattle.tv_model.specs.declared.event.Event.TheVariants as events
+use Rattle.tv_machine.specs.Living.{is_busy}
+use Rattle.tv_formats.specs.Names.{meta_name}
+use Rattle.tv_machine.proofs.Changes.{lifted}
+use Rattle.tv_formats.specs.Files.{Rose}
+use Rattle.tv_formats.specs.Collections.{no_collections}
+use Rattle.tv_machine.specs.State.{Catalog, State, StepResult, no_readers, on_catalog}
+use Rattle.tv_machine.specs.CommitEvents.{commit_step}
+use Rattle.tv_machine.specs.Machine.{catalog_step, step}
+use Rattle.tv_machine.specs.Readable.{ReadsGood}
+use Rattle.tv_machine.specs.declared.event.Event.{Event}
+use Rattle.tv_machine.specs.declared.event.Event.TheVariants as events
 use Rattle.tv_store.proofs.Results.{on_err}
-use Rattle.tv_store.specs.Kept.{Kept, StoreState, Holds, AtMost}
+use Rattle.tv_store.specs.Kept.{KeptState, StoreState, Holds, AtMost}
 use Rattle.tv_store.specs.Exhausted.{IsExhausted, SpendsSearcher}
 use Rattle.tv_store.specs.ReaderNumbers.{FewNumbers}
 use Rattle.tv_store.specs.StoreCauses.{IsBusy}
-use Rattle.tv_store.specs.ReadCauses.{IsReadError, TakesMetaLock}
-use Rattle.tv_store.specs.Applying.{Stepped, ActCause, ApplyFaults, AsksNoFile, GoneAt, LeavesAlone, MayNoteAt, RefusedAt, UnloadedAt, WritesByStep, written_by}
+use Rattle.tv_store.specs.Effects.{TakesMetaLock, written_by}
+use Rattle.tv_store.specs.ReadCauses.{IsReadError}
+use Rattle.tv_store.specs.Applying.{Stepped, ActCause, ApplyFaults, AsksNoFile, GoneAt, LeavesAlone, MayNoteAt, RefusedAt, UnloadedAt, WritesByStep}
 use Rattle.tv_store.specs.Stays.{Asks, Stays, KeepsDotted, KeepsReaders, EventFaults}
 use Rattle.tv_store.specs.Committing.{Commits}
 use Rattle.tv_store.specs.FileCalls.{GcFaults}
@@ -269,11 +270,11 @@ acts_known g old mid new event known result steps fits unspent kept outside stan
     })))
     room
     (λ bound h. at_most bound (written_by event) new.kept (subst (AtMost bound) (sym now) h))
-    (λ bound few. ok_result result (subst (λ (k : Kept). FewNumbers (bound + written_by event) k.catalog.reading k.collections) (sym now) (numbers_grow bound old.kept.catalog old.kept.collections old.kept.managed event known few steps)))
+    (λ bound few. ok_result result (subst (λ (k : KeptState). FewNumbers (bound + written_by event) k.catalog.reading k.collections) (sym now) (numbers_grow bound old.kept.catalog old.kept.collections old.kept.managed event known few steps)))
     (faults_alone g old new event event refl result ⊥ ((λ never. absurd never), λ spent. unspent (searcher_spent old.kept old.kept.managed event known steps spent)) (plain.free old.kept.catalog) (subst (λ o. EventFaults ⊥ (g.view o) (g.view new.outside) result) outside faults))
     (λ tells. on_err result (below.content tells meta_name))
     (λ tells n dot other. below.content tells n)
-    (record { form = ap (λ (k : Kept). k.form) now; standing = frame.standing ∙ standing; below = passed g.told event (g.view old.outside) (g.view new.outside) plain.none below.kept }) where
+    (record { form = ap (λ (k : KeptState). k.form) now; standing = frame.standing ∙ standing; below = passed g.told event (g.view old.outside) (g.view new.outside) plain.none below.kept }) where
       here : (s : State) → Holds (g.view old.outside).reads old.kept s → catalog_step s.catalog s.managed event ≡ Some known
       here s h = subst (λ (c : Catalog). catalog_step c s.managed event ≡ Some known) h.catalog (subst (λ (names : List (List ℕ)). catalog_step old.kept.catalog names event ≡ Some known) h.managed steps)
 

@@ -7,18 +7,19 @@ use Rattle.tv_directory.specs.View.{OnlyReads, OnlyTells, Told as ToldParts, Vie
 use Rattle.tv_directory.specs.ViewLaws.{deletes_then, goes_then}
 use Rattle.tv_directory.specs.Watch.{WatchState}
 use Rattle.tv_directory.specs.declared.directory.Directory.{Ghosts}
-use Rattle.tv_model.specs.Files.{Heard, Rose, RoseBy}
+use Rattle.tv_formats.specs.Files.{Heard, Rose, RoseBy}
 use Rattle.tv_base.specs.declared.io.IoFault.{IoFault}
-use Rattle.tv_model.specs.Machine.{catalog_step, step, refused_in}
-use Rattle.tv_model.specs.Meaning.{Means}
-use Rattle.tv_model.specs.declared.event.Event.{Event}
-use Rattle.tv_model.specs.declared.event.Event.TheVariants as events
-use Rattle.tv_store.specs.Kept.{Kept, Standing, StoreState, Holds, AtMost}
+use Rattle.tv_machine.specs.Machine.{catalog_step, step, refused_in}
+use Rattle.tv_formats.specs.Meaning.{Means}
+use Rattle.tv_machine.specs.declared.event.Event.{Event}
+use Rattle.tv_machine.specs.declared.event.Event.TheVariants as events
+use Rattle.tv_store.specs.Kept.{KeptState, Standing, StoreState, Holds, AtMost}
 use Rattle.tv_store.specs.ReaderNumbers.{FewNumbers}
 use Rattle.tv_store.specs.Acting.{Acts}
-use Rattle.tv_store.specs.Applying.{ActCause, AppliesFrame, AsksNoFile, Grows, ApplyFaults, IsUndisturbedEvent, LeavesAlone, LeavesMeta, MayNoteAt, MeetsBadAt, SavesAt, Stepped, written_by}
+use Rattle.tv_store.specs.Effects.{written_by}
+use Rattle.tv_store.specs.Applying.{ActCause, AppliesFrame, AsksNoFile, Grows, ApplyFaults, IsUndisturbedEvent, LeavesAlone, LeavesMeta, MayNoteAt, MeetsBadAt, SavesAt, Stepped}
 use Rattle.tv_store.specs.ReadCauses.{IsReadError}
-use Rattle.tv_model.specs.Living.{is_busy}
+use Rattle.tv_machine.specs.Living.{is_busy}
 use Rattle.tv_store.proofs.KeptLocks.{keeps_then}
 use Rattle.tv_store.proofs.ReaderEvents.{has_middle}
 use Rattle.tv_base.specs.declared.open_errors.LockError.TheVariants as lock
@@ -26,12 +27,12 @@ use Rattle.tv_base.specs.declared.open_errors.OpenReadError.{OpenReadError}
 use Rattle.tv_base.specs.declared.open_errors.OpenReadError.TheVariants as read
 use Rattle.tv_base.specs.declared.open_errors.OpenWriteError.{OpenWriteError}
 use Rattle.tv_base.specs.declared.open_errors.OpenWriteError.TheVariants as write
-use Rattle.tv_model.specs.Footer.{IsGood}
-use Rattle.tv_model.specs.Readable.{AreGoodFiles, IsGoodFile, ReadsGood}
-use Rattle.tv_model.specs.Segments.{all_required}
-use Rattle.tv_model.specs.State.{State, Sealed}
-use Rattle.tv_model.specs.Commits.{Commit, IndexForm}
-use Rattle.tv_model.specs.Names.{has, meta_name}
+use Rattle.tv_formats.specs.Footer.{IsGood}
+use Rattle.tv_machine.specs.Readable.{AreGoodFiles, IsGoodFile, ReadsGood}
+use Rattle.tv_formats.specs.Segments.{all_required}
+use Rattle.tv_machine.specs.State.{State, SealedFile}
+use Rattle.tv_formats.specs.Commits.{Commit, IndexForm}
+use Rattle.tv_formats.specs.Names.{has, meta_name}
 use Rattle.tv_store.specs.Telling.{TellsAnswer, TellsFirstPart, TellsNoLine, TriesLine}
 use Rattle.tv_store.proofs.Holding.{same_holds}
 use Rattle.tv_store.proofs.LoadedCommits.{damaged_holds_none, other_holds_none}
@@ -85,9 +86,9 @@ module _ {O W C : Type 0} (g : Ghosts O W C) (old mid : StoreState O) (event : E
       → IfErr result (λ error. IsReadError error → ⊥) → AppliesFrame g old new event result
   frame_tried new result kept is_open told unread = record {
     goes_on = goes_then acted.frame.below.goes_on told.deletes_none.goes_on;
-    locks = λ t. keeps_then (is_busy old.kept.catalog) (is_busy mid.kept.catalog) (is_busy new.kept.catalog) (g.view old.outside).locks (g.view mid.outside).locks (g.view new.outside).locks (ap (λ (k : Kept). is_busy k.catalog) (sym kept)) (acted.frame.below.locks t) (told.locks t);
+    locks = λ t. keeps_then (is_busy old.kept.catalog) (is_busy mid.kept.catalog) (is_busy new.kept.catalog) (g.view old.outside).locks (g.view mid.outside).locks (g.view new.outside).locks (ap (λ (k : KeptState). is_busy k.catalog) (sym kept)) (acted.frame.below.locks t) (told.locks t);
     watched = subst (λ (w : WatchState). MayNoteAt event (g.view old.outside).watched w) (sym told.watched) acted.frame.below.watched;
-    form = ap (λ (k : Kept). k.form) kept ∙ acted.frame.form;
+    form = ap (λ (k : KeptState). k.form) kept ∙ acted.frame.form;
     dotted = λ t n dot other. told.content t n ∙ acted.dotted t n dot other;
     alone = λ some. record { below = tells_after (alone some).below told; error = unread };
     is_open = is_open;
@@ -104,7 +105,7 @@ module _ {O W C : Type 0} (g : Ghosts O W C) (old mid new : StoreState O) (event
   grows_told = record {
     lens = lens_as;
     numbers = λ bound more small few.
-        subst (λ (k : Kept). FewNumbers (bound + more) k.catalog.reading k.collections) (sym kept) (few_below (bound + written_by event) (bound + more) mid.kept.catalog.reading mid.kept.collections (omega (arith, small)) (acted.numbers bound few));
+        subst (λ (k : KeptState). FewNumbers (bound + more) k.catalog.reading k.collections) (sym kept) (few_below (bound + written_by event) (bound + more) mid.kept.catalog.reading mid.kept.collections (omega (arith, small)) (acted.numbers bound few));
   }
 
   -- or it wasn't
@@ -125,7 +126,7 @@ no_bad_file s event error good (commit, reads, met) =
     let all : AreGoodFiles s (all_required commit.segments) = subst (λ (read : Option Commit). IfSome read (λ c. AreGoodFiles s (all_required c.segments))) reads good in
     let there : has (all_required commit.segments) met.path ≡ true = ap (λ (names : List (List ℕ)). has names met.path) met.split ∙ in_list met.front met.rest met.path in
     let file : IsGoodFile s met.path = all.each met.path there in
-    let same : Some (Sealed file.0) ≡ Some (Sealed met.bytes) = sym file.1 ∙ met.sealed in
+    let same : Some (SealedFile file.0) ≡ Some (SealedFile met.bytes) = sym file.1 ∙ met.sealed in
     let one : file.0 ≡ met.bytes = cc in
     let is_good : IsGood met.bytes = subst IsGood one file.2 in
     met.no_body is_good.body is_good.has_body
@@ -197,7 +198,7 @@ module _ {O W C : Type 0} (g : Ghosts O W C) (old mid new : StoreState O) (event
         let stepped = acted.step in
         let k = stepped.each t s h w in
         let held = held_told t (step s event stepped.outcomes).1 k.held in
-        let form : new.kept.form ≡ old.kept.form = ap (λ (x : Kept). x.form) kept ∙ acted.frame.form in (
+        let form : new.kept.form ≡ old.kept.form = ap (λ (x : KeptState). x.form) kept ∙ acted.frame.form in (
           stepped.outcomes,
           inr (
             subst (λ (n : ℕ). Rose n (g.view new.outside).faults) acted.faults.quiet rose,

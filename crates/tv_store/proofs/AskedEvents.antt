@@ -5,10 +5,10 @@ use Rattle.tv_base.specs.declared.error.TantivyError.{TantivyError}
 use Rattle.tv_base.specs.declared.error.TantivyError.TheVariants as errors
 use Rattle.tv_directory.specs.View.{MayDelete, OnlyReads, Told, View}
 use Rattle.tv_directory.specs.declared.directory.Directory.{Ghosts}
-use Rattle.tv_model.specs.Names.{meta_name}
+use Rattle.tv_formats.specs.Names.{meta_name}
 use Rattle.tv_store.proofs.Results.{on_err}
 use Rattle.tv_store.specs.Acting.{OnFiles}
-use Rattle.tv_store.specs.Kept.{Kept, StoreState}
+use Rattle.tv_store.specs.Kept.{KeptState, StoreState}
 use Rattle.tv_store.specs.Stays.{Asks, AsksOrFails}
 use Rattle.tv_store.specs.StoreCauses.{EventCause}
 use Rattle.tv_store.proofs.FewNumbers.{none_given}
@@ -45,10 +45,10 @@ module _ {O W C : Type 0} (g : Ghosts O W C) (keeps : View W → View W → Type
         faults = record { quiet = asks.faults.quiet; fits = fits; cause = spends_none_in _ _ spent result asks.faults.cause };
         meta = λ tells. on_err result (asks.frame.below.content tells meta_name);
         dotted = λ tells n dot other. asks.frame.below.content tells n;
-        numbers = none_given result (ap (λ (k : Kept). k.collections) kept);
+        numbers = none_given result (ap (λ (k : KeptState). k.collections) kept);
         frame = record {
-          stays = record { form = ap (λ (k : Kept). k.form) kept; standing = asks.frame.standing; below = weaker (g.view old.outside) (g.view new.outside) asks.frame.below };
-          reading = ap (λ (k : Kept). k.catalog.reading) kept;
+          stays = record { form = ap (λ (k : KeptState). k.form) kept; standing = asks.frame.standing; below = weaker (g.view old.outside) (g.view new.outside) asks.frame.below };
+          reading = ap (λ (k : KeptState). k.catalog.reading) kept;
         };
       }
 

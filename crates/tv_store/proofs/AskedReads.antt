@@ -5,9 +5,9 @@ use Rattle.tv_base.specs.declared.error.TantivyError.{TantivyError}
 use Rattle.tv_base.specs.declared.error.TantivyError.TheVariants as errors
 use Rattle.tv_directory.specs.View.{OnlyReads}
 use Rattle.tv_directory.specs.declared.directory.Directory.{Ghosts}
-use Rattle.tv_model.specs.declared.event.Event.{Event}
+use Rattle.tv_machine.specs.declared.event.Event.{Event}
 use Rattle.tv_store.specs.Acting.{OnReading}
-use Rattle.tv_store.specs.Kept.{AtMost, Kept, StoreState}
+use Rattle.tv_store.specs.Kept.{AtMost, KeptState, StoreState}
 use Rattle.tv_store.specs.SnapshotCalls.{ReadingFaults}
 use Rattle.tv_store.specs.Stays.{Asks}
 
@@ -20,7 +20,7 @@ pub only_reads : {O W C : Type 0} (g : Ghosts O W C) (old new : StoreState O) (r
 only_reads g old new result room asks = record {
   room = room;
   lens = λ bound h. subst (AtMost bound) (sym asks.kept) h;
-  frame = record { form = ap (λ (k : Kept). k.form) asks.kept; standing = asks.standing; below = asks.below };
+  frame = record { form = ap (λ (k : KeptState). k.form) asks.kept; standing = asks.standing; below = asks.below };
 }
 
 -- memory was wanted

@@ -1,6 +1,6 @@
 -- What two calls leave alone, one after the other.
 use Rattle.std.proofs.Common.{◌≡◌, ◌∙◌}
-use Rattle.tv_model.specs.State.{Catalog}
+use Rattle.tv_machine.specs.State.{Catalog}
 use Rattle.tv_directory.specs.View.{View, Told, OnlyReads}
 use Rattle.tv_directory.specs.ViewLaws.{reads_then}
 use Rattle.tv_store.specs.Kept.{FilesState, StoreState, kept_of}

@@ -4,16 +4,16 @@ use Rattle.std.specs.Prelude.{String}
 use Rattle.std.specs.BTreeMap.{is_at}
 use Rattle.std.specs.Map.{lookup, remove_entry}
 use Rattle.std.specs.Ordering.{nat_cmp}
-use Rattle.tv_model.specs.CollectionEvents.{ended, garbage, having_deleted, without_files}
-use Rattle.tv_model.specs.Collections.{Collection, collection_at, done_of, having_tried, held, with_collection, without, without_collection}
-use Rattle.tv_model.specs.FileEvents.{opened, sealed_as, written_to, wrote}
-use Rattle.tv_model.specs.Footer.{sealed}
-use Rattle.tv_model.specs.Living.{living}
-use Rattle.tv_model.specs.Names.{has}
-use Rattle.tv_model.specs.State.{FileState, Open, Sealed, State, file_at, with_file}
-use Rattle.tv_model.proofs.CollectionStates.{done_within, has_without}
-use Rattle.tv_model.proofs.Entries.{at_itself, is_itself, lookup_put}
-use Rattle.tv_model.proofs.Numbered.{put_found}
+use Rattle.tv_machine.specs.CollectionEvents.{ended, garbage, having_deleted, without_files}
+use Rattle.tv_formats.specs.Collections.{Collection, collection_at, done_of, having_tried, held, with_collection, without, without_collection}
+use Rattle.tv_machine.specs.FileEvents.{opened, sealed_as, written_to, wrote}
+use Rattle.tv_formats.specs.Footer.{sealed}
+use Rattle.tv_machine.specs.Living.{living}
+use Rattle.tv_formats.specs.Names.{has}
+use Rattle.tv_machine.specs.State.{FileState, Open, SealedFile, State, file_at, with_file}
+use Rattle.tv_formats.proofs.CollectedNames.{done_within, has_without}
+use Rattle.tv_formats.proofs.Entries.{at_itself, is_itself, lookup_put}
+use Rattle.tv_formats.proofs.Numbered.{put_found}
 
 -- ---- files
 
@@ -42,7 +42,7 @@ wrote_more s name bytes body opened_is some same =
 -- and one that is sealed isn't open
 pub sealed_now : (s : State) (name body : List ℕ) → written_to (file_at s name) ≡ Some body → (sealed_as s name body).1 ≢ s
 sealed_now s name body opened_is same =
-    let now : written_to (file_at (sealed_as s name body).1 name) ≡ None = ap written_to (put s name (Sealed (sealed body))) in
+    let now : written_to (file_at (sealed_as s name body).1 name) ≡ None = ap written_to (put s name (SealedFile (sealed body))) in
     let both : ◌≡◌ {A = Option (List ℕ)} None (Some body) = sym now ∙ ap (λ (t : State). written_to (file_at t name)) same ∙ opened_is in
     absurd cc
 

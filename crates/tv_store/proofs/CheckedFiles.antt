@@ -11,14 +11,14 @@ use Rattle.tv_directory.specs.ViewLaws.{deletes_then, kept_itself}
 use Rattle.tv_directory.specs.declared.directory.Directory.{Ghosts}
 use Rattle.tv_index.specs.Crashes.{OnlyLooks}
 use Rattle.tv_managed.specs.Collecting.{TakesNoLock}
-use Rattle.tv_model.specs.Commits.{Commit}
-use Rattle.tv_model.specs.Files.{Heard, Reads, Rose, Same}
-use Rattle.tv_model.specs.Lines.{opening_of}
-use Rattle.tv_model.specs.Names.{has}
-use Rattle.tv_model.specs.Segments.{all_required}
+use Rattle.tv_formats.specs.Commits.{Commit}
+use Rattle.tv_formats.specs.Files.{Heard, Reads, Rose, Same}
+use Rattle.tv_machine.specs.Lines.{opening_of}
+use Rattle.tv_formats.specs.Names.{has}
+use Rattle.tv_formats.specs.Segments.{all_required}
 use Rattle.tv_store.specs.Bodies.{ReadsGoodFile, RefusesAt}
 use Rattle.tv_store.specs.Kept.{FilesState}
-use Rattle.tv_store.specs.Making.{Begins, ChecksFiles, ReadingCause}
+use Rattle.tv_store.specs.Making.{OpensCommit, ChecksFiles, ReadingCause}
 use Rattle.tv_store.specs.OpeningCauses.{IsFirstBad, MeetsMissing, MeetsRefused}
 use Rattle.tv_store.specs.ReadCauses.{ApplyCause}
 use Rattle.tv_store.specs.Stays.{KeepsFiles}
@@ -119,9 +119,9 @@ module _ {A O W C : Type 0} (g : Ghosts O W C) (old new : FilesState O) (result 
   module _ (commit : Commit) (cause : ReadingCause g old.outside new.outside (all_required commit.segments) given) where
     -- the line wasn't told
     pub unbegun : (g.told.heard → TellsNoLine (g.view old.outside).heard (g.view new.outside).heard) → (g.told.heard → TellsFirstPart (g.view old.outside).heard (g.view new.outside).heard (opening_of commit))
-        → KeepsFiles (OnlyTells g.told) g.view old new → Begins g commit old new result
+        → KeepsFiles (OnlyTells g.told) g.view old new → OpensCommit g commit old new result
     unbegun untold part frame = by result is where
-      by : (r : Result A TantivyError) → IsErrAnd r (λ e. e ≡ given) → Begins g commit old new r
+      by : (r : Result A TantivyError) → IsErrAnd r (λ e. e ≡ given) → OpensCommit g commit old new r
       by (Ok a) never = absurd never
       by (Err e) same = record {
         good = λ t. tt;
@@ -137,7 +137,7 @@ module _ {A O W C : Type 0} (g : Ghosts O W C) (old new : FilesState O) (result 
       }
 
     -- nothing was
-    pub unasked : KeepsFiles (OnlyReads g.told) g.view old new → Begins g commit old new result
+    pub unasked : KeepsFiles (OnlyReads g.told) g.view old new → OpensCommit g commit old new result
     unasked frame =
         let heard : (g.view new.outside).heard ≡ (g.view old.outside).heard = frame.managed.below.kept.frame.tells_none.heard in
         unbegun (λ t. subst (TellsNoLine (g.view old.outside).heard) (sym heard) (inl refl))

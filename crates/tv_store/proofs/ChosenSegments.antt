@@ -6,11 +6,10 @@ use Rattle.std.specs.declared.cmp.Ordering.TheVariants.{Less, Equal, Greater}
 use Rattle.std.specs.Ordering.{is_eq}
 use Rattle.std.specs.BTreeMap.{is_at, insert_entry}
 use Rattle.std.proofs.lemmas.List.Folds.{list_any_more}
-use Rattle.tv_model.specs.declared.segment.LiveSegment.{LiveSegment}
-use Rattle.tv_model.specs.Names.{byte_cmp, is, has}
-use Rattle.tv_model.specs.Segments.{num_docs}
-use Rattle.tv_model.specs.State.{at}
-use Rattle.tv_model.proofs.Entries.{text_at, same_at, is_by_order, below_all}
+use Rattle.tv_formats.specs.declared.segment.LiveSegment.{LiveSegment}
+use Rattle.tv_formats.specs.Names.{byte_cmp, is, has, at}
+use Rattle.tv_formats.specs.Segments.{num_docs}
+use Rattle.tv_formats.proofs.Entries.{text_at, same_at, is_by_order, below_all}
 use Rattle.tv_store.specs.Choosing.{with_living}
 
 abbrev pub Entry : Type 0

@@ -4,21 +4,21 @@ use Rattle.std.specs.Prelude.{IfOk}
 use Rattle.tv_base.specs.declared.error.TantivyError.{TantivyError}
 use Rattle.std.specs.List.Sorted.{IsStrictlySortedBy}
 use Rattle.std.proofs.lemmas.List.Kept.{IsStrictlySortedBy-filter}
-use Rattle.tv_model.specs.Names.{byte_cmp, has, meta_name}
-use Rattle.tv_model.specs.Files.{Reads, Same}
-use Rattle.tv_model.specs.Lines.{line, refuse}
-use Rattle.tv_model.specs.Listing.{Listing}
-use Rattle.tv_model.specs.Living.{living}
-use Rattle.tv_model.specs.Collections.{Collection, Collections, begun, collectable, collection_at, having_tried, held, taken, with_begun, with_collection, without, without_collection}
-use Rattle.tv_model.specs.CollectionEvents.{ended, garbage, gc_begin_step, gc_step_step, having_deleted}
-use Rattle.tv_model.specs.State.{Catalog, State, StepResult, FileState, at}
-use Rattle.tv_model.proofs.CollectionStates.{has_without}
-use Rattle.tv_model.proofs.ListTexts.{listing_sorted, same_names}
-use Rattle.tv_model.proofs.Numbered.{put_found}
+use Rattle.tv_formats.specs.Names.{byte_cmp, has, meta_name, at}
+use Rattle.tv_formats.specs.Files.{Reads, Same}
+use Rattle.tv_machine.specs.Lines.{line, refuse}
+use Rattle.tv_formats.specs.Listing.{Listing}
+use Rattle.tv_machine.specs.Living.{living}
+use Rattle.tv_formats.specs.Collections.{Collection, Collections, begun, collectable, collection_at, having_tried, held, taken, with_begun, with_collection, without, without_collection}
+use Rattle.tv_machine.specs.CollectionEvents.{ended, garbage, gc_begin_step, gc_step_step, having_deleted}
+use Rattle.tv_machine.specs.State.{Catalog, State, StepResult, FileState}
+use Rattle.tv_formats.proofs.CollectedNames.{has_without}
+use Rattle.tv_formats.proofs.ListTexts.{listing_sorted, same_names}
+use Rattle.tv_formats.proofs.Numbered.{put_found}
 use Rattle.tv_directory.specs.declared.directory.Directory.{Ghosts}
 use Rattle.tv_store.specs.Acting.{StepsDeleting}
-use Rattle.tv_store.specs.CollectingCalls.{BeginsCollection, EndsCollection, TriesNext, gone_of}
-use Rattle.tv_store.specs.Kept.{FilesState, Holds, Kept, StoreState, kept_of}
+use Rattle.tv_store.specs.CollectingCalls.{BeginsCollection, FinishesCollection, TriesNext, gone_of}
+use Rattle.tv_store.specs.Kept.{FilesState, Holds, KeptState, StoreState, kept_of}
 use Rattle.tv_store.specs.Stays.{AsksOrFails, KeepsAllButList}
 use Rattle.tv_store.proofs.CollectionEvents.{gone_holds, takes_garbage}
 use Rattle.tv_store.proofs.Listings.{listing_kept}
@@ -30,7 +30,7 @@ all_stay [] = refl
 all_stay {X} (e ∷ entries) = ap (λ (es : List (List ℕ × X)). e ∷ es) (all_stay entries)
 
 -- other collections, and nothing else
-recollected : (reads : Reads) (kept : Kept) (s : State) (collections : Collections) → Holds reads kept s → Holds reads (record kept { collections = collections }) (record s { collections = collections })
+recollected : (reads : Reads) (kept : KeptState) (s : State) (collections : Collections) → Holds reads kept s → Holds reads (record kept { collections = collections }) (record s { collections = collections })
 recollected reads kept s collections h = record {
   catalog = h.catalog;
   managed = h.managed;
@@ -98,7 +98,7 @@ module _ {O W C : Type 0} (g : Ghosts O W C) (catalog : Catalog) (old new : File
   found_there number c there = ap (λ (k : Collections). collection_at k number) (sym h.collections) ∙ there
 
   -- a collection is finished
-  pub ended_holds : (number : ℕ) → g.told.content → (told : EndsCollection g number old new) → KeepsAllButList (g.view old.outside).reads (g.view new.outside).reads
+  pub ended_holds : (number : ℕ) → g.told.content → (told : FinishesCollection g number old new) → KeepsAllButList (g.view old.outside).reads (g.view new.outside).reads
       → new ≡ record old { outside = new.outside; managed = new.managed; collections = new.collections }
       → Holds (g.view new.outside).reads (kept_of catalog new) (ended s number told.collection).1
   ended_holds number tells told others rest =

@@ -7,14 +7,13 @@ use Rattle.std.proofs.lemmas.Bool.{false_from_ne_true}
 use Rattle.tv_base.specs.declared.error.TantivyError.{TantivyError}
 use Rattle.tv_base.specs.declared.error.TantivyError.TheVariants as errors
 use Rattle.tv_base.specs.declared.open_errors.LockError.TheVariants as lock
-use Rattle.tv_model.specs.Collections.{Collection, Collections, collection_at, done_of, failed_of, having_tried, held, taken, with_collection}
-use Rattle.tv_model.specs.Files.{Rose, RoseBy}
-use Rattle.tv_model.specs.Machine.{refused_in}
-use Rattle.tv_model.specs.Names.{has, is, is_plain, is_undotted, meta_name}
-use Rattle.tv_model.specs.State.{at}
-use Rattle.tv_model.proofs.CollectionStates.{done_within, has_append}
-use Rattle.tv_model.proofs.Entries.{is_text, isnt_one}
-use Rattle.tv_model.proofs.Collects.{failed_within}
+use Rattle.tv_formats.specs.Collections.{Collection, Collections, collection_at, done_of, failed_of, having_tried, held, taken, with_collection}
+use Rattle.tv_formats.specs.Files.{Rose, RoseBy}
+use Rattle.tv_machine.specs.Machine.{refused_in}
+use Rattle.tv_formats.specs.Names.{has, is, is_plain, is_undotted, meta_name, at}
+use Rattle.tv_formats.proofs.CollectedNames.{done_within, has_append}
+use Rattle.tv_formats.proofs.Entries.{is_text, isnt_one}
+use Rattle.tv_machine.proofs.Collects.{failed_within}
 use Rattle.tv_directory.specs.declared.directory.Directory.{Ghosts}
 use Rattle.tv_managed.specs.Collecting.{EndsCollection as EndsManaged}
 use Rattle.tv_managed.specs.Collecting.{Among, Begins, CollectCause, CollectFaults, IsLast, Leaves, SparesWriters, Steps, TakesNoLock, TriesName, is_done, meta_lock_name, taken_by, tried_name}
@@ -22,8 +21,9 @@ use Rattle.tv_managed.specs.Names.{ManagedNames}
 use Rattle.tv_managed.specs.declared.collection.CollectStep.{CollectStep}
 use Rattle.tv_managed.specs.declared.collection.GarbageCollectionResult.{GarbageCollectionResult}
 use Rattle.tv_store.proofs.Listings.{list_is_dotted}
-use Rattle.tv_store.specs.CollectingCalls.{EndsCollection, HasUntried, TriesNext, gone_of}
-use Rattle.tv_store.specs.Exhausted.{SomePassesEnd, collection_after}
+use Rattle.tv_store.specs.CollectingCalls.{FinishesCollection, HasUntried, TriesNext, gone_of}
+use Rattle.tv_store.specs.Effects.{collection_after}
+use Rattle.tv_store.specs.Exhausted.{SomePassesEnd}
 use Rattle.tv_store.specs.FileCalls.{GcFaults}
 use Rattle.tv_store.specs.Kept.{FilesState, names_below}
 use Rattle.tv_store.specs.StoreCauses.{EventCause, IsBusy, LockingCause}
@@ -98,7 +98,7 @@ module _ {O W C : Type 0} (g : Ghosts O W C) (number : ℕ) (old : FilesState O)
       let did = (subst (λ o. EndsManaged {E = TantivyError} g number o new (Ok result)) same ends).ok c.0 c.1 in
       ap (λ names. has (held names.collections) meta_name) did.names ∙ never _ (has (held old.collections) meta_name) (held_ended meta_name old.collections number) spared
 
-  pub ends_so : (new : FilesState O) (result : GarbageCollectionResult) → EndsManaged {E = TantivyError} g number first (names_below new) (Ok result) → EndsCollection g number old new
+  pub ends_so : (new : FilesState O) (result : GarbageCollectionResult) → EndsManaged {E = TantivyError} g number first (names_below new) (Ok result) → FinishesCollection g number old new
   ends_so new result ends =
       let c = some_of _ some in
       let whole = subst (λ o. EndsManaged {E = TantivyError} g number o (names_below new) (Ok result)) same ends in
@@ -143,9 +143,9 @@ tried_next g number step given named old new first same is telling some steps =
       left_names = n.1;
       there = c.1;
       first = n.2;
-      plain = did.plain;
-      names = did.names;
-      tried = did.tried;
+      plain = did.noted.plain;
+      names = did.noted.names;
+      tried = did.noted.tried;
     })
 
 has_one : (x n : List ℕ) → has (x ∷ []) n ≡ is x n

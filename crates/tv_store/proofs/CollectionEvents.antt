@@ -2,18 +2,20 @@
 use Rattle.std.proofs.Common.{◌≡◌, filter, ℕ, inl, inr, ⊎_elim, Bool, true, false, true≢false, cond, not, ◌&&◌, ◌||◌, List, [], ◌∷◌, ◌++◌, length, Option, Some, None, option_map, is_some, refl, sym, ap, subst, ◌∙◌, arith}
 use Rattle.std.specs.List.{AllByRecursion}
 use Rattle.std.specs.BTreeMap.{is_at}
-use Rattle.tv_model.specs.declared.segment.LiveSegment.{LiveSegment}
-use Rattle.tv_model.specs.Names.{byte_cmp, is, has, meta_name}
-use Rattle.tv_model.specs.Files.{Reads, RoseBy}
-use Rattle.tv_model.specs.Listing.{IsListFile, Listing}
-use Rattle.tv_model.specs.Collections.{Collections, done_of, failed_of, collectable, held, without}
-use Rattle.tv_model.specs.Living.{living, segment_names}
-use Rattle.tv_model.specs.State.{Catalog, State, FileState, Sealed, Open, Left, at, file_at}
-use Rattle.tv_model.specs.CollectionEvents.{garbage, without_files, without_live, collected_line, gc_step, left, released, with_left}
-use Rattle.tv_model.specs.Machine.{refused_in}
-use Rattle.tv_model.specs.Meaning.{Means}
-use Rattle.tv_model.specs.Commits.{Commit, IsSegment, IndexForm}
-use Rattle.tv_model.proofs.CollectionStates.{has_append, has_without, at_without, living_spared, meta_living, at_left}
+use Rattle.tv_formats.specs.declared.segment.LiveSegment.{LiveSegment}
+use Rattle.tv_formats.specs.Names.{byte_cmp, is, has, meta_name, at}
+use Rattle.tv_formats.specs.Files.{Reads, RoseBy}
+use Rattle.tv_formats.specs.Listing.{IsListFile, Listing}
+use Rattle.tv_formats.specs.Collections.{Collections, done_of, failed_of, collectable, held, without}
+use Rattle.tv_machine.specs.Living.{living}
+use Rattle.tv_formats.specs.Segments.{segment_names}
+use Rattle.tv_machine.specs.State.{Catalog, State, FileState, SealedFile, Open, Left, file_at}
+use Rattle.tv_machine.specs.CollectionEvents.{garbage, without_files, without_live, collected_line, gc_step, left, released, with_left}
+use Rattle.tv_machine.specs.Machine.{refused_in}
+use Rattle.tv_formats.specs.Meaning.{Means}
+use Rattle.tv_formats.specs.Commits.{Commit, IsSegment, IndexForm}
+use Rattle.tv_formats.proofs.CollectedNames.{has_append, has_without, at_without}
+use Rattle.tv_machine.proofs.CollectionStates.{living_spared, meta_living, at_left}
 use Rattle.tv_directory.specs.declared.directory.Directory.{Ghosts}
 use Rattle.tv_managed.specs.Collecting.{FailsAtMost}
 use Rattle.tv_store.specs.FileCalls.{Tried, Collects, LeavesFiles}
@@ -62,7 +64,7 @@ left_file : (b : Bool) (file : Option FileState) (read is_open was_open : Option
 left_file false None read is_open was_open e h = (h.0, e ∙ h.1)
 left_file false (Some file) read is_open was_open e h = rw e h
 left_file true None read is_open was_open e h = (h.0, e)
-left_file true (Some (Sealed bytes)) read is_open was_open e h = (h.0, e)
+left_file true (Some (SealedFile bytes)) read is_open was_open e h = (h.0, e)
 left_file true (Some (Open body)) read is_open was_open e h = (h.0, e)
 left_file true (Some Left) read is_open was_open e h = (h.0, e)
 
@@ -73,11 +75,11 @@ was_named b (Some file) h = refl
 -- a file of the names is left where it was open, and any other is as it was
 left_is : (b : Bool) (file : Option FileState) (read is_open : Option (List ℕ)) → (b ≡ true → FileHolds file read is_open) → (is_left file || (b && is_some is_open)) ≡ is_left (option_map (λ f. cond b (left f) f) file)
 left_is false None read is_open h = refl
-left_is false (Some (Sealed bytes)) read is_open h = refl
+left_is false (Some (SealedFile bytes)) read is_open h = refl
 left_is false (Some (Open body)) read is_open h = refl
 left_is false (Some Left) read is_open h = refl
 left_is true None read is_open h = ap is_some (h refl).1
-left_is true (Some (Sealed bytes)) read is_open h = ap is_some (h refl).1
+left_is true (Some (SealedFile bytes)) read is_open h = ap is_some (h refl).1
 left_is true (Some (Open body)) read is_open h = ap is_some (h refl).1
 left_is true (Some Left) read is_open h = refl
 

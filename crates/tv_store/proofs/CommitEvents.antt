@@ -5,26 +5,26 @@ use Rattle.std.specs.List.{filter, AllByRecursion}
 use Rattle.std.specs.BTreeSet.{insert_key}
 use Rattle.std.proofs.lemmas.List.{take_more}
 use Rattle.std.proofs.lemmas.List.Folds.{find-append}
-use Rattle.tv_model.specs.declared.segment.DeleteMeta.{DeleteMeta}
-use Rattle.tv_model.specs.declared.segment.LiveSegment.{LiveSegment}
-use Rattle.tv_model.specs.declared.segment.SegmentComponent.{SegmentComponent}
-use Rattle.tv_model.specs.Names.{byte_cmp, has, meta_name}
-use Rattle.tv_model.specs.Ids.{IsId}
-use Rattle.tv_model.specs.Files.{Reads}
-use Rattle.tv_model.specs.Listing.{Listing}
-use Rattle.tv_model.specs.Segments.{name_of, num_docs, required_components, required_names, all_required}
-use Rattle.tv_model.specs.Commits.{Commit, IsSegment, printed}
-use Rattle.tv_model.specs.Meaning.{Means}
-use Rattle.tv_model.specs.State.{Catalog, State, at, file_at}
-use Rattle.tv_model.specs.CommitEvents.{chosen, committed}
-use Rattle.tv_model.specs.Index.{IsFileOf}
-use Rattle.tv_model.proofs.Entries.{insert_present}
-use Rattle.tv_model.proofs.ReadPrinted.{printed_means}
-use Rattle.tv_model.proofs.Required.{name_is_file}
+use Rattle.tv_formats.specs.declared.segment.DeleteMeta.{DeleteMeta}
+use Rattle.tv_formats.specs.declared.segment.LiveSegment.{LiveSegment}
+use Rattle.tv_formats.specs.declared.segment.SegmentComponent.{SegmentComponent}
+use Rattle.tv_formats.specs.Names.{byte_cmp, has, meta_name, at}
+use Rattle.tv_formats.specs.Ids.{IsId}
+use Rattle.tv_formats.specs.Files.{Reads}
+use Rattle.tv_formats.specs.Listing.{Listing}
+use Rattle.tv_formats.specs.Segments.{name_of, num_docs, required_components, required_names, all_required}
+use Rattle.tv_formats.specs.Commits.{Commit, IsSegment, printed}
+use Rattle.tv_formats.specs.Meaning.{Means}
+use Rattle.tv_machine.specs.State.{Catalog, State, file_at}
+use Rattle.tv_machine.specs.CommitEvents.{chosen, committed}
+use Rattle.tv_machine.specs.Index.{IsFileOf}
+use Rattle.tv_formats.proofs.Entries.{insert_present}
+use Rattle.tv_formats.proofs.ReadPrinted.{printed_means}
+use Rattle.tv_machine.proofs.Required.{name_is_file}
 use Rattle.tv_managed.specs.Managed.{KeepsOtherFiles}
 use Rattle.tv_store.proofs.Listings.{undotted_isnt_list}
-use Rattle.tv_model.proofs.ListTexts.{listing_sorted}
-use Rattle.tv_store.specs.Kept.{Kept, Holds, FileHolds}
+use Rattle.tv_formats.proofs.ListTexts.{listing_sorted}
+use Rattle.tv_store.specs.Kept.{KeptState, Holds, FileHolds}
 use Rattle.tv_store.specs.Committing.{PrintsNext}
 
 -- ---- lists, one element further
@@ -87,7 +87,7 @@ next_commit catalog held commit same is =
     ap (λ (n : ℕ). record { opstamp = n; payload = commit.payload; segments = commit.segments }) (is ∙ ap (λ (c : Catalog). c.next) same)
 
 -- and its text means it, under the schema that was meant before
-pub means_next : (reads : Reads) (kept : Kept) (s : State) (commit : Commit) (text : List ℕ) → Holds reads kept s → PrintsNext kept commit text
+pub means_next : (reads : Reads) (kept : KeptState) (s : State) (commit : Commit) (text : List ℕ) → Holds reads kept s → PrintsNext kept commit text
     → Means kept.form.settings kept.form.schema text (committed s.catalog commit.payload commit.segments).1.commit
 means_next reads kept s commit text h p =
     let means : Means kept.form.settings kept.form.schema (printed kept.form.settings kept.form.schema commit ++ 10 ∷ []) commit =
@@ -96,7 +96,7 @@ means_next reads kept s commit text h p =
     (subst (λ (t : List ℕ). Means kept.form.settings kept.form.schema t commit) (sym p.text_is) means)
 
 -- the state after a commit
-pub published : (before now : Reads) (kept after : Kept) (s : State) (commit : Commit) (text : List ℕ) → Holds before kept s → PrintsNext kept commit text
+pub published : (before now : Reads) (kept after : KeptState) (s : State) (commit : Commit) (text : List ℕ) → Holds before kept s → PrintsNext kept commit text
     → after ≡ record kept { catalog = record kept.catalog { next = kept.catalog.next + 1; commit = commit }; managed = insert_key byte_cmp kept.managed meta_name }
     → now meta_name ≡ Some text → KeepsOtherFiles before now meta_name → (Listing before kept.managed → Listing now after.managed)
     → Holds now after (record s { catalog = (committed s.catalog commit.payload commit.segments).1 })
@@ -107,8 +107,8 @@ published before now kept after s commit text h is is_after saved others list =
     ap (λ (c : Catalog). record c { next = c.next + 1; commit = commit }) h.catalog
     ∙ ap (λ (k : Commit). record s.catalog { next = s.catalog.next + 1; commit = k }) (next_commit kept.catalog s.catalog commit h.catalog is.opstamp) in
     let listing : Listing now (insert_key byte_cmp kept.managed meta_name) =
-    subst (λ (k : Kept). Listing now k.managed) is_after (list (subst (λ (ns : List (List ℕ)). Listing before ns) (sym h.managed) h.listing)) in
-    subst (λ (k : Kept). Holds now k (record s { catalog = (committed s.catalog commit.payload commit.segments).1 })) (sym is_after) (record {
+    subst (λ (k : KeptState). Listing now k.managed) is_after (list (subst (λ (ns : List (List ℕ)). Listing before ns) (sym h.managed) h.listing)) in
+    subst (λ (k : KeptState). Holds now k (record s { catalog = (committed s.catalog commit.payload commit.segments).1 })) (sym is_after) (record {
       catalog = catalog;
       managed = names;
       collections = h.collections;

@@ -8,20 +8,20 @@ use Rattle.tv_base.specs.declared.open_errors.OpenWriteError.TheVariants as writ
 use Rattle.tv_directory.specs.View.{View, Told as ToldParts, OnlyReads}
 use Rattle.tv_directory.specs.Watch.{WatchState, noted}
 use Rattle.tv_directory.specs.declared.directory.Directory.{Ghosts}
-use Rattle.tv_model.specs.declared.segment.LiveSegment.{LiveSegment}
-use Rattle.tv_model.specs.Names.{meta_name}
-use Rattle.tv_model.specs.Files.{Rose}
-use Rattle.tv_model.specs.Lines.{refuse, unless, words_of}
-use Rattle.tv_model.specs.Commits.{Commit, IndexForm}
-use Rattle.tv_model.specs.Meaning.{Means}
-use Rattle.tv_model.specs.State.{State, StepResult, on_catalog}
-use Rattle.tv_model.specs.CommitEvents.{commit_step, committed, chosen, first_unknown, first_unsealed, last_stamp}
+use Rattle.tv_formats.specs.declared.segment.LiveSegment.{LiveSegment}
+use Rattle.tv_formats.specs.Names.{meta_name}
+use Rattle.tv_formats.specs.Files.{Rose}
+use Rattle.tv_machine.specs.Lines.{refuse, unless, words_of}
+use Rattle.tv_formats.specs.Commits.{Commit, IndexForm}
+use Rattle.tv_formats.specs.Meaning.{Means}
+use Rattle.tv_machine.specs.State.{State, StepResult, on_catalog}
+use Rattle.tv_machine.specs.CommitEvents.{commit_step, committed, chosen, first_unknown, first_unsealed, last_stamp}
 use Rattle.tv_managed.specs.Managed.{KeepsOtherFiles}
-use Rattle.tv_store.specs.Kept.{Kept, StoreState, Holds}
+use Rattle.tv_store.specs.Kept.{KeptState, StoreState, Holds}
 use Rattle.tv_store.specs.StoreCauses.{EventCause}
 use Rattle.tv_store.specs.Applying.{LeavesCommit, SavesUnlessRefused}
 use Rattle.tv_store.specs.Stays.{Asks, EventFaults}
-use Rattle.tv_store.specs.Committing.{CommitStep, Commits, PrintsNext, KeepsRest, Publishes, commit_line, commit_of, unknown_line, unsealed_line}
+use Rattle.tv_store.specs.Committing.{CommitStep, Commits, PrintsNext, KeepsRest, Publishes, commit_line, commit_sealed, unknown_line, unsealed_line}
 use Rattle.tv_store.proofs.Holding.{same_holds, dotted_others}
 use Rattle.tv_store.proofs.CommitEvents.{means_next, next_commit, published}
 use Rattle.tv_index.specs.Saving.{saved_text}
@@ -31,10 +31,10 @@ module _ {O W C : Type 0} (g : Ghosts O W C) (given : Type 0) (old new : StoreSt
   -- what was only asked for stays
   rest_asked : Asks (OnlyReads g.told) g.view old new → KeepsRest g.told g.view old new
   rest_asked asks = record {
-    stays = record { form = ap (λ (k : Kept). k.form) asks.kept; standing = asks.standing; below = record { frame = asks.below.kept.frame; watched = inl asks.below.kept.watched } };
-    open_files = ap (λ (k : Kept). k.open_files) asks.kept;
-    collections = ap (λ (k : Kept). k.collections) asks.kept;
-    reading = ap (λ (k : Kept). k.catalog.reading) asks.kept;
+    stays = record { form = ap (λ (k : KeptState). k.form) asks.kept; standing = asks.standing; below = record { frame = asks.below.kept.frame; watched = inl asks.below.kept.watched } };
+    open_files = ap (λ (k : KeptState). k.open_files) asks.kept;
+    collections = ap (λ (k : KeptState). k.collections) asks.kept;
+    reading = ap (λ (k : KeptState). k.catalog.reading) asks.kept;
   }
 
   -- nothing changed, and an error was answered
@@ -115,13 +115,13 @@ module _ {O W C : Type 0} (g : Ghosts O W C) (old mid new : StoreState O) where
   rest_later : Asks (OnlyReads g.told) g.view old mid → KeepsRest g.told g.view mid new → KeepsRest g.told g.view old new
   rest_later asks rest = record {
     stays = record {
-      form = rest.stays.form ∙ ap (λ (k : Kept). k.form) asks.kept;
+      form = rest.stays.form ∙ ap (λ (k : KeptState). k.form) asks.kept;
       standing = rest.stays.standing ∙ asks.standing;
       below = notes_later asks.below rest.stays.below;
     };
-    open_files = rest.open_files ∙ ap (λ (k : Kept). k.open_files) asks.kept;
-    collections = rest.collections ∙ ap (λ (k : Kept). k.collections) asks.kept;
-    reading = rest.reading ∙ ap (λ (k : Kept). k.catalog.reading) asks.kept;
+    open_files = rest.open_files ∙ ap (λ (k : KeptState). k.open_files) asks.kept;
+    collections = rest.collections ∙ ap (λ (k : KeptState). k.collections) asks.kept;
+    reading = rest.reading ∙ ap (λ (k : KeptState). k.catalog.reading) asks.kept;
   }
 
   faults_later : {A : Type 0} (result : Result A TantivyError) → (g.view mid.outside).faults ≡ (g.view old.outside).faults → EventFaults ⊥ (g.view mid.outside) (g.view new.outside) result → EventFaults ⊥ (g.view old.outside) (g.view new.outside) result
@@ -134,11 +134,11 @@ module _ {O W C : Type 0} (g : Ghosts O W C) (old mid new : StoreState O) where
   commits_later given told result asks quiet h = record {
     step = λ tells s held known.
         let now = same_holds (g.view old.outside).reads (g.view mid.outside).reads old.kept mid.kept s (asks.below.content tells) asks.kept held in
-        IfOk-weaker result (CommitStep g mid new s (told s)) (CommitStep g old new s (told s)) (λ answer k. (k.0, k.1, saves_later g.told old.kept.form mid.kept.form (g.view old.outside) (g.view mid.outside) (g.view new.outside) s (told s).1 tells asks.below (ap (λ (x : Kept). x.form) asks.kept) k.2))
+        IfOk-weaker result (CommitStep g mid new s (told s)) (CommitStep g old new s (told s)) (λ answer k. (k.0, k.1, saves_later g.told old.kept.form mid.kept.form (g.view old.outside) (g.view mid.outside) (g.view new.outside) s (told s).1 tells asks.below (ap (λ (x : KeptState). x.form) asks.kept) k.2))
         (h.step tells s now known);
     meta = λ tells s held known.
         let now = same_holds (g.view old.outside).reads (g.view mid.outside).reads old.kept mid.kept s (asks.below.content tells) asks.kept held in
-        on_err_weaker result (later_left (g.view old.outside).faults (g.view new.outside).faults (g.view mid.outside).faults ((g.view old.outside).reads meta_name) ((g.view mid.outside).reads meta_name) ((g.view new.outside).reads meta_name) old.kept.form mid.kept.form (told s).1.catalog.commit quiet (asks.below.content tells meta_name) (ap (λ (k : Kept). k.form) asks.kept))
+        on_err_weaker result (later_left (g.view old.outside).faults (g.view new.outside).faults (g.view mid.outside).faults ((g.view old.outside).reads meta_name) ((g.view mid.outside).reads meta_name) ((g.view new.outside).reads meta_name) old.kept.form mid.kept.form (told s).1.catalog.commit quiet (asks.below.content tells meta_name) (ap (λ (k : KeptState). k.form) asks.kept))
         (h.meta tells s now known);
     memory = λ tells. subst (λ (r : Option (List ℕ)). IfErr result (λ error. error ≡ errors.Memory → (g.view new.outside).reads meta_name ≡ r)) (asks.below.content tells meta_name) (h.memory tells);
     room = h.room;
@@ -158,18 +158,18 @@ pub unknown_step : (s : State) (payload : Option (List ℕ)) (ids : List (List �
 unknown_step s payload ids id left found = rw (left, found) refl
 
 -- or all are
-pub known_step : (s : State) (payload : Option (List ℕ)) (ids : List (List ℕ)) → (s.catalog.next == last_stamp) ≡ false → first_unknown s.catalog ids ≡ None → commit_step s payload ids ≡ commit_of s payload (chosen s.catalog ids)
+pub known_step : (s : State) (payload : Option (List ℕ)) (ids : List (List ℕ)) → (s.catalog.next == last_stamp) ≡ false → first_unknown s.catalog ids ≡ None → commit_step s payload ids ≡ commit_sealed s payload (chosen s.catalog ids)
 known_step s payload ids left found = rw (left, found) refl
 
 -- a file isn't sealed
-pub unsealed_step : (s : State) (payload : Option (List ℕ)) (segments : List (List ℕ × LiveSegment)) (answer : List ℕ) → Some answer ≡ option_map unsealed_line (first_unsealed s segments) → commit_of s payload segments ≡ (answer, s)
+pub unsealed_step : (s : State) (payload : Option (List ℕ)) (segments : List (List ℕ × LiveSegment)) (answer : List ℕ) → Some answer ≡ option_map unsealed_line (first_unsealed s segments) → commit_sealed s payload segments ≡ (answer, s)
 unsealed_step s payload segments answer h = told (first_unsealed s segments) h where
   told : (found : Option (List ℕ)) → Some answer ≡ option_map unsealed_line found → unless s ((is_some found, codes "unsealed" ∷ words_of found) ∷ []) (on_catalog s (committed s.catalog payload segments)) ≡ (answer, s)
   told None e = absurd cc
   told (Some name) e = let is : answer ≡ unsealed_line name = cc in ap (λ (a : List ℕ). (a, s)) (sym is)
 
 -- or all are
-pub sealed_step : (s : State) (payload : Option (List ℕ)) (segments : List (List ℕ × LiveSegment)) → None ≡ option_map unsealed_line (first_unsealed s segments) → on_catalog s (committed s.catalog payload segments) ≡ commit_of s payload segments
+pub sealed_step : (s : State) (payload : Option (List ℕ)) (segments : List (List ℕ × LiveSegment)) → None ≡ option_map unsealed_line (first_unsealed s segments) → on_catalog s (committed s.catalog payload segments) ≡ commit_sealed s payload segments
 sealed_step s payload segments h = told (first_unsealed s segments) h where
   told : (found : Option (List ℕ)) → None ≡ option_map unsealed_line found → on_catalog s (committed s.catalog payload segments) ≡ unless s ((is_some found, codes "unsealed" ∷ words_of found) ∷ []) (on_catalog s (committed s.catalog payload segments))
   told None e = refl

@@ -1,10 +1,10 @@
 -- What is held after documents of a segment were deleted.
 use Rattle.std.proofs.Common.{◌≡◌, ◌≤◌, ◌<◌, ℕ, List, [], ◌∷◌, Some, refl, sym, subst, arith}
-use Rattle.tv_model.specs.declared.segment.LiveSegment.{LiveSegment}
-use Rattle.tv_model.specs.Commits.{IsSegment}
-use Rattle.tv_model.specs.CommitEvents.{last_stamp}
-use Rattle.tv_model.specs.DeleteEvents.{delete_name, having_deleted_docs, next_deletes, with_deletes}
-use Rattle.tv_model.specs.State.{Catalog, State, live_at}
+use Rattle.tv_formats.specs.declared.segment.LiveSegment.{LiveSegment}
+use Rattle.tv_formats.specs.Commits.{IsSegment}
+use Rattle.tv_machine.specs.CommitEvents.{last_stamp}
+use Rattle.tv_machine.specs.DeleteEvents.{delete_name, having_deleted_docs, next_deletes, with_deletes}
+use Rattle.tv_machine.specs.State.{Catalog, State, live_at}
 use Rattle.tv_directory.specs.declared.directory.Directory.{Ghosts}
 use Rattle.tv_store.specs.FileCalls.{LeavesFiles}
 use Rattle.tv_store.specs.Kept.{FilesState, Holds, kept_of}

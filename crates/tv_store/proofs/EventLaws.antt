@@ -6,29 +6,29 @@ use Rattle.std.proofs.lemmas.Bool.{lt-ltb}
 use Rattle.hex.specs.Hex.{encode_lower}
 use Rattle.tv_directory.specs.declared.directory.Directory.{Ghosts}
 use Rattle.tv_index.specs.Saving.{saved_text}
-use Rattle.tv_model.specs.Collections.{held}
-use Rattle.tv_model.specs.CommitEvents.{chosen, commit_step, committed, first_unknown, first_unsealed, last_stamp}
-use Rattle.tv_model.specs.Commits.{IndexForm, IsSegment}
-use Rattle.tv_model.specs.DeleteEvents.{delete_name, deletes_step, having_deleted_docs, is_committed_delete, is_name_in_use, next_deletes}
-use Rattle.tv_model.specs.FileEvents.{seal_name, seal_step, sealed_as, write_name, write_step, written_to, wrote}
-use Rattle.tv_model.specs.Footer.{sealed}
-use Rattle.tv_model.specs.Index.{IsFileOf}
-use Rattle.tv_model.specs.Lines.{given, unless, words_of}
-use Rattle.tv_model.specs.Machine.{step}
-use Rattle.tv_model.specs.Names.{byte_cmp, has, meta_name}
-use Rattle.tv_model.specs.ReaderEvents.{bodies_in, reload_step, reloaded}
-use Rattle.tv_model.specs.SearcherEvents.{bytes_step}
-use Rattle.tv_model.specs.Segments.{name_of, num_docs}
-use Rattle.tv_model.specs.SoundStates.{IsWhole}
-use Rattle.tv_model.specs.State.{Catalog, FileState, Open, Reader, Sealed, Snapshot, State, StepResult, at, file_at, live_at, on_catalog, reader_at, with_file}
-use Rattle.tv_model.specs.declared.event.Event.{Event}
-use Rattle.tv_model.specs.declared.event.Event.TheVariants as events
-use Rattle.tv_model.specs.declared.segment.LiveSegment.{LiveSegment}
-use Rattle.tv_model.specs.declared.segment.SegmentComponent.{SegmentComponent}
-use Rattle.tv_model.proofs.Entries.{at_itself, lookup_put, text_at}
-use Rattle.tv_model.proofs.Numbered.{put_found}
-use Rattle.tv_model.proofs.Required.{name_is_file}
-use Rattle.tv_model.proofs.WholeStates.{after_whole}
+use Rattle.tv_formats.specs.Collections.{held}
+use Rattle.tv_machine.specs.CommitEvents.{chosen, commit_step, committed, first_unknown, first_unsealed, last_stamp}
+use Rattle.tv_formats.specs.Commits.{IndexForm, IsSegment}
+use Rattle.tv_machine.specs.DeleteEvents.{delete_name, deletes_step, having_deleted_docs, is_committed_delete, is_name_in_use, next_deletes}
+use Rattle.tv_machine.specs.FileEvents.{seal_name, seal_step, sealed_as, write_name, write_step, written_to, wrote}
+use Rattle.tv_formats.specs.Footer.{sealed}
+use Rattle.tv_machine.specs.Index.{IsFileOf}
+use Rattle.tv_machine.specs.Lines.{given, unless, words_of}
+use Rattle.tv_machine.specs.Machine.{step}
+use Rattle.tv_formats.specs.Names.{byte_cmp, has, meta_name, at}
+use Rattle.tv_machine.specs.ReaderEvents.{bodies_in, reload_step, reloaded}
+use Rattle.tv_machine.specs.SearcherEvents.{bytes_step}
+use Rattle.tv_formats.specs.Segments.{name_of, num_docs}
+use Rattle.tv_machine.specs.SoundStates.{IsWhole}
+use Rattle.tv_machine.specs.State.{Catalog, FileState, Open, Reader, SealedFile, Snapshot, State, StepResult, file_at, live_at, on_catalog, reader_at, with_file}
+use Rattle.tv_machine.specs.declared.event.Event.{Event}
+use Rattle.tv_machine.specs.declared.event.Event.TheVariants as events
+use Rattle.tv_formats.specs.declared.segment.LiveSegment.{LiveSegment}
+use Rattle.tv_formats.specs.declared.segment.SegmentComponent.{SegmentComponent}
+use Rattle.tv_formats.proofs.Entries.{at_itself, lookup_put, text_at}
+use Rattle.tv_formats.proofs.Numbered.{put_found}
+use Rattle.tv_machine.proofs.Required.{name_is_file}
+use Rattle.tv_machine.proofs.WholeStates.{after_whole}
 use Rattle.tv_store.specs.Applying.{LeavesAlone, Stepped, WritesByStep}
 use Rattle.tv_store.specs.EventLaws.{HasLiving, HoldsSome}
 use Rattle.tv_store.specs.Kept.{FileHolds, Holds, StoreState}
@@ -137,7 +137,7 @@ reload_shows c number bodies reader found =
 
 -- ---- what was sealed
 
-sealed_is : (read written : Option (List ℕ)) (bytes : List ℕ) (file : Option FileState) → file ≡ Some (Sealed bytes) → FileHolds file read written → read ≡ Some bytes
+sealed_is : (read written : Option (List ℕ)) (bytes : List ℕ) (file : Option FileState) → file ≡ Some (SealedFile bytes) → FileHolds file read written → read ≡ Some bytes
 sealed_is read written bytes file is h = (subst (λ (o : Option FileState). FileHolds o read written) is h).0
 
 file_put : (s : State) (name : List ℕ) (file : FileState) → file_at (with_file s name file) name ≡ Some file
@@ -212,7 +212,7 @@ module _ {O W C : Type 0} (g : Ghosts O W C) (old mid new : StoreState O) (h : H
       (file_known h.state id file component segment (λ _ name. write_name h.state name bytes) live_here refl
       ∙ body_step h.state file (wrote h.state file bytes) (g.view old.outside).reads old.kept (Some body) h.held is_file opened)
 
-  sealed_so : (seal_step longer id component).1 ≡ with_file longer file (Sealed (sealed (body ++ bytes)))
+  sealed_so : (seal_step longer id component).1 ≡ with_file longer file (SealedFile (sealed (body ++ bytes)))
   sealed_so =
       ap (λ (r : StepResult State). r.1)
       (file_known longer id file component segment (λ _ name. seal_name longer name) live_here refl
@@ -223,5 +223,5 @@ module _ {O W C : Type 0} (g : Ghosts O W C) (old mid new : StoreState O) (h : H
   reads_sealed first second did ended =
       let whole : IsWhole longer = subst IsWhole wrote_so (after_whole h.state ((events.Write id component bytes, did.outcomes) ∷ []) h.whole) in
       let between : Holds (g.view mid.outside).reads mid.kept longer = subst (Holds (g.view mid.outside).reads mid.kept) wrote_so (did.each h.tells h.state h.held h.whole).held in
-      let last : Holds (g.view new.outside).reads new.kept (with_file longer file (Sealed (sealed (body ++ bytes)))) = subst (Holds (g.view new.outside).reads new.kept) sealed_so (ended.each h.tells longer between whole).held in
-      sealed_is ((g.view new.outside).reads file) (at new.kept.open_files file) (sealed (body ++ bytes)) _ (file_put longer file (Sealed (sealed (body ++ bytes)))) (last.files file is_file)
+      let last : Holds (g.view new.outside).reads new.kept (with_file longer file (SealedFile (sealed (body ++ bytes)))) = subst (Holds (g.view new.outside).reads new.kept) sealed_so (ended.each h.tells longer between whole).held in
+      sealed_is ((g.view new.outside).reads file) (at new.kept.open_files file) (sealed (body ++ bytes)) _ (file_put longer file (SealedFile (sealed (body ++ bytes)))) (last.files file is_file)

@@ -6,31 +6,32 @@ use Rattle.std.specs.List.{AllByRecursion}
 use Rattle.std.specs.Map.{remove_entry}
 use Rattle.std.specs.BTreeMap.{is_at, insert_entry}
 use Rattle.std.specs.BTreeSet.{insert_key}
-use Rattle.tv_model.specs.declared.segment.LiveSegment.{LiveSegment}
-use Rattle.tv_model.specs.declared.segment.SegmentComponent.{SegmentComponent}
-use Rattle.tv_model.specs.Names.{byte_cmp, has, meta_name}
-use Rattle.tv_model.specs.declared.event.Event.TheVariants as events
-use Rattle.tv_model.specs.Footer.{sealed}
-use Rattle.tv_model.specs.Files.{Reads, KeepsOthers, Sets}
-use Rattle.tv_model.specs.Listing.{IsListFile, Listing}
-use Rattle.tv_model.specs.Segments.{name_of}
-use Rattle.tv_model.specs.State.{Catalog, State, StepResult, FileState, Sealed, Open, Left, at, live_at, file_at, with_file}
-use Rattle.tv_model.specs.Lines.{line, refuse, unless, given}
-use Rattle.tv_model.specs.FileEvents.{lacks_deletes, open_name, open_step, opened, seal_name, seal_step, sealed_as, write_name, write_step, written_to, wrote}
-use Rattle.tv_model.specs.Collections.{Collections, held}
-use Rattle.tv_model.specs.Living.{living}
-use Rattle.tv_model.specs.SoundStates.{IsWhole}
-use Rattle.tv_model.specs.Index.{IsFileOf}
-use Rattle.tv_model.proofs.Entries.{at_itself, text_at, lookup_put, has_kept}
-use Rattle.tv_model.proofs.SoundStates.{put_some}
+use Rattle.tv_formats.specs.declared.segment.LiveSegment.{LiveSegment}
+use Rattle.tv_formats.specs.declared.segment.SegmentComponent.{SegmentComponent}
+use Rattle.tv_formats.specs.Names.{byte_cmp, has, meta_name, at}
+use Rattle.tv_machine.specs.declared.event.Event.TheVariants as events
+use Rattle.tv_formats.specs.Footer.{sealed}
+use Rattle.tv_formats.specs.Files.{Reads, KeepsOthers, Sets}
+use Rattle.tv_formats.specs.Listing.{IsListFile, Listing}
+use Rattle.tv_formats.specs.Segments.{name_of}
+use Rattle.tv_machine.specs.State.{Catalog, State, StepResult, FileState, SealedFile, Open, Left, live_at, file_at, with_file}
+use Rattle.tv_machine.specs.Lines.{line, refuse, unless, given}
+use Rattle.tv_machine.specs.FileEvents.{lacks_deletes, open_name, open_step, opened, seal_name, seal_step, sealed_as, write_name, write_step, written_to, wrote}
+use Rattle.tv_formats.specs.Collections.{Collections, held}
+use Rattle.tv_machine.specs.Living.{living}
+use Rattle.tv_machine.specs.SoundStates.{IsWhole}
+use Rattle.tv_machine.specs.Index.{IsFileOf}
+use Rattle.tv_formats.proofs.Entries.{at_itself, text_at, lookup_put, has_kept}
+use Rattle.tv_machine.proofs.SoundStates.{put_some}
 use Rattle.tv_directory.specs.View.{Kept as KeptView, OnlyReads}
 use Rattle.tv_directory.specs.declared.directory.Directory.{Ghosts}
-use Rattle.tv_model.specs.Meaning.{Means}
-use Rattle.tv_model.specs.Commits.{IndexForm}
+use Rattle.tv_formats.specs.Meaning.{Means}
+use Rattle.tv_formats.specs.Commits.{IndexForm}
 use Rattle.tv_store.proofs.Listings.{listing_beside, undotted_isnt_list}
-use Rattle.tv_store.specs.Kept.{Kept, StoreState, FilesState, kept_of, FileHolds, is_left, Holds}
+use Rattle.tv_store.specs.Kept.{KeptState, StoreState, FilesState, kept_of, FileHolds, is_left, Holds}
 use Rattle.tv_store.specs.Applying.{WritesByStep}
-use Rattle.tv_store.specs.Exhausted.{PassesEnd, length_after}
+use Rattle.tv_store.specs.Effects.{length_after}
+use Rattle.tv_store.specs.Exhausted.{PassesEnd}
 use Rattle.tv_store.specs.FileCalls.{OpensFile, FindsFile}
 use Rattle.tv_store.specs.Stays.{Asks, KeepsManaged}
 use Rattle.tv_store.proofs.Changed.{opened_anew, sealed_now, wrote_more}
@@ -42,10 +43,10 @@ use Rattle.tv_store.proofs.Removals.{at_removed}
 -- ---- how the steps go on
 
 -- what is told and held after a step
-abbrev pub Told : List ℕ → Reads → Kept → StepResult State → Type 0
+abbrev pub Told : List ℕ → Reads → KeptState → StepResult State → Type 0
 Told answer reads kept told = (answer ≡ told.0) × Holds reads kept told.1
 
-told_is : (answer : List ℕ) (reads : Reads) (kept : Kept) (told right : StepResult State) → told ≡ right → Told answer reads kept right → Told answer reads kept told
+told_is : (answer : List ℕ) (reads : Reads) (kept : KeptState) (told right : StepResult State) → told ≡ right → Told answer reads kept right → Told answer reads kept told
 told_is answer reads kept told right e h = subst (Told answer reads kept) (sym e) h
 
 -- the step of a file of a live segment, under the name that the segment gives it
@@ -64,12 +65,12 @@ live_found c s id same looked is = sym (ap (λ (k : Catalog). live_at k id) same
 -- what was written to a file of the state is what was written to it here
 written_is : (file : Option FileState) (read written : Option (List ℕ)) → FileHolds file read written → written_to file ≡ written
 written_is None read written h = sym h.1
-written_is (Some (Sealed bytes)) read written h = sym h.1
+written_is (Some (SealedFile bytes)) read written h = sym h.1
 written_is (Some (Open body)) read written h = sym h.1
 written_is (Some Left) read written h = sym h.1
 
 -- the step of an open file, by what was written to it here
-pub body_step : (s : State) (name : List ℕ) (step : List ℕ → StepResult State) (reads : Reads) (kept : Kept) (written : Option (List ℕ)) → Holds reads kept s → IsFileOf name → at kept.open_files name ≡ written
+pub body_step : (s : State) (name : List ℕ) (step : List ℕ → StepResult State) (reads : Reads) (kept : KeptState) (written : Option (List ℕ)) → Holds reads kept s → IsFileOf name → at kept.open_files name ≡ written
     → given s (written_to (file_at s name)) (codes "not-open") step ≡ given s written (codes "not-open") step
 body_step s name step reads kept written h fits e =
     ap (λ (o : Option (List ℕ)). given s o (codes "not-open") step) (written_is (file_at s name) (reads name) (at kept.open_files name) (h.files name fits) ∙ e)
@@ -141,7 +142,7 @@ is_there (Some file) read written h some = refl
 
 isnt_there : (file : Option FileState) (read written : Option (List ℕ)) → FileHolds file read written → read ≡ None → is_some file ≡ false
 isnt_there None read written h none = refl
-isnt_there (Some (Sealed bytes)) read written h none = absurd cc
+isnt_there (Some (SealedFile bytes)) read written h none = absurd cc
 isnt_there (Some (Open body)) read written h none = let some : is_some read ≡ true = h.0 in absurd (true≢false (sym some ∙ ap is_some none))
 isnt_there (Some Left) read written h none = let some : is_some read ≡ true = h.0 in absurd (true≢false (sym some ∙ ap is_some none))
 
@@ -152,7 +153,7 @@ absent_isnt_left (Some file) e = absurd (true≢false e)
 -- a file that was written to isn't left
 open_isnt_left : (file : Option FileState) (read written : Option (List ℕ)) (body : List ℕ) → FileHolds file read written → written ≡ Some body → is_left file ≡ false
 open_isnt_left None read written body h e = refl
-open_isnt_left (Some (Sealed bytes)) read written body h e = refl
+open_isnt_left (Some (SealedFile bytes)) read written body h e = refl
 open_isnt_left (Some (Open text)) read written body h e = refl
 open_isnt_left (Some Left) read written body h e = let k : None ≡ Some body = sym h.1 ∙ e in absurd cc
 
@@ -233,7 +234,7 @@ module _ {O W C : Type 0} (g : Ghosts O W C) (c : Catalog) (old new : FilesState
       told_is answer (g.view new.outside).reads (kept_of c new) (seal_step s id component) (sealed_as s name body)
       (file_known s id name component segment (λ x n. seal_name s n) found is ∙ body_step s name (sealed_as s name) (g.view old.outside).reads (kept_of c old) (Some body) h fits it.1) (
         said ∙ ap (λ (n : ℕ). line (codes "sealed") (name ∷ decimal n ∷ [])) it.2,
-        changed c (g.view old.outside).reads (g.view new.outside).reads old new s name (Sealed (sealed body)) s.managed fits (λ n isnt _. now.others n isnt) (frame.names ∙ h.managed)
+        changed c (g.view old.outside).reads (g.view new.outside).reads old new s name (SealedFile (sealed body)) s.managed fits (λ n isnt _. now.others n isnt) (frame.names ∙ h.managed)
             (listing_beside (g.view old.outside).reads (g.view new.outside).reads name s.managed fits now.others h.listing) h.listed
             (now.changed, closed) (λ n e. ap (λ (es : List (List ℕ × List ℕ)). at es n) cut ∙ at_removed old.open_files name n e) frame.left frame.form frame.collections
             (open_isnt_left (file_at s name) ((g.view old.outside).reads name) (at old.open_files name) body (h.files name fits) it.1) refl h,
@@ -301,7 +302,7 @@ short_written bound len bytes es new name has_len puts h =
     (all_put (λ e. length e.1 ≤ bound + length bytes) rest name (body ++ bytes) fits (short_same bound (length bytes) rest rest refl (short_closed bound es rest name refl h)))
 
 -- where more bytes don't fit in one of them, no bound leaves room for them
-pub length_passes : (kept : Kept) (id : List ℕ) (component : SegmentComponent) (segment : LiveSegment) (name bytes : List ℕ) (len : ℕ) → live_at kept.catalog id ≡ Some segment → name ≡ name_of id segment.deletes component
+pub length_passes : (kept : KeptState) (id : List ℕ) (component : SegmentComponent) (segment : LiveSegment) (name bytes : List ℕ) (len : ℕ) → live_at kept.catalog id ≡ Some segment → name ≡ name_of id segment.deletes component
     → Some len ≡ option_map length (at kept.open_files name) → 18446744073709551616 ≤ len + length bytes → PassesEnd (length_after kept (events.Write id component bytes))
 length_passes kept id component segment name bytes len live is has_len large =
     let it = has_body (at kept.open_files name) len has_len in
@@ -310,7 +311,7 @@ length_passes kept id component segment name bytes len live is has_len large =
     (length (it.0 ++ bytes), rw (live, there) refl, omega (arith, is_len, length-append it.0 bytes, large))
 
 -- a write to an open file that isn't one of no bytes to an open file has some
-pub wrote_some : (kept : Kept) (id : List ℕ) (component : SegmentComponent) (segment : LiveSegment) (name bytes : List ℕ) (len : ℕ) → live_at kept.catalog id ≡ Some segment → name ≡ name_of id segment.deletes component
+pub wrote_some : (kept : KeptState) (id : List ℕ) (component : SegmentComponent) (segment : LiveSegment) (name bytes : List ℕ) (len : ℕ) → live_at kept.catalog id ≡ Some segment → name ≡ name_of id segment.deletes component
     → Some len ≡ option_map length (at kept.open_files name) → WritesByStep kept (events.Write id component bytes) → bytes ≢ []
 wrote_some kept id component segment name bytes len live is has_len (inl some) = some
 wrote_some kept id component segment name bytes len live is has_len (inr none) =
@@ -331,13 +332,13 @@ written_there None body_of bytes n e k = absurd cc
 written_there (Some segment) body_of bytes n e k = length_there (body_of segment) bytes n e (λ body there sum. k segment body refl there sum)
 
 -- so that it fits where there is no such segment
-pub unknown_fits : (kept : Kept) (id : List ℕ) (component : SegmentComponent) (bytes : List ℕ) → live_at kept.catalog id ≡ None → PassesEnd (length_after kept (events.Write id component bytes)) → ⊥
+pub unknown_fits : (kept : KeptState) (id : List ℕ) (component : SegmentComponent) (bytes : List ℕ) → live_at kept.catalog id ≡ None → PassesEnd (length_after kept (events.Write id component bytes)) → ⊥
 unknown_fits kept id component bytes none (n, is, much) =
     written_there (live_at kept.catalog id) (λ (segment : LiveSegment). at kept.open_files (name_of id segment.deletes component)) bytes n is
     (λ segment body live there sum. let never : None ≡ Some segment = sym none ∙ live in absurd cc)
 
 -- and where the file isn't open, or its length fits
-pub sum_fits : (kept : Kept) (id : List ℕ) (component : SegmentComponent) (segment : LiveSegment) (name bytes : List ℕ) (len : Option ℕ) → live_at kept.catalog id ≡ Some segment → name ≡ name_of id segment.deletes component
+pub sum_fits : (kept : KeptState) (id : List ℕ) (component : SegmentComponent) (segment : LiveSegment) (name bytes : List ℕ) (len : Option ℕ) → live_at kept.catalog id ≡ Some segment → name ≡ name_of id segment.deletes component
     → len ≡ option_map length (at kept.open_files name) → ((l : ℕ) → len ≡ Some l → l + length bytes < 18446744073709551616) → PassesEnd (length_after kept (events.Write id component bytes)) → ⊥
 sum_fits kept id component segment name bytes len live is_name has_len small (n, is, much) =
     written_there (live_at kept.catalog id) (λ (found : LiveSegment). at kept.open_files (name_of id found.deletes component)) bytes n is

@@ -2,15 +2,15 @@
 use Rattle.std.proofs.Common.{◌≡◌, ℕ, Bool, true, false, cond, not, ◌&&◌, nat_lt, List, [], ◌∷◌, map, Option, refl, sym, ap, subst, ◌∙◌}
 use Rattle.std.specs.List.{filter, flat_map}
 use Rattle.std.proofs.lemmas.List.Folds.{flat_map-map}
-use Rattle.tv_model.specs.declared.segment.DeleteMeta.{DeleteMeta}
-use Rattle.tv_model.specs.declared.segment.LiveSegment.{LiveSegment}
-use Rattle.tv_model.specs.declared.segment.SegmentComponent.{SegmentComponent}
-use Rattle.tv_model.specs.declared.segment.SegmentComponent.TheVariants.{Postings, Positions, FastFields, FieldNorms, Terms, Store, Delete}
-use Rattle.tv_model.specs.FileEvents.{lacks_deletes}
-use Rattle.tv_model.specs.Ids.{IsId}
-use Rattle.tv_model.specs.Index.{IsFileOf}
-use Rattle.tv_model.specs.Segments.{all_required, components, is_delete, name_of, num_deleted, required_names}
-use Rattle.tv_model.proofs.Required.{name_is_file}
+use Rattle.tv_formats.specs.declared.segment.DeleteMeta.{DeleteMeta}
+use Rattle.tv_formats.specs.declared.segment.LiveSegment.{LiveSegment}
+use Rattle.tv_formats.specs.declared.segment.SegmentComponent.{SegmentComponent}
+use Rattle.tv_formats.specs.declared.segment.SegmentComponent.TheVariants.{Postings, Positions, FastFields, FieldNorms, Terms, Store, Delete}
+use Rattle.tv_machine.specs.FileEvents.{lacks_deletes}
+use Rattle.tv_formats.specs.Ids.{IsId}
+use Rattle.tv_machine.specs.Index.{IsFileOf}
+use Rattle.tv_formats.specs.Segments.{all_required, components, is_delete, name_of, num_deleted, required_names}
+use Rattle.tv_machine.proofs.Required.{name_is_file}
 
 -- ---- the name of a file
 

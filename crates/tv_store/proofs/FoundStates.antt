@@ -1,29 +1,31 @@
 -- The index that an opening found is each one to which the directory opens, and its files hold that one's state.
-use Rattle.std.proofs.Common.{◌≡◌, ℕ, ◌<◌, ◌^◌, false, true, List, Option, Some, None, refl, sym, ap, ap₂, subst, ◌∙◌, arith}
+use Rattle.std.proofs.Common.{◌≡◌, ℕ, ◌<◌, ◌^◌, false, true, List, [], ◌∷◌, Option, Some, None, refl, sym, ap, ap₂, subst, ◌∙◌, arith}
 use Rattle.std.specs.Prelude.{IsSome, is_some, option_map}
 use Rattle.std.specs.List.Sorted.{IsStrictlySortedBy}
 use Rattle.std.specs.List.{AllByRecursion}
 use Rattle.serde_json.specs.Data.{Data}
 use Rattle.tv_directory.specs.declared.directory.Directory.{Ghosts}
 use Rattle.tv_index.specs.Opening.{first_text}
-use Rattle.tv_model.specs.Commits.{Commit, Settings, IndexForm, IsCommit, IsSegment, default_settings, first_commit}
-use Rattle.tv_model.specs.Files.{Reads}
-use Rattle.tv_model.specs.Footer.{IsGood}
-use Rattle.tv_model.specs.Index.{FindsCommit, FoundIndex, HasFiles, IsFileOf, OpenedIndex, managed_with, opened_catalog}
-use Rattle.tv_model.specs.Listing.{Listing}
-use Rattle.tv_model.specs.Meaning.{Means}
-use Rattle.tv_model.specs.Names.{has, meta_name}
-use Rattle.tv_model.specs.Readable.{CanRead}
-use Rattle.tv_model.specs.Schemas.{IsSchema, IsSchemaText}
-use Rattle.tv_model.specs.Segments.{all_required}
-use Rattle.tv_model.specs.State.{Catalog, FileState, Sealed, file_at}
-use Rattle.tv_model.proofs.Entries.{has_inserted}
-use Rattle.tv_model.proofs.ListTexts.{listing_one}
-use Rattle.tv_model.proofs.MeansOne.{means_one}
-use Rattle.tv_model.proofs.ReadPrinted.{printed_means}
-use Rattle.tv_model.proofs.Required.{required_is_file}
-use Rattle.tv_model.proofs.SoundOpenings.{opens_catalog}
-use Rattle.tv_model.proofs.SpelledCommits as spelled_commits
+use Rattle.tv_formats.specs.Commits.{Commit, Settings, IndexForm, IsCommit, IsSegment, default_settings, first_commit}
+use Rattle.tv_formats.specs.Files.{Reads}
+use Rattle.tv_formats.specs.Footer.{IsGood}
+use Rattle.tv_formats.specs.Sound.{FindsCommit, HasFiles, managed_with}
+use Rattle.tv_machine.specs.Index.{FoundIndex, IsFileOf, OpenedIndex}
+use Rattle.tv_formats.specs.Listing.{Listing}
+use Rattle.tv_formats.specs.Meaning.{Means}
+use Rattle.tv_formats.specs.Names.{has, meta_name}
+use Rattle.tv_machine.specs.Readable.{CanRead}
+use Rattle.tv_formats.specs.Schemas.{IsSchema, IsSchemaText}
+use Rattle.tv_formats.specs.Segments.{all_required}
+use Rattle.tv_machine.specs.State.{Catalog, FileState, SealedFile, file_at}
+use Rattle.tv_formats.proofs.Entries.{has_inserted}
+use Rattle.tv_formats.proofs.ListTexts.{listing_one}
+use Rattle.tv_formats.proofs.MeansOne.{means_one}
+use Rattle.tv_formats.proofs.ReadPrinted.{printed_means}
+use Rattle.tv_formats.proofs.Required.{has_files_from}
+use Rattle.tv_machine.proofs.Required.{required_is_file}
+use Rattle.tv_machine.proofs.SoundOpenings.{opened_alike, opens_catalog}
+use Rattle.tv_formats.proofs.SpelledCommits as spelled_commits
 use Rattle.tv_store.specs.Bodies.{ReadsGoodFile}
 use Rattle.tv_store.specs.Kept.{FilesState, FileHolds, Holds, is_left, kept_of}
 use Rattle.tv_store.specs.Making.{FindsFiles}
@@ -35,11 +37,11 @@ same_found : (schema : List ℕ) (read : Option (List ℕ)) (settings others : S
 same_found schema None settings others commit other h k = (h.0 ∙ sym k.0, h.1 ∙ sym k.1)
 same_found schema (Some bytes) settings others commit other h k = means_one settings others schema bytes commit other h k
 
-sealed_holds : (file : Option FileState) (read written : Option (List ℕ)) → file ≡ option_map Sealed read → written ≡ None → FileHolds file read written
+sealed_holds : (file : Option FileState) (read written : Option (List ℕ)) → file ≡ option_map SealedFile read → written ≡ None → FileHolds file read written
 sealed_holds file None written is none = subst (λ (f : Option FileState). FileHolds f None written) (sym is) (refl, none)
 sealed_holds file (Some bytes) written is none = subst (λ (f : Option FileState). FileHolds f (Some bytes) written) (sym is) (refl, none)
 
-none_left : (file : Option FileState) (read : Option (List ℕ)) → (is_some file ≡ true → file ≡ option_map Sealed read) → is_left file ≡ false
+none_left : (file : Option FileState) (read : Option (List ℕ)) → (is_some file ≡ true → file ≡ option_map SealedFile read) → is_left file ≡ false
 none_left None read is = refl
 none_left (Some file) None is = let bad : ◌≡◌ {A = Option FileState} (Some file) None = is refl in cc
 none_left (Some file) (Some bytes) is = ap is_left (is refl)
@@ -60,8 +62,8 @@ covers_meta : (read : Option (List ℕ)) (listed managed : List (List ℕ)) → 
 covers_meta None listed managed is covered = rw is (has_inserted listed meta_name)
 covers_meta (Some bytes) listed managed is covered = rw is (covered refl)
 
-sealed_good : (file : Option FileState) (old now : Option (List ℕ)) → file ≡ option_map Sealed old → now ≡ old → ReadsGoodFile now → (bytes : List ℕ) × (file ≡ Some (Sealed bytes)) × IsGood bytes
-sealed_good file old now is same (bytes, reads, good) = (bytes, is ∙ ap (option_map Sealed) (sym same ∙ reads), good)
+sealed_good : (file : Option FileState) (old now : Option (List ℕ)) → file ≡ option_map SealedFile old → now ≡ old → ReadsGoodFile now → (bytes : List ℕ) × (file ≡ Some (SealedFile bytes)) × IsGood bytes
+sealed_good file old now is same (bytes, reads, good) = (bytes, is ∙ ap (option_map SealedFile) (sym same ∙ reads), good)
 
 module _ {O W C : Type 0} (g : Ghosts O W C) (locked : O) (schema text : List ℕ) (catalog : Catalog) (files : FilesState O)
     (spelled : IsSchema schema files.form.schema) (f : FindsFiles g locked text catalog files) (tells : g.told.content) where
@@ -82,12 +84,12 @@ module _ {O W C : Type 0} (g : Ghosts O W C) (locked : O) (schema text : List �
   read_before n file = (f.leaves tells).others n file.1 (undotted_isnt_list n file.0)
 
   -- the files that its commit requires could be read before the opening, where they can be read now
-  pub had_files : ((n : List ℕ) → has (all_required catalog.commit.segments) n ≡ true → ReadsGoodFile (now n)) → HasFiles before catalog.commit
-  had_files good = record {
-    each = λ n required.
-        let file = required_is_file catalog.commit.segments n f.is_commit.segments required in
-        subst ReadsGoodFile (read_before n file) (good n required);
-  }
+  pub had_files : ((n : List ℕ) → has (all_required catalog.commit.segments) n ≡ true → ReadsGoodFile (now n)) → HasFiles before (catalog.commit ∷ [])
+  had_files good =
+      has_files_from before catalog.commit
+      (λ n required.
+      let file = required_is_file catalog.commit.segments n f.is_commit.segments required in
+      subst ReadsGoodFile (read_before n file) (good n required))
 
   -- each index that stands there is this one
   pub commit_is : (index : FoundIndex schema before) → index.commit ≡ catalog.commit
@@ -110,15 +112,17 @@ module _ {O W C : Type 0} (g : Ghosts O W C) (locked : O) (schema text : List �
     form_is = ap₂ (λ (s : Settings) (x : List ℕ). record { settings = s; schema = x }) same.0 text_is
 
     catalog_is : catalog ≡ index.state.catalog
-    catalog_is = f.opened ∙ ap opened_catalog same.1 ∙ sym (opens_catalog index.form.settings index.form.schema before index.state index.opens)
+    catalog_is =
+        f.opened ∙ opened_alike catalog index.state.catalog same.1
+        ∙ sym (opens_catalog index.form.settings index.form.schema before index.state index.opens)
 
     managed_is : files.managed ≡ index.state.managed
     managed_is =
         let F = f.finds tells in
         F.managed_is ∙ ap (managed_with (before meta_name)) (listing_one before F.listed index.opens.listed F.listing index.opens.listing) ∙ sym index.opens.managed
 
-    sealed_is : (n : List ℕ) → IsFileOf n → file_at index.state n ≡ option_map Sealed (now n)
-    sealed_is n file = index.opens.files n file ∙ ap (option_map Sealed) (sym (read_before n file))
+    sealed_is : (n : List ℕ) → IsFileOf n → file_at index.state n ≡ option_map SealedFile (now n)
+    sealed_is n file = index.opens.files n file ∙ ap (option_map SealedFile) (sym (read_before n file))
 
     segments_are : AllByRecursion IsSegment index.state.catalog.live
     segments_are =

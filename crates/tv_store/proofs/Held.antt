@@ -5,10 +5,10 @@ use Rattle.std.specs.BTreeMap.{is_at, insert_entry}
 use Rattle.std.specs.Ordering.{nat_cmp, match_ordering}
 use Rattle.std.specs.declared.cmp.Ordering.{Ordering}
 use Rattle.std.specs.declared.cmp.Ordering.TheVariants.{Less, Equal, Greater}
-use Rattle.tv_model.specs.Names.{has}
-use Rattle.tv_model.specs.Collections.{Collection, Collections, begun, collection_at, having_tried, held, taken, with_begun, with_collection, without_collection}
-use Rattle.tv_model.proofs.CollectionStates.{has_append}
-use Rattle.tv_model.proofs.HeldNames.{names_held}
+use Rattle.tv_formats.specs.Names.{has}
+use Rattle.tv_formats.specs.Collections.{Collection, Collections, begun, collection_at, having_tried, held, taken, with_begun, with_collection, without_collection}
+use Rattle.tv_formats.proofs.CollectedNames.{has_append}
+use Rattle.tv_formats.proofs.HeldNames.{names_held}
 
 module _ (n : List ℕ) where
   first_taken : (e : ℕ × Collection) (es : List (ℕ × Collection)) → has (names_held (e ∷ es)) n ≡ (has (taken e.1) n || has (names_held es) n)

@@ -1,17 +1,17 @@
 -- A state that is held is held still where nothing changes.
 use Rattle.std.proofs.Common.{◌≡◌, ℕ, List, Option, true, true≢false, sym, ap, subst, ◌∙◌}
-use Rattle.tv_model.specs.Names.{is_undotted, meta_name}
-use Rattle.tv_model.specs.Files.{Reads, Same}
-use Rattle.tv_model.specs.State.{State, at, file_at}
+use Rattle.tv_formats.specs.Names.{is_undotted, meta_name, at}
+use Rattle.tv_formats.specs.Files.{Reads, Same}
+use Rattle.tv_machine.specs.State.{State, file_at}
 use Rattle.tv_managed.specs.Managed.{KeepsOtherFiles}
 use Rattle.tv_store.proofs.Listings.{listing_same}
-use Rattle.tv_store.specs.Kept.{Kept, FileHolds, Holds}
+use Rattle.tv_store.specs.Kept.{KeptState, FileHolds, Holds}
 use Rattle.tv_store.specs.Stays.{KeepsDotted}
 
 -- where the same is read and kept, the same state is held
-pub same_holds : (old new : Reads) (was now : Kept) (s : State) → Same old new → now ≡ was → Holds old was s → Holds new now s
+pub same_holds : (old new : Reads) (was now : KeptState) (s : State) → Same old new → now ≡ was → Holds old was s → Holds new now s
 same_holds old new was now s same is h =
-    subst (λ (kept : Kept). Holds new kept s) (sym is) (record {
+    subst (λ (kept : KeptState). Holds new kept s) (sym is) (record {
       catalog = h.catalog;
       managed = h.managed;
       collections = h.collections;

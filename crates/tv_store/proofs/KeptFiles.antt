@@ -13,8 +13,8 @@ use Rattle.tv_directory.specs.ViewLaws.{kept_itself}
 use Rattle.tv_directory.specs.declared.directory.Directory.{Ghosts}
 use Rattle.tv_managed.specs.Frames.{KeepsNames}
 use Rattle.tv_managed.specs.Names.{ManagedNames}
-use Rattle.tv_model.specs.Commits.{IndexForm}
-use Rattle.tv_model.specs.Files.{Rose}
+use Rattle.tv_formats.specs.Commits.{IndexForm}
+use Rattle.tv_formats.specs.Files.{Rose}
 use Rattle.tv_store.specs.Kept.{FilesState, StoreState}
 use Rattle.tv_store.specs.Stays.{Asks, AsksOrFails, EventFaults, KeepsFiles, KeepsMade, KeepsManaged}
 use Rattle.tv_store.specs.StoreCauses.{EventCause}

@@ -44,3 +44,4 @@ pub mod AskedReads
 pub mod SavedFiles
 pub mod EventLaws
 pub mod RefusedBytes
+pub mod AnswerRoom

@@ -1,24 +1,24 @@
 -- The events that touch no file, as steps of the machine.
 use Rattle.std.proofs.Common.{ℕ, ◌≡◌, ◌+◌, ◌<◌, ◌^◌, false, not, ◌==◌, List, Some, refl, sym, subst, arith}
 use Rattle.std.specs.List.{AllByRecursion}
-use Rattle.tv_model.specs.Collections.{Collections}
-use Rattle.tv_model.specs.declared.event.Event.{Event}
-use Rattle.tv_model.specs.declared.event.Event.TheVariants as events
-use Rattle.tv_model.specs.declared.segment.LiveSegment.{LiveSegment}
-use Rattle.tv_model.specs.Commits.{Commit, IsSegment}
-use Rattle.tv_model.specs.Meaning.{Means}
-use Rattle.tv_model.specs.Files.{Reads}
-use Rattle.tv_model.specs.Machine.{catalog_step}
-use Rattle.tv_model.specs.Readable.{ReadsGood}
-use Rattle.tv_model.specs.SearcherEvents.{with_searcher}
-use Rattle.tv_model.specs.SegmentEvents.{fresh_segment, has_docs}
-use Rattle.tv_model.specs.State.{Catalog, State, StepResult, on_catalog}
-use Rattle.tv_model.proofs.Changes.{catalog_changes}
-use Rattle.tv_model.proofs.SoundStates.{undeleted}
-use Rattle.tv_store.specs.Applying.{written_by}
+use Rattle.tv_formats.specs.Collections.{Collections}
+use Rattle.tv_machine.specs.declared.event.Event.{Event}
+use Rattle.tv_machine.specs.declared.event.Event.TheVariants as events
+use Rattle.tv_formats.specs.declared.segment.LiveSegment.{LiveSegment}
+use Rattle.tv_formats.specs.Commits.{Commit, IsSegment}
+use Rattle.tv_formats.specs.Meaning.{Means}
+use Rattle.tv_formats.specs.Files.{Reads}
+use Rattle.tv_machine.specs.Machine.{catalog_step}
+use Rattle.tv_machine.specs.Readable.{ReadsGood}
+use Rattle.tv_machine.specs.SearcherEvents.{with_searcher}
+use Rattle.tv_formats.specs.Segments.{fresh_segment}
+use Rattle.tv_machine.specs.SegmentEvents.{has_docs}
+use Rattle.tv_machine.specs.State.{Catalog, State, StepResult, on_catalog}
+use Rattle.tv_machine.proofs.Changes.{catalog_changes}
+use Rattle.tv_machine.proofs.SoundStates.{undeleted}
+use Rattle.tv_store.specs.Effects.{TakesMetaLock, written_by}
 use Rattle.tv_store.specs.Catalogs.{FitsCatalog}
-use Rattle.tv_store.specs.Kept.{Kept, Holds}
-use Rattle.tv_store.specs.ReadCauses.{TakesMetaLock}
+use Rattle.tv_store.specs.Kept.{KeptState, Holds}
 use Rattle.tv_store.specs.ReaderNumbers.{FewNumbers}
 use Rattle.tv_store.proofs.FewNumbers.{few_more}
 use Rattle.tv_store.proofs.Named.{put_segments, found_segment, fresh_is}
@@ -88,7 +88,7 @@ plain_event c managed (events.Reload number) result e = absurd cc
 plain_event c managed other result e = record { reads = λ s. tt; free = λ k takes. takes; none = tt }
 
 -- what is held after it
-pub catalog_held : (reads : Reads) (kept : Kept) (s : State) (event : Event) (result : StepResult Catalog) → FitsCatalog event → catalog_step kept.catalog kept.managed event ≡ Some result → Holds reads kept s
+pub catalog_held : (reads : Reads) (kept : KeptState) (s : State) (event : Event) (result : StepResult Catalog) → FitsCatalog event → catalog_step kept.catalog kept.managed event ≡ Some result → Holds reads kept s
     → Holds reads (record kept { catalog = result.1 }) (on_catalog s result).1
 catalog_held reads kept s event result fits e h =
     let here : catalog_step s.catalog s.managed event ≡ Some result = subst (λ (c : Catalog). catalog_step c s.managed event ≡ Some result) h.catalog (subst (λ (names : List (List ℕ)). catalog_step kept.catalog names event ≡ Some result) h.managed e) in

@@ -1,9 +1,9 @@
 -- What the files of the list of managed files tell, and which names aren't theirs.
 use Rattle.std.proofs.Common.{◌≡◌, ◌≢◌, ℕ, List, Option, true, false, true≢false, refl, sym, ap, subst, ◌∙◌}
-use Rattle.tv_model.specs.Files.{Reads, Same, KeepsOthers}
-use Rattle.tv_model.specs.Index.{IsFileOf}
-use Rattle.tv_model.specs.Listing.{IsListFile, Listing, Lists}
-use Rattle.tv_model.specs.Names.{is_undotted}
+use Rattle.tv_formats.specs.Files.{Reads, Same, KeepsOthers}
+use Rattle.tv_machine.specs.Index.{IsFileOf}
+use Rattle.tv_formats.specs.Listing.{IsListFile, Listing, Lists}
+use Rattle.tv_formats.specs.Names.{is_undotted}
 
 -- where they read what they read, they tell the same names
 pub listing_kept : (old new : Reads) (names : List (List ℕ)) → ((n : List ℕ) → IsListFile n → new n ≡ old n) → Listing old names → Listing new names

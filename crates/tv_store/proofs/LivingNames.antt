@@ -4,15 +4,15 @@ use Rattle.std.specs.List.{flat_map}
 use Rattle.std.specs.Map.{lookup}
 use Rattle.std.specs.BTreeMap.{is_at}
 use Rattle.std.proofs.lemmas.Bool.{or_right}
-use Rattle.tv_model.specs.declared.segment.LiveSegment.{LiveSegment}
-use Rattle.tv_model.specs.declared.segment.SegmentComponent.{SegmentComponent}
-use Rattle.tv_model.specs.Names.{byte_cmp, is, has, meta_name}
-use Rattle.tv_model.specs.Segments.{name_of}
-use Rattle.tv_model.specs.Living.{living, segment_names}
-use Rattle.tv_model.specs.State.{State, live_at}
-use Rattle.tv_model.proofs.CollectionStates.{has_append}
-use Rattle.tv_model.proofs.Entries.{text_at}
-use Rattle.tv_model.proofs.HeldStates.{name_among}
+use Rattle.tv_formats.specs.declared.segment.LiveSegment.{LiveSegment}
+use Rattle.tv_formats.specs.declared.segment.SegmentComponent.{SegmentComponent}
+use Rattle.tv_formats.specs.Names.{byte_cmp, is, has, meta_name}
+use Rattle.tv_formats.specs.Segments.{name_of, segment_names}
+use Rattle.tv_machine.specs.Living.{living}
+use Rattle.tv_machine.specs.State.{State, live_at}
+use Rattle.tv_formats.proofs.CollectedNames.{has_append}
+use Rattle.tv_formats.proofs.Entries.{text_at}
+use Rattle.tv_machine.proofs.HeldStates.{name_among}
 
 -- the names of a segment that is found are among those of all
 found_named : (es : List (List ℕ × LiveSegment)) (id n : List ℕ) (segment : LiveSegment) → lookup (is_at (byte_cmp id)) es ≡ Some segment → has (segment_names (id, segment)) n ≡ true → has (flat_map segment_names es) n ≡ true

@@ -8,20 +8,20 @@ use Rattle.tv_index.specs.Metas.{commit_of, settings_of}
 use Rattle.tv_index.specs.Parsing.{MeansOtherThan}
 use Rattle.tv_index.specs.Standing.{LoadsMeta, MetaCause, OfRead}
 use Rattle.tv_index.specs.declared.index_meta.UntrackedIndexMeta.{UntrackedIndexMeta}
-use Rattle.tv_model.specs.Commits.{Commit}
-use Rattle.tv_model.specs.Files.{Reads}
-use Rattle.tv_model.specs.Meaning.{Means, MeansNothing}
-use Rattle.tv_model.specs.Names.{is_file_name, meta_name}
-use Rattle.tv_model.specs.ReaderEvents.{bodies_in, snapshot_in}
-use Rattle.tv_model.specs.State.{State}
-use Rattle.tv_model.specs.declared.segment.LiveSegment.{LiveSegment}
-use Rattle.tv_model.proofs.MeansOne.{means_no_other, means_one, means_something}
+use Rattle.tv_formats.specs.Commits.{Commit}
+use Rattle.tv_formats.specs.Files.{Reads}
+use Rattle.tv_formats.specs.Meaning.{Means, MeansNothing}
+use Rattle.tv_formats.specs.Names.{is_file_name, meta_name}
+use Rattle.tv_machine.specs.ReaderEvents.{bodies_in, snapshot_in}
+use Rattle.tv_machine.specs.State.{State}
+use Rattle.tv_formats.specs.declared.segment.LiveSegment.{LiveSegment}
+use Rattle.tv_formats.proofs.MeansOne.{means_no_other, means_one, means_something}
 use Rattle.tv_store.specs.Applying.{HoldsNone, LacksIn}
 use Rattle.tv_store.specs.Bodies.{ReadsSegments}
-use Rattle.tv_store.specs.Kept.{Kept, Holds}
+use Rattle.tv_store.specs.Kept.{KeptState, Holds}
 use Rattle.tv_store.specs.ReadCauses.{LoadingCause}
 
-pub loaded_commit : {O W C : Type 0} (g : Ghosts O W C) (outside : O) (kept : Kept) (s : State) (meta : UntrackedIndexMeta) → g.told.content
+pub loaded_commit : {O W C : Type 0} (g : Ghosts O W C) (outside : O) (kept : KeptState) (s : State) (meta : UntrackedIndexMeta) → g.told.content
     → LoadsMeta g outside (Some kept.form.schema) meta → Holds (g.view outside).reads kept s → commit_of meta ≡ s.catalog.commit
 loaded_commit g outside kept s meta tells loads held =
     let bytes = loads.means tells in
@@ -32,7 +32,7 @@ loaded_commit g outside kept s meta tells loads held =
     subst (λ (b : List ℕ). Means (settings_of meta) kept.form.schema b (commit_of meta)) same (subst (λ (x : List ℕ). Means (settings_of meta) x bytes.0 (commit_of meta)) loads.schema bytes.2) in
     (means_one (settings_of meta) kept.form.settings kept.form.schema text.0 (commit_of meta) s.catalog.commit own text.2).1
 
-module _ (tells : Type 0) (reads : Reads) (kept : Kept) where
+module _ (tells : Type 0) (reads : Reads) (kept : KeptState) where
   -- what is said of the bytes of `meta.json` is said of those that mean the commit
   of_text : (says : List ℕ → Type 0) → ((text : List ℕ) (s : State) → Means kept.form.settings kept.form.schema text s.catalog.commit → says text → ⊥) → OfRead tells (reads meta_name) says → HoldsNone tells reads kept
   of_text says never (bytes, is, said) t s held whole =

@@ -16,10 +16,11 @@ use Rattle.tv_index.specs.CrashLaws.{looks_kept, looks_then}
 use Rattle.tv_index.specs.Crashes.{OnlyLooks}
 use Rattle.tv_index.specs.Openable.{FindsOpenable, IsOpenable, NotOpenable}
 use Rattle.tv_index.specs.Opening.{OpenCause}
-use Rattle.tv_model.specs.Files.{Reads, Rose, RoseBy, Same}
-use Rattle.tv_model.specs.Index.{FindsCommit, FoundIndex}
-use Rattle.tv_model.specs.Names.{meta_name}
-use Rattle.tv_model.specs.Schemas.{IsSchema}
+use Rattle.tv_formats.specs.Files.{Reads, Rose, RoseBy, Same}
+use Rattle.tv_formats.specs.Sound.{FindsCommit}
+use Rattle.tv_machine.specs.Index.{FoundIndex}
+use Rattle.tv_formats.specs.Names.{meta_name}
+use Rattle.tv_formats.specs.Schemas.{IsSchema}
 use Rattle.tv_store.proofs.Listings.{listing_same}
 use Rattle.tv_store.specs.OpeningCauses.{IsLockedOut, OpeningCause, opening_facts}
 use Rattle.tv_store.specs.StoreCauses.{QuietBehind, RefusedBehind, writer_lock_name}

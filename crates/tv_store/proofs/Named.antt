@@ -5,16 +5,16 @@ use Rattle.std.specs.Ordering.{match_ordering}
 use Rattle.std.specs.List.{list_all, AllByRecursion}
 use Rattle.std.specs.BTreeMap.{is_at, insert_entry}
 use Rattle.std.proofs.lemmas.List.{map_push}
-use Rattle.tv_model.specs.declared.segment.LiveSegment.{LiveSegment}
-use Rattle.tv_model.specs.Names.{byte_cmp, is_plain}
-use Rattle.tv_model.specs.Ids.{IsId}
-use Rattle.tv_model.specs.Commits.{IsSegment}
-use Rattle.tv_model.specs.State.{at}
-use Rattle.tv_model.specs.Lines.{line, has_no_feed}
-use Rattle.tv_model.specs.SegmentEvents.{fresh_segment}
-use Rattle.tv_model.proofs.Entries.{text_at}
-use Rattle.tv_model.proofs.PlainNames.{both}
-use Rattle.tv_model.proofs.NoFeeds.{no_feed_plain}
+use Rattle.tv_formats.specs.declared.segment.LiveSegment.{LiveSegment}
+use Rattle.tv_formats.specs.Names.{byte_cmp, is_plain, at}
+use Rattle.tv_formats.specs.Ids.{IsId}
+use Rattle.tv_formats.specs.Commits.{IsSegment}
+use Rattle.tv_machine.specs.Lines.{line}
+use Rattle.tv_formats.specs.Files.{has_no_feed}
+use Rattle.tv_formats.specs.Segments.{fresh_segment}
+use Rattle.tv_formats.proofs.Entries.{text_at}
+use Rattle.tv_formats.proofs.PlainNames.{both}
+use Rattle.tv_formats.proofs.NoFeeds.{no_feed_plain}
 
 -- ---- lines of names
 

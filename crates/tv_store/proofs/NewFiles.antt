@@ -9,10 +9,10 @@ use Rattle.tv_base.specs.declared.open_errors.OpenWriteError.TheVariants as writ
 use Rattle.tv_directory.specs.declared.directory.Directory.{Ghosts}
 use Rattle.tv_managed.specs.Managed.{CreateCause, CreateFaults, Creates, KeepsOtherFiles, MakesFile, ManagesFile}
 use Rattle.tv_managed.specs.Names.{ManagedNames}
-use Rattle.tv_model.specs.Collections.{held}
-use Rattle.tv_model.specs.Files.{Rose, Same}
-use Rattle.tv_model.specs.Listing.{Listing}
-use Rattle.tv_model.specs.Names.{byte_cmp, has, is_plain}
+use Rattle.tv_formats.specs.Collections.{held}
+use Rattle.tv_formats.specs.Files.{Rose, Same}
+use Rattle.tv_formats.specs.Listing.{Listing}
+use Rattle.tv_formats.specs.Names.{byte_cmp, has, is_plain}
 use Rattle.tv_store.specs.FileCalls.{FindsFile, OpensFile, unless_taken}
 use Rattle.tv_store.specs.Kept.{FilesState, names_below}
 use Rattle.tv_store.specs.Stays.{EventFaults}

@@ -8,21 +8,20 @@ use Rattle.std.specs.List.{AllByRecursion}
 use Rattle.std.specs.Map.{remove_entry}
 use Rattle.std.specs.BTreeMap.{is_at, insert_entry}
 use Rattle.std.specs.BTreeSet.{insert_key}
-use Rattle.tv_model.specs.Names.{byte_cmp, has, is_plain, meta_name}
-use Rattle.tv_model.specs.State.{at}
-use Rattle.tv_model.specs.Collections.{Collections, held}
-use Rattle.tv_model.specs.Files.{Reads, KeepsOthers, Sets}
-use Rattle.tv_model.specs.Footer.{sealed}
-use Rattle.tv_model.proofs.Changes.{none_is}
-use Rattle.tv_model.proofs.Entries.{text_at}
-use Rattle.tv_model.proofs.PlainNames.{plain_is_undotted}
+use Rattle.tv_formats.specs.Names.{byte_cmp, has, is_plain, meta_name, at}
+use Rattle.tv_formats.specs.Collections.{Collections, held}
+use Rattle.tv_formats.specs.Files.{Reads, KeepsOthers, Sets}
+use Rattle.tv_formats.specs.Footer.{sealed}
+use Rattle.tv_machine.proofs.Changes.{none_is}
+use Rattle.tv_formats.proofs.Entries.{text_at}
+use Rattle.tv_formats.proofs.PlainNames.{plain_is_undotted}
 use Rattle.tv_directory.specs.View.{DeletesNone, WriterState}
 use Rattle.tv_directory.specs.declared.directory.Directory.{Ghosts}
 use Rattle.tv_managed.specs.Managed.{ManagesFile, registered, registering}
 use Rattle.tv_managed.specs.Names.{ManagedNames}
 use Rattle.tv_managed.specs.Writers.{IsNewManaged, IsSummed}
 use Rattle.tv_managed.specs.declared.writer.ManagedWriter.{ManagedWriter}
-use Rattle.tv_model.specs.Commits.{IndexForm}
+use Rattle.tv_formats.specs.Commits.{IndexForm}
 use Rattle.tv_store.specs.declared.files.OpenFile.{OpenFile}
 use Rattle.tv_store.specs.Kept.{FilesState}
 use Rattle.tv_store.specs.FileCalls.{Asked}

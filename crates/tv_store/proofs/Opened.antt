@@ -16,21 +16,22 @@ use Rattle.tv_directory.specs.Watch.{WatchState, MayNote, noted}
 use Rattle.tv_directory.specs.declared.directory.Directory.{Ghosts}
 use Rattle.tv_managed.specs.declared.managed_directory.Refused.{Refused}
 use Rattle.tv_managed.specs.Collecting.{TakesNoLock}
-use Rattle.tv_model.specs.Commits.{Commit}
-use Rattle.tv_model.specs.Files.{Reads, Heard, Rose, Same}
-use Rattle.tv_model.specs.Index.{FoundIndex, HasFiles, OpenedIndex}
-use Rattle.tv_model.specs.Lines.{opening_of}
-use Rattle.tv_model.specs.Names.{has, meta_name}
-use Rattle.tv_model.specs.Readable.{CanRead}
-use Rattle.tv_model.specs.Schemas.{IsSchema}
-use Rattle.tv_model.specs.Segments.{all_required}
-use Rattle.tv_model.specs.State.{Catalog}
+use Rattle.tv_formats.specs.Commits.{Commit}
+use Rattle.tv_formats.specs.Files.{Reads, Heard, Rose, Same}
+use Rattle.tv_machine.specs.Index.{FoundIndex, OpenedIndex, found_commits}
+use Rattle.tv_formats.specs.Sound.{HasFiles}
+use Rattle.tv_machine.specs.Lines.{opening_of}
+use Rattle.tv_formats.specs.Names.{has, meta_name}
+use Rattle.tv_machine.specs.Readable.{CanRead}
+use Rattle.tv_formats.specs.Schemas.{IsSchema}
+use Rattle.tv_formats.specs.Segments.{all_required}
+use Rattle.tv_machine.specs.State.{Catalog}
 use Rattle.tv_index.specs.CrashLaws.{looks_kept, looks_then, makes_behind, makes_then, tracks_behind, tracks_then}
 use Rattle.tv_index.specs.Crashes.{LacksMeta, MayMake, TracksFrom}
 use Rattle.tv_index.specs.Opening.{Finds, LeavesFound, LeavesUnopened, NotesNone, first_text}
 use Rattle.tv_store.specs.Bodies.{ReadsGoodFile}
-use Rattle.tv_store.specs.Kept.{Kept, FilesState, Holds, StoreState, kept_of}
-use Rattle.tv_store.specs.Making.{Begins, FindsFiles, IsRefusedFirst, WritesNone}
+use Rattle.tv_store.specs.Kept.{KeptState, FilesState, Holds, StoreState, kept_of}
+use Rattle.tv_store.specs.Making.{OpensCommit, FindsFiles, IsRefusedFirst, WritesNone}
 use Rattle.tv_store.specs.Opening.{LeavesIndex, Opens, OpeningFaults, OpeningFrame, OpensSafely, TakesWriterLock, TellsOpening}
 use Rattle.tv_store.specs.OpeningCauses.{CallFacts, IndexMissing, IndexRefused, IsFirstBad, IsSomeSchema, MeetsMissing, MeetsRefused, OpeningCause, opening_facts}
 use Rattle.tv_store.specs.ReadCauses.{ApplyCause, ReadFault}
@@ -38,8 +39,9 @@ use Rattle.tv_store.specs.Stays.{MayNotify}
 use Rattle.tv_store.specs.StoreCauses.{MakesNoFile, writer_lock_name}
 use Rattle.tv_store.specs.Telling.{TellsLine, TellsFirstPart, TellsNoLine}
 use Rattle.tv_store.specs.UnderLock.{FindsUnderLock, IsUnderLock}
-use Rattle.tv_model.proofs.CollectionStates.{has_append}
-use Rattle.tv_model.proofs.Required.{required_is_file}
+use Rattle.tv_formats.proofs.CollectedNames.{has_append}
+use Rattle.tv_formats.proofs.Required.{required_by_one}
+use Rattle.tv_machine.proofs.Required.{required_is_file}
 use Rattle.tv_store.proofs.Asking.{kept_by_files}
 use Rattle.tv_store.proofs.FoundStates.{can_read, commit_is, had_files, held_at, read_before, the_found}
 use Rattle.tv_store.proofs.Holding.{same_holds, dotted_others}
@@ -150,9 +152,9 @@ module _ {O W C : Type 0} (g : Ghosts O W C) (outside : O) (schema : List ℕ) (
   as_before t n required = read_before g locked schema files.form.schema catalog files u.spelled f t n (required_is_file catalog.commit.segments n f.is_commit.segments required)
 
   -- the line was told
-  module _ (commit : Commit) (is : commit ≡ catalog.commit) (started : FilesState O) (x : Unit {0}) (said : Begins {A = Unit {0}} g commit files started (Ok x)) where
-    s : Begins {A = Unit {0}} g catalog.commit files started (Ok x)
-    s = subst (λ (c : Commit). Begins {A = Unit {0}} g c files started (Ok x)) is said
+  module _ (commit : Commit) (is : commit ≡ catalog.commit) (started : FilesState O) (x : Unit {0}) (said : OpensCommit {A = Unit {0}} g commit files started (Ok x)) where
+    s : OpensCommit {A = Unit {0}} g catalog.commit files started (Ok x)
+    s = subst (λ (c : Commit). OpensCommit {A = Unit {0}} g c files started (Ok x)) is said
 
     tells : OnlyTells g.told (g.view files.outside) (g.view started.outside)
     tells = s.frame.managed.below
@@ -164,17 +166,17 @@ module _ {O W C : Type 0} (g : Ghosts O W C) (outside : O) (schema : List ℕ) (
     kept_is = kept_by_files catalog s.frame
 
     finds_begun : g.told.content → Finds (g.view locked).reads begun.kept.form catalog.commit begun.kept.managed
-    finds_begun t = subst (λ (k : Kept). Finds (g.view locked).reads k.form catalog.commit k.managed) (sym kept_is) (f.finds t)
+    finds_begun t = subst (λ (k : KeptState). Finds (g.view locked).reads k.form catalog.commit k.managed) (sym kept_is) (f.finds t)
 
     left_begun : g.told.content → LeavesFound (g.view locked).reads (g.view started.outside).reads begun.kept.form.schema
     left_begun t =
-        subst (λ (k : Kept). LeavesFound (g.view locked).reads (g.view started.outside).reads k.form.schema) (sym kept_is)
+        subst (λ (k : KeptState). LeavesFound (g.view locked).reads (g.view started.outside).reads k.form.schema) (sym kept_is)
         (same_found (g.view locked).reads (g.view files.outside).reads (g.view started.outside).reads files.form.schema (f.leaves t) (tells.content t))
 
     held_begun : (t : g.told.content) (index : OpenedIndex schema (g.view locked).reads) → (begun.kept.form ≡ index.form) × Holds (g.view started.outside).reads begun.kept index.state × CanRead index.state
     held_begun t index =
         let held = held_at g locked schema files.form.schema catalog files u.spelled f t index in (
-          ap (λ (k : Kept). k.form) kept_is ∙ held.0,
+          ap (λ (k : KeptState). k.form) kept_is ∙ held.0,
           same_holds (g.view files.outside).reads (g.view started.outside).reads (kept_of catalog files) begun.kept index.state (tells.content t) kept_is held.1,
           can_read g locked schema files.form.schema catalog files u.spelled f t index (s.good t),
         )
@@ -182,19 +184,19 @@ module _ {O W C : Type 0} (g : Ghosts O W C) (outside : O) (schema : List ℕ) (
     pub opened_opens : Opens g outside schema begun
     opened_opens = record {
       is_open = refl;
-      spelled = subst (IsSchema schema) (sym (ap (λ (k : Kept). k.form.schema) kept_is)) u.spelled;
+      spelled = subst (IsSchema schema) (sym (ap (λ (k : KeptState). k.form.schema) kept_is)) u.spelled;
       finds = λ t. from_lock g under (λ reads. Finds reads begun.kept.form catalog.commit begun.kept.managed) t (finds_begun t);
       opened = f.opened;
       left = λ t. from_lock g under (λ reads. LeavesFound reads (g.view started.outside).reads begun.kept.form.schema) t (left_begun t);
       found = λ t.
-          from_lock g under (λ reads. (index : FoundIndex schema reads) × HasFiles reads index.commit) t
+          from_lock g under (λ reads. (index : FoundIndex schema reads) × HasFiles reads (found_commits index)) t
           (index_at_lock t, had_files g locked schema files.form.schema catalog files u.spelled f t (s.good t));
       holds = λ t.
           from_lock g under (λ reads. (index : OpenedIndex schema reads) → (begun.kept.form ≡ index.form) × Holds (g.view started.outside).reads begun.kept index.state × CanRead index.state) t
           (held_begun t);
-      lens = subst (λ (es : List (List ℕ × List ℕ)). AllByRecursion (λ e. length e.1 ≤ 0) es) (sym (ap (λ (k : Kept). k.open_files) kept_is ∙ f.open_files)) tt;
+      lens = subst (λ (es : List (List ℕ × List ℕ)). AllByRecursion (λ e. length e.1 ≤ 0) es) (sym (ap (λ (k : KeptState). k.open_files) kept_is ∙ f.open_files)) tt;
       numbers = ap (λ (c : Catalog). c.reading) f.opened;
-      collections = ap (λ (k : Kept). k.collections) kept_is ∙ f.collections;
+      collections = ap (λ (k : KeptState). k.collections) kept_is ∙ f.collections;
     }
 
     told_begun : g.told.heard → TellsLine (g.view outside).heard (g.view started.outside).heard (g.view outside).moment (g.view started.outside).moment (opening_of catalog.commit)
@@ -215,7 +217,7 @@ module _ {O W C : Type 0} (g : Ghosts O W C) (outside : O) (schema : List ℕ) (
 
     made_begun : g.tells_images → MayMake g (LacksMeta g locked) (first_text begun.kept.form.schema) locked started.outside
     made_begun t =
-        subst (λ (k : Kept). MayMake g (LacksMeta g locked) (first_text k.form.schema) locked started.outside) (sym kept_is)
+        subst (λ (k : KeptState). MayMake g (LacksMeta g locked) (first_text k.form.schema) locked started.outside) (sym kept_is)
         (makes_then g (first_text files.form.schema) (LacksMeta g locked) (f.makes t).0 (s.looks t))
 
     pub opened_locks : TakesWriterLock g outside (Ok begun)
@@ -246,17 +248,17 @@ module _ {O W C : Type 0} (g : Ghosts O W C) (outside : O) (schema : List ℕ) (
     opened_safely t = record {
       ok = makes_behind g (first_text begun.kept.form.schema) (LacksMeta g locked) (LacksMeta g outside) (lacked g under) (under.looks t) (made_begun t);
       tracks =
-          subst (λ (k : Kept). TracksFrom g outside (started.outside, record { managed = k.managed; collections = k.collections })) (sym kept_is)
+          subst (λ (k : KeptState). TracksFrom g outside (started.outside, record { managed = k.managed; collections = k.collections })) (sym kept_is)
           (tracks_then g (record { managed = files.managed; collections = files.collections }) (tracks_behind g (under.looks t) (f.makes t).1) (s.looks t));
       err = tt;
       looks = tt;
     }
 
   -- it wasn't, and the lock was freed
-  module _ (commit : Commit) (is : commit ≡ catalog.commit) (started : FilesState O) (error : TantivyError) (said : Begins {A = Unit {0}} g commit files started (Err error)) (now : O) (frees : Frees g.told writer_lock_name (g.view started.outside) (g.view now))
+  module _ (commit : Commit) (is : commit ≡ catalog.commit) (started : FilesState O) (error : TantivyError) (said : OpensCommit {A = Unit {0}} g commit files started (Err error)) (now : O) (frees : Frees g.told writer_lock_name (g.view started.outside) (g.view now))
       (keeps : g.tells_images → KeepsDisk (g.disk started.outside) (g.disk now)) where
-    failed : Begins {A = Unit {0}} g catalog.commit files started (Err error)
-    failed = subst (λ (c : Commit). Begins {A = Unit {0}} g c files started (Err error)) is said
+    failed : OpensCommit {A = Unit {0}} g catalog.commit files started (Err error)
+    failed = subst (λ (c : Commit). OpensCommit {A = Unit {0}} g c files started (Err error)) is said
 
     tried : OnlyTells g.told (g.view files.outside) (g.view started.outside)
     tried = failed.frame.managed.below
@@ -326,11 +328,17 @@ module _ {O W C : Type 0} (g : Ghosts O W C) (outside : O) (schema : List ℕ) (
           (λ e. g.told.content → MeetsRefused (g.view files.outside).reads (all_required catalog.commit.segments) e) (λ path. g.told.content → MeetsMissing (g.view files.outside).reads (all_required catalog.commit.segments) path)
           error (files.form.schema, u.spelled) (λ t. from_lock g under (FoundIndex schema) t (index_at_lock t)) (λ t. (under.took t).was_free)
           (λ e met t.
-          from_lock g under (λ reads. IndexRefused schema reads e) t
-          (index_at_lock t, refused_before (g.view locked).reads (g.view files.outside).reads (all_required catalog.commit.segments) e (as_before t) (met t)))
+          from_lock g under (λ reads. IndexRefused schema reads e) t (
+            index_at_lock t,
+            subst (λ names. MeetsRefused (g.view locked).reads names e) (sym (required_by_one catalog.commit))
+                (refused_before (g.view locked).reads (g.view files.outside).reads (all_required catalog.commit.segments) e (as_before t) (met t)),
+          ))
           (λ path met t.
-          from_lock g under (λ reads. IndexMissing schema reads path) t
-          (index_at_lock t, missing_before (g.view locked).reads (g.view files.outside).reads (all_required catalog.commit.segments) path (as_before t) (met t)))
+          from_lock g under (λ reads. IndexMissing schema reads path) t (
+            index_at_lock t,
+            subst (λ names. MeetsMissing (g.view locked).reads names path) (sym (required_by_one catalog.commit))
+                (missing_before (g.view locked).reads (g.view files.outside).reads (all_required catalog.commit.segments) path (as_before t) (met t)),
+          ))
           inl inl failed.file failed.lock counted;
     }
 

@@ -6,25 +6,25 @@ use Rattle.std.specs.Global.{Global}
 use Rattle.std.proofs.lemmas.List.{take_more, map_push, take-append-drop, drop_more}
 use Rattle.std.proofs.lemmas.Grind.{flat_map-append}
 use Rattle.std.proofs.lemmas.Bool.{or_left, or_right}
-use Rattle.tv_model.specs.declared.reload_policy.ReloadPolicy.{ReloadPolicy}
-use Rattle.tv_model.specs.declared.event.Event.{Event}
-use Rattle.tv_model.specs.declared.event.Event.TheVariants as events
-use Rattle.tv_model.specs.declared.segment.LiveSegment.{LiveSegment}
-use Rattle.tv_model.specs.Names.{is, has, is_file_name, meta_name}
-use Rattle.tv_model.specs.Files.{Reads, Same, Rose}
-use Rattle.tv_model.specs.Footer.{HasBody}
-use Rattle.tv_model.specs.Segments.{required_names, all_required}
-use Rattle.tv_model.specs.State.{Catalog, State, FileState, Sealed, Open, Left, Reader, Readers, Snapshot, at, file_at, on_catalog, reader_at}
-use Rattle.tv_model.specs.Lines.{given}
-use Rattle.tv_model.specs.CommitEvents.{is_sealed}
-use Rattle.tv_model.specs.SoundStates.{IsWhole}
-use Rattle.tv_model.specs.Readable.{AreGoodFiles, CanRead, IsGoodFile, ReadsGood, read_by}
-use Rattle.tv_model.specs.ReaderEvents.{body_in, reload_step, reloaded, with_new_reader, with_reloaded}
-use Rattle.tv_model.proofs.Entries.{is_itself, is_text}
-use Rattle.tv_model.proofs.Bodies.{body_of_good}
-use Rattle.tv_model.proofs.CollectionStates.{has_append}
-use Rattle.tv_model.proofs.Required.{by_one}
-use Rattle.tv_model.proofs.SoundStates.{sealed_is_some}
+use Rattle.tv_machine.specs.declared.reload_policy.ReloadPolicy.{ReloadPolicy}
+use Rattle.tv_machine.specs.declared.event.Event.{Event}
+use Rattle.tv_machine.specs.declared.event.Event.TheVariants as events
+use Rattle.tv_formats.specs.declared.segment.LiveSegment.{LiveSegment}
+use Rattle.tv_formats.specs.Names.{is, has, is_file_name, meta_name, at}
+use Rattle.tv_formats.specs.Files.{Reads, Same, Rose}
+use Rattle.tv_formats.specs.Footer.{HasBody}
+use Rattle.tv_formats.specs.Segments.{required_names, all_required}
+use Rattle.tv_machine.specs.State.{Catalog, State, FileState, SealedFile, Open, Left, Reader, Readers, Snapshot, file_at, on_catalog, reader_at}
+use Rattle.tv_machine.specs.Lines.{given}
+use Rattle.tv_machine.specs.CommitEvents.{is_sealed}
+use Rattle.tv_machine.specs.SoundStates.{IsWhole}
+use Rattle.tv_machine.specs.Readable.{AreGoodFiles, CanRead, IsGoodFile, ReadsGood, read_by}
+use Rattle.tv_machine.specs.ReaderEvents.{body_in, reload_step, reloaded, with_new_reader, with_reloaded}
+use Rattle.tv_formats.proofs.Entries.{is_itself, is_text}
+use Rattle.tv_formats.proofs.Bodies.{body_of_good}
+use Rattle.tv_formats.proofs.CollectedNames.{has_append}
+use Rattle.tv_formats.proofs.Required.{by_one}
+use Rattle.tv_machine.proofs.SoundStates.{sealed_is_some}
 use Rattle.tv_base.specs.Errors.{of_open_read}
 use Rattle.tv_base.specs.declared.io.IoFault.{IoFault}
 use Rattle.tv_base.specs.declared.io.IoKind.{IoKind}
@@ -42,10 +42,11 @@ use Rattle.tv_store.specs.StoreCauses.{IsBusy, MakesNoFile, WriteFault}
 use Rattle.tv_store.specs.ReadCauses.{ReadFault, ApplyCause, LoadingCause}
 use Rattle.tv_store.specs.Bodies.{RefusesAt, RefusesFile, RefusesFirst, ReadsGoodFile, AreBodies, AreSealed, ReadsSegment, ReadsSegments, FailsAt, AreGood}
 use Rattle.tv_index.specs.Standing.{MetaCause}
-use Rattle.tv_store.specs.Kept.{Kept, FileHolds, Holds}
+use Rattle.tv_store.specs.Kept.{KeptState, FileHolds, Holds}
 use Rattle.tv_store.specs.Applying.{LacksIn, BadIn, HoldsNone}
-use Rattle.tv_store.specs.Exhausted.{SomePassesEnd, after_each, numbers_after}
-use Rattle.tv_model.specs.Collections.{Collections}
+use Rattle.tv_store.specs.Effects.{after_each, numbers_after}
+use Rattle.tv_store.specs.Exhausted.{SomePassesEnd}
+use Rattle.tv_formats.specs.Collections.{Collections}
 use Rattle.tv_store.specs.ReaderNumbers.{FewNumbers}
 use Rattle.tv_store.proofs.Holding.{same_holds}
 use Rattle.tv_store.proofs.ReaderNumbers.{few_added, few_published}
@@ -173,44 +174,44 @@ all_pushed P names name h p n among =
 -- ---- sealed files
 
 -- the bytes of a sealed file are those that its name reads
-sealed_bytes : (file : Option FileState) (bytes : List ℕ) (written : Option (List ℕ)) → is_sealed file ≡ true → FileHolds file (Some bytes) written → file ≡ Some (Sealed bytes)
+sealed_bytes : (file : Option FileState) (bytes : List ℕ) (written : Option (List ℕ)) → is_sealed file ≡ true → FileHolds file (Some bytes) written → file ≡ Some (SealedFile bytes)
 sealed_bytes None bytes written h holds = absurd (true≢false (sym h))
 sealed_bytes (Some (Open body)) bytes written h holds = absurd (true≢false (sym h))
 sealed_bytes (Some Left) bytes written h holds = absurd (true≢false (sym h))
-sealed_bytes (Some (Sealed other)) bytes written h holds =
+sealed_bytes (Some (SealedFile other)) bytes written h holds =
     let same : Some bytes ≡ Some other = holds.0 in
     let one : bytes ≡ other = cc in
-    ap (λ (b : List ℕ). Some (Sealed b)) (sym one)
+    ap (λ (b : List ℕ). Some (SealedFile b)) (sym one)
 
 -- it is there
 sealed_reads : (file : Option FileState) (written : Option (List ℕ)) → is_sealed file ≡ true → FileHolds file None written → ⊥
 sealed_reads None written h holds = true≢false (sym h)
 sealed_reads (Some (Open body)) written h holds = true≢false (sym h)
 sealed_reads (Some Left) written h holds = true≢false (sym h)
-sealed_reads (Some (Sealed other)) written h holds = let never : None ≡ Some other = holds.0 in cc
+sealed_reads (Some (SealedFile other)) written h holds = let never : None ≡ Some other = holds.0 in cc
 
-sealed_holds : (reads : Reads) (kept : Kept) (s : State) (n : List ℕ) → Holds reads kept s → is_sealed (file_at s n) ≡ true → FileHolds (file_at s n) (reads n) (at kept.open_files n)
+sealed_holds : (reads : Reads) (kept : KeptState) (s : State) (n : List ℕ) → Holds reads kept s → is_sealed (file_at s n) ≡ true → FileHolds (file_at s n) (reads n) (at kept.open_files n)
 sealed_holds reads kept s n held h = held.files n (held.names n (sealed_is_some (file_at s n) h))
 
-read_is_sealed : (reads : Reads) (kept : Kept) (s : State) (n bytes : List ℕ) → Holds reads kept s → is_sealed (file_at s n) ≡ true → reads n ≡ Some bytes → file_at s n ≡ Some (Sealed bytes)
+read_is_sealed : (reads : Reads) (kept : KeptState) (s : State) (n bytes : List ℕ) → Holds reads kept s → is_sealed (file_at s n) ≡ true → reads n ≡ Some bytes → file_at s n ≡ Some (SealedFile bytes)
 read_is_sealed reads kept s n bytes held h e =
     sealed_bytes (file_at s n) bytes (at kept.open_files n) h (subst (λ (r : Option (List ℕ)). FileHolds (file_at s n) r (at kept.open_files n)) e (sealed_holds reads kept s n held h))
 
-sealed_is_there : (reads : Reads) (kept : Kept) (s : State) (n : List ℕ) → Holds reads kept s → is_sealed (file_at s n) ≡ true → reads n ≡ None → ⊥
+sealed_is_there : (reads : Reads) (kept : KeptState) (s : State) (n : List ℕ) → Holds reads kept s → is_sealed (file_at s n) ≡ true → reads n ≡ None → ⊥
 sealed_is_there reads kept s n held h e =
     sealed_reads (file_at s n) (at kept.open_files n) h (subst (λ (r : Option (List ℕ)). FileHolds (file_at s n) r (at kept.open_files n)) e (sealed_holds reads kept s n held h))
 
-good_file : (s : State) (n bytes body : List ℕ) → file_at s n ≡ Some (Sealed bytes) → HasBody bytes body → IsGoodFile s n
+good_file : (s : State) (n bytes body : List ℕ) → file_at s n ≡ Some (SealedFile bytes) → HasBody bytes body → IsGoodFile s n
 good_file s n bytes body file has_body = (bytes, file, record { body = body; has_body = has_body })
 
 -- ---- the bodies of some files
 
 -- one more was read
-pub bodies_more : (reads : Reads) (kept : Kept) (s : State) (names : List (List ℕ)) (i : ℕ) (name body : List ℕ) (bodies more : List (List ℕ))
+pub bodies_more : (reads : Reads) (kept : KeptState) (s : State) (names : List (List ℕ)) (i : ℕ) (name body : List ℕ) (bodies more : List (List ℕ))
     → i < length names → name ≡ get_or names i name → AreSealed s names → Holds reads kept s → ReadsBody (reads name) body → more ≡ bodies ++ body ∷ []
     → AreBodies s (take i names) bodies → AreBodies s (take (i + 1) names) more
 bodies_more reads kept s names i name body bodies more within at_i sealed held reads_body put so_far =
-    let file : file_at s name ≡ Some (Sealed reads_body.0) = read_is_sealed reads kept s name reads_body.0 held (sealed.each name (has_at names i name within at_i)) reads_body.1 in
+    let file : file_at s name ≡ Some (SealedFile reads_body.0) = read_is_sealed reads kept s name reads_body.0 held (sealed.each name (has_at names i name within at_i)) reads_body.1 in
     let shown : body_in (file_at s name) ≡ body = ap body_in file ∙ body_of_good reads_body.0 body reads_body.2 in
     let front : take (i + 1) names ≡ take i names ++ name ∷ [] = take_more names i name within ∙ ap (λ (n : List ℕ). take i names ++ n ∷ []) (sym at_i) in
     subst (λ (ns : List (List ℕ)). AreBodies s ns more) (sym front) (record {
@@ -359,7 +360,7 @@ segments_good first now segments i entry same within at_i so_far more =
     (required_pushed (λ n. ReadsGoodFile (first n)) (take i segments) entry so_far (λ n h. good_before first now n same (more n h)))
 
 -- a file of the current commit isn't read, which these segments are in each state that is held
-pub commit_fails : (tells : Type 0) (first now : Reads) (kept : Kept) (load : TantivyError → Type 0) (segments : List (List ℕ × LiveSegment)) (start before after : ℕ) (error : TantivyError)
+pub commit_fails : (tells : Type 0) (first now : Reads) (kept : KeptState) (load : TantivyError → Type 0) (segments : List (List ℕ × LiveSegment)) (start before after : ℕ) (error : TantivyError)
     → (tells → Same first now) → before ≡ start → (tells → (s : State) → Holds first kept s → segments ≡ s.catalog.commit.segments)
     → FailsAt tells now (all_required segments) (Rose before after) (after ≡ before) error
     → LoadingCause ⊥ (Rose start after) (after ≡ start) ⊥ load (LacksIn tells first kept) (λ path. HoldsNone tells first kept) error
@@ -391,10 +392,10 @@ commit_fails tells first now kept load segments start before after error same qu
     (λ path a t s held whole. sealed_is_there first kept s path held (sealed t s held whole path a.0) (sym (same t path) ∙ a.1 t)) h)
 
 -- why `meta.json` isn't loaded, seen from before a call that changed nothing
-pub meta_before : (tells : Type 0) (kept later : Kept) (stands then : Option (List ℕ)) (refused quiet refused2 quiet2 : Type 0) (error : TantivyError) → later ≡ kept → (tells → then ≡ stands) → (refused → refused2) → (quiet → quiet2)
+pub meta_before : (tells : Type 0) (kept later : KeptState) (stands then : Option (List ℕ)) (refused quiet refused2 quiet2 : Type 0) (error : TantivyError) → later ≡ kept → (tells → then ≡ stands) → (refused → refused2) → (quiet → quiet2)
     → MetaCause tells (Some later.form.schema) stands refused quiet error → MetaCause tells (Some kept.form.schema) then refused2 quiet2 error
 meta_before tells kept later stands then refused quiet refused2 quiet2 error kept_is same f q h =
-    seen error (subst (λ (k : Kept). MetaCause tells (Some k.form.schema) stands refused quiet error) kept_is h) where
+    seen error (subst (λ (k : KeptState). MetaCause tells (Some k.form.schema) stands refused quiet error) kept_is h) where
       seen : (e : TantivyError) → MetaCause tells (Some kept.form.schema) stands refused quiet e → MetaCause tells (Some kept.form.schema) then refused2 quiet2 e
       seen (errors.OpenReadError (read.FileDoesNotExist path)) h = (h.0, (q h.1.0, λ t. same t ∙ h.1.1 t))
       seen (errors.OpenReadError (read.IoError fault path)) h = absurd h.2
@@ -406,7 +407,7 @@ meta_before tells kept later stands then refused quiet refused2 quiet2 error kep
       seen other h = absurd h
 
 -- a read of the commit's files that failed, seen from before a call that changed nothing and after another one
-pub read_later : (tells : Type 0) (first now : Reads) (kept later : Kept) (busy : Type 0) (start before after end : ℕ) (error : TantivyError)
+pub read_later : (tells : Type 0) (first now : Reads) (kept later : KeptState) (busy : Type 0) (start before after end : ℕ) (error : TantivyError)
     → (tells → Same first now) → later ≡ kept → before ≡ start → end ≡ after
     → LoadingCause ⊥ (Rose before after) (after ≡ before) ⊥ (MetaCause tells (Some later.form.schema) (now meta_name) (Rose before after) (after ≡ before)) (LacksIn tells now later) (λ path. HoldsNone tells now later) error
     → LoadingCause busy (Rose start end) (end ≡ start) ⊥ (MetaCause tells (Some kept.form.schema) (first meta_name) (Rose start end) (end ≡ start)) (LacksIn tells first kept) (λ path. HoldsNone tells first kept) error
@@ -427,7 +428,7 @@ busy_before tells_locks held held2 start before {after} same quiet h = record {
 }
 
 -- the same at an event that reads, seen from before a call that changed nothing
-pub later_fails : (tells : Type 0) (first now : Reads) (kept later : Kept) (event : Event) (reading : (s : State) → Holds first kept s → read_by s event ≡ Some s.catalog.commit) (more busy busy2 loads files : Type 0) (start before after : ℕ) (error : TantivyError)
+pub later_fails : (tells : Type 0) (first now : Reads) (kept later : KeptState) (event : Event) (reading : (s : State) → Holds first kept s → read_by s event ≡ Some s.catalog.commit) (more busy busy2 loads files : Type 0) (start before after : ℕ) (error : TantivyError)
     → loads → files → (busy → busy2) → (tells → Same first now) → later ≡ kept → before ≡ start
     → LoadingCause busy (Rose before after) (after ≡ before) ⊥ (MetaCause tells (Some later.form.schema) (now meta_name) (Rose before after) (after ≡ before)) (LacksIn tells now later) (λ path. HoldsNone tells now later) error
     → LoadingCause busy2 (Rose start after) (after ≡ start) more (λ e. loads × MetaCause tells (Some kept.form.schema) (first meta_name) (Rose start after) (after ≡ start) e) (λ e. files × BadIn tells first kept event e) (λ path. files × HoldsNone tells first kept) error
@@ -457,7 +458,7 @@ reload_reads s number there = told (reader_at s.catalog number) there where
   told (Some reader) h = refl
 
 -- a reader whose next snapshot gets the last number of 64 bits
-pub reload_passes : (kept : Kept) (number : ℕ) → ((reader : Reader) × (reader_at kept.catalog number ≡ Some reader) × (reader.next ≡ 18446744073709551615)) → SomePassesEnd (numbers_after kept (events.Reload number))
+pub reload_passes : (kept : KeptState) (number : ℕ) → ((reader : Reader) × (reader_at kept.catalog number ≡ Some reader) × (reader.next ≡ 18446744073709551615)) → SomePassesEnd (numbers_after kept (events.Reload number))
 reload_passes kept number h = subst (λ (found : Option Reader). SomePassesEnd (after_each (λ (r : Reader). r.next) found)) (sym h.1) (inl (omega (arith, h.2)))
 
 pub few_with_new : (bound : ℕ) (collections : Collections) (old now : Catalog) (policy : ReloadPolicy) (shown : Snapshot) → now ≡ with_new_reader old policy shown → FewNumbers bound old.reading collections → FewNumbers (bound + 1) now.reading collections
@@ -470,11 +471,11 @@ few_with_reloaded bound collections old now number reader shown there put few =
     subst (λ (c : Catalog). FewNumbers (bound + 1) c.reading collections) (sym put) (few_published bound old.reading collections _ number reader (record reader { next = reader.next + 1; shown = shown }) there refl refl few)
 
 -- what is held where readers show something else
-pub shown_holds : (before now : Reads) (kept after : Kept) (s : State) (readers : Readers) → Same before now → after ≡ record kept { catalog = record kept.catalog { reading = readers } } → Holds before kept s
+pub shown_holds : (before now : Reads) (kept after : KeptState) (s : State) (readers : Readers) → Same before now → after ≡ record kept { catalog = record kept.catalog { reading = readers } } → Holds before kept s
     → Holds now after (record s { catalog = record s.catalog { reading = readers } })
 shown_holds before now kept after s readers same is h =
     let k = same_holds before now kept kept s same refl h in
-    subst (λ (x : Kept). Holds now x (record s { catalog = record s.catalog { reading = readers } })) (sym is) (record {
+    subst (λ (x : KeptState). Holds now x (record s { catalog = record s.catalog { reading = readers } })) (sym is) (record {
       catalog = ap (λ (c : Catalog). record c { reading = readers }) k.catalog;
       managed = k.managed;
       collections = k.collections;

@@ -6,8 +6,8 @@ use Rattle.std.specs.BTreeMap.{is_at, insert_entry}
 use Rattle.std.specs.Ordering.{nat_cmp, match_ordering}
 use Rattle.std.specs.declared.cmp.Ordering.{Ordering}
 use Rattle.std.specs.declared.cmp.Ordering.TheVariants.{Less, Equal, Greater}
-use Rattle.tv_model.specs.Collections.{Collections}
-use Rattle.tv_model.specs.State.{Reader, Readers, at_number}
+use Rattle.tv_formats.specs.Collections.{Collections}
+use Rattle.tv_machine.specs.State.{Reader, Readers, at_number}
 use Rattle.tv_store.specs.ReaderNumbers.{FewNumbers}
 
 -- no reader gives its next snapshot a number above the bound

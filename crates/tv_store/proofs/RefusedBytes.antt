@@ -6,7 +6,7 @@ use Rattle.tv_base.specs.declared.error.TantivyError.TheVariants as errors
 use Rattle.tv_directory.specs.declared.directory.Directory.{Ghosts}
 use Rattle.tv_index.specs.Opening.{IsRefusedBytes}
 use Rattle.tv_managed.specs.declared.managed_directory.Refused.{Refused}
-use Rattle.tv_model.specs.Files.{Reads, Same}
+use Rattle.tv_formats.specs.Files.{Reads, Same}
 use Rattle.tv_store.specs.Kept.{StoreState}
 use Rattle.tv_store.specs.Making.{IsRefusedFirst, NamesRefused}
 use Rattle.tv_store.specs.Opening.{LeavesIndex, OpeningFaults}

@@ -9,20 +9,19 @@ use Rattle.std.proofs.lemmas.List.Sums.{AllPass-from_list_all, list_all-from_All
 use Rattle.std.specs.Map.{remove_entry}
 use Rattle.std.specs.BTreeMap.{is_at}
 use Rattle.std.specs.BTreeSet.{insert_key}
-use Rattle.tv_model.specs.Listing.{IsListFile}
-use Rattle.tv_model.specs.Names.{byte_cmp, is, has, is_plain, is_undotted}
-use Rattle.tv_model.specs.Collections.{Collections, done_of, failed_of, held}
-use Rattle.tv_model.specs.State.{at}
-use Rattle.tv_model.proofs.Entries.{same_at, text_at, at_itself, is_text, is_by_order, has_put}
-use Rattle.tv_model.proofs.PlainNames.{both, plain_is_undotted}
-use Rattle.tv_model.proofs.CollectionStates.{has_append, has_without}
+use Rattle.tv_formats.specs.Listing.{IsListFile}
+use Rattle.tv_formats.specs.Names.{byte_cmp, is, has, is_plain, is_undotted, at}
+use Rattle.tv_formats.specs.Collections.{Collections, done_of, failed_of, held}
+use Rattle.tv_formats.proofs.Entries.{same_at, text_at, at_itself, is_text, is_by_order, has_put}
+use Rattle.tv_formats.proofs.PlainNames.{both, plain_is_undotted}
+use Rattle.tv_formats.proofs.CollectedNames.{has_append, has_without}
 use Rattle.tv_directory.specs.View.{GoesOn}
 use Rattle.tv_directory.specs.declared.directory.Directory.{Ghosts}
 use Rattle.tv_managed.specs.Collecting.{Among, Leaves, Tries, SparesWriters, names_of, taken_by}
 use Rattle.tv_managed.specs.Crashes.{CollectsNames}
 use Rattle.tv_managed.specs.Names.{ManagedNames}
 use Rattle.tv_managed.specs.declared.collection.GarbageCollectionResult.{GarbageCollectionResult}
-use Rattle.tv_model.specs.Commits.{IndexForm}
+use Rattle.tv_formats.specs.Commits.{IndexForm}
 use Rattle.tv_store.specs.Kept.{FilesState}
 use Rattle.tv_store.specs.FileCalls.{Tried}
 use Rattle.tv_store.specs.declared.files.OpenFile.{OpenFile}

@@ -1,11 +1,12 @@
 -- What is held after an index was opened again, where it stands.
 use Rattle.std.proofs.Common.{◌≡◌, ℕ, Bool, ◌||◌, List, Option, Some, None, option_map, is_some, refl, sym, ap, subst, ◌∙◌}
-use Rattle.tv_model.specs.Commits.{IndexForm}
-use Rattle.tv_model.specs.Meaning.{Means}
-use Rattle.tv_model.specs.Index.{opened_catalog}
-use Rattle.tv_model.specs.CollectionEvents.{left}
-use Rattle.tv_model.specs.ReopenEvents.{reopened}
-use Rattle.tv_model.specs.State.{Catalog, State, FileState, Sealed, Open, Left, at, file_at}
+use Rattle.tv_formats.specs.Commits.{IndexForm}
+use Rattle.tv_formats.specs.Meaning.{Means}
+use Rattle.tv_machine.specs.Index.{as_opened}
+use Rattle.tv_machine.specs.CollectionEvents.{left}
+use Rattle.tv_machine.specs.ReopenEvents.{reopened}
+use Rattle.tv_machine.specs.State.{Catalog, State, FileState, SealedFile, Open, Left, file_at}
+use Rattle.tv_formats.specs.Names.{at}
 use Rattle.tv_directory.specs.declared.directory.Directory.{Ghosts}
 use Rattle.tv_store.specs.Kept.{FilesState, FileHolds, Holds, is_left, kept_of}
 use Rattle.tv_store.specs.Reopening.{Reopens}
@@ -15,14 +16,14 @@ use Rattle.tv_store.proofs.FoundStates.{means_commit}
 -- a file that is left holds what its name reads
 left_file : (file : Option FileState) (read written : Option (List ℕ)) → FileHolds file read written → FileHolds (option_map left file) read None
 left_file None read written h = (h.0, refl)
-left_file (Some (Sealed bytes)) read written h = (h.0, refl)
+left_file (Some (SealedFile bytes)) read written h = (h.0, refl)
 left_file (Some (Open body)) read written h = (h.0, refl)
 left_file (Some Left) read written h = (h.0, refl)
 
 -- it was left before, or it was open
 left_or_open : (file : Option FileState) (read written : Option (List ℕ)) → FileHolds file read written → (is_left file || is_some written) ≡ is_left (option_map left file)
 left_or_open None read written h = ap is_some h.1
-left_or_open (Some (Sealed bytes)) read written h = ap is_some h.1
+left_or_open (Some (SealedFile bytes)) read written h = ap is_some h.1
 left_or_open (Some (Open body)) read written h = ap is_some h.1
 left_or_open (Some Left) read written h = refl
 
@@ -37,10 +38,10 @@ module _ {O W C : Type 0} (g : Ghosts O W C) (catalog : Catalog) (old new : File
 
   pub reopened_holds : Holds (g.view old.outside).reads (kept_of catalog old) s
       → new ≡ record old { collections = new.collections; open_files = new.open_files; left = new.left } → Reopens old new
-      → Holds (g.view new.outside).reads (kept_of (opened_catalog catalog.commit) new) (reopened s)
+      → Holds (g.view new.outside).reads (kept_of (as_opened catalog) new) (reopened s)
   reopened_holds h others told =
-      subst (λ o. Holds (g.view o).reads (kept_of (opened_catalog catalog.commit) new) (reopened s)) (sym (ap (λ v. v.outside) others)) (record {
-        catalog = ap (λ (c : Catalog). opened_catalog c.commit) h.catalog;
+      subst (λ o. Holds (g.view o).reads (kept_of (as_opened catalog) new) (reopened s)) (sym (ap (λ v. v.outside) others)) (record {
+        catalog = ap as_opened h.catalog;
         managed = ap (λ v. v.managed) others ∙ h.managed;
         collections = told.collections;
         segments = (means_commit old.form.settings old.form.schema h.meta.0 s.catalog.commit h.meta.2).0.segments;

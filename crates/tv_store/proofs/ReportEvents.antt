@@ -8,22 +8,21 @@ use Rattle.tv_base.specs.declared.error.TantivyError.{TantivyError}
 use Rattle.tv_base.specs.declared.io.IoFault.{IoFault}
 use Rattle.tv_base.specs.declared.io.IoKind.TheVariants.{Device}
 use Rattle.tv_managed.specs.Reading.{HasNoFooter, ReadsSuch, TellsChecksum}
-use Rattle.tv_model.specs.declared.segment.LiveSegment.{LiveSegment}
-use Rattle.tv_model.specs.Commits.{IsSegment}
-use Rattle.tv_model.specs.Files.{Reads}
-use Rattle.tv_model.specs.Framing.{is_intact}
-use Rattle.tv_model.specs.Index.{IsFileOf}
-use Rattle.tv_model.specs.Lines.{line}
-use Rattle.tv_model.specs.Living.{segment_names}
-use Rattle.tv_model.specs.Names.{has, is}
-use Rattle.tv_model.specs.ReportEvents.{committed_names, damaged_files, intact_at, is_damaged, validated}
-use Rattle.tv_model.specs.Segments.{components}
-use Rattle.tv_model.specs.State.{State, FileState, Sealed, Open, Left, at, file_at}
-use Rattle.tv_model.proofs.Entries.{is_text}
-use Rattle.tv_model.proofs.Framing.{intact_again, intact_none}
-use Rattle.tv_model.proofs.Required.{by_one}
+use Rattle.tv_formats.specs.declared.segment.LiveSegment.{LiveSegment}
+use Rattle.tv_formats.specs.Commits.{IsSegment}
+use Rattle.tv_formats.specs.Files.{Reads}
+use Rattle.tv_formats.specs.Framing.{is_intact}
+use Rattle.tv_machine.specs.Index.{IsFileOf}
+use Rattle.tv_machine.specs.Lines.{line}
+use Rattle.tv_formats.specs.Segments.{segment_names, components}
+use Rattle.tv_formats.specs.Names.{has, is, at}
+use Rattle.tv_machine.specs.ReportEvents.{committed_names, damaged_files, intact_at, is_damaged, validated}
+use Rattle.tv_machine.specs.State.{State, FileState, SealedFile, Open, Left, file_at}
+use Rattle.tv_formats.proofs.Entries.{is_text}
+use Rattle.tv_formats.proofs.Framing.{intact_again, intact_none}
+use Rattle.tv_formats.proofs.Required.{by_one}
 use Rattle.tv_store.specs.FileCalls.{intact_in}
-use Rattle.tv_store.specs.Kept.{Kept, FileHolds, Holds, is_left}
+use Rattle.tv_store.specs.Kept.{KeptState, FileHolds, Holds, is_left}
 use Rattle.tv_store.proofs.CommitEvents.{all_joined, files_named}
 use Rattle.tv_store.proofs.FoundStates.{means_commit}
 
@@ -71,11 +70,11 @@ left_intact read (Some body) left h = refl
 
 intact_held : (file : Option FileState) (read written : Option (List ℕ)) → FileHolds file read written → intact_in read written (is_left file) ≡ intact_at file
 intact_held None read written h = rw (h.0, h.1) refl
-intact_held (Some (Sealed bytes)) read written h = rw (h.0, h.1) refl
+intact_held (Some (SealedFile bytes)) read written h = rw (h.0, h.1) refl
 intact_held (Some (Open body)) read written h = rw h.1 refl
 intact_held (Some Left) read written h = rw h.1 refl
 
-pub held_intact : (reads : Reads) (kept : Kept) (s : State) (name : List ℕ) → Holds reads kept s → IsFileOf name → intact_in (reads name) (at kept.open_files name) (has kept.left name) ≡ intact_at (file_at s name)
+pub held_intact : (reads : Reads) (kept : KeptState) (s : State) (name : List ℕ) → Holds reads kept s → IsFileOf name → intact_in (reads name) (at kept.open_files name) (has kept.left name) ≡ intact_at (file_at s name)
 held_intact reads kept s name h file = ap (intact_in (reads name) (at kept.open_files name)) (h.left name file) ∙ intact_held (file_at s name) (reads name) (at kept.open_files name) (h.files name file)
 
 -- ---- the files that are looked at
@@ -112,7 +111,7 @@ names_are_files [] h = tt
 names_are_files (e ∷ segments) h = all_joined IsFileOf (segment_names e) (flat_map segment_names segments) (files_named e.0 e.1.deletes components h.0.id) (names_are_files segments h.1)
 
 -- the managed names of the commit's segments are those of files
-pub committed_are_files : (reads : Reads) (kept : Kept) (s : State) → Holds reads kept s → AllByRecursion IsFileOf (committed_names s.catalog s.managed)
+pub committed_are_files : (reads : Reads) (kept : KeptState) (s : State) → Holds reads kept s → AllByRecursion IsFileOf (committed_names s.catalog s.managed)
 committed_are_files reads kept s h =
     let segments = s.catalog.commit.segments in
     let means = h.meta.2 in

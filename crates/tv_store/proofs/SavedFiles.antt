@@ -10,7 +10,7 @@ use Rattle.tv_directory.specs.declared.directory.Directory.{Ghosts}
 use Rattle.tv_index.specs.Crashes.{SavesStates}
 use Rattle.tv_managed.specs.Crashes.{LeavesSafely}
 use Rattle.tv_managed.specs.Names.{ManagedNames}
-use Rattle.tv_model.specs.Names.{meta_name}
+use Rattle.tv_formats.specs.Names.{meta_name}
 
 -- an error says nothing of what stands at Ok
 none_at_err : {A E : Type 0} (P : Type 0) (result : Result A E) → IsErr result → OnOk result P

@@ -2,26 +2,26 @@
 use Rattle.std.proofs.Common.{ℕ, ◌≡◌, ◌+◌, ◌≤◌, Bool, inl, List, [], ◌∷◌, length, Option, sym, ap, subst, ◌∙◌, arith, Result, Ok, Err, IfErr}
 use Rattle.std.specs.Prelude.{IfOk, OnOk, OnErr}
 use Rattle.std.specs.List.{AllByRecursion}
-use Rattle.tv_model.specs.declared.event.Event.{Event}
-use Rattle.tv_model.specs.declared.event.Event.TheVariants as events
+use Rattle.tv_machine.specs.declared.event.Event.{Event}
+use Rattle.tv_machine.specs.declared.event.Event.TheVariants as events
 use Rattle.tv_base.specs.declared.open_errors.OpenReadError.{OpenReadError}
 use Rattle.tv_base.specs.declared.open_errors.LockError.TheVariants as lock
 use Rattle.tv_base.specs.declared.error.TantivyError.{TantivyError}
 use Rattle.tv_base.specs.declared.error.TantivyError.TheVariants as errors
-use Rattle.tv_store.specs.Kept.{Kept, StoreState, Holds, AtMost}
+use Rattle.tv_store.specs.Kept.{KeptState, StoreState, Holds, AtMost}
 use Rattle.tv_store.specs.ReaderNumbers.{FewNumbers}
 use Rattle.tv_store.specs.Applying.{Stepped, StepsHeld, LeavesAlone, LeavesOldOrNew, MayNoteAt, SavesAt, WritesByStep}
 use Rattle.tv_store.specs.Committing.{CommitStep}
 use Rattle.tv_store.specs.ReadCauses.{LoadingCause, IsReadError}
 use Rattle.tv_store.proofs.FewNumbers.{few_more}
-use Rattle.tv_model.specs.Collections.{Collections}
-use Rattle.tv_model.specs.Commits.{IndexForm}
-use Rattle.tv_model.specs.Files.{Same}
-use Rattle.tv_model.specs.State.{State, StepResult, Readers}
-use Rattle.tv_model.specs.Machine.{step}
-use Rattle.tv_model.specs.SoundStates.{IsWhole}
-use Rattle.tv_model.specs.Readable.{ReadsGood}
-use Rattle.tv_model.specs.CommitEvents.{commit_step}
+use Rattle.tv_formats.specs.Collections.{Collections}
+use Rattle.tv_formats.specs.Commits.{IndexForm}
+use Rattle.tv_formats.specs.Files.{Same}
+use Rattle.tv_machine.specs.State.{State, StepResult, Readers}
+use Rattle.tv_machine.specs.Machine.{step}
+use Rattle.tv_machine.specs.SoundStates.{IsWhole}
+use Rattle.tv_machine.specs.Readable.{ReadsGood}
+use Rattle.tv_machine.specs.CommitEvents.{commit_step}
 use Rattle.tv_directory.specs.View.{View}
 use Rattle.tv_directory.specs.Watch.{WatchState}
 use Rattle.tv_directory.specs.declared.directory.Directory.{Ghosts}
@@ -219,7 +219,7 @@ longer [] small large le h = tt
 longer (e ∷ es) small large le h = (omega (arith, le, h.0), longer es small large le h.1)
 
 -- what is at most a bound is at most a larger one
-pub at_most : (bound n : ℕ) (kept : Kept) → AtMost bound kept → AtMost (bound + n) kept
+pub at_most : (bound n : ℕ) (kept : KeptState) → AtMost bound kept → AtMost (bound + n) kept
 at_most bound n kept h = longer kept.open_files bound (bound + n) (omega arith) h
 
 -- so are the numbers of who reads, where they stay
@@ -235,7 +235,7 @@ numbers_stay bound n old new before now (Ok answer) same still h =
 numbers_stay bound n old new before now (Err error) same still h = tt
 
 -- the same bodies are open
-pub same_lens : (bound : ℕ) (kept : Kept) (files : List (List ℕ × List ℕ)) → files ≡ kept.open_files → AtMost bound kept → AllByRecursion (λ e. length e.1 ≤ bound) files
+pub same_lens : (bound : ℕ) (kept : KeptState) (files : List (List ℕ × List ℕ)) → files ≡ kept.open_files → AtMost bound kept → AllByRecursion (λ e. length e.1 ≤ bound) files
 same_lens bound kept files same h = subst (λ (es : List (List ℕ × List ℕ)). AllByRecursion (λ e. length e.1 ≤ bound) es) (sym same) h
 
 -- ---- what an error leaves of the commit

@@ -1,8 +1,8 @@
 -- A lock that a store takes and frees again.
 use Rattle.std.proofs.Common.{◌≡◌, ◌≢◌, ℕ, true, false, true≢false, List, refl, sym, ap, ◌∙◌}
 use Rattle.std.specs.BTreeMap.{is_at}
-use Rattle.tv_model.specs.Names.{byte_cmp}
-use Rattle.tv_model.proofs.Entries.{at_itself, text_at}
+use Rattle.tv_formats.specs.Names.{byte_cmp}
+use Rattle.tv_formats.proofs.Entries.{at_itself, text_at}
 use Rattle.tv_directory.specs.Locks.{FreesLock, Locks, SameLocks, TakesLock}
 
 -- whether a name is this one

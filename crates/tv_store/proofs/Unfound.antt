@@ -7,10 +7,10 @@ use Rattle.tv_directory.specs.ViewLaws.{deletes_then, kept_itself}
 use Rattle.tv_directory.specs.Watch.{MayNote, WatchState}
 use Rattle.tv_directory.specs.declared.directory.Directory.{Ghosts}
 use Rattle.tv_managed.specs.Names.{ManagedNames}
-use Rattle.tv_model.specs.Files.{Reads, Rose, Same}
-use Rattle.tv_model.specs.Meaning.{MeansNothing, MeansOther}
-use Rattle.tv_model.specs.Names.{meta_name}
-use Rattle.tv_model.specs.Schemas.{IsSchema}
+use Rattle.tv_formats.specs.Files.{Reads, Rose, Same}
+use Rattle.tv_formats.specs.Meaning.{MeansNothing, MeansOther}
+use Rattle.tv_formats.specs.Names.{meta_name}
+use Rattle.tv_formats.specs.Schemas.{IsSchema}
 use Rattle.tv_index.specs.CrashLaws.{looks_kept, looks_make, looks_none, looks_then, makes_behind, makes_then}
 use Rattle.tv_index.specs.Crashes.{LacksMeta, MayMake, OnlyLooks, TracksFrom}
 use Rattle.tv_index.specs.Opening.{IsRefusedBytes, LeavesFound, LeavesUnopened, HasList, NotOpened, OfBytes, OpenCause, OpensIndex, first_text}

@@ -4,8 +4,8 @@ use Rattle.std.specs.Prelude.{IfErr}
 use Rattle.std.specs.Result.{IsErrAnd}
 use Rattle.tv_directory.specs.declared.directory.Directory.{Ghosts}
 use Rattle.tv_managed.specs.declared.managed_directory.Refused.{Refused}
-use Rattle.tv_model.specs.Files.{Heard}
-use Rattle.tv_model.specs.Lines.{opening_of}
+use Rattle.tv_formats.specs.Files.{Heard}
+use Rattle.tv_machine.specs.Lines.{opening_of}
 use Rattle.tv_store.specs.Kept.{StoreState}
 use Rattle.tv_store.specs.Opening.{LeavesIndex, OpeningFaults, OpeningFrame, OpensSafely, TakesWriterLock, TellsOpening}
 use Rattle.tv_store.specs.Telling.{TellsFirstPart, TellsNoLine}

@@ -9,36 +9,28 @@ use Rattle.tv_directory.specs.Watch.{WatchState, MayNote, noted}
 use Rattle.tv_directory.specs.declared.directory.Directory.{Ghosts}
 use Rattle.tv_index.specs.Saving.{saved_text}
 use Rattle.tv_index.specs.Standing.{MetaCause}
-use Rattle.tv_model.specs.Names.{meta_name}
-use Rattle.tv_model.specs.Files.{Reads, Heard, Rose, RoseBy, Same}
-use Rattle.tv_model.specs.Commits.{Commit, IndexForm}
-use Rattle.tv_model.specs.Living.{is_busy}
-use Rattle.tv_model.specs.Meaning.{Means}
-use Rattle.tv_model.specs.Segments.{all_required}
-use Rattle.tv_model.specs.State.{State}
-use Rattle.tv_model.specs.declared.event.Event.{Event}
-use Rattle.tv_model.specs.declared.event.Event.TheVariants as events
-use Rattle.tv_model.specs.SoundStates.{IsWhole}
-use Rattle.tv_model.specs.Machine.{catalog_step, step, refused_in}
-use Rattle.tv_model.specs.Readable.{ReadsGood, read_by}
+use Rattle.tv_formats.specs.Names.{meta_name}
+use Rattle.tv_formats.specs.Files.{Reads, Heard, Rose, RoseBy, Same}
+use Rattle.tv_formats.specs.Commits.{Commit, IndexForm}
+use Rattle.tv_machine.specs.Living.{is_busy}
+use Rattle.tv_formats.specs.Meaning.{Means}
+use Rattle.tv_formats.specs.Segments.{all_required}
+use Rattle.tv_machine.specs.State.{State}
+use Rattle.tv_machine.specs.declared.event.Event.{Event}
+use Rattle.tv_machine.specs.declared.event.Event.TheVariants as events
+use Rattle.tv_machine.specs.SoundStates.{IsWhole}
+use Rattle.tv_machine.specs.Machine.{catalog_step, step, refused_in}
+use Rattle.tv_machine.specs.Readable.{ReadsGood, read_by}
 use Rattle.tv_managed.specs.Collecting.{meta_lock_name}
-use Rattle.tv_store.specs.Kept.{Kept, StoreState, Holds, AtMost, IsHeld}
-use Rattle.tv_store.specs.Exhausted.{IsExhausted, length_after}
+use Rattle.tv_store.specs.Kept.{KeptState, StoreState, Holds, AtMost, IsHeld}
+use Rattle.tv_store.specs.Effects.{LoadsCommit, TakesMetaLock, length_after, written_by}
+use Rattle.tv_store.specs.Exhausted.{IsExhausted}
 use Rattle.tv_store.specs.ReaderNumbers.{FewNumbers}
 use Rattle.tv_store.specs.Bodies.{MeetsBadFile}
-use Rattle.tv_store.specs.ReadCauses.{LoadingCause, IsReadError, LoadsCommit, ReadsFiles, TakesMetaLock}
+use Rattle.tv_store.specs.ReadCauses.{LoadingCause, IsReadError}
 use Rattle.tv_store.specs.StoreCauses.{IsBusy}
 use Rattle.tv_store.specs.Stays.{KeepsDotted}
 use Rattle.tv_store.specs.Telling.{TellsFirstPart}
-
--- how many bytes an event adds to a file, or how many numbers of readers, searchers, snapshots and collections it takes
-abbrev pub written_by : Event → ℕ
-written_by (events.Write id component bytes) = length bytes
-written_by (events.Reader policy) = 1
-written_by (events.Reload number) = 1
-written_by (events.Searcher number) = 1
-written_by events.GcBegin = 1
-written_by other = 0
 
 -- Each name reads what it read, and no notice came.
 pub record LeavesAlone {W : Type 0} (old new : View W) : Type 0 where
@@ -46,7 +38,7 @@ pub record LeavesAlone {W : Type 0} (old new : View W) : Type 0 where
   pub watched : new.watched ≡ old.watched
 
 -- `meta.json` reads this commit's printed form, with a line feed, and a notice of it stands.
-pub record SavesMeta {W : Type 0} (form : IndexForm) (old new : View W) (commit : Commit)
+pub record SavesPrinted {W : Type 0} (form : IndexForm) (old new : View W) (commit : Commit)
     : Type 0 where
   pub text : new.reads meta_name ≡ Some (saved_text form.settings form.schema commit)
   pub notice : new.watched ≡ noted meta_name old.watched
@@ -56,18 +48,18 @@ pub record SavesMeta {W : Type 0} (form : IndexForm) (old new : View W) (commit 
 pub record SavesUnlessRefused {W : Type 0} (form : IndexForm) (old new : View W) (before after : State)
     : Type 0 where
   pub refused : after ≡ before → LeavesAlone old new
-  pub saved : after ≢ before → SavesMeta form old new after.catalog.commit
+  pub saved : after ≢ before → SavesPrinted form old new after.catalog.commit
 
 -- what an event does that commits, and whose step leads from one state to another: where that is another
 -- one, the commit is saved; of any other event nothing is said
 abbrev pub SavesAt : {W : Type 0} → Event → IndexForm → (old new : View W) → (before after : State)
     → Type 0
 SavesAt (events.Commit payload ids) form old new before after =
-    after ≢ before → SavesMeta form old new after.catalog.commit
+    after ≢ before → SavesPrinted form old new after.catalog.commit
 SavesAt other form old new before after = Unit {0}
 
 -- every event but a `write` of no bytes to an open file
-abbrev pub WritesByStep : Kept → Event → Type 0
+abbrev pub WritesByStep : KeptState → Event → Type 0
 WritesByStep kept (events.Write id component bytes) =
     (bytes ≢ []) ⊎ (length_after kept (events.Write id component bytes) ≡ None)
 WritesByStep kept other = Unit {0}
@@ -96,51 +88,70 @@ pub record Stepped {O W C : Type 0} (g : Ghosts O W C) (old new : StoreState O) 
   pub each : g.told.content → (s : State) → IsHeld g old s → IsWhole s
       → StepsHeld g old new s event outcomes answer
 
--- what `meta.json` reads after an error: what it read before; or, where this is so, a text that means this commit
+-- what `meta.json` reads after an error: what it read before; or, where this is so, a text that means this
+-- commit
 abbrev pub LeavesCommit : (given : Type 0) (before now : Option (List ℕ)) → IndexForm → Commit → Type 0
-LeavesCommit given before now form commit = (now ≡ before) ⊎ (given × ((text : List ℕ) × (now ≡ Some text) × Means form.settings form.schema text commit))
+LeavesCommit given before now form commit =
+    (now ≡ before)
+    ⊎ (given × ((text : List ℕ) × (now ≡ Some text) × Means form.settings form.schema text commit))
 
--- an event failed: `meta.json` reads what it read before; or, where a call was refused, the commit that the event makes
-abbrev pub LeavesOldOrNew : (refused : Type 0) (before now : Option (List ℕ)) → IndexForm → State → Event → Type 0
-LeavesOldOrNew refused before now form s event = (outcomes : List Bool) × LeavesCommit refused before now form (step s event outcomes).1.catalog.commit
+-- an event failed: `meta.json` reads what it read before; or, where a call was refused, the commit that the
+-- event makes
+abbrev pub LeavesOldOrNew : (refused : Type 0) (before now : Option (List ℕ))
+    → IndexForm → State → Event → Type 0
+LeavesOldOrNew refused before now form s event =
+    (outcomes : List Bool) × LeavesCommit refused before now form (step s event outcomes).1.catalog.commit
 
 -- where the content is told, the commit of each state that is held requires a file that can't be read
-abbrev pub LacksIn : (tells : Type 0) → Reads → Kept → OpenReadError → Type 0
-LacksIn tells reads kept error = tells → (s : State) → Holds reads kept s → IsWhole s → MeetsBadFile s (all_required s.catalog.commit.segments) error
+abbrev pub LacksIn : (tells : Type 0) → Reads → KeptState → OpenReadError → Type 0
+LacksIn tells reads kept error =
+    tells → (s : State) → Holds reads kept s → IsWhole s
+    → MeetsBadFile s (all_required s.catalog.commit.segments) error
 
 -- the event reads the files of a commit, and the first of them that can't be read is refused with this error
 abbrev pub MeetsBadAt : State → Event → OpenReadError → Type 0
-MeetsBadAt s event error = (commit : Commit) × (read_by s event ≡ Some commit) × MeetsBadFile s (all_required commit.segments) error
+MeetsBadAt s event error =
+    (commit : Commit) × (read_by s event ≡ Some commit) × MeetsBadFile s (all_required commit.segments) error
 
 -- where the content is told, it does so from each state that is held
-abbrev pub BadIn : (tells : Type 0) → Reads → Kept → Event → OpenReadError → Type 0
-BadIn tells reads kept event error = tells → (s : State) → Holds reads kept s → IsWhole s → MeetsBadAt s event error
+abbrev pub BadIn : (tells : Type 0) → Reads → KeptState → Event → OpenReadError → Type 0
+BadIn tells reads kept event error =
+    tells → (s : State) → Holds reads kept s → IsWhole s → MeetsBadAt s event error
 
 -- where the content is told, there is no such state
-abbrev pub HoldsNone : (tells : Type 0) → Reads → Kept → Type 0
+abbrev pub HoldsNone : (tells : Type 0) → Reads → KeptState → Type 0
 HoldsNone tells reads kept = tells → (s : State) → Holds reads kept s → IsWhole s → ⊥
 
 -- the event loads `meta.json`, which isn't loaded, for this cause
-abbrev pub UnloadedAt : {O W C : Type 0} → Ghosts O W C → (old new : StoreState O) → Event → TantivyError → Type 0
+abbrev pub UnloadedAt : {O W C : Type 0} → Ghosts O W C → (old new : StoreState O)
+    → Event → TantivyError → Type 0
 UnloadedAt g old new event error =
-    LoadsCommit old.kept.catalog event × MetaCause g.told.content (Some old.kept.form.schema) ((g.view old.outside).reads meta_name) (Rose (g.view old.outside).faults (g.view new.outside).faults) ((g.view new.outside).faults ≡ (g.view old.outside).faults) error
+    LoadsCommit old.kept.catalog event × MetaCause g.told.content (Some old.kept.form.schema)
+    ((g.view old.outside).reads meta_name) (Rose (g.view old.outside).faults (g.view new.outside).faults)
+    ((g.view new.outside).faults ≡ (g.view old.outside).faults) error
 
 -- the event reads the files of a commit, of which one is refused with this error
 abbrev pub RefusedAt : {O W C : Type 0} → Ghosts O W C → (old : StoreState O) → Event → OpenReadError → Type 0
-RefusedAt g old event error = ReadsFiles old.kept.catalog event × BadIn g.told.content (g.view old.outside).reads old.kept event error
+RefusedAt g old event error =
+    LoadsCommit old.kept.catalog event × BadIn g.told.content (g.view old.outside).reads old.kept event error
 
 -- the event reads the files of a commit, of which one isn't there
 abbrev pub GoneAt : {O W C : Type 0} → Ghosts O W C → (old : StoreState O) → Event → Type 0
-GoneAt g old event = ReadsFiles old.kept.catalog event × HoldsNone g.told.content (g.view old.outside).reads old.kept
+GoneAt g old event =
+    LoadsCommit old.kept.catalog event × HoldsNone g.told.content (g.view old.outside).reads old.kept
 
 -- An event fails where it takes a lock that isn't given; where it loads `meta.json`, which isn't there, or
 -- means no commit of this index; where it reads the files of a commit, and one can't be read; where the
 -- device refused a call, where memory was wanted, or where a number or the length of a file would pass 64
 -- bits.
-abbrev pub ActCause : {O W C : Type 0} → Ghosts O W C → (old new : StoreState O) → Event → TantivyError → Type 0
+abbrev pub ActCause : {O W C : Type 0} → Ghosts O W C → (old new : StoreState O)
+    → Event → TantivyError → Type 0
 ActCause g old new event =
-    LoadingCause (TakesMetaLock old.kept.catalog event × IsBusy g.told.locks ((g.view old.outside).locks meta_lock_name ≡ true) (Rose (g.view old.outside).faults (g.view new.outside).faults))
-    (Rose (g.view old.outside).faults (g.view new.outside).faults) ((g.view new.outside).faults ≡ (g.view old.outside).faults) (IsExhausted old.kept event)
+    LoadingCause (TakesMetaLock old.kept.catalog event
+    × IsBusy g.told.locks ((g.view old.outside).locks meta_lock_name ≡ true)
+    (Rose (g.view old.outside).faults (g.view new.outside).faults))
+    (Rose (g.view old.outside).faults (g.view new.outside).faults)
+    ((g.view new.outside).faults ≡ (g.view old.outside).faults) (IsExhausted old.kept event)
     (UnloadedAt g old new event) (RefusedAt g old event) (λ path. GoneAt g old event)
 
 -- At Ok the device refused no call but deletes, the lock that the event takes was free, and no number and no
@@ -149,34 +160,45 @@ ActCause g old new event =
 pub record ApplyFaults {O W C : Type 0} (g : Ghosts O W C) (old new : StoreState O) (event : Event)
     (result : Result (List ℕ) TantivyError) : Type 0 where
   pub quiet : OnOk result ((g.view new.outside).faults ≡ (g.view old.outside).faults)
-  pub free : g.told.locks → TakesMetaLock old.kept.catalog event → OnOk result ((g.view old.outside).locks meta_lock_name ≡ false)
+  pub free : g.told.locks → TakesMetaLock old.kept.catalog event
+      → OnOk result ((g.view old.outside).locks meta_lock_name ≡ false)
   pub fits : OnOk result (IsExhausted old.kept event → ⊥)
-  pub reads : g.told.locks → IfErr result (λ error. IsReadError error → (g.view old.outside).locks meta_lock_name ≡ false)
+  pub reads : g.told.locks
+      → IfErr result (λ error. IsReadError error → (g.view old.outside).locks meta_lock_name ≡ false)
   pub cause : IfErr result (ActCause g old new event)
 
 -- no more was told than a first part of the event's line
 abbrev pub TellsPartOf : (before now : Heard) → State → Event → Type 0
 TellsPartOf before now s event = (outcomes : List Bool) × TellsFirstPart before now (step s event outcomes).0
 
--- An error leaves the commit before, or, where a call was refused, that of the event; want of memory the one before. Of the event's line no more than a first part
--- was told.
-pub record LeavesMeta {O W C : Type 0} (g : Ghosts O W C) (old new : StoreState O) (event : Event) (result : Result (List ℕ) TantivyError) : Type 0 where
-  pub meta : g.told.content → (s : State) → IsHeld g old s → IsWhole s → OnErr result (LeavesOldOrNew (Rose (g.view old.outside).faults (g.view new.outside).faults) ((g.view old.outside).reads meta_name) ((g.view new.outside).reads meta_name) old.kept.form s event)
-  pub memory : g.told.content → IfErr result (λ error. error ≡ errors.Memory → (g.view new.outside).reads meta_name ≡ (g.view old.outside).reads meta_name)
-  pub part : g.told.content → g.told.heard → (s : State) → IsHeld g old s → IsWhole s → OnErr result (TellsPartOf (g.view old.outside).heard (g.view new.outside).heard s event)
+-- An error leaves the commit before, or, where a call was refused, that of the event; want of memory the one
+-- before. Of the event's line no more than a first part was told.
+pub record LeavesMeta {O W C : Type 0} (g : Ghosts O W C) (old new : StoreState O) (event : Event)
+    (result : Result (List ℕ) TantivyError) : Type 0 where
+  pub meta : g.told.content → (s : State) → IsHeld g old s → IsWhole s
+      → OnErr result (LeavesOldOrNew (Rose (g.view old.outside).faults (g.view new.outside).faults)
+      ((g.view old.outside).reads meta_name) ((g.view new.outside).reads meta_name) old.kept.form s event)
+  pub memory : g.told.content → IfErr result
+      (λ error. error ≡ errors.Memory
+      → (g.view new.outside).reads meta_name ≡ (g.view old.outside).reads meta_name)
+  pub part : g.told.content → g.told.heard → (s : State) → IsHeld g old s → IsWhole s
+      → OnErr result (TellsPartOf (g.view old.outside).heard (g.view new.outside).heard s event)
 
--- No open file is longer by more than the bytes that the event adds, and at Ok no number of readers, searchers, snapshots and collections is larger by more than it takes.
-pub record Grows (old new : Kept) (event : Event) (result : Result (List ℕ) TantivyError) : Type 0 where
+-- No open file is longer by more than the bytes that the event adds, and at Ok no number of readers,
+-- searchers, snapshots and collections is larger by more than it takes.
+pub record Grows (old new : KeptState) (event : Event) (result : Result (List ℕ) TantivyError) : Type 0 where
   pub lens : (bound more : ℕ) → written_by event ≤ more → AtMost bound old → AtMost (bound + more) new
-  pub numbers : (bound more : ℕ) → written_by event ≤ more → FewNumbers bound old.catalog.reading old.collections → OnOk result (FewNumbers (bound + more) new.catalog.reading new.collections)
+  pub numbers : (bound more : ℕ) → written_by event ≤ more
+      → FewNumbers bound old.catalog.reading old.collections
+      → OnOk result (FewNumbers (bound + more) new.catalog.reading new.collections)
 
 -- nobody was registered or called; and only a commit may change whether a notice of one stands
 abbrev pub MayNoteAt : Event → WatchState → WatchState → Type 0
 MayNoteAt (events.Commit payload ids) old new = MayNote meta_name old new
 MayNoteAt other old new = new ≡ old
 
--- What an event does that needs the catalog and the managed names alone: it asks the directory for no file, of which it keeps what
--- such a call keeps, and is answered no error of a file that is read.
+-- What an event does that needs the catalog and the managed names alone: it asks the directory for no file,
+-- of which it keeps what such a call keeps, and is answered no error of a file that is read.
 pub record AsksNoFile {O W C : Type 0} (keeps : View W → View W → Type 0) (g : Ghosts O W C)
     (old new : StoreState O) (result : Result (List ℕ) TantivyError) : Type 0 where
   pub below : keeps (g.view old.outside) (g.view new.outside)
@@ -206,9 +228,11 @@ pub record AppliesFrame {O W C : Type 0} (g : Ghosts O W C) (old new : StoreStat
       → AsksNoFile (OnlyTells g.told) g old new result
   pub is_open : new.standing.is_open ≡ is_ok result
 
--- An event that nothing disturbs, from a state that is held: what is read is told, and the locks are; the files that it reads can be read, the lock that it takes is
--- free, no number and no length passes 64 bits, and no call is refused.
-pub record IsUndisturbedEvent {O W C : Type 0} (g : Ghosts O W C) (old new : StoreState O) (event : Event) : Type 0 where
+-- An event that nothing disturbs, from a state that is held: what is read is told, and the locks are; the
+-- files that it reads can be read, the lock that it takes is free, no number and no length passes 64 bits,
+-- and no call is refused.
+pub record IsUndisturbedEvent {O W C : Type 0} (g : Ghosts O W C) (old new : StoreState O)
+    (event : Event) : Type 0 where
   pub content : g.told.content
   pub locks : g.told.locks
   pub state : State

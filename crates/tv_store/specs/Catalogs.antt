@@ -2,9 +2,9 @@
 use Rattle.std.specs.Prelude.{◌<◌, ◌^◌, Result, IfErr, OnOk}
 use Rattle.tv_base.specs.declared.error.TantivyError.{TantivyError}
 use Rattle.tv_base.specs.declared.error.TantivyError.TheVariants as errors
-use Rattle.tv_model.specs.Ids.{IsId}
-use Rattle.tv_model.specs.declared.event.Event.{Event}
-use Rattle.tv_model.specs.declared.event.Event.TheVariants as events
+use Rattle.tv_formats.specs.Ids.{IsId}
+use Rattle.tv_machine.specs.declared.event.Event.{Event}
+use Rattle.tv_machine.specs.declared.event.Event.TheVariants as events
 
 -- an id has sixteen bytes, and a number of documents 32 bits
 abbrev pub FitsCatalog : Event → Type 0

@@ -1,12 +1,12 @@
 -- What the laws of a store's events say.
 use Rattle.std.specs.Prelude.{ℕ, ◌≡◌, ◌<◌, true, List, Some}
 use Rattle.tv_directory.specs.declared.directory.Directory.{Ghosts}
-use Rattle.tv_model.specs.Commits.{Commit}
-use Rattle.tv_model.specs.Names.{has}
-use Rattle.tv_model.specs.Segments.{num_docs}
-use Rattle.tv_model.specs.SoundStates.{IsWhole}
-use Rattle.tv_model.specs.State.{Catalog, State, at, live_at}
-use Rattle.tv_model.specs.declared.segment.LiveSegment.{LiveSegment}
+use Rattle.tv_formats.specs.Commits.{Commit}
+use Rattle.tv_formats.specs.Names.{has, at}
+use Rattle.tv_formats.specs.Segments.{num_docs}
+use Rattle.tv_machine.specs.SoundStates.{IsWhole}
+use Rattle.tv_machine.specs.State.{Catalog, State, live_at}
+use Rattle.tv_formats.specs.declared.segment.LiveSegment.{LiveSegment}
 use Rattle.tv_store.specs.Kept.{StoreState, IsHeld}
 
 -- The directory tells its content, and with what the store keeps it holds a state of the machine
@@ -20,5 +20,6 @@ pub record HoldsSome {O W C : Type 0} (g : Ghosts O W C) (store : StoreState O) 
 -- the commit has each of these live segments that has living documents
 abbrev pub HasLiving : (ids : List (List ℕ)) → Catalog → Commit → Type 0
 HasLiving ids c commit =
-    (id : List ℕ) (segment : LiveSegment) → has ids id ≡ true → live_at c id ≡ Some segment → 0 < num_docs segment
+    (id : List ℕ) (segment : LiveSegment) → has ids id ≡ true
+    → live_at c id ≡ Some segment → 0 < num_docs segment
     → at commit.segments id ≡ Some segment

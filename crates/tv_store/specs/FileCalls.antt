@@ -11,12 +11,11 @@ use Rattle.tv_directory.specs.declared.directory.Directory.{Ghosts}
 use Rattle.tv_managed.specs.Collecting.{FailsAtMost, TakesNoLock, meta_lock_name}
 use Rattle.tv_managed.specs.Crashes.{LeavesSafely}
 use Rattle.tv_managed.specs.Managed.{MakesFile}
-use Rattle.tv_model.specs.Collections.{collectable, done_of, failed_of, held, without}
-use Rattle.tv_model.specs.Files.{Reads, Rose, Same}
-use Rattle.tv_model.specs.Framing.{is_intact}
-use Rattle.tv_model.specs.Listing.{IsListFile, Listing}
-use Rattle.tv_model.specs.Names.{byte_cmp, has, meta_name}
-use Rattle.tv_model.specs.State.{at}
+use Rattle.tv_formats.specs.Collections.{collectable, done_of, failed_of, held, without}
+use Rattle.tv_formats.specs.Files.{Reads, Rose, Same}
+use Rattle.tv_formats.specs.Framing.{is_intact}
+use Rattle.tv_formats.specs.Listing.{IsListFile, Listing}
+use Rattle.tv_formats.specs.Names.{byte_cmp, has, meta_name, at}
 use Rattle.tv_store.specs.Bodies.{RefusesAt}
 use Rattle.tv_store.specs.Kept.{FilesState, names_below}
 use Rattle.tv_store.specs.ReadCauses.{ApplyCause}
@@ -24,13 +23,14 @@ use Rattle.tv_index.specs.Crashes.{SavesStates}
 use Rattle.tv_index.specs.Saving.{FrameNotes}
 use Rattle.tv_store.specs.StoreCauses.{IsBusy, LockingCause, MakesNoFile}
 
--- Whether a file is there, isn't open and wasn't left, by what its name reads, what was written to it where it is open, and whether it was left.
+-- Whether a file is there, isn't open and wasn't left, by what its name reads, what was written to it where
+-- it is open, and whether it was left.
 pub record Asked (read written : Option (List ℕ)) (left found : Bool) : Type 0 where
   pub yes : found ≡ true → IsSome read × (written ≡ None) × (left ≡ false)
   pub no : found ≡ false → (read ≡ None) ⊎ IsSome written ⊎ (left ≡ true)
 
--- Whether the checksum of a file is that of its body, by what its name reads, what was written to it where it is open, and whether it was left; nothing where it
--- isn't sealed or has no footer.
+-- Whether the checksum of a file is that of its body, by what its name reads, what was written to it where it
+-- is open, and whether it was left; nothing where it isn't sealed or has no footer.
 abbrev pub intact_in : (read written : Option (List ℕ)) → (left : Bool) → Option Bool
 intact_in read (Some body) left = None
 intact_in read None true = None
@@ -45,30 +45,40 @@ unless_taken (Err (write.IoError fault path)) = Err (errors.OpenWriteError (writ
 unless_taken (Err write.Memory) = Err errors.Memory
 
 -- An empty file was made that wasn't there; it is on the list, and open.
-pub record OpensFile {O W C : Type 0} (g : Ghosts O W C) (old new : FilesState O) (name : List ℕ) : Type 0 where
+pub record OpensFile {O W C : Type 0} (g : Ghosts O W C) (old new : FilesState O)
+    (name : List ℕ) : Type 0 where
   pub names : new.managed ≡ insert_key byte_cmp old.managed name
   pub open_files : new.open_files ≡ insert_entry byte_cmp old.open_files name []
   pub left : new.left ≡ old.left
   pub makes : g.told.content → MakesFile (g.view old.outside).reads (g.view new.outside).reads name
-  pub list : g.told.content → Listing (g.view old.outside).reads old.managed → Listing (g.view new.outside).reads new.managed
+  pub list : g.told.content → Listing (g.view old.outside).reads old.managed
+      → Listing (g.view new.outside).reads new.managed
 
 -- The file was there, or an unfinished collection holds its name, and nothing changed.
-pub record FindsFile {O W C : Type 0} (g : Ghosts O W C) (old new : FilesState O) (name : List ℕ) : Type 0 where
+pub record FindsFile {O W C : Type 0} (g : Ghosts O W C) (old new : FilesState O)
+    (name : List ℕ) : Type 0 where
   pub open_files : new.open_files ≡ old.open_files
   pub left : new.left ≡ old.left
-  pub there : g.told.content → IsSome ((g.view old.outside).reads name) ⊎ (has (held old.collections) name ≡ true)
+  pub there : g.told.content
+      → IsSome ((g.view old.outside).reads name) ⊎ (has (held old.collections) name ≡ true)
   pub same : g.told.content → Same (g.view old.outside).reads (g.view new.outside).reads
   pub names : g.told.content → new.managed ≡ old.managed
 
--- A file isn't read where the device refused that, where memory was wanted, where its bytes are refused, or where it isn't there.
-pub record ReadBodyFaults {A O W C : Type 0} (g : Ghosts O W C) (old new : O) (name : List ℕ) (result : Result A TantivyError) : Type 0 where
+-- A file isn't read where the device refused that, where memory was wanted, where its bytes are refused, or
+-- where it isn't there.
+pub record ReadBodyFaults {A O W C : Type 0} (g : Ghosts O W C) (old new : O) (name : List ℕ)
+    (result : Result A TantivyError) : Type 0 where
   pub quiet : OnOk result ((g.view new).faults ≡ (g.view old).faults)
-  pub cause : IfErr result (ApplyCause ⊥ (Rose (g.view old).faults (g.view new).faults) ((g.view new).faults ≡ (g.view old).faults) ⊥ (λ error. g.told.content → RefusesAt (g.view old).reads name error) (λ path. (path ≡ name) × (g.told.content → (g.view old).reads path ≡ None)))
+  pub cause : IfErr result (ApplyCause ⊥ (Rose (g.view old).faults (g.view new).faults)
+      ((g.view new).faults ≡ (g.view old).faults) ⊥
+      (λ error. g.told.content → RefusesAt (g.view old).reads name error)
+      (λ path. (path ≡ name) × (g.told.content → (g.view old).reads path ≡ None)))
   pub file : IfErr result MakesNoFile
   pub lock : IfErr result TakesNoLock
 
 -- What trying these names gave: each is told as done or as failed, in their order.
-pub record Tried (names before after deleted failed : List (List ℕ)) (tells : Type 0) (old new : Reads) : Type 0 where
+pub record Tried (names before after deleted failed : List (List ℕ)) (tells : Type 0)
+    (old new : Reads) : Type 0 where
   pub outcomes : List Bool
   pub each : length outcomes ≡ length names
   pub deleted_is : deleted ≡ done_of names outcomes
@@ -80,11 +90,17 @@ pub record Tried (names before after deleted failed : List (List ℕ)) (tells : 
   -- every other name but those of the list reads what it read
   pub others : tells → (n : List ℕ) → has deleted n ≡ false → (IsListFile n → ⊥) → new n ≡ old n
 
--- The managed files were tried that aren't among these, and that no unfinished collection holds. Those that were deleted are neither open nor left any more, no more
--- deletes failed than were refused, and the unfinished collections are those that were. Where none
--- was deleted, each name reads what it read, the list's too.
-pub record Collects {O W C : Type 0} (g : Ghosts O W C) (living : List (List ℕ)) (old new : FilesState O) (deleted failed : List (List ℕ)) : Type 0 where
-  pub tried : Tried (collectable (living ++ held old.collections) old.managed) old.managed new.managed deleted failed g.told.content (g.view old.outside).reads (g.view new.outside).reads
+-- The managed files were tried that aren't among these, and that no unfinished collection holds. Those that
+-- were deleted are neither open nor left any more, no more deletes failed than were refused, and the
+-- unfinished collections are those that were. Where none was deleted, each name reads what it read, the
+-- list's too.
+pub record Collects {O W C : Type 0} (g : Ghosts O W C) (living : List (List ℕ)) (old new : FilesState O)
+    (deleted failed : List (List ℕ)) : Type 0 where
+  pub tried :
+      Tried
+      (collectable
+      (living ++ held old.collections) old.managed) old.managed new.managed deleted failed g.told.content
+      (g.view old.outside).reads (g.view new.outside).reads
   pub counted : FailsAtMost (length failed) (g.view old.outside).refusals (g.view new.outside).refusals
   pub open_files : (n : List ℕ) → at new.open_files n ≡ cond (has deleted n) None (at old.open_files n)
   pub left : (n : List ℕ) → has new.left n ≡ (not (has deleted n) && has old.left n)
@@ -92,18 +108,25 @@ pub record Collects {O W C : Type 0} (g : Ghosts O W C) (living : List (List ℕ
   pub same : g.told.content → deleted ≡ []
       → Same (g.view old.outside).reads (g.view new.outside).reads
 
--- A collection fails where the meta lock isn't given, where its number is spent, where the device refused a call other than a delete, or where memory was wanted. Else
--- the lock was free, and its number isn't spent.
-pub record GcFaults {A O W C : Type 0} (g : Ghosts O W C) (spent : Type 0) (old new : O) (result : Result A TantivyError) : Type 0 where
+-- A collection fails where the meta lock isn't given, where its number is spent, where the device refused a
+-- call other than a delete, or where memory was wanted. Else the lock was free, and its number isn't spent.
+pub record GcFaults {A O W C : Type 0} (g : Ghosts O W C) (spent : Type 0) (old new : O)
+    (result : Result A TantivyError) : Type 0 where
   pub quiet : OnOk result ((g.view new).faults ≡ (g.view old).faults)
   pub free : g.told.locks → OnOk result ((g.view old).locks meta_lock_name ≡ false)
   pub fits : OnOk result (spent → ⊥)
-  pub cause : IfErr result (LockingCause (IsBusy g.told.locks ((g.view old).locks meta_lock_name ≡ true) (Rose (g.view old).faults (g.view new).faults)) (Rose (g.view old).faults (g.view new).faults) ((g.view new).faults ≡ (g.view old).faults) spent)
+  pub cause : IfErr result (LockingCause (IsBusy g.told.locks ((g.view old).locks meta_lock_name ≡ true)
+      (Rose (g.view old).faults (g.view new).faults)) (Rose (g.view old).faults (g.view new).faults)
+      ((g.view new).faults ≡ (g.view old).faults) spent)
 
 -- After an error `meta.json` has this text, or what it had; after want of memory what it had.
-pub record LeavesText {A O W C : Type 0} (g : Ghosts O W C) (old new : O) (text : List ℕ) (result : Result A TantivyError) : Type 0 where
-  pub either : g.told.content → OnErr result (((g.view new).reads meta_name ≡ Some text) ⊎ ((g.view new).reads meta_name ≡ (g.view old).reads meta_name))
-  pub memory : g.told.content → IfErr result (λ error. error ≡ errors.Memory → (g.view new).reads meta_name ≡ (g.view old).reads meta_name)
+pub record LeavesText {A O W C : Type 0} (g : Ghosts O W C) (old new : O) (text : List ℕ)
+    (result : Result A TantivyError) : Type 0 where
+  pub either : g.told.content → OnErr result
+      (((g.view new).reads meta_name ≡ Some text)
+      ⊎ ((g.view new).reads meta_name ≡ (g.view old).reads meta_name))
+  pub memory : g.told.content → IfErr result
+      (λ error. error ≡ errors.Memory → (g.view new).reads meta_name ≡ (g.view old).reads meta_name)
 
 -- What a crash may leave of a save: at each moment what it might leave before, or each name as it stood, but
 -- that `meta.json` may have the new text; at Ok that text alone. Track is kept of the files.
@@ -111,11 +134,14 @@ abbrev pub SavesSafely : {A O W C : Type 0} → Ghosts O W C → (old new : File
     → Result A TantivyError → Type 0
 SavesSafely g old new text result =
     LeavesSafely g
-    (SavesStates (g.disk old.outside) (g.disk new.outside) (names_below old).1 meta_name text errors.Memory result)
+    (SavesStates (g.disk old.outside) (g.disk new.outside)
+    (names_below old).1 meta_name text errors.Memory result)
     (names_below old) (names_below new)
 
--- The settings and the schema stay, and the unfinished collections; no file was opened, written, closed or left, and no lock was taken or freed; a notice of a commit may stand.
-pub record KeepsOpenFiles {O W : Type 0} (told : Told) (view : O → View W) (old new : FilesState O) : Type 0 where
+-- The settings and the schema stay, and the unfinished collections; no file was opened, written, closed or
+-- left, and no lock was taken or freed; a notice of a commit may stand.
+pub record KeepsOpenFiles {O W : Type 0} (told : Told) (view : O → View W)
+    (old new : FilesState O) : Type 0 where
   pub form : new.form ≡ old.form
   pub collections : new.collections ≡ old.collections
   pub open_files : new.open_files ≡ old.open_files
@@ -125,4 +151,5 @@ pub record KeepsOpenFiles {O W : Type 0} (told : Told) (view : O → View W) (ol
 -- The open ones of these files are left, beside those that were, and no other file is.
 pub record LeavesFiles {O : Type 0} (names : List (List ℕ)) (old new : FilesState O) : Type 0 where
   pub open_files : (n : List ℕ) → at new.open_files n ≡ cond (has names n) None (at old.open_files n)
-  pub left : (n : List ℕ) → has new.left n ≡ (has old.left n || (has names n && is_some (at old.open_files n)))
+  pub left : (n : List ℕ)
+      → has new.left n ≡ (has old.left n || (has names n && is_some (at old.open_files n)))

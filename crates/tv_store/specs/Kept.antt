@@ -1,20 +1,20 @@
 -- What a store keeps in memory, and the state of the machine that it holds with what its directory reads.
 use Rattle.std.specs.Prelude.{ℕ, ◌≡◌, ◌≤◌, Bool, true, false, List, length, Option, Some, None, IsSome, is_some}
 use Rattle.std.specs.List.{AllByRecursion}
-use Rattle.tv_model.specs.Names.{has, meta_name}
-use Rattle.tv_model.specs.Files.{Reads}
-use Rattle.tv_model.specs.Listing.{Listing}
-use Rattle.tv_model.specs.Commits.{IndexForm, IsSegment}
-use Rattle.tv_model.specs.Meaning.{Means}
-use Rattle.tv_model.specs.Collections.{Collections}
-use Rattle.tv_model.specs.State.{Catalog, State, FileState, Sealed, Open, Left, at, file_at}
-use Rattle.tv_model.specs.Index.{IsFileOf}
+use Rattle.tv_formats.specs.Names.{has, meta_name, at}
+use Rattle.tv_formats.specs.Files.{Reads}
+use Rattle.tv_formats.specs.Listing.{Listing}
+use Rattle.tv_formats.specs.Commits.{IndexForm, IsSegment}
+use Rattle.tv_formats.specs.Meaning.{Means}
+use Rattle.tv_formats.specs.Collections.{Collections}
+use Rattle.tv_machine.specs.State.{Catalog, State, FileState, SealedFile, Open, Left, file_at}
+use Rattle.tv_machine.specs.Index.{IsFileOf}
 use Rattle.tv_directory.specs.declared.directory.Directory.{Ghosts}
 use Rattle.tv_managed.specs.Names.{ManagedNames}
 
--- what a store keeps in memory: its index's settings and schema, the catalog, the managed names, the unfinished collections, what was written to each open file, and
--- the files that were left
-pub record Kept : Type 0 where
+-- what a store keeps in memory: its index's settings and schema, the catalog, the managed names, the
+-- unfinished collections, what was written to each open file, and the files that were left
+pub record KeptState : Type 0 where
   pub form : IndexForm
   pub catalog : Catalog
   pub managed : List (List ℕ)
@@ -28,12 +28,12 @@ pub record Standing : Type 0 where
 
 -- a store: what it keeps in memory, its directory, and how it stands
 pub record StoreState (O : Type 0) : Type 0 where
-  pub kept : Kept
+  pub kept : KeptState
   pub outside : O
   pub standing : Standing
 
--- the files of a store: its directory, its index's settings and schema, the managed names, the unfinished collections, what was written to each open file, and the
--- files that were left
+-- the files of a store: its directory, its index's settings and schema, the managed names, the unfinished
+-- collections, what was written to each open file, and the files that were left
 pub record FilesState (O : Type 0) : Type 0 where
   pub outside : O
   pub form : IndexForm
@@ -52,25 +52,32 @@ kept_below store =
     (store.outside, record { managed = store.kept.managed; collections = store.kept.collections })
 
 -- what a store keeps of an index, with this catalog and these files
-abbrev pub kept_of : {O : Type 0} → Catalog → FilesState O → Kept
-kept_of catalog files = record { form = files.form; catalog = catalog; managed = files.managed; collections = files.collections; open_files = files.open_files; left = files.left }
+abbrev pub kept_of : {O : Type 0} → Catalog → FilesState O → KeptState
+kept_of catalog files = record {
+  form = files.form;
+  catalog = catalog;
+  managed = files.managed;
+  collections = files.collections;
+  open_files = files.open_files;
+  left = files.left;
+}
 
 -- a file of the machine, next to what its name reads and what was written to it
 abbrev pub FileHolds : Option FileState → Option (List ℕ) → Option (List ℕ) → Type 0
 FileHolds None read written = (read ≡ None) × (written ≡ None)
-FileHolds (Some (Sealed bytes)) read written = (read ≡ Some bytes) × (written ≡ None)
+FileHolds (Some (SealedFile bytes)) read written = (read ≡ Some bytes) × (written ≡ None)
 FileHolds (Some (Open body)) read written = IsSome read × (written ≡ Some body)
 FileHolds (Some Left) read written = IsSome read × (written ≡ None)
 
 -- whether a file was left
 abbrev pub is_left : Option FileState → Bool
 is_left None = false
-is_left (Some (Sealed bytes)) = false
+is_left (Some (SealedFile bytes)) = false
 is_left (Some (Open body)) = false
 is_left (Some Left) = true
 
 -- what is read and what is kept hold this state
-pub record Holds (reads : Reads) (kept : Kept) (s : State) : Type 0 where
+pub record Holds (reads : Reads) (kept : KeptState) (s : State) : Type 0 where
   pub catalog : kept.catalog ≡ s.catalog
   pub managed : kept.managed ≡ s.managed
   pub collections : kept.collections ≡ s.collections
@@ -78,7 +85,8 @@ pub record Holds (reads : Reads) (kept : Kept) (s : State) : Type 0 where
   pub names : (n : List ℕ) → is_some (file_at s n) ≡ true → IsFileOf n
   pub files : (n : List ℕ) → IsFileOf n → FileHolds (file_at s n) (reads n) (at kept.open_files n)
   pub left : (n : List ℕ) → IsFileOf n → has kept.left n ≡ is_left (file_at s n)
-  pub meta : (text : List ℕ) × (reads meta_name ≡ Some text) × Means kept.form.settings kept.form.schema text s.catalog.commit
+  pub meta : (text : List ℕ) × (reads meta_name ≡ Some text)
+      × Means kept.form.settings kept.form.schema text s.catalog.commit
   pub listing : Listing reads s.managed
   pub listed : has s.managed meta_name ≡ true
 
@@ -87,5 +95,5 @@ abbrev pub IsHeld : {O W C : Type 0} → Ghosts O W C → StoreState O → State
 IsHeld g store s = Holds (g.view store.outside).reads store.kept s
 
 -- no open file has more bytes than this
-abbrev pub AtMost : ℕ → Kept → Type 0
+abbrev pub AtMost : ℕ → KeptState → Type 0
 AtMost bound kept = AllByRecursion (λ e. length e.1 ≤ bound) kept.open_files

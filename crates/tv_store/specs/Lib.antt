@@ -1,4 +1,5 @@
 pub mod Kept
+pub mod Effects
 pub mod Exhausted
 pub mod Choosing
 pub mod Telling

@@ -11,17 +11,17 @@ use Rattle.tv_directory.specs.View.{OnlyReads, OnlyTells}
 use Rattle.tv_index.specs.Crashes.{LacksMeta, MayMake, OnlyLooks, TracksFrom}
 use Rattle.tv_index.specs.Opening.{Finds, FrameNotesFirst, IsRefusedBytes, LeavesFound, LeavesUnopened, NamesListFile, NotesMade, OpenCause, first_text}
 use Rattle.tv_managed.specs.Collecting.{TakesNoLock}
-use Rattle.tv_model.specs.Commits.{Commit, IsCommit}
-use Rattle.tv_model.specs.Collections.{no_collections}
-use Rattle.tv_model.specs.Files.{Reads, Rose, Same}
-use Rattle.tv_model.specs.Index.{opened_catalog}
-use Rattle.tv_model.specs.Lines.{opening_of}
-use Rattle.tv_model.specs.Listing.{Listing}
-use Rattle.tv_model.specs.Names.{byte_cmp, has, meta_name}
-use Rattle.tv_model.specs.declared.segment.LiveSegment.{LiveSegment}
-use Rattle.tv_model.specs.Schemas.{IsNoSchema, IsSchema}
-use Rattle.tv_model.specs.Segments.{all_required}
-use Rattle.tv_model.specs.State.{Catalog}
+use Rattle.tv_formats.specs.Commits.{Commit, IsCommit}
+use Rattle.tv_formats.specs.Collections.{no_collections}
+use Rattle.tv_formats.specs.Files.{Reads, Rose, Same}
+use Rattle.tv_machine.specs.Index.{as_opened}
+use Rattle.tv_machine.specs.Lines.{opening_of}
+use Rattle.tv_formats.specs.Listing.{Listing}
+use Rattle.tv_formats.specs.Names.{byte_cmp, has, meta_name}
+use Rattle.tv_formats.specs.declared.segment.LiveSegment.{LiveSegment}
+use Rattle.tv_formats.specs.Schemas.{IsNoSchema, IsSchema}
+use Rattle.tv_formats.specs.Segments.{all_required}
+use Rattle.tv_machine.specs.State.{Catalog}
 use Rattle.tv_store.specs.Bodies.{ReadsGoodFile}
 use Rattle.tv_store.specs.Kept.{FilesState, names_below}
 use Rattle.tv_store.specs.OpeningCauses.{MeetsMissing, MeetsRefused}
@@ -34,7 +34,8 @@ use Rattle.tv_store.specs.Telling.{TellsLine, TellsFirstPart, TellsNoLine}
 abbrev pub IsSorted : List (List ℕ × LiveSegment) → Type 0
 IsSorted segments = IsStrictlySortedBy byte_cmp (map (λ e. e.0) segments)
 
--- What a refused opening leaves, under the schema that these bytes spell; where they spell none, everything reads as before.
+-- What a refused opening leaves, under the schema that these bytes spell; where they spell none, everything
+-- reads as before.
 pub record LeavesRefused (old new : Reads) (schema : List ℕ) : Type 0 where
   pub spelled : (text : List ℕ) → IsSchema schema text → LeavesUnopened old new text
   pub unspelled : IsNoSchema schema → Same old new
@@ -79,7 +80,7 @@ pub record FindsFiles {O W C : Type 0} (g : Ghosts O W C) (locked : O) (schema :
     (catalog : Catalog) (files : FilesState O) : Type 0 where
   pub schema_is : files.form.schema ≡ schema
   pub is_commit : IsCommit catalog.commit
-  pub opened : catalog ≡ opened_catalog catalog.commit
+  pub opened : catalog ≡ as_opened catalog
   pub finds : g.told.content
       → Finds (g.view locked).reads files.form catalog.commit files.managed
   pub leaves : g.told.content
@@ -134,7 +135,7 @@ pub record ChecksFiles {A O W C : Type 0} (g : Ghosts O W C) (old new : FilesSta
 -- The files of this commit can be read, and its opening line was told. Else of the files the first that
 -- can't be read is refused, or the device refused a call, or memory was wanted; and of the line no more
 -- than a first part was told.
-pub record Begins {A O W C : Type 0} (g : Ghosts O W C) (commit : Commit) (old new : FilesState O)
+pub record OpensCommit {A O W C : Type 0} (g : Ghosts O W C) (commit : Commit) (old new : FilesState O)
     (result : Result A TantivyError) : Type 0 where
   pub good : g.told.content → OnOk result
       ((n : List ℕ) → has (all_required commit.segments) n ≡ true

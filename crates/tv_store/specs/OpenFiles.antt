@@ -4,8 +4,10 @@ use Rattle.tv_directory.specs.declared.directory.Directory.{Ghosts}
 use Rattle.tv_managed.specs.Writers.{IsSummed}
 use Rattle.tv_managed.specs.declared.writer.ManagedWriter.{ManagedWriter}
 
--- an open file: its writer was opened here under its name, which wasn't deleted since, keeps the checksum of what was written, and its length is kept beside it
-pub record IsOpenFile {O W C : Type 0} (g : Ghosts O W C) (directory : O) (name : List ℕ) (w : ManagedWriter O W C) (len : ℕ) : Type 0 where
+-- an open file: its writer was opened here under its name, which wasn't deleted since, keeps the checksum of
+-- what was written, and its length is kept beside it
+pub record IsOpenFile {O W C : Type 0} (g : Ghosts O W C) (directory : O) (name : List ℕ)
+    (w : ManagedWriter O W C) (len : ℕ) : Type 0 where
   pub opened_is : (g.view directory).opened w.writer ≡ true
   pub lives_is : g.told.content → (g.view directory).lives w.writer ≡ true
   pub name_is : (g.state_of w.writer).name ≡ name

@@ -3,15 +3,16 @@ use Rattle.std.specs.Prelude.{ℕ, ◌≡◌, true, List, Result, IfOk, IfErr, M
 use Rattle.tv_directory.specs.declared.directory.Directory.{Ghosts}
 use Rattle.tv_directory.specs.Locks.{SameLocks, TakesLock}
 use Rattle.tv_managed.specs.declared.managed_directory.Refused.{Refused}
-use Rattle.tv_model.specs.Collections.{no_collections}
-use Rattle.tv_model.specs.Files.{Same}
-use Rattle.tv_model.specs.Lines.{opening_of}
-use Rattle.tv_model.specs.Schemas.{IsSchema}
-use Rattle.tv_model.specs.State.{no_readers}
+use Rattle.tv_formats.specs.Collections.{no_collections}
+use Rattle.tv_formats.specs.Files.{Same}
+use Rattle.tv_machine.specs.Lines.{opening_of}
+use Rattle.tv_formats.specs.Schemas.{IsSchema}
+use Rattle.tv_machine.specs.State.{no_readers}
 use Rattle.tv_index.specs.Crashes.{LacksMeta, MayMake, OnlyLooks, TracksFrom}
 use Rattle.tv_index.specs.Opening.{Finds, LeavesFound, NotesMade, NotesNone, first_text}
-use Rattle.tv_model.specs.Index.{FoundIndex, HasFiles, OpenedIndex, opened_catalog}
-use Rattle.tv_model.specs.Readable.{CanRead}
+use Rattle.tv_machine.specs.Index.{FoundIndex, OpenedIndex, as_opened, found_commits}
+use Rattle.tv_formats.specs.Sound.{HasFiles}
+use Rattle.tv_machine.specs.Readable.{CanRead}
 use Rattle.tv_store.specs.Kept.{StoreState, AtMost, kept_below, IsHeld}
 use Rattle.tv_store.specs.Making.{LeavesRefused, WritesNone}
 use Rattle.tv_store.specs.OpeningCauses.{OpeningCause, opening_facts}
@@ -20,17 +21,23 @@ use Rattle.tv_store.specs.UnderLock.{OpensUnderLock, WritesUnderLock}
 use Rattle.tv_store.specs.Stays.{MayNotify}
 use Rattle.tv_store.specs.Telling.{TellsLine, TellsFirstPart, TellsNoLine}
 
--- An index with this schema is open in this directory: the one that stood there, of which no name was touched, or a new one. What it keeps is its settings, its commit,
--- and its list. It is each one to which the directory opens, and holds its state; the files that its commit requires can be read. No open file has a byte, nobody
--- reads, and no collection was begun.
-pub record Opens {O W C : Type 0} (g : Ghosts O W C) (outside : O) (schema : List ℕ) (store : StoreState O) : Type 0 where
+-- An index with this schema is open in this directory: the one that stood there, of which no name was
+-- touched, or a new one. What it keeps is its settings, its commit, and its list. It is each one to which the
+-- directory opens, and holds its state; the files that it requires can be read. No open file has a byte,
+-- nobody reads, and no collection was begun.
+pub record Opens {O W C : Type 0} (g : Ghosts O W C) (outside : O) (schema : List ℕ)
+    (store : StoreState O) : Type 0 where
   pub is_open : store.standing.is_open ≡ true
   pub spelled : IsSchema schema store.kept.form.schema
-  pub finds : g.told.content → Finds (g.view outside).reads store.kept.form store.kept.catalog.commit store.kept.managed
-  pub opened : store.kept.catalog ≡ opened_catalog store.kept.catalog.commit
-  pub left : g.told.content → LeavesFound (g.view outside).reads (g.view store.outside).reads store.kept.form.schema
-  pub found : g.told.content → (index : FoundIndex schema (g.view outside).reads) × HasFiles (g.view outside).reads index.commit
-  pub holds : g.told.content → (index : OpenedIndex schema (g.view outside).reads) → (store.kept.form ≡ index.form) × IsHeld g store index.state × CanRead index.state
+  pub finds : g.told.content
+      → Finds (g.view outside).reads store.kept.form store.kept.catalog.commit store.kept.managed
+  pub opened : store.kept.catalog ≡ as_opened store.kept.catalog
+  pub left : g.told.content
+      → LeavesFound (g.view outside).reads (g.view store.outside).reads store.kept.form.schema
+  pub found : g.told.content → (index : FoundIndex schema (g.view outside).reads)
+      × HasFiles (g.view outside).reads (found_commits index)
+  pub holds : g.told.content → (index : OpenedIndex schema (g.view outside).reads)
+      → (store.kept.form ≡ index.form) × IsHeld g store index.state × CanRead index.state
   pub lens : AtMost 0 store.kept
   pub numbers : store.kept.catalog.reading ≡ no_readers
   pub collections : store.kept.collections ≡ no_collections
@@ -46,10 +53,16 @@ pub record LeavesIndex {O W C : Type 0} (g : Ghosts O W C) (outside : O) (schema
       → Same (g.view outside).reads (g.view refused.directory).reads
 
 -- The opening line was told; after a refusal no more than a first part of it was, without its line feed.
-pub record TellsOpening {O W C : Type 0} (g : Ghosts O W C) (outside : O) (schema : List ℕ) (result : Result (StoreState O) (Refused O)) : Type 0 where
-  pub ok : g.told.heard → IfOk result (λ store. TellsLine (g.view outside).heard (g.view store.outside).heard (g.view outside).moment (g.view store.outside).moment (opening_of store.kept.catalog.commit))
-  pub err : g.told.heard → IfErr result (λ refused. TellsNoLine (g.view outside).heard (g.view refused.directory).heard)
-  pub part : g.told.content → g.told.heard → IfErr result (λ refused. (index : FoundIndex schema (g.view outside).reads) → TellsFirstPart (g.view outside).heard (g.view refused.directory).heard (opening_of index.commit))
+pub record TellsOpening {O W C : Type 0} (g : Ghosts O W C) (outside : O) (schema : List ℕ)
+    (result : Result (StoreState O) (Refused O)) : Type 0 where
+  pub ok : g.told.heard → IfOk result (λ store.
+      TellsLine (g.view outside).heard (g.view store.outside).heard (g.view outside).moment
+      (g.view store.outside).moment (opening_of store.kept.catalog.commit))
+  pub err : g.told.heard
+      → IfErr result (λ refused. TellsNoLine (g.view outside).heard (g.view refused.directory).heard)
+  pub part : g.told.content → g.told.heard
+      → IfErr result (λ refused. (index : FoundIndex schema (g.view outside).reads)
+      → TellsFirstPart (g.view outside).heard (g.view refused.directory).heard (opening_of index.commit))
 
 -- The writer lock was free, and is held, and all was read and written under it; after a refusal the
 -- same locks are held as before, and nothing was written, or that lock was taken first.

@@ -8,11 +8,11 @@ use Rattle.tv_base.specs.declared.open_errors.OpenReadError.{OpenReadError}
 use Rattle.tv_directory.specs.declared.directory.Directory.{Ghosts}
 use Rattle.tv_directory.specs.View.{OnlyReads}
 use Rattle.tv_index.specs.Opening.{OpenCause}
-use Rattle.tv_model.specs.Files.{Reads, Rose}
-use Rattle.tv_model.specs.Index.{FoundIndex}
-use Rattle.tv_model.specs.Names.{has}
-use Rattle.tv_model.specs.Schemas.{IsSchema, IsNoSchema}
-use Rattle.tv_model.specs.Segments.{all_required}
+use Rattle.tv_formats.specs.Files.{Reads, Rose}
+use Rattle.tv_machine.specs.Index.{FoundIndex, found_commits}
+use Rattle.tv_formats.specs.Commits.{required_by}
+use Rattle.tv_formats.specs.Names.{has}
+use Rattle.tv_formats.specs.Schemas.{IsSchema, IsNoSchema}
 use Rattle.tv_store.specs.Bodies.{ReadsGoodFile, RefusesAt}
 use Rattle.tv_store.specs.ReadCauses.{ReadFault}
 use Rattle.tv_store.specs.StoreCauses.{IsBusy, QuietBehind, RefusedBehind, writer_lock_name}
@@ -43,12 +43,14 @@ MeetsMissing reads names path = IsFirstBad reads names path × (reads path ≡ N
 -- of the files that the index requires which stands there, the first that can't be read is refused with this
 -- error
 abbrev pub IndexRefused : (schema : List ℕ) → Reads → OpenReadError → Type 0
-IndexRefused schema reads error = (index : FoundIndex schema reads) × MeetsRefused reads (all_required index.commit.segments) error
+IndexRefused schema reads error =
+    (index : FoundIndex schema reads) × MeetsRefused reads (required_by (found_commits index)) error
 
 -- of the files that the index requires which stands there, this is the first that can't be read, and it
 -- isn't there
 abbrev pub IndexMissing : (schema : List ℕ) → Reads → List ℕ → Type 0
-IndexMissing schema reads path = (index : FoundIndex schema reads) × MeetsMissing reads (all_required index.commit.segments) path
+IndexMissing schema reads path =
+    (index : FoundIndex schema reads) × MeetsMissing reads (required_by (found_commits index)) path
 
 -- What is known of some calls, by which an error is explained.
 pub record CallFacts : Type 1 where
@@ -85,7 +87,7 @@ opening_facts g outside now = record {
 }
 
 -- Why an opening fails, in this order: the schema is refused; the index that stands there is; the lock
--- of the writer is held, which is `busy`; or, where it is free, a file of the commit can't be read, the
+-- of the writer is held, which is `busy`; or, where it is free, a file of the index can't be read, the
 -- first of those that it requires. Each is so, and none before it. A device may refuse a call, that of
 -- the lock too, and memory may be wanted, at any time.
 abbrev pub OpeningCause : CallFacts → (schema : List ℕ) → Reads → TantivyError → Type 0

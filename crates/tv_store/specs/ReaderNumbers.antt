@@ -1,8 +1,8 @@
 -- How far the numbers of readers, of their snapshots, of searchers and of collections have come.
 use Rattle.std.specs.Prelude.{ℕ, ◌≤◌}
 use Rattle.std.specs.List.{AllByRecursion}
-use Rattle.tv_model.specs.Collections.{Collections}
-use Rattle.tv_model.specs.State.{Readers}
+use Rattle.tv_formats.specs.Collections.{Collections}
+use Rattle.tv_machine.specs.State.{Readers}
 
 -- none of the numbers that are given next is above this
 pub record FewNumbers (bound : ℕ) (reading : Readers) (collections : Collections) : Type 0 where

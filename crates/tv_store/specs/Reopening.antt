@@ -1,8 +1,7 @@
 -- What a call does that opens the files of a store again.
 use Rattle.std.specs.Prelude.{ℕ, ◌≡◌, ◌||◌, List, [], is_some}
-use Rattle.tv_model.specs.Collections.{no_collections}
-use Rattle.tv_model.specs.Names.{has}
-use Rattle.tv_model.specs.State.{at}
+use Rattle.tv_formats.specs.Collections.{no_collections}
+use Rattle.tv_formats.specs.Names.{has, at}
 use Rattle.tv_store.specs.Kept.{FilesState}
 
 -- The open files are left, beside those that were, and no collection is unfinished.

@@ -1,8 +1,8 @@
 -- What a crash may leave of other files where it may leave a new commit.
 use Rattle.std.specs.Prelude.{◌≡◌, ◌≢◌, ℕ, List}
-use Rattle.tv_model.specs.Disk.{Disk, DiskState, Possible, Sealed, possible_now}
-use Rattle.tv_model.specs.Listing.{IsListFile}
-use Rattle.tv_model.specs.Names.{meta_name}
+use Rattle.tv_formats.specs.Disk.{Disk, DiskState, Possible, Sealed, possible_now}
+use Rattle.tv_formats.specs.Listing.{IsListFile}
+use Rattle.tv_formats.specs.Names.{meta_name}
 
 -- Where a crash may leave this text of `meta.json`, and couldn't before, it leaves every other file but
 -- those of the list as it stood.

@@ -6,7 +6,7 @@ use Rattle.tv_base.specs.declared.open_errors.OpenWriteError.{OpenWriteError}
 use Rattle.tv_base.specs.declared.error.TantivyError.{TantivyError}
 use Rattle.tv_base.specs.declared.error.TantivyError.TheVariants as errors
 use Rattle.tv_directory.specs.Locks.{LockCause}
-use Rattle.tv_model.specs.Files.{Rose, RoseBy}
+use Rattle.tv_formats.specs.Files.{Rose, RoseBy}
 
 -- a file that was to be made was refused by the device
 abbrev pub WriteFault : (refused : Type 0) → OpenWriteError → Type 0
@@ -25,7 +25,8 @@ EventCause refused quiet spent other = ⊥
 abbrev pub writer_lock_name : List ℕ
 writer_lock_name = codes ".tantivy-writer.lock"
 
--- Why a lock isn't given: where locks are told, only where it is held; and where they aren't told, only where a call was refused.
+-- Why a lock isn't given: where locks are told, only where it is held; and where they aren't told, only where
+-- a call was refused.
 pub record IsBusy (tells_locks held refused : Type 0) : Type 0 where
   pub told : tells_locks → held
   pub untold : tells_locks ⊎ refused
@@ -41,7 +42,8 @@ RefusedBehind held before now = Rose before now ⊎ (held × RoseBy 1 before now
 
 -- an event that takes a lock fails as others do, or because the lock isn't given
 abbrev pub LockingCause : (busy refused quiet spent : Type 0) → TantivyError → Type 0
-LockingCause busy refused quiet spent (errors.LockFailure why text) = LockCause busy refused ⊥ why × (text ≡ None)
+LockingCause busy refused quiet spent (errors.LockFailure why text) =
+    LockCause busy refused ⊥ why × (text ≡ None)
 LockingCause busy refused quiet spent other = EventCause refused quiet spent other
 
 -- the error isn't that of a file that was to be made

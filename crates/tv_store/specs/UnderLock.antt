@@ -11,9 +11,9 @@ use Rattle.tv_directory.specs.declared.directory.Directory.{Ghosts}
 use Rattle.tv_index.specs.Crashes.{LacksMeta, MayMake, OnlyLooks}
 use Rattle.tv_index.specs.Openable.{IsOpenable}
 use Rattle.tv_index.specs.Opening.{Finds, LeavesFound, NotesNone, OpenCause, first_text}
-use Rattle.tv_model.specs.Files.{Reads, Rose, Same}
-use Rattle.tv_model.specs.Schemas.{IsSchema}
-use Rattle.tv_model.specs.State.{Catalog}
+use Rattle.tv_formats.specs.Files.{Reads, Rose, Same}
+use Rattle.tv_formats.specs.Schemas.{IsSchema}
+use Rattle.tv_machine.specs.State.{Catalog}
 use Rattle.tv_store.specs.Kept.{FilesState, StoreState}
 use Rattle.tv_store.specs.Making.{FindsFiles, LeavesRefused, WritesNone}
 use Rattle.tv_store.specs.OpeningCauses.{OpeningCause, opening_facts}

@@ -1,13 +1,15 @@
 //! Answers, and the room that is made for them before the device is asked.
 ghost use Rattle.std.specs.Prelude.{◌≡◌, ◌<◌, [], ◌∷◌, true, length, codes, IfOk, OnOk};
-ghost use Rattle.tv_model.specs.Lines.{line, has_no_feed};
+ghost use Rattle.tv_machine.specs.Lines.{line};
+ghost use Rattle.tv_formats.specs.Files.{has_no_feed};
 ghost use Rattle.tv_store.specs.Stays.{AsksQuietly, AsksOrFails};
 
 use crate::index_store::IndexStore;
 use std::alloc::Global;
 use tv_base::TantivyError;
 use tv_directory::Outside;
-use tv_model::{Answer, Memory};
+use tv_formats::Memory;
+use tv_machine::Answer;
 
 // The answer to an event that changes nothing.
 pub(crate) fn refused(alloc: Global, word: &str) -> Result<Answer, Memory>

@@ -1,13 +1,13 @@
 //! What is known of an index without asking its directory.
 ghost use Rattle.std.specs.Prelude.{◌≡◌, ◌<◌, ◌+◌, List, ℕ, IfOk, IsSome, OnOk, option_map, map, string_bytes, Some, true};
 ghost use Rattle.std.specs.List.{list_all};
-ghost use Rattle.tv_model.specs.CollectionEvents.{without_live};
-ghost use Rattle.tv_model.specs.CommitEvents.{chosen, first_unknown, last_stamp};
-ghost use Rattle.tv_model.specs.Living.{living};
-ghost use Rattle.tv_model.specs.Names.{has, is_plain};
-ghost use Rattle.tv_model.specs.ReaderEvents.{with_new_reader, with_reloaded};
-ghost use Rattle.tv_model.specs.ReportEvents.{committed_names};
-ghost use Rattle.tv_model.specs.State.{Reader as ReaderState, live_at, no_readers, reader_at};
+ghost use Rattle.tv_machine.specs.CollectionEvents.{without_live};
+ghost use Rattle.tv_machine.specs.CommitEvents.{chosen, first_unknown, last_stamp};
+ghost use Rattle.tv_machine.specs.Living.{living};
+ghost use Rattle.tv_formats.specs.Names.{has, is_plain};
+ghost use Rattle.tv_machine.specs.ReaderEvents.{with_new_reader, with_reloaded};
+ghost use Rattle.tv_machine.specs.ReportEvents.{committed_names};
+ghost use Rattle.tv_machine.specs.State.{Reader as ReaderState, live_at, no_readers, reader_at};
 
 use crate::chosen::choose;
 use crate::commit::{Commit, listed};
@@ -17,8 +17,9 @@ use crate::snapshot::Snapshot;
 use std::alloc::Global;
 use std::collections::{BTreeMap, BTreeSet};
 use std::marker::Model;
+use tv_formats::{FileName, LiveSegment, Memory, Opstamp, SegmentId};
 use tv_index::naming::shared_names;
-use tv_model::{FileName, LiveSegment, Memory, Opstamp, ReloadPolicy, SegmentId};
+use tv_machine::ReloadPolicy;
 
 /// The live segments, the number that the next commit gets, the current commit, and who reads.
 #[derive(Drop)]
@@ -31,7 +32,7 @@ pub(crate) struct Catalog {
 }
 
 impl Model for Catalog {
-    ghost use Rattle.tv_model.specs.State.{Catalog as CatalogState};
+    ghost use Rattle.tv_machine.specs.State.{Catalog as CatalogState};
 
     ghost Value = { CatalogState };
 

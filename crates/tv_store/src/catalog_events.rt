@@ -3,16 +3,17 @@ ghost use Rattle.std.specs.Prelude.{◌≡◌, ◌<◌, ◌^◌, [], ◌∷◌, 
 ghost use Rattle.std.specs.List.{list_all};
 ghost use Rattle.std.specs.Fmt.{decimal};
 ghost use Rattle.hex.specs.Hex.{encode_lower};
-ghost use Rattle.tv_model.specs.Ids.{IsId};
-ghost use Rattle.tv_model.specs.Lines.{line};
-ghost use Rattle.tv_model.specs.Names.{is_plain};
-ghost use Rattle.tv_model.specs.Machine.{catalog_step};
-ghost use Rattle.tv_model.specs.ReaderEvents.{release_reader_step};
-ghost use Rattle.tv_model.specs.ReportEvents.{managed_step};
-ghost use Rattle.tv_model.specs.SearcherEvents.{bytes_step, release_searcher_step, searcher_step, show_step};
-ghost use Rattle.tv_model.specs.SegmentEvents.{docs_step, is_in_use, segment_step};
+ghost use Rattle.tv_formats.specs.Ids.{IsId};
+ghost use Rattle.tv_machine.specs.Lines.{line};
+ghost use Rattle.tv_formats.specs.Names.{is_plain};
+ghost use Rattle.tv_machine.specs.Machine.{catalog_step};
+ghost use Rattle.tv_machine.specs.ReaderEvents.{release_reader_step};
+ghost use Rattle.tv_machine.specs.ReportEvents.{managed_step};
+ghost use Rattle.tv_machine.specs.SearcherEvents.{bytes_step, release_searcher_step, searcher_step, show_step};
+ghost use Rattle.tv_machine.specs.SegmentEvents.{docs_step, is_in_use, segment_step};
 ghost use Rattle.tv_store.specs.Catalogs.{CatalogFaults, FitsCatalog};
-ghost use Rattle.tv_store.specs.Exhausted.{SomePassesEnd, SpendsSearcher, searcher_after};
+ghost use Rattle.tv_store.specs.Effects.{searcher_after};
+ghost use Rattle.tv_store.specs.Exhausted.{SomePassesEnd, SpendsSearcher};
 
 use crate::answers::refused;
 use crate::catalog::Catalog;
@@ -20,8 +21,9 @@ use crate::readers::BodyAnswer;
 use std::alloc::Global;
 use std::collections::BTreeSet;
 use tv_base::TantivyError;
+use tv_formats::{LiveSegment, Memory, SegmentComponent, SegmentId};
 use tv_index::naming::is_named;
-use tv_model::{Answer, Event, LiveSegment, Memory, SegmentComponent, SegmentId};
+use tv_machine::{Answer, Event};
 
 // The line of a new live segment.
 fn segment_line(alloc: Global, id: SegmentId) -> Result<Answer, Memory>

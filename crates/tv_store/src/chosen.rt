@@ -1,13 +1,13 @@
 //! Which live segments a commit takes.
 ghost use Rattle.std.specs.Prelude.{◌≡◌, nat_lt, ◌&&◌, IfOk, OnOk};
 ghost use Rattle.std.specs.List.{filter};
-ghost use Rattle.tv_model.specs.Names.{has};
-ghost use Rattle.tv_model.specs.Segments.{num_docs};
+ghost use Rattle.tv_formats.specs.Names.{has};
+ghost use Rattle.tv_formats.specs.Segments.{num_docs};
 ghost use Rattle.tv_store.specs.Choosing.{with_living};
 
 use std::alloc::Global;
 use std::collections::BTreeMap;
-use tv_model::{LiveSegment, Memory, SegmentId};
+use tv_formats::{LiveSegment, Memory, SegmentId};
 
 // Adds a live segment, where it has living documents.
 fn put_living(

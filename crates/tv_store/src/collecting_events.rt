@@ -1,12 +1,13 @@
 //! The events of a collection in steps.
-ghost use Rattle.std.specs.Prelude.{◌≡◌, ◌+◌, [], ◌∷◌, ℕ, Bool, codes, cond, IfOk, OnOk};
+ghost use Rattle.std.specs.Prelude.{◌≡◌, ◌<◌, ◌+◌, [], ◌∷◌, ℕ, Bool, length, codes, cond, IfOk, OnOk};
 ghost use Rattle.std.specs.Fmt.{decimal};
-ghost use Rattle.tv_model.specs.CollectionEvents.{gc_begin_step, gc_end_step, gc_step_step};
-ghost use Rattle.tv_model.specs.Lines.{line};
+ghost use Rattle.tv_machine.specs.CollectionEvents.{gc_begin_step, gc_end_step, gc_step_step};
+ghost use Rattle.tv_machine.specs.Lines.{line};
 ghost use Rattle.tv_directory.specs.View.{Kept, MayDelete, OnlyReads};
-ghost use Rattle.tv_model.specs.declared.event.Event.TheVariants as events;
+ghost use Rattle.tv_machine.specs.declared.event.Event.TheVariants as events;
 ghost use Rattle.tv_store.specs.Acting.{OnCollecting, OnFiles, StepsDeleting, StepsTo, StepsWriting};
-ghost use Rattle.tv_store.specs.Exhausted.{SomePassesEnd, numbers_after};
+ghost use Rattle.tv_store.specs.Effects.{numbers_after};
+ghost use Rattle.tv_store.specs.Exhausted.{SomePassesEnd};
 ghost use Rattle.tv_store.specs.Kept.{AtMost};
 ghost use Rattle.tv_store.specs.Stays.{AsksQuietly};
 
@@ -15,14 +16,13 @@ use crate::index_store::IndexStore;
 use std::alloc::Global;
 use tv_base::TantivyError;
 use tv_directory::Outside;
-use tv_model::{Answer, FileName, Memory};
-
-// As long as the longest line of a step: the words, a number and a name.
-const STEP_ROOM: usize = 288;
+use tv_formats::{FileName, Memory};
+use tv_machine::Answer;
 
 // The line of a collection of these names that began.
 fn begun_line(alloc: Global, number: u64, names: &[FileName]) -> Result<Answer, Memory>
-    ensures { IfOk result (λ answer. answer ≡ line (codes "gc") (decimal number ∷ names.entry.now)) }
+    ensures { IfOk result (λ answer. answer
+        ≡ line (codes "gc") (decimal number ∷ names.entry.now)) }
 {
     let answer = Answer::new(alloc, "gc")?.number(number)?;
     with_names(answer, names)
@@ -95,11 +95,15 @@ impl<O: Outside> IndexStore<O> {
         Ok(answer)
     }
 
-    // Makes room for the answer to a step of a collection.
-    fn ready_for_step(&mut self) -> Result<(), Memory>
+    // Makes room for the answer to a step of a collection, whichever it is.
+    fn ready_for_step(&mut self, lines: &StepLines) -> Result<(), Memory>
+        ensures done { OnOk result (length lines.now.done < (O.view self.new.outside).room) }
+        ensures failed { OnOk result (length lines.now.failed < (O.view self.new.outside).room) }
         ensures asks { AsksQuietly O.Directory self.old self.new }
     {
-        self.files.ready(STEP_ROOM)
+        let done = lines.done.as_slice().len();
+        let failed = lines.failed.as_slice().len();
+        self.files.ready(done.max(failed))
     }
 
     // The first name that a collection has left is tried.
@@ -115,12 +119,11 @@ impl<O: Outside> IndexStore<O> {
         if left == 0 {
             return self.refuse("nothing-left");
         }
-        self.ready_for_step()?;
         let name = self.files.collect_next(self.alloc, number)?;
         let lines = StepLines::new(self.alloc, number, &name)?;
+        self.ready_for_step(&lines)?;
         let tried = self.files.collect_delete(number)?;
-        let answer = self.ready(lines.of(tried.is_done))?;
-        Ok(answer)
+        Ok(lines.of(tried.is_done))
     }
 
     // A collection is finished.

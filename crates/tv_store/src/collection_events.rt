@@ -1,12 +1,13 @@
 //! The event that collects files, and the one that ends a segment.
-ghost use Rattle.std.specs.Prelude.{◌≡◌, ℕ, IfOk};
-ghost use Rattle.tv_model.specs.CollectionEvents.{gc_step, collected_line, release_segment_step};
-ghost use Rattle.tv_model.specs.Lines.{line};
+ghost use Rattle.std.specs.Prelude.{◌≡◌, ◌<◌, ◌+◌, ℕ, length, codes, IfOk, OnOk};
+ghost use Rattle.tv_machine.specs.CollectionEvents.{gc_step, collected_line, release_segment_step};
+ghost use Rattle.tv_machine.specs.Lines.{line};
 ghost use Rattle.tv_directory.specs.View.{OnlyReads, MayDelete};
 ghost use Rattle.tv_store.specs.Kept.{AtMost};
 ghost use Rattle.tv_store.specs.Acting.{GivesNone, OnCollecting, OnFiles, StepsDeleting, StepsTo};
-ghost use Rattle.tv_model.specs.declared.event.Event.TheVariants as events;
-ghost use Rattle.tv_store.specs.Exhausted.{SomePassesEnd, numbers_after};
+ghost use Rattle.tv_machine.specs.declared.event.Event.TheVariants as events;
+ghost use Rattle.tv_store.specs.Effects.{numbers_after};
+ghost use Rattle.tv_store.specs.Exhausted.{SomePassesEnd};
 ghost use Rattle.tv_store.specs.Stays.{AsksQuietly};
 
 use crate::files_collecting::Collected;
@@ -15,7 +16,8 @@ use crate::names::names_of;
 use std::alloc::Global;
 use tv_base::TantivyError;
 use tv_directory::Outside;
-use tv_model::{Answer, FileName, Memory, SegmentId};
+use tv_formats::{FileName, Memory, SegmentId};
+use tv_machine::Answer;
 
 // How much longer the words and the number of a collection's answer are at most than the one before the
 // managed names.
@@ -44,10 +46,15 @@ fn collected(alloc: Global, done: &[FileName], failed: &[FileName]) -> Result<An
 impl<O: Outside> IndexStore<O> {
     // Makes room for the answer to a collection: all names that it may tell are managed.
     pub(crate) fn ready_for_all(&mut self) -> Result<(), Memory>
+        ensures room { OnOk result (length (line (codes "managed") self.old.kept.managed) + WORDS
+            < (O.view self.new.outside).room) }
         ensures asks { AsksQuietly O.Directory self.old self.new }
     {
         let all = self.catalog.managed(self.files.managed())?;
-        self.files.ready(all.as_slice().len().saturating_add(WORDS))
+        let Some(room) = all.as_slice().len().checked_add(WORDS) else {
+            return Err(Memory);
+        };
+        self.files.ready(room)
     }
 
     // The files that nothing needs are tried, and those that are done are gone.
@@ -63,7 +70,6 @@ impl<O: Outside> IndexStore<O> {
         self.ready_for_all()?;
         let Collected { deleted, failed } = self.files.collect(self.alloc, living)?;
         let answer = collected(self.alloc, deleted.as_slice(), failed.as_slice())?;
-        let answer = self.ready(answer)?;
         Ok(answer)
     }
 

@@ -1,15 +1,16 @@
 //! The current commit, and how it is printed.
 ghost use Rattle.std.specs.Prelude.{◌≡◌, ◌++◌, [], ◌∷◌, IfOk, is_some, length, option_map, string_bytes};
 ghost use Rattle.std.specs.Option.{option_copied};
-ghost use Rattle.tv_model.specs.Commits.{printed};
-ghost use Rattle.tv_model.specs.State.{at};
+ghost use Rattle.tv_formats.specs.Commits.{printed};
+ghost use Rattle.tv_formats.specs.Names.{at};
 ghost use Rattle.tv_index.specs.Settings.{settings_view};
 
 use std::alloc::Global;
 use std::collections::BTreeMap;
 use std::marker::Model;
+use tv_formats::{LiveSegment, Memory, Opstamp, SegmentId};
 use tv_index::{IndexSettings, Schema, metas_of, print_meta};
-use tv_model::{LiveSegment, Memory, Opstamp, SegmentId, Text};
+use tv_machine::Text;
 
 /// A payload, as a commit has it. Takes no memory.
 pub(crate) fn text_of(payload: Option<String>) -> Option<Text>
@@ -30,7 +31,7 @@ pub(crate) struct Commit {
 }
 
 impl Model for Commit {
-    ghost use Rattle.tv_model.specs.Commits.{Commit as Committed};
+    ghost use Rattle.tv_formats.specs.Commits.{Commit as Committed};
 
     ghost Value = { Committed };
 

@@ -3,17 +3,17 @@ ghost use Rattle.std.specs.Prelude.{◌≡◌, ◌≤◌, ◌<◌, [], ◌∷◌
 ghost use Rattle.std.specs.List.{AllByRecursion};
 ghost use Rattle.std.specs.Str.{IsUtf8};
 ghost use Rattle.std.specs.Fmt.{decimal};
-ghost use Rattle.tv_model.specs.Names.{meta_name};
-ghost use Rattle.tv_model.specs.State.{State, file_at, on_catalog};
-ghost use Rattle.tv_model.specs.Lines.{line};
-ghost use Rattle.tv_model.specs.CommitEvents.{commit_step, committed, first_unsealed, is_sealed, last_stamp};
-ghost use Rattle.tv_model.specs.Commits.{IsSegment, IsCommit};
-ghost use Rattle.tv_model.specs.Index.{IsFileOf};
+ghost use Rattle.tv_formats.specs.Names.{meta_name};
+ghost use Rattle.tv_machine.specs.State.{State, file_at, on_catalog};
+ghost use Rattle.tv_machine.specs.Lines.{line};
+ghost use Rattle.tv_machine.specs.CommitEvents.{commit_step, committed, first_unsealed, is_sealed, last_stamp};
+ghost use Rattle.tv_formats.specs.Commits.{IsSegment, IsCommit};
+ghost use Rattle.tv_machine.specs.Index.{IsFileOf};
 ghost use Rattle.tv_managed.specs.Managed.{KeepsOtherFiles};
 ghost use Rattle.tv_store.specs.Kept.{IsHeld};
 ghost use Rattle.tv_store.specs.FileCalls.{LeavesText};
 ghost use Rattle.tv_store.specs.Stays.{AsksQuietly, EventFaults, AsksOrFails};
-ghost use Rattle.tv_store.specs.Committing.{Commits, commit_of, PrintsNext, KeepsRest, Publishes, commit_line, unknown_line, unsealed_line};
+ghost use Rattle.tv_store.specs.Committing.{Commits, commit_sealed, PrintsNext, KeepsRest, Publishes, commit_line, unknown_line, unsealed_line};
 
 use crate::answers::refused;
 use crate::commit::Commit;
@@ -23,7 +23,8 @@ use std::alloc::Global;
 use std::collections::BTreeMap;
 use tv_base::TantivyError;
 use tv_directory::Outside;
-use tv_model::{Answer, FileName, IdList, LiveSegment, Memory, Opstamp, SegmentId, Text};
+use tv_formats::{FileName, LiveSegment, Memory, Opstamp, SegmentId};
+use tv_machine::{Answer, IdList, Text};
 
 // As long as the longest line that names a file which isn't sealed: the words, an id, the number of
 // a delete and the extension.
@@ -221,7 +222,7 @@ impl<O: Outside> IndexStore<O> {
     ) -> Result<Answer, TantivyError>
         requires { self.old.kept.catalog.next < last_stamp }
         ensures { Commits O.Directory (AllByRecursion IsSegment segments.entries) self.old self.new
-            (λ s. commit_of s payload.now segments.entries) result }
+            (λ s. commit_sealed s payload.now segments.entries) result }
     {
         let commit = new_commit(self.alloc, self.catalog.next_opstamp(), payload, segments)?;
         let text = commit.print(self.alloc, self.files.settings(), self.files.schema())?;
@@ -233,7 +234,7 @@ impl<O: Outside> IndexStore<O> {
     fn commit_printed(&mut self, commit: Commit, text: &[u8]) -> Result<Answer, TantivyError>
         requires { self.old.kept.catalog.next < last_stamp }
         ensures { Commits O.Directory (PrintsNext self.old.kept commit text.now) self.old self.new
-            (λ s. commit_of s commit.payload commit.segments) result }
+            (λ s. commit_sealed s commit.payload commit.segments) result }
     {
         let answer = self.ready_for_either(&commit)?;
         if let Some(refusal) = self.refusal_of(&commit)? {

@@ -2,11 +2,11 @@
 ghost use Rattle.std.specs.Prelude.{◌≡◌, ◌≤◌, ◌<◌, ◌||◌, [], ◌∷◌, ℕ, Some, codes, IfOk, OnOk, map, string_bytes};
 ghost use Rattle.std.specs.Fmt.{decimal};
 ghost use Rattle.hex.specs.Hex.{encode_lower};
-ghost use Rattle.tv_model.specs.CommitEvents.{last_stamp};
-ghost use Rattle.tv_model.specs.DeleteEvents.{delete_name, deletes_step, having_deleted_docs, is_committed_delete, next_deletes, with_deletes};
-ghost use Rattle.tv_model.specs.Lines.{line};
-ghost use Rattle.tv_model.specs.Names.{has};
-ghost use Rattle.tv_model.specs.State.{at, live_at};
+ghost use Rattle.tv_machine.specs.CommitEvents.{last_stamp};
+ghost use Rattle.tv_machine.specs.DeleteEvents.{delete_name, deletes_step, having_deleted_docs, is_committed_delete, next_deletes, with_deletes};
+ghost use Rattle.tv_machine.specs.Lines.{line};
+ghost use Rattle.tv_formats.specs.Names.{has, at};
+ghost use Rattle.tv_machine.specs.State.{live_at};
 ghost use Rattle.tv_directory.specs.View.{OnlyReads};
 ghost use Rattle.tv_store.specs.Acting.{OnFiles, StepsTo};
 ghost use Rattle.tv_store.specs.Kept.{AtMost};
@@ -18,10 +18,9 @@ use std::alloc::Global;
 use std::collections::BTreeSet;
 use tv_base::TantivyError;
 use tv_directory::Outside;
+use tv_formats::{DeleteMeta, FileName, LiveSegment, Memory, Opstamp, SegmentComponent, SegmentId};
 use tv_index::naming::has_name;
-use tv_model::{
-    Answer, DeleteMeta, FileName, LiveSegment, Memory, Opstamp, SegmentComponent, SegmentId,
-};
+use tv_machine::Answer;
 
 // The line of the deletes of a segment.
 fn deletes_line(

@@ -1,11 +1,13 @@
 //! The events on files.
 ghost use Rattle.std.specs.Prelude.{◌≡◌, ◌<◌, ◌+◌, [], ◌∷◌, ℕ, true, length, codes, IfOk};
 ghost use Rattle.std.specs.Fmt.{decimal};
-ghost use Rattle.tv_model.specs.Lines.{line, has_no_feed};
-ghost use Rattle.tv_model.specs.FileEvents.{lacks_deletes, open_step, write_step, seal_step};
+ghost use Rattle.tv_machine.specs.Lines.{line};
+ghost use Rattle.tv_formats.specs.Files.{has_no_feed};
+ghost use Rattle.tv_machine.specs.FileEvents.{lacks_deletes, open_step, write_step, seal_step};
 ghost use Rattle.tv_directory.specs.View.{Kept};
-ghost use Rattle.tv_model.specs.declared.event.Event.TheVariants as events;
-ghost use Rattle.tv_store.specs.Exhausted.{PassesEnd, length_after};
+ghost use Rattle.tv_machine.specs.declared.event.Event.TheVariants as events;
+ghost use Rattle.tv_store.specs.Effects.{length_after};
+ghost use Rattle.tv_store.specs.Exhausted.{PassesEnd};
 ghost use Rattle.tv_store.specs.Kept.{AtMost};
 ghost use Rattle.tv_store.specs.Acting.{StepsWriting, OnFiles};
 ghost use Rattle.tv_store.specs.Applying.{WritesByStep};
@@ -15,7 +17,8 @@ use crate::names::file_of;
 use std::alloc::Global;
 use tv_base::TantivyError;
 use tv_directory::Outside;
-use tv_model::{Answer, Blob, FileName, LiveSegment, Memory, SegmentComponent, SegmentId};
+use tv_formats::{FileName, LiveSegment, Memory, SegmentComponent, SegmentId};
+use tv_machine::{Answer, Blob};
 
 // Whether it is the delete file of a segment without deletes: there is none to write.
 fn lacks_deletes(segment: LiveSegment, component: SegmentComponent) -> bool

@@ -5,12 +5,10 @@ ghost use Rattle.std.specs.List.{list_all, AllByRecursion};
 ghost use Rattle.std.specs.Map.{remove_entry};
 ghost use Rattle.std.specs.BTreeMap.{is_at, insert_entry};
 ghost use Rattle.tv_base.specs.declared.io.IoKind.TheVariants.{Device};
-ghost use Rattle.tv_model.specs.Names.{byte_cmp, has, is_plain, is_file_name, meta_name};
-ghost use Rattle.tv_model.specs.Footer.{sealed};
-ghost use Rattle.tv_model.specs.Collections.{no_collections};
-ghost use Rattle.tv_model.specs.Files.{Sets, KeepsOthers};
-ghost use Rattle.tv_model.specs.State.{at};
-ghost use Rattle.tv_model.specs.Lines.{has_no_feed};
+ghost use Rattle.tv_formats.specs.Names.{byte_cmp, has, is_plain, is_file_name, meta_name, at};
+ghost use Rattle.tv_formats.specs.Footer.{sealed};
+ghost use Rattle.tv_formats.specs.Collections.{no_collections};
+ghost use Rattle.tv_formats.specs.Files.{Sets, KeepsOthers, has_no_feed};
 ghost use Rattle.tv_directory.specs.Calls.{DeviceFaults, Frees, LockFaults, Acquires, MakesRoom, TellsLineTo};
 ghost use Rattle.tv_directory.specs.Images.{KeepsDisk};
 ghost use Rattle.tv_directory.specs.View.{Kept, OnlyReads, OnlyLocks, OnlyTells};
@@ -29,9 +27,9 @@ use std::collections::{BTreeMap, BTreeSet};
 use std::marker::Model;
 use tv_base::{FileSlice, IoFault, IoKind, LockError, OpenReadError, OpenWriteError, TantivyError};
 use tv_directory::{Directory, DirectoryLock, Lock, Outside};
+use tv_formats::{FileName, Memory};
 use tv_index::{Index, IndexSettings, Schema, UntrackedIndexMeta, save_meta_text};
 use tv_managed::ManagedWriter;
-use tv_model::{FileName, Memory};
 
 /// A file that is being written, and how many bytes were.
 #[derive(Drop)]
@@ -43,19 +41,19 @@ pub(crate) struct OpenFile<D: Directory> {
 /// An index and its open files. To a contract it is the directory, the index's settings and schema, the
 /// managed names, the unfinished collections, what was written to each open file, and the files that
 /// were left.
-pub(crate) struct Files<O: Outside> {
+pub(crate) struct StoreFiles<O: Outside> {
     pub(crate) index: Index<O>,
     pub(crate) files: BTreeMap<FileName, OpenFile<O>>,
     // Neither sealed nor written any more.
     pub(crate) left: BTreeSet<FileName>,
 }
 
-impl<O: Outside> Model for Files<O> {
+impl<O: Outside> Model for StoreFiles<O> {
     ghost use Rattle.std.specs.Prelude.{map};
     ghost use Rattle.std.specs.List.{AllByRecursion};
     ghost use Rattle.std.specs.Prelude.{◌≡◌, false};
-    ghost use Rattle.tv_model.specs.Collections.{held};
-    ghost use Rattle.tv_model.specs.Names.{has, meta_name};
+    ghost use Rattle.tv_formats.specs.Collections.{held};
+    ghost use Rattle.tv_formats.specs.Names.{has, meta_name};
     ghost use Rattle.tv_store.specs.Kept.{FilesState};
     ghost use Rattle.tv_index.specs.NewForms.{form_with};
     ghost use Rattle.tv_store.specs.OpenFiles.{IsOpenFile};
@@ -103,9 +101,9 @@ fn unless_taken<W: Drop>(opened: Result<W, OpenWriteError>) -> Result<Option<W>,
     }
 }
 
-impl<O: Outside> Files<O> {
+impl<O: Outside> StoreFiles<O> {
     /// The files of an index, none of them open.
-    pub(crate) fn new(alloc: Global, index: Index<O>) -> Files<O>
+    pub(crate) fn new(alloc: Global, index: Index<O>) -> StoreFiles<O>
         requires { index.directory.1.collections ≡ no_collections }
         ensures { result ≡ record {
           outside = index.directory.0;
@@ -116,7 +114,7 @@ impl<O: Outside> Files<O> {
           left = [];
         } }
     {
-        Files {
+        StoreFiles {
             index,
             files: BTreeMap::new(alloc),
             left: BTreeSet::new(alloc),
@@ -127,7 +125,7 @@ impl<O: Outside> Files<O> {
     pub(crate) fn into_outside(self) -> O
         ensures { result ≡ self.outside }
     {
-        let Files {
+        let StoreFiles {
             index,
             files: _,
             left: _,

@@ -2,27 +2,27 @@
 ghost use Rattle.std.specs.Prelude.{◌≡◌, ◌≢◌, ◌&&◌, ◌||◌, not, ◌≤◌, [], ◌∷◌, List, ℕ, true, length, None, Some, IsSome, is_some, cond, option_map, Contains, IfOk, OnOk, OnErr, map, string_bytes};
 ghost use Rattle.std.specs.List.{list_all, AllByRecursion};
 ghost use Rattle.std.specs.List.Sorted.{IsStrictlySortedBy};
-ghost use Rattle.tv_model.specs.Names.{byte_cmp, has, is_plain, meta_name};
-ghost use Rattle.tv_model.specs.Collections.{Collection, collection_at, held, taken};
-ghost use Rattle.tv_model.specs.Files.{Same};
-ghost use Rattle.tv_model.specs.Listing.{IsListFile, Listing};
-ghost use Rattle.tv_model.specs.State.{at};
+ghost use Rattle.tv_formats.specs.Names.{byte_cmp, has, is_plain, meta_name, at};
+ghost use Rattle.tv_formats.specs.Collections.{Collection, collection_at, held, taken};
+ghost use Rattle.tv_formats.specs.Files.{Same};
+ghost use Rattle.tv_formats.specs.Listing.{IsListFile, Listing};
 ghost use Rattle.tv_directory.specs.View.{Kept, MayDelete, OnlyReads};
-ghost use Rattle.tv_store.specs.CollectingCalls.{BeginsCollection, EndsCollection, HasUntried, KeepsUncollected, KeepsUnlisted, TriesNext};
-ghost use Rattle.tv_store.specs.Exhausted.{SomePassesEnd, collection_after};
+ghost use Rattle.tv_store.specs.CollectingCalls.{BeginsCollection, FinishesCollection, HasUntried, KeepsUncollected, KeepsUnlisted, TriesNext};
+ghost use Rattle.tv_store.specs.Effects.{collection_after};
+ghost use Rattle.tv_store.specs.Exhausted.{SomePassesEnd};
 ghost use Rattle.tv_store.specs.FileCalls.{Collects, GcFaults};
 ghost use Rattle.tv_store.specs.Reopening.{Reopens};
 ghost use Rattle.tv_store.specs.Stays.{EventFaults, KeepsAllButList, KeepsDotted, KeepsForm};
 
-use crate::files::Files;
+use crate::files::StoreFiles;
 use std::alloc::Global;
 use std::collections::{BTreeMap, BTreeSet};
 use std::mem;
 use tv_base::TantivyError;
 use tv_directory::Outside;
+use tv_formats::{FileName, Memory};
 use tv_index::naming::push_text;
 use tv_managed::{CollectStep, GarbageCollectionResult};
-use tv_model::{FileName, Memory};
 
 /// A name that a collection tried, and whether it is done.
 #[derive(Drop)]
@@ -120,7 +120,7 @@ fn leave_all<V: Drop>(
     Ok(())
 }
 
-impl<O: Outside> Files<O> {
+impl<O: Outside> StoreFiles<O> {
     /// Whether an unfinished collection holds this name. Takes no memory.
     pub(crate) fn is_held(&self, name: &FileName) -> bool
         ensures { result ≡ has (held self.now.collections) name.now }
@@ -211,7 +211,7 @@ impl<O: Outside> Files<O> {
     /// Ends a collection: what is done is managed no more.
     pub(crate) fn collect_end(&mut self, number: u64) -> Result<(), TantivyError>
         requires { IsSome (collection_at self.old.collections number) }
-        ensures ends { OnOk result (EndsCollection O.Directory number self.old self.new) }
+        ensures ends { OnOk result (FinishesCollection O.Directory number self.old self.new) }
         ensures others { O.told.content → KeepsAllButList (O.view self.old.outside).reads
             (O.view self.new.outside).reads }
         ensures faults { EventFaults ⊥ (O.view self.old.outside) (O.view self.new.outside) result }

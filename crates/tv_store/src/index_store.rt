@@ -1,7 +1,7 @@
 //! An index that is open, under the lock of the one who writes it.
 ghost use Rattle.std.specs.Prelude.{◌≡◌, ◌<◌, is_ok, None, true, length, IfOk, IfErr, IsSome};
-ghost use Rattle.tv_model.specs.Machine.{catalog_step};
-ghost use Rattle.tv_model.specs.State.{State};
+ghost use Rattle.tv_machine.specs.Machine.{catalog_step};
+ghost use Rattle.tv_machine.specs.State.{State};
 ghost use Rattle.tv_directory.specs.Calls.{DeviceFaults, Frees};
 ghost use Rattle.tv_directory.specs.Images.{KeepsDisk};
 ghost use Rattle.tv_directory.specs.View.{OnlyReads, OnlyTells};
@@ -13,14 +13,14 @@ ghost use Rattle.tv_store.specs.StoreCauses.{writer_lock_name};
 ghost use Rattle.tv_store.specs.Telling.{TellsAnswer, TriesLine};
 
 use crate::catalog::Catalog;
-use crate::files::Files;
+use crate::files::StoreFiles;
 use crate::opening::{Found, begin, find};
 use std::alloc::Global;
 use std::marker::Model;
 use tv_base::{IoFault, TantivyError};
 use tv_directory::{DirectoryLock, Outside};
+use tv_machine::{Answer, Event};
 use tv_managed::Refused;
-use tv_model::{Answer, Event};
 
 /// An index over a directory, whose writer lock it holds. One event after the other is applied to it,
 /// and the line of each is told. To a contract it is what is kept in memory, the directory, and how
@@ -28,7 +28,7 @@ use tv_model::{Answer, Event};
 pub struct IndexStore<O: Outside> {
     pub(crate) alloc: Global,
     pub(crate) catalog: Catalog,
-    pub(crate) files: Files<O>,
+    pub(crate) files: StoreFiles<O>,
     pub(crate) lock: DirectoryLock,
     pub(crate) is_open: bool,
 }
@@ -50,7 +50,7 @@ impl<O: Outside> Model for IndexStore<O> {
 }
 
 // The directory of these files, with the lock of this token free.
-fn close<O: Outside>(files: Files<O>, lock: DirectoryLock) -> O
+fn close<O: Outside>(files: StoreFiles<O>, lock: DirectoryLock) -> O
     ensures frees { Frees O.told lock (O.view files.outside) (O.view result) }
     ensures images { O.tells_images → KeepsDisk (O.disk files.outside) (O.disk result) }
 {

@@ -29,4 +29,5 @@ mod report_events;
 mod snapshot;
 
 pub use index_store::IndexStore;
-pub use tv_model::{Answer, Blob, Event, IdList, ReloadPolicy, SegmentComponent, SegmentId, Text};
+pub use tv_formats::{SegmentComponent, SegmentId};
+pub use tv_machine::{Answer, Blob, Event, IdList, ReloadPolicy, Text};

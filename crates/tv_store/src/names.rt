@@ -1,19 +1,18 @@
 //! The names of the files of segments.
 ghost use Rattle.std.specs.Prelude.{◌≡◌, ◌++◌, ◌∷◌, List, ℕ, IfOk, OnOk, map, not, string_bytes, true};
 ghost use Rattle.std.specs.List.{flat_map};
-ghost use Rattle.tv_model.specs.FileEvents.{lacks_deletes};
-ghost use Rattle.tv_model.specs.Index.{IsFileOf};
-ghost use Rattle.tv_model.specs.Living.{segment_names};
-ghost use Rattle.tv_model.specs.Names.{has, is_plain, meta_name};
-ghost use Rattle.tv_model.specs.Segments.{all_required, name_of, required_names};
+ghost use Rattle.tv_machine.specs.FileEvents.{lacks_deletes};
+ghost use Rattle.tv_machine.specs.Index.{IsFileOf};
+ghost use Rattle.tv_formats.specs.Segments.{segment_names, all_required, name_of, required_names};
+ghost use Rattle.tv_formats.specs.Names.{has, is_plain, meta_name};
 
 use std::alloc::Global;
 use std::collections::{BTreeMap, BTreeSet};
 use tv_base::META_FILEPATH;
-use tv_index::naming::{push_name, push_names, set_of};
-use tv_model::{
+use tv_formats::{
     DeleteMeta, FileName, LiveSegment, Memory, SegmentComponent, SegmentId, segment_file_name,
 };
+use tv_index::naming::{push_name, push_names, set_of};
 
 /// The name of a segment's file, which isn't that of the commit or of the list.
 pub(crate) fn file_of(

@@ -1,13 +1,13 @@
 //! How the index is found that stands in a directory, or is made where there is none: all of it under
 //! the lock of the one who writes the index, so that nobody else's commit is overwritten unread.
 ghost use Rattle.std.specs.Prelude.{◌≡◌, ◌<◌, true, ℕ, List, length, IfOk, IfErr, map, option_map, string_bytes};
-ghost use Rattle.tv_model.specs.Index.{next_after, opened_catalog};
-ghost use Rattle.tv_model.specs.Lines.{opening_of};
+ghost use Rattle.tv_machine.specs.Index.{as_opened, next_after};
+ghost use Rattle.tv_machine.specs.Lines.{opening_of};
 ghost use Rattle.tv_directory.specs.Calls.{DeviceFaults};
 ghost use Rattle.tv_directory.specs.Images.{KeepsDisk};
 ghost use Rattle.tv_directory.specs.View.{OnlyTells};
 ghost use Rattle.tv_index.specs.Segments.{entry_of};
-ghost use Rattle.tv_store.specs.Making.{Begins, ChecksFiles, FindsFiles, FindsNone, GivesBack, IsSorted};
+ghost use Rattle.tv_store.specs.Making.{OpensCommit, ChecksFiles, FindsFiles, FindsNone, GivesBack, IsSorted};
 ghost use Rattle.tv_store.specs.Stays.{KeepsFiles};
 ghost use Rattle.tv_store.specs.StoreCauses.{writer_lock_name};
 ghost use Rattle.tv_store.specs.Telling.{TriesLine};
@@ -15,17 +15,18 @@ ghost use Rattle.tv_store.specs.UnderLock.{FindsUnderLock, IsUnderLock, LockedOu
 
 use crate::catalog::Catalog;
 use crate::commit::{Commit, text_of};
-use crate::files::Files;
+use crate::files::StoreFiles;
 use crate::names::required_files;
 use std::alloc::Global;
 use std::collections::BTreeMap;
 use tv_base::{IoFault, LockError, TantivyError};
 use tv_directory::{DirectoryLock, Outside, index_writer_lock};
+use tv_formats::{FileName, LiveSegment, Memory, Opstamp, SegmentId};
 use tv_index::{
     Index, InnerSegmentMeta, Schema, UntrackedIndexMeta, check_openable, open_or_create,
 };
+use tv_machine::Answer;
 use tv_managed::Refused;
-use tv_model::{Answer, FileName, LiveSegment, Memory, Opstamp, SegmentId};
 
 // A directory whose writer lock is held, with the token of that lock.
 struct LockedOutside<O: Outside> {
@@ -36,7 +37,7 @@ struct LockedOutside<O: Outside> {
 /// An index that was found: what is known of it, its files, and the token of its writer's lock.
 pub(crate) struct Found<O: Outside> {
     pub(crate) catalog: Catalog,
-    pub(crate) files: Files<O>,
+    pub(crate) files: StoreFiles<O>,
     pub(crate) lock: DirectoryLock,
 }
 
@@ -79,7 +80,7 @@ fn opened_catalog(
     payload: Option<String>,
 ) -> Result<Catalog, Memory>
     ensures { IfOk result (λ catalog. IsSorted (map entry_of segments.now)
-        → catalog ≡ opened_catalog (record {
+        → (catalog ≡ as_opened catalog) × (catalog.commit ≡ record {
           opstamp = opstamp;
           payload = option_map string_bytes payload;
           segments = map entry_of segments.now;
@@ -96,7 +97,7 @@ fn find_files<O: Outside>(
     alloc: Global,
     outside: O,
     schema: &Schema,
-) -> Result<(Catalog, Files<O>), Refused<O>>
+) -> Result<(Catalog, StoreFiles<O>), Refused<O>>
     requires { O.told.locks → (O.view outside).locks writer_lock_name ≡ true }
     ensures found { IfOk result (λ found.
         FindsFiles O.Directory outside schema.now found.0 found.1) }
@@ -114,7 +115,7 @@ fn find_files<O: Outside>(
     match opened_catalog(alloc, segments.as_slice(), opstamp, payload) {
         Ok(catalog) => {
             let index = Index::from_parts(alloc, directory, index_settings, schema);
-            Ok((catalog, Files::new(alloc, index)))
+            Ok((catalog, StoreFiles::new(alloc, index)))
         }
         Err(memory) => Err(Refused {
             error: TantivyError::from(memory),
@@ -245,7 +246,10 @@ pub(crate) fn find<O: Outside>(
 }
 
 // Sees that each of these files can be read.
-fn check_files<O: Outside>(files: &mut Files<O>, names: &[FileName]) -> Result<(), TantivyError>
+fn check_files<O: Outside>(
+    files: &mut StoreFiles<O>,
+    names: &[FileName],
+) -> Result<(), TantivyError>
     ensures { ChecksFiles O.Directory files.old files.new names.now result }
 {
     for name in names {
@@ -255,7 +259,7 @@ fn check_files<O: Outside>(files: &mut Files<O>, names: &[FileName]) -> Result<(
 }
 
 // Tells the opening line, in the room that was made for it.
-fn tell_opening<O: Outside>(files: &mut Files<O>, line: &Answer) -> Result<(), IoFault>
+fn tell_opening<O: Outside>(files: &mut StoreFiles<O>, line: &Answer) -> Result<(), IoFault>
     requires { length line.now < (O.view files.old.outside).room }
     ensures tells { TriesLine O.told (O.view files.old.outside) (O.view files.new.outside)
         line.now result }
@@ -271,9 +275,9 @@ fn tell_opening<O: Outside>(files: &mut Files<O>, line: &Answer) -> Result<(), I
 pub(crate) fn begin<O: Outside>(
     alloc: Global,
     commit: &Commit,
-    files: &mut Files<O>,
+    files: &mut StoreFiles<O>,
 ) -> Result<(), TantivyError>
-    ensures { Begins O.Directory commit.now files.old files.new result }
+    ensures { OpensCommit O.Directory commit.now files.old files.new result }
 {
     let names = required_files(alloc, commit.by_id())?;
     let line = opening_line(alloc, commit)?;

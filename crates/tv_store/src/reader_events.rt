@@ -1,20 +1,22 @@
 //! The events of readers.
 ghost use Rattle.std.specs.Prelude.{◌≡◌, ◌<◌, ◌+◌, [], ◌∷◌, ℕ, true, map, Some, IfOk, OnOk};
 ghost use Rattle.std.specs.Fmt.{decimal};
-ghost use Rattle.tv_model.specs.Lines.{line, has_no_feed};
-ghost use Rattle.tv_model.specs.Segments.{all_required, required_names};
-ghost use Rattle.tv_model.specs.State.{State};
-ghost use Rattle.tv_model.specs.declared.event.Event.TheVariants as events;
-ghost use Rattle.tv_model.specs.SoundStates.{IsWhole};
-ghost use Rattle.tv_model.specs.Readable.{CanRead, ReadsGood};
-ghost use Rattle.tv_model.specs.ReaderEvents.{snapshot_in};
+ghost use Rattle.tv_machine.specs.Lines.{line};
+ghost use Rattle.tv_formats.specs.Files.{has_no_feed};
+ghost use Rattle.tv_formats.specs.Segments.{all_required, required_names};
+ghost use Rattle.tv_machine.specs.State.{State};
+ghost use Rattle.tv_machine.specs.declared.event.Event.TheVariants as events;
+ghost use Rattle.tv_machine.specs.SoundStates.{IsWhole};
+ghost use Rattle.tv_machine.specs.Readable.{CanRead, ReadsGood};
+ghost use Rattle.tv_machine.specs.ReaderEvents.{snapshot_in};
 ghost use Rattle.tv_directory.specs.View.{OnlyReads};
 ghost use Rattle.tv_managed.specs.Reading.{ReadsBody};
 ghost use Rattle.tv_store.specs.Acting.{OnReading, StepsReading, reader_event, reload_event};
 ghost use Rattle.tv_store.specs.Bodies.{AreBodies, AreGood, AreSealed, ReadsSegment, ReadsSegments};
 ghost use Rattle.tv_store.specs.FileCalls.{ReadBodyFaults};
 ghost use Rattle.tv_store.specs.Kept.{IsHeld};
-ghost use Rattle.tv_store.specs.Exhausted.{SomePassesEnd, numbers_after};
+ghost use Rattle.tv_store.specs.Effects.{numbers_after};
+ghost use Rattle.tv_store.specs.Exhausted.{SomePassesEnd};
 ghost use Rattle.tv_store.specs.ReaderNumbers.{FewNumbers};
 ghost use Rattle.tv_store.specs.SnapshotCalls.{BodiesFaults, CommitFaults, ReadingFaults, ShowsMeta, SnapshotFaults};
 ghost use Rattle.tv_index.specs.Standing.{LoadsMeta, MetaFaults};
@@ -28,8 +30,9 @@ use crate::snapshot::{SegmentReader, Snapshot};
 use std::alloc::Global;
 use tv_base::{FileSlice, TantivyError};
 use tv_directory::{Outside, meta_lock};
+use tv_formats::{FileName, LiveSegment, Memory, Opstamp, SegmentId};
 use tv_index::{InnerSegmentMeta, UntrackedIndexMeta};
-use tv_model::{Answer, FileName, LiveSegment, Memory, Opstamp, ReloadPolicy, SegmentId};
+use tv_machine::{Answer, ReloadPolicy};
 
 // The line of a snapshot that is shown, after this word.
 fn shown_line(

@@ -4,8 +4,8 @@ ghost use Rattle.std.specs.Option.{option_map};
 ghost use Rattle.std.specs.Map.{remove_entry};
 ghost use Rattle.std.specs.BTreeMap.{is_at, insert_entry};
 ghost use Rattle.std.specs.Ordering.{nat_cmp};
-ghost use Rattle.tv_model.specs.State.{Reader as ReaderState, no_readers, at_number};
-ghost use Rattle.tv_model.specs.SearcherEvents.{show_line, searcher_line};
+ghost use Rattle.tv_machine.specs.State.{Reader as ReaderState, no_readers, at_number};
+ghost use Rattle.tv_machine.specs.SearcherEvents.{show_line, searcher_line};
 ghost use Rattle.tv_store.specs.SearcherLines.{bytes_told};
 
 use crate::snapshot::Snapshot;
@@ -13,7 +13,8 @@ use std::alloc::Global;
 use std::collections::BTreeMap;
 use std::marker::Model;
 use std::sync::Arc;
-use tv_model::{Answer, Memory, ReloadPolicy, SegmentComponent};
+use tv_formats::{Memory, SegmentComponent};
+use tv_machine::{Answer, ReloadPolicy};
 
 /// A snapshot that is shown, by a reader or by searchers. A share copies nothing of it.
 #[derive(Drop)]
@@ -21,7 +22,7 @@ pub(crate) struct Searcher(Arc<Snapshot, Global>);
 
 impl Model for Searcher {
     ghost use Rattle.std.specs.Arc.{arc_value};
-    ghost use Rattle.tv_model.specs.State.{Snapshot as Shown};
+    ghost use Rattle.tv_machine.specs.State.{Snapshot as Shown};
 
     ghost Value = { Shown };
 
@@ -60,7 +61,7 @@ pub(crate) struct Reader {
 }
 
 impl Model for Reader {
-    ghost use Rattle.tv_model.specs.State.{Reader as ReaderState};
+    ghost use Rattle.tv_machine.specs.State.{Reader as ReaderState};
 
     ghost Value = { ReaderState };
 
@@ -89,7 +90,7 @@ pub(crate) struct Readers {
 }
 
 impl Model for Readers {
-    ghost use Rattle.tv_model.specs.State.{Readers as ReadersState};
+    ghost use Rattle.tv_machine.specs.State.{Readers as ReadersState};
 
     ghost Value = { ReadersState };
 

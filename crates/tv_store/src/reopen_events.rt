@@ -1,9 +1,9 @@
 //! The event that opens an index again, where it stands.
 ghost use Rattle.std.specs.Prelude.{◌≡◌, IfOk, OnOk};
-ghost use Rattle.tv_model.specs.Collections.{no_collections};
-ghost use Rattle.tv_model.specs.Index.{opened_catalog};
-ghost use Rattle.tv_model.specs.ReopenEvents.{reopen_step};
-ghost use Rattle.tv_model.specs.State.{no_readers};
+ghost use Rattle.tv_formats.specs.Collections.{no_collections};
+ghost use Rattle.tv_machine.specs.Index.{as_opened};
+ghost use Rattle.tv_machine.specs.ReopenEvents.{reopen_step};
+ghost use Rattle.tv_machine.specs.State.{no_readers};
 ghost use Rattle.tv_store.specs.Acting.{OnReading, StepsTo};
 ghost use Rattle.tv_store.specs.Stays.{EventFaults};
 
@@ -14,7 +14,8 @@ use crate::readers::Readers;
 use std::collections::BTreeMap;
 use tv_base::TantivyError;
 use tv_directory::Outside;
-use tv_model::{Answer, LiveSegment, Memory, SegmentId};
+use tv_formats::{LiveSegment, Memory, SegmentId};
+use tv_machine::Answer;
 
 impl Catalog {
     // A copy of the segments of the current commit, by their ids.
@@ -25,11 +26,11 @@ impl Catalog {
         Ok(segments)
     }
 
-    // The catalog is that of an index that was just opened with the current commit, of which these are the
-    // segments. Takes no memory.
+    // The catalog is what an opening makes of it, where these are the segments of the current commit.
+    // Takes no memory.
     fn reopen(&mut self, segments: BTreeMap<SegmentId, LiveSegment>)
         requires { segments.entries ≡ self.old.commit.segments }
-        ensures { self.new ≡ opened_catalog self.old.commit }
+        ensures { self.new ≡ as_opened self.old }
     {
         self.live = segments;
         self.next = next_after(self.commit.opstamp());

@@ -1,10 +1,10 @@
 //! The event that reports on files.
 ghost use Rattle.std.specs.Prelude.{◌≡◌, ◌<◌, [], ◌∷◌, ℕ, length, codes, cond, IfOk};
 ghost use Rattle.std.specs.List.{AllByRecursion};
-ghost use Rattle.tv_model.specs.Index.{IsFileOf};
-ghost use Rattle.tv_model.specs.Lines.{line};
-ghost use Rattle.tv_model.specs.ReportEvents.{intact_at, validate_step, validated};
-ghost use Rattle.tv_model.specs.State.{State, file_at};
+ghost use Rattle.tv_machine.specs.Index.{IsFileOf};
+ghost use Rattle.tv_machine.specs.Lines.{line};
+ghost use Rattle.tv_machine.specs.ReportEvents.{intact_at, validate_step, validated};
+ghost use Rattle.tv_machine.specs.State.{State, file_at};
 ghost use Rattle.tv_directory.specs.View.{OnlyReads};
 ghost use Rattle.tv_store.specs.Acting.{OnFiles, StepsTo};
 ghost use Rattle.tv_store.specs.Kept.{AtMost, IsHeld};
@@ -15,7 +15,8 @@ use crate::index_store::IndexStore;
 use std::alloc::Global;
 use tv_base::TantivyError;
 use tv_directory::Outside;
-use tv_model::{Answer, FileName, Memory};
+use tv_formats::{FileName, Memory};
+use tv_machine::Answer;
 
 // The line with the name of a file, unless its checksum is that of its body.
 fn with_damaged(answer: Answer, name: &FileName, is_intact: bool) -> Result<Answer, Memory>

@@ -1,13 +1,14 @@
 //! What is shown of a commit: its segments, with the bodies of their required files.
 ghost use Rattle.std.specs.Prelude.{◌≡◌, map, slice_get, IfOk, Option};
 ghost use Rattle.std.specs.Option.{option_copied, option_map};
-ghost use Rattle.tv_model.specs.SearcherEvents.{place_of, body_at, segment_word, show_line, bytes_line};
-ghost use Rattle.tv_model.specs.Lines.{line};
+ghost use Rattle.tv_machine.specs.SearcherEvents.{place_of, body_at, segment_word, show_line, bytes_line};
+ghost use Rattle.tv_machine.specs.Lines.{line};
 
 use std::alloc::Global;
 use std::marker::Model;
 use tv_base::FileSlice;
-use tv_model::{Answer, LiveSegment, Memory, Opstamp, SegmentComponent, SegmentId, Text};
+use tv_formats::{LiveSegment, Memory, Opstamp, SegmentComponent, SegmentId};
+use tv_machine::{Answer, Text};
 
 // The place of a component in their order.
 fn place_of(component: SegmentComponent) -> usize
@@ -75,7 +76,7 @@ pub(crate) struct Snapshot {
 
 impl Model for Snapshot {
     ghost use Rattle.std.specs.Prelude.{map};
-    ghost use Rattle.tv_model.specs.State.{Snapshot as Shown};
+    ghost use Rattle.tv_machine.specs.State.{Snapshot as Shown};
 
     ghost Value = { Shown };
 

@@ -2,7 +2,7 @@
 //! its clock counts.
 ghost use Rattle.std.specs.Prelude.{◌≡◌, true, string_bytes};
 ghost use Rattle.std.specs.List.{AllByRecursion};
-ghost use Rattle.tv_model.specs.Names.{is_file_name};
+ghost use Rattle.tv_formats.specs.Names.{is_file_name};
 
 use crate::calls::{Call, take, tell};
 use crate::compare::{are_made, is_number};

@@ -1,7 +1,7 @@
 //! Calls on the files of a directory.
 ghost use Rattle.std.specs.Prelude.{◌≡◌, true, false};
-ghost use Rattle.tv_model.specs.Names.{is_file_name};
-ghost use Rattle.tv_model.specs.Lines.{has_no_feed};
+ghost use Rattle.tv_formats.specs.Names.{is_file_name};
+ghost use Rattle.tv_formats.specs.Files.{has_no_feed};
 
 use crate::told::{done, reads, told, whole};
 use std::alloc::Global;

@@ -1,7 +1,7 @@
 //! Directories in memory which nobody watches, without files, and one whose device refuses calls.
 ghost use Rattle.std.specs.Prelude.{◌≡◌, true, string_bytes};
 ghost use Rattle.std.specs.List.{AllByRecursion};
-ghost use Rattle.tv_model.specs.Names.{is_file_name};
+ghost use Rattle.tv_formats.specs.Names.{is_file_name};
 
 use std::alloc::Global;
 use std::process::Abort;

@@ -1,6 +1,6 @@
 //! What stands on the disk of a file that is written by steps.
 ghost use Rattle.std.specs.Prelude.{◌≡◌, true};
-ghost use Rattle.tv_model.specs.Names.{is_file_name};
+ghost use Rattle.tv_formats.specs.Names.{is_file_name};
 
 use crate::compare::are_bytes;
 use crate::fixtures::{make_folder, remove_folder};

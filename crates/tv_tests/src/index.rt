@@ -4,11 +4,11 @@ use crate::told::{done, reads, told};
 use std::alloc::Global;
 use std::process::Abort;
 use tv_base::{Opstamp, TantivyError};
+use tv_formats::SegmentComponent;
 use tv_index::{
     Compressor, IndexSettings, InnerSegmentMeta, Order, Schema, SegmentId, SegmentMeta,
     SegmentMetaInventory, UntrackedIndexMeta,
 };
-use tv_model::SegmentComponent;
 
 // The schema of one text field.
 pub(crate) const T: &str =

@@ -85,7 +85,7 @@ const ONE_ALONE: &[&[u32]] = &[
 
 // The moments between which a commit is made: when its event begins, and when it was told.
 #[derive(Clone, Copy)]
-struct Commit {
+struct SavedCommit {
     begins: u64,
     ends: u64,
 }
@@ -113,7 +113,7 @@ fn moment_behind<R: Abort>(rt: &R, alloc: Global, parts: usize) -> u64 {
 
 // Whether so many of the commits may stand at this moment: each that was told does, and none does whose event
 // hasn't begun.
-fn may_stand(commits: &[Commit], moment: u64, stands: usize) -> bool {
+fn may_stand(commits: &[SavedCommit], moment: u64, stands: usize) -> bool {
     let told = commits
         .iter()
         .filter(|commit| commit.ends <= moment)
@@ -171,7 +171,7 @@ fn crash_by<R: Abort>(
     rt: &R,
     alloc: Global,
     bench: &TestBench,
-    commits: &[Commit],
+    commits: &[SavedCommit],
     choice: &[u32],
 ) -> usize {
     let mut stood = 0;
@@ -189,13 +189,13 @@ fn crash_by<R: Abort>(
 }
 
 // The commits are the one of the second part, and that of the last.
-fn commits<R: Abort>(rt: &R, alloc: Global) -> [Commit; 2] {
+fn commits<R: Abort>(rt: &R, alloc: Global) -> [SavedCommit; 2] {
     [
-        Commit {
+        SavedCommit {
             begins: moment_behind(rt, alloc, 1),
             ends: moment_behind(rt, alloc, 2),
         },
-        Commit {
+        SavedCommit {
             begins: moment_behind(rt, alloc, 3),
             ends: moment_behind(rt, alloc, 4),
         },

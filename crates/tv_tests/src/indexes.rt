@@ -10,12 +10,12 @@ use std::alloc::Global;
 use std::process::Abort;
 use tv_base::{META_FILEPATH, Opstamp, TantivyError};
 use tv_directory::Directory;
+use tv_formats::SegmentComponent;
 use tv_index::{
     Index, IndexBuilder, IndexMeta, IndexSettings, Segment, SegmentId, SegmentMeta,
     SegmentMetaInventory, save_metas,
 };
 use tv_managed::Refused;
-use tv_model::SegmentComponent;
 
 // What stands as `meta.json`, the schema that is passed, and what comes of the opening.
 type Opening = (Option<&'static str>, Option<&'static str>, &'static str);

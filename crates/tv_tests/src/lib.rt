@@ -41,6 +41,8 @@ mod folders;
 #[cfg(test)]
 mod footers;
 #[cfg(test)]
+mod formats;
+#[cfg(test)]
 mod future_results;
 #[cfg(test)]
 mod index;
@@ -54,8 +56,6 @@ mod inventory;
 mod lists;
 #[cfg(test)]
 mod managed;
-#[cfg(test)]
-mod model;
 #[cfg(test)]
 mod moved_folders;
 #[cfg(test)]

@@ -1,7 +1,7 @@
 //! A managed directory, one call after the other, over a directory that fails.
 ghost use Rattle.std.specs.Prelude.{◌≡◌, ◌+◌, ◌<◌, ◌^◌, true, length, OnOk};
-ghost use Rattle.tv_model.specs.Listing.{IsListFile};
-ghost use Rattle.tv_model.specs.Names.{is_file_name};
+ghost use Rattle.tv_formats.specs.Listing.{IsListFile};
+ghost use Rattle.tv_formats.specs.Names.{is_file_name};
 
 use crate::empty::{Empty, refusing};
 use crate::sealed_files::{Row, takes};

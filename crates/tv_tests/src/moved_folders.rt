@@ -1,6 +1,6 @@
 //! A folder that is moved away while it is open, with another one in its place.
 ghost use Rattle.std.specs.Prelude.{◌≡◌, true};
-ghost use Rattle.tv_model.specs.Names.{is_file_name};
+ghost use Rattle.tv_formats.specs.Names.{is_file_name};
 
 use crate::compare::are_bytes;
 use crate::fixtures::{make_folder, remove_folder};

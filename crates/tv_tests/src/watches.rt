@@ -1,7 +1,7 @@
 //! Callbacks: that they are called, in which order, and until when.
 
 ghost use Rattle.std.specs.Prelude.{◌≡◌, true};
-ghost use Rattle.tv_model.specs.Names.{is_file_name};
+ghost use Rattle.tv_formats.specs.Names.{is_file_name};
 
 use crate::compare::is_number;
 use std::alloc::Global;

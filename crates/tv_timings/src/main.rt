@@ -5,7 +5,7 @@
 #![tactic(auto)]
 
 ghost use Rattle.std.specs.Prelude.{◌≡◌};
-ghost use Rattle.tv_model.specs.Checksum.{crc32};
+ghost use Rattle.tv_formats.specs.Checksum.{crc32};
 
 use std::alloc::Global;
 use std::env;

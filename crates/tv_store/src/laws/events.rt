@@ -1,14 +1,14 @@
 //! Laws of events.
 ghost use Rattle.std.specs.Prelude.{◌≡◌, ◌≢◌, ◌++◌, ℕ, Bool, List, Some, true, IfErr, IfOk, OnOk};
-ghost use Rattle.tv_model.specs.Collections.{no_collections};
-ghost use Rattle.tv_model.specs.DeleteEvents.{delete_name, next_deletes};
-ghost use Rattle.tv_model.specs.Footer.{sealed};
-ghost use Rattle.tv_model.specs.Machine.{step};
-ghost use Rattle.tv_model.specs.Names.{has, meta_name};
-ghost use Rattle.tv_model.specs.SearcherEvents.{bytes_step};
-ghost use Rattle.tv_model.specs.Segments.{name_of};
-ghost use Rattle.tv_model.specs.State.{Reader, at, live_at, no_readers, reader_at};
-ghost use Rattle.tv_model.specs.declared.segment.LiveSegment.{LiveSegment};
+ghost use Rattle.tv_formats.specs.Collections.{no_collections};
+ghost use Rattle.tv_machine.specs.DeleteEvents.{delete_name, next_deletes};
+ghost use Rattle.tv_formats.specs.Footer.{sealed};
+ghost use Rattle.tv_machine.specs.Machine.{step};
+ghost use Rattle.tv_formats.specs.Names.{has, meta_name, at};
+ghost use Rattle.tv_machine.specs.SearcherEvents.{bytes_step};
+ghost use Rattle.tv_formats.specs.Segments.{name_of};
+ghost use Rattle.tv_machine.specs.State.{Reader, live_at, no_readers, reader_at};
+ghost use Rattle.tv_formats.specs.declared.segment.LiveSegment.{LiveSegment};
 ghost use Rattle.tv_directory.specs.View.{OnlyTells};
 ghost use Rattle.tv_index.specs.Saving.{saved_text};
 ghost use Rattle.tv_store.specs.Applying.{LeavesAlone, WritesByStep};
@@ -19,7 +19,8 @@ ghost use Rattle.tv_store.specs.SnapshotCalls.{ShowsMeta};
 use crate::index_store::IndexStore;
 use tv_base::TantivyError;
 use tv_directory::Outside;
-use tv_model::{Answer, Blob, Event, IdList, SegmentComponent, SegmentId, Text};
+use tv_formats::{SegmentComponent, SegmentId};
+use tv_machine::{Answer, Blob, Event, IdList, Text};
 
 /// Once an open file is sealed, its name reads what was written to it, with a footer.
 pub fn reads_what_was_sealed<O: Outside>(

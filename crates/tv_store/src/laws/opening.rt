@@ -1,7 +1,7 @@
 //! Laws of openings.
 ghost use Rattle.std.specs.Prelude.{◌≡◌, ◌⊎◌, true, false, ℕ, List, None, IfOk, IfErr, IsErr};
-ghost use Rattle.tv_model.specs.Files.{Same};
-ghost use Rattle.tv_model.specs.Index.{FoundIndex};
+ghost use Rattle.tv_formats.specs.Files.{Same};
+ghost use Rattle.tv_machine.specs.Index.{FoundIndex};
 ghost use Rattle.tv_index.specs.Opening.{IsRefusedBytes};
 ghost use Rattle.tv_store.specs.Making.{NamesRefused};
 ghost use Rattle.tv_store.specs.StoreCauses.{writer_lock_name};

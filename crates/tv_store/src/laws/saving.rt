@@ -1,17 +1,17 @@
 //! Laws of saves of `meta.json`.
 ghost use Rattle.std.specs.Prelude.{◌≡◌, ℕ, List, OnOk};
-ghost use Rattle.tv_model.specs.Disk.{DiskState, Sealed, Throughout, possible_now};
-ghost use Rattle.tv_model.specs.Names.{meta_name};
+ghost use Rattle.tv_formats.specs.Disk.{DiskState, Sealed, Throughout, possible_now};
+ghost use Rattle.tv_formats.specs.Names.{meta_name};
 ghost use Rattle.tv_store.specs.Saving.{ShowsSettled};
 
-use crate::files::Files;
+use crate::files::StoreFiles;
 use tv_base::TantivyError;
 use tv_directory::Outside;
 
 // Before a crash may leave a new commit, it leaves every other file as it stands; and once the save has
 // succeeded, no crash takes the commit away.
 pub(crate) fn settles_files_before_a_commit<O: Outside>(
-    files: &mut Files<O>,
+    files: &mut StoreFiles<O>,
     text: &[u8],
 ) -> Result<(), TantivyError>
     ensures settled { O.tells_images → Throughout

@@ -1,5 +1,5 @@
 use Rattle.std.proofs.Common.{◌≡◌, ◌++◌, take, length}
-use Rattle.tv_model.specs.VInt.{vint}
+use Rattle.tv_formats.specs.VInt.{vint}
 use Rattle.tv_base.proofs.vint.put_groups.Given as goal
 
 abbrev pub invariant-loop-rest : goal.invariant-loop-rest

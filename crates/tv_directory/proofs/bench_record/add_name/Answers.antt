@@ -1,5 +1,5 @@
 use Rattle.std.proofs.Common.{◌≡◌, rules}
-use Rattle.tv_model.proofs.Entries.{has_put}
+use Rattle.tv_formats.proofs.Entries.{has_put}
 use Rattle.tv_directory.proofs.bench_record.add_name.Goals as goal
 
 pub returns : goal.returns

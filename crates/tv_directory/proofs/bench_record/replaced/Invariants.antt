@@ -1,5 +1,5 @@
 use Rattle.std.proofs.Common.{◌≡◌, drop}
-use Rattle.tv_model.specs.Disk.{DiskState}
+use Rattle.tv_formats.specs.Disk.{DiskState}
 use Rattle.tv_directory.specs.Record.{stood_before}
 use Rattle.tv_directory.proofs.bench_record.replaced.Given as goal
 

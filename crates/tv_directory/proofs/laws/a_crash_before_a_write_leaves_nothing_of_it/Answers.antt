@@ -1,12 +1,12 @@
 use Rattle.std.proofs.Common.{◌≡◌, ◌≤◌, ℕ, arith, subst}
 use Rattle.std.proofs.lemmas.Result.{IfOk-weaker}
-use Rattle.tv_model.specs.Disk.{Disk, Elapses, Left}
-use Rattle.tv_model.specs.Files.{Reads}
+use Rattle.tv_formats.specs.Disk.{Disk, Elapses, MayLeave}
+use Rattle.tv_formats.specs.Files.{Reads}
 use Rattle.tv_directory.proofs.laws.a_crash_before_a_write_leaves_nothing_of_it.Goals as goal
 
 -- what a crash before a call may leave stays as it was
 left_before : {old new : Disk} (x : ℕ) → Elapses old new → x ≡ old.moment
-    → (image : Reads) → Left new x image → Left old old.moment image
+    → (image : Reads) → MayLeave new x image → MayLeave old old.moment image
 left_before {old} {new} x time now image left =
     let past = time.past old.moment (omega arith) in
     record {

@@ -1,8 +1,8 @@
 use Rattle.std.proofs.Common.{◌≡◌, ◌<◌, ◌∙◌, ℕ, List, [], get_or, length, subst, sym}
 use Rattle.std.proofs.lemmas.Result.{IfOk-weaker}
-use Rattle.tv_model.specs.Disk.{Disk}
-use Rattle.tv_model.specs.Files.{Reads}
-use Rattle.tv_model.proofs.ListTexts.{same_names}
+use Rattle.tv_formats.specs.Disk.{Disk}
+use Rattle.tv_formats.specs.Files.{Reads}
+use Rattle.tv_formats.proofs.ListTexts.{same_names}
 use Rattle.tv_directory.specs.Bench.{IsAtRest, IsNewBench}
 use Rattle.tv_directory.specs.Crashes.{AreKnown, LeavesBy, left_in}
 use Rattle.tv_directory.specs.View.{View}

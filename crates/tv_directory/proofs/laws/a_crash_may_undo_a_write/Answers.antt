@@ -1,7 +1,7 @@
 use Rattle.std.proofs.Common.{List, ℕ, Result, Ok, Err}
 use Rattle.tv_base.specs.declared.io.IoError.{IoError}
 use Rattle.tv_base.specs.declared.io.IoError.TheVariants as io
-use Rattle.tv_model.specs.Disk.{Disk, DiskState, possible_now}
+use Rattle.tv_formats.specs.Disk.{Disk, DiskState, possible_now}
 use Rattle.tv_directory.specs.Images.{GivesState}
 use Rattle.tv_directory.proofs.laws.a_crash_may_undo_a_write.Goals as goal
 

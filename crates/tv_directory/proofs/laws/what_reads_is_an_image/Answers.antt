@@ -1,4 +1,4 @@
-use Rattle.tv_model.proofs.ListedImages.{settled_lists}
+use Rattle.tv_formats.proofs.ListedImages.{settled_lists}
 use Rattle.tv_directory.proofs.laws.what_reads_is_an_image.Goals as goal
 
 pub returns-clause-image : goal.returns-clause-image

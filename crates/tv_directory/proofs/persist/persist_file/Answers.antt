@@ -1,6 +1,6 @@
 use Rattle.std.proofs.Common.{◌∙◌, ap}
 use Rattle.tv_directory.specs.ViewLaws.{kept_then}
-use Rattle.tv_model.proofs.DiskLaws.{touches_then}
+use Rattle.tv_formats.proofs.DiskLaws.{touches_then}
 use Rattle.tv_directory.proofs.TouchedNames.{reads_touch, touches_opened, touches_written}
 use Rattle.tv_directory.proofs.persist.persist_file.Goals as goal
 

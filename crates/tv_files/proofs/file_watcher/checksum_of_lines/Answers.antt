@@ -3,7 +3,7 @@ use Rattle.std.specs.Str.Iter.{lines_rest}
 use Rattle.std.proofs.lemmas.Iterator.Consumers.{YieldsList-end}
 use Rattle.std.proofs.lemmas.Iterator.Splits.{YieldsList-from_lines}
 use Rattle.std.proofs.lemmas.List.Folds.{flat_map-map}
-use Rattle.tv_model.specs.Checksum.{crc32}
+use Rattle.tv_formats.specs.Checksum.{crc32}
 use Rattle.tv_files.proofs.file_watcher.checksum_of_lines.Goals as goal
 
 pub returns : goal.returns

@@ -3,7 +3,7 @@ use Rattle.std.specs.Fmt.{decimal}
 use Rattle.tv_base.specs.declared.io.IoKind.TheVariants.{InvalidData, UnexpectedEof}
 use Rattle.tv_framing.specs.Faults.{IsFault}
 use Rattle.tv_framing.proofs.FooterEnds.{has_end, last_is, of_fault, other_magic, stated_is}
-use Rattle.tv_model.specs.Footer.{four_bytes}
+use Rattle.tv_formats.specs.Footer.{four_bytes}
 use Rattle.tv_framing.proofs.footer_end.json_range.Goals as goal
 
 pub returns-then-magic-ne-FOOTER_MAGIC_NUMBER : goal.returns-then-magic-ne-FOOTER_MAGIC_NUMBER

@@ -1,5 +1,5 @@
 use Rattle.std.proofs.Common.{length, refl}
-use Rattle.tv_model.proofs.FooterTexts.{json_short, own_framed, spells_itself}
+use Rattle.tv_formats.proofs.FooterTexts.{json_short, own_framed, spells_itself}
 use Rattle.tv_framing.specs.Footers.{footer_json, numbers_of}
 use Rattle.tv_framing.proofs.laws.footers_are_read_back.Goals as goal
 

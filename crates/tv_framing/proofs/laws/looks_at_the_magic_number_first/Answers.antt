@@ -1,6 +1,6 @@
 use Rattle.std.proofs.Common.{◌≢◌, ◌≤◌, ⊎_elim, ℕ, List, length, Result, Ok, Err, arith}
 use Rattle.std.specs.Prelude.{IfErr}
-use Rattle.tv_model.specs.Footer.{footer_magic, four_bytes}
+use Rattle.tv_formats.specs.Footer.{footer_magic, four_bytes}
 use Rattle.tv_base.specs.declared.io.IoError.{IoError}
 use Rattle.tv_framing.specs.Faults.{OfFault}
 use Rattle.tv_framing.specs.Footers.{HasOtherMagic, IsTooSmall, Refuses, last_four}

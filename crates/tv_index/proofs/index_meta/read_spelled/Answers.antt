@@ -1,5 +1,5 @@
 use Rattle.serde_json.specs.View.{view}
-use Rattle.tv_model.proofs.MeansOne.{spelled_means}
+use Rattle.tv_formats.proofs.MeansOne.{spelled_means}
 use Rattle.tv_index.specs.MetaReading.{held_by}
 use Rattle.tv_index.proofs.HandedOn.{told_on}
 use Rattle.tv_index.proofs.SchemaForms.{schema_to}

@@ -1,8 +1,8 @@
 use Rattle.std.proofs.Common.{◌≡◌, ⊎_elim, inl, inr, ℕ, List, Result, Ok, Err, refl}
 use Rattle.std.specs.Prelude.{IfErr}
-use Rattle.tv_model.specs.Disk.{Throughout}
-use Rattle.tv_model.specs.Names.{meta_name}
-use Rattle.tv_model.proofs.DiskLaws.{weaker}
+use Rattle.tv_formats.specs.Disk.{Throughout}
+use Rattle.tv_formats.specs.Names.{meta_name}
+use Rattle.tv_formats.proofs.DiskLaws.{weaker}
 use Rattle.tv_base.specs.declared.error.TantivyError.TheVariants as errors
 use Rattle.tv_directory.specs.declared.directory.Directory.{Ghosts}
 use Rattle.tv_managed.specs.Names.{ManagedNames}

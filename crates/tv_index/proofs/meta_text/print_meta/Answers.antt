@@ -2,7 +2,7 @@ use Rattle.std.proofs.Common.{◌++◌, List, ℕ, map, codes, ap, ◌∙◌}
 use Rattle.std.specs.Prelude.{option_map}
 use Rattle.std.specs.Fmt.{decimal}
 use Rattle.std.specs.List.{join_with_byte}
-use Rattle.tv_model.specs.Commits.{settings_text, segment_text, payload_text}
+use Rattle.tv_formats.specs.Commits.{settings_text, segment_text, payload_text}
 use Rattle.tv_index.specs.Segments.{entry_of}
 use Rattle.tv_index.specs.Settings.{settings_view}
 use Rattle.tv_index.proofs.JoinedTexts.{print_pieces}

@@ -1,5 +1,5 @@
 use Rattle.std.proofs.Common.{◌∙◌}
-use Rattle.tv_model.proofs.TextSets.{bytes_had}
+use Rattle.tv_formats.proofs.TextSets.{bytes_had}
 use Rattle.tv_index.proofs.naming.has_name.Goals as goal
 
 pub returns : goal.returns

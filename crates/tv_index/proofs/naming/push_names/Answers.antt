@@ -2,7 +2,7 @@ use Rattle.std.proofs.Common.{◌≡◌, ◌++◌, map, ap, ◌∙◌}
 use Rattle.std.specs.Slice.Iter.{iter_rest}
 use Rattle.std.proofs.lemmas.Iterator.{YieldsList-from_slice}
 use Rattle.std.proofs.lemmas.Iterator.Consumers.{YieldsList-end}
-use Rattle.tv_model.specs.Segments.{components, name_of}
+use Rattle.tv_formats.specs.Segments.{components, name_of}
 use Rattle.tv_index.proofs.naming.push_names.Goals as goal
 
 pub returns : goal.returns

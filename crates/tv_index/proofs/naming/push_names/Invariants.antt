@@ -1,5 +1,5 @@
 use Rattle.std.proofs.Common.{◌≡◌, ◌++◌, map}
-use Rattle.tv_model.specs.Segments.{name_of}
+use Rattle.tv_formats.specs.Segments.{name_of}
 use Rattle.tv_index.proofs.naming.push_names.Given as goal
 
 abbrev pub invariant-loop-component : goal.invariant-loop-component

@@ -1,6 +1,6 @@
 use Rattle.std.proofs.Common.{◌≡◌, ◌||◌, ℕ, List, map, string_bytes}
 use Rattle.std.specs.Vec.Iter.{into_iter_items}
-use Rattle.tv_model.specs.Names.{has}
+use Rattle.tv_formats.specs.Names.{has}
 use Rattle.tv_index.proofs.naming.set_of.Given as goal
 
 abbrev pub invariant-loop-name : goal.invariant-loop-name

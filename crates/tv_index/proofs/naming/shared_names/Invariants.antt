@@ -1,6 +1,6 @@
 use Rattle.std.proofs.Common.{◌≡◌, true, filter, map, string_bytes}
 use Rattle.std.specs.List.{list_all}
-use Rattle.tv_model.specs.Names.{has, is_plain}
+use Rattle.tv_formats.specs.Names.{has, is_plain}
 use Rattle.tv_index.proofs.naming.shared_names.Given as goal
 
 abbrev pub invariant-loop-name : goal.invariant-loop-name

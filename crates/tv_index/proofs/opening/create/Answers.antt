@@ -1,5 +1,5 @@
 use Rattle.std.proofs.Common.{◌∙◌, ◌++◌, ◌∷◌, [], ℕ, List, ap}
-use Rattle.tv_model.specs.Names.{meta_name}
+use Rattle.tv_formats.specs.Names.{meta_name}
 use Rattle.tv_base.specs.declared.io.IoError.TheVariants as io
 use Rattle.tv_index.proofs.SavedSafely.{saves_as, saves_none}
 use Rattle.tv_index.proofs.opening.create.Goals as goal

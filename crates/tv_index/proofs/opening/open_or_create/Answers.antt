@@ -1,7 +1,7 @@
 use Rattle.std.proofs.Common.{ap, subst}
 use Rattle.std.specs.Prelude.{MatchResult}
 use Rattle.std.proofs.lemmas.Result.{IfOk-weaker, IfErr-weaker}
-use Rattle.tv_model.specs.Commits.{IndexForm, Settings}
+use Rattle.tv_formats.specs.Commits.{IndexForm, Settings}
 use Rattle.tv_index.specs.Crashes.{LacksMeta, MakesNone, MayMake, TracksFrom}
 use Rattle.tv_index.specs.NewForms.{form_with, new_text}
 use Rattle.tv_index.proofs.Openings.{not_opened_default, opens_default}

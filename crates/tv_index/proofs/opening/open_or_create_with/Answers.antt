@@ -1,5 +1,5 @@
 use Rattle.std.proofs.Common.{◌∙◌, subst, sym}
-use Rattle.tv_model.specs.Names.{meta_name}
+use Rattle.tv_formats.specs.Names.{meta_name}
 use Rattle.tv_index.specs.Crashes.{LacksMeta, MakesNone, OnlyLooks}
 use Rattle.tv_index.specs.NewForms.{form_with, new_text}
 use Rattle.tv_index.proofs.OpenedSafely.{failed_match, looks_further, made_none, made_opened, made_refused}

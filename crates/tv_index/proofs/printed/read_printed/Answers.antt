@@ -1,7 +1,7 @@
 use Rattle.std.proofs.Common.{◌++◌, ◌∷◌, [], List, ap, subst, sym, ◌∙◌, ℕ}
 use Rattle.std.specs.Cmp.Lexicographic.{other_text, same_text}
-use Rattle.tv_model.specs.Commits.{printed}
-use Rattle.tv_model.specs.Meaning.{IsNotPrinted, Means}
+use Rattle.tv_formats.specs.Commits.{printed}
+use Rattle.tv_formats.specs.Meaning.{IsNotPrinted, Means}
 use Rattle.tv_index.specs.declared.index_meta.UntrackedIndexMeta.{UntrackedIndexMeta}
 use Rattle.tv_index.specs.Metas.{commit_of, settings_of}
 use Rattle.tv_index.specs.Printed.{IsBared}

@@ -1,5 +1,5 @@
 use Rattle.std.proofs.Common.{◌≡◌, ◌++◌, take}
-use Rattle.tv_model.specs.Commits.{escaped}
+use Rattle.tv_formats.specs.Commits.{escaped}
 use Rattle.tv_index.proofs.printing.put_all_escaped.Given as goal
 
 abbrev pub invariant-loop-byte : goal.invariant-loop-byte

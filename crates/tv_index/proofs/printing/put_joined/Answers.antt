@@ -1,8 +1,8 @@
 use Rattle.std.proofs.Common.{◌≡◌, ◌+◌, ◌∷◌, [], ◌++◌, List, ℕ, map, take, sym, ap, ◌∙◌, arith}
 use Rattle.std.specs.List.{join_with_byte}
 use Rattle.std.proofs.lemmas.List.{take_all, take_more}
-use Rattle.tv_model.specs.Commits.{segment_text}
-use Rattle.tv_model.proofs.JoinedTexts.{is_nil, is_nil_append}
+use Rattle.tv_formats.specs.Commits.{segment_text}
+use Rattle.tv_formats.proofs.JoinedTexts.{is_nil, is_nil_append}
 use Rattle.tv_index.specs.declared.segment_meta.InnerSegmentMeta.{InnerSegmentMeta}
 use Rattle.tv_index.specs.Segments.{entry_of}
 use Rattle.tv_index.proofs.JoinedTexts.{join_added, map_map}

@@ -1,8 +1,8 @@
 use Rattle.std.proofs.Common.{◌≡◌, ◌++◌, map, take}
 use Rattle.std.specs.List.{join_with_byte}
-use Rattle.tv_model.specs.Commits.{segment_text}
+use Rattle.tv_formats.specs.Commits.{segment_text}
 use Rattle.tv_index.specs.Segments.{entry_of}
-use Rattle.tv_model.proofs.JoinedTexts.{is_nil}
+use Rattle.tv_formats.proofs.JoinedTexts.{is_nil}
 use Rattle.tv_index.proofs.printing.put_joined.Given as goal
 
 abbrev pub invariant-loop-segment : goal.invariant-loop-segment

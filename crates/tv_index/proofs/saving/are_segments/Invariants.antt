@@ -1,6 +1,6 @@
 use Rattle.std.proofs.Common.{drop, map}
 use Rattle.std.specs.List.{AllByRecursion}
-use Rattle.tv_model.specs.Commits.{IsSegment}
+use Rattle.tv_formats.specs.Commits.{IsSegment}
 use Rattle.tv_index.proofs.saving.are_segments.Given as goal
 
 abbrev pub invariant-loop-segment : goal.invariant-loop-segment

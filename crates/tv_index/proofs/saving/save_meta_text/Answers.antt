@@ -1,5 +1,5 @@
 use Rattle.std.proofs.Common.{Ok, refl}
-use Rattle.tv_model.specs.Names.{meta_name}
+use Rattle.tv_formats.specs.Names.{meta_name}
 use Rattle.tv_base.specs.declared.io.IoError.TheVariants as io
 use Rattle.tv_index.proofs.Managing.{manages_between, manages_err, manages_none}
 use Rattle.tv_index.proofs.Openings.{not_written, notes_unless, reads_unless, same_error, unless_before, unless_later, wrote}

@@ -1,5 +1,5 @@
 use Rattle.std.proofs.Common.{◌∙◌, refl}
-use Rattle.tv_model.specs.Names.{meta_name}
+use Rattle.tv_formats.specs.Names.{meta_name}
 use Rattle.tv_base.specs.declared.error.TantivyError.TheVariants as errors
 use Rattle.tv_index.specs.TrackedMetas.{tracked_settings}
 use Rattle.tv_index.proofs.Managing.{manages_err, manages_none, manages_ok}

@@ -1,6 +1,6 @@
 use Rattle.std.proofs.Common.{◌≡◌, drop}
 use Rattle.serde_json.specs.View.{items_view, members_view}
-use Rattle.tv_model.specs.Schemas.{are_bounded, have_bounded}
+use Rattle.tv_formats.specs.Schemas.{are_bounded, have_bounded}
 use Rattle.tv_index.proofs.schema_tree.+bounded.Given as goal
 
 abbrev pub invariant-are_bounded-loop-tree : goal.invariant-are_bounded-loop-tree

@@ -1,7 +1,7 @@
 use Rattle.std.proofs.Common.{◌≡◌, ◌+◌, ◌∷◌, false, true, drop, map, string_bytes, sym, ◌∙◌, arith}
 use Rattle.std.proofs.lemmas.List.{drop_more}
-use Rattle.tv_model.specs.Ids.{are_distinct}
-use Rattle.tv_model.specs.Names.{has}
+use Rattle.tv_formats.specs.Ids.{are_distinct}
+use Rattle.tv_formats.specs.Names.{has}
 use Rattle.tv_index.proofs.SeenNames.{seen_texts, known, none_seen, one_seen, seen_twice}
 use Rattle.tv_index.proofs.schema_tree.are_distinct.Goals as goal
 

@@ -1,8 +1,8 @@
 use Rattle.std.proofs.Common.{◌≡◌, drop, map}
 use Rattle.std.specs.Prelude.{string_bytes}
-use Rattle.tv_model.specs.Ids.{are_distinct}
-use Rattle.tv_model.specs.Names.{has}
-use Rattle.tv_model.proofs.Apart.{are_news}
+use Rattle.tv_formats.specs.Ids.{are_distinct}
+use Rattle.tv_formats.specs.Names.{has}
+use Rattle.tv_formats.proofs.Apart.{are_news}
 use Rattle.tv_index.proofs.SeenNames.{seen_texts}
 use Rattle.tv_index.proofs.schema_tree.are_distinct.Given as goal
 

@@ -1,5 +1,5 @@
 use Rattle.std.proofs.Common.{rules, ◌≡◌, ◌∷◌, [], ◌++◌, List, sym, subst, ◌∙◌}
-use Rattle.tv_index.specs.Tracked.{Kept, Share, TrackAll}
+use Rattle.tv_index.specs.Tracked.{KeptMetas, Share, TrackAll}
 use Rattle.tv_index.proofs.Untracked.{given_back, last_tracked}
 use Rattle.tv_index.proofs.tracking.release_all.Goals as goal
 
@@ -10,4 +10,4 @@ loop-share-preserved c before t =
     last_tracked c.pop.new.self.items c.in-Some.share before c.loop-share.inventory
     (subst (λ (l : List Share). TrackAll l before c.loop-share.inventory) split (c.loop-share.invariant before t)) in
     let back : c.release.new.self ≡ last.0 = c.release.ensures.released ∙ given_back c.in-Some.share last.0 c.loop-share.inventory last.2 in
-    subst (λ (k : Kept). TrackAll c.pop.new.self.items before k) (sym back) last.1
+    subst (λ (k : KeptMetas). TrackAll c.pop.new.self.items before k) (sym back) last.1

@@ -2,7 +2,7 @@ use Rattle.std.proofs.Common.{rules, ◌≡◌, ◌+◌, ◌∷◌, [], ◌++◌
 use Rattle.std.proofs.lemmas.List.{take_more}
 use Rattle.tv_base.specs.Entries.{released}
 use Rattle.tv_index.specs.Segments.{entry_of}
-use Rattle.tv_index.specs.Tracked.{Kept, Share, TrackAll}
+use Rattle.tv_index.specs.Tracked.{KeptMetas, Share, TrackAll}
 use Rattle.tv_index.proofs.Untracked.{given_back, its_own, one_more_mapped, one_more_tracked}
 use Rattle.tv_index.proofs.tracking.track_each.Goals as goal
 
@@ -15,7 +15,7 @@ returns-in-Err-clause-tracks c =
     let back : c.release.new.self ≡ middle =
     c.release.ensures.released ∙ ap (λ (s : Share). released s.0 c.track.new.self) value
     ∙ given_back share middle c.track.new.self (its_own _ middle c.track.new.self share c.in_ok-share.ensures.ok) in
-    subst (λ (k : Kept). TrackAll c.push.new.self.items c.args.inventory.now k) (sym back)
+    subst (λ (k : KeptMetas). TrackAll c.push.new.self.items c.args.inventory.now k) (sym back)
     (subst (λ (l : List Share). TrackAll l c.args.inventory.now middle) (sym same) c.loop-segment.invariant.tracks)
 
 pub loop-segment-preserved : goal.loop-segment-preserved

@@ -1,6 +1,6 @@
 use Rattle.std.proofs.Common.{◌≡◌, ◌++◌, map, take}
 use Rattle.std.specs.List.{flat_map}
-use Rattle.tv_model.specs.Living.{segment_names}
+use Rattle.tv_formats.specs.Segments.{segment_names}
 use Rattle.tv_index.specs.Segments.{entry_of}
 use Rattle.tv_index.proofs.validating.push_all.Given as goal
 

@@ -1,7 +1,7 @@
 use Rattle.std.proofs.Common.{◌||◌, true, false, sym, ap, ◌∙◌, refl}
-use Rattle.tv_model.specs.Names.{has}
-use Rattle.tv_model.specs.Collections.{held}
-use Rattle.tv_model.proofs.CollectionStates.{has_append}
+use Rattle.tv_formats.specs.Names.{has}
+use Rattle.tv_formats.specs.Collections.{held}
+use Rattle.tv_formats.proofs.CollectedNames.{has_append}
 use Rattle.tv_managed.specs.Collecting.{names_of}
 use Rattle.tv_managed.proofs.SetsOfTexts.{had_is}
 use Rattle.tv_managed.proofs.collecting.is_needed.Goals as goal

@@ -3,8 +3,8 @@ use Rattle.std.proofs.lemmas.List.{map-append}
 use Rattle.std.proofs.lemmas.List.Elements.{filter-append}
 use Rattle.std.proofs.lemmas.Map.Iter.{iter_end}
 use Rattle.std.proofs.lemmas.Simd.{map-map}
-use Rattle.tv_model.specs.Names.{has}
-use Rattle.tv_model.specs.Collections.{collectable, held}
+use Rattle.tv_formats.specs.Names.{has}
+use Rattle.tv_formats.specs.Collections.{collectable, held}
 use Rattle.tv_managed.specs.Collecting.{names_of}
 use Rattle.tv_managed.proofs.collecting.names_to_collect.Goals as goal
 

@@ -1,5 +1,5 @@
 use Rattle.std.proofs.Common.{◌≡◌, ◌++◌, map, string_bytes}
-use Rattle.tv_model.specs.Collections.{collectable, held}
+use Rattle.tv_formats.specs.Collections.{collectable, held}
 use Rattle.tv_managed.specs.Collecting.{names_of}
 use Rattle.tv_managed.proofs.collecting.names_to_collect.Given as goal
 

@@ -1,4 +1,4 @@
-use Rattle.tv_model.specs.Collections.{held}
+use Rattle.tv_formats.specs.Collections.{held}
 use Rattle.tv_managed.specs.Collecting.{names_of}
 use Rattle.tv_managed.proofs.AtOnce.{untried}
 use Rattle.tv_managed.proofs.Spared.{failed_stand, living_needed, not_among, stands_or_before}

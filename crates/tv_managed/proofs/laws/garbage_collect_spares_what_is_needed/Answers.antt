@@ -1,5 +1,5 @@
 use Rattle.std.proofs.lemmas.Result.{IfOk-weaker}
-use Rattle.tv_model.specs.Collections.{held}
+use Rattle.tv_formats.specs.Collections.{held}
 use Rattle.tv_managed.specs.Collecting.{names_of}
 use Rattle.tv_managed.proofs.Spared.{held_needed, living_needed, spares_needed, tries_keeps}
 use Rattle.tv_managed.proofs.laws.garbage_collect_spares_what_is_needed.Goals as goal

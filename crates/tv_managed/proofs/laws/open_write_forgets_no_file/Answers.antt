@@ -1,4 +1,4 @@
-use Rattle.tv_model.proofs.ListedImages.{images_list}
+use Rattle.tv_formats.proofs.ListedImages.{images_list}
 use Rattle.tv_managed.proofs.laws.open_write_forgets_no_file.Goals as goal
 
 pub returns : goal.returns

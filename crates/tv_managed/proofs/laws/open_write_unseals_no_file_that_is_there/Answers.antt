@@ -1,5 +1,5 @@
 use Rattle.std.proofs.Common.{⊎_elim, subst}
-use Rattle.tv_model.specs.Disk.{IsThere}
+use Rattle.tv_formats.specs.Disk.{IsThere}
 use Rattle.tv_managed.proofs.laws.open_write_unseals_no_file_that_is_there.Goals as goal
 
 pub returns : goal.returns

@@ -1,4 +1,4 @@
-use Rattle.tv_model.specs.Names.{list_name}
+use Rattle.tv_formats.specs.Names.{list_name}
 use Rattle.tv_managed.proofs.ListTrees.{absent_is, lists_absent, lists_found, lists_nothing}
 use Rattle.tv_managed.proofs.SetsOfTexts.{none_managed}
 use Rattle.tv_managed.proofs.list.load_managed_paths.Goals as goal

@@ -1,5 +1,5 @@
 use Rattle.std.proofs.Common.{map, string_bytes, ◌∙◌}
-use Rattle.tv_model.specs.Listing.{list_text}
+use Rattle.tv_formats.specs.Listing.{list_text}
 use Rattle.tv_managed.specs.Crashes.{SavesText}
 use Rattle.tv_managed.specs.Managed.{SavesNames}
 use Rattle.tv_managed.proofs.Results.{handed}

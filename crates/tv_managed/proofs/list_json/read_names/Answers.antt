@@ -5,7 +5,7 @@ use Rattle.std.specs.BTreeSet.{BTreeSet}
 use Rattle.serde_json.specs.Data.{Data}
 use Rattle.serde_json.specs.Read.{read}
 use Rattle.serde_json.specs.View.{view}
-use Rattle.tv_model.specs.Listing.{IsListOf}
+use Rattle.tv_formats.specs.Listing.{IsListOf}
 use Rattle.tv_managed.specs.Collecting.{names_of}
 use Rattle.tv_managed.specs.ListTrees.{names_in}
 use Rattle.tv_managed.proofs.ListTrees.{names_listed, none_listed}

@@ -1,6 +1,6 @@
 use Rattle.std.proofs.Common.{◌≡◌, ℕ, subst}
 use Rattle.std.specs.Prelude.{IfOk}
-use Rattle.tv_model.specs.Footer.{footer}
+use Rattle.tv_formats.specs.Footer.{footer}
 use Rattle.tv_managed.proofs.managed_directory.footer_bytes.Goals as goal
 
 pub returns : goal.returns

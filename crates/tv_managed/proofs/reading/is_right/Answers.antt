@@ -1,5 +1,5 @@
 use Rattle.std.proofs.Common.{◌≡◌, ◌==◌, ℕ, [], ap, ◌∙◌}
-use Rattle.tv_model.specs.Checksum.{crc32}
+use Rattle.tv_formats.specs.Checksum.{crc32}
 use Rattle.tv_managed.proofs.reading.is_right.Goals as goal
 
 pub returns-clause-says : goal.returns-clause-says

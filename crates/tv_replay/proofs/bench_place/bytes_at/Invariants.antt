@@ -1,5 +1,5 @@
 use Rattle.std.proofs.Common.{◌≡◌, drop}
-use Rattle.tv_model.specs.State.{at}
+use Rattle.tv_formats.specs.Names.{at}
 use Rattle.tv_directory.specs.StoredFiles.{named}
 use Rattle.tv_replay.proofs.bench_place.bytes_at.Given as goal
 

@@ -1,8 +1,8 @@
 use Rattle.std.proofs.Common.{◌∙◌, ◌++◌, List, ℕ, ap, codes, take, string_bytes}
 use Rattle.std.specs.List.{flat_map}
-use Rattle.tv_model.specs.declared.segment.SegmentComponent.{SegmentComponent}
-use Rattle.tv_model.specs.declared.segment.SegmentComponent.TheVariants.{Postings}
-use Rattle.tv_model.specs.Segments.{extension}
+use Rattle.tv_formats.specs.declared.segment.SegmentComponent.{SegmentComponent}
+use Rattle.tv_formats.specs.declared.segment.SegmentComponent.TheVariants.{Postings}
+use Rattle.tv_formats.specs.Segments.{extension}
 use Rattle.tv_replay.specs.Generated.{file_text, generated_components}
 use Rattle.tv_replay.proofs.GeneratedLines.{item_more}
 use Rattle.tv_replay.proofs.generating.push_segment.Goals as goal

@@ -1,6 +1,6 @@
 use Rattle.std.proofs.Common.{◌≡◌, ◌++◌, take, codes, string_bytes}
 use Rattle.std.specs.List.{flat_map}
-use Rattle.tv_model.specs.Segments.{extension}
+use Rattle.tv_formats.specs.Segments.{extension}
 use Rattle.tv_replay.specs.Generated.{file_text}
 use Rattle.tv_replay.proofs.generating.push_segment.Given as goal
 

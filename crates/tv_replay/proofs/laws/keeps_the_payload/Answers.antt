@@ -1,4 +1,4 @@
-use Rattle.tv_model.specs.declared.event.Event.TheVariants as events
+use Rattle.tv_machine.specs.declared.event.Event.TheVariants as events
 use Rattle.std.proofs.Common.{Some}
 use Rattle.tv_replay.proofs.LineLaws.{is_commit}
 use Rattle.tv_replay.proofs.laws.keeps_the_payload.Goals as goal

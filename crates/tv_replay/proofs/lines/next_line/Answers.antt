@@ -1,6 +1,6 @@
 use Rattle.std.proofs.Common.{◌+◌, ◌≤◌, length, arith, ◌∙◌}
 use Rattle.std.proofs.lemmas.Result.{err_from_is_err_and}
-use Rattle.tv_model.specs.Script.{line_limit}
+use Rattle.tv_machine.specs.Script.{line_limit}
 use Rattle.tv_replay.specs.ScriptLines.{pending}
 use Rattle.tv_replay.proofs.LineLemmas.{reads_ahead, still_begins, takes_last, takes_line, too_long}
 use Rattle.tv_replay.proofs.lines.next_line.Goals as goal

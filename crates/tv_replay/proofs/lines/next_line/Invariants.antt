@@ -1,5 +1,5 @@
 use Rattle.std.proofs.Common.{◌≡◌, ◌≤◌, ◌-◌, ◌+◌, length, List, ℕ, Some, vec_len}
-use Rattle.tv_model.specs.Script.{line_limit}
+use Rattle.tv_machine.specs.Script.{line_limit}
 use Rattle.tv_replay.specs.ScriptLines.{pending, BeginsLine}
 use Rattle.tv_replay.proofs.lines.next_line.Given as goal
 

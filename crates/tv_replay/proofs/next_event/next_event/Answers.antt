@@ -1,28 +1,33 @@
-use Rattle.std.proofs.Common.{◌≡◌, ◌≤◌, sym, ◌∙◌, arith, length, Option, Some, None, vec_len, ℕ, ◌*◌, List, [], ◌∷◌, ap, codes, length-append}
-use Rattle.tv_model.specs.Script.{line_limit, lines_of, IsLine}
+use Rattle.std.proofs.Common.{◌≡◌, ◌≤◌, sym, ◌∙◌, arith, length, Option, Some, None, vec_len, ℕ, ◌*◌, List, [], ◌∷◌, ap, length-append}
+use Rattle.tv_machine.specs.Script.{AllSpell, line_limit, line_of, lines_of, IsLine}
 use Rattle.tv_replay.proofs.next_event.next_event.Goals as goal
 use Rattle.std.specs.List.{join_with_byte}
-use Rattle.hex.specs.Hex.{encode_lower}
 use Rattle.hex.proofs.HexLemmas.{decode_of-ok}
-use Rattle.tv_model.specs.declared.event.Event.{Event}
-use Rattle.tv_model.specs.declared.event.Event.TheVariants as events
-use Rattle.tv_model.specs.Segments.{extension}
-use Rattle.tv_store.specs.Applying.{written_by}
+use Rattle.tv_machine.specs.declared.event.Event.{Event}
+use Rattle.tv_machine.specs.declared.event.Event.TheVariants as events
+use Rattle.tv_formats.specs.declared.segment.SegmentComponent.{SegmentComponent}
+use Rattle.tv_store.specs.Effects.{written_by}
 
--- the last of four words is within their line
-last_within : (a b c d : List ℕ) → length d ≤ length (join_with_byte 32 (a ∷ b ∷ c ∷ d ∷ []))
-last_within a b c d = simp length-append (omega arith)
+-- the fourth of some words is within their line
+fourth_within : (a b c d : List ℕ) (words : List (List ℕ)) → length d ≤ length (join_with_byte 32 (a ∷ b ∷ c ∷ d ∷ words))
+fourth_within a b c d [] = simp length-append (omega arith)
+fourth_within a b c d (word ∷ words) = simp length-append (omega arith)
+
+-- what a write adds to its file fits into its words
+bytes_within : (id : List ℕ) (c : SegmentComponent) (bytes : List ℕ) (words : List (List ℕ)) → AllSpell (line_of (events.Write id c bytes)) words → length bytes ≤ length (join_with_byte 32 words)
+bytes_within id c bytes [] spell = absurd spell
+bytes_within id c bytes (keyword ∷ []) spell = absurd spell.1
+bytes_within id c bytes (keyword ∷ first ∷ []) spell = absurd spell.1.1
+bytes_within id c bytes (keyword ∷ first ∷ second ∷ []) spell = absurd spell.1.1.1
+bytes_within id c bytes (keyword ∷ first ∷ second ∷ digits ∷ words) spell =
+    let twice : length digits ≡ 2 * length bytes = (decode_of-ok digits bytes spell.1.1.1.0).2 in
+    omega (arith, fourth_within keyword first second digits words)
 
 -- what an event adds to a file fits into its line
 written_fits : (text : List ℕ) (e : Event) → IsLine text e → written_by e ≤ line_limit
 written_fits text (events.Write id c bytes) line =
-    let digits = line.are.0 in
-    let twice : length digits ≡ 2 * length bytes = (decode_of-ok digits bytes line.are.1).2 in
-    let spelled : text ≡ join_with_byte 32 (codes "write" ∷ encode_lower id ∷ extension c ∷ digits ∷ []) =
-    line.spelled ∙ ap (λ (ws : List (List ℕ)). join_with_byte 32 (codes "write" ∷ ws)) line.are.2 in
-    let len : length text ≡ length (join_with_byte 32 (codes "write" ∷ encode_lower id ∷ extension c ∷ digits ∷ [])) = ap length spelled in
-    let within : length digits ≤ length (join_with_byte 32 (codes "write" ∷ encode_lower id ∷ extension c ∷ digits ∷ [])) = last_within (codes "write") (encode_lower id) (extension c) digits in
-    omega (arith, line.short)
+    let len : length text ≡ length (join_with_byte 32 line.words) = ap length line.joined in
+    omega (arith, line.short, len, bytes_within id c bytes line.words line.spell)
 written_fits text other line = omega arith
 
 not_both : {A : Type 0} {o : Option A} {x : A} → o ≡ None → o ≡ Some x → ⊥

@@ -1,16 +1,16 @@
 use Rattle.std.proofs.Common.{◌≡◌, ◌≢◌, ◌<◌, ◌+◌, ◌*◌, ◌^◌, ℕ, [], length, true, true≢false, refl, sym, ap, subst, ◌∙◌, inl, inr, arith}
-use Rattle.tv_model.specs.State.{Catalog}
-use Rattle.tv_model.specs.Machine.{after}
-use Rattle.tv_model.specs.Names.{meta_name}
-use Rattle.tv_model.specs.Files.{Rose}
+use Rattle.tv_machine.specs.State.{Catalog}
+use Rattle.tv_machine.specs.Machine.{after}
+use Rattle.tv_formats.specs.Names.{meta_name}
+use Rattle.tv_formats.specs.Files.{Rose}
 use Rattle.tv_store.specs.Applying.{GoneAt, RefusedAt}
-use Rattle.tv_model.specs.Living.{is_busy}
+use Rattle.tv_machine.specs.Living.{is_busy}
 use Rattle.tv_replay.proofs.KeptLocks.{same_locks}
-use Rattle.tv_store.specs.ReadCauses.{LoadsCommit, TakesMetaLock}
+use Rattle.tv_store.specs.Effects.{LoadsCommit, TakesMetaLock}
 use Rattle.tv_store.specs.StoreCauses.{IsBusy}
 use Rattle.tv_replay.specs.ScriptLines.{IsNoEvent, IsTooLong, pending}
 use Rattle.std.proofs.lemmas.Result.{err_from_is_err_and, IfErr-weaker, on_ok_weaker}
-use Rattle.tv_model.specs.Script.{line_limit}
+use Rattle.tv_machine.specs.Script.{line_limit}
 use Rattle.tv_replay.specs.AppliedEvents.{FailsRun, run_causes}
 use Rattle.tv_store.specs.Kept.{AtMost}
 use Rattle.tv_store.specs.ReaderNumbers.{FewNumbers}

@@ -1,5 +1,5 @@
 use Rattle.std.proofs.Common.{◌≡◌, ◌≤◌, ◌+◌, ◌*◌, length, true}
-use Rattle.tv_model.specs.Script.{line_limit}
+use Rattle.tv_machine.specs.Script.{line_limit}
 use Rattle.tv_store.specs.Kept.{AtMost}
 use Rattle.tv_store.specs.ReaderNumbers.{FewNumbers}
 use Rattle.tv_replay.specs.Replays.{IsQuietAt, ReplayFrame}

@@ -1,11 +1,11 @@
 use Rattle.std.proofs.Common.{◌≡◌, ℕ, true, false, refl, sym, ap, ◌∙◌, inl, inr, subst}
 use Rattle.std.proofs.Math.Logic.{⊎_map}
 use Rattle.std.proofs.lemmas.Result.{IfOk-weaker, IfErr-weaker}
-use Rattle.tv_model.specs.Names.{meta_name}
-use Rattle.tv_model.specs.Files.{Rose}
-use Rattle.tv_model.specs.Commits.{Commit}
-use Rattle.tv_model.specs.State.{Catalog}
-use Rattle.tv_model.specs.Lines.{opening_of}
+use Rattle.tv_formats.specs.Names.{meta_name}
+use Rattle.tv_formats.specs.Files.{Rose}
+use Rattle.tv_formats.specs.Commits.{Commit}
+use Rattle.tv_machine.specs.State.{Catalog}
+use Rattle.tv_machine.specs.Lines.{opening_of}
 use Rattle.tv_store.specs.Telling.{TellsLine}
 use Rattle.tv_store.specs.OpeningCauses.{opening_facts}
 use Rattle.tv_store.specs.StoreCauses.{writer_lock_name}

@@ -1,8 +1,8 @@
 use Rattle.std.proofs.Common.{◌≡◌, List, ℕ}
 use Rattle.std.proofs.lemmas.Result.{IfOk-weaker}
-use Rattle.tv_model.specs.Commits.{Settings}
-use Rattle.tv_model.specs.Index.{DirectoryHolds}
-use Rattle.tv_model.specs.State.{State}
+use Rattle.tv_formats.specs.Commits.{Settings}
+use Rattle.tv_machine.specs.Index.{DirectoryHolds}
+use Rattle.tv_machine.specs.State.{State}
 use Rattle.tv_replay.specs.Summaries.{IsStanding}
 use Rattle.tv_replay.proofs.StandingIndexes.{managed_are, same_holds}
 use Rattle.tv_replay.proofs.summary.standing_in.Goals as goal

@@ -1,8 +1,8 @@
 use Rattle.std.proofs.Common.{◌≡◌, string_bytes, ap, ◌∙◌}
 use Rattle.std.proofs.lemmas.Result.{IfOk-weaker}
-use Rattle.tv_model.specs.Commits.{default_settings}
-use Rattle.tv_model.specs.Index.{first_state}
-use Rattle.tv_model.specs.Machine.{after}
+use Rattle.tv_formats.specs.Commits.{default_settings}
+use Rattle.tv_machine.specs.Index.{first_state}
+use Rattle.tv_machine.specs.Machine.{after}
 use Rattle.tv_replay.specs.Summaries.{collected_in, summary_line, IsSummaryOf}
 use Rattle.tv_replay.proofs.FirstRuns.{summary_so}
 use Rattle.tv_replay.proofs.summary.summary_of.Goals as goal

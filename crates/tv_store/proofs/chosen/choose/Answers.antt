@@ -1,5 +1,5 @@
 use Rattle.std.proofs.Common.{◌≡◌, ◌<◌, length, sym, ap, ◌∙◌, arith}
-use Rattle.tv_model.specs.State.{at}
+use Rattle.tv_formats.specs.Names.{at}
 use Rattle.tv_store.specs.Choosing.{with_living}
 use Rattle.tv_store.proofs.ChosenSegments.{chosen_further, none_chosen}
 use Rattle.tv_store.proofs.chosen.choose.Goals as goal

@@ -1,5 +1,5 @@
 use Rattle.std.proofs.Common.{◌≡◌, drop}
-use Rattle.tv_model.specs.Lines.{line}
+use Rattle.tv_machine.specs.Lines.{line}
 use Rattle.tv_store.proofs.collection_events.with_names.Given as goal
 
 abbrev pub invariant-loop-name : goal.invariant-loop-name

@@ -1,6 +1,6 @@
 use Rattle.std.proofs.Common.{◌≡◌, ◌++◌, true, drop, map, string_bytes}
 use Rattle.std.specs.List.{list_all}
-use Rattle.tv_model.specs.Names.{is_plain}
+use Rattle.tv_formats.specs.Names.{is_plain}
 use Rattle.tv_store.proofs.files_collecting.copied_names.Given as goal
 
 abbrev pub invariant-loop-text : goal.invariant-loop-text

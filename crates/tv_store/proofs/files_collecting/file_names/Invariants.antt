@@ -1,7 +1,7 @@
 use Rattle.std.proofs.Common.{◌≡◌, ◌++◌, true, map, string_bytes}
 use Rattle.std.specs.List.{list_all}
 use Rattle.std.specs.Vec.Iter.{into_iter_items}
-use Rattle.tv_model.specs.Names.{is_plain}
+use Rattle.tv_formats.specs.Names.{is_plain}
 use Rattle.tv_store.proofs.files_collecting.file_names.Given as goal
 
 abbrev pub invariant-loop-text : goal.invariant-loop-text

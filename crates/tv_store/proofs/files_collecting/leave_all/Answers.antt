@@ -1,9 +1,9 @@
 use Rattle.std.proofs.Common.{rules, ◌≡◌, ◌||◌, ◌∷◌, [], ℕ, List, map, arith, sym, ap, ◌∙◌}
 use Rattle.std.proofs.lemmas.List.{map-append}
 use Rattle.std.proofs.lemmas.Map.Iter.{iter_end}
-use Rattle.tv_model.specs.Names.{has}
-use Rattle.tv_model.proofs.CollectionStates.{has_append}
-use Rattle.tv_model.proofs.Entries.{has_put}
+use Rattle.tv_formats.specs.Names.{has}
+use Rattle.tv_formats.proofs.CollectedNames.{has_append}
+use Rattle.tv_formats.proofs.Entries.{has_put}
 use Rattle.tv_store.proofs.Removals.{has_keys, map_same}
 use Rattle.tv_store.proofs.files_collecting.leave_all.Goals as goal
 

@@ -1,8 +1,7 @@
 use Rattle.std.proofs.Common.{◌≡◌, ℕ, List, None, cond, drop}
 use Rattle.std.specs.Prelude.{Contains}
 use Rattle.std.specs.List.{AllByRecursion}
-use Rattle.tv_model.specs.Names.{has}
-use Rattle.tv_model.specs.State.{at}
+use Rattle.tv_formats.specs.Names.{has, at}
 use Rattle.tv_store.proofs.files_collecting.remove_all.Given as goal
 
 abbrev pub invariant-loop-name : goal.invariant-loop-name

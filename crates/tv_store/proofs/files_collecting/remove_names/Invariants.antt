@@ -1,5 +1,5 @@
 use Rattle.std.proofs.Common.{◌≡◌, ℕ, List, not, ◌&&◌, drop}
-use Rattle.tv_model.specs.Names.{has}
+use Rattle.tv_formats.specs.Names.{has}
 use Rattle.tv_store.proofs.files_collecting.remove_names.Given as goal
 
 abbrev pub invariant-loop-name : goal.invariant-loop-name

@@ -1,7 +1,6 @@
 use Rattle.std.proofs.Common.{None, cond, ap, ◌∙◌}
 use Rattle.std.specs.BTreeMap.{is_at}
-use Rattle.tv_model.specs.Names.{byte_cmp}
-use Rattle.tv_model.specs.State.{at}
+use Rattle.tv_formats.specs.Names.{byte_cmp, at}
 use Rattle.tv_store.proofs.Removals.{contains_itself, one_is, removed_still}
 use Rattle.tv_store.proofs.files_collecting.remove_one.Goals as goal
 

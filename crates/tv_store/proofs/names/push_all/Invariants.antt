@@ -1,6 +1,6 @@
 use Rattle.std.proofs.Common.{◌≡◌, ◌++◌, take}
 use Rattle.std.specs.List.{flat_map}
-use Rattle.tv_model.specs.Living.{segment_names}
+use Rattle.tv_formats.specs.Segments.{segment_names}
 use Rattle.tv_store.proofs.names.push_all.Given as goal
 
 abbrev pub invariant-loop-entry : goal.invariant-loop-entry

@@ -2,7 +2,7 @@ use Rattle.std.proofs.Common.{◌≡◌, ◌++◌, ap, ◌∙◌}
 use Rattle.std.specs.Slice.Iter.{iter_rest}
 use Rattle.std.proofs.lemmas.Iterator.{YieldsList-from_slice}
 use Rattle.std.proofs.lemmas.Iterator.Consumers.{YieldsList-end}
-use Rattle.tv_model.specs.Segments.{components}
+use Rattle.tv_formats.specs.Segments.{components}
 use Rattle.tv_store.proofs.FileNames.{required_in, required_of_all}
 use Rattle.tv_store.proofs.names.push_required.Goals as goal
 

@@ -1,6 +1,6 @@
 use Rattle.std.proofs.Common.{◌≡◌}
 use Rattle.std.specs.List.{flat_map}
-use Rattle.tv_model.specs.Segments.{required_names}
+use Rattle.tv_formats.specs.Segments.{required_names}
 use Rattle.tv_store.proofs.names.required_files.Given as goal
 
 abbrev pub invariant-loop-id : goal.invariant-loop-id

@@ -3,10 +3,10 @@ use Rattle.tv_base.specs.declared.error.TantivyError.TheVariants as errors
 use Rattle.tv_directory.specs.View.{OnlyReads}
 use Rattle.tv_directory.specs.ViewLaws.{reads_then}
 use Rattle.tv_index.specs.CrashLaws.{looks_kept, looks_none, looks_then}
-use Rattle.tv_model.specs.Files.{Heard, Rose}
-use Rattle.tv_model.specs.Lines.{opening_of}
-use Rattle.tv_model.specs.Names.{has}
-use Rattle.tv_model.specs.Segments.{all_required}
+use Rattle.tv_formats.specs.Files.{Heard, Rose}
+use Rattle.tv_machine.specs.Lines.{opening_of}
+use Rattle.tv_formats.specs.Names.{has}
+use Rattle.tv_formats.specs.Segments.{all_required}
 use Rattle.tv_store.specs.Making.{ChecksFiles}
 use Rattle.tv_store.specs.Stays.{KeepsFiles}
 use Rattle.tv_store.specs.Telling.{TellsFirstPart, TellsLine, TellsNoLine}

@@ -1,7 +1,7 @@
 use Rattle.std.proofs.Common.{◌≡◌, ℕ, List, true, take}
 use Rattle.tv_directory.specs.View.{OnlyReads}
 use Rattle.tv_index.specs.Crashes.{OnlyLooks}
-use Rattle.tv_model.specs.Names.{has}
+use Rattle.tv_formats.specs.Names.{has}
 use Rattle.tv_store.specs.Bodies.{ReadsGoodFile}
 use Rattle.tv_store.specs.Stays.{KeepsFiles}
 use Rattle.tv_store.proofs.opening.check_files.Given as goal

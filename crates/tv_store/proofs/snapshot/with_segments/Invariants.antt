@@ -1,6 +1,6 @@
 use Rattle.std.proofs.Common.{◌≡◌, map, drop}
-use Rattle.tv_model.specs.SearcherEvents.{segment_word}
-use Rattle.tv_model.specs.Lines.{line}
+use Rattle.tv_machine.specs.SearcherEvents.{segment_word}
+use Rattle.tv_machine.specs.Lines.{line}
 use Rattle.tv_store.proofs.snapshot.with_segments.Given as goal
 
 abbrev pub invariant-loop-reader : goal.invariant-loop-reader

@@ -1,7 +1,7 @@
 use Rattle.std.proofs.Common.{rules, ◌≡◌, ◌∙◌, true, false, refl, sym, ap, true≢false}
-use Rattle.tv_model.specs.Disk.{Unsealed}
+use Rattle.tv_formats.specs.Disk.{Unsealed}
 use Rattle.tv_directory.specs.Bench.{disk_in}
-use Rattle.tv_model.specs.Files.{Same}
+use Rattle.tv_formats.specs.Files.{Same}
 use Rattle.tv_directory.specs.Ram.{ram_lives, ram_reads, ram_states}
 use Rattle.tv_directory.specs.Record.{RecordedRefused}
 use Rattle.tv_directory.proofs.BenchCalls.{faults_numbered, gives_no_state, later_where, numbered_failed, numbered_quietly, writes_nothing}

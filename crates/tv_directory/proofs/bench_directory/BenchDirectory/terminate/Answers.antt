@@ -1,5 +1,5 @@
 use Rattle.std.proofs.Common.{rules, ◌≡◌, ◌∙◌, true, false, refl, sym, ap, true≢false}
-use Rattle.tv_model.specs.Files.{Same}
+use Rattle.tv_formats.specs.Files.{Same}
 use Rattle.tv_directory.specs.Ram.{ram_lives, ram_reads, ram_states}
 use Rattle.tv_directory.proofs.BenchCalls.{faults_numbered, gives_no_state, later_where, numbered_failed, numbered_quietly, writes_nothing}
 use Rattle.tv_directory.proofs.ShowsNothing.{memory_below, quiet_below, seals_nothing, seals_quietly}

@@ -1,5 +1,5 @@
 use Rattle.std.proofs.Common.{◌≡◌, ◌||◌, ℕ, List}
-use Rattle.tv_model.specs.Names.{has}
+use Rattle.tv_formats.specs.Names.{has}
 use Rattle.tv_directory.specs.StoredFiles.{is_there}
 use Rattle.tv_directory.proofs.files.Files.add_names.Given as goal
 

@@ -1,5 +1,5 @@
 use Rattle.std.proofs.Common.{◌≡◌, ◌+◌, ◌≤◌, min}
-use Rattle.tv_directory.specs.Device.{last}
+use Rattle.tv_base.specs.Texts.{last}
 use Rattle.tv_directory.specs.StoredFiles.{total_len}
 use Rattle.tv_directory.proofs.files.Files.total_len.Given as goal
 

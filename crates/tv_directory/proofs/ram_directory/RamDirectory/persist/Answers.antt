@@ -2,7 +2,7 @@ use Rattle.std.proofs.Common.{rules, ◌∙◌, [], refl}
 use Rattle.tv_directory.specs.Persisting.{contents}
 use Rattle.tv_directory.specs.ViewLaws.{kept_itself, kept_then}
 use Rattle.tv_directory.proofs.PersistedFiles.{first_of, persists_none, rest_next, split_at, stops_at}
-use Rattle.tv_model.proofs.DiskLaws.{touches_same, touches_then}
+use Rattle.tv_formats.proofs.DiskLaws.{touches_same, touches_then}
 use Rattle.tv_directory.proofs.TouchedNames.{touches_among}
 use Rattle.tv_directory.proofs.ram_directory.RamDirectory.persist.Goals as goal
 

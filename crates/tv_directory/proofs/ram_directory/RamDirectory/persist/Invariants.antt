@@ -1,5 +1,5 @@
 use Rattle.std.proofs.Common.{◌≡◌}
-use Rattle.tv_model.specs.Disk.{TouchesOnly}
+use Rattle.tv_formats.specs.Disk.{TouchesOnly}
 use Rattle.tv_directory.specs.View.{Kept}
 use Rattle.tv_directory.specs.Persisting.{IsAmong, contents}
 use Rattle.tv_directory.proofs.PersistedFiles.{PersistsRest}

@@ -1,5 +1,5 @@
 use Rattle.std.proofs.Common.{◌≤◌, refl, subst}
-use Rattle.tv_directory.specs.Device.{last}
+use Rattle.tv_base.specs.Texts.{last}
 use Rattle.tv_files.proofs.Untold.{delete_faults, may_delete, refused_no_less}
 use Rattle.tv_files.proofs.folder_directory.MmapDirectoryDirectory.delete.Goals as goal
 

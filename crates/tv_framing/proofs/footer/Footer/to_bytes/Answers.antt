@@ -1,6 +1,6 @@
 use Rattle.std.proofs.Common.{◌≡◌, length, ℕ, ap, arith, sym, ◌∙◌, append_assoc}
 use Rattle.std.proofs.lemmas.Grind.{common_steps}
-use Rattle.tv_model.specs.Footer.{footer, footer_magic, four_bytes}
+use Rattle.tv_formats.specs.Footer.{footer, footer_magic, four_bytes}
 use Rattle.tv_framing.specs.declared.footer.Footer.{Footer}
 use Rattle.tv_framing.specs.Footers.{footer_json, footer_text, own_footer}
 use Rattle.tv_framing.proofs.footer.Footer.to_bytes.Goals as goal

@@ -1,6 +1,6 @@
 use Rattle.std.proofs.Common.{rules}
 use Rattle.std.proofs.lemmas.Fn.{always_returns_same}
-use Rattle.tv_model.specs.Names.{byte_cmp}
+use Rattle.tv_formats.specs.Names.{byte_cmp}
 use Rattle.tv_framing.proofs.Gathered.{found_by}
 use Rattle.tv_framing.proofs.per_field_usage.PerFieldSpaceUsage.place_of.Goals as goal
 

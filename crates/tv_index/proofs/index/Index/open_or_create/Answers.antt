@@ -1,6 +1,6 @@
 use Rattle.std.proofs.Common.{ap, subst}
 use Rattle.std.specs.Prelude.{MatchResult}
-use Rattle.tv_model.specs.Commits.{IndexForm, Settings}
+use Rattle.tv_formats.specs.Commits.{IndexForm, Settings}
 use Rattle.tv_index.specs.Crashes.{LacksMeta, MakesNone, MayMake, TracksFrom}
 use Rattle.tv_index.specs.NewForms.{new_text}
 use Rattle.tv_index.proofs.index.Index.open_or_create.Goals as goal

@@ -1,5 +1,5 @@
 use Rattle.std.proofs.Common.{◌≡◌, ◌∙◌, Some, ap, map, subst}
-use Rattle.tv_model.specs.Names.{meta_name}
+use Rattle.tv_formats.specs.Names.{meta_name}
 use Rattle.tv_index.specs.Indexes.{IndexState, MeansSuch}
 use Rattle.tv_index.specs.Standing.{MetaFaults}
 use Rattle.tv_index.proofs.Indexes.{ids_mean}

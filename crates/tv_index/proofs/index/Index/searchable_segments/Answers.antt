@@ -1,6 +1,6 @@
 use Rattle.std.proofs.Common.{◌≡◌, ◌≤◌, ◌∙◌, All, List, Some, ap, map, sym, subst}
-use Rattle.tv_model.specs.Names.{meta_name}
-use Rattle.tv_model.specs.Segments.{num_deleted}
+use Rattle.tv_formats.specs.Names.{meta_name}
+use Rattle.tv_formats.specs.Segments.{num_deleted}
 use Rattle.tv_index.specs.declared.segment_meta.InnerSegmentMeta.{InnerSegmentMeta}
 use Rattle.tv_index.specs.Indexes.{IndexState, MeansSuch}
 use Rattle.tv_index.specs.Segments.{entry_of}

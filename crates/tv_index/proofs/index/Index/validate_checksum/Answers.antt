@@ -7,8 +7,8 @@ use Rattle.tv_directory.specs.View.{OnlyReads}
 use Rattle.tv_directory.specs.ViewLaws.{reads_then}
 use Rattle.tv_managed.specs.Names.{ManagedNames}
 use Rattle.tv_managed.specs.TrackLaws.{keeps_then}
-use Rattle.tv_model.specs.Living.{segment_names}
-use Rattle.tv_model.specs.Names.{has, meta_name}
+use Rattle.tv_formats.specs.Segments.{segment_names}
+use Rattle.tv_formats.specs.Names.{has, meta_name}
 use Rattle.tv_index.specs.Checksums.{AreDamaged, ValidateFaults, looked_at}
 use Rattle.tv_index.specs.Indexes.{IndexState, KeepsIndex, MeansSuch}
 use Rattle.tv_index.specs.Segments.{entry_of}

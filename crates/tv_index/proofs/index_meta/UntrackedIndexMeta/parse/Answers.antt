@@ -1,5 +1,5 @@
 use Rattle.std.proofs.Common.{option_map, subst}
-use Rattle.tv_model.specs.Meaning.{MeansNothing}
+use Rattle.tv_formats.specs.Meaning.{MeansNothing}
 use Rattle.tv_index.specs.declared.read_error.ReadError.{ReadError}
 use Rattle.tv_index.specs.Reads.{IfCorrupt}
 use Rattle.tv_index.proofs.index_meta.UntrackedIndexMeta.parse.Goals as goal

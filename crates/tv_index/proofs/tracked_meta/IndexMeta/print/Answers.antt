@@ -1,6 +1,6 @@
 use Rattle.std.proofs.Common.{◌≡◌, ℕ, Option, List, [], ap, map, ◌∙◌}
 use Rattle.std.proofs.lemmas.Result.{IfOk-weaker}
-use Rattle.tv_model.specs.Commits.{printed}
+use Rattle.tv_formats.specs.Commits.{printed}
 use Rattle.tv_index.specs.Segments.{entry_of}
 use Rattle.tv_index.specs.Tracked.{Share}
 use Rattle.tv_index.specs.TrackedMetas.{put_all, tracked_commit, tracked_settings}

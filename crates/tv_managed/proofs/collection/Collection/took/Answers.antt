@@ -1,6 +1,6 @@
 use Rattle.std.proofs.Common.{rules, ◌∙◌, string_bytes}
 use Rattle.std.proofs.lemmas.Fn.{always_returns_same}
-use Rattle.tv_model.specs.Names.{byte_cmp}
+use Rattle.tv_formats.specs.Names.{byte_cmp}
 use Rattle.tv_managed.proofs.SetsOfTexts.{searched_texts}
 use Rattle.tv_managed.proofs.collection.Collection.took.Goals as goal
 

@@ -1,8 +1,8 @@
 use Rattle.std.proofs.Common.{rules, tests, sym, ap, ◌∙◌}
 use Rattle.std.proofs.lemmas.Iterator.Consumers.{YieldsList-from_rest}
 use Rattle.std.proofs.lemmas.Iterator.Search.{any_from_yields_List}
-use Rattle.tv_model.specs.Names.{has}
-use Rattle.tv_model.specs.Collections.{held, taken}
+use Rattle.tv_formats.specs.Names.{has}
+use Rattle.tv_formats.specs.Collections.{held, taken}
 use Rattle.tv_managed.proofs.Collections.{held_by}
 use Rattle.tv_managed.proofs.collection.Collections.holds.Goals as goal
 

@@ -3,7 +3,7 @@ use Rattle.std.specs.Option.{option_copied_mut}
 use Rattle.std.specs.BTreeMap.{is_at, insert_entry}
 use Rattle.std.specs.Map.{lookup}
 use Rattle.std.specs.Ordering.{nat_cmp}
-use Rattle.tv_model.specs.Collections.{Collections, collection_at, having_tried, with_collection}
+use Rattle.tv_formats.specs.Collections.{Collections, collection_at, having_tried, with_collection}
 use Rattle.tv_managed.proofs.Collections.{set_is_put}
 use Rattle.tv_managed.proofs.collection.Collections.mark.Goals as goal
 

@@ -1,7 +1,7 @@
 use Rattle.std.proofs.Common.{refl, ap, subst, ◌∙◌}
 use Rattle.std.proofs.lemmas.Result.{IfOk-from_err, on_ok_weaker}
-use Rattle.tv_model.specs.Disk.{Sealed}
-use Rattle.tv_model.specs.Files.{KeepsOthers}
+use Rattle.tv_formats.specs.Disk.{Sealed}
+use Rattle.tv_formats.specs.Files.{KeepsOthers}
 use Rattle.tv_managed.proofs.Collections.{done_held}
 use Rattle.tv_managed.proofs.Making.{manages_by, manages_unlisted, others_written}
 use Rattle.tv_managed.proofs.Giving.{given_safely, gives_safely, listed_safely, wanted_given, wanted_list}

@@ -1,5 +1,5 @@
 use Rattle.std.proofs.Common.{◌++◌, subst, sym, refl, rules, ℕ, Ok}
-use Rattle.tv_model.specs.Collections.{held}
+use Rattle.tv_formats.specs.Collections.{held}
 use Rattle.tv_directory.specs.View.{OnlyReads}
 use Rattle.tv_directory.specs.ViewLaws.{kept_itself}
 use Rattle.tv_base.specs.declared.error.TantivyError.{TantivyError}

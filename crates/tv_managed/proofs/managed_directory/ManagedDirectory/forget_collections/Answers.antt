@@ -1,5 +1,5 @@
 use Rattle.std.proofs.Common.{true≢false, sym, ap, ◌∙◌, subst}
-use Rattle.tv_model.specs.Names.{has}
+use Rattle.tv_formats.specs.Names.{has}
 use Rattle.tv_managed.specs.Crashes.{IsTracked}
 use Rattle.tv_managed.specs.Names.{done_names}
 use Rattle.tv_managed.proofs.managed_directory.ManagedDirectory.forget_collections.Goals as goal

@@ -1,7 +1,7 @@
 use Rattle.std.proofs.Common.{◌≡◌, ◌<◌, ◌-◌, [], Ok, Err, refl, inl, inr, ap, sym, subst, ◌∙◌, map, string_bytes}
 use Rattle.std.specs.Prelude.{is_some}
 use Rattle.tv_base.specs.declared.error.TantivyError.{TantivyError}
-use Rattle.tv_model.specs.Collections.{Collections, collection_at}
+use Rattle.tv_formats.specs.Collections.{Collections, collection_at}
 use Rattle.tv_managed.specs.Collecting.{names_of, taken_by, CollectFaults}
 use Rattle.tv_managed.specs.Crashes.{CollectsNames}
 use Rattle.tv_managed.specs.Names.{ManagedNames}

@@ -1,4 +1,4 @@
-use Rattle.tv_model.proofs.ListedImages.{images_list}
+use Rattle.tv_formats.proofs.ListedImages.{images_list}
 use Rattle.tv_managed.proofs.managed_directory.ManagedDirectory.images_list_their_files.Goals as goal
 
 pub returns : goal.returns

@@ -1,7 +1,7 @@
 use Rattle.std.proofs.Common.{Err, ap, subst, ◌∙◌}
 use Rattle.std.proofs.lemmas.Result.{IfOk-from_err}
-use Rattle.tv_model.specs.Disk.{Unsealed}
-use Rattle.tv_model.specs.Files.{KeepsOthers}
+use Rattle.tv_formats.specs.Disk.{Unsealed}
+use Rattle.tv_formats.specs.Files.{KeepsOthers}
 use Rattle.tv_managed.specs.Managed.{registering, CreateFaults, Creates}
 use Rattle.tv_managed.proofs.Collections.{done_held}
 use Rattle.tv_managed.proofs.Making.{manages_by, manages_none, manages_unlisted, others_of_refused}

@@ -1,7 +1,7 @@
 use Rattle.std.proofs.Common.{◌≡◌, true, refl, sym, ap, ◌∙◌}
 use Rattle.std.proofs.lemmas.Result.{IfOk-from_err}
-use Rattle.tv_model.specs.Collections.{held}
-use Rattle.tv_model.specs.Names.{has}
+use Rattle.tv_formats.specs.Collections.{held}
+use Rattle.tv_formats.specs.Names.{has}
 use Rattle.tv_managed.specs.Frames.{OnlyAsks}
 use Rattle.tv_managed.specs.Managed.{CreateFaults}
 use Rattle.tv_managed.proofs.Creating.{asks_for, faults_made, none_of}

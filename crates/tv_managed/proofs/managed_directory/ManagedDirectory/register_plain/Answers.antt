@@ -1,9 +1,9 @@
 use Rattle.std.proofs.Common.{rules, refl, ◌≡◌, true, false, sym, ap, subst, ◌∙◌, List, ℕ, [], ◌∷◌, map, string_bytes}
 use Rattle.std.specs.BTreeSet.{insert_key}
-use Rattle.tv_model.specs.Collections.{without}
-use Rattle.tv_model.specs.Files.{KeepsOthers}
-use Rattle.tv_model.specs.Names.{byte_cmp, has, is_undotted, list_name}
-use Rattle.tv_model.proofs.Entries.{has_inserted, has_kept, insert_present}
+use Rattle.tv_formats.specs.Collections.{without}
+use Rattle.tv_formats.specs.Files.{KeepsOthers}
+use Rattle.tv_formats.specs.Names.{byte_cmp, has, is_undotted, list_name}
+use Rattle.tv_formats.proofs.Entries.{has_inserted, has_kept, insert_present}
 use Rattle.tv_directory.specs.View.{Kept}
 use Rattle.tv_managed.specs.Managed.{Covers, NeedsNoListing, registered, registering}
 use Rattle.tv_managed.specs.Names.{AreManaged, ManagedNames}

@@ -1,6 +1,6 @@
 use Rattle.std.proofs.Common.{rules, ap, subst, map, string_bytes, ◌∙◌, ⊎_elim, inl, inr, refl}
 use Rattle.std.proofs.lemmas.Result.{on_ok_weaker}
-use Rattle.tv_model.specs.Names.{list_name}
+use Rattle.tv_formats.specs.Names.{list_name}
 use Rattle.tv_managed.specs.Crashes.{SavesManaged}
 use Rattle.tv_managed.proofs.SetsOfTexts.{list_of}
 use Rattle.tv_managed.proofs.managed_directory.ManagedDirectory.save.Goals as goal

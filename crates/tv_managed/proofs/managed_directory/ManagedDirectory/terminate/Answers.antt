@@ -1,17 +1,17 @@
 use Rattle.std.proofs.Common.{rules, refl, map, string_bytes, ◌≡◌, ◌++◌, List, ℕ, true, sym, ap, subst, ◌∙◌}
 use Rattle.std.specs.Prelude.{OnOk, Some}
 use Rattle.std.proofs.lemmas.Result.{on_ok_weaker}
-use Rattle.tv_model.specs.Files.{KeepsOthers, Sets}
-use Rattle.tv_model.specs.Footer.{sealed}
-use Rattle.tv_model.proofs.Bodies.{sealed_has_body}
+use Rattle.tv_formats.specs.Files.{KeepsOthers, Sets}
+use Rattle.tv_formats.specs.Footer.{sealed}
+use Rattle.tv_formats.proofs.Bodies.{sealed_has_body}
 use Rattle.tv_managed.specs.Writers.{IsSummed}
 use Rattle.tv_managed.proofs.Endings.{sealed_sets}
-use Rattle.tv_model.specs.Disk.{Sealed}
+use Rattle.tv_formats.specs.Disk.{Sealed}
 use Rattle.tv_managed.specs.Crashes.{SealsStates}
 use Rattle.tv_managed.specs.Names.{ManagedNames}
 use Rattle.tv_managed.specs.TrackLaws.{keeps_then, track_read, track_then}
 use Rattle.tv_managed.proofs.Tracking.{listed_by_within, listed_file, track_from, track_same}
-use Rattle.tv_model.proofs.DiskLaws.{touches_more, touches_same, touches_then}
+use Rattle.tv_formats.proofs.DiskLaws.{touches_more, touches_same, touches_then}
 use Rattle.tv_managed.proofs.Touching.{added_written, adds_run, gained_more, gained_none, gained_one, gained_same, gained_then, keeps_same, reads_touch, time_written, touches_written, track_written}
 use Rattle.tv_directory.specs.Calls.{IoFaults}
 use Rattle.tv_directory.specs.ViewLaws.{kept_itself, kept_then}

@@ -1,5 +1,5 @@
 use Rattle.std.proofs.Common.{◌≡◌, List, ℕ}
-use Rattle.tv_model.specs.Collections.{begun, collection_at}
+use Rattle.tv_formats.specs.Collections.{begun, collection_at}
 use Rattle.tv_managed.specs.Collecting.{OnlyDeletes, standing}
 use Rattle.tv_managed.specs.Crashes.{TriesSafely}
 use Rattle.tv_managed.specs.Names.{ManagedNames}

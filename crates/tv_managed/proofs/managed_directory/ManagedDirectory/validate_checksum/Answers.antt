@@ -1,6 +1,6 @@
 use Rattle.std.proofs.Common.{◌==◌, ℕ, ap, ◌∙◌}
 use Rattle.std.proofs.lemmas.Result.{IfOk-weaker}
-use Rattle.tv_model.specs.Checksum.{crc32}
+use Rattle.tv_formats.specs.Checksum.{crc32}
 use Rattle.tv_managed.proofs.managed_directory.ManagedDirectory.validate_checksum.Goals as goal
 
 pub returns-clause-answer : goal.returns-clause-answer

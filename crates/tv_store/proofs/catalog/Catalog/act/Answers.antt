@@ -1,6 +1,6 @@
 use Rattle.std.proofs.Common.{sym, subst}
 use Rattle.std.proofs.lemmas.Result.{err_from_is_err_and}
-use Rattle.tv_model.specs.declared.event.Event.{Event}
+use Rattle.tv_machine.specs.declared.event.Event.{Event}
 use Rattle.tv_store.specs.Catalogs.{CatalogCause}
 use Rattle.tv_store.specs.Exhausted.{SpendsSearcher}
 use Rattle.tv_store.proofs.catalog.Catalog.act.Goals as goal

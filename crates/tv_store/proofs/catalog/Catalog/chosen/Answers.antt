@@ -1,7 +1,7 @@
 use Rattle.std.proofs.Common.{◌≡◌, subst}
 use Rattle.std.specs.Prelude.{IfOk}
-use Rattle.tv_model.specs.State.{Catalog}
-use Rattle.tv_model.specs.CommitEvents.{chosen}
+use Rattle.tv_machine.specs.State.{Catalog}
+use Rattle.tv_machine.specs.CommitEvents.{chosen}
 use Rattle.tv_store.proofs.catalog.Catalog.chosen.Goals as goal
 
 pub returns : goal.returns

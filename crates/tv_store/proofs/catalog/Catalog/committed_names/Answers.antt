@@ -1,9 +1,9 @@
 use Rattle.std.proofs.Common.{◌≡◌, ℕ, List, map, string_bytes, ap, ◌∙◌}
 use Rattle.std.specs.List.{flat_map}
 use Rattle.std.proofs.lemmas.Result.{IfOk-weaker}
-use Rattle.tv_model.specs.Living.{segment_names}
-use Rattle.tv_model.specs.Names.{has}
-use Rattle.tv_model.specs.declared.segment.LiveSegment.{LiveSegment}
+use Rattle.tv_formats.specs.Segments.{segment_names}
+use Rattle.tv_formats.specs.Names.{has}
+use Rattle.tv_formats.specs.declared.segment.LiveSegment.{LiveSegment}
 use Rattle.tv_store.proofs.ReportEvents.{filter_same}
 use Rattle.tv_store.proofs.catalog.Catalog.committed_names.Goals as goal
 

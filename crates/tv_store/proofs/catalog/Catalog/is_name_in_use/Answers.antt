@@ -1,5 +1,5 @@
 use Rattle.std.proofs.Common.{◌≡◌, true, false, map, string_bytes, refl}
-use Rattle.tv_model.specs.Names.{has}
+use Rattle.tv_formats.specs.Names.{has}
 use Rattle.tv_store.proofs.catalog.Catalog.is_name_in_use.Goals as goal
 
 pub returns-then-has_name : goal.returns-then-has_name

@@ -1,6 +1,6 @@
 use Rattle.std.proofs.Common.{rules, ◌≡◌, ◌∷◌, ◌++◌, List, ℕ, codes, map, string_bytes, sym, ap, ◌∙◌}
 use Rattle.std.proofs.lemmas.Map.Iter.{iter_end}
-use Rattle.tv_model.specs.Lines.{line}
+use Rattle.tv_machine.specs.Lines.{line}
 use Rattle.tv_store.proofs.Named.{plain_first, line_of_more, map_twice}
 use Rattle.tv_store.proofs.catalog.Catalog.managed.Goals as goal
 

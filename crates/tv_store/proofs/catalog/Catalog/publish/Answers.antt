@@ -1,7 +1,7 @@
 use Rattle.std.proofs.Common.{◌≡◌, Some, ap, ◌∙◌}
 use Rattle.std.proofs.lemmas.Result.{on_ok_weaker}
-use Rattle.tv_model.specs.State.{Catalog, Readers, reader_at}
-use Rattle.tv_model.specs.ReaderEvents.{with_reloaded}
+use Rattle.tv_machine.specs.State.{Catalog, Readers, reader_at}
+use Rattle.tv_machine.specs.ReaderEvents.{with_reloaded}
 use Rattle.tv_store.proofs.catalog.Catalog.publish.Goals as goal
 
 pub returns : goal.returns

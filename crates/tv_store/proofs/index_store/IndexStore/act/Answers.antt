@@ -1,8 +1,8 @@
 use Rattle.std.proofs.Common.{◌≡◌, ◌∙◌, List, ℕ, Some, Err, sym, ap, subst}
 use Rattle.std.specs.Prelude.{option_map}
 use Rattle.std.proofs.lemmas.Result.{err_from_is_err_and}
-use Rattle.tv_model.specs.Machine.{catalog_step}
-use Rattle.tv_model.specs.State.{Catalog, StepResult}
+use Rattle.tv_machine.specs.Machine.{catalog_step}
+use Rattle.tv_machine.specs.State.{Catalog, StepResult}
 use Rattle.tv_directory.specs.View.{OnlyReads}
 use Rattle.tv_store.specs.Acting.{Acts}
 use Rattle.tv_store.specs.Applying.{AsksNoFile}

@@ -1,12 +1,12 @@
 use Rattle.std.proofs.Common.{◌≡◌, true, refl, inl}
 use Rattle.std.proofs.lemmas.Result.{on_ok_weaker}
 use Rattle.tv_managed.specs.Collecting.{meta_lock_name}
-use Rattle.tv_model.specs.Files.{Rose}
-use Rattle.tv_model.specs.declared.event.Event.{Event}
-use Rattle.tv_model.specs.declared.event.Event.TheVariants.{Gc, GcBegin, GcStep, Reader, Reload}
-use Rattle.tv_store.specs.Exhausted.{IsExhausted, SomePassesEnd, numbers_after}
+use Rattle.tv_formats.specs.Files.{Rose}
+use Rattle.tv_machine.specs.declared.event.Event.{Event}
+use Rattle.tv_machine.specs.declared.event.Event.TheVariants.{Gc, GcBegin, GcStep, Reader, Reload}
+use Rattle.tv_store.specs.Effects.{TakesMetaLock, numbers_after}
+use Rattle.tv_store.specs.Exhausted.{IsExhausted, SomePassesEnd}
 use Rattle.tv_store.specs.StoreCauses.{IsBusy}
-use Rattle.tv_store.specs.ReadCauses.{TakesMetaLock}
 use Rattle.tv_store.specs.Applying.{GoneAt, RefusedAt, UnloadedAt}
 use Rattle.tv_store.proofs.Spending.{only_numbers, spends_length, spends_none, spends_numbers}
 use Rattle.tv_store.proofs.Steps.{at_most, read_cause_in}

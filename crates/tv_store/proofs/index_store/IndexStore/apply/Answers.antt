@@ -3,8 +3,8 @@ use Rattle.std.specs.Prelude.{IsSome}
 use Rattle.std.proofs.lemmas.Result.{err_from_is_err_and}
 use Rattle.tv_base.specs.declared.error.TantivyError.TheVariants as errors
 use Rattle.tv_directory.specs.View.{OnlyReads}
-use Rattle.tv_model.specs.Files.{Rose}
-use Rattle.tv_model.specs.Machine.{catalog_step}
+use Rattle.tv_formats.specs.Files.{Rose}
+use Rattle.tv_machine.specs.Machine.{catalog_step}
 use Rattle.tv_store.specs.Acting.{Acts}
 use Rattle.tv_store.specs.Applying.{AsksNoFile}
 use Rattle.tv_store.proofs.Applied.{closed, frame_failed, frame_tried, grows_failed, faults_failed, grows_told, tells_untold, grows_untold, undisturbed, leaves_untold, step_told}

@@ -1,11 +1,11 @@
 use Rattle.std.proofs.Common.{◌≡◌, [], ◌∷◌, codes, sym, ap, subst, ◌∙◌}
 use Rattle.std.specs.List.{AllByRecursion}
 use Rattle.std.proofs.lemmas.Bool.{ne_eqb}
-use Rattle.tv_model.specs.Commits.{IsSegment}
-use Rattle.tv_model.specs.State.{Catalog}
-use Rattle.tv_model.specs.CommitEvents.{chosen, commit_step, first_unknown, last_stamp}
-use Rattle.tv_model.specs.Lines.{line}
-use Rattle.tv_store.specs.Committing.{commit_of, unknown_line}
+use Rattle.tv_formats.specs.Commits.{IsSegment}
+use Rattle.tv_machine.specs.State.{Catalog}
+use Rattle.tv_machine.specs.CommitEvents.{chosen, commit_step, first_unknown, last_stamp}
+use Rattle.tv_machine.specs.Lines.{line}
+use Rattle.tv_store.specs.Committing.{commit_sealed, unknown_line}
 use Rattle.tv_store.proofs.CommitEvents.{chosen_are_segments}
 use Rattle.tv_store.proofs.Committing.{commits_as, known_step, refuses, spent_step, unknown_step}
 use Rattle.tv_store.proofs.index_store.IndexStore.commit.Goals as goal
@@ -35,12 +35,12 @@ returns g c =
     let ids = c.args.ids.now in
     let segments = c.in_ok-segments.segments.entries in
     commits_as g.O.Directory (AllByRecursion IsSegment segments) c.args.self.now c.commit_chosen.new.self (Unit {0})
-    (λ s. commit_of s payload segments) (λ s. commit_step s payload ids) c.commit_chosen.result c.commit_chosen.ensures
+    (λ s. commit_sealed s payload segments) (λ s. commit_step s payload ids) c.commit_chosen.result c.commit_chosen.ensures
     (λ tells s held known.
     let is = ap (λ v. v.kept.catalog) c.self.view_is ∙ held.catalog in
     let are : segments ≡ chosen s.catalog ids = c.in_ok-segments.ensures ∙ ap (chosen c.self.inside.catalog) c.as_slice-2.ensures ∙ ap (λ (k : Catalog). chosen k ids) is in (
       subst (AllByRecursion IsSegment) (sym are) (chosen_are_segments s.catalog ids held.segments),
-      ap (commit_of s payload) are
+      ap (commit_sealed s payload) are
           ∙ sym (known_step s payload ids
           (ne_eqb s.catalog.next last_stamp (λ e. c.if-next_opstamp.false (c.next_opstamp.ensures ∙ ap (λ (k : Catalog). k.next) is ∙ e)))
           (ap (first_unknown s.catalog) (sym c.as_slice.ensures) ∙ ap (λ (k : Catalog). first_unknown k c.as_slice.result.now) (sym is) ∙ sym c.first_unknown.ensures ∙ c.in_default.is)),

@@ -1,12 +1,12 @@
 use Rattle.std.proofs.Common.{◌≡◌, ◌<◌, ◌∷◌, [], ℕ, Some, codes, sym, ap, subst, ◌∙◌}
 use Rattle.std.specs.Fmt.{decimal}
 use Rattle.hex.specs.Hex.{encode_lower}
-use Rattle.tv_model.specs.CommitEvents.{last_stamp}
-use Rattle.tv_model.specs.Lines.{line}
-use Rattle.tv_model.specs.DeleteEvents.{delete_name, having_deleted_docs}
-use Rattle.tv_model.specs.State.{Catalog, live_at}
+use Rattle.tv_machine.specs.CommitEvents.{last_stamp}
+use Rattle.tv_machine.specs.Lines.{line}
+use Rattle.tv_machine.specs.DeleteEvents.{delete_name, having_deleted_docs}
+use Rattle.tv_machine.specs.State.{Catalog, live_at}
 use Rattle.tv_store.specs.FileCalls.{LeavesFiles}
-use Rattle.tv_store.specs.Kept.{AtMost, Holds, Kept, kept_of}
+use Rattle.tv_store.specs.Kept.{AtMost, Holds, KeptState, kept_of}
 use Rattle.tv_store.proofs.Holding.{same_holds}
 use Rattle.tv_store.proofs.DeleteEvents.{deleted_holds}
 use Rattle.tv_store.proofs.AskedEvents.{wants, wants_first}
@@ -35,7 +35,7 @@ returns-clause-step g c live tells s held =
     let there : live_at s.catalog id ≡ Some segment = ap (λ (k : Catalog). live_at k id) (sym held.catalog) ∙ live in
     let now = subst (λ v. Holds (D.view v.outside).reads v.kept s) (sym c.self-2.view_is)
     (same_holds (D.view old.outside).reads (D.view mid.outside).reads old.kept mid.kept s (asked.below.content tells) asked.kept held) in
-    let same : inside.catalog ≡ old.kept.catalog = ap (λ v. v.kept.catalog) c.self-2.view_is ∙ ap (λ (k : Kept). k.catalog) asked.kept in
+    let same : inside.catalog ≡ old.kept.catalog = ap (λ v. v.kept.catalog) c.self-2.view_is ∙ ap (λ (k : KeptState). k.catalog) asked.kept in
     let next : inside.catalog.next < last_stamp = subst (λ (k : Catalog). k.next < last_stamp) (sym same) c.requires.next in
     let left : LeavesFiles (delete_name id segment.deletes ∷ []) inside.files new = subst (λ names. LeavesFiles names inside.files new) c.in_ok-names.ensures done.left in
     let holds = deleted_holds D inside.catalog inside.files new (ap (λ v. v.form) done.others) s id segment c.args.n now there c.requires.within next done.others left in

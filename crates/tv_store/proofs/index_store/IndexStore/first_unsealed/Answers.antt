@@ -1,7 +1,7 @@
 use Rattle.std.proofs.Common.{◌≡◌, ◌<◌, true, false, not, length, sym, ap, ◌∙◌, arith}
-use Rattle.tv_model.specs.State.{file_at}
-use Rattle.tv_model.specs.CommitEvents.{is_sealed}
-use Rattle.tv_model.specs.Index.{IsFileOf}
+use Rattle.tv_machine.specs.State.{file_at}
+use Rattle.tv_machine.specs.CommitEvents.{is_sealed}
+use Rattle.tv_machine.specs.Index.{IsFileOf}
 use Rattle.tv_store.proofs.Holding.{same_holds}
 use Rattle.tv_store.proofs.Asking.{asks_later}
 use Rattle.tv_store.proofs.CommitEvents.{find_further, find_here, all_at}

@@ -1,9 +1,9 @@
 use Rattle.std.proofs.Common.{◌≡◌, None, take}
 use Rattle.std.specs.Prelude.{not, find}
 use Rattle.std.specs.List.{AllByRecursion}
-use Rattle.tv_model.specs.State.{State, file_at}
-use Rattle.tv_model.specs.CommitEvents.{is_sealed}
-use Rattle.tv_model.specs.Index.{IsFileOf}
+use Rattle.tv_machine.specs.State.{State, file_at}
+use Rattle.tv_machine.specs.CommitEvents.{is_sealed}
+use Rattle.tv_machine.specs.Index.{IsFileOf}
 use Rattle.tv_store.specs.Kept.{Holds}
 use Rattle.tv_directory.specs.View.{OnlyReads}
 use Rattle.tv_store.specs.Stays.{Asks}

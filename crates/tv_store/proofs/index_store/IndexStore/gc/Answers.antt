@@ -1,12 +1,15 @@
-use Rattle.std.proofs.Common.{◌≡◌, [], ◌++◌, ℕ, List, map, length, sym, ap, subst, ◌∙◌, string_bytes}
-use Rattle.tv_model.specs.Names.{has}
-use Rattle.tv_model.specs.Collections.{collectable, done_of, held}
-use Rattle.tv_model.specs.Living.{living}
-use Rattle.tv_model.specs.State.{Catalog}
-use Rattle.tv_model.specs.CollectionEvents.{collected_line, garbage}
+use Rattle.std.proofs.Common.{rules, arith, ◌≡◌, ◌≤◌, ◌<◌, ◌+◌, [], ◌++◌, ℕ, List, map, length, codes, sym, ap, subst, ◌∙◌, string_bytes}
+use Rattle.std.proofs.lemmas.Grind.{common_steps}
+use Rattle.tv_formats.specs.Names.{has}
+use Rattle.tv_formats.specs.Collections.{collectable, done_of, failed_of, held}
+use Rattle.tv_machine.specs.Living.{living}
+use Rattle.tv_machine.specs.State.{Catalog}
+use Rattle.tv_machine.specs.CollectionEvents.{collected_line, garbage}
+use Rattle.tv_machine.specs.Lines.{line}
 use Rattle.tv_managed.specs.Collecting.{FailsAtMost}
-use Rattle.tv_store.specs.Kept.{Kept, Holds, AtMost}
+use Rattle.tv_store.specs.Kept.{KeptState, Holds, AtMost}
 use Rattle.tv_store.proofs.Holding.{same_holds}
+use Rattle.tv_store.proofs.AnswerRoom.{collected_len}
 use Rattle.tv_store.proofs.Changed.{none_done}
 use Rattle.tv_store.proofs.CollectionEvents.{collected, refusals_rose, takes_garbage}
 use Rattle.tv_store.proofs.index_store.IndexStore.gc.Goals as goal
@@ -17,13 +20,34 @@ returns-in_err-deleted-clause-lens g c bound h = c.collect.ensures.lens bound (s
 pub returns-in_err-answer-clause-lens : goal.returns-in_err-answer-clause-lens
 returns-in_err-answer-clause-lens g c bound h = c.collect.ensures.lens bound (subst (λ v. AtMost bound v.kept) (sym c.self-2.view_is) (subst (AtMost bound) (sym c.ready_for_all.ensures.asks.frame.kept) h))
 
-pub returns-in_err-answer-2-clause-lens : goal.returns-in_err-answer-2-clause-lens
-returns-in_err-answer-2-clause-lens g c bound h =
-    subst (AtMost bound) (sym c.ready.ensures.asks.frame.kept) (c.collect.ensures.lens bound (subst (λ v. AtMost bound v.kept) (sym c.self-2.view_is) (subst (AtMost bound) (sym c.ready_for_all.ensures.asks.frame.kept) h)))
-
 pub returns-clause-lens : goal.returns-clause-lens
-returns-clause-lens g c bound h =
-    subst (AtMost bound) (sym c.ready.ensures.asks.frame.kept) (c.collect.ensures.lens bound (subst (λ v. AtMost bound v.kept) (sym c.self-2.view_is) (subst (AtMost bound) (sym c.ready_for_all.ensures.asks.frame.kept) h)))
+returns-clause-lens g c bound h = c.collect.ensures.lens bound (subst (λ v. AtMost bound v.kept) (sym c.self-2.view_is) (subst (AtMost bound) (sym c.ready_for_all.ensures.asks.frame.kept) h))
+
+pub returns-clause-does : goal.returns-clause-does
+returns-clause-does g c =
+    let D = g.O.Directory in
+    let inside = c.self-2.inside.files in
+    let needed = map string_bytes c.in_ok-living.living.keys ++ held inside.collections in
+    let deleted = c.in_ok-deleted.field-0.deleted.items in
+    let failed = c.in_ok-deleted.field-0.failed.items in
+    let told = c.in_ok-deleted.ensures.collects.tried in
+    let names = collectable needed inside.managed in
+    let managed : inside.managed ≡ c.args.self.now.kept.managed = ap (λ v. v.kept.managed) c.self-2.view_is ∙ ap (λ (k : KeptState). k.managed) c.ready_for_all.ensures.asks.frame.kept in
+    let made : length (line (codes "managed") c.args.self.now.kept.managed) + 16 < (D.view c.ready_for_all.new.self.outside).room = c.in_ok-ready_for_all.ensures.room in
+    let same : (D.view inside.outside).room ≡ (D.view c.ready_for_all.new.self.outside).room = ap (λ v. (D.view v.outside).room) c.self-2.view_is in
+    let kept : (D.view inside.outside).room ≤ (D.view c.collect.new.self.outside).room = c.collect.ensures.frame.below.room in
+    let long : c.in_ok-answer.answer ≡ collected_line (done_of names told.outcomes) (failed_of names told.outcomes) = c.in_ok-answer.ensures ∙ ap (λ (ns : List (List ℕ)). collected_line ns c.as_slice-2.result.now) (c.as_slice.ensures.value ∙ told.deleted_is)
+    ∙ ap (λ (ns : List (List ℕ)). collected_line (done_of names told.outcomes) ns) (c.as_slice-2.ensures.value ∙ told.failed_is) in
+    let answer_len : length c.in_ok-answer.answer ≡ length (collected_line (done_of names told.outcomes) (failed_of names told.outcomes)) = ap (λ (l : List ℕ). length l) long in
+    let line_len : length (line (codes "managed") inside.managed) ≡ length (line (codes "managed") c.args.self.now.kept.managed) = ap (λ (ns : List (List ℕ)). length (line (codes "managed") ns)) managed in
+    let most = collected_len needed inside.managed told.outcomes in
+    record {
+      room = omega (arith, made, same, kept, answer_len, line_len, most);
+      faults = first_of (search rules, grind (arith, common_steps));
+      meta = first_of (search rules, grind (arith, common_steps));
+      dotted = first_of (search rules, grind (arith, common_steps));
+      frame = first_of (search rules, grind (arith, common_steps));
+    }
 
 pub returns-clause-step : goal.returns-clause-step
 returns-clause-step g c =
@@ -32,20 +56,17 @@ returns-clause-step g c =
     let mid = c.ready_for_all.new.self in
     let inside = c.self-2.inside in
     let new = c.collect.new.self in
-    let end = c.ready.new.self in
     let needed = map string_bytes c.in_ok-living.living.keys in
     let deleted = c.in_ok-deleted.field-0.deleted.items in
     let failed = c.in_ok-deleted.field-0.failed.items in
     let told = c.in_ok-deleted.ensures.collects in
     let asked = c.ready_for_all.ensures.asks.frame in
-    let made = c.ready.ensures.asks.frame in
     let first : (D.view inside.files.outside).refusals ≡ (D.view old.outside).refusals = ap (λ v. (D.view v.outside).refusals) c.self-2.view_is ∙ asked.below.kept.frame.tells_none.deletes_none.refusals in
-    let catalog : c.self.inside.catalog ≡ inside.catalog = ap (λ v. v.kept.catalog) c.self.view_is ∙ sym (ap (λ (k : Kept). k.catalog) asked.kept) ∙ sym (ap (λ v. v.kept.catalog) c.self-2.view_is) in
+    let catalog : c.self.inside.catalog ≡ inside.catalog = ap (λ v. v.kept.catalog) c.self.view_is ∙ sym (ap (λ (k : KeptState). k.catalog) asked.kept) ∙ sym (ap (λ v. v.kept.catalog) c.self-2.view_is) in
     record {
       outcomes = told.tried.outcomes;
-      refused = refusals_rose (collectable (needed ++ held inside.files.collections) inside.files.managed) inside.files.managed new.managed deleted failed D.told.content (D.view inside.files.outside).reads (D.view new.outside).reads told.tried (D.view old.outside).refusals (D.view end.outside).refusals
-          (subst (λ (n : ℕ). FailsAtMost (length failed) n (D.view end.outside).refusals) first
-          (subst (λ (n : ℕ). FailsAtMost (length failed) (D.view inside.files.outside).refusals n) (sym made.below.kept.frame.tells_none.deletes_none.refusals) told.counted));
+      refused = refusals_rose (collectable (needed ++ held inside.files.collections) inside.files.managed) inside.files.managed new.managed deleted failed D.told.content (D.view inside.files.outside).reads (D.view new.outside).reads told.tried (D.view old.outside).refusals (D.view new.outside).refusals
+          (subst (λ (n : ℕ). FailsAtMost (length failed) n (D.view new.outside).refusals) first told.counted);
       each = λ tells s held.
           let now = same_holds (D.view old.outside).reads (D.view mid.outside).reads old.kept mid.kept s (asked.below.content tells) asked.kept held in
           let here = subst (λ v. Holds (D.view v.outside).reads v.kept s) (sym c.self-2.view_is) now in
@@ -56,12 +77,12 @@ returns-clause-step g c =
           let step = collected D inside.catalog inside.files new form s needed deleted failed tells here needs told (c.in_ok-deleted.ensures.list tells) in
           record {
             step = record {
-              told = c.in_ok-answer-2.ensures.answer ∙ c.in_ok-answer.ensures ∙ ap (λ (ns : List (List ℕ)). collected_line ns c.as_slice-2.result.now) c.as_slice.ensures.value
+              told = c.in_ok-answer.ensures ∙ ap (λ (ns : List (List ℕ)). collected_line ns c.as_slice-2.result.now) c.as_slice.ensures.value
                   ∙ ap (λ (ns : List (List ℕ)). collected_line deleted ns) c.as_slice-2.ensures.value ∙ step.0;
-              held = same_holds (D.view new.outside).reads (D.view end.outside).reads _ end.kept _ (made.below.content tells) made.kept step.1;
+              held = step.1;
             };
             same = λ by_step stays n.
                 let none : deleted ≡ [] = done ∙ none_done s told.tried.outcomes stays in
-                made.below.content tells n ∙ told.same tells none n ∙ ap (λ v. (D.view v.outside).reads n) c.self-2.view_is ∙ asked.below.content tells n;
+                told.same tells none n ∙ ap (λ v. (D.view v.outside).reads n) c.self-2.view_is ∙ asked.below.content tells n;
           };
     }

@@ -1,12 +1,12 @@
 use Rattle.std.proofs.Common.{◌≡◌, ◌∷◌, ℕ, List, map, codes, sym, ap, subst, ◌∙◌, string_bytes}
 use Rattle.std.specs.Fmt.{decimal}
-use Rattle.tv_model.specs.CollectionEvents.{garbage}
-use Rattle.tv_model.specs.Collections.{Collections}
-use Rattle.tv_model.specs.Lines.{line}
-use Rattle.tv_model.specs.Living.{living}
-use Rattle.tv_model.specs.Names.{has}
-use Rattle.tv_model.specs.State.{Catalog}
-use Rattle.tv_store.specs.Kept.{Holds, Kept}
+use Rattle.tv_machine.specs.CollectionEvents.{garbage}
+use Rattle.tv_formats.specs.Collections.{Collections}
+use Rattle.tv_machine.specs.Lines.{line}
+use Rattle.tv_machine.specs.Living.{living}
+use Rattle.tv_formats.specs.Names.{has}
+use Rattle.tv_machine.specs.State.{Catalog}
+use Rattle.tv_store.specs.Kept.{Holds, KeptState}
 use Rattle.tv_store.proofs.CollectingEvents.{begun_holds, begun_told}
 use Rattle.tv_store.proofs.Holding.{same_holds}
 use Rattle.tv_store.proofs.index_store.IndexStore.gc_begin.Goals as goal
@@ -26,7 +26,7 @@ returns-clause-step g c tells s held =
     let form = ap (λ v. v.form) frame.rest in
     let asked = c.ready_for_all.ensures.asks.frame in
     let made = c.ready.ensures.asks.frame in
-    let catalog : c.self.inside.catalog ≡ inside.catalog = ap (λ v. v.kept.catalog) c.self.view_is ∙ sym (ap (λ (k : Kept). k.catalog) asked.kept) ∙ sym (ap (λ v. v.kept.catalog) c.self-2.view_is) in
+    let catalog : c.self.inside.catalog ≡ inside.catalog = ap (λ v. v.kept.catalog) c.self.view_is ∙ sym (ap (λ (k : KeptState). k.catalog) asked.kept) ∙ sym (ap (λ v. v.kept.catalog) c.self-2.view_is) in
     let now = subst (λ v. Holds (D.view v.outside).reads v.kept s) (sym c.self-2.view_is)
     (same_holds (D.view old.outside).reads (D.view mid.outside).reads old.kept mid.kept s (asked.below.content tells) asked.kept held) in
     let needs : (n : List ℕ) → has needed n ≡ has (living inside.catalog) n = λ n. c.in_ok-living.ensures n ∙ ap (λ (k : Catalog). has (living k) n) catalog in

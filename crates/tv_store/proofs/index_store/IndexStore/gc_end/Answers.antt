@@ -1,7 +1,7 @@
 use Rattle.std.proofs.Common.{◌≡◌, Some, refl, sym, ap, subst, ◌∙◌}
-use Rattle.tv_model.specs.CollectionEvents.{ended, gc_end_step}
-use Rattle.tv_model.specs.Collections.{collection_at}
-use Rattle.tv_model.specs.State.{State, StepResult}
+use Rattle.tv_machine.specs.CollectionEvents.{ended, gc_end_step}
+use Rattle.tv_formats.specs.Collections.{collection_at}
+use Rattle.tv_machine.specs.State.{State, StepResult}
 use Rattle.tv_store.specs.Kept.{Holds, kept_of}
 use Rattle.tv_store.proofs.CollectingEvents.{ended_holds, found_there}
 use Rattle.tv_store.proofs.Changed.{ended_now}

@@ -1,6 +1,6 @@
 use Rattle.std.proofs.Common.{◌≡◌, List, ℕ, true, take}
-use Rattle.tv_model.specs.Names.{has}
-use Rattle.tv_model.specs.State.{State}
+use Rattle.tv_formats.specs.Names.{has}
+use Rattle.tv_machine.specs.State.{State}
 use Rattle.tv_store.specs.Bodies.{AreBodies, AreSealed, ReadsGoodFile}
 use Rattle.tv_store.specs.Kept.{Holds}
 use Rattle.tv_directory.specs.View.{OnlyReads}

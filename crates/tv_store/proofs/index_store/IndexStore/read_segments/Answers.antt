@@ -1,9 +1,9 @@
 use Rattle.std.proofs.Common.{◌≡◌, ◌<◌, ℕ, List, [], ◌∷◌, ◌++◌, take, length, get_or, map, sym, ap, subst, ◌∙◌, arith, rules}
 use Rattle.std.proofs.lemmas.List.{get_or-map, length-map, map_push, take_all, take_more}
 use Rattle.tv_index.specs.Segments.{entry_of}
-use Rattle.tv_model.specs.Files.{Rose}
-use Rattle.tv_model.specs.Segments.{all_required, required_names}
-use Rattle.tv_model.specs.declared.segment.LiveSegment.{LiveSegment}
+use Rattle.tv_formats.specs.Files.{Rose}
+use Rattle.tv_formats.specs.Segments.{all_required, required_names}
+use Rattle.tv_formats.specs.declared.segment.LiveSegment.{LiveSegment}
 use Rattle.tv_store.proofs.Results.{handed_on}
 use Rattle.tv_store.specs.Bodies.{AreGood, AreSealed, FailsAt, ReadsSegment, ReadsSegments}
 use Rattle.tv_store.specs.declared.snapshot.SegmentReader.{SegmentReader}

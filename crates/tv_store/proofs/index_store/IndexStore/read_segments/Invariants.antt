@@ -1,6 +1,6 @@
 use Rattle.std.proofs.Common.{◌≡◌, take, map}
-use Rattle.tv_model.specs.State.{State}
-use Rattle.tv_model.specs.Segments.{all_required}
+use Rattle.tv_machine.specs.State.{State}
+use Rattle.tv_formats.specs.Segments.{all_required}
 use Rattle.tv_store.specs.Bodies.{AreGood, AreSealed, ReadsSegments}
 use Rattle.tv_store.specs.Kept.{Holds}
 use Rattle.tv_directory.specs.View.{OnlyReads}

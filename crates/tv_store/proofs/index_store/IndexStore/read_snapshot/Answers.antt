@@ -3,14 +3,14 @@ use Rattle.std.specs.Prelude.{option_map}
 use Rattle.tv_index.specs.Metas.{commit_of, settings_of}
 use Rattle.tv_index.specs.Segments.{entry_of}
 use Rattle.tv_index.specs.Standing.{MetaCause}
-use Rattle.tv_model.specs.Commits.{Commit}
-use Rattle.tv_model.specs.Files.{Rose}
-use Rattle.tv_model.specs.Meaning.{Means}
-use Rattle.tv_model.specs.Names.{has, meta_name}
-use Rattle.tv_model.specs.Readable.{AreGoodFiles}
-use Rattle.tv_model.specs.Segments.{all_required}
-use Rattle.tv_model.specs.State.{Snapshot}
-use Rattle.tv_model.specs.declared.segment.LiveSegment.{LiveSegment}
+use Rattle.tv_formats.specs.Commits.{Commit}
+use Rattle.tv_formats.specs.Files.{Rose}
+use Rattle.tv_formats.specs.Meaning.{Means}
+use Rattle.tv_formats.specs.Names.{has, meta_name}
+use Rattle.tv_machine.specs.Readable.{AreGoodFiles}
+use Rattle.tv_formats.specs.Segments.{all_required}
+use Rattle.tv_machine.specs.State.{Snapshot}
+use Rattle.tv_formats.specs.declared.segment.LiveSegment.{LiveSegment}
 use Rattle.tv_store.proofs.Results.{handed_on}
 use Rattle.tv_store.specs.Applying.{HoldsNone, LacksIn}
 use Rattle.tv_index.specs.declared.segment_meta.InnerSegmentMeta.{InnerSegmentMeta}

@@ -1,15 +1,16 @@
 use Rattle.std.proofs.Common.{◌≡◌, true, false, refl, sym, ap, subst, ◌∙◌, rules}
-use Rattle.tv_model.specs.Files.{Rose}
-use Rattle.tv_model.specs.declared.event.Event.{Event}
-use Rattle.tv_model.specs.declared.event.Event.TheVariants as events
+use Rattle.tv_formats.specs.Files.{Rose}
+use Rattle.tv_machine.specs.declared.event.Event.{Event}
+use Rattle.tv_machine.specs.declared.event.Event.TheVariants as events
 use Rattle.tv_store.proofs.Results.{handed_on}
 use Rattle.tv_managed.specs.Collecting.{meta_lock_name}
-use Rattle.tv_store.specs.Kept.{Kept}
-use Rattle.tv_store.specs.Exhausted.{SomePassesEnd, numbers_after}
+use Rattle.tv_store.specs.Kept.{KeptState}
+use Rattle.tv_store.specs.Effects.{LoadsCommit, TakesMetaLock, numbers_after}
+use Rattle.tv_store.specs.Exhausted.{SomePassesEnd}
 use Rattle.tv_store.specs.ReaderNumbers.{FewNumbers}
 use Rattle.tv_store.specs.Applying.{GoneAt, RefusedAt, UnloadedAt}
 use Rattle.tv_store.specs.StoreCauses.{IsBusy}
-use Rattle.tv_store.specs.ReadCauses.{IsReadError, LoadingCause, LoadsCommit, ReadsFiles, TakesMetaLock}
+use Rattle.tv_store.specs.ReadCauses.{IsReadError, LoadingCause}
 use Rattle.tv_store.proofs.ReaderEvents.{busy_before, few_with_new, later_fails}
 use Rattle.tv_store.proofs.Asking.{asks_later}
 use Rattle.tv_store.proofs.AskedReads.{no_answer, only_reads, wants_memory}
@@ -36,7 +37,7 @@ returns-in_err-shown-clause-faults g c =
           handed_on c.from_residual-in_err-shown.result c.in_err-shown.field-0.0
           (LoadingCause busy (Rose start end) (end ≡ start) (SomePassesEnd (numbers_after old.kept event)) (UnloadedAt D old c.snapshot.new.self event) (RefusedAt D old event) (λ path. GoneAt D old event))
           c.from_residual-in_err-shown.ensures.1
-          (later_fails tells (D.view old.outside).reads (D.view c.ready.new.self.outside).reads old.kept c.ready.new.self.kept event (λ s held. refl) (SomePassesEnd (numbers_after old.kept event)) _ busy (LoadsCommit old.kept.catalog event) (ReadsFiles old.kept.catalog event)
+          (later_fails tells (D.view old.outside).reads (D.view c.ready.new.self.outside).reads old.kept c.ready.new.self.kept event (λ s held. refl) (SomePassesEnd (numbers_after old.kept event)) _ busy (LoadsCommit old.kept.catalog event) (LoadsCommit old.kept.catalog event)
           start (D.view c.ready.new.self.outside).faults end c.in_err-shown.field-0.0 refl refl
           (λ b. (refl, busy_before _ _ _ _ _ (λ told. room.frame.below.kept.frame.locks told meta_lock_name) room.faults b)) room.frame.below.content room.frame.kept room.faults c.in_err-shown.ensures.faults.cause);
     }
@@ -44,7 +45,7 @@ returns-in_err-shown-clause-faults g c =
 pub returns-clause-numbers : goal.returns-clause-numbers
 returns-clause-numbers g c bound few =
     few_with_new bound c.self-2.inside.files.collections c.self-2.inside.catalog c.add_reader.new.self c.args.policy c.in_ok-shown.shown c.in_ok-add_reader.ensures
-    (subst (λ (k : Kept). FewNumbers bound k.catalog.reading k.collections) (sym (ap (λ v. v.kept) c.self-2.view_is ∙ c.in_ok-shown.ensures.frame.kept ∙ c.in_ok-answer-2.ensures.asks.frame.kept)) few)
+    (subst (λ (k : KeptState). FewNumbers bound k.catalog.reading k.collections) (sym (ap (λ v. v.kept) c.self-2.view_is ∙ c.in_ok-shown.ensures.frame.kept ∙ c.in_ok-answer-2.ensures.asks.frame.kept)) few)
 
 pub returns-then-number-clause-does : goal.returns-then-number-clause-does
 returns-then-number-clause-does g c = let store = c.args.self.now in only_reads g.O.Directory store store _ tt (asked_nothing g.O.Directory.told g.O.Directory.view store)

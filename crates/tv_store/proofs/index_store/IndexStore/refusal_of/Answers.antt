@@ -1,10 +1,10 @@
 use Rattle.std.proofs.Common.{◌≡◌, List, ℕ, not, sym, ap, subst, ◌∙◌}
 use Rattle.std.specs.Prelude.{IfOk, find, option_map}
 use Rattle.std.specs.List.{AllByRecursion}
-use Rattle.tv_model.specs.Segments.{all_required}
-use Rattle.tv_model.specs.State.{file_at}
-use Rattle.tv_model.specs.CommitEvents.{is_sealed}
-use Rattle.tv_model.specs.Index.{IsFileOf}
+use Rattle.tv_formats.specs.Segments.{all_required}
+use Rattle.tv_machine.specs.State.{file_at}
+use Rattle.tv_machine.specs.CommitEvents.{is_sealed}
+use Rattle.tv_machine.specs.Index.{IsFileOf}
 use Rattle.tv_store.specs.Committing.{unsealed_line}
 use Rattle.tv_store.proofs.CommitEvents.{all_required_are_files}
 use Rattle.tv_store.proofs.index_store.IndexStore.refusal_of.Goals as goal

@@ -1,6 +1,6 @@
 use Rattle.std.proofs.Common.{◌≡◌, Some, refl, sym, ap, subst, ◌∙◌}
-use Rattle.tv_model.specs.State.{Catalog, State, StepResult, live_at}
-use Rattle.tv_model.specs.CollectionEvents.{release_segment_step, released}
+use Rattle.tv_machine.specs.State.{Catalog, State, StepResult, live_at}
+use Rattle.tv_machine.specs.CollectionEvents.{release_segment_step, released}
 use Rattle.tv_store.specs.FileCalls.{LeavesFiles}
 use Rattle.tv_store.specs.Kept.{AtMost, Holds, kept_of}
 use Rattle.tv_store.proofs.Holding.{same_holds}

@@ -1,19 +1,20 @@
 use Rattle.std.proofs.Common.{◌≡◌, true, false, Some, is_some, sym, ap, subst, ◌∙◌, refl, rules, arith}
 use Rattle.std.specs.Prelude.{IsSome}
-use Rattle.tv_model.specs.Files.{Rose}
-use Rattle.tv_model.specs.declared.event.Event.{Event}
-use Rattle.tv_model.specs.declared.event.Event.TheVariants as events
-use Rattle.tv_model.specs.ReaderEvents.{bodies_in, snapshot_in, with_reloaded}
-use Rattle.tv_model.specs.State.{Catalog, Reader, State, StepResult, reader_at}
+use Rattle.tv_formats.specs.Files.{Rose}
+use Rattle.tv_machine.specs.declared.event.Event.{Event}
+use Rattle.tv_machine.specs.declared.event.Event.TheVariants as events
+use Rattle.tv_machine.specs.ReaderEvents.{bodies_in, snapshot_in, with_reloaded}
+use Rattle.tv_machine.specs.State.{Catalog, Reader, State, StepResult, reader_at}
 use Rattle.tv_store.proofs.Results.{handed_on}
 use Rattle.tv_managed.specs.Collecting.{meta_lock_name}
-use Rattle.tv_store.specs.Kept.{Holds, Kept, kept_of}
+use Rattle.tv_store.specs.Kept.{Holds, KeptState, kept_of}
 use Rattle.tv_store.proofs.Holding.{same_holds}
-use Rattle.tv_store.specs.Exhausted.{SomePassesEnd, numbers_after}
+use Rattle.tv_store.specs.Effects.{LoadsCommit, TakesMetaLock, numbers_after}
+use Rattle.tv_store.specs.Exhausted.{SomePassesEnd}
 use Rattle.tv_store.specs.ReaderNumbers.{FewNumbers}
 use Rattle.tv_store.specs.Applying.{GoneAt, RefusedAt, UnloadedAt}
 use Rattle.tv_store.specs.StoreCauses.{IsBusy}
-use Rattle.tv_store.specs.ReadCauses.{IsReadError, LoadingCause, LoadsCommit, ReadsFiles, TakesMetaLock}
+use Rattle.tv_store.specs.ReadCauses.{IsReadError, LoadingCause}
 use Rattle.tv_store.proofs.ReaderEvents.{busy_before, few_with_reloaded, later_fails, mapped, reload_good, reload_reads, reload_passes, reloaded_step, shown_holds}
 use Rattle.tv_store.proofs.Asking.{asks_later}
 use Rattle.tv_store.proofs.AskedReads.{no_answer, only_reads, wants_memory}
@@ -61,18 +62,18 @@ returns-in_err-shown-clause-faults g c =
           (LoadingCause busy (Rose start end) (end ≡ start) (SomePassesEnd (numbers_after old.kept event)) (UnloadedAt D old c.snapshot.new.self event) (RefusedAt D old event) (λ path. GoneAt D old event))
           c.from_residual-in_err-shown.ensures.1
           (later_fails tells (D.view old.outside).reads (D.view c.ready.new.self.outside).reads old.kept c.ready.new.self.kept event
-          (λ s held. reload_reads s c.args.number (subst (λ (k : Catalog). IsSome (reader_at k c.args.number)) held.catalog there)) (SomePassesEnd (numbers_after old.kept event)) _ busy (LoadsCommit old.kept.catalog event) (ReadsFiles old.kept.catalog event)
+          (λ s held. reload_reads s c.args.number (subst (λ (k : Catalog). IsSome (reader_at k c.args.number)) held.catalog there)) (SomePassesEnd (numbers_after old.kept event)) _ busy (LoadsCommit old.kept.catalog event) (LoadsCommit old.kept.catalog event)
           start (D.view c.ready.new.self.outside).faults end c.in_err-shown.field-0.0 (refl, there) (refl, there)
           (λ b. ((refl, there), busy_before _ _ _ _ _ (λ told. room.frame.below.kept.frame.locks told meta_lock_name) room.faults b)) room.frame.below.content room.frame.kept room.faults c.in_err-shown.ensures.faults.cause);
     }
 
 pub returns-clause-numbers : goal.returns-clause-numbers
 returns-clause-numbers g c bound few =
-    let same : c.self-2.inside.catalog ≡ c.args.self.now.kept.catalog = ap (λ v. v.kept.catalog) c.self-2.view_is ∙ ap (λ (k : Kept). k.catalog) (c.in_ok-shown.ensures.frame.kept ∙ c.in_ok-answer-2.ensures.asks.frame.kept) in
+    let same : c.self-2.inside.catalog ≡ c.args.self.now.kept.catalog = ap (λ v. v.kept.catalog) c.self-2.view_is ∙ ap (λ (k : KeptState). k.catalog) (c.in_ok-shown.ensures.frame.kept ∙ c.in_ok-answer-2.ensures.asks.frame.kept) in
     let found = mapped (λ (r : Reader). r.next) (reader_at c.self.inside.catalog c.args.number) c.in-Some.generation (sym c.in-Some.is ∙ c.next_generation.ensures) in
     let there : reader_at c.self-2.inside.catalog c.args.number ≡ Some found.0 = ap (λ (k : Catalog). reader_at k c.args.number) (same ∙ sym (ap (λ v. v.kept.catalog) c.self.view_is)) ∙ found.1 in
     few_with_reloaded bound c.self-2.inside.files.collections c.self-2.inside.catalog c.publish.new.self c.args.number found.0 c.in_ok-shown.shown there (c.in_ok-publish.ensures found.0 there)
-    (subst (λ (k : Kept). FewNumbers bound k.catalog.reading k.collections) (sym (ap (λ v. v.kept) c.self-2.view_is ∙ c.in_ok-shown.ensures.frame.kept ∙ c.in_ok-answer-2.ensures.asks.frame.kept)) few)
+    (subst (λ (k : KeptState). FewNumbers bound k.catalog.reading k.collections) (sym (ap (λ v. v.kept) c.self-2.view_is ∙ c.in_ok-shown.ensures.frame.kept ∙ c.in_ok-answer-2.ensures.asks.frame.kept)) few)
 
 pub returns-then-generation-clause-does : goal.returns-then-generation-clause-does
 returns-then-generation-clause-does g c = let store = c.args.self.now in only_reads g.O.Directory store store _ tt (asked_nothing g.O.Directory.told g.O.Directory.view store)
@@ -109,7 +110,7 @@ returns-clause-step g c tells s held whole =
     let ready = c.in_ok-answer-2.ensures.asks.frame in
     let asks = asks_later ready c.in_ok-shown.ensures.frame in
     let inside = c.self-2.inside in
-    let same : inside.catalog ≡ old.kept.catalog = ap (λ v. v.kept.catalog) c.self-2.view_is ∙ ap (λ (k : Kept). k.catalog) asks.kept in
+    let same : inside.catalog ≡ old.kept.catalog = ap (λ v. v.kept.catalog) c.self-2.view_is ∙ ap (λ (k : KeptState). k.catalog) asks.kept in
     let found = mapped (λ (r : Reader). r.next) (reader_at c.self.inside.catalog number) c.in-Some.generation (sym c.in-Some.is ∙ c.next_generation.ensures) in
     let here : reader_at inside.catalog number ≡ Some found.0 = ap (λ (k : Catalog). reader_at k number) (same ∙ sym (ap (λ v. v.kept.catalog) c.self.view_is)) ∙ found.1 in
     let there : reader_at s.catalog number ≡ Some found.0 = ap (λ (k : Catalog). reader_at k number) (sym (same ∙ held.catalog)) ∙ here in
@@ -129,7 +130,7 @@ returns-clause-step g c tells s held whole =
             subst (λ (t : StepResult State). Holds (D.view inside.files.outside).reads (kept_of c.publish.new.self inside.files) t.1) (sym step)
             (shown_holds (D.view old.outside).reads (D.view inside.files.outside).reads old.kept (kept_of c.publish.new.self inside.files) s readers
             (λ n. ap (λ v. (D.view v.outside).reads n) c.self-2.view_is ∙ asks.below.content tells n)
-            (ap (λ (k : Kept). record k { catalog = c.publish.new.self }) kept_is ∙ ap (λ (k : Catalog). record old.kept { catalog = k }) put)
+            (ap (λ (k : KeptState). record k { catalog = c.publish.new.self }) kept_is ∙ ap (λ (k : Catalog). record old.kept { catalog = k }) put)
             held);
       },
       reload_good s number read.1,

@@ -1,8 +1,8 @@
 use Rattle.std.proofs.Common.{rules, sym, ap, subst, ◌∙◌}
-use Rattle.tv_model.specs.Commits.{Commit}
-use Rattle.tv_model.specs.Lines.{opening_of}
-use Rattle.tv_model.specs.ReopenEvents.{reopened}
-use Rattle.tv_model.specs.State.{Catalog}
+use Rattle.tv_formats.specs.Commits.{Commit}
+use Rattle.tv_machine.specs.Lines.{opening_of}
+use Rattle.tv_machine.specs.ReopenEvents.{reopened}
+use Rattle.tv_machine.specs.State.{Catalog}
 use Rattle.tv_store.specs.Kept.{AtMost, Holds, kept_of}
 use Rattle.tv_store.proofs.Holding.{same_holds}
 use Rattle.tv_store.proofs.ReopenEvents.{reopened_holds}

@@ -1,5 +1,5 @@
 use Rattle.std.proofs.Common.{length, option_map, sym, ap, subst, ◌∙◌}
-use Rattle.tv_model.specs.State.{at}
+use Rattle.tv_formats.specs.Names.{at}
 use Rattle.tv_store.proofs.FileEvents.{live_found, inside_holds, asked_holds, sealed_file, sealed_anew, Short, short_closed}
 use Rattle.tv_store.proofs.Results.{on_ok}
 use Rattle.tv_store.proofs.AskedEvents.{only_asked, wants, wants_first}

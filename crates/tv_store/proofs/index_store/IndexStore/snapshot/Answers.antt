@@ -2,8 +2,8 @@ use Rattle.std.proofs.Common.{◌≡◌, ◌∙◌, ℕ, List, Option, ap, subst
 use Rattle.std.proofs.lemmas.Result.{IfErr-weaker, IfOk-weaker}
 use Rattle.tv_index.specs.Indexes.{MeansSuch}
 use Rattle.tv_managed.specs.Collecting.{meta_lock_name}
-use Rattle.tv_model.specs.Names.{meta_name}
-use Rattle.tv_store.specs.Kept.{Kept, kept_of}
+use Rattle.tv_formats.specs.Names.{meta_name}
+use Rattle.tv_store.specs.Kept.{KeptState, kept_of}
 use Rattle.tv_store.specs.ReadCauses.{IsReadError}
 use Rattle.tv_store.specs.SnapshotCalls.{ShowsMeta}
 use Rattle.tv_store.proofs.Asking.{kept_by_files}
@@ -15,20 +15,20 @@ returns-clause-meta g c =
     let D = g.O.Directory in
     let old = c.args.self.now in
     let took = c.in_ok-lock.ensures in
-    let later : Kept = kept_of c.self.inside.catalog c.acquire_lock.new.self in
+    let later : KeptState = kept_of c.self.inside.catalog c.acquire_lock.new.self in
     let kept_is : later ≡ old.kept = kept_by_files c.self.inside.catalog took.frame ∙ ap (λ v. v.kept) c.self.view_is in
     IfOk-weaker c.read_snapshot-shown.result _ (ShowsMeta D old)
     (λ shown means t.
     subst (λ (read : Option (List ℕ)). MeansSuch old.kept.form.schema read (λ commit. commit ≡ shown.commit))
     (took.frame.managed.below.content t meta_name ∙ ap (λ v. (D.view v.outside).reads meta_name) c.self.view_is)
-    (subst (λ (k : Kept). MeansSuch k.form.schema ((D.view c.acquire_lock.new.self.outside).reads meta_name) (λ commit. commit ≡ shown.commit)) kept_is (means t)))
+    (subst (λ (k : KeptState). MeansSuch k.form.schema ((D.view c.acquire_lock.new.self.outside).reads meta_name) (λ commit. commit ≡ shown.commit)) kept_is (means t)))
     c.read_snapshot-shown.ensures.meta
 
 pub returns-clause-faults : goal.returns-clause-faults
 returns-clause-faults g c =
     let D = g.O.Directory in
     let took = c.in_ok-lock.ensures in
-    let later : Kept = kept_of c.self.inside.catalog c.acquire_lock.new.self in
+    let later : KeptState = kept_of c.self.inside.catalog c.acquire_lock.new.self in
     let kept_is : later ≡ c.args.self.now.kept = kept_by_files c.self.inside.catalog took.frame ∙ ap (λ v. v.kept) c.self.view_is in
     let was_free : D.told.locks → (D.view c.args.self.now.outside).locks meta_lock_name ≡ false = search rules in
     record {

@@ -1,9 +1,9 @@
 use Rattle.std.proofs.Common.{◌≡◌, ℕ, List, map, string_bytes, sym, ap, subst, ◌∙◌}
 use Rattle.std.specs.List.{AllByRecursion}
 use Rattle.std.proofs.lemmas.Result.{IfOk-weaker}
-use Rattle.tv_model.specs.Index.{IsFileOf}
-use Rattle.tv_model.specs.ReportEvents.{committed_names, validated}
-use Rattle.tv_model.specs.State.{Catalog, State}
+use Rattle.tv_machine.specs.Index.{IsFileOf}
+use Rattle.tv_machine.specs.ReportEvents.{committed_names, validated}
+use Rattle.tv_machine.specs.State.{Catalog, State}
 use Rattle.tv_store.specs.Kept.{AtMost, Holds}
 use Rattle.tv_store.proofs.Holding.{same_holds}
 use Rattle.tv_store.proofs.ReportEvents.{committed_are_files, validated_same}

@@ -3,10 +3,10 @@ use Rattle.std.specs.Prelude.{find, is_none}
 use Rattle.std.proofs.lemmas.List.{take_all}
 use Rattle.std.proofs.lemmas.Result.{IfOk-weaker}
 use Rattle.tv_base.specs.declared.error.TantivyError.TheVariants as errors
-use Rattle.tv_model.specs.Index.{IsFileOf}
-use Rattle.tv_model.specs.Lines.{line}
-use Rattle.tv_model.specs.ReportEvents.{damaged_files, intact_at}
-use Rattle.tv_model.specs.State.{file_at}
+use Rattle.tv_machine.specs.Index.{IsFileOf}
+use Rattle.tv_machine.specs.Lines.{line}
+use Rattle.tv_machine.specs.ReportEvents.{damaged_files, intact_at}
+use Rattle.tv_machine.specs.State.{file_at}
 use Rattle.tv_store.proofs.Asking.{asks_later}
 use Rattle.tv_store.proofs.CommitEvents.{all_at, find_further, find_here}
 use Rattle.tv_store.proofs.Holding.{same_holds}

@@ -2,10 +2,10 @@ use Rattle.std.proofs.Common.{◌≡◌, None, codes, take}
 use Rattle.std.specs.Prelude.{find}
 use Rattle.std.specs.List.{AllByRecursion}
 use Rattle.tv_directory.specs.View.{OnlyReads}
-use Rattle.tv_model.specs.Index.{IsFileOf}
-use Rattle.tv_model.specs.Lines.{line}
-use Rattle.tv_model.specs.ReportEvents.{damaged_files}
-use Rattle.tv_model.specs.State.{State}
+use Rattle.tv_machine.specs.Index.{IsFileOf}
+use Rattle.tv_machine.specs.Lines.{line}
+use Rattle.tv_machine.specs.ReportEvents.{damaged_files}
+use Rattle.tv_machine.specs.State.{State}
 use Rattle.tv_store.specs.Kept.{Holds}
 use Rattle.tv_store.specs.Stays.{Asks}
 use Rattle.tv_store.proofs.ReportEvents.{unread}

@@ -2,9 +2,9 @@ use Rattle.std.proofs.Common.{◌≡◌, ℕ, ◌+◌, ◌≤◌, ◌<◌, List,
 use Rattle.std.specs.Fmt.{decimal}
 use Rattle.std.specs.Map.{remove_entry}
 use Rattle.std.specs.BTreeMap.{is_at, insert_entry}
-use Rattle.tv_model.specs.Names.{byte_cmp}
-use Rattle.tv_model.specs.Lines.{line}
-use Rattle.tv_model.specs.State.{at, live_at}
+use Rattle.tv_formats.specs.Names.{byte_cmp, at}
+use Rattle.tv_machine.specs.Lines.{line}
+use Rattle.tv_machine.specs.State.{live_at}
 use Rattle.tv_store.proofs.FileEvents.{live_found, inside_holds, asked_holds, written, written_anew, Short, short_same, short_closed, short_written, length_passes, sum_fits, sum_is, sum_is_small, sum_isnt, unknown_fits, wrote_some}
 use Rattle.tv_store.proofs.Results.{on_ok}
 use Rattle.tv_store.proofs.AskedEvents.{only_asked, wants, wants_first}

@@ -1,6 +1,6 @@
 use Rattle.std.proofs.Common.{ap, sym, ◌∙◌}
 use Rattle.std.proofs.lemmas.Result.{IfOk-weaker}
-use Rattle.tv_model.specs.State.{Catalog}
+use Rattle.tv_machine.specs.State.{Catalog}
 use Rattle.tv_store.proofs.laws.events.reopens_what_was_committed.Goals as goal
 
 pub returns-clause-live : goal.returns-clause-live

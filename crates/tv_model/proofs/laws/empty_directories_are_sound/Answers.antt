@@ -1,5 +1,0 @@
-use Rattle.tv_model.proofs.FirstLaws.{empty_sound}
-use Rattle.tv_model.proofs.laws.empty_directories_are_sound.Goals as goal
-
-pub returns : goal.returns
-returns c = record { sound = empty_sound }

@@ -1,5 +1,0 @@
-use Rattle.tv_model.proofs.ListTexts.{list_one, written_is_list}
-use Rattle.tv_model.proofs.laws.lists_tell_their_names.Goals as goal
-
-pub returns : goal.returns
-returns c = record { written = written_is_list; one = list_one }

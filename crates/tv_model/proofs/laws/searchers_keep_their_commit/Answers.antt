@@ -1,5 +1,0 @@
-use Rattle.tv_model.proofs.Serving.{serves, serves_as_sealed}
-use Rattle.tv_model.proofs.laws.searchers_keep_their_commit.Goals as goal
-
-pub returns : goal.returns
-returns c = record { serves = λ s turns opened. serves s turns opened.reading opened.next; as_sealed = serves_as_sealed }

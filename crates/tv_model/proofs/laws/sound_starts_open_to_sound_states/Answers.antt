@@ -1,8 +1,0 @@
-use Rattle.tv_model.proofs.OpenedStates.{opens_sound}
-use Rattle.tv_model.proofs.Reopenings.{opens_one, reopens}
-use Rattle.tv_model.proofs.SoundOpenings.{sound_opens}
-use Rattle.tv_model.proofs.SoundStates.{step_sound, sound_reads}
-use Rattle.tv_model.proofs.laws.sound_starts_open_to_sound_states.Goals as goal
-
-pub returns : goal.returns
-returns c = record { exists = sound_opens; opens = opens_sound; steps = step_sound; reads = sound_reads; reopens = reopens; one = opens_one }

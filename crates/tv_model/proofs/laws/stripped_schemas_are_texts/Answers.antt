@@ -1,5 +1,0 @@
-use Rattle.tv_model.proofs.StrippedTexts.{stripped_schema}
-use Rattle.tv_model.proofs.laws.stripped_schemas_are_texts.Goals as goal
-
-pub returns : goal.returns
-returns c = record { texts = λ bytes tree names u is form. stripped_schema bytes tree names u is form }

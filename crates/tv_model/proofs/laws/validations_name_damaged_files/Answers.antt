@@ -1,5 +1,0 @@
-use Rattle.tv_model.proofs.Validating.{validates}
-use Rattle.tv_model.proofs.laws.validations_name_damaged_files.Goals as goal
-
-pub returns : goal.returns
-returns c = record { validates = validates }

@@ -1,0 +1,65 @@
+use Rattle.std.proofs.Common.{refl, sym, ap, subst, ◌∙◌}
+use Rattle.tv_directory.specs.View.{Kept}
+use Rattle.tv_store.proofs.KeptFiles.{io_fails, kept_managed}
+use Rattle.tv_store.proofs.OpenFiles.{still_files, left_files, found_open, must_be_open, same_body_is, isnt_open, bodies_left, others_kept, sealed_is, AreFiles}
+use Rattle.tv_store.proofs.files.StoreFiles.seal.Goals as goal
+
+pub unreachable-requires : goal.unreachable-requires
+unreachable-requires g c = must_be_open (λ w. (g.O.Directory.state_of w).written) c.self.inside.files.entries c.args.self.now.open_files c.args.name.now c.remove.result (ap (λ v. v.open_files) c.self.view_is) c.remove.ensures.value c.in_default.is c.requires
+
+pub terminate-requires : goal.terminate-requires
+terminate-requires g c = (found_open g.O.Directory c.directory_mut.result.now.0 c.self.inside.files.entries c.args.name.now c.in-Some.file c.in-Some.ensures.value (subst (λ d. AreFiles g.O.Directory d c.self.inside.files.entries) (sym c.directory_mut.ensures.value) c.self.invariant).0).opened_is
+
+pub invariant_of-self : goal.invariant_of-self
+invariant_of-self g c = still_files g.O.Directory c.directory_mut.result.now c.terminate.new.self c.remove.new.self.entries c.terminate.ensures.frame.below.frame.tells_none.deletes_none (ap (λ n. n.collections) c.terminate.ensures.frame.names) (left_files g.O.Directory c.directory_mut.result.now c.self.inside.files.entries c.remove.new.self.entries _ c.remove.ensures.entries (subst (λ d. AreFiles g.O.Directory d c.self.inside.files.entries) (sym c.directory_mut.ensures.value) c.self.invariant))
+
+pub returns-in_err-terminate-clause-open_files : goal.returns-in_err-terminate-clause-open_files
+returns-in_err-terminate-clause-open_files g c = bodies_left (λ w. (g.O.Directory.state_of w).written) c.self.inside.files.entries c.remove.new.self.entries c.args.self.now.open_files _ c.remove.ensures.entries (ap (λ v. v.open_files) c.self.view_is)
+
+pub invariant_of-self-2 : goal.invariant_of-self-2
+invariant_of-self-2 g c = still_files g.O.Directory c.directory_mut.result.now c.terminate.new.self c.remove.new.self.entries c.terminate.ensures.frame.below.frame.tells_none.deletes_none (ap (λ n. n.collections) c.terminate.ensures.frame.names) (left_files g.O.Directory c.directory_mut.result.now c.self.inside.files.entries c.remove.new.self.entries _ c.remove.ensures.entries (subst (λ d. AreFiles g.O.Directory d c.self.inside.files.entries) (sym c.directory_mut.ensures.value) c.self.invariant))
+
+pub returns-clause-sealed : goal.returns-clause-sealed
+returns-clause-sealed g c tells body there =
+    let file = found_open g.O.Directory c.directory_mut.result.now.0 c.self.inside.files.entries c.args.name.now c.in-Some.file c.in-Some.ensures.value (subst (λ d. AreFiles g.O.Directory d c.self.inside.files.entries) (sym c.directory_mut.ensures.value) c.self.invariant).0 in
+    sealed_is (λ d. (g.O.Directory.view d).reads) c.directory_mut.result.now.0 c.args.self.now.outside c.terminate.new.self.0 (g.O.Directory.state_of c.in-Some.file.writer.writer).name c.args.name.now (g.O.Directory.state_of c.in-Some.file.writer.writer).written body
+    (ap (λ d. d.0) c.directory_mut.ensures.value ∙ ap (λ v. v.outside) c.self.view_is) file.name_is
+    (same_body_is (λ w. (g.O.Directory.state_of w).written) c.self.inside.files.entries c.args.self.now.open_files c.args.name.now c.in-Some.file body (ap (λ v. v.open_files) c.self.view_is) c.in-Some.ensures.value there)
+    (c.in_ok-terminate.ensures.seals.ok tells (file.lives_is tells) file.summed_is)
+
+pub returns-clause-open_files : goal.returns-clause-open_files
+returns-clause-open_files g c = bodies_left (λ w. (g.O.Directory.state_of w).written) c.self.inside.files.entries c.remove.new.self.entries c.args.self.now.open_files _ c.remove.ensures.entries (ap (λ v. v.open_files) c.self.view_is)
+
+pub returns-in_err-terminate-clause-closed : goal.returns-in_err-terminate-clause-closed
+returns-in_err-terminate-clause-closed g c = isnt_open (λ w. (g.O.Directory.state_of w).written) c.remove.new.self.entries _ c.args.name.now refl (sym c.remove.ensures.updates.1)
+
+pub returns-clause-closed : goal.returns-clause-closed
+returns-clause-closed g c = isnt_open (λ w. (g.O.Directory.state_of w).written) c.remove.new.self.entries _ c.args.name.now refl (sym c.remove.ensures.updates.1)
+
+pub returns-in_err-terminate-clause-others : goal.returns-in_err-terminate-clause-others
+returns-in_err-terminate-clause-others g c tells =
+    let file = found_open g.O.Directory c.directory_mut.result.now.0 c.self.inside.files.entries c.args.name.now c.in-Some.file c.in-Some.ensures.value (subst (λ d. AreFiles g.O.Directory d c.self.inside.files.entries) (sym c.directory_mut.ensures.value) c.self.invariant).0 in
+    others_kept (λ d. (g.O.Directory.view d).reads) c.directory_mut.result.now.0 c.args.self.now.outside c.terminate.new.self.0 (g.O.Directory.state_of c.in-Some.file.writer.writer).name c.args.name.now (ap (λ d. d.0) c.directory_mut.ensures.value ∙ ap (λ v. v.outside) c.self.view_is) file.name_is
+    (c.terminate.ensures.seals.others tells)
+
+pub returns-clause-others : goal.returns-clause-others
+returns-clause-others g c tells =
+    let file = found_open g.O.Directory c.directory_mut.result.now.0 c.self.inside.files.entries c.args.name.now c.in-Some.file c.in-Some.ensures.value (subst (λ d. AreFiles g.O.Directory d c.self.inside.files.entries) (sym c.directory_mut.ensures.value) c.self.invariant).0 in
+    others_kept (λ d. (g.O.Directory.view d).reads) c.directory_mut.result.now.0 c.args.self.now.outside c.terminate.new.self.0 (g.O.Directory.state_of c.in-Some.file.writer.writer).name c.args.name.now (ap (λ d. d.0) c.directory_mut.ensures.value ∙ ap (λ v. v.outside) c.self.view_is) file.name_is
+    (c.terminate.ensures.seals.others tells)
+
+pub returns-in_err-terminate-clause-rest : goal.returns-in_err-terminate-clause-rest
+returns-in_err-terminate-clause-rest g c =
+    let D = g.O.Directory in
+    record {
+      faults = io_fails D c.args.self.now.outside c.directory_mut.result.now.0 c.terminate.new.self.0 c.from_residual.result c.in_err-terminate.field-0.0 (ap (λ d. d.0) c.directory_mut.ensures.value ∙ ap (λ v. v.outside) c.self.view_is) c.from_residual.ensures.1 c.in_err-terminate.ensures.faults;
+      frame = kept_managed (Kept D.told) D.view _ _ _ _ c.directory_mut.result.now c.terminate.new.self _ c.directory_mut.ensures.value c.self.view_is _ c.terminate.ensures.frame;
+    }
+
+pub returns-clause-rest : goal.returns-clause-rest
+returns-clause-rest g c =
+    let D = g.O.Directory in
+    record {
+      faults = record { quiet = c.in_ok-terminate.ensures.faults.quiet ∙ ap (λ d. (D.view d.0).faults) c.directory_mut.ensures.value ∙ ap (λ v. (D.view v.outside).faults) c.self.view_is; fits = λ never. never; cause = tt };
+      frame = kept_managed (Kept D.told) D.view _ _ _ _ c.directory_mut.result.now c.terminate.new.self _ c.directory_mut.ensures.value c.self.view_is _ c.terminate.ensures.frame;
+    }
