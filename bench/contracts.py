@@ -72,7 +72,8 @@ def print_arguments(definitions):
 
 def cited_by(crate):
     """The modules and names that a crate's files take from others."""
-    for path in sorted([*crate.rglob("*.rt"), *crate.rglob("*.antt")]):
+    # What a build leaves is beside these folders.
+    for path in sorted(path for kind in ("src", "specs", "proofs") for path in (crate / kind).rglob("*.*t")):
         text = path.read_text(encoding="utf-8")
         for here, (module, name) in terms.imports_of(text).items():
             if name:
