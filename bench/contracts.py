@@ -71,15 +71,15 @@ def print_arguments(definitions):
 
 
 def cited_by(crate):
-    """The modules and names that a crate's files take from others."""
+    """What a crate's files take from others: its module, its name there, and the name by which it goes here."""
     # What a build leaves is beside these folders.
     for path in sorted(path for kind in ("src", "specs", "proofs") for path in (crate / kind).rglob("*.*t")):
         text = path.read_text(encoding="utf-8")
         for here, (module, name) in terms.imports_of(text).items():
             if name:
-                yield module, name
+                yield module, name, here
             else:
-                yield from ((module, it) for it in terms.taken_from(here, text))
+                yield from ((module, it, it) for it in terms.taken_from(here, text))
 
 
 def meanings_in(crate, own, known):
@@ -87,12 +87,12 @@ def meanings_in(crate, own, known):
     found, kit = collections.defaultdict(set), {}
     for item in own:
         found[item.name].add(at(item.path, item.line))
-    for module, name in cited_by(crate):
+    for module, name, here in cited_by(crate):
         if (module, name) in known:
             item = known[module, name]
-            found[name].add(at(item.path, item.line))
+            found[here].add(at(item.path, item.line))
         elif module.split(".")[2] == "specs" and not (TOP / "crates" / module.split(".")[1]).exists():
-            found[name].add("the kit's " + kit.setdefault(name, module))
+            found[here].add("the kit's " + kit.setdefault(here, module))
     return found
 
 

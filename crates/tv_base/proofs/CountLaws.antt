@@ -1,13 +1,10 @@
 -- One more share of each entry.
-use Rattle.std.proofs.Common.{◌≡◌, ℕ, ◌<◌, ◌||◌, Bool, true, false, List, [], ◌∷◌, All, map, refl, sym, ap, subst, ◌∙◌}
+use Rattle.std.proofs.Common.{◌≡◌, ℕ, ◌<◌, false, List, [], ◌∷◌, All, map, refl, sym, ap, subst, ◌∙◌}
 use Rattle.std.proofs.lemmas.List.Elements.{All-map}
 use Rattle.std.specs.List.{AllZip, list_any}
+use Rattle.std.proofs.lemmas.Bool.{or_parts}
 use Rattle.tv_base.specs.declared.inventory.Entry.{Entry}
 use Rattle.tv_base.specs.Entries.{InventoryState, MayCount, is_full, one_more}
-
-neither : (a b : Bool) → (a || b) ≡ false → (a ≡ false) × (b ≡ false)
-neither true b h = absurd cc
-neither false b h = (refl, h)
 
 -- where each can be counted
 pub all_counted : {T : Type 0} (es fs : List (Entry T)) → list_any is_full es ≡ false → AllZip MayCount es fs → fs ≡ map one_more es
@@ -15,7 +12,7 @@ all_counted [] [] none both = refl
 all_counted [] (f ∷ fs) none both = absurd both
 all_counted (e ∷ es) [] none both = absurd both
 all_counted {T} (e ∷ es) (f ∷ fs) none both =
-    let h = neither (is_full e) (list_any is_full es) none in
+    let h = or_parts (is_full e) (list_any is_full es) none in
     ap (λ (x : Entry T). x ∷ fs) (both.0 h.0) ∙ ap (λ (xs : List (Entry T)). one_more e ∷ xs) (all_counted es fs h.1 both.1)
 
 -- the same of an inventory whose entries these are

@@ -5,19 +5,21 @@ use Rattle.std.proofs.lemmas.List.Folds.{find_at}
 use Rattle.std.proofs.lemmas.Option.{slice_get_past}
 use Rattle.tv_base.specs.Places.{change_at, take_out, IsPlace, IsAbsent}
 
--- the elements before i fail, and i's passes
-pub place_of : {X : Type 0} (p : X → Bool) (xs : List X) (i : ℕ) (d : X) → i < length xs
-    → p (get_or xs i d) ≡ true → ((k : ℕ) → k < i → p (get_or xs k d) ≡ false) → IsPlace p xs i
-place_of p [] i d lt good before = grind (arith, lt)
-place_of p (x ∷ xs) zero d lt good before =
+-- the element at i passes, and those before it fail
+place_of : {X : Type 0} (p : X → Bool) (xs : List X) (i : ℕ) (d : X)
+    → (i < length xs) × (p (get_or xs i d) ≡ true) × ((k : ℕ) → k < i → p (get_or xs k d) ≡ false)
+    → IsPlace p xs i
+place_of p [] i d (lt, good, before) = grind (arith, lt)
+place_of p (x ∷ xs) zero d (lt, good, before) =
     record {
       inside = lt;
       found = λ e. rw good refl;
       written = λ f e is. rw good (ap (λ v. f v ∷ xs) is);
       removed = rw good refl;
     }
-place_of p (x ∷ xs) (suc i) d lt good before =
-    let r = place_of p xs i d (grind (arith, lt)) good (λ k less. before (suc k) (grind (arith, less))) in
+place_of p (x ∷ xs) (suc i) d (lt, good, before) =
+    let inside : i < length xs = grind (arith, lt) in
+    let r = place_of p xs i d (inside, good, λ k less. before (suc k) (grind (arith, less))) in
     let no = before zero (grind arith) in
     record {
       inside = lt;
@@ -27,10 +29,10 @@ place_of p (x ∷ xs) (suc i) d lt good before =
     }
 
 -- what `position` answers, as a place
-pub some_place : {X : Type 0} (p : X → Bool) (xs : List X) (i : ℕ) → position p xs ≡ Some i → IsPlace p xs i
+pub some_place : {X : Type 0} (p : X → Bool) (xs : List X) (i : ℕ) → position p xs ≡ Some i
+    → IsPlace p xs i
 some_place p [] i is = grind (arith, is)
-some_place p (x ∷ xs) i is =
-    let at = position-Some p (x ∷ xs) i x is in place_of p (x ∷ xs) i x at.0 at.1 at.2
+some_place p (x ∷ xs) i is = place_of p (x ∷ xs) i x (position-Some p (x ∷ xs) i x is)
 
 -- A look-up that finds nothing was past the end.
 pub past_end : (a n : ℕ) → cond (nat_lt a n) (Some a) None ≡ None → n ≤ a
@@ -45,27 +47,24 @@ pub passed : {X : Type 0} (p : X → Bool) (x : X) (xs : List X) → p x ≡ fal
     → find p (x ∷ xs) ≡ None → find p xs ≡ None
 passed p x xs is none = cc
 
--- A change of what isn't there changes nothing, first one by first one.
-pub by_test : {X : Type 0} (p : X → Bool) (f : X → X) (x : X) (xs : List X) (b : Bool) → p x ≡ b
-    → find p (x ∷ xs) ≡ None → (find p xs ≡ None → change_at p f xs ≡ xs) → change_at p f (x ∷ xs) ≡ x ∷ xs
-by_test p f x xs true is none rest = cc
-by_test p f x xs false is none rest = rw is (ap (λ ys. x ∷ ys) (rest (passed p x xs is none)))
-
 -- a change of what isn't there
-pub stays : {X : Type 0} (p : X → Bool) (f : X → X) (xs : List X) → find p xs ≡ None → change_at p f xs ≡ xs
+pub stays : {X : Type 0} (p : X → Bool) (f : X → X) (xs : List X) → find p xs ≡ None
+    → change_at p f xs ≡ xs
 stays p f [] is = refl
-stays p f (x ∷ xs) is = by_test p f x xs (p x) refl is (λ none. stays p f xs none)
-
--- A removal of what isn't there takes nothing out, first one by first one.
-pub kept_by_test : {X : Type 0} (p : X → Bool) (x : X) (xs : List X) (b : Bool) → p x ≡ b
-    → find p (x ∷ xs) ≡ None → (find p xs ≡ None → take_out p xs ≡ xs) → take_out p (x ∷ xs) ≡ x ∷ xs
-kept_by_test p x xs true is none rest = cc
-kept_by_test p x xs false is none rest = rw is (ap (λ ys. x ∷ ys) (rest (passed p x xs is none)))
+stays p f (x ∷ xs) is = by (p x) refl (stays p f xs) where
+  by : (b : Bool) → p x ≡ b → (find p xs ≡ None → change_at p f xs ≡ xs)
+      → change_at p f (x ∷ xs) ≡ x ∷ xs
+  by true passes rest = cc
+  by false fails rest = rw fails (ap (λ ys. x ∷ ys) (rest (passed p x xs fails is)))
 
 -- a removal of what isn't there
 pub keeps : {X : Type 0} (p : X → Bool) (xs : List X) → find p xs ≡ None → take_out p xs ≡ xs
 keeps p [] is = refl
-keeps p (x ∷ xs) is = kept_by_test p x xs (p x) refl is (λ none. keeps p xs none)
+keeps p (x ∷ xs) is = by (p x) refl (keeps p xs) where
+  by : (b : Bool) → p x ≡ b → (find p xs ≡ None → take_out p xs ≡ xs)
+      → take_out p (x ∷ xs) ≡ x ∷ xs
+  by true passes rest = cc
+  by false fails rest = rw fails (ap (λ ys. x ∷ ys) (rest (passed p x xs fails is)))
 
 -- What a search for a place tells: nothing passes the test, or the first that does stands there.
 pub answered : {X : Type 0} (p : X → Bool) (xs : List X) (o : Option ℕ) → position p xs ≡ o

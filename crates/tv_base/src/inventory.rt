@@ -138,7 +138,8 @@ impl<T: Drop> Inventory<T> {
     /// The value of a ticket.
     pub fn get(&self, t: &Ticket) -> &T
         requires here { IsSome (find (is_numbered t.now) self.now.entries) }
-        ensures value { IfSome (find (is_numbered t.now) self.now.entries) (λ e. result.now ≡ e.value) }
+        ensures value { IfSome (find (is_numbered t.now) self.now.entries)
+            (λ e. result.now ≡ e.value) }
     {
         let number = t.number;
         let Some(i) = place_of(&self.entries, number) else {

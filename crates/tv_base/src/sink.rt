@@ -44,7 +44,10 @@ impl Model for VecSink {
 
     ghost view = { λ s. record { taken = s.taken.items; room = s.room; faults = s.faults } };
 
-    ghost invariant = { λ s. record { within : vec_len s.taken ≤ s.room; capacity : s.room ≤ vec_capacity s.taken } };
+    ghost invariant = { λ s. record {
+      within : vec_len s.taken ≤ s.room;
+      capacity : s.room ≤ vec_capacity s.taken;
+    } };
 }
 
 impl VecSink {

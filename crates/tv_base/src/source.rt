@@ -42,7 +42,12 @@ impl Model for TextSource {
 
     ghost Value = { TextState };
 
-    ghost view = { λ s. record { left = drop s.at s.bytes.items; fail_at = s.fail_at.items; call = s.call; faults = s.faults } };
+    ghost view = { λ s. record {
+      left = drop s.at s.bytes.items;
+      fail_at = s.fail_at.items;
+      call = s.call;
+      faults = s.faults;
+    } };
 
     ghost invariant = { λ s. s.at ≤ length s.bytes.items };
 }

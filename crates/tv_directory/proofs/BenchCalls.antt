@@ -1,10 +1,10 @@
 -- How the calls of a directory in memory end: where memory is wanted, where the device refuses
 -- them, and where they are done.
-use Rattle.std.proofs.Common.{◌≡◌, ◌<◌, ◌≤◌, ◌∙◌, ℕ, true, false, List, Option, None, Some, Result}
+use Rattle.std.proofs.Common.{◌≡◌, ◌<◌, ◌≤◌, ℕ, true, false, List, None, Result}
 use Rattle.std.proofs.Common.{Ok, Err, IsSome, refl, sym, ap, subst, inl, inr, arith, ⊎_elim}
-use Rattle.std.proofs.Common.{Bool, length, true≢false}
+use Rattle.std.proofs.Common.{Bool, length}
 use Rattle.std.proofs.lemmas.Bool.{cases_lt}
-use Rattle.std.specs.Prelude.{IsErrAnd, is_some, option_map}
+use Rattle.std.specs.Prelude.{IsErrAnd}
 use Rattle.tv_base.specs.Causes.{DeleteCause, IoCause, IsDevice, OpenWriteCause}
 use Rattle.tv_base.specs.declared.io.IoError.{IoError}
 use Rattle.tv_base.specs.declared.io.IoError.TheVariants as io
@@ -14,17 +14,15 @@ use Rattle.tv_base.specs.declared.open_errors.DeleteError.TheVariants as delete
 use Rattle.tv_base.specs.declared.open_errors.OpenWriteError.{OpenWriteError}
 use Rattle.tv_base.specs.declared.open_errors.OpenWriteError.TheVariants as write
 use Rattle.tv_formats.specs.Disk.{Absent, Disk, DiskState, IsThere}
-use Rattle.tv_formats.specs.Files.{MaySet, Rose, Same}
-use Rattle.tv_formats.specs.Names.{at}
+use Rattle.tv_formats.specs.Files.{Rose}
 use Rattle.tv_directory.specs.Bench.{Numbered, WritesOut, disk_in, of_io, view_in}
 use Rattle.tv_directory.specs.Calls.{IoFaults, Notes}
 use Rattle.tv_directory.specs.Device.{DeviceState, Faulted, IsSilent, after_call, after_refusal}
 use Rattle.tv_base.specs.Texts.{counted, last}
 use Rattle.tv_directory.specs.Images.{DeletesState, GivesState, KeepsDisk, KeepsStates, MayOpen, OpensState}
-use Rattle.tv_directory.specs.Ram.{KeepsWriters, ram_lives, ram_reads, ram_state, ram_watched}
+use Rattle.tv_directory.specs.Ram.{KeepsWriters, ram_lives, ram_watched}
 use Rattle.tv_directory.specs.Record.{RecordedRefused}
-use Rattle.tv_directory.specs.StoredFiles.{bytes_of, is_number, reads_of, states_of}
-use Rattle.tv_directory.specs.View.{tells_all}
+use Rattle.tv_directory.specs.StoredFiles.{reads_of, states_of}
 use Rattle.tv_directory.specs.declared.bench.Bench.{Bench}
 use Rattle.tv_directory.specs.declared.files.StoredFile.{StoredFile}
 use Rattle.tv_directory.specs.declared.ram_directory.RamDirectory.{RamDirectory}

@@ -17,6 +17,7 @@ use Rattle.tv_formats.specs.Disk as disk
 use Rattle.tv_formats.specs.Files.{Reads, Same, Sets}
 use Rattle.tv_formats.specs.Names.{byte_cmp, has, is, at}
 use Rattle.tv_formats.proofs.Entries.{at_itself, is_by_order, is_itself, is_text}
+use Rattle.tv_formats.proofs.CollectedNames.{or_moved}
 use Rattle.tv_directory.specs.declared.bench.Bench.{Bench}
 use Rattle.tv_directory.specs.declared.bench_record.Call.{Call}
 use Rattle.tv_directory.specs.declared.bench_record.Call.TheVariants.{Replaced, Refused, Told, Synced}
@@ -100,17 +101,11 @@ found_first : (b : Bool) (file : StoredFile) (rest : Option StoredFile) → is_s
 found_first true file rest = refl
 found_first false file rest = refl
 
-in_turn : (a b x : Bool) → ((a || b) || x) ≡ (b || (a || x))
-in_turn true true x = refl
-in_turn true false x = refl
-in_turn false true x = refl
-in_turn false false x = refl
-
 -- the names that were added, and those of the files that are still to come
 pub names_one : (new old : List (List ℕ)) (name : List ℕ) (file : StoredFile) (rest others : List (List ℕ × StoredFile)) (n : List ℕ) {there : Bool} → has new n ≡ (is name n || has old n) → rest ≡ (name, file) ∷ others → (has old n || is_there rest n) ≡ there → (has new n || is_there others n) ≡ there
 names_one new old name file rest others n added first so_far =
     let there_first : is_there rest n ≡ (is name n || is_there others n) = ap (λ (l : List (List ℕ × StoredFile)). is_there l n) first ∙ found_first (is_at (byte_cmp n) name) file (at others n) ∙ ap (λ (b : Bool). b || is_there others n) (sym (is_by_order n name)) in
-    ap (λ (b : Bool). b || is_there others n) added ∙ in_turn (is name n) (has old n) (is_there others n) ∙ ap (λ (b : Bool). has old n || b) (sym there_first) ∙ so_far
+    ap (λ (b : Bool). b || is_there others n) added ∙ or_moved (is name n) (has old n) (is_there others n) ∙ ap (λ (b : Bool). has old n || b) (sym there_first) ∙ so_far
 
 -- A crash leaves the first of some names as they are chosen, and the others aren't there yet.
 pub record LeavesFirst {C : Type 0} (bench : Bench C) (moment : ℕ) (choice choices : List ℕ) (all rest : List (List ℕ)) (image : Reads) : Type 0 where

@@ -1,5 +1,5 @@
 -- The device of a directory in memory.
-use Rattle.std.specs.Prelude.{ℕ, ◌≡◌, ◌≤◌, ◌+◌, ◌==◌, ◌&&◌, Bool, true, false, nat_lt, List, [], string_bytes}
+use Rattle.std.specs.Prelude.{ℕ, ◌≡◌, ◌≤◌, ◌==◌, ◌&&◌, Bool, true, false, nat_lt, List, [], string_bytes}
 use Rattle.std.specs.List.{list_any}
 use Rattle.tv_base.specs.declared.io.IoFault.{IoFault}
 use Rattle.tv_base.specs.Causes.{IsDevice}

@@ -13,6 +13,7 @@ pub mod DirWriters
 pub mod Bench
 pub mod Desk
 pub mod Images
+pub mod TouchLaws
 pub mod Record
 pub mod RecordLaws
 pub mod Crashes

@@ -33,7 +33,8 @@ impl<C: WatchCall> Bench<C> {
             × LeavesBy self.now moment choice.now image
             × IsNewBench image (⟦<Bench<C> as Directory>⟧.view left)
             × IsAtRest image (disk_in left)) }
-        ensures image { IfOk result (λ left. MayLeave (⟦<Bench<C> as Directory>⟧.disk self.now) moment
+        ensures image { IfOk result (λ left.
+            MayLeave (⟦<Bench<C> as Directory>⟧.disk self.now) moment
             (⟦<Bench<C> as Directory>⟧.view left).reads) }
         ensures sound { IfOk result (λ left. IsSoundWhere
             (⟦<Bench<C> as Directory>⟧.view left).reads (disk_in left)
@@ -117,7 +118,8 @@ impl<C: WatchCall> Bench<C> {
 // What a crash leaves that chooses this number among these states.
 fn left_of(states: &[Option<Content>], number: u32) -> Result<Option<OwnedBytes>, Memory>
     requires { 0 < length states.now }
-    ensures { IfOk result (λ left. left ≡ left_of (numbered (map disk_state_of states.now) number)) }
+    ensures { IfOk result (λ left.
+        left ≡ left_of (numbered (map disk_state_of states.now) number)) }
 {
     match &states[number as usize % states.len()] {
         None => Ok(None),

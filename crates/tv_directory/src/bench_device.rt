@@ -26,7 +26,12 @@ impl Model for Device {
 
     ghost Value = { DeviceState };
 
-    ghost view = { λ a. record { fail_at = a.fail_at.items; call = a.call; faults = a.faults; refusals = a.refusals } };
+    ghost view = { λ a. record {
+      fail_at = a.fail_at.items;
+      call = a.call;
+      faults = a.faults;
+      refusals = a.refusals;
+    } };
 
     ghost invariant = { λ a. a.refusals ≤ last };
 }

@@ -130,9 +130,13 @@ impl Model for Record {
 
     ghost Value = { RecordState };
 
-    ghost view = { λ a. record { calls = a.calls.items; free = vec_capacity a.calls - vec_len a.calls } };
+    ghost view = { λ a. record {
+      calls = a.calls.items;
+      free = vec_capacity a.calls - vec_len a.calls;
+    } };
 
-    ghost invariant = { λ a. (a.settled ≡ is_settled a.calls.items) × (a.settled ≡ false → vec_len a.calls < vec_capacity a.calls) };
+    ghost invariant = { λ a. (a.settled ≡ is_settled a.calls.items)
+        × (a.settled ≡ false → vec_len a.calls < vec_capacity a.calls) };
 }
 
 impl Record {

@@ -24,7 +24,10 @@ impl Model for Told {
 
     ghost Value = { Heard × ℕ };
 
-    ghost view = { λ a. (cut a.pieces.items a.text.items, room_of (vec_len a.pieces) (vec_capacity a.pieces) (vec_capacity a.text - vec_len a.text)) };
+    ghost view = { λ a. (
+      cut a.pieces.items a.text.items,
+      room_of (vec_len a.pieces) (vec_capacity a.pieces) (vec_capacity a.text - vec_len a.text),
+    ) };
 
     ghost invariant = { λ a. cut_length a.pieces.items ≡ length a.text.items };
 }

@@ -33,7 +33,11 @@ impl<D: Directory + Drop, S: Sink + Drop> Model for Desk<D, S> {
 
     ghost Value = { DeskState D S };
 
-    ghost view = { λ a. record { directory = a.directory; sink = a.sink; room = vec_capacity a.line } };
+    ghost view = { λ a. record {
+      directory = a.directory;
+      sink = a.sink;
+      room = vec_capacity a.line;
+    } };
 
     ghost invariant = { λ a. vec_len a.line ≡ 0 };
 }

@@ -153,7 +153,8 @@ impl Files {
 
     /// The content of the name's file. Its bytes aren't copied.
     pub fn content(&self, name: &FileName) -> Result<Option<Content>, Memory>
-        ensures { IfOk result (λ found. disk_state_of found ≡ states_of self.now.map.entries name.now) }
+        ensures { IfOk result (λ found.
+            disk_state_of found ≡ states_of self.now.map.entries name.now) }
     {
         match self.map.get(name) {
             Some(file) => Ok(Some(file.content.share()?)),

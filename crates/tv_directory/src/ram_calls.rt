@@ -154,8 +154,8 @@ impl<C: WatchCall> Directory for RamDirectory<C> {
         ensures state { writer.new ≡ writer.old }
         ensures faults { IoFaults (ram_view C.calls self.old) (ram_view C.calls self.new) result }
         ensures frame { Kept tells_all (ram_view C.calls self.old) (ram_view C.calls self.new) }
-        ensures states { ram_lives self.old writer.old ≡ true
-            → PutsState (ram_states self.old) (ram_states self.new) writer.old.name Unsealed result }
+        ensures states { ram_lives self.old writer.old ≡ true → PutsState (ram_states self.old)
+            (ram_states self.new) writer.old.name Unsealed result }
         ensures others { KeepsWriters writer.old self.old self.new }
     {
         if !self.files.is_made(&writer.name, writer.number) {

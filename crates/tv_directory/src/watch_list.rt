@@ -47,8 +47,8 @@ impl<C> Watchers<C> {
 
     /// A notice stands from now on.
     pub fn note(&mut self)
-        ensures noted { (calls : C → ℕ)
-            → watch_state_of calls self.new ≡ record (watch_state_of calls self.old) { notice = true } }
+        ensures noted { (calls : C → ℕ) → watch_state_of calls self.new
+            ≡ record (watch_state_of calls self.old) { notice = true } }
         ensures others { self.new ≡ record self.old { notice = true } }
     {
         self.notice = true;
@@ -62,7 +62,8 @@ impl<C: WatchCall> Watchers<C> {
             × (find (has_number n) (watch_state_of C.calls self.old).registered ≡ None)
             × (watch_state_of C.calls self.new
             ≡ subscribed n (C.calls callback) (watch_state_of C.calls self.old))) }
-        ensures err { OnErr result (watch_state_of C.calls self.new ≡ watch_state_of C.calls self.old) }
+        ensures err { OnErr result
+            (watch_state_of C.calls self.new ≡ watch_state_of C.calls self.old) }
         ensures kept { OnErr result (self.new ≡ self.old) }
     {
         let ticket = self.list.track(Watcher { callback })?;
@@ -83,7 +84,8 @@ impl<C: WatchCall> Watchers<C> {
     /// no memory.
     pub fn deliver(&mut self) -> bool
         ensures answer { result ≡ (watch_state_of C.calls self.old).notice }
-        ensures delivered { watch_state_of C.calls self.new ≡ delivered (watch_state_of C.calls self.old) }
+        ensures delivered { watch_state_of C.calls self.new
+            ≡ delivered (watch_state_of C.calls self.old) }
     {
         if !self.notice {
             return false;
@@ -178,7 +180,8 @@ impl<C: WatchCall> CallbackList<C> {
     pub fn broadcast(&mut self) -> FutureResult<()>
         ensures called { map (seen C.calls) self.new ≡ map called_once
             (map (seen C.calls) self.old) }
-        ensures gone { (n : ℕ) → find (is_numbered n) self.old ≡ None → find (is_numbered n) self.new ≡ None }
+        ensures gone { (n : ℕ) → find (is_numbered n) self.old ≡ None
+            → find (is_numbered n) self.new ≡ None }
         ensures finished { result.finished ≡ Some (Ok tt) }
         ensures unanswered { result.answered ≡ false }
     {

@@ -1,11 +1,11 @@
 -- What a collection takes and spares, as lists of names.
-use Rattle.std.proofs.Common.{◌≡◌, ℕ, Bool, true, false, true≢false, not, ◌&&◌, ◌||◌, cond, List, [], ◌∷◌, ◌++◌, map, filter, Option, None, sym, ap, arith}
+use Rattle.std.proofs.Common.{◌≡◌, ℕ, Bool, true, false, true≢false, not, ◌&&◌, ◌||◌, cond, List, [], ◌∷◌, ◌++◌, map, filter, Option, None, sym, ap, arith, ◌∙◌, refl}
 use Rattle.std.specs.List.{flat_map}
 use Rattle.std.specs.BTreeMap.{is_at}
 use Rattle.std.proofs.lemmas.List.Folds.{list_any-append}
 use Rattle.std.proofs.lemmas.Map.Entries.{lookup-filter-keys}
 use Rattle.std.proofs.lemmas.Map.Views.{any-filter_same}
-use Rattle.std.proofs.lemmas.Bool.{or_right}
+use Rattle.std.proofs.lemmas.Bool.{or_right, or_left}
 use Rattle.tv_formats.specs.declared.segment.DeleteMeta.{DeleteMeta}
 use Rattle.tv_formats.specs.declared.segment.LiveSegment.{LiveSegment}
 use Rattle.tv_formats.specs.declared.segment.SegmentComponent.TheVariants.{Postings, Positions, FastFields, FieldNorms, Terms, Store, Delete}
@@ -35,6 +35,16 @@ done_within (name ∷ names) (false ∷ outcomes) n h = or_right (is name n) _ (
 
 pub has_append : (names others : List (List ℕ)) (n : List ℕ) → has (names ++ others) n ≡ (has names n || has others n)
 has_append names others n = list_any-append (λ m. is m n) names others
+
+-- what is among some names is among them and others
+pub has_front : (names others : List (List ℕ)) (n : List ℕ) → has names n ≡ true → has (names ++ others) n ≡ true
+has_front names others n h = has_append names others n ∙ or_left (has names n) (has others n) h
+
+-- the order of two tests before a third doesn't count
+pub or_moved : (a b c : Bool) → ((a || b) || c) ≡ (b || (a || c))
+or_moved true true c = refl
+or_moved true false c = refl
+or_moved false b c = refl
 
 -- the required files are among those of their segment
 required_among : (id : List ℕ) (deletes : Option DeleteMeta) (b : Bool) (n : List ℕ)

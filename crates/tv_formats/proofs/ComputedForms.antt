@@ -3,6 +3,7 @@ use Rattle.std.proofs.Common.{◌≡◌, ℕ, List, [], refl, codes, ◌∷◌, 
 use Rattle.tv_formats.specs.Checksum.{crc32}
 use Rattle.std.specs.Fmt.{digits}
 use Rattle.hex.specs.Hex.{encode_with}
+use Rattle.json.specs.Print.{escape_byte}
 use Rattle.tv_formats.specs.Footer.{footer, sealed}
 use Rattle.tv_formats.proofs.Samples.{id_b}
 use Rattle.tv_formats.specs.declared.segment.SegmentComponent.TheVariants.{Delete}
@@ -92,4 +93,5 @@ settings_printed = refl
 -- what isn't printed as it is: `"`, `\` and the control characters
 pub payload_escaped : payload_text (Some (34 ∷ 92 ∷ 8 ∷ 12 ∷ 10 ∷ 13 ∷ 9 ∷ 1 ∷ 31 ∷ 32 ∷ 47 ∷ 127 ∷ 195 ∷ 169 ∷ [])) ≡
     codes ",\"payload\":\"\\\"\\\\\\b\\f\\n\\r\\t\\u0001\\u001f /" ++ 127 ∷ 195 ∷ 169 ∷ 34 ∷ []
+unfolding escape_byte
 payload_escaped = refl

@@ -1,24 +1,26 @@
 -- A printed form is cut apart at its first closing bracket: what stands before it is that of the settings and the segments, and the schema's text stands behind it.
-use Rattle.std.proofs.Common.{◌≡◌, ℕ, zero, suc, ◌+◌, ◌-◌, ◌==◌, Bool, true, false, true≢false, not, if◌then◌else◌, nat_lt, List, [], ◌∷◌, ◌++◌, map, Option, Some, None, codes, decimal, refl, sym, ap, ap₂, ◌∙◌, subst, arith, append_assoc}
+use Rattle.std.proofs.Common.{◌≡◌, ℕ, ◌==◌, Bool, true, false, true≢false, not, List, [], ◌∷◌, ◌++◌, map, Option, Some, None, codes, decimal, refl, sym, ap, ap₂, ◌∙◌, subst, arith, append_assoc}
 use Rattle.std.specs.List.{list_all, join_with_byte}
 use Rattle.std.proofs.lemmas.Bool.{and_parts}
+use Rattle.std.proofs.lemmas.List.Folds.{list_all-append}
 use Rattle.std.proofs.lemmas.Bool.Decides.{nat_tests}
+use Rattle.std.proofs.lemmas.List.{append_cancel_left}
 use Rattle.json.specs.Lex.{lex, punctuate, tokens}
 use Rattle.json.specs.Json as json
 use Rattle.json.specs.Tree.{json_tokens}
 use Rattle.serde_json.specs.Data as trees
-use Rattle.uuid.specs.Text.{hyphenated_text, lower, hyphen, nibble, digit_place, is_hyphen_place, by_index}
-use Rattle.uuid.specs.Text as uuid
+use Rattle.uuid.specs.Text.{hyphenated_text, lower}
 use Rattle.json.proofs.Printed.Utf8.{IsUtf8-are_ascii}
 use Rattle.tv_formats.specs.declared.segment.DeleteMeta.{DeleteMeta}
+use Rattle.tv_formats.specs.Names.{is_name_byte}
 use Rattle.tv_formats.specs.Schemas.{IsSchemaText}
 use Rattle.tv_formats.specs.MetaJson.{SpellsMeta}
 use Rattle.tv_formats.specs.Meaning.{IsPrinted}
 use Rattle.tv_formats.specs.Commits.{Commit, Settings, thread_text, settings_text, deletes_text, segment_text, payload_text, printed}
-use Rattle.tv_formats.proofs.PlainNames.{all-append, decimal_all}
+use Rattle.tv_formats.proofs.PlainNames.{all-append, all_more, both, decimal_all}
 use Rattle.tv_formats.proofs.JsonReadBack.{Spelled, read_of_tokens}
-use Rattle.tv_formats.proofs.PrintedTokens.{Entry}
-use Rattle.tv_formats.proofs.ReadPrinted.{printed_form, shallow_spells}
+use Rattle.tv_formats.proofs.PrintedTrees.{Entry, id_bytes, is_id_byte, printed_form}
+use Rattle.tv_formats.proofs.ReadPrinted.{shallow_spells}
 use Rattle.tv_formats.proofs.OneMeaning.{one_meaning}
 
 -- ---- no closing bracket stands before that of the segments
@@ -35,59 +37,23 @@ free_both = all-append not_close
 free_number : (n : ℕ) → is_free (decimal n) ≡ true
 free_number n = decimal_all not_close n (λ c e. grind (arith, nat_tests))
 
-free_by_index : (n : ℕ) (f : ℕ → ℕ) → ((k : ℕ) → not_close (f k) ≡ true) → is_free (by_index n f) ≡ true
-unfolding by_index
-free_by_index zero f h = refl
-free_by_index (suc n) f h = free_both (by_index n f) (f n ∷ []) (free_by_index n f h) (rw (h n) refl)
-
-digit_free : (d : ℕ) (b : Bool) → nat_lt d 10 ≡ b → not_close (if b then 48 + d else (97 + d - 10)) ≡ true
-digit_free d true is = grind (arith, nat_tests)
-digit_free d false is = grind (arith, nat_tests)
-
-hyphen_or : (b : Bool) (x : ℕ) → not_close x ≡ true → not_close (if b then hyphen else x) ≡ true
-hyphen_or true x h = refl
-hyphen_or false x h = h
-
 free_id : (id : List ℕ) → is_free (hyphenated_text lower id) ≡ true
 free_id id =
-    free_by_index 36 (λ k. if is_hyphen_place k then hyphen else uuid.hex_digit lower (nibble id (digit_place k)))
-    (λ k. hyphen_or (is_hyphen_place k) (uuid.hex_digit lower (nibble id (digit_place k)))
-    (digit_free (nibble id (digit_place k)) (nat_lt (nibble id (digit_place k)) 10) refl))
+    all_more is_id_byte not_close (hyphenated_text lower id) (λ b h. (both (is_name_byte b) (not_close b) h).1) (id_bytes id)
 
 free_thread : (b : Bool) → is_free (thread_text b) ≡ true
 free_thread true = refl
 free_thread false = refl
 
 free_settings : (settings : Settings) → is_free (settings_text settings) ≡ true
-free_settings settings =
-    let a = codes "{\"docstore_compression\":\"none\"" in
-    let t = thread_text settings.dedicated_thread in
-    let b = codes ",\"docstore_blocksize\":" in
-    let n = decimal settings.blocksize in
-    free_both (a ++ t ++ b ++ n) (codes "}") (free_both (a ++ t ++ b) n (free_both (a ++ t) b (free_both a t refl (free_thread settings.dedicated_thread)) refl)
-    (free_number settings.blocksize)) refl
+free_settings settings = simp (list_all-append, free_thread, free_number)
 
 free_deletes : (o : Option DeleteMeta) → is_free (deletes_text o) ≡ true
 free_deletes None = refl
-free_deletes (Some meta) =
-    let a = codes "{\"num_deleted_docs\":" in
-    let m = decimal meta.num_deleted_docs in
-    let b = codes ",\"opstamp\":" in
-    let n = decimal meta.opstamp in
-    free_both (a ++ m ++ b ++ n) (codes "}")
-    (free_both (a ++ m ++ b) n (free_both (a ++ m) b (free_both a m refl (free_number meta.num_deleted_docs)) refl) (free_number meta.opstamp)) refl
+free_deletes (Some meta) = simp (list_all-append, free_number)
 
 free_segment : (e : Entry) → is_free (segment_text e) ≡ true
-free_segment e =
-    let a = codes "{\"segment_id\":\"" in
-    let i = hyphenated_text lower e.0 in
-    let b = codes "\",\"max_doc\":" in
-    let n = decimal e.1.max_doc in
-    let d = codes ",\"deletes\":" in
-    let x = deletes_text e.1.deletes in
-    free_both (a ++ i ++ b ++ n ++ d ++ x) (codes "}")
-    (free_both (a ++ i ++ b ++ n ++ d) x (free_both (a ++ i ++ b ++ n) d (free_both (a ++ i ++ b) n (free_both (a ++ i) b
-    (free_both a i refl (free_id e.0)) refl) (free_number e.1.max_doc)) refl) (free_deletes e.1.deletes)) refl
+free_segment e = simp (list_all-append, free_id, free_number, free_deletes)
 
 free_segments : (es : List Entry) → is_free (join_with_byte 44 (map segment_text es)) ≡ true
 free_segments [] = refl
@@ -137,10 +103,6 @@ cut_one (x ∷ xs) (y ∷ ys) us vs f g e =
     let c = cut_one xs ys us vs (and_parts (not_close x) (is_free xs) f).1 (and_parts (not_close y) (is_free ys) g).1 rest in
     (ap₂ (λ (z : ℕ) (zs : List ℕ). z ∷ zs) first c.0, c.1)
 
-same_behind : (xs us vs : List ℕ) → xs ++ us ≡ xs ++ vs → us ≡ vs
-same_behind [] us vs e = e
-same_behind (x ∷ xs) us vs e = same_behind xs us vs (cc)
-
 -- printed forms that are the same under one schema are the same under another
 pub printed_under : (first second : Settings) (schema other : List ℕ) (commit last : Commit)
     → printed first schema commit ++ 10 ∷ [] ≡ printed second schema last ++ 10 ∷ []
@@ -150,8 +112,8 @@ printed_under first second schema other commit last e =
     (codes ",\"schema\":" ++ (schema ++ after_schema last)) (free_before first commit) (free_before second last)
     (sym (printed_cut first schema commit) ∙ e ∙ printed_cut second schema last) in
     let behind : after_schema commit ≡ after_schema last =
-    same_behind schema (after_schema commit) (after_schema last)
-    (same_behind (codes ",\"schema\":") (schema ++ after_schema commit) (schema ++ after_schema last) c.1) in
+    append_cancel_left schema (after_schema commit) (after_schema last)
+    (append_cancel_left (codes ",\"schema\":") (schema ++ after_schema commit) (schema ++ after_schema last) c.1) in
     printed_cut first other commit
     ∙ ap₂ (λ (a b : List ℕ). a ++ (93 ∷ (codes ",\"schema\":" ++ (other ++ b)))) c.0 behind
     ∙ sym (printed_cut second other last)

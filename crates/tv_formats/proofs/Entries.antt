@@ -23,7 +23,7 @@ same_at q k = (eq_by_cmp_equiv nat_list_cmp_total).symm q k
 pub at_itself : (k : List ℕ) → is_at (byte_cmp k) k ≡ true
 at_itself k = (eq_by_cmp_equiv nat_list_cmp_total).refl k
 
-is_equal : (r : Ordering) → is_eq r ≡ true → r ≡ Equal
+pub is_equal : (r : Ordering) → is_eq r ≡ true → r ≡ Equal
 is_equal Less e = absurd cc
 is_equal Equal e = refl
 is_equal Greater e = absurd cc

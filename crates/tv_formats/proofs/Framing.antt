@@ -17,10 +17,7 @@ use Rattle.tv_formats.proofs.Bodies.{body_of_framed, json_at, some_is}
 use Rattle.tv_formats.proofs.ChecksumFits.{crc32_fits}
 use Rattle.tv_formats.proofs.FooterTexts.{own_framed}
 use Rattle.tv_formats.proofs.PlainNames.{both}
-
-bound : {A B : Type 0} (o : Option A) (f : A → Option B) (y : B) → (o >>= f) ≡ Some y → (x : A) × (o ≡ Some x) × (f x ≡ Some y)
-bound None f y e = absurd cc
-bound (Some x) f y e = (x, refl, e)
+use Rattle.tv_formats.proofs.Options.{bound}
 
 -- ---- a tree
 

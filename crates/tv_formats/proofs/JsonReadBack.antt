@@ -4,7 +4,7 @@ use Rattle.std.proofs.lemmas.List.Sums.{fold-append}
 use Rattle.std.proofs.lemmas.Option.{some_pair_parts}
 use Rattle.json.specs.Token.{Token, begin_array, end_array}
 use Rattle.json.specs.Word.{ends_word}
-use Rattle.json.specs.Lex.{lex, punctuate, tokens}
+use Rattle.json.specs.Lex.{Lexeme, lex, between, fresh, punctuate, tokens}
 use Rattle.json.specs.Print.{ends, print_from, print, ArePrintable}
 use Rattle.json.specs.Json as json
 use Rattle.json.specs.Tree.{json_tokens, items_tokens, members_tokens, depth, HasNumbers}
@@ -14,13 +14,26 @@ use Rattle.json.proofs.Printed.Trees.{value-json_tokens, ArePrintable-json_token
 use Rattle.json.proofs.Unique.Spelling.{value-json_tokens_back}
 use Rattle.serde_json.specs.Data.{Data}
 use Rattle.serde_json.specs.Read.{read, of_json}
-use Rattle.tv_formats.proofs.JsonWithin.{tokens-within}
+use Rattle.tv_formats.proofs.JsonWithin.{front_printable, good_text, tokens-within}
+use Rattle.tv_formats.proofs.JsonSplice.{lex-append}
 
 -- a text with these tokens reads as their tree
 pub read_of_tokens : (text : List ℕ) (j : json.Json) → tokens text ≡ json_tokens j → depth j ≤ 127 → read text ≡ of_json j
 read_of_tokens text j is shallow =
     ap (λ o. option_and_then of_json (option_and_then (λ p. json.if_last p.0 p.1) o))
     (ap (json.value 127) (is ∙ sym (append-nil (json_tokens j))) ∙ value-json_tokens j 127 [] shallow)
+
+-- ---- a line feed behind the text
+
+line_feed : lex between (10 ∷ []) ≡ []
+unfolding lex
+line_feed = refl
+
+pub before_line_feed : (text : List ℕ) (j : json.Json) → HasNumbers j → tokens text ≡ json_tokens j → tokens (text ++ 10 ∷ []) ≡ json_tokens j
+before_line_feed text j numbers is =
+    let printable : ArePrintable (tokens text) = subst ArePrintable (sym is) (ArePrintable-json_tokens j numbers) in
+    ap (punctuate fresh) (lex-append text (10 ∷ []) refl (good_text text printable) ∙ ap (λ (l : List Lexeme). lex between text ++ l) line_feed ∙ append-nil (lex between text))
+    ∙ is
 
 -- what a text that is read has for its tokens
 pub record Spelled (text : List ℕ) (d : Data) : Type 0 where
@@ -74,42 +87,31 @@ one_tree i j e =
     let right : json.value n (json_tokens j ++ []) ≡ Some (j, []) = value-json_tokens j n [] (omega arith) in
     (some_pair_parts i j [] [] (sym left ∙ ap (λ (ts : List Token). json.value n (ts ++ [])) e ∙ right)).0
 
-bracket : print (begin_array ∷ []) ≡ 91 ∷ []
-unfolding print_from
-bracket = refl
-
-closing_bracket : print_from true (end_array ∷ []) ≡ 93 ∷ []
-unfolding print_from
-closing_bracket = refl
-
 -- a text that begins with a bracket begins no word
 pub begins_there : (rest r : List ℕ) → ends_word (print (tokens (91 ∷ rest)) ++ r) ≡ true
 unfolding lex punctuate print_from
 begins_there rest r = refl
 
-bracket_printable : ArePrintable (begin_array ∷ [])
-unfolding ArePrintable
-bracket_printable = (tt, tt)
+-- the tokens of a whole that is printed around such a text
+pub around_tokens : (before after : List Token) (whole j : json.Json) (rest : List ℕ) → HasNumbers whole → HasNumbers j
+    → tokens (91 ∷ rest) ≡ json_tokens j → json_tokens whole ≡ before ++ (json_tokens j ++ after) → fold (λ _ t. ends t) false before ≡ false
+    → ends_word (print_from true after) ≡ true → tokens (print before ++ ((91 ∷ rest) ++ print_from true after)) ≡ json_tokens whole
+around_tokens before after whole j rest all numbers same is opens ended =
+    let spelled_so : json_tokens whole ≡ before ++ (tokens (91 ∷ rest) ++ after) = is ∙ ap (λ (ts : List Token). before ++ (ts ++ after)) (sym same) in
+    let printable = subst ArePrintable spelled_so (ArePrintable-json_tokens whole all) in
+    let inner : ArePrintable (tokens (91 ∷ rest)) = subst ArePrintable (sym same) (ArePrintable-json_tokens j numbers) in
+    tokens-within before after (91 ∷ rest) (front_printable before (tokens (91 ∷ rest) ++ after) printable) inner printable opens
+    (ap (fold (λ _ t. ends t) false) same ∙ json_ends false j) refl (begins_there rest _) ended
+    ∙ sym spelled_so
 
 abbrev pub bracketed : json.Json → json.Json
 bracketed j = json.array (json.item j json.no_items)
 
 inner_tokens : (rest : List ℕ) (j : json.Json) → tokens (91 ∷ rest) ≡ json_tokens j → HasNumbers j
     → tokens (91 ∷ ((91 ∷ rest) ++ 93 ∷ [])) ≡ json_tokens (bracketed j)
+unfolding print_from
 inner_tokens rest j same numbers =
-    let text : List ℕ = 91 ∷ rest in
-    let is : json_tokens (bracketed j) ≡ begin_array ∷ (tokens (91 ∷ rest) ++ end_array ∷ []) =
-    ap (λ (ts : List Token). begin_array ∷ (ts ++ end_array ∷ [])) (sym same) in
-    let inner : ArePrintable (tokens (91 ∷ rest)) = subst ArePrintable (sym same) (ArePrintable-json_tokens j numbers) in
-    let all : ArePrintable (json_tokens (bracketed j)) = ArePrintable-json_tokens (bracketed j) (numbers, tt) in
-    let ended = ap (fold (λ _ t. ends t) false) same ∙ json_ends false j in
-    let spelled_so : 91 ∷ ((91 ∷ rest) ++ 93 ∷ []) ≡ print (begin_array ∷ []) ++ ((91 ∷ rest) ++ print_from true (end_array ∷ [])) =
-    ap (λ (l : List ℕ). l ++ ((91 ∷ rest) ++ 93 ∷ [])) (sym bracket) ∙ ap (λ (l : List ℕ). print (begin_array ∷ []) ++ ((91 ∷ rest) ++ l))
-    (sym closing_bracket) in
-    ap tokens spelled_so
-    ∙ tokens-within (begin_array ∷ []) (end_array ∷ []) (91 ∷ rest) bracket_printable inner (subst ArePrintable is all) refl ended refl (begins_there rest _)
-    (ap ends_word closing_bracket)
-    ∙ sym is
+    around_tokens (begin_array ∷ []) (end_array ∷ []) (bracketed j) j rest (numbers, tt) numbers same refl refl refl
 
 -- what is known of a text that is read, also inside an array
 pub inside_shallow : (rest : List ℕ) (d e : Data) (s : Spelled (91 ∷ rest) d) → read (91 ∷ ((91 ∷ rest) ++ 93 ∷ [])) ≡ Some e → depth s.tree ≤ 126

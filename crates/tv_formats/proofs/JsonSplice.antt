@@ -7,7 +7,7 @@ use Rattle.json.specs.Align.{is_good}
 use Rattle.json.specs.Text.{content, plain}
 use Rattle.json.specs.Word.{ends_word, word}
 use Rattle.json.specs.Lex.{Lexeme, token, comma, colon, Class, quote, backslash, operator, space, other, class, operator_lexeme, string_token, between, in_word, in_string, lex_byte, lex}
-use Rattle.tv_formats.proofs.JsonStrings.{closes_plain}
+use Rattle.tv_formats.proofs.JsonStrings.{closes_string}
 use Rattle.tv_formats.proofs.JsonWords.{word_passes}
 
 -- ---- no lexeme is bad
@@ -35,10 +35,11 @@ module _ (r : List ℕ) (ended : ends_word r ≡ true) where
       → token (string_token (content plain (xs ++ r))) ∷ lex in_string (xs ++ r) ≡ token (string_token o) ∷ (lex in_string xs ++ lex between r)
   at_quote xs None is ih h = absurd (false≢true h.0)
   at_quote xs (Some v) is ih h =
-      let c = closes_plain xs v is in
+      let both = closes_string xs r v is in
+      let c = both.1 in
       let inner : lex in_string xs ≡ lex between c.rest = ap (lex in_string) (sym (append-nil xs)) ∙ c.passes [] ∙ ap (lex between) (append-nil c.rest) in
       let good : AllGood (lex between c.rest) = subst AllGood inner h.1 in
-      ap₂ (λ (q : Option (List ℕ)) (l : List Lexeme). token (string_token q) ∷ l) (c.says r)
+      ap₂ (λ (q : Option (List ℕ)) (l : List Lexeme). token (string_token q) ∷ l) both.0
       (c.passes r ∙ ih c.rest c.within good ∙ ap (λ (l : List Lexeme). l ++ lex between r) (sym inner))
 
   at_word : (x : ℕ) (xs : List ℕ) → class x ≡ other → ((s : List ℕ) → length s ≤ length xs → Spliced s)

@@ -1,193 +1,138 @@
--- A string that closes in a text closes there in a longer one.
-use Rattle.std.proofs.Common.{◌≡◌, ℕ, ◌≤◌, Bool, true, false, cond, ◌&&◌, ◌==◌, List, [], ◌∷◌, ◌++◌, length, Option, Some, None, option_and_then, refl, sym, ap, ◌∙◌, arith, eqb-true}
+-- A string that closes in a text is the same string in a longer one, and closes there.
+use Rattle.std.proofs.Common.{◌≡◌, ℕ, ◌≤◌, Bool, true, false, cond, ◌&&◌, ◌==◌, List, [], ◌∷◌, ◌++◌, length, Option, Some, None, option_and_then, refl, sym, ap, ◌∙◌, subst, arith, eqb-true}
 use Rattle.std.proofs.lemmas.Bool.{and_parts, false≢true}
-use Rattle.std.specs.Prelude.{nat_lt}
+use Rattle.std.specs.Prelude.{⊤, nat_lt}
 use Rattle.std.specs.Char.{is_digit, encode_utf8}
-use Rattle.json.specs.Text.{content, plain, after_backslash, after_u, after_high, prepend, code_unit, short_escape, is_high_surrogate, is_low_surrogate, surrogate_pair}
+use Rattle.json.specs.Text.{content, Within as StringState, plain, after_backslash, after_u, after_high, prepend, code_unit, short_escape, is_high_surrogate, is_low_surrogate, surrogate_pair}
 use Rattle.json.specs.Lex.{Lexeme, Class, quote, backslash, operator, space, other, class, Mode, between, in_string, in_escape, lex_byte, lex}
 use Rattle.json.specs.Word.{is_operator, is_space}
 
--- what is left after the closing quote, whatever follows the text
-pub record Closes (n : ℕ) (L : List ℕ → List Lexeme) (K : List ℕ → Option (List ℕ)) (v : List ℕ) : Type 0 where
+-- ---- what is left after the closing quote, whatever follows the text
+
+pub record Closes (m : Mode) (xs : List ℕ) : Type 0 where
   pub rest : List ℕ
-  pub within : length rest ≤ n
-  pub passes : (r : List ℕ) → L r ≡ lex between (rest ++ r)
-  pub says : (r : List ℕ) → K r ≡ Some v
+  pub within : length rest ≤ length xs
+  pub passes : (r : List ℕ) → lex m (xs ++ r) ≡ lex between (rest ++ r)
 
-inside : (q b o s : Bool) (x : ℕ) (xs : List ℕ) (k : Mode → List Lexeme)
-    → lex_byte in_string (cond q quote (cond b backslash (cond o operator (cond s space other)))) x xs k
-    ≡ cond q (k between) (cond b (k in_escape) (k in_string))
-inside true b o s x xs k = refl
-inside false true o s x xs k = refl
-inside false false true s x xs k = refl
-inside false false false true x xs k = refl
-inside false false false false x xs k = refl
+step : (m n : Mode) (x : ℕ) (xs : List ℕ) → ((ys : List ℕ) → lex m (x ∷ ys) ≡ lex n ys) → Closes n xs → Closes m (x ∷ xs)
+step m n x xs e c = record { rest = c.rest; within = omega (arith, c.within); passes = λ r. e (xs ++ r) ∙ c.passes r }
 
-lex-inside : (x : ℕ) (xs : List ℕ) → lex in_string (x ∷ xs) ≡ cond (x == 34) (lex between xs) (cond (x == 92) (lex in_escape xs) (lex in_string xs))
+at_quote : (x : ℕ) → (x == 34) ≡ true → (ys : List ℕ) → lex in_string (x ∷ ys) ≡ lex between ys
 unfolding lex
-lex-inside x xs = inside (x == 34) (x == 92) (is_operator x) (is_space x) x xs (λ next. lex next xs)
+at_quote x e ys = ap (λ y. lex in_string (y ∷ ys)) (eqb-true x 34 e)
 
-lex-escaped : (x : ℕ) (xs : List ℕ) → lex in_escape (x ∷ xs) ≡ lex in_string xs
+at_backslash : (x : ℕ) → (x == 92) ≡ true → (ys : List ℕ) → lex in_string (x ∷ ys) ≡ lex in_escape ys
 unfolding lex
-lex-escaped x xs = escaped (class x) x xs (λ next. lex next xs)
-  where
-    escaped : (c : Class) (x : ℕ) (xs : List ℕ) (k : Mode → List Lexeme) → lex_byte in_escape c x xs k ≡ k in_string
-    escaped quote x xs k = refl
-    escaped backslash x xs k = refl
-    escaped operator x xs k = refl
-    escaped space x xs k = refl
-    escaped other x xs k = refl
+at_backslash x e ys = ap (λ y. lex in_string (y ∷ ys)) (eqb-true x 92 e)
 
-pub none_some : {A P : Type 0} (v : A) → None ≡ Some v → P
-none_some v e = cc
+inside : (o s : Bool) (x : ℕ) (ys : List ℕ) (k : Mode → List Lexeme) → lex_byte in_string (cond o operator (cond s space other)) x ys k ≡ k in_string
+inside true s x ys k = refl
+inside false true x ys k = refl
+inside false false x ys k = refl
 
-prepended : (s : List ℕ) (o : Option (List ℕ)) (v : List ℕ) → prepend s o ≡ Some v → (u : List ℕ) × (o ≡ Some u) × (v ≡ s ++ u)
-prepended s None v e = none_some v e
-prepended s (Some u) v e = (u, refl, cc)
+at_plain : (x : ℕ) → (x == 34) ≡ false → (x == 92) ≡ false → (ys : List ℕ) → lex in_string (x ∷ ys) ≡ lex in_string ys
+unfolding lex
+at_plain x q b ys =
+    (λ i. lex_byte in_string (cond (q i) quote (cond (b i) backslash (cond (is_operator x) operator (cond (is_space x) space other)))) x ys (λ n. lex n ys))
+    ∙ inside (is_operator x) (is_space x) x ys (λ n. lex n ys)
 
-more : {n m : ℕ} {L M : List ℕ → List Lexeme} {K J : List ℕ → Option (List ℕ)} {u v : List ℕ} → n ≤ m → ((r : List ℕ) → M r ≡ L r)
-    → ((r : List ℕ) → K r ≡ Some u → J r ≡ Some v) → Closes n L K u → Closes m M J v
-more le step same c = record { rest = c.rest; within = omega (arith, c.within); passes = λ r. step r ∙ c.passes r; says = λ r. same r (c.says r) }
+escaped : (c : Class) (x : ℕ) (ys : List ℕ) (k : Mode → List Lexeme) → lex_byte in_escape c x ys k ≡ k in_string
+escaped quote x ys k = refl
+escaped backslash x ys k = refl
+escaped operator x ys k = refl
+escaped space x ys k = refl
+escaped other x ys k = refl
 
-hex : (x : ℕ) (xs : List ℕ) → is_digit x 16 ≡ true → lex in_string (x ∷ xs) ≡ lex in_string xs
-hex x xs h =
-    lex-inside x xs ∙ plain_byte (x == 34) (x == 92) (λ e. false≢true (ap (λ y. is_digit y 16) (sym (eqb-true x 34 e)) ∙ h))
-    (λ e. false≢true (ap (λ y. is_digit y 16) (sym (eqb-true x 92 e)) ∙ h))
-  where
-    plain_byte : (q b : Bool) → (q ≡ true → ⊥) → (b ≡ true → ⊥) → cond q (lex between xs) (cond b (lex in_escape xs) (lex in_string xs)) ≡ lex in_string xs
-    plain_byte true b f g = absurd (f refl)
-    plain_byte false true f g = absurd (g refl)
-    plain_byte false false f g = refl
+at_escape : (x : ℕ) (ys : List ℕ) → lex in_escape (x ∷ ys) ≡ lex in_string ys
+unfolding lex
+at_escape x ys = escaped (class x) x ys (λ n. lex n ys)
 
-hexes : (a b c d u : ℕ) → code_unit a b c d ≡ Some u → (xs : List ℕ) → lex in_string (a ∷ b ∷ c ∷ d ∷ xs) ≡ lex in_string xs
+not_this : (c x : ℕ) (t : Bool) → (t ≡ true → x ≡ c) → is_digit c 16 ≡ false → is_digit x 16 ≡ true → t ≡ false
+not_this c x false e never h = refl
+not_this c x true e never h = absurd (false≢true (sym never ∙ ap (λ y. is_digit y 16) (sym (e refl)) ∙ h))
+
+digit : (x : ℕ) (xs : List ℕ) → is_digit x 16 ≡ true → Closes in_string xs → Closes in_string (x ∷ xs)
+digit x xs h =
+    step in_string in_string x xs (at_plain x (not_this 34 x (x == 34) (eqb-true x 34) refl h) (not_this 92 x (x == 92) (eqb-true x 92) refl h))
+
+abbrev is_found : Option ℕ → Bool
+is_found None = false
+is_found (Some u) = true
+
+all_digits : (t : Bool) (u : ℕ) → is_found (cond t (Some u) None) ≡ true → t ≡ true
+all_digits true u h = refl
+all_digits false u h = h
+
+unit : (a b c d : ℕ) (xs : List ℕ) → is_found (code_unit a b c d) ≡ true → Closes in_string xs → Closes in_string (a ∷ b ∷ c ∷ d ∷ xs)
 unfolding code_unit
-hexes a b c d u e xs =
-    let all : (is_digit a 16 && is_digit b 16 && is_digit c 16 && is_digit d 16) ≡ true = found _ _ e in
-    let p = and_parts _ _ all in
-    let q = and_parts _ _ p.0 in
-    let s = and_parts _ _ q.0 in
-    hex a (b ∷ c ∷ d ∷ xs) s.0 ∙ hex b (c ∷ d ∷ xs) s.1 ∙ hex c (d ∷ xs) q.1 ∙ hex d xs p.1
-  where
-    found : (t : Bool) (n : ℕ) → cond t (Some n) None ≡ Some u → t ≡ true
-    found true n e = refl
-    found false n e = none_some u e
+unit a b c d xs h k =
+    let p = and_parts (is_digit a 16 && is_digit b 16 && is_digit c 16) (is_digit d 16) (all_digits _ _ h) in
+    let q = and_parts (is_digit a 16 && is_digit b 16) (is_digit c 16) p.0 in
+    let r = and_parts (is_digit a 16) (is_digit b 16) q.0 in
+    digit a (b ∷ c ∷ d ∷ xs) r.0 (digit b (c ∷ d ∷ xs) r.1 (digit c (d ∷ xs) q.1 (digit d xs p.1 k)))
 
-abbrev Plainly : List ℕ → Type 0
-Plainly xs = (v : List ℕ) → content plain xs ≡ Some v → Closes (length xs) (λ r. lex in_string (xs ++ r)) (λ r. content plain (xs ++ r)) v
+abbrev mode : StringState → Mode
+mode plain = in_string
+mode after_backslash = in_escape
+mode after_u = in_string
+mode (after_high h) = in_string
 
--- a part before what closes
-before : (s xs v : List ℕ) (n : ℕ) (M : List ℕ → List Lexeme) → Plainly xs → length xs ≤ n → ((r : List ℕ) → M r ≡ lex in_string (xs ++ r))
-    → prepend s (content plain xs) ≡ Some v
-    → Closes n M (λ r. prepend s (content plain (xs ++ r))) v
-before s xs v n M ih le step e =
-    let p = prepended s (content plain xs) v e in
-    let c = ih p.0 p.1 in
-    record { rest = c.rest; within = omega (arith, c.within); passes = λ r. step r ∙ c.passes r; says = λ r. ap (prepend s) (c.says r) ∙ ap Some (sym p.2) }
+-- where the string is read, it is the same in the longer text, and P holds
+abbrev Stays : Option (List ℕ) → Option (List ℕ) → Type 0 → Type 0
+Stays None p P = ⊤
+Stays (Some v) p P = (p ≡ Some v) × P
 
-module _ (x : ℕ) (xs : List ℕ) where
-  in_plain : (q b c : Bool) → Plainly xs
-      → ((v : List ℕ) → content after_backslash xs ≡ Some v → Closes (length xs) (λ r. lex in_escape (xs ++ r)) (λ r. content after_backslash (xs ++ r)) v)
-      → (v : List ℕ) → cond q (Some []) (cond b (content after_backslash xs) (cond c None (prepend (x ∷ []) (content plain xs)))) ≡ Some v
-      → Closes (length (x ∷ xs)) (λ r. cond q (lex between (xs ++ r)) (cond b (lex in_escape (xs ++ r)) (lex in_string (xs ++ r))))
-      (λ r. cond q (Some []) (cond b (content after_backslash (xs ++ r)) (cond c None (prepend (x ∷ []) (content plain (xs ++ r)))))) v
-  in_plain true b c p s v e = record { rest = xs; within = omega arith; passes = λ r. refl; says = λ r. e }
-  in_plain false true c p s v e = more (omega arith) (λ r. refl) (λ r h. h) (s v e)
-  in_plain false false true p s v e = none_some v e
-  in_plain false false false p s v e = before (x ∷ []) xs v _ _ p (omega arith) (λ r. refl) e
+both : (P : Type 0) (b : Bool) (x y p q : Option (List ℕ)) → (b ≡ true → Stays x p P) → (b ≡ false → Stays y q P) → Stays (cond b x y) (cond b p q) P
+both P true x y p q f g = f refl
+both P false x y p q f g = g refl
 
-  in_short : (o : Option ℕ) → Plainly xs → (v : List ℕ) → option_and_then (λ c. prepend (c ∷ []) (content plain xs)) o ≡ Some v
-      → Closes (length (x ∷ xs)) (λ r. lex in_string (xs ++ r)) (λ r. option_and_then (λ c. prepend (c ∷ []) (content plain (xs ++ r))) o) v
-  in_short None p v e = none_some v e
-  in_short (Some c) p v e = before (c ∷ []) xs v _ _ p (omega arith) (λ r. refl) e
+then : (P : Type 0) (f g : ℕ → Option (List ℕ)) (o : Option ℕ) → (is_found o ≡ true → (u : ℕ) → Stays (f u) (g u) P)
+    → Stays (option_and_then f o) (option_and_then g o) P
+then P f g None h = tt
+then P f g (Some u) h = h refl u
 
-module _ (n : ℕ) (xs : List ℕ) (M : List ℕ → List Lexeme) (le : length xs ≤ n) (step : (r : List ℕ) → M r ≡ lex in_string (xs ++ r)) (p : Plainly xs) where
-  in_unit : (u : ℕ) (h l : Bool)
-      → ((v : List ℕ) → content (after_high u) xs ≡ Some v → Closes (length xs) (λ r. lex in_string (xs ++ r)) (λ r. content (after_high u) (xs ++ r)) v)
-      → (v : List ℕ) → cond h (content (after_high u) xs) (cond l None (prepend (encode_utf8 u) (content plain xs))) ≡ Some v
-      → Closes n M (λ r. cond h (content (after_high u) (xs ++ r)) (cond l None (prepend (encode_utf8 u) (content plain (xs ++ r))))) v
-  in_unit u true l s v e = more le step (λ r h. h) (s v e)
-  in_unit u false true s v e = none_some v e
-  in_unit u false false s v e = before (encode_utf8 u) xs v _ _ p le step e
+more : {P Q : Type 0} (o p : Option (List ℕ)) → Stays o p P → (P → Q) → Stays o p Q
+more None p h g = tt
+more (Some v) p h g = (h.0, g h.1)
 
-  in_low : (s : List ℕ) (l : Bool) (v : List ℕ) → cond l (prepend s (content plain xs)) None ≡ Some v
-      → Closes n M (λ r. cond l (prepend s (content plain (xs ++ r))) None) v
-  in_low s true v e = before s xs v _ _ p le step e
-  in_low s false v e = none_some v e
+longer : {P Q : Type 0} (s : List ℕ) (o p : Option (List ℕ)) → Stays o p P → (P → Q) → Stays (prepend s o) (prepend s p) Q
+longer s None p h g = tt
+longer s (Some v) p h g = (ap (prepend s) h.0, g h.1)
 
-module _ (x : ℕ) (xs : List ℕ) where
-  in_escaped : (t : Bool) → Plainly xs
-      → ((v : List ℕ) → content after_u xs ≡ Some v → Closes (length xs) (λ r. lex in_string (xs ++ r)) (λ r. content after_u (xs ++ r)) v)
-      → (v : List ℕ) → cond t (content after_u xs) (option_and_then (λ c. prepend (c ∷ []) (content plain xs)) (short_escape x)) ≡ Some v
-      → Closes (length (x ∷ xs)) (λ r. lex in_string (xs ++ r))
-      (λ r. cond t (content after_u (xs ++ r)) (option_and_then (λ c. prepend (c ∷ []) (content plain (xs ++ r))) (short_escape x))) v
-  in_escaped true p s v e = more (omega arith) (λ r. refl) (λ r h. h) (s v e)
-  in_escaped false p s v e = in_short x xs (short_escape x) p v e
+closes : (s : StringState) (xs r : List ℕ) → Stays (content s xs) (content s (xs ++ r)) (Closes (mode s) xs)
+unfolding content
+closes plain [] r = tt
+closes plain (x ∷ xs) r =
+    let C = Closes in_string (x ∷ xs) in
+    both C (x == 34) _ _ _ _ (λ q. (refl, record { rest = xs; within = omega arith; passes = λ t. at_quote x q (xs ++ t) }))
+    (λ q. both C (x == 92) _ _ _ _ (λ b. more _ _ (closes after_backslash xs r) (step in_string in_escape x xs (at_backslash x b)))
+    (λ b. both C (nat_lt x 32) _ _ _ _ (λ l. tt) (λ l. longer (x ∷ []) _ _ (closes plain xs r) (step in_string in_string x xs (at_plain x q b)))))
+closes after_backslash [] r = tt
+closes after_backslash (x ∷ xs) r =
+    let C = Closes in_escape (x ∷ xs) in
+    let next : Closes in_string xs → Closes in_escape (x ∷ xs) = step in_escape in_string x xs (at_escape x) in
+    both C (x == 117) _ _ _ _ (λ u. more _ _ (closes after_u xs r) next)
+    (λ u. then C _ _ (short_escape x) (λ f c. longer (c ∷ []) _ _ (closes plain xs r) next))
+closes after_u [] r = tt
+closes after_u (a ∷ []) r = tt
+closes after_u (a ∷ b ∷ []) r = tt
+closes after_u (a ∷ b ∷ c ∷ []) r = tt
+closes after_u (a ∷ b ∷ c ∷ d ∷ xs) r =
+    let C = Closes in_string (a ∷ b ∷ c ∷ d ∷ xs) in
+    then C _ _ (code_unit a b c d) (λ f u. both C (is_high_surrogate u) _ _ _ _ (λ h. more _ _ (closes (after_high u) xs r) (unit a b c d xs f))
+    (λ h. both C (is_low_surrogate u) _ _ _ _ (λ l. tt) (λ l. longer (encode_utf8 u) _ _ (closes plain xs r) (unit a b c d xs f))))
+closes (after_high h) [] r = tt
+closes (after_high h) (s ∷ []) r = tt
+closes (after_high h) (s ∷ u ∷ []) r = tt
+closes (after_high h) (s ∷ u ∷ a ∷ []) r = tt
+closes (after_high h) (s ∷ u ∷ a ∷ b ∷ []) r = tt
+closes (after_high h) (s ∷ u ∷ a ∷ b ∷ c ∷ []) r = tt
+closes (after_high h) (s ∷ u ∷ a ∷ b ∷ c ∷ d ∷ xs) r =
+    let C = Closes in_string (s ∷ u ∷ a ∷ b ∷ c ∷ d ∷ xs) in
+    both C ((s == 92) && (u == 117)) _ _ _ _ (λ e. then C _ _ (code_unit a b c d) (λ f l. both C (is_low_surrogate l) _ _ _ _
+    (λ y. longer (encode_utf8 (surrogate_pair h l)) _ _ (closes plain xs r)
+    (λ k. step in_string in_escape s _ (at_backslash s (and_parts _ _ e).0) (step in_escape in_string u _ (at_escape u) (unit a b c d xs f k)))) (λ y. tt)))
+    (λ e. tt)
 
-module _ (a b c d : ℕ) (xs : List ℕ) where
-  with_unit : (o : Option ℕ) → code_unit a b c d ≡ o → Plainly xs
-      → ((h : ℕ) (v : List ℕ) → content (after_high h) xs ≡ Some v
-      → Closes (length xs) (λ r. lex in_string (xs ++ r)) (λ r. content (after_high h) (xs ++ r)) v)
-      → (v : List ℕ) → option_and_then (λ u. cond (is_high_surrogate u) (content (after_high u) xs)
-      (cond (is_low_surrogate u) None (prepend (encode_utf8 u) (content plain xs)))) o
-      ≡ Some v → Closes (length (a ∷ b ∷ c ∷ d ∷ xs)) (λ r. lex in_string (a ∷ b ∷ c ∷ d ∷ (xs ++ r)))
-      (λ r. option_and_then (λ u. cond (is_high_surrogate u) (content (after_high u) (xs ++ r))
-      (cond (is_low_surrogate u) None (prepend (encode_utf8 u) (content plain (xs ++ r))))) o) v
-  with_unit None is p s v e = none_some v e
-  with_unit (Some u) is p s v e = in_unit _ xs _ (omega arith) (λ r. hexes a b c d u is (xs ++ r)) p u _ _ (s u) v e
-
-module _ (s u a b c d : ℕ) (xs : List ℕ) (h : ℕ) where
-  opened : ((s == 92) && (u == 117)) ≡ true → (ys : List ℕ) → lex in_string (s ∷ u ∷ ys) ≡ lex in_string ys
-  opened both ys =
-      let p = and_parts _ _ both in
-      lex-inside s (u ∷ ys) ∙ slash (s == 34) (s == 92) (λ e. no_quote (eqb-true s 34 e) (eqb-true s 92 p.0)) p.0 ∙ lex-escaped u ys
-    where
-      no_quote : s ≡ 34 → s ≡ 92 → ⊥
-      no_quote x y = omega arith
-
-      slash : (q t : Bool) → (q ≡ true → ⊥) → t ≡ true
-          → cond q (lex between (u ∷ ys)) (cond t (lex in_escape (u ∷ ys)) (lex in_string (u ∷ ys))) ≡ lex in_escape (u ∷ ys)
-      slash true t f g = absurd (f refl)
-      slash false true f g = refl
-      slash false false f g = cc
-
-  with_low : (t : Bool) → ((s == 92) && (u == 117)) ≡ t → (o : Option ℕ) → code_unit a b c d ≡ o → Plainly xs
-      → (v : List ℕ) → cond t (option_and_then (λ l. cond (is_low_surrogate l) (prepend (encode_utf8 (surrogate_pair h l)) (content plain xs)) None) o) None
-      ≡ Some v → Closes (length (s ∷ u ∷ a ∷ b ∷ c ∷ d ∷ xs)) (λ r. lex in_string (s ∷ u ∷ a ∷ b ∷ c ∷ d ∷ (xs ++ r)))
-      (λ r. cond t (option_and_then (λ l. cond (is_low_surrogate l) (prepend (encode_utf8 (surrogate_pair h l)) (content plain (xs ++ r))) None) o) None) v
-  with_low false both o is p v e = none_some v e
-  with_low true both None is p v e = none_some v e
-  with_low true both (Some l) is p v e =
-      in_low _ xs _ (omega arith) (λ r. opened both (a ∷ b ∷ c ∷ d ∷ (xs ++ r)) ∙ hexes a b c d l is (xs ++ r)) p (encode_utf8 (surrogate_pair h l)) _ v e
-
-mutual
-  unfolding content
-
-  pub closes_plain : (xs v : List ℕ) → content plain xs ≡ Some v → Closes (length xs) (λ r. lex in_string (xs ++ r)) (λ r. content plain (xs ++ r)) v
-  closes_plain [] v e = none_some v e
-  closes_plain (x ∷ xs) v e =
-      more (omega arith) (λ r. lex-inside x (xs ++ r)) (λ r h. h)
-      (in_plain x xs (x == 34) (x == 92) (nat_lt x 32) (closes_plain xs) (closes_escape xs) v e)
-
-  closes_escape : (xs v : List ℕ) → content after_backslash xs ≡ Some v
-      → Closes (length xs) (λ r. lex in_escape (xs ++ r)) (λ r. content after_backslash (xs ++ r)) v
-  closes_escape [] v e = none_some v e
-  closes_escape (x ∷ xs) v e =
-      more (omega arith) (λ r. lex-escaped x (xs ++ r)) (λ r h. h)
-      (in_escaped x xs (x == 117) (closes_plain xs) (closes_u xs) v e)
-
-  closes_u : (xs v : List ℕ) → content after_u xs ≡ Some v → Closes (length xs) (λ r. lex in_string (xs ++ r)) (λ r. content after_u (xs ++ r)) v
-  closes_u [] v e = none_some v e
-  closes_u (a ∷ []) v e = none_some v e
-  closes_u (a ∷ b ∷ []) v e = none_some v e
-  closes_u (a ∷ b ∷ c ∷ []) v e = none_some v e
-  closes_u (a ∷ b ∷ c ∷ d ∷ xs) v e = with_unit a b c d xs (code_unit a b c d) refl (closes_plain xs) (closes_high xs) v e
-
-  closes_high : (xs : List ℕ) (h : ℕ) (v : List ℕ) → content (after_high h) xs ≡ Some v
-      → Closes (length xs) (λ r. lex in_string (xs ++ r)) (λ r. content (after_high h) (xs ++ r)) v
-  closes_high [] h v e = none_some v e
-  closes_high (s ∷ []) h v e = none_some v e
-  closes_high (s ∷ u ∷ []) h v e = none_some v e
-  closes_high (s ∷ u ∷ a ∷ []) h v e = none_some v e
-  closes_high (s ∷ u ∷ a ∷ b ∷ []) h v e = none_some v e
-  closes_high (s ∷ u ∷ a ∷ b ∷ c ∷ []) h v e = none_some v e
-  closes_high (s ∷ u ∷ a ∷ b ∷ c ∷ d ∷ xs) h v e = with_low s u a b c d xs h ((s == 92) && (u == 117)) refl (code_unit a b c d) refl (closes_plain xs) v e
+pub closes_string : (xs r v : List ℕ) → content plain xs ≡ Some v → (content plain (xs ++ r) ≡ Some v) × Closes in_string xs
+closes_string xs r v is = subst (λ o. Stays o (content plain (xs ++ r)) (Closes in_string xs)) is (closes plain xs r)

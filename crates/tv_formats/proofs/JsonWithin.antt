@@ -1,10 +1,9 @@
 -- A JSON text inside a print is read as its own tokens, whatever its spelling.
 use Rattle.std.proofs.Common.{◌≡◌, ℕ, Bool, true, false, cond, ◌&&◌, List, [], ◌∷◌, ◌++◌, fold, refl, sym, ap, ◌∙◌, subst}
-use Rattle.std.specs.Prelude.{⊤}
 use Rattle.json.specs.Token.{Token, begin_object, end_object, begin_array, end_array, key, string, number, boolean, null, bad}
 use Rattle.json.specs.Word.{ends_word}
 use Rattle.json.specs.Lex.{Lexeme, token, comma, colon, between, lex, fresh, after_value, after_comma, punctuate, tokens}
-use Rattle.json.specs.Print.{begins, ends, print_from, print, ArePrintable}
+use Rattle.json.specs.Print.{begins, ends, print_from, print, ArePrintable, IsPrintable}
 use Rattle.json.proofs.Printed.Tokens.{tokens-print, print_from-append}
 use Rattle.tv_formats.proofs.JsonSplice.{AllGood, lex-append}
 
@@ -26,123 +25,100 @@ abbrev lexemes : Bool → List Token → List Lexeme
 lexemes c [] = []
 lexemes c (t ∷ ts) = cond (c && begins t) (comma ∷ []) [] ++ (token_lexemes t ++ lexemes (ends t) ts)
 
-abbrev pub NoBad : List Token → Type 0
-NoBad [] = ⊤
-NoBad (begin_object ∷ ts) = NoBad ts
-NoBad (end_object ∷ ts) = NoBad ts
-NoBad (begin_array ∷ ts) = NoBad ts
-NoBad (end_array ∷ ts) = NoBad ts
-NoBad (key s ∷ ts) = NoBad ts
-NoBad (string s ∷ ts) = NoBad ts
-NoBad (number s ∷ ts) = NoBad ts
-NoBad (boolean b ∷ ts) = NoBad ts
-NoBad (null ∷ ts) = NoBad ts
-NoBad (bad ∷ ts) = ⊥
+comma_good : (b : Bool) (ls : List Lexeme) → AllGood ls → AllGood (cond b (comma ∷ []) [] ++ ls)
+comma_good true ls h = h
+comma_good false ls h = h
 
-pub NoBad-ArePrintable : (ts : List Token) → ArePrintable ts → NoBad ts
+token_good : (t : Token) (ls : List Lexeme) → IsPrintable t → AllGood ls → AllGood (token_lexemes t ++ ls)
+token_good begin_object ls p h = (refl, h)
+token_good end_object ls p h = (refl, h)
+token_good begin_array ls p h = (refl, h)
+token_good end_array ls p h = (refl, h)
+token_good (key s) ls p h = (refl, h)
+token_good (string s) ls p h = (refl, h)
+token_good (number s) ls p h = (refl, h)
+token_good (boolean b) ls p h = (refl, h)
+token_good null ls p h = (refl, h)
+token_good bad ls p h = absurd p
+
+good_lexemes : (c : Bool) (ts : List Token) → ArePrintable ts → AllGood (lexemes c ts)
 unfolding ArePrintable
-NoBad-ArePrintable [] h = tt
-NoBad-ArePrintable (begin_object ∷ ts) h = NoBad-ArePrintable ts h.1
-NoBad-ArePrintable (end_object ∷ ts) h = NoBad-ArePrintable ts h.1
-NoBad-ArePrintable (begin_array ∷ ts) h = NoBad-ArePrintable ts h.1
-NoBad-ArePrintable (end_array ∷ ts) h = NoBad-ArePrintable ts h.1
-NoBad-ArePrintable (key s ∷ ts) h = NoBad-ArePrintable ts h.1
-NoBad-ArePrintable (string s ∷ ts) h = NoBad-ArePrintable ts h.1
-NoBad-ArePrintable (number s ∷ ts) h = NoBad-ArePrintable ts h.1
-NoBad-ArePrintable (boolean b ∷ ts) h = NoBad-ArePrintable ts h.1
-NoBad-ArePrintable (null ∷ ts) h = NoBad-ArePrintable ts h.1
-NoBad-ArePrintable (bad ∷ ts) h = h.0
-
-good_lexemes : (c : Bool) (ts : List Token) → NoBad ts → AllGood (lexemes c ts)
 good_lexemes c [] h = tt
-good_lexemes true (begin_object ∷ ts) h = (refl, good_lexemes _ ts h)
-good_lexemes false (begin_object ∷ ts) h = (refl, good_lexemes _ ts h)
-good_lexemes true (end_object ∷ ts) h = (refl, good_lexemes _ ts h)
-good_lexemes false (end_object ∷ ts) h = (refl, good_lexemes _ ts h)
-good_lexemes true (begin_array ∷ ts) h = (refl, good_lexemes _ ts h)
-good_lexemes false (begin_array ∷ ts) h = (refl, good_lexemes _ ts h)
-good_lexemes true (end_array ∷ ts) h = (refl, good_lexemes _ ts h)
-good_lexemes false (end_array ∷ ts) h = (refl, good_lexemes _ ts h)
-good_lexemes true (key s ∷ ts) h = (refl, good_lexemes _ ts h)
-good_lexemes false (key s ∷ ts) h = (refl, good_lexemes _ ts h)
-good_lexemes true (string s ∷ ts) h = (refl, good_lexemes _ ts h)
-good_lexemes false (string s ∷ ts) h = (refl, good_lexemes _ ts h)
-good_lexemes true (number s ∷ ts) h = (refl, good_lexemes _ ts h)
-good_lexemes false (number s ∷ ts) h = (refl, good_lexemes _ ts h)
-good_lexemes true (boolean b ∷ ts) h = (refl, good_lexemes _ ts h)
-good_lexemes false (boolean b ∷ ts) h = (refl, good_lexemes _ ts h)
-good_lexemes true (null ∷ ts) h = (refl, good_lexemes _ ts h)
-good_lexemes false (null ∷ ts) h = (refl, good_lexemes _ ts h)
-good_lexemes true (bad ∷ ts) h = absurd h
-good_lexemes false (bad ∷ ts) h = absurd h
+good_lexemes c (t ∷ ts) h =
+    comma_good (c && begins t) (token_lexemes t ++ lexemes (ends t) ts) (token_good t (lexemes (ends t) ts) h.0 (good_lexemes (ends t) ts h.1))
 
 -- ---- tokens without a fault have only one list of lexemes
 
 mutual
-  unfolding punctuate
+  unfolding punctuate ArePrintable
 
-  at_fresh : (ls : List Lexeme) → NoBad (punctuate fresh ls) → ls ≡ lexemes false (punctuate fresh ls)
+  at_fresh : (ls : List Lexeme) → ArePrintable (punctuate fresh ls) → ls ≡ lexemes false (punctuate fresh ls)
   at_fresh [] h = refl
-  at_fresh (token begin_object ∷ ls) h = ap (λ (l : List Lexeme). token begin_object ∷ l) (at_fresh ls h)
-  at_fresh (token end_object ∷ ls) h = ap (λ (l : List Lexeme). token end_object ∷ l) (at_value ls h)
-  at_fresh (token begin_array ∷ ls) h = ap (λ (l : List Lexeme). token begin_array ∷ l) (at_fresh ls h)
-  at_fresh (token end_array ∷ ls) h = ap (λ (l : List Lexeme). token end_array ∷ l) (at_value ls h)
-  at_fresh (token (key s) ∷ ls) h = absurd h
+  at_fresh (token begin_object ∷ ls) h = ap (λ (l : List Lexeme). token begin_object ∷ l) (at_fresh ls h.1)
+  at_fresh (token end_object ∷ ls) h = ap (λ (l : List Lexeme). token end_object ∷ l) (at_value ls h.1)
+  at_fresh (token begin_array ∷ ls) h = ap (λ (l : List Lexeme). token begin_array ∷ l) (at_fresh ls h.1)
+  at_fresh (token end_array ∷ ls) h = ap (λ (l : List Lexeme). token end_array ∷ l) (at_value ls h.1)
+  at_fresh (token (key s) ∷ ls) h = absurd h.0
   at_fresh (token (string s) ∷ []) h = refl
-  at_fresh (token (string s) ∷ token t ∷ ls) h = ap (λ (l : List Lexeme). token (string s) ∷ l) (at_value (token t ∷ ls) h)
-  at_fresh (token (string s) ∷ comma ∷ ls) h = ap (λ (l : List Lexeme). token (string s) ∷ l) (at_value (comma ∷ ls) h)
-  at_fresh (token (string s) ∷ colon ∷ ls) h = ap (λ (l : List Lexeme). token (string s) ∷ colon ∷ l) (at_fresh ls h)
-  at_fresh (token (number s) ∷ ls) h = ap (λ (l : List Lexeme). token (number s) ∷ l) (at_value ls h)
-  at_fresh (token (boolean b) ∷ ls) h = ap (λ (l : List Lexeme). token (boolean b) ∷ l) (at_value ls h)
-  at_fresh (token null ∷ ls) h = ap (λ (l : List Lexeme). token null ∷ l) (at_value ls h)
-  at_fresh (token bad ∷ ls) h = absurd h
-  at_fresh (comma ∷ ls) h = absurd h
-  at_fresh (colon ∷ ls) h = absurd h
+  at_fresh (token (string s) ∷ token t ∷ ls) h = ap (λ (l : List Lexeme). token (string s) ∷ l) (at_value (token t ∷ ls) h.1)
+  at_fresh (token (string s) ∷ comma ∷ ls) h = ap (λ (l : List Lexeme). token (string s) ∷ l) (at_value (comma ∷ ls) h.1)
+  at_fresh (token (string s) ∷ colon ∷ ls) h = ap (λ (l : List Lexeme). token (string s) ∷ colon ∷ l) (at_fresh ls h.1)
+  at_fresh (token (number s) ∷ ls) h = ap (λ (l : List Lexeme). token (number s) ∷ l) (at_value ls h.1)
+  at_fresh (token (boolean b) ∷ ls) h = ap (λ (l : List Lexeme). token (boolean b) ∷ l) (at_value ls h.1)
+  at_fresh (token null ∷ ls) h = ap (λ (l : List Lexeme). token null ∷ l) (at_value ls h.1)
+  at_fresh (token bad ∷ ls) h = absurd h.0
+  at_fresh (comma ∷ ls) h = absurd h.0
+  at_fresh (colon ∷ ls) h = absurd h.0
 
-  at_value : (ls : List Lexeme) → NoBad (punctuate after_value ls) → ls ≡ lexemes true (punctuate after_value ls)
+  at_value : (ls : List Lexeme) → ArePrintable (punctuate after_value ls) → ls ≡ lexemes true (punctuate after_value ls)
   at_value [] h = refl
-  at_value (token begin_object ∷ ls) h = absurd h
-  at_value (token end_object ∷ ls) h = ap (λ (l : List Lexeme). token end_object ∷ l) (at_value ls h)
-  at_value (token begin_array ∷ ls) h = absurd h
-  at_value (token end_array ∷ ls) h = ap (λ (l : List Lexeme). token end_array ∷ l) (at_value ls h)
-  at_value (token (key s) ∷ ls) h = absurd h
-  at_value (token (string s) ∷ []) h = absurd h
-  at_value (token (string s) ∷ token t ∷ ls) h = absurd h
-  at_value (token (string s) ∷ comma ∷ ls) h = absurd h
-  at_value (token (string s) ∷ colon ∷ ls) h = absurd h
-  at_value (token (number s) ∷ ls) h = absurd h
-  at_value (token (boolean b) ∷ ls) h = absurd h
-  at_value (token null ∷ ls) h = absurd h
-  at_value (token bad ∷ ls) h = absurd h
+  at_value (token begin_object ∷ ls) h = absurd h.0
+  at_value (token end_object ∷ ls) h = ap (λ (l : List Lexeme). token end_object ∷ l) (at_value ls h.1)
+  at_value (token begin_array ∷ ls) h = absurd h.0
+  at_value (token end_array ∷ ls) h = ap (λ (l : List Lexeme). token end_array ∷ l) (at_value ls h.1)
+  at_value (token (key s) ∷ ls) h = absurd h.0
+  at_value (token (string s) ∷ []) h = absurd h.0
+  at_value (token (string s) ∷ token t ∷ ls) h = absurd h.0
+  at_value (token (string s) ∷ comma ∷ ls) h = absurd h.0
+  at_value (token (string s) ∷ colon ∷ ls) h = absurd h.0
+  at_value (token (number s) ∷ ls) h = absurd h.0
+  at_value (token (boolean b) ∷ ls) h = absurd h.0
+  at_value (token null ∷ ls) h = absurd h.0
+  at_value (token bad ∷ ls) h = absurd h.0
   at_value (comma ∷ ls) h = at_comma ls h
-  at_value (colon ∷ ls) h = absurd h
+  at_value (colon ∷ ls) h = absurd h.0
 
-  at_comma : (ls : List Lexeme) → NoBad (punctuate after_comma ls) → comma ∷ ls ≡ lexemes true (punctuate after_comma ls)
-  at_comma [] h = absurd h
-  at_comma (token begin_object ∷ ls) h = ap (λ (l : List Lexeme). comma ∷ token begin_object ∷ l) (at_fresh ls h)
-  at_comma (token end_object ∷ ls) h = absurd h
-  at_comma (token begin_array ∷ ls) h = ap (λ (l : List Lexeme). comma ∷ token begin_array ∷ l) (at_fresh ls h)
-  at_comma (token end_array ∷ ls) h = absurd h
-  at_comma (token (key s) ∷ ls) h = absurd h
+  at_comma : (ls : List Lexeme) → ArePrintable (punctuate after_comma ls) → comma ∷ ls ≡ lexemes true (punctuate after_comma ls)
+  at_comma [] h = absurd h.0
+  at_comma (token begin_object ∷ ls) h = ap (λ (l : List Lexeme). comma ∷ token begin_object ∷ l) (at_fresh ls h.1)
+  at_comma (token end_object ∷ ls) h = absurd h.0
+  at_comma (token begin_array ∷ ls) h = ap (λ (l : List Lexeme). comma ∷ token begin_array ∷ l) (at_fresh ls h.1)
+  at_comma (token end_array ∷ ls) h = absurd h.0
+  at_comma (token (key s) ∷ ls) h = absurd h.0
   at_comma (token (string s) ∷ []) h = refl
-  at_comma (token (string s) ∷ token t ∷ ls) h = ap (λ (l : List Lexeme). comma ∷ token (string s) ∷ l) (at_value (token t ∷ ls) h)
-  at_comma (token (string s) ∷ comma ∷ ls) h = ap (λ (l : List Lexeme). comma ∷ token (string s) ∷ l) (at_value (comma ∷ ls) h)
-  at_comma (token (string s) ∷ colon ∷ ls) h = ap (λ (l : List Lexeme). comma ∷ token (string s) ∷ colon ∷ l) (at_fresh ls h)
-  at_comma (token (number s) ∷ ls) h = ap (λ (l : List Lexeme). comma ∷ token (number s) ∷ l) (at_value ls h)
-  at_comma (token (boolean b) ∷ ls) h = ap (λ (l : List Lexeme). comma ∷ token (boolean b) ∷ l) (at_value ls h)
-  at_comma (token null ∷ ls) h = ap (λ (l : List Lexeme). comma ∷ token null ∷ l) (at_value ls h)
-  at_comma (token bad ∷ ls) h = absurd h
-  at_comma (comma ∷ ls) h = absurd h
-  at_comma (colon ∷ ls) h = absurd h
+  at_comma (token (string s) ∷ token t ∷ ls) h = ap (λ (l : List Lexeme). comma ∷ token (string s) ∷ l) (at_value (token t ∷ ls) h.1)
+  at_comma (token (string s) ∷ comma ∷ ls) h = ap (λ (l : List Lexeme). comma ∷ token (string s) ∷ l) (at_value (comma ∷ ls) h.1)
+  at_comma (token (string s) ∷ colon ∷ ls) h = ap (λ (l : List Lexeme). comma ∷ token (string s) ∷ colon ∷ l) (at_fresh ls h.1)
+  at_comma (token (number s) ∷ ls) h = ap (λ (l : List Lexeme). comma ∷ token (number s) ∷ l) (at_value ls h.1)
+  at_comma (token (boolean b) ∷ ls) h = ap (λ (l : List Lexeme). comma ∷ token (boolean b) ∷ l) (at_value ls h.1)
+  at_comma (token null ∷ ls) h = ap (λ (l : List Lexeme). comma ∷ token null ∷ l) (at_value ls h.1)
+  at_comma (token bad ∷ ls) h = absurd h.0
+  at_comma (comma ∷ ls) h = absurd h.0
+  at_comma (colon ∷ ls) h = absurd h.0
 
-pub good_text : (s : List ℕ) → NoBad (tokens s) → AllGood (lex between s)
+pub good_text : (s : List ℕ) → ArePrintable (tokens s) → AllGood (lex between s)
 good_text s h = subst AllGood (sym (at_fresh (lex between s) h)) (good_lexemes false (tokens s) h)
 
 -- two spellings of the same tokens
-pub same_lexemes : (s t : List ℕ) → NoBad (tokens s) → tokens s ≡ tokens t → lex between s ≡ lex between t
-same_lexemes s t h e = at_fresh (lex between s) h ∙ ap (lexemes false) e ∙ sym (at_fresh (lex between t) (subst NoBad e h))
+pub same_lexemes : (s t : List ℕ) → ArePrintable (tokens s) → tokens s ≡ tokens t → lex between s ≡ lex between t
+same_lexemes s t h e = at_fresh (lex between s) h ∙ ap (lexemes false) e ∙ sym (at_fresh (lex between t) (subst ArePrintable e h))
 
 -- ---- the text s between two prints
+
+pub front_printable : (ts us : List Token) → ArePrintable (ts ++ us) → ArePrintable ts
+unfolding ArePrintable
+front_printable [] us h = tt
+front_printable (t ∷ ts) us h = (h.0, front_printable ts us h.1)
 
 abbrev state : List Token → Bool
 state ts = fold (λ _ t. ends t) false ts
@@ -157,15 +133,14 @@ tokens-within before after s front middle all opens closes starts starts' goes_o
     let A = print before in
     let c = print (tokens s) in
     let read_front : tokens (print before) ≡ before = tokens-print before front in
-    let good_front : AllGood (lex between (print before)) = good_text (print before) (subst NoBad (sym read_front) (NoBad-ArePrintable before front)) in
-    let clean : NoBad (tokens s) = NoBad-ArePrintable (tokens s) middle in
+    let good_front : AllGood (lex between (print before)) = good_text (print before) (subst ArePrintable (sym read_front) front) in
     let read_middle : tokens (print (tokens s)) ≡ tokens s = tokens-print (tokens s) middle in
-    let same : lex between s ≡ lex between (print (tokens s)) = same_lexemes s (print (tokens s)) clean (sym read_middle) in
+    let same : lex between s ≡ lex between (print (tokens s)) = same_lexemes s (print (tokens s)) middle (sym read_middle) in
     let left = lex-append (print before) (s ++ print_from true after) starts good_front
-    ∙ ap (λ (l : List Lexeme). lex between (print before) ++ l) (lex-append s (print_from true after) goes_on (good_text s clean)) in
+    ∙ ap (λ (l : List Lexeme). lex between (print before) ++ l) (lex-append s (print_from true after) goes_on (good_text s middle)) in
     let right = lex-append (print before) (print (tokens s) ++ print_from true after) starts' good_front
     ∙ ap (λ (l : List Lexeme). lex between (print before) ++ l)
-    (lex-append (print (tokens s)) (print_from true after) goes_on (good_text (print (tokens s)) (subst NoBad (sym read_middle) clean))) in
+    (lex-append (print (tokens s)) (print_from true after) goes_on (good_text (print (tokens s)) (subst ArePrintable (sym read_middle) middle))) in
     let canonical : print (before ++ (tokens s ++ after)) ≡ print before ++ (print (tokens s) ++ print_from true after) =
     print_from-append false before (tokens s ++ after)
     ∙ ap (λ b. print before ++ print_from b (tokens s ++ after)) opens

@@ -12,7 +12,6 @@ use Rattle.json.specs.Lex.{token, between, lex}
 use Rattle.json.specs.Print.{IsNumber}
 use Rattle.json.specs.Word.{head, ends_word, after_digits, after_minus, after_sign, after_whole, after_fraction, after_exponent, after_number, number_before, literal, word}
 use Rattle.json.proofs.Printed.Numbers.{number_alone, lex-number, in_word-ended}
-use Rattle.tv_formats.proofs.JsonStrings.{none_some}
 
 -- ---- what a number leaves is an end of the text
 
@@ -120,7 +119,7 @@ reads_null u e = ap₂ (λ b l. token (cond b null bad) ∷ l) e (in_word-ended 
 
 some_digit : (s : List ℕ) → IsNumber s → 0 < length s
 unfolding after_number
-some_digit [] h = none_some [] h
+some_digit [] h = let never : None ≡ Some [] = h in cc
 some_digit (x ∷ s) h = omega arith
 
 number_passes : (t : List ℕ) (o : Option (List ℕ)) → after_number t ≡ o → Leaves t o → is_good (number_before t o) ≡ true → Passes t (number_before t o)

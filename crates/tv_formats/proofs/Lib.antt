@@ -12,7 +12,8 @@ pub mod JsonWords
 pub mod JsonSplice
 pub mod JsonWithin
 pub mod JsonReadBack
-pub mod PrintedTokens
+pub mod JsonTrees
+pub mod PrintedTrees
 pub mod ReadPrinted
 pub mod SpelledCommits
 pub mod OneMeaning
@@ -22,8 +23,10 @@ pub mod StrippedTexts
 pub mod ListTexts
 pub mod NoFeeds
 pub mod Numbered
+pub mod Options
 pub mod PlainNames
 pub mod Required
+pub mod Results
 pub mod Samples
 pub mod SegmentNames
 pub mod TextSets

@@ -12,11 +12,12 @@ use Rattle.tv_formats.specs.Meaning.{IsPrinted, IsNotPrinted, Means, MeansNothin
 use Rattle.tv_formats.specs.Commits.{Commit, Settings, IsCommit, printed}
 use Rattle.tv_formats.proofs.Entries.{is_itself, is_text}
 use Rattle.tv_formats.proofs.JsonReadBack.{Spelled, spelled, one_tree}
-use Rattle.tv_formats.proofs.PrintedTokens.{meta_json, schema_depth}
-use Rattle.tv_formats.proofs.ReadPrinted.{some_value, line_tokens, schema_spelled, shallow_spells}
+use Rattle.tv_formats.proofs.PrintedTrees.{line_tokens, meta_json, schema_depth}
+use Rattle.tv_formats.proofs.ReadPrinted.{schema_spelled, shallow_spells}
 use Rattle.tv_formats.proofs.OneMeaning.{one_meaning}
 use Rattle.tv_formats.proofs.SpelledCommits.{spells_commit}
 use Rattle.tv_formats.proofs.CutApart.{printed_one}
+use Rattle.tv_formats.proofs.Options.{some_value}
 
 -- a printed form that is read as JSON spells its own commit
 pub printed_spelled : (settings : Settings) (schema bytes : List ℕ) (commit : Commit) (tree : Data) → IsSchemaText schema tree

@@ -1,7 +1,6 @@
 -- Entries under numbers, in the order of the numbers.
 use Rattle.std.proofs.Common.{◌≡◌, ◌≢◌, ℕ, ◌<◌, ◌≤◌, Bool, true, false, true≢false, cond, List, [], ◌∷◌, Option, Some, None, refl, sym, ap, subst, ◌∙◌, arith}
 use Rattle.std.specs.Prelude.{is_some}
-use Rattle.std.specs.declared.cmp.Ordering.{Ordering}
 use Rattle.std.specs.declared.cmp.Ordering.TheVariants.{Less, Equal, Greater}
 use Rattle.std.specs.Cmp.{eq_by_cmp_equiv, nat_cmp_total}
 use Rattle.std.specs.Ordering.{is_eq, match_ordering, nat_cmp}
@@ -11,15 +10,11 @@ use Rattle.std.specs.BTreeMap.{is_at, insert_entry}
 use Rattle.std.proofs.lemmas.Bool.{false_from_ne_true}
 use Rattle.std.proofs.lemmas.Cmp.{ranked}
 use Rattle.tv_formats.specs.Collections.{Rises}
-
-equal_is : (r : Ordering) → is_eq r ≡ true → r ≡ Equal
-equal_is Less e = absurd cc
-equal_is Equal e = refl
-equal_is Greater e = absurd cc
+use Rattle.tv_formats.proofs.Entries.{is_equal}
 
 -- numbers that compare alike are one
 same_number : (n k : ℕ) → is_at (nat_cmp n) k ≡ true → n ≡ k
-same_number n k e = ranked n k Equal (sym (equal_is (nat_cmp n k) e))
+same_number n k e = ranked n k Equal (sym (is_equal (nat_cmp n k) e))
 
 -- what holds of all entries holds of the one that is found
 pub found : {X : Type 0} (P : ℕ × X → Type 0) (es : List (ℕ × X)) (n : ℕ) (v : X) → AllByRecursion P es → lookup (is_at (nat_cmp n)) es ≡ Some v → P (n, v)

@@ -1,5 +1,5 @@
 -- The names of a segment's files are plain.
-use Rattle.std.proofs.Common.{◌≡◌, ℕ, zero, suc, ◌+◌, ◌<◌, ◌≤◌, ◌/◌, ◌%◌, ◌==◌, Bool, true, false, cond, not, ◌&&◌, nat_le, List, [], ◌∷◌, ◌++◌, length, codes, refl, arith, length-append, append_assoc}
+use Rattle.std.proofs.Common.{◌≡◌, ℕ, zero, suc, ◌+◌, ◌<◌, ◌≤◌, ◌/◌, ◌%◌, ◌==◌, Bool, true, false, cond, not, ◌&&◌, nat_le, List, [], ◌∷◌, ◌++◌, length, codes, refl, arith, length-append, append_assoc, map, subst, string_bytes, String, Global}
 use Rattle.std.specs.Prelude.{slice_index, nat_lt}
 use Rattle.std.specs.List.{list_all}
 use Rattle.std.specs.Fmt.{decimal, digits, digits_onto, digit_glyph}
@@ -133,3 +133,9 @@ other_plain id Delete h = rw (append_assoc (encode_lower id) (codes ".") (codes 
 -- a plain name is that of a file
 pub plain_is_file_name : (name : List ℕ) → is_plain name ≡ true → is_file_name name ≡ true
 plain_is_file_name name h = rw h refl
+
+-- the first of some plain names is one, and so are the others
+pub plain_head : (keys rest : List (String Global)) (name : String Global) → keys ≡ name ∷ rest → list_all is_plain (map string_bytes keys) ≡ true
+    → (is_plain (string_bytes name) ≡ true) × (list_all is_plain (map string_bytes rest) ≡ true)
+plain_head keys rest name e h =
+    both (is_plain (string_bytes name)) (list_all is_plain (map string_bytes rest)) (subst (λ (ks : List (String Global)). list_all is_plain (map string_bytes ks) ≡ true) e h)

@@ -1,5 +1,5 @@
 -- What bytes spell is a commit: its numbers are in their ranges, its ids have sixteen bytes, and its segments are in order.
-use Rattle.std.proofs.Common.{◌≡◌, ℕ, zero, suc, ◌+◌, ◌*◌, ◌<◌, ◌^◌, ◌==◌, nat_lt, Bool, true, false, cond, ◌&&◌, List, [], ◌∷◌, length, take, drop, Option, Some, None, option_and_then, refl, sym, subst, arith, eqb-true, codes, ⊎_elim}
+use Rattle.std.proofs.Common.{◌≡◌, ℕ, zero, suc, ◌+◌, ◌*◌, ◌<◌, ◌^◌, ◌==◌, nat_lt, Bool, true, false, cond, ◌&&◌, List, [], ◌∷◌, length, take, drop, Option, Some, None, option_and_then, sym, subst, arith, eqb-true, codes, ⊎_elim}
 use Rattle.std.specs.Prelude.{All, IfSome, IsUtf8, slice_index}
 use Rattle.std.specs.List.{AllByRecursion, list_all}
 use Rattle.std.proofs.lemmas.Bool.{and_parts, ltb-true}
@@ -20,10 +20,7 @@ use Rattle.tv_formats.specs.MetaJson.{IsDeleteMeta, SpellsSegment, SpellEach, Ar
 use Rattle.tv_formats.specs.Meaning.{IsPrinted, IsNotPrinted, Means}
 use Rattle.tv_formats.specs.Segments.{delete_opstamp}
 use Rattle.tv_formats.specs.Commits.{Commit, Settings, IsSegment, IsCommit, default_settings}
-
-pub and_then_some : {A B : Type 0} (f : A → Option B) (o : Option A) (y : B) → option_and_then f o ≡ Some y → (x : A) × (o ≡ Some x) × (f x ≡ Some y)
-and_then_some f None y h = cc
-and_then_some f (Some x) y h = (x, refl, h)
+use Rattle.tv_formats.proofs.Options.{and_then_some}
 
 -- ---- numbers
 

@@ -17,7 +17,7 @@ use Rattle.serde_json.specs.Data.{Data, Items}
 use Rattle.serde_json.specs.Data as trees
 use Rattle.serde_json.specs.Read.{read, of_json, of_members, number_of}
 use Rattle.tv_formats.specs.Schemas.{is_blank, stripped, stripped_inside, IsSchemaTree, IsSchemaText}
-use Rattle.tv_formats.proofs.JsonWithin.{same_lexemes, NoBad, NoBad-ArePrintable}
+use Rattle.tv_formats.proofs.JsonWithin.{same_lexemes}
 use Rattle.tv_formats.proofs.JsonReadBack.{spelled}
 
 -- ---- the first lexeme of a text
@@ -114,7 +114,7 @@ opened text ds is =
     let printable : ArePrintable (json_tokens s.tree) = ArePrintable-json_tokens s.tree s.numbers in
     let again : tokens (print (json_tokens s.tree)) ≡ json_tokens s.tree = tokens-print (json_tokens s.tree) printable in
     let same : lex between text ≡ lex between (print (json_tokens s.tree)) =
-    same_lexemes text (print (json_tokens s.tree)) (subst NoBad (sym s.same) (NoBad-ArePrintable (json_tokens s.tree) printable)) (s.same ∙ sym again) in
+    same_lexemes text (print (json_tokens s.tree)) (subst ArePrintable (sym s.same) printable) (s.same ∙ sym again) in
     ap opens same ∙ ap (λ (t : json.Json). opens (lex between (print (json_tokens t)))) j.1 ∙ opens_array j.0
 
 begins_so : (text : List ℕ) → ((x : ℕ) (xs : List ℕ) → text ≡ x ∷ xs → is_blank x ≡ false) → opens (lex between text) ≡ true

@@ -1,9 +1,10 @@
 -- Commits, and what `meta.json` says.
-use Rattle.std.specs.Prelude.{ℕ, ◌≤◌, ◌<◌, ◌^◌, ◌/◌, ◌%◌, ◌+◌, ◌==◌, nat_lt, Bool, true, false, List, [], ◌∷◌, ◌++◌, map, codes, Option, Some, None, IfSome, if◌then◌else◌}
+use Rattle.std.specs.Prelude.{ℕ, ◌≤◌, ◌<◌, ◌^◌, Bool, true, false, List, [], ◌++◌, map, codes, Option, Some, None, IfSome}
 use Rattle.std.specs.Fmt.{decimal}
 use Rattle.std.specs.List.{flat_map, join_with_byte, AllByRecursion}
 use Rattle.std.specs.List.Sorted.{IsStrictlySortedBy}
 use Rattle.std.specs.Str.{IsUtf8}
+use Rattle.json.specs.Print.{quoted}
 use Rattle.uuid.specs.Text.{hyphenated_text, lower}
 use Rattle.tv_formats.specs.declared.segment.DeleteMeta.{DeleteMeta}
 use Rattle.tv_formats.specs.declared.segment.LiveSegment.{LiveSegment}
@@ -78,31 +79,10 @@ segment_text e =
     codes "{\"segment_id\":\"" ++ hyphenated_text lower e.0 ++ codes "\",\"max_doc\":" ++ decimal e.1.max_doc
     ++ codes ",\"deletes\":" ++ deletes_text e.1.deletes ++ codes "}"
 
--- a hexadecimal digit in lower case
-abbrev pub lower_digit : ℕ → ℕ
-lower_digit n = if nat_lt n 10 then 48 + n else 87 + n
-
--- a byte of a JSON string: `"`, `\` and the control characters are escaped
-abbrev pub escaped_byte : ℕ → List ℕ
-escaped_byte b =
-    if b == 34 then codes "\\\""
-    else if b == 92 then codes "\\\\"
-    else if b == 8 then codes "\\b"
-    else if b == 12 then codes "\\f"
-    else if b == 10 then codes "\\n"
-    else if b == 13 then codes "\\r"
-    else if b == 9 then codes "\\t"
-    else if nat_lt b 32 then codes "\\u00" ++ lower_digit (b / 16) ∷ lower_digit (b % 16) ∷ []
-    else b ∷ []
-
--- a text as it stands between the quotes of a JSON string
-abbrev pub escaped : List ℕ → List ℕ
-escaped text = flat_map escaped_byte text
-
 -- the payload, as `meta.json` has it: left out where there is none
 abbrev pub payload_text : Option (List ℕ) → List ℕ
 payload_text None = []
-payload_text (Some text) = codes ",\"payload\":\"" ++ escaped text ++ codes "\""
+payload_text (Some text) = codes ",\"payload\":" ++ quoted text
 
 -- the printed form of a commit under a schema of this text
 abbrev pub printed : Settings → List ℕ → Commit → List ℕ

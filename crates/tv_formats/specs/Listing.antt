@@ -1,40 +1,33 @@
 -- The list of managed files: how it is written, and what any spelling of its JSON stands for.
 use Rattle.std.specs.Prelude.{ℕ, ◌≡◌, true, List, [], ◌∷◌, ◌++◌, map, Option, Some, None}
-use Rattle.std.specs.List.{join_with_byte, AllByRecursion}
+use Rattle.std.specs.List.{AllByRecursion}
 use Rattle.std.specs.List.Sorted.{IsStrictlySortedBy}
 use Rattle.std.specs.Str.{IsUtf8}
-use Rattle.serde_json.specs.Data.{string, array, Items, no_items, item}
+use Rattle.serde_json.specs.Data.{Data, string, array}
 use Rattle.serde_json.specs.Read.{read}
+use Rattle.serde_json.specs.View.{items_of}
+use Rattle.serde_json.specs.Written.{compact_text}
 use Rattle.tv_formats.specs.Files.{Reads}
 use Rattle.tv_formats.specs.Names.{is_plain, byte_cmp, has, list_name}
 
--- a name between quotation marks
-abbrev pub in_quotes : List ℕ → List ℕ
-in_quotes name = 34 ∷ name ++ 34 ∷ []
+-- the list of these names as JSON: the array of them as strings
+abbrev pub list_tree : List (List ℕ) → Data
+list_tree names = array (items_of (map string names))
 
--- the text of the list as it is written: the names with `,` between, in brackets, and a line feed
+-- the text of the list as it is written: its JSON without blanks, and a line feed
 abbrev pub list_text : List (List ℕ) → List ℕ
-list_text names = 91 ∷ join_with_byte 44 (map in_quotes names) ++ 93 ∷ 10 ∷ []
+list_text names = compact_text (list_tree names) ++ 10 ∷ []
 
 -- a managed name is a text, and plain
 abbrev pub IsManagedName : List ℕ → Type 0
 IsManagedName name = (is_plain name ≡ true) × IsUtf8 name
 
--- each item is the string at its place
-abbrev pub AreStrings : Items → List (List ℕ) → Type 0
-AreStrings no_items [] = Unit {0}
-AreStrings no_items (s ∷ ss) = ⊥
-AreStrings (item d ds) [] = ⊥
-AreStrings (item d ds) (s ∷ ss) = (d ≡ string s) × AreStrings ds ss
-
 -- The bytes are the list of these names, which stand in their order and each once: they spell an array of
 -- strings, which are these names, in any order, some of them perhaps several times.
 pub record IsListOf (bytes : List ℕ) (names : List (List ℕ)) : Type 0 where
   pub utf8 : IsUtf8 bytes
-  pub items : Items
-  pub parsed : read bytes ≡ Some (array items)
   pub found : List (List ℕ)
-  pub strings : AreStrings items found
+  pub parsed : read bytes ≡ Some (list_tree found)
   pub each : AllByRecursion IsManagedName found
   pub same : (n : List ℕ) → has names n ≡ has found n
   pub ordered : IsStrictlySortedBy byte_cmp names

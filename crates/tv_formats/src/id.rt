@@ -42,7 +42,8 @@ impl SegmentId {
     /// The id that a text spells in one of the forms of a UUID: 32 hexadecimal digits of either case,
     /// plain or with hyphens, and these in braces or as a URN.
     pub fn from_uuid_string(text: &str) -> Result<SegmentId, SegmentIdParseError>
-        ensures { MatchResult result (λ id. parsed text.now ≡ Some id) (λ _. parsed text.now ≡ None) }
+        ensures { MatchResult result (λ id. parsed text.now ≡ Some id)
+            (λ _. parsed text.now ≡ None) }
     {
         match Uuid::parse_str(text) {
             Ok(id) => Ok(SegmentId(id)),
@@ -104,7 +105,8 @@ impl FromStr for SegmentId {
     ghost use Rattle.std.specs.Prelude.{◌≡◌, Some, None, MatchResult};
     ghost use Rattle.uuid.specs.Text.{parsed};
 
-    ghost from_str_gives = { λ text r. MatchResult r (λ id. parsed text ≡ Some id) (λ _. parsed text ≡ None) };
+    ghost from_str_gives = { λ text r.
+        MatchResult r (λ id. parsed text ≡ Some id) (λ _. parsed text ≡ None) };
 
     fn from_str(text: &str) -> Result<SegmentId, SegmentIdParseError> {
         SegmentId::from_uuid_string(text)

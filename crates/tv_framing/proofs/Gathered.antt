@@ -12,6 +12,7 @@ use Rattle.std.proofs.lemmas.List.Elements.{filter-append}
 use Rattle.std.proofs.lemmas.List.Sorted.{searchable_from_sorted}
 use Rattle.std.proofs.lemmas.List.Sums.{fold-append}
 use Rattle.tv_formats.specs.Names.{byte_cmp}
+use Rattle.tv_formats.proofs.Entries.{is_equal}
 use Rattle.tv_framing.specs.Fields.{FieldSpace}
 use Rattle.tv_framing.specs.PerField.{AreByName, InNameOrder, IsBelow, all_of, gathered, is_named, joined}
 use Rattle.tv_framing.specs.Places.{IsGap, IsPlace, by_name, with_field}
@@ -58,15 +59,10 @@ none_named n (x ∷ xs) h = ap (λ c. cond (is_eq c) (Some x) (find (is_named n)
 abbrev after : List ℕ → FieldSpace → Bool → List FieldSpace → Option FieldSpace
 after n f b fs = cond b (gathered (find (is_named n) fs) f) (find (is_named n) fs)
 
-equal_of : (c : Ordering) → is_eq c ≡ true → c ≡ Equal
-equal_of Less e = absurd (cc)
-equal_of Equal e = refl
-equal_of Greater e = absurd (cc)
-
 find_less : (n : List ℕ) (f g : FieldSpace) (gs : List FieldSpace) (b : Bool) → is_named n f ≡ b → IsBelow f g → InNameOrder (g ∷ gs)
     → cond b (Some f) (find (is_named n) (g ∷ gs)) ≡ after n f b (g ∷ gs)
 find_less n f g gs true e is h =
-    let same : byte_cmp n f.name ≡ Equal = equal_of (byte_cmp n f.name) e in
+    let same : byte_cmp n f.name ≡ Equal = is_equal (byte_cmp n f.name) e in
     let down : (x : FieldSpace) → IsBelow f x → byte_cmp n x.name ≡ Less = λ (x : FieldSpace) (p : IsBelow f x). nat_list_cmp_total.congr n f.name x.name same ∙ p in
     let none : find (is_named n) (g ∷ gs) ≡ None = none_named n (g ∷ gs) (down g is, all_map (IsBelow g) (λ x. byte_cmp n x.name ≡ Less) (λ x p. down x (below_trans f g x is p)) gs h.0) in
     ap (λ o. gathered o f) (sym none)
@@ -79,7 +75,7 @@ find_equal n f g gs false e = refl
 find_greater : (n : List ℕ) (f g : FieldSpace) (gs : List FieldSpace) (b d : Bool) → is_named n f ≡ b → is_named n g ≡ d → byte_cmp f.name g.name ≡ Greater → find (is_named n) (with_field gs f) ≡ after n f b gs
     → cond d (Some g) (find (is_named n) (with_field gs f)) ≡ cond b (gathered (cond d (Some g) (find (is_named n) gs)) f) (cond d (Some g) (find (is_named n) gs))
 find_greater n f g gs true true e k is ih =
-    grind (arith, equal_of, nat_list_cmp_total)
+    grind (arith, is_equal, nat_list_cmp_total)
 find_greater n f g gs true false e k is ih = ih
 find_greater n f g gs false true e k is ih = refl
 find_greater n f g gs false false e k is ih = ih

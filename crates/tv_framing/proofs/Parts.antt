@@ -1,5 +1,5 @@
 -- Facts on where the bodies of a composite file begin.
-use Rattle.std.proofs.Common.{◌≡◌, ◌≢◌, ◌≤◌, ◌<◌, ◌+◌, ◌-◌, ◌^◌, ℕ, zero, suc, Bool, true, false, ◌||◌, List, [], ◌∷◌, ◌++◌, length, take, drop, get_or, slice_range, refl, sym, ap, subst, ◌∙◌, arith, append_assoc, append-nil, length-append, length-drop}
+use Rattle.std.proofs.Common.{◌≡◌, ◌≢◌, ◌≤◌, ◌<◌, ◌+◌, ◌-◌, ◌^◌, ℕ, zero, suc, Bool, false, ◌||◌, List, [], ◌∷◌, ◌++◌, length, take, drop, get_or, slice_range, refl, sym, ap, subst, ◌∙◌, arith, append_assoc, append-nil, length-append, length-drop}
 use Rattle.std.proofs.lemmas.List.{map-append, take-append-drop, length-take-le, take-append-le, drop-append-le, drop-drop, take_rest, drop_all, drop_more}
 use Rattle.std.proofs.lemmas.List.Folds.{list_any-append}
 use Rattle.std.proofs.lemmas.Bool.Decides.{nat_tests}
@@ -11,6 +11,7 @@ use Rattle.tv_framing.specs.declared.starts.Start.{Start}
 use Rattle.tv_framing.specs.Composite.{Part, AreDistinct, IsAddress, IsComposite, addresses, bodies, composite, footing, grown, is_at, listed}
 use Rattle.tv_framing.specs.Starts.{Ascend, Fill, footing_text, listed_from, next_start, parts_of, start_addresses}
 use Rattle.std.specs.Prelude.{Result, Ok, Err, OnOk}
+use Rattle.std.proofs.lemmas.Bool.{or_parts}
 use Rattle.tv_base.specs.declared.io.IoError.{IoError}
 use Rattle.tv_base.specs.declared.writers.TerminatingWrite.{Ghosts}
 use Rattle.tv_framing.specs.Closing.{EndFaults}
@@ -126,17 +127,13 @@ pub turned : (a b : FileAddr) → is_at a b ≡ is_at b a
 turned a b =
     grind (arith, nat_tests)
 
-pub or_false : (a b : Bool) → (a || b) ≡ false → (a ≡ false) × (b ≡ false)
-or_false true b h = absurd (cc)
-or_false false b h = (refl, h)
-
 neither : (a b : Bool) → a ≡ false → b ≡ false → (a || b) ≡ false
 neither a b p q = rw p q
 
 pub distinct_push : (addrs : List FileAddr) (a : FileAddr) → AreDistinct addrs → list_any (is_at a) addrs ≡ false → AreDistinct (addrs ++ a ∷ [])
 distinct_push [] a h new = (refl, tt)
 distinct_push (x ∷ xs) a h new =
-    let both = or_false (is_at a x) (list_any (is_at a) xs) new in
+    let both = or_parts (is_at a x) (list_any (is_at a) xs) new in
     (list_any-append (is_at x) xs (a ∷ []) ∙ neither _ _ h.0 (neither (is_at x a) false (turned x a ∙ both.0) refl), distinct_push xs a h.1 both.1)
 
 -- ---- what was written so far

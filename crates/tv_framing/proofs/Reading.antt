@@ -12,7 +12,7 @@ use Rattle.std.specs.BTreeSet as tree
 use Rattle.std.specs.Ordering.{is_eq, nat_cmp, ordering_then}
 use Rattle.std.specs.declared.cmp.Ordering.{Ordering}
 use Rattle.std.specs.declared.cmp.Ordering.TheVariants.{Less, Equal, Greater}
-use Rattle.std.proofs.lemmas.Bool.{eqb-true}
+use Rattle.std.proofs.lemmas.Bool.{eqb-true, or_parts}
 use Rattle.std.proofs.lemmas.Bool.Decides.{nat_tests}
 use Rattle.std.proofs.lemmas.List.Folds.{list_any-append}
 use Rattle.std.proofs.lemmas.Option.{none-some, same_Some}
@@ -21,7 +21,7 @@ use Rattle.tv_framing.specs.Composite.{Part, AreDistinct, IsAddress, IsComposite
 use Rattle.tv_framing.specs.Entries.{BeginsAtFirst, IsLayout, entries_text, entry_addresses, entry_text, gaps, starts_after}
 use Rattle.tv_framing.specs.Fitting.{EntryFits, SpellsEntries}
 use Rattle.tv_framing.specs.Starts.{Ascend, Fill, next_start, parts_of, start_addresses}
-use Rattle.tv_framing.proofs.Parts.{addresses_of, addresses_push, all_get, all_push, bodies_whole, distinct_push, or_false, turned}
+use Rattle.tv_framing.proofs.Parts.{addresses_of, addresses_push, all_get, all_push, bodies_whole, distinct_push, turned}
 
 -- ---- the entries of some parts
 
@@ -201,7 +201,7 @@ so_far_more entries i offset len starts now e s front le new is =
 
 here : (xs : List FileAddr) (a : FileAddr) (rest : List FileAddr) (x : FileAddr) → is_at x a ≡ true → list_any (is_at x) (xs ++ a ∷ rest) ≡ false → ⊥
 here xs a rest x e h =
-    grind (arith, or_false, list_any-append)
+    grind (arith, or_parts, list_any-append)
 
 twice_by : (x : FileAddr) (xs : List FileAddr) (a : FileAddr) (rest : List FileAddr) (b : Bool) → (list_any (is_at a) xs ≡ true → AreDistinct (xs ++ a ∷ rest) → ⊥)
     → is_at a x ≡ b → (b || list_any (is_at a) xs) ≡ true → AreDistinct (x ∷ (xs ++ a ∷ rest)) → ⊥

@@ -1,9 +1,10 @@
 -- Facts on reports of a composite file.
-use Rattle.std.proofs.Common.{◌≡◌, ◌<◌, ◌≤◌, ◌+◌, ◌-◌, ◌&&◌, ℕ, Bool, true, false, Option, None, Some, List, [], ◌∷◌, length, drop, fold, get_or, nat_le, nat_lt, replicate, slice_range, sum_by, refl, sym, ap, ◌∙◌, arith, length-drop}
+use Rattle.std.proofs.Common.{◌≡◌, ◌<◌, ◌≤◌, ◌+◌, ◌-◌, ℕ, Bool, true, Option, None, Some, List, [], ◌∷◌, length, drop, fold, get_or, nat_le, nat_lt, replicate, slice_range, sum_by, refl, sym, ap, ◌∙◌, arith, length-drop}
 use Rattle.std.proofs.lemmas.List.{length-take-le, length-replicate, length-append}
 use Rattle.std.proofs.lemmas.List.Folds.{sum_by-replicate}
 use Rattle.std.proofs.lemmas.List.Sums.{sum_by-cons, sum_by-set}
 use Rattle.std.specs.List.{list_all}
+use Rattle.std.proofs.lemmas.Bool.{and_parts}
 use Rattle.tv_base.specs.declared.byte_count.ByteCount.{ByteCount}
 use Rattle.tv_framing.specs.declared.address.FileAddr.{FileAddr}
 use Rattle.tv_framing.specs.declared.starts.Start.{Start}
@@ -25,13 +26,9 @@ pub record IsReporting (names : List (List ℕ)) (starts : List Start) (n i end 
   pub small : list_all (λ (a : FileAddr). nat_le a.idx 65535) (start_addresses (drop i starts)) ≡ true
   pub made : (bytes : List ℕ) → length bytes ≡ end → fold with_field so_far (usages names (parts_of bytes (drop i starts))) ≡ by_name (usages names (parts_of bytes starts))
 
-both_true : (a b : Bool) → (a && b) ≡ true → (a ≡ true) × (b ≡ true)
-both_true true b h = (refl, h)
-both_true false b h = absurd (cc)
-
 all_rest : (p : FileAddr → Bool) (starts : List Start) (i : ℕ) (s : Start) → drop i starts ≡ s ∷ drop (i + 1) starts → list_all p (start_addresses (drop i starts)) ≡ true → (p s.addr ≡ true) × (list_all p (start_addresses (drop (i + 1) starts)) ≡ true)
 all_rest p starts i s front h =
-    both_true (p s.addr) (list_all p (start_addresses (drop (i + 1) starts))) (ap (λ (l : List Start). list_all p (start_addresses l)) (sym front) ∙ h)
+    and_parts (p s.addr) (list_all p (start_addresses (drop (i + 1) starts))) (ap (λ (l : List Start). list_all p (start_addresses l)) (sym front) ∙ h)
 
 -- the numbers of the start that comes next
 pub next_fits : (names : List (List ℕ)) (starts : List Start) (n i end : ℕ) (so_far : List FieldSpace) (s : Start) → IsReporting names starts n i end so_far → drop i starts ≡ s ∷ drop (i + 1) starts → (s.addr.field < n) × (s.addr.idx ≤ 65535)

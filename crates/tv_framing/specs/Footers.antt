@@ -57,6 +57,26 @@ last_four bytes = drop (length bytes - 4) bytes
 abbrev pub stated_json : List ℕ → List ℕ
 stated_json bytes = take (stated bytes) (drop (length bytes - (stated bytes + 8)) bytes)
 
+-- what is said of a file with another magic number
+abbrev pub other_magic_text : List ℕ
+other_magic_text =
+    codes "Footer magic byte mismatch. File corrupted or index was created using old an tantivy "
+    ++ (codes "version which is not supported anymore. Please use tantivy 0.15 or above to "
+    ++ codes "recreate the index.")
+
+-- what is said of a file that states a footer of so many bytes
+abbrev pub too_long_text : ℕ → List ℕ
+too_long_text size =
+    codes "Footer seems invalid as it suggests a footer len of " ++ (decimal size
+    ++ (codes ". File is corrupted, or the index was created with a different & old version of "
+    ++ codes "tantivy."))
+
+-- what is said of a file that is shorter than a footer of so many bytes
+abbrev pub cut_off_text : ℕ → List ℕ
+cut_off_text size =
+    codes "File corrupted. The file is smaller than it's footer bytes (len=" ++ (decimal size
+    ++ codes ").")
+
 -- why a file is refused, each where no earlier reason holds
 pub record IsTooSmall (bytes : List ℕ) (fault : IoFault) : Type 0 where
   pub small : length bytes < 8
@@ -67,18 +87,14 @@ pub record IsTooSmall (bytes : List ℕ) (fault : IoFault) : Type 0 where
 pub record HasOtherMagic (bytes : List ℕ) (fault : IoFault) : Type 0 where
   pub large : 8 ≤ length bytes
   pub other : last_four bytes ≢ four_bytes footer_magic
-  pub is :
-      IsFault InvalidData
-      (codes "Footer magic byte mismatch. File corrupted or index was created using old an tantivy version which is not supported anymore. Please use tantivy 0.15 or above to recreate the index.") fault
+  pub is : IsFault InvalidData other_magic_text fault
 
 -- A file is refused that states a footer of more than 50,000 bytes.
 pub record StatesTooMuch (bytes : List ℕ) (fault : IoFault) : Type 0 where
   pub large : 8 ≤ length bytes
   pub magic : last_four bytes ≡ four_bytes footer_magic
   pub long : 50000 < stated bytes
-  pub is : IsFault InvalidData (codes "Footer seems invalid as it suggests a footer len of "
-      ++ (decimal (stated bytes)
-      ++ codes ". File is corrupted, or the index was created with a different & old version of tantivy.")) fault
+  pub is : IsFault InvalidData (too_long_text (stated bytes)) fault
 
 -- A file is refused that is shorter than the footer which it states.
 pub record IsCutOff (bytes : List ℕ) (fault : IoFault) : Type 0 where
@@ -86,8 +102,7 @@ pub record IsCutOff (bytes : List ℕ) (fault : IoFault) : Type 0 where
   pub magic : last_four bytes ≡ four_bytes footer_magic
   pub short : stated bytes ≤ 50000
   pub cut : length bytes < stated bytes + 8
-  pub is : IsFault UnexpectedEof (codes "File corrupted. The file is smaller than it's footer bytes (len="
-      ++ (decimal (stated bytes + 8) ++ codes ").")) fault
+  pub is : IsFault UnexpectedEof (cut_off_text (stated bytes + 8)) fault
 
 -- A file is refused whose footer isn't spelled as JSON of the footer's form, for a body of the length of the
 -- one before it. The formats that are read so far don't look at the length.

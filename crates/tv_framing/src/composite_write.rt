@@ -28,7 +28,11 @@ impl<W: TerminatingWrite> Model for CompositeWrite<W> {
 
     ghost Value = { Composing W };
 
-    ghost view = { λ c. record { writer = c.writer; before = before_last c.written (W.view c.writer).taken; parts = parts_of (the_last c.written (W.view c.writer).taken) c.starts.items } };
+    ghost view = { λ c. record {
+      writer = c.writer;
+      before = before_last c.written (W.view c.writer).taken;
+      parts = parts_of (the_last c.written (W.view c.writer).taken) c.starts.items;
+    } };
 
     ghost invariant = { λ c. IsBegun c.starts.items c.written (W.view c.writer).taken };
 }

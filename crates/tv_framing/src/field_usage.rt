@@ -24,7 +24,11 @@ impl Model for FieldUsage {
 
     ghost Value = { FieldSpace };
 
-    ghost view = { λ f. record { name = string_bytes f.field_name; parts = f.sub_num_bytes.items; column = f.column_usage } };
+    ghost view = { λ f. record {
+      name = string_bytes f.field_name;
+      parts = f.sub_num_bytes.items;
+      column = f.column_usage;
+    } };
 }
 
 impl FieldUsage {

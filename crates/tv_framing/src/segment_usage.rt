@@ -29,7 +29,16 @@ impl Model for SegmentSpaceUsage {
 
     ghost Value = { SegmentSpace };
 
-    ghost view = { λ s. record { num_docs = s.num_docs; termdict = s.termdict; postings = s.postings; positions = s.positions; fast_fields = s.fast_fields; fieldnorms = s.fieldnorms; store = s.store; deletes = s.deletes } };
+    ghost view = { λ s. record {
+      num_docs = s.num_docs;
+      termdict = s.termdict;
+      postings = s.postings;
+      positions = s.positions;
+      fast_fields = s.fast_fields;
+      fieldnorms = s.fieldnorms;
+      store = s.store;
+      deletes = s.deletes;
+    } };
 }
 
 impl SegmentSpaceUsage {

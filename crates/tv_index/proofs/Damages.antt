@@ -1,11 +1,12 @@
 -- The damaged files among some, one file further.
 use Rattle.std.proofs.Common.{◌≡◌, ◌⊎◌, inl, inr, ℕ, suc, zero, ◌<◌, ◌&&◌, ◌||◌, Bool, true, false, true≢false, cond, not, List, [], ◌∷◌, ◌++◌, length, take, get_or, Some, None, Result, Ok, Err, refl, sym, ap, subst, ◌∙◌, arith, map, string_bytes, String, Global}
-use Rattle.std.specs.Prelude.{IfOk, IsErr, IsErrAnd, OnOk}
+use Rattle.std.specs.Prelude.{IsErrAnd, OnOk}
 use Rattle.std.specs.BTreeSet.{insert_key}
 use Rattle.std.specs.List.{filter}
-use Rattle.std.proofs.lemmas.Bool.{or_parts}
+use Rattle.std.proofs.lemmas.Bool.{or_parts, and_parts, not-true}
 use Rattle.std.proofs.lemmas.List.Elements.{filter-append}
 use Rattle.std.specs.String.{string_cmp}
+use Rattle.std.proofs.Math.Bool.{or_assoc}
 use Rattle.tv_base.specs.Causes.{IsDevice}
 use Rattle.tv_base.specs.Errors.{of_open_read}
 use Rattle.tv_base.specs.declared.error.TantivyError.{TantivyError}
@@ -22,10 +23,10 @@ use Rattle.tv_formats.specs.Names.{has, is, meta_name}
 use Rattle.tv_formats.proofs.Entries.{has_put, is_text}
 use Rattle.tv_formats.proofs.Required.{by_one}
 use Rattle.tv_formats.proofs.TextSets.{texts_inserted}
-use Rattle.tv_index.specs.Checksums.{AreDamaged, TellsFile, UnreadCause, UnreadFaults, UnreadFile, ValidateCause, ValidateFaults, looked_at}
+use Rattle.tv_index.specs.Checksums.{AreDamaged, TellsFile, UnreadCause, UnreadFaults, UnreadFile, UnreadMeta, ValidateCause, ValidateFaults, looked_at}
 use Rattle.tv_index.specs.Indexes.{MeansSuch}
 use Rattle.tv_index.specs.Metas.{commit_of, settings_of}
-use Rattle.tv_index.specs.Standing.{LoadsMeta, MetaCause}
+use Rattle.tv_index.specs.Standing.{LoadsMeta}
 use Rattle.tv_index.specs.declared.index_meta.UntrackedIndexMeta.{UntrackedIndexMeta}
 
 -- ---- names
@@ -35,18 +36,7 @@ has_last [] name n = last (is name n) where
   last : (b : Bool) → (b || false) ≡ b
   last true = refl
   last false = refl
-has_last (x ∷ names) name n = ap (λ (b : Bool). is x n || b) (has_last names name n) ∙ grouped (is x n) (has names n) (is name n) where
-  grouped : (a b c : Bool) → (a || (b || c)) ≡ ((a || b) || c)
-  grouped true b c = refl
-  grouped false b c = refl
-
-both : (a b : Bool) → (a && b) ≡ true → (a ≡ true) × (b ≡ true)
-both true b h = (refl, h)
-both false b h = absurd cc
-
-wrong : (b : Bool) → not b ≡ true → b ≡ false
-wrong true h = absurd cc
-wrong false h = refl
+has_last (x ∷ names) name n = ap (λ (b : Bool). is x n || b) (has_last names name n) ∙ sym (or_assoc (is x n) (has names n) (is name n))
 
 right : (b c : Bool) → (not b && c) ≡ false → c ≡ true → b ≡ true
 right true c h k = refl
@@ -68,8 +58,8 @@ one_further reads done damaged new name is_right put here h = record { named = n
 
   named : (n : List ℕ) → has new n ≡ true → (has (done ++ name ∷ []) n ≡ true) × TellsFile reads false n
   named n e = by_one (not is_right && is name n) (has damaged n) (sym (put n) ∙ e)
-      (λ t. let two = both (not is_right) (is name n) t in
-      (last n two.1, subst (TellsFile reads false) (is_text name n two.1) (subst (λ (b : Bool). TellsFile reads b name) (wrong is_right two.0) here)))
+      (λ t. let two = and_parts (not is_right) (is name n) t in
+      (last n two.1, subst (TellsFile reads false) (is_text name n two.1) (subst (λ (b : Bool). TellsFile reads b name) (not-true is_right two.0) here)))
       (λ t. (there n (h.named n t).0, (h.named n t).1))
 
   others : (n : List ℕ) → has (done ++ name ∷ []) n ≡ true → has new n ≡ false → TellsFile reads true n
@@ -141,11 +131,6 @@ damaged_before old mid names damaged same h = record {
   others = λ n e none. tells_before old mid n true same (h.others n e none);
 }
 
--- an error tells nothing of what is answered at Ok
-pub untold : {A E : Type 0} (result : Result A E) (P : A → Type 0) → IsErr result → IfOk result P
-untold (Ok a) P failed = absurd cc
-untold (Err e) P failed = tt
-
 pub unread_faults : {A D W C : Type 0} (g : Ghosts D W C) (old new : D) (names : List (List ℕ)) (result : Result A TantivyError) (error : TantivyError) → IsErrAnd result (λ e. e ≡ error)
     → UnreadCause g old new names error → UnreadFaults g old new names result
 unread_faults g old new names (Ok a) error h cause = absurd h
@@ -203,19 +188,17 @@ module _ {D W C : Type 0} (g : Ghosts D W C) (directory : D × ManagedNames) (sc
     pub validate_faults : {A : Type 0} (result : Result A TantivyError) → UnreadFaults g mid new names result → ValidateFaults g directory new schema result
     validate_faults (Ok a) f = record { quiet = f.quiet ∙ still; cause = tt }
     validate_faults (Err e) f = record { quiet = tt; cause = cause e f.cause } where
-      cause : (error : TantivyError) → UnreadCause g mid new names error
-          → ValidateCause g directory new schema (Rose (g.view directory.0).faults (g.view new).faults) ((g.view new).faults ≡ (g.view directory.0).faults) error
+      cause : (error : TantivyError) → UnreadCause g mid new names error → ValidateCause g directory new schema error
       cause (errors.OpenReadError why) k = inr (record { settings = settings_of meta; commit = commit_of meta; means = means; file = file_before why k })
       cause errors.Memory k = k ∙ still
       cause other k = absurd k
 
 -- `meta.json` wasn't read, or memory was wanted
 pub validate_fails : {A D W C : Type 0} (g : Ghosts D W C) (directory : D × ManagedNames) (new : D) (schema : List ℕ) (result : Result A TantivyError) (error : TantivyError) → IsErrAnd result (λ e. e ≡ error)
-    → MetaCause g.told.content (Some schema) ((g.view directory.0).reads meta_name) (Rose (g.view directory.0).faults (g.view new).faults) ((g.view new).faults ≡ (g.view directory.0).faults) error → ValidateFaults g directory new schema result
+    → UnreadMeta g directory.0 new schema error → ValidateFaults g directory new schema result
 validate_fails g directory new schema (Ok a) error h cause = absurd h
-validate_fails g directory new schema (Err e) error h cause = record { quiet = tt; cause = subst (ValidateCause g directory new schema _ _) (sym h) (unloaded error cause) } where
-  unloaded : (why : TantivyError) → MetaCause g.told.content (Some schema) ((g.view directory.0).reads meta_name) (Rose (g.view directory.0).faults (g.view new).faults) ((g.view new).faults ≡ (g.view directory.0).faults) why
-      → ValidateCause g directory new schema (Rose (g.view directory.0).faults (g.view new).faults) ((g.view new).faults ≡ (g.view directory.0).faults) why
+validate_fails g directory new schema (Err e) error h cause = record { quiet = tt; cause = subst (ValidateCause g directory new schema) (sym h) (unloaded error cause) } where
+  unloaded : (why : TantivyError) → UnreadMeta g directory.0 new schema why → ValidateCause g directory new schema why
   unloaded (errors.OpenReadError why) k = inl k
   unloaded other k = k
 

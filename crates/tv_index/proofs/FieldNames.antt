@@ -5,8 +5,9 @@ use Rattle.serde_json.specs.Data.{Items, no_items, item}
 use Rattle.serde_json.specs.Find.{as_str}
 use Rattle.tv_formats.specs.JsonFields.{field}
 use Rattle.tv_formats.specs.Schemas.{AreFields}
+use Rattle.tv_formats.proofs.Options.{and_then_some, some_value}
 use Rattle.tv_index.specs.SchemaReading.{names_in}
-use Rattle.tv_index.proofs.Options.{and_then_some, and_then_is, map_some, is_there}
+use Rattle.tv_index.proofs.Options.{and_then_is, map_some}
 
 pub fields_to : (ds : Items) (names : List (List ℕ)) → names_in ds ≡ Some names → AreFields ds names
 fields_to no_items names h = let e : [] ≡ names = cc in subst (AreFields no_items) e tt
@@ -21,7 +22,7 @@ fields_back no_items [] h = refl
 fields_back no_items (name ∷ names) h = absurd h
 fields_back (item d ds) [] h = absurd h
 fields_back (item d ds) (name ∷ names) h =
-    let t = is_there (field as_str (codes "type") d) h.1 in
+    let t = some_value (field as_str (codes "type") d) h.1 in
     and_then_is _ (field as_str (codes "name") d) name (Some (name ∷ names)) h.0
     (and_then_is _ (field as_str (codes "type") d) t.0 (Some (name ∷ names)) t.1
     (ap (option_map (λ (rest : List (List ℕ)). name ∷ rest)) (fields_back ds names h.2)))

@@ -1,12 +1,7 @@
 -- Texts that are printed piece by piece, and in lists with commas.
-use Rattle.std.proofs.Common.{◌≡◌, ℕ, Bool, List, [], ◌∷◌, ◌++◌, map, refl, sym, ap, ◌∙◌, append_assoc}
+use Rattle.std.proofs.Common.{◌≡◌, ℕ, Bool, List, [], ◌∷◌, ◌++◌, map, sym, ap, ◌∙◌, append_assoc}
 use Rattle.std.specs.List.{join_with_byte}
 use Rattle.tv_formats.proofs.JoinedTexts.{is_nil, join_last, separator}
-
--- two maps in a row are one
-pub map_map : {A B C : Type 0} (f : B → C) (g : A → B) (xs : List A) → map f (map g xs) ≡ map (λ x. f (g x)) xs
-map_map f g [] = refl
-map_map {C = C} f g (x ∷ xs) = ap (λ (t : List C). f (g x) ∷ t) (map_map f g xs)
 
 -- one item more, with what stands before it
 pub join_added : {A : Type 0} (f : A → List ℕ) (xs : List A) (x : A) (first : Bool) (out old between new : List ℕ)

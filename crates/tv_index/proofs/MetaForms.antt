@@ -9,6 +9,7 @@ use Rattle.tv_formats.specs.Commits.{Commit, Settings}
 use Rattle.tv_formats.specs.JsonFields.{IsOptional, field, or_default, bool_or, u64_or, u64_of}
 use Rattle.tv_formats.specs.MetaJson.{AreSettingsAt, IsMetaTree, IsUncompressed}
 use Rattle.tv_formats.specs.Schemas.{IsSchemaTree}
+use Rattle.tv_formats.proofs.Options.{and_then_some, where_some}
 use Rattle.tv_index.specs.declared.index_settings.Compressor.{Compressor}
 use Rattle.tv_index.specs.declared.index_settings.Compressor.TheVariants as compressors
 use Rattle.tv_index.specs.declared.index_settings.IndexSettings.{IndexSettings}
@@ -17,7 +18,7 @@ use Rattle.tv_index.specs.Settings.{default_index_settings}
 use Rattle.tv_index.specs.SchemaReading.{names_of}
 use Rattle.tv_index.specs.Segments.{gathered, optional}
 use Rattle.tv_index.specs.Settings.{settings_view}
-use Rattle.tv_index.proofs.Options.{and_then_some, map_some, and_then_is, where_some}
+use Rattle.tv_index.proofs.Options.{map_some, and_then_is}
 use Rattle.tv_index.proofs.SchemaForms.{array_is, object_is, string_is, schema_to, schema_back}
 use Rattle.tv_index.proofs.SegmentForms.{optional_to, optional_back, segments_to, segments_back}
 

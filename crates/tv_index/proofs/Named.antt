@@ -7,6 +7,7 @@ use Rattle.std.specs.List.{filter, list_any, starts_with, AllByRecursion}
 use Rattle.std.specs.List.Sorted.{IsStrictlySortedBy}
 use Rattle.std.specs.String.{string_cmp}
 use Rattle.std.proofs.lemmas.Bool.Decides.{nat_tests}
+use Rattle.std.proofs.lemmas.Bool.{false_from_ne_true}
 use Rattle.hex.specs.Hex.{encode_lower}
 use Rattle.tv_formats.specs.Names.{byte_cmp}
 use Rattle.tv_formats.specs.Segments.{is_named}
@@ -75,16 +76,12 @@ between (b ∷ d) (c ∷ x) (e ∷ y) h l k =
       equal : (n : ℕ) → nat_eq n n ≡ true
       equal n = grind (arith, nat_tests)
 
-is_false : (b : Bool) → (b ≡ true → ⊥) → b ≡ false
-is_false true h = absurd (h refl)
-is_false false h = refl
-
 -- above a text that is at or above some bytes, and doesn't begin with them, none does
 none_above : (keys : List (String Global)) (d x : List ℕ) → is_le (byte_cmp d x) ≡ true → begins d x ≡ false → AllByRecursion (λ k. byte_cmp x (string_bytes k) ≡ Less) keys
     → list_any (λ name. starts_with nat_eq name d) (map string_bytes keys) ≡ false
 none_above [] d x h e l = refl
 none_above (k ∷ keys) d x h e l =
-    let not_it : begins d (string_bytes k) ≡ false = is_false _ (λ t. true≢false (sym (between d x (string_bytes k) h l.0 t) ∙ e)) in
+    let not_it : begins d (string_bytes k) ≡ false = false_from_ne_true _ (λ t. true≢false (sym (between d x (string_bytes k) h l.0 t) ∙ e)) in
     rw (starts_is (string_bytes k) d, not_it) (none_above keys d x h e l.1)
 
 -- the keys from some bytes on
@@ -103,7 +100,7 @@ first_tells d (x ∷ keys) k rest o e =
           subst (λ (n : String Global). (starts_with nat_eq (string_bytes x) d || list_any (λ name. starts_with nat_eq name d) (map string_bytes keys)) ≡ starts_with nat_eq (string_bytes n) d) it
           (rw (starts_is (string_bytes x) d) (here (begins d (string_bytes x)) _ (λ f. none_above keys d (string_bytes x) h f o.0)))
       | false ↦ λ h is.
-          let not_it : begins d (string_bytes x) ≡ false = is_false _ (λ t. true≢false (sym (not_below d (string_bytes x) t) ∙ h)) in
+          let not_it : begins d (string_bytes x) ≡ false = false_from_ne_true _ (λ t. true≢false (sym (not_below d (string_bytes x) t) ∙ h)) in
           rw (starts_is (string_bytes x) d, not_it) (first_tells d keys k rest o.1 is)
     ] refl e where
       here : (b c : Bool) → (b ≡ false → c ≡ false) → (b || c) ≡ b
@@ -117,7 +114,7 @@ none_from d (x ∷ keys) e =
     elim (is_le (byte_cmp d (string_bytes x))) as (λ b. is_le (byte_cmp d (string_bytes x)) ≡ b → cond (b && true) (x ∷ from d keys) (from d keys) ≡ [] → (starts_with nat_eq (string_bytes x) d || list_any (λ name. starts_with nat_eq name d) (map string_bytes keys)) ≡ false) [
       | true ↦ λ h is. absurd cc
       | false ↦ λ h is.
-          let not_it : begins d (string_bytes x) ≡ false = is_false _ (λ t. true≢false (sym (not_below d (string_bytes x) t) ∙ h)) in
+          let not_it : begins d (string_bytes x) ≡ false = false_from_ne_true _ (λ t. true≢false (sym (not_below d (string_bytes x) t) ∙ h)) in
           rw (starts_is (string_bytes x) d, not_it) (none_from d keys is)
     ] refl e
 

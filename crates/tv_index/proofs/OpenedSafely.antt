@@ -1,6 +1,6 @@
 -- What a crash may leave at each moment of an opening: a sync, a wrap, a read, and a save where an index is made.
 use Rattle.std.proofs.Common.{◌≡◌, ⊎_elim, inl, inr, ℕ, List, Result, Ok, Err, subst, sym}
-use Rattle.std.specs.Prelude.{IfErr, IfOk, IsErr, IsErrAnd, MatchResult, OnOk}
+use Rattle.std.specs.Prelude.{IfErr, IfOk, IsErr, IsErrAnd, MatchResult}
 use Rattle.tv_formats.specs.Names.{meta_name}
 use Rattle.tv_base.specs.Errors.{of_io}
 use Rattle.tv_base.specs.declared.error.TantivyError.{TantivyError}
@@ -11,6 +11,7 @@ use Rattle.tv_formats.specs.Disk.{Disk, IsSettled, possible_now, Throughout}
 use Rattle.tv_formats.specs.Listed.{ImagesListTheirFiles}
 use Rattle.tv_formats.proofs.DiskLaws.{goes_on_run, weaker, within_step}
 use Rattle.tv_formats.proofs.ListedImages.{images_list}
+use Rattle.tv_formats.proofs.Results.{any_err, no_ok, on_ok}
 use Rattle.tv_directory.specs.Images.{KeepsDisk, Settles}
 use Rattle.tv_directory.specs.declared.directory.Directory.{Ghosts}
 use Rattle.tv_managed.specs.Crashes.{LeavesSafely, WrapsDisk}
@@ -18,26 +19,13 @@ use Rattle.tv_managed.specs.Names.{ManagedNames}
 use Rattle.tv_managed.specs.declared.managed_directory.Refused.{Refused}
 use Rattle.tv_managed.specs.TrackLaws.{listed_read, track_read, track_then}
 use Rattle.tv_index.specs.CrashLaws.{fewer_imaged, looks_kept, looks_make, looks_settled, looks_then, made_behind, relisted_behind, settled_within}
-use Rattle.tv_index.specs.Crashes.{IsOldOrMade, IsOldOrRelisted, MakesNone, MakesSafely, MakesStates, MayMake, OnlyLooks, SavesStates, TracksFrom}
+use Rattle.tv_index.specs.Crashes.{IsOldOrMade, IsOldOrRelisted, MakesNone, MakesSafely, MakesStates, MayMake, OnlyLooks, SavesStates, giving, TracksFrom}
 use Rattle.tv_index.proofs.SavedSafely.{err_wants, of_memory}
 
 -- an error that is handed on
 pub failed_match : {A E : Type 0} (result : Result A E) (given : E) (P : A → Type 0) (Q : E → Type 0) → IsErrAnd result (λ e. e ≡ given) → Q given → MatchResult result P Q
 failed_match (Ok a) given P Q h q = absurd h
 failed_match (Err e) given P Q h q = subst Q (sym h) q
-
--- a fact of whatever is answered
-any_answer : {A E : Type 0} (result : Result A E) (P : Type 0) → P → OnOk result P
-any_answer (Ok a) P p = p
-any_answer (Err e) P p = tt
-
-any_error : {A E : Type 0} (result : Result A E) (P : E → Type 0) → ((e : E) → P e) → IfErr result P
-any_error (Ok a) P f = tt
-any_error (Err e) P f = f e
-
-no_answer : {A E : Type 0} (P : Type 0) (result : Result A E) → IsErr result → OnOk result P
-no_answer P (Ok a) failed = absurd cc
-no_answer P (Err e) failed = tt
 
 -- what is settled stays so behind a call that only reads
 kept_settled : {old new : Disk} → KeepsDisk old new → IsSettled old → IsSettled new
@@ -83,19 +71,19 @@ module _ {D W C : Type 0} (g : Ghosts D W C) (text : List ℕ) where
     listed = listed_read g old new names keeps;
     states = record {
       moments = weaker (within_step keeps.time keeps.states.possible.no_more) (λ p within. inl within);
-      memory = any_error result _ (λ e is. weaker (within_step keeps.time keeps.states.possible.no_more) (λ p within. inl within));
-      settled = any_answer result _ (kept_settled keeps);
+      memory = any_err result (λ e is. weaker (within_step keeps.time keeps.states.possible.no_more) (λ p within. inl within));
+      settled = on_ok result (kept_settled keeps);
     };
   }
 
   module _ {B : Type 0} {old new : D × ManagedNames} (made : Type 0) (is_so : made) where
-    moments_saved : {E : Type 0} {wanted : E} {result : Result B E} → LeavesSafely g (SavesStates (g.disk old.0) (g.disk new.0) old.1 meta_name text wanted result) old new → Throughout (IsOldOrMade made (g.disk old.0) text) (g.disk old.0) (g.disk new.0)
+    moments_saved : {E : Type 0} {wanted : E} {result : Result B E} → LeavesSafely g (SavesStates (g.disk old.0) (g.disk new.0) old.1 (giving meta_name text) wanted result) old new → Throughout (IsOldOrMade made (g.disk old.0) text) (g.disk old.0) (g.disk new.0)
     moments_saved safe =
         weaker safe.states.moments (λ p states. ⊎_elim inl
         (λ gains. inr (record { each = λ n s is. ⊎_elim inl (λ given. inr (is_so, ⊎_elim inl (λ listed. inr listed.0.0) given)) (gains.each n s is) })) states)
 
     -- the text was saved
-    pub makes_saved : {A : Type 0} (a : A) (b : B) → LeavesSafely g (SavesStates (g.disk old.0) (g.disk new.0) old.1 meta_name text io.Memory (Ok b)) old new → LeavesSafely g (MakesStates (g.disk old.0) (g.disk new.0) made text (Ok a)) old new
+    pub makes_saved : {A : Type 0} (a : A) (b : B) → LeavesSafely g (SavesStates (g.disk old.0) (g.disk new.0) old.1 (giving meta_name text) io.Memory (Ok b)) old new → LeavesSafely g (MakesStates (g.disk old.0) (g.disk new.0) made text (Ok a)) old new
     makes_saved a b safe = record {
       tracks = safe.tracks;
       listed = safe.listed;
@@ -103,7 +91,7 @@ module _ {D W C : Type 0} (g : Ghosts D W C) (text : List ℕ) where
     }
 
     -- or that failed
-    pub makes_unsaved : {A : Type 0} (error : IoError) (result : Result A TantivyError) → IsErr result → IsErrAnd result (λ e. e ≡ of_io error) → LeavesSafely g (SavesStates {A = B} (g.disk old.0) (g.disk new.0) old.1 meta_name text io.Memory (Err error)) old new
+    pub makes_unsaved : {A : Type 0} (error : IoError) (result : Result A TantivyError) → IsErr result → IsErrAnd result (λ e. e ≡ of_io error) → LeavesSafely g (SavesStates {A = B} (g.disk old.0) (g.disk new.0) old.1 (giving meta_name text) io.Memory (Err error)) old new
         → LeavesSafely g (MakesStates (g.disk old.0) (g.disk new.0) made text result) old new
     makes_unsaved error result failed same safe = record {
       tracks = safe.tracks;
@@ -113,7 +101,7 @@ module _ {D W C : Type 0} (g : Ghosts D W C) (text : List ℕ) where
         memory = err_wants result (of_io error) errors.Memory _ same (λ wants.
             weaker (safe.states.memory (of_memory error wants)) (λ p states. ⊎_elim inl
             (λ gains. inr (record { each = λ n s is. ⊎_elim inl (λ listed. inr (is_so, listed.0.0)) (gains.each n s is) })) states));
-        settled = no_answer _ result failed;
+        settled = no_ok _ result failed;
       };
     }
 
@@ -126,10 +114,10 @@ module _ {D W C : Type 0} (g : Ghosts D W C) (text : List ℕ) where
     states = behind result safe.states;
   } where
     moments : Throughout (IsOldOrMade made (g.disk mid.0) text) (g.disk mid.0) (g.disk new.0) → Throughout (IsOldOrMade making (g.disk old.0) text) (g.disk old.0) (g.disk new.0)
-    moments run = made_behind text made making so (within_step keeps.time keeps.states.possible.no_more) keeps.states.now run
+    moments run = made_behind text so (within_step keeps.time keeps.states.possible.no_more) keeps.states.now run
 
     memory : Throughout (IsOldOrRelisted made (g.disk mid.0)) (g.disk mid.0) (g.disk new.0) → Throughout (IsOldOrRelisted making (g.disk old.0)) (g.disk old.0) (g.disk new.0)
-    memory run = relisted_behind made making so (within_step keeps.time keeps.states.possible.no_more) keeps.states.now run
+    memory run = relisted_behind so (within_step keeps.time keeps.states.possible.no_more) keeps.states.now run
 
     behind : (r : Result A TantivyError) → MakesStates (g.disk mid.0) (g.disk new.0) made text r → MakesStates (g.disk old.0) (g.disk new.0) making text r
     behind (Ok a) states = record { moments = moments states.moments; memory = tt; settled = λ was. states.settled (kept_settled keeps was) }
@@ -143,7 +131,7 @@ module _ {D W C : Type 0} (g : Ghosts D W C) (text : List ℕ) where
   module _ {A : Type 0} {before : D} {mid new : D × ManagedNames} (made making : Type 0) (so : made → making) (looks : OnlyLooks g before mid.0) (tracks : TracksFrom g before mid) where
     made_so : {result : Result A TantivyError} → LeavesSafely g (MakesStates (g.disk mid.0) (g.disk new.0) made text result) mid new → MayMake g making text before new.0
     made_so safe = record {
-      moments = made_behind text made making so looks.moments looks.stands safe.states.moments;
+      moments = made_behind text so looks.moments looks.stands safe.states.moments;
       listed = λ images.
           goes_on_run ImagesListTheirFiles fewer_imaged (weaker looks.moments (λ p within. fewer_imaged (possible_now (g.disk before)) p within images))
           (weaker (safe.tracks (tracks.tracked images)).moments (λ p listed. images_list listed));
@@ -164,7 +152,7 @@ module _ {D W C : Type 0} (g : Ghosts D W C) (text : List ℕ) where
     pub made_refused : (error : TantivyError) → LeavesSafely g (MakesStates {A = A} (g.disk mid.0) (g.disk new.0) made text (Err error)) mid new → MakesNone g making text before new.0 error
     made_refused error safe = record {
       makes = made_so {result = Err error} safe;
-      memory = λ is. relisted_behind made making so looks.moments looks.stands (safe.states.memory is);
+      memory = λ is. relisted_behind so looks.moments looks.stands (safe.states.memory is);
     }
 
 -- what was opened is settled

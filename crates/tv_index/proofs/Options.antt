@@ -2,10 +2,6 @@
 use Rattle.std.proofs.Common.{◌≡◌, Bool, true, false, cond, Option, Some, None, option_map, option_and_then, refl, ap, ◌∙◌}
 use Rattle.std.specs.Prelude.{IsSome}
 
-pub and_then_some : {A B : Type 0} (f : A → Option B) (o : Option A) (y : B) → option_and_then f o ≡ Some y → (x : A) × (o ≡ Some x) × (f x ≡ Some y)
-and_then_some f None y h = cc
-and_then_some f (Some x) y h = (x, refl, h)
-
 pub map_some : {A B : Type 0} (f : A → B) (o : Option A) (y : B) → option_map f o ≡ Some y → (x : A) × (o ≡ Some x) × (f x ≡ y)
 map_some f None y h = cc
 map_some f (Some x) y h = (x, refl, cc)
@@ -16,11 +12,6 @@ and_then_is f o x y e h = ap (option_and_then f) e ∙ h
 pub none_some : {A P : Type 0} (x : A) → None ≡ Some x → P
 none_some x e = cc
 
--- under a test that holds, and under one that doesn't
-pub where_some : {A : Type 0} (b : Bool) (o : Option A) (y : A) → cond b o None ≡ Some y → (b ≡ true) × (o ≡ Some y)
-where_some true o y h = (refl, h)
-where_some false o y h = cc
-
 pub unless_some : {A : Type 0} (b : Bool) (o : Option A) (y : A) → cond b None o ≡ Some y → (b ≡ false) × (o ≡ Some y)
 unless_some true o y h = cc
 unless_some false o y h = (refl, h)
@@ -28,7 +19,3 @@ unless_some false o y h = (refl, h)
 pub no_some : {A P : Type 0} (o : Option A) → o ≡ None → IsSome o → P
 no_some None is some = cc
 no_some (Some x) is some = cc
-
-pub is_there : {A : Type 0} (o : Option A) → IsSome o → (x : A) × (o ≡ Some x)
-is_there None h = cc
-is_there (Some x) h = (x, refl)

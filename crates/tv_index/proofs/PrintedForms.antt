@@ -7,6 +7,7 @@ use Rattle.std.proofs.lemmas.Bool.{and_parts}
 use Rattle.std.proofs.lemmas.Bool.Decides.{nat_tests}
 use Rattle.std.proofs.lemmas.List.Quantifiers.{position-Some}
 use Rattle.std.proofs.lemmas.List.Sums.{fails_before_first}
+use Rattle.std.proofs.lemmas.List.{append_cancel_left}
 use Rattle.serde_json.specs.Data.{Data, array, no_items}
 use Rattle.tv_formats.specs.Commits.{Commit, Settings, printed}
 use Rattle.tv_formats.specs.Meaning.{IsPrinted, IsNotPrinted, Means, SpellsNothing}
@@ -46,10 +47,6 @@ one_cut (x ∷ xs) (y ∷ ys) us vs f g e =
     let c = one_cut xs ys us vs (open_part x xs f).1 (open_part y ys g).1 rest in
     (ap₂ (λ (z : ℕ) (zs : List ℕ). z ∷ zs) first c.0, c.1)
 
-same_behind : (xs us vs : List ℕ) → xs ++ us ≡ xs ++ vs → us ≡ vs
-same_behind [] us vs e = e
-same_behind (x ∷ xs) us vs e = same_behind xs us vs cc
-
 split_first : (bytes : List ℕ) (i : ℕ) → i < length bytes → closes (get_or bytes i 0) ≡ true → ((k : ℕ) → k < i → closes (get_or bytes k 0) ≡ false)
     → (has_no_bracket (take i bytes) ≡ true) × (rest : List ℕ) × (bytes ≡ take i bytes ++ 93 ∷ rest) × (drop i bytes ≡ 93 ∷ rest)
 split_first [] i lt is before = absurd (omega (arith, lt))
@@ -65,7 +62,7 @@ pub around_one : (schema bytes front back first last : List ℕ) → IsAround sc
 around_one schema bytes front back first last h k =
     let key = codes ",\"schema\":" in
     let c = one_cut front first (key ++ (schema ++ back)) (key ++ (schema ++ last)) h.unclosed k.unclosed (sym h.bytes_are ∙ k.bytes_are) in
-    (c.0, same_behind schema back last (same_behind key (schema ++ back) (schema ++ last) c.1))
+    (c.0, append_cancel_left schema back last (append_cancel_left key (schema ++ back) (schema ++ last) c.1))
 
 module _ (schema bytes : List ℕ) where
   -- no bracket is closed
@@ -101,7 +98,7 @@ module _ (schema bytes : List ℕ) where
     pub no_schema : (rest tail : List ℕ) → rest ≡ drop end bytes → rest ≡ codes "],\"schema\":" ++ tail → ((back : List ℕ) → tail ≢ schema ++ back)
         → IsAroundNone schema bytes
     no_schema rest tail is key none front back h =
-        none back (same_behind (codes "],\"schema\":") tail (schema ++ back) (sym key ∙ is ∙ behind front back h))
+        none back (append_cancel_left (codes "],\"schema\":") tail (schema ++ back) (sym key ∙ is ∙ behind front back h))
 
     -- this one does
     pub around : (front rest tail back : List ℕ) → front ≡ take end bytes → rest ≡ drop end bytes → rest ≡ codes "],\"schema\":" ++ tail → tail ≡ schema ++ back

@@ -1,14 +1,14 @@
 -- What the laws follow from.
-use Rattle.std.proofs.Common.{◌≡◌, inl, inr, ℕ, zero, suc, ◌<◌, ◌^◌, Bool, true, false, List, [], ◌∷◌, ◌++◌, codes, length, map, Option, Some, None, Result, Ok, Err, refl, sym, ap, ◌∙◌, subst, arith, append_assoc, append-nil}
+use Rattle.std.proofs.Common.{◌≡◌, inl, inr, ℕ, zero, suc, ◌<◌, ◌^◌, false, List, [], ◌∷◌, ◌++◌, codes, length, map, Option, Some, None, Result, Ok, Err, refl, sym, ap, ◌∙◌, subst, arith, append_assoc, append-nil}
 use Rattle.std.specs.Prelude.{Contains, IfErr, IfOk, IsErrAnd, IsSome, MatchResult, OnOk, is_some}
 use Rattle.std.specs.Fmt.{decimal}
 use Rattle.std.specs.List.{join_with_byte, slice_index_or}
 use Rattle.std.specs.Str.Iter.{HasSubslice}
-use Rattle.std.proofs.lemmas.Bool.{or_parts, true≢false}
+use Rattle.std.proofs.lemmas.Bool.{or_parts, true≢false, false_from_ne_true}
 use Rattle.std.proofs.lemmas.Option.{same_Some}
 use Rattle.hex.specs.Hex.{encode_lower}
 use Rattle.serde_json.specs.Data.{Data, null, array, Items, no_items, item}
-use Rattle.serde_json.specs.Find.{at, get, get_item}
+use Rattle.serde_json.specs.Find.{as_array, get, get_item}
 use Rattle.serde_json.specs.Read.{read}
 use Rattle.tv_base.specs.declared.error.TantivyError.{TantivyError}
 use Rattle.tv_base.specs.declared.error.TantivyError.TheVariants as errors
@@ -61,8 +61,9 @@ deleted_is o (Some meta) d n (e, found, spelled) is at =
 pub deletes_mean_nothing : (bytes : List ℕ) → DeletesTooMany bytes → SpellsNothing bytes
 deletes_mean_nothing bytes h settings commit schema s =
     let same : s.tree ≡ h.tree = same_Some s.tree h.tree (sym s.parsed ∙ h.parsed) in
-    let list : array s.form.items ≡ h.segments = same_Some (array s.form.items) h.segments (sym s.form.list ∙ ap (get (codes "segments")) same ∙ h.segments_at) in
-    let there = item_spells s.form.items s.form.segments.found h.place h.segment s.form.segments.each (ap (at h.place) list ∙ h.segment_at) in
+    let list : array s.form.items ≡ array h.segments = same_Some (array s.form.items) (array h.segments) (sym s.form.list ∙ ap (get (codes "segments")) same ∙ h.segments_at) in
+    let items : s.form.items ≡ h.segments = same_Some s.form.items h.segments (ap as_array list) in
+    let there = item_spells s.form.items s.form.segments.found h.place h.segment s.form.segments.each (ap (get_item h.place) items ∙ h.segment_at) in
     let documents : there.0.1.max_doc ≡ h.max_doc = same_Some there.0.1.max_doc h.max_doc (sym there.1.max_doc ∙ h.max_doc_at) in
     let deleted : num_deleted there.0.1.deletes ≡ h.num_deleted = deleted_is (get (codes "deletes") h.segment) there.0.1.deletes h.deletes h.num_deleted there.1.deletes h.deletes_at h.num_deleted_at in
     omega (arith, there.1.within, documents, deleted, h.more)
@@ -97,16 +98,12 @@ same_means schema other has same settings bytes commit there m =
 
 -- ---- names
 
-not_true : (b : Bool) → (b ≡ true → ⊥) → b ≡ false
-not_true true h = absurd (h refl)
-not_true false h = refl
-
 -- no managed name begins with the id of a new segment
 pub begins_no_name : {D A : Type 0} (index : IndexState D) (id : List ℕ) (result : Result A TantivyError) → MatchResult result (λ _. is_id_used index id ≡ false) (NewSegmentCause index id)
     → OnOk result ((rest : List ℕ) → has index.directory.1.managed (encode_lower id ++ rest) ≡ false)
 begins_no_name index id (Ok a) unused = λ rest.
     let none = (or_parts (has_id index.kept id) (is_named index.directory.1.managed id) unused).1 in
-    not_true _ (λ there. true≢false (sym (begins_named index.directory.1.managed id (encode_lower id ++ rest) (rest, refl) there) ∙ none))
+    false_from_ne_true _ (λ there. true≢false (sym (begins_named index.directory.1.managed id (encode_lower id ++ rest) (rest, refl) there) ∙ none))
 begins_no_name index id (Err error) cause = tt
 
 -- ---- what is printed

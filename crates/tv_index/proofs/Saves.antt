@@ -11,7 +11,7 @@ use Rattle.tv_base.specs.declared.io.IoError.{IoError}
 use Rattle.tv_base.specs.declared.io.IoError.TheVariants as io
 use Rattle.tv_directory.specs.declared.directory.Directory.{Ghosts}
 use Rattle.tv_managed.specs.Names.{ManagedNames}
-use Rattle.tv_formats.specs.Commits.{Commit, IsCommit, IsSegment, Settings}
+use Rattle.tv_formats.specs.Commits.{Commit, IndexForm, IsCommit, IsSegment, Settings}
 use Rattle.tv_formats.specs.Meaning.{Means}
 use Rattle.tv_formats.specs.Names.{meta_name}
 use Rattle.tv_formats.proofs.ReadPrinted.{printed_means}
@@ -40,23 +40,23 @@ pub cause_of_io : {more same refused quiet : Type 0} (error : IoError) → (more
 cause_of_io (io.Fault fault) f q h = (h.0, f h.1)
 cause_of_io io.Memory f q h = q h
 
-module _ {A D W C : Type 0} (g : Ghosts D W C) (old new : D × ManagedNames) (settings : Settings) (schema : List ℕ) (commit : Commit) (has : HasSchemaTree schema) (small : settings.blocksize < 2 ^ 64) (is_commit : IsCommit commit) where
+module _ {A D W C : Type 0} (g : Ghosts D W C) (old new : D × ManagedNames) (form : IndexForm) (commit : Commit) (has : HasSchemaTree form.schema) (small : form.settings.blocksize < 2 ^ 64) (is_commit : IsCommit commit) where
   -- it is saved
-  pub saved : (result : Result A TantivyError) (text : List ℕ) → text ≡ saved_text settings schema commit → OnErr result ⊥ → SavesMeta g old new text → SavesCommit g old new settings schema commit result
+  pub saved : (result : Result A TantivyError) (text : List ℕ) → text ≡ saved_text form.settings form.schema commit → OnErr result ⊥ → SavesMeta g old new text → SavesCommit g old new form commit result
   saved (Ok a) text is ok h = record {
     saves = subst (SavesMeta g old new) is h;
-    means = saved_means settings schema commit has small is_commit;
+    means = saved_means form.settings form.schema commit has small is_commit;
     leaves = record { either = λ t. tt; memory = λ t. tt };
   }
   saved (Err e) text is ok h = absurd ok
 
   -- it isn't, and this text may have been written
-  pub unsaved : {B : Type 0} (result : Result A TantivyError) (text : List ℕ) (error : IoError) → IsErrAnd result (λ e. e ≡ of_io error) → text ≡ saved_text settings schema commit
-      → LeavesText {A = B} g old.0 new.0 text (Err error) → SavesCommit g old new settings schema commit result
+  pub unsaved : {B : Type 0} (result : Result A TantivyError) (text : List ℕ) (error : IoError) → IsErrAnd result (λ e. e ≡ of_io error) → text ≡ saved_text form.settings form.schema commit
+      → LeavesText {A = B} g old.0 new.0 text (Err error) → SavesCommit g old new form commit result
   unsaved (Ok a) text error h is leaves = absurd h
   unsaved (Err e) text error h is leaves = record {
     saves = tt;
-    means = saved_means settings schema commit has small is_commit;
+    means = saved_means form.settings form.schema commit has small is_commit;
     leaves = record {
       either = λ t. subst (λ (l : List ℕ). ((g.view new.0).reads meta_name ≡ Some l) ⊎ ((g.view new.0).reads meta_name ≡ (g.view old.0).reads meta_name)) is (leaves.either t);
       memory = λ t. subst (SaveCause (Unit {0}) ((g.view new.0).reads meta_name ≡ (g.view old.0).reads meta_name)) (sym h) (cause_of_io error (λ u. u) (λ s. s) (leaves.memory t));
@@ -64,13 +64,13 @@ module _ {A D W C : Type 0} (g : Ghosts D W C) (old new : D × ManagedNames) (se
   }
 
   -- it isn't, since there was no memory for the text, and nothing was written
-  pub unprinted : (result : Result A TantivyError) → IsErrAnd result (λ e. e ≡ of_io io.Memory) → new ≡ old → SavesCommit g old new settings schema commit result
+  pub unprinted : (result : Result A TantivyError) → IsErrAnd result (λ e. e ≡ of_io io.Memory) → new ≡ old → SavesCommit g old new form commit result
   unprinted (Ok a) h same = absurd h
   unprinted (Err e) h same =
       let stays : (g.view new.0).reads meta_name ≡ (g.view old.0).reads meta_name = ap (λ (d : D × ManagedNames). (g.view d.0).reads meta_name) same in
       record {
         saves = tt;
-        means = saved_means settings schema commit has small is_commit;
+        means = saved_means form.settings form.schema commit has small is_commit;
         leaves = record {
           either = λ t. inr stays;
           memory = λ t. subst (SaveCause (Unit {0}) ((g.view new.0).reads meta_name ≡ (g.view old.0).reads meta_name)) (sym h) stays;

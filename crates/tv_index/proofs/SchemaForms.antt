@@ -5,8 +5,9 @@ use Rattle.serde_json.specs.Data.{Data, null, boolean, number, string, array, ob
 use Rattle.serde_json.specs.Find.{as_array, as_object, as_str}
 use Rattle.tv_formats.specs.Ids.{are_distinct}
 use Rattle.tv_formats.specs.Schemas.{IsSchemaTree, is_bounded}
+use Rattle.tv_formats.proofs.Options.{and_then_some, where_some}
 use Rattle.tv_index.specs.SchemaReading.{names_in, names_of, if_distinct}
-use Rattle.tv_index.proofs.Options.{and_then_some, and_then_is, where_some}
+use Rattle.tv_index.proofs.Options.{and_then_is}
 use Rattle.tv_index.proofs.FieldNames.{fields_to, fields_back}
 
 pub array_is : (d : Data) (ds : Items) → as_array d ≡ Some ds → d ≡ array ds

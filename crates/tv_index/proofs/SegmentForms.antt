@@ -14,8 +14,9 @@ use Rattle.tv_formats.specs.JsonFields.{field, u32_of, u64_of, id_of, IsOptional
 use Rattle.tv_formats.specs.MetaJson.{IsDeleteMeta, SpellsSegment, SpellEach, SpellSegments}
 use Rattle.tv_formats.specs.Segments.{num_deleted}
 use Rattle.tv_formats.proofs.OneMeaning.{one_permutation}
+use Rattle.tv_formats.proofs.Options.{and_then_some, where_some}
 use Rattle.tv_index.specs.Segments.{unless_null, optional, delete_meta_of, if_within, segment_of, gathered}
-use Rattle.tv_index.proofs.Options.{and_then_some, map_some, and_then_is, where_some, unless_some}
+use Rattle.tv_index.proofs.Options.{map_some, and_then_is, unless_some}
 use Rattle.tv_index.proofs.InOrder.{Entry, InIdOrder, in_order_put, put_among, stands_once}
 
 -- ---- a field that may be left out

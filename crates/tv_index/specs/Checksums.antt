@@ -68,19 +68,23 @@ pub record UnreadCommit {D W C : Type 0} (g : Ghosts D W C) (old : D × ManagedN
       → ReadsSuch ((g.view old.0).reads meta_name) (λ bytes. Means settings schema bytes commit)
   pub file : UnreadFile g old.0 new (looked_at commit old.1.managed) why
 
+-- why `meta.json` isn't read, under this schema
+abbrev pub UnreadMeta : {D W C : Type 0} (g : Ghosts D W C) (old new : D) (schema : List ℕ)
+    → TantivyError → Type 0
+UnreadMeta g old new schema error =
+    MetaCause g.told.content (Some schema) ((g.view old).reads meta_name)
+    (Rose (g.view old).faults (g.view new).faults) ((g.view new).faults ≡ (g.view old).faults) error
+
 -- Why a validation fails: `meta.json` isn't read, or then a file of its commit.
 abbrev pub ValidateCause : {D W C : Type 0} (g : Ghosts D W C) (old : D × ManagedNames) (new : D)
-    (schema : List ℕ) → (refused quiet : Type 0) → TantivyError → Type 0
-ValidateCause g old new schema refused quiet (errors.OpenReadError why) =
-    MetaCause g.told.content (Some schema) ((g.view old.0).reads meta_name) refused quiet
-    (errors.OpenReadError why) ⊎ UnreadCommit g old new schema why
-ValidateCause g old new schema refused quiet other =
-    MetaCause g.told.content (Some schema) ((g.view old.0).reads meta_name) refused quiet other
+    (schema : List ℕ) → TantivyError → Type 0
+ValidateCause g old new schema (errors.OpenReadError why) =
+    UnreadMeta g old.0 new schema (errors.OpenReadError why) ⊎ UnreadCommit g old new schema why
+ValidateCause g old new schema other = UnreadMeta g old.0 new schema other
 
 -- a validation fails where `meta.json` isn't read, or a file of its commit, and at Ok the device refused no
 -- call
 pub record ValidateFaults {A D W C : Type 0} (g : Ghosts D W C) (old : D × ManagedNames) (new : D)
     (schema : List ℕ) (result : Result A TantivyError) : Type 0 where
   pub quiet : OnOk result ((g.view new).faults ≡ (g.view old.0).faults)
-  pub cause : IfErr result (ValidateCause g old new schema (Rose (g.view old.0).faults (g.view new).faults)
-      ((g.view new).faults ≡ (g.view old.0).faults))
+  pub cause : IfErr result (ValidateCause g old new schema)

@@ -38,10 +38,10 @@ settled_within within stands was = record {
 }
 
 -- what is made behind calls that make nothing
-pub made_behind : {old mid new : Disk} (text : List ℕ) (made making : Type 0) → (made → making)
+pub made_behind : {old mid new : Disk} (text : List ℕ) {made making : Type 0} → (made → making)
     → Throughout (Within (possible_now old)) old mid → SameStates old mid
     → Throughout (IsOldOrMade made mid text) mid new → Throughout (IsOldOrMade making old text) old new
-made_behind {old} {mid} text made making so first stands second =
+made_behind {old} {mid} text {making = making} so first stands second =
     goes_on_run _ (fewer_made making old text) (weaker first (λ p within. inl within))
     (weaker second (λ p states. ⊎_elim
     (λ within. inl (fewer_within (possible_now old) (possible_now mid) p within (at_end first)))
@@ -51,10 +51,10 @@ made_behind {old} {mid} text made making so first stands second =
     })) states))
 
 -- what is listed behind calls that make nothing
-pub relisted_behind : {old mid new : Disk} (made making : Type 0) → (made → making)
+pub relisted_behind : {old mid new : Disk} {made making : Type 0} → (made → making)
     → Throughout (Within (possible_now old)) old mid → SameStates old mid
     → Throughout (IsOldOrRelisted made mid) mid new → Throughout (IsOldOrRelisted making old) old new
-relisted_behind {old} {mid} made making so first stands second =
+relisted_behind {old} {mid} {making = making} so first stands second =
     goes_on_run _ (fewer_relisted making old) (weaker first (λ p within. inl within))
     (weaker second (λ p states. ⊎_elim
     (λ within. inl (fewer_within (possible_now old) (possible_now mid) p within (at_end first)))
@@ -91,6 +91,17 @@ module _ {D W C : Type 0} (g : Ghosts D W C) where
     stands = λ n. second.stands n ∙ first.stands n;
   }
 
+  -- nothing was made, and then an index may have been
+  pub makes_behind : {before mid now : D} (text : List ℕ) {made making : Type 0} → (made → making)
+      → OnlyLooks g before mid → MayMake g made text mid now → MayMake g making text before now
+  makes_behind {before} text so looks makes = record {
+    moments = made_behind text so looks.moments looks.stands makes.moments;
+    listed = λ lists.
+        let first =
+        weaker looks.moments (λ p within. fewer_imaged (possible_now (g.disk before)) p within lists) in
+        goes_on_run ImagesListTheirFiles fewer_imaged first (makes.listed (at_end first));
+  }
+
   module _ (text : List ℕ) (made : Type 0) where
     -- nothing was made
     pub looks_make : {before now : D} → OnlyLooks g before now → MayMake g made text before now
@@ -98,17 +109,6 @@ module _ {D W C : Type 0} (g : Ghosts D W C) where
       moments = weaker looks.moments (λ p within. inl within);
       listed = λ lists. weaker looks.moments (λ p within.
           fewer_imaged (possible_now (g.disk before)) p within lists);
-    }
-
-    -- nothing was, and then an index may have been
-    pub makes_behind : {before mid now : D} (making : Type 0) → (made → making) → OnlyLooks g before mid
-        → MayMake g made text mid now → MayMake g making text before now
-    makes_behind {before} {mid} making so looks makes = record {
-      moments = made_behind text made making so looks.moments looks.stands makes.moments;
-      listed = λ lists.
-          let first =
-          weaker looks.moments (λ p within. fewer_imaged (possible_now (g.disk before)) p within lists) in
-          goes_on_run ImagesListTheirFiles fewer_imaged first (makes.listed (at_end first));
     }
 
     -- an index may have been made, and then nothing was

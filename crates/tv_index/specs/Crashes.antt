@@ -29,18 +29,27 @@ abbrev pub IsOldOrListed : Disk → ManagedNames → (file : List ℕ) → Possi
 IsOldOrListed old names file possible =
     Within (possible_now old) possible ⊎ Gains (IsNewList names file) (as_it_stands old) possible
 
+-- a text that a file is given
+pub record FileText : Type 0 where
+  pub file : List ℕ
+  pub text : List ℕ
+
+-- this file is given this text
+abbrev pub giving : (file text : List ℕ) → FileText
+giving file text = record { file = file; text = text }
+
 -- A file is given this text. At each moment a crash leaves no more than it might before, or each
 -- name as it stood, but that the file may have the text, and the list its name. Where the error is
 -- `wanted`, which says that memory was wanted, it leaves at each moment no more than it might
 -- before, or each name as it stood, but that the list may have the file's. At Ok it leaves each
 -- name as it is, and the file has the text.
-pub record SavesStates {A E : Type 0} (old new : Disk) (names : ManagedNames) (file text : List ℕ)
+pub record SavesStates {A E : Type 0} (old new : Disk) (names : ManagedNames) (given : FileText)
     (wanted : E) (result : Result A E) : Type 0 where
-  pub moments : Throughout (IsOldOrSaved old names file text) old new
-  pub now : OnlyMoves (OrItsList names file) old new
+  pub moments : Throughout (IsOldOrSaved old names given.file given.text) old new
+  pub now : OnlyMoves (OrItsList names given.file) old new
   pub memory : IfErr result (λ error. error ≡ wanted
-      → Throughout (IsOldOrListed old names file) old new)
-  pub kept : OnOk result (IsSettled new × (new.now file ≡ Sealed text))
+      → Throughout (IsOldOrListed old names given.file) old new)
+  pub kept : OnOk result (IsSettled new × (new.now given.file ≡ Sealed given.text))
 
 -- this is `meta.json` with this text, or the list
 abbrev pub IsMade : (text n : List ℕ) → DiskState → Type 0

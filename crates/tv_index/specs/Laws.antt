@@ -1,7 +1,7 @@
 -- What the laws speak of: bytes that are no commit, and commits that are read back.
 use Rattle.std.specs.Prelude.{◌≡◌, ◌≢◌, ◌⊎◌, ◌<◌, ℕ, List, codes, Some, option_map, string_bytes}
-use Rattle.serde_json.specs.Data.{Data, string}
-use Rattle.serde_json.specs.Find.{at, get}
+use Rattle.serde_json.specs.Data.{Data, Items, array, string}
+use Rattle.serde_json.specs.Find.{get, get_item}
 use Rattle.serde_json.specs.Read.{read}
 use Rattle.tv_base.specs.declared.error.TantivyError.{TantivyError}
 use Rattle.tv_base.specs.declared.error.TantivyError.TheVariants as errors
@@ -25,11 +25,11 @@ pub record NamesCompression (bytes : List ℕ) : Type 0 where
 pub record DeletesTooMany (bytes : List ℕ) : Type 0 where
   pub tree : Data
   pub parsed : read bytes ≡ Some tree
-  pub segments : Data
-  pub segments_at : get (codes "segments") tree ≡ Some segments
+  pub segments : Items
+  pub segments_at : get (codes "segments") tree ≡ Some (array segments)
   pub place : ℕ
   pub segment : Data
-  pub segment_at : at place segments ≡ Some segment
+  pub segment_at : get_item place segments ≡ Some segment
   pub max_doc : ℕ
   pub max_doc_at : field u32_of (codes "max_doc") segment ≡ Some max_doc
   pub deletes : Data

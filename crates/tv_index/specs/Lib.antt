@@ -22,6 +22,5 @@ pub mod Standing
 pub mod Indexes
 pub mod Building
 pub mod Checksums
-pub mod Lending
 pub mod Folders
 pub mod Laws

@@ -9,7 +9,7 @@ use Rattle.tv_directory.specs.View.{View, Told, Frame}
 use Rattle.tv_directory.specs.Watch.{MayNote, noted}
 use Rattle.tv_directory.specs.declared.directory.Directory.{Ghosts}
 use Rattle.tv_managed.specs.Names.{ManagedNames}
-use Rattle.tv_formats.specs.Commits.{Commit, Settings, printed}
+use Rattle.tv_formats.specs.Commits.{Commit, IndexForm, Settings, printed}
 use Rattle.tv_formats.specs.Files.{Rose}
 use Rattle.tv_formats.specs.Listing.{Listing}
 use Rattle.tv_formats.specs.Meaning.{Means}
@@ -75,10 +75,10 @@ pub record LeavesOne {A D W C : Type 0} (g : Ghosts D W C) (old new : D) (text :
   pub memory : g.told.content
       → IfErr result (SaveCause (Unit {0}) ((g.view new).reads meta_name ≡ (g.view old).reads meta_name))
 
--- `meta.json`, which is managed, has the text of this commit, and means it. After an error it has that text,
--- or what it had.
+-- `meta.json`, which is managed, has the text of this commit of an index that is made in this form,
+-- and means it. After an error it has that text, or what it had.
 pub record SavesCommit {A D W C : Type 0} (g : Ghosts D W C) (old new : D × ManagedNames)
-    (settings : Settings) (schema : List ℕ) (commit : Commit) (result : Result A TantivyError) : Type 0 where
-  pub saves : OnOk result (SavesMeta g old new (saved_text settings schema commit))
-  pub means : Means settings schema (saved_text settings schema commit) commit
-  pub leaves : LeavesOne g old.0 new.0 (saved_text settings schema commit) result
+    (form : IndexForm) (commit : Commit) (result : Result A TantivyError) : Type 0 where
+  pub saves : OnOk result (SavesMeta g old new (saved_text form.settings form.schema commit))
+  pub means : Means form.settings form.schema (saved_text form.settings form.schema commit) commit
+  pub leaves : LeavesOne g old.0 new.0 (saved_text form.settings form.schema commit) result

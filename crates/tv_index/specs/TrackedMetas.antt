@@ -3,7 +3,7 @@ use Rattle.std.specs.Prelude.{ℕ, ◌≡◌, List, [], ◌∷◌, map, IsPermut
 use Rattle.std.specs.BTreeMap.{insert_entry}
 use Rattle.std.specs.List.Sorted.{IsStrictlySortedBy}
 use Rattle.tv_formats.specs.declared.segment.LiveSegment.{LiveSegment}
-use Rattle.tv_formats.specs.Commits.{Commit, Settings}
+use Rattle.tv_formats.specs.Commits.{Commit, IndexForm, Settings}
 use Rattle.tv_formats.specs.Names.{byte_cmp}
 use Rattle.tv_index.specs.declared.tracked_meta.IndexMeta.{IndexMeta}
 use Rattle.tv_index.specs.Metas.{text_of}
@@ -12,6 +12,10 @@ use Rattle.tv_index.specs.Settings.{settings_view}
 -- the settings of a tracked commit, as definitions see them
 abbrev pub tracked_settings : IndexMeta → Settings
 tracked_settings meta = settings_view meta.index_settings
+
+-- how the index of a tracked commit is made: its settings, and the text of its schema
+abbrev pub tracked_form : IndexMeta → IndexForm
+tracked_form meta = record { settings = tracked_settings meta; schema = meta.schema }
 
 -- a tracked commit as definitions see it, with the segments in the order in which they stand there
 abbrev pub tracked_commit : IndexMeta → Commit

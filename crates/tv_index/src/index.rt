@@ -1,6 +1,6 @@
 //! An index in a directory.
 ghost use Rattle.std.specs.Prelude.{◌≡◌, [], IfOk, IfErr, MatchResult, OnErr, OnOk, None, Some, false, is_some, map};
-ghost use Rattle.std.specs.Borrow.{sem};
+ghost use Rattle.std.specs.Borrow.{Lends, sem};
 ghost use Rattle.std.specs.List.{list_any};
 ghost use Rattle.tv_base.specs.Entries.{is_full, one_more};
 ghost use Rattle.tv_directory.specs.Calls.{AskFaults};
@@ -13,11 +13,14 @@ ghost use Rattle.tv_index.specs.Crashes.{LacksMeta, LooksSafely, MakesSafely};
 ghost use Rattle.tv_index.specs.Indexes.{CreatesIndex, IsNewInRam, KeepsForm, KeepsIndex, LoadsCommit, LoadsShares, MeansSuch};
 ghost use Rattle.tv_index.specs.Indexes.{NewSegmentCause, is_id_used};
 ghost use Rattle.tv_index.specs.Indexes.{NotCreated, NotStanding, OpensIndexOf, OpensStanding};
-ghost use Rattle.tv_index.specs.Lending.{lends_directory, lends_inventory, lends_settings};
 ghost use Rattle.tv_index.specs.NewForms.{NotOpenedForm, form_with, new_text};
 ghost use Rattle.tv_index.specs.Settings.{default_index_settings};
 ghost use Rattle.tv_index.specs.Standing.{LoadsMeta, MetaFaults};
 ghost use Rattle.tv_index.specs.Tracked.{ShareAllCause, Tracks, share_of};
+ghost use Rattle.tv_index.specs.contracts.index.Index.{the_row as index_row};
+ghost use Rattle.tv_index.specs.contracts.index_settings.IndexSettings.{the_row as settings_row};
+ghost use Rattle.tv_index.specs.contracts.tracked.SegmentMetaInventory.{the_row as inventory_row};
+ghost use Rattle.tv_managed.specs.contracts.managed_directory.ManagedDirectory.{the_row as managed_row};
 
 use crate::index_builder::IndexBuilder;
 use crate::index_meta::UntrackedIndexMeta;
@@ -223,30 +226,36 @@ impl<D: Directory> Index<D> {
         &self.directory
     }
 
-    /// The directory, with its managed names, which the caller may change.
+    /// The directory, with its managed names, which the caller may change: the index has what the caller
+    /// leaves, and else stays.
     pub fn directory_mut(&mut self) -> &mut ManagedDirectory<D>
         ensures value { result.now ≡ self.old.directory }
-        ensures* lends { sem 𝓛 (lends_directory D.row D.Writer.row D.Callback.row D.Directory
-            D.Callback.WatchCall self.entry result) }
+        ensures* lends { sem 𝓛 (Lends
+            (index_row D.row D.Writer.row D.Callback.row D.Directory D.Callback.WatchCall)
+            (managed_row D.row D.Writer.row D.Callback.row D.Directory D.Callback.WatchCall)
+            self.entry result (λ w. record self.old { directory = w })) }
     {
         &mut self.directory
     }
 
-    /// The segments of which a share is out, which the caller may share and release.
+    /// The segments of which a share is out, which the caller may share and release: the index keeps what
+    /// the caller leaves, and else stays.
     pub fn inventory(&mut self) -> &mut SegmentMetaInventory
         ensures value { result.now ≡ self.old.kept }
-        ensures* lends { sem 𝓛 (lends_inventory D.row D.Writer.row D.Callback.row D.Directory
-            D.Callback.WatchCall self.entry result) }
+        ensures* lends { sem 𝓛 (Lends
+            (index_row D.row D.Writer.row D.Callback.row D.Directory D.Callback.WatchCall)
+            inventory_row self.entry result (λ w. record self.old { kept = w })) }
     {
         &mut self.inventory
     }
 
-    /// Its settings, which the caller may change. Those in `meta.json` stay until a commit is saved
-    /// with others.
+    /// Its settings, which the caller may change: the index has what the caller leaves, and else stays.
+    /// Those in `meta.json` stay until a commit is saved with others.
     pub fn settings_mut(&mut self) -> &mut IndexSettings
         ensures value { result.now ≡ self.old.settings }
-        ensures* lends { sem 𝓛 (lends_settings D.row D.Writer.row D.Callback.row D.Directory
-            D.Callback.WatchCall self.entry result) }
+        ensures* lends { sem 𝓛 (Lends
+            (index_row D.row D.Writer.row D.Callback.row D.Directory D.Callback.WatchCall)
+            settings_row self.entry result (λ w. record self.old { settings = w })) }
     {
         &mut self.settings
     }

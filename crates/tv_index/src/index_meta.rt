@@ -54,7 +54,8 @@ impl UntrackedIndexMeta {
         ensures schema { IfOk result (λ meta.
             IsForExpected (option_map (λ s. s.now) expected.entry) meta.schema) }
         ensures spelled { IfOk result (λ meta. SpellsUnlessExpected
-            (option_map (λ s. s.now) expected.entry) bytes.now (settings_of meta) (commit_of meta)) }
+            (option_map (λ s. s.now) expected.entry) bytes.now
+            (settings_of meta) (commit_of meta)) }
         ensures err { IfErr result (ParseCause (option_map (λ s. s.now) expected.entry) bytes.now) }
     {
         match read(alloc, bytes, expected) {

@@ -12,13 +12,13 @@ use std::alloc::Global;
 use tv_formats::{Memory, Opstamp};
 
 // Adds a payload, where there is one.
-fn put_payload(out: &mut Vec<u8>, payload: Option<&str>) -> Result<(), Memory>
+fn put_payload(alloc: Global, out: &mut Vec<u8>, payload: Option<&str>) -> Result<(), Memory>
     ensures { OnOk result (out.new.items ≡ out.old.items
         ++ payload_text (option_map (λ s. s.now) payload.entry)) }
 {
     match payload {
         None => Ok(()),
-        Some(text) => put_payload_text(out, text),
+        Some(text) => put_payload_text(alloc, out, text),
     }
 }
 
@@ -44,7 +44,7 @@ pub fn print_meta(
     put_segments(alloc, &mut text, segments)?;
     put_schema(&mut text, schema)?;
     put_opstamp(&mut text, opstamp)?;
-    put_payload(&mut text, payload)?;
+    put_payload(alloc, &mut text, payload)?;
     put(&mut text, "}")?;
     Ok(text)
 }

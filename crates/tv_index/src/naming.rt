@@ -59,8 +59,8 @@ pub fn has_name(names: &BTreeSet<String>, name: &str) -> bool
     names.contains(name)
 }
 
-/// Adds a copy of a name.
-pub fn push_text(alloc: Global, names: &mut Vec<FileName>, text: &String) -> Result<(), Memory>
+// Adds a copy of a name.
+fn push_text(alloc: Global, names: &mut Vec<FileName>, text: &String) -> Result<(), Memory>
     requires { is_plain (string_bytes text.now) ≡ true }
     ensures { OnOk result (names.new.items ≡ names.old.items ++ string_bytes text.now ∷ []) }
 {

@@ -10,7 +10,7 @@ ghost use Rattle.tv_managed.specs.Crashes.{LeavesSafely};
 ghost use Rattle.tv_managed.specs.Frames.{KeepsNames};
 ghost use Rattle.tv_managed.specs.Managed.{KeepsOtherFiles};
 ghost use Rattle.tv_managed.specs.Wrapping.{NotWrapped, Wraps};
-ghost use Rattle.tv_index.specs.Crashes.{LacksMeta, LooksSafely, MakesSafely, MakesStates, OnlyLooks, SavesStates};
+ghost use Rattle.tv_index.specs.Crashes.{LacksMeta, LooksSafely, MakesSafely, MakesStates, OnlyLooks, SavesStates, giving};
 ghost use Rattle.tv_index.specs.Metas.{commit_of};
 ghost use Rattle.tv_index.specs.NewForms.{IsFirst, LoadsOrCreates, NotLoaded, NotOpenedForm, OpensForm, form_with, new_text};
 ghost use Rattle.tv_index.specs.Opening.{HasCommit, IsRefusedBytes, LoadFaults, Loads, NoneIfAbsent, NotOpened, OpensIndex, first_text};
@@ -143,8 +143,8 @@ pub(crate) fn create<D: Directory>(
     ensures frame { FrameNotesUnless D.told (IsErrAnd result (λ error. error ≡ IoError.Memory))
         (D.view directory.old.0) (D.view directory.new.0) }
     ensures safe { D.tells_images → LeavesSafely D.Directory
-        (SavesStates (D.disk directory.old.0) (D.disk directory.new.0) directory.old.1 meta_name
-        (new_text (form_with settings.now schema.now)) IoError.Memory result)
+        (SavesStates (D.disk directory.old.0) (D.disk directory.new.0) directory.old.1
+        (giving meta_name (new_text (form_with settings.now schema.now))) IoError.Memory result)
         directory.old directory.new }
 {
     let mut text = print_meta(alloc, settings, schema, &[], 0, None)?;

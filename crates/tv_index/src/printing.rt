@@ -1,14 +1,16 @@
 //! The text of `meta.json`, piece by piece.
-ghost use Rattle.std.specs.Prelude.{◌≡◌, ◌<◌, ◌++◌, [], ◌∷◌, Some, OnOk, codes, if◌then◌else◌, map};
+ghost use Rattle.std.specs.Prelude.{◌≡◌, ◌++◌, [], ◌∷◌, Some, IfOk, OnOk, codes, string_bytes, if◌then◌else◌, map};
 ghost use Rattle.std.specs.Fmt.{decimal};
 ghost use Rattle.std.specs.List.{join_with_byte};
-ghost use Rattle.tv_formats.specs.Commits.{deletes_text, escaped, escaped_byte, lower_digit, payload_text, segment_text, settings_text, thread_text};
+ghost use Rattle.json.specs.Print.{quoted};
+ghost use Rattle.tv_formats.specs.Commits.{deletes_text, payload_text, segment_text, settings_text, thread_text};
 ghost use Rattle.tv_index.specs.Segments.{entry_of};
 ghost use Rattle.tv_index.specs.Settings.{settings_view};
 
 use crate::index_settings::IndexSettings;
 use crate::schema::Schema;
 use crate::segment_meta::InnerSegmentMeta;
+use serde_json::Value;
 use std::alloc::Global;
 use tv_formats::{DeleteMeta, Memory, Opstamp};
 
@@ -160,59 +162,19 @@ pub(crate) fn put_opstamp(out: &mut Vec<u8>, opstamp: Opstamp) -> Result<(), Mem
     Ok(())
 }
 
+// The text as a JSON string.
+fn json_string(alloc: Global, text: &str) -> Result<String, Memory>
+    ensures { IfOk result (λ s. string_bytes s ≡ quoted text.now) }
+{
+    Ok(Value::String(String::from_str(alloc, text)?).to_string(alloc)?)
+}
+
 /// Adds a payload.
-pub(crate) fn put_payload_text(out: &mut Vec<u8>, text: &str) -> Result<(), Memory>
+pub(crate) fn put_payload_text(alloc: Global, out: &mut Vec<u8>, text: &str) -> Result<(), Memory>
     ensures { OnOk result (out.new.items ≡ out.old.items ++ payload_text (Some text.now)) }
 {
-    put(out, ",\"payload\":\"")?;
-    put_all_escaped(out, text)?;
-    put(out, "\"")?;
+    let quoted = json_string(alloc, text)?;
+    put(out, ",\"payload\":")?;
+    put(out, quoted.as_str())?;
     Ok(())
-}
-
-// Adds the text of a JSON string.
-fn put_all_escaped(out: &mut Vec<u8>, text: &str) -> Result<(), Memory>
-    ensures { OnOk result (out.new.items ≡ out.old.items ++ escaped text.now) }
-{
-    for byte in text.as_bytes() {
-        put_escaped(out, *byte)?;
-    }
-    Ok(())
-}
-
-// The hexadecimal digit of a number below sixteen, in lower case.
-fn digit_of(number: u8) -> u8
-    requires { number < 16 }
-    ensures { result ≡ lower_digit number }
-{
-    if number < 10 {
-        b'0' + number
-    } else {
-        b'a' - 10 + number
-    }
-}
-
-// Adds a byte of a JSON string.
-fn put_escaped(out: &mut Vec<u8>, byte: u8) -> Result<(), Memory>
-    ensures { OnOk result (out.new.items ≡ out.old.items ++ escaped_byte byte) }
-{
-    match byte {
-        b'"' => put(out, "\\\""),
-        b'\\' => put(out, "\\\\"),
-        8 => put(out, "\\b"),
-        12 => put(out, "\\f"),
-        b'\n' => put(out, "\\n"),
-        b'\r' => put(out, "\\r"),
-        b'\t' => put(out, "\\t"),
-        0..=31 => {
-            put(out, "\\u00")?;
-            out.push(digit_of(byte / 16))?;
-            out.push(digit_of(byte % 16))?;
-            Ok(())
-        }
-        _ => {
-            out.push(byte)?;
-            Ok(())
-        }
-    }
 }

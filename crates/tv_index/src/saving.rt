@@ -7,10 +7,10 @@ ghost use Rattle.tv_formats.specs.Names.{has, meta_name};
 ghost use Rattle.tv_directory.specs.Calls.{IoFaults};
 ghost use Rattle.tv_managed.specs.Crashes.{LeavesSafely};
 ghost use Rattle.tv_managed.specs.Managed.{KeepsOtherFiles, ManagesFile};
-ghost use Rattle.tv_index.specs.Crashes.{SavesStates};
+ghost use Rattle.tv_index.specs.Crashes.{SavesStates, giving};
 ghost use Rattle.tv_index.specs.Saving.{FrameNotesUnless, LeavesText, SaveFaults, SavesCommit, SavesMeta, saved_text};
 ghost use Rattle.tv_index.specs.Schemas.{HasSchemaTree};
-ghost use Rattle.tv_index.specs.TrackedMetas.{IsInOrder, tracked_commit, tracked_settings};
+ghost use Rattle.tv_index.specs.TrackedMetas.{IsInOrder, tracked_commit, tracked_form, tracked_settings};
 
 use crate::tracked::SegmentMeta;
 use crate::tracked_meta::IndexMeta;
@@ -39,8 +39,8 @@ pub fn save_meta_text<D: Directory>(
     ensures frame { FrameNotesUnless D.told (IsErrAnd result (λ error. error ≡ IoError.Memory))
         (D.view directory.old.0) (D.view directory.new.0) }
     ensures safe { D.tells_images → LeavesSafely D.Directory
-        (SavesStates (D.disk directory.old.0) (D.disk directory.new.0) directory.old.1 meta_name
-        text.now IoError.Memory result) directory.old directory.new }
+        (SavesStates (D.disk directory.old.0) (D.disk directory.new.0) directory.old.1
+        (giving meta_name text.now) IoError.Memory result) directory.old directory.new }
 {
     directory.sync_directory()?;
     directory.atomic_write(META_FILEPATH, text)?;
@@ -99,8 +99,8 @@ pub fn save_metas<D: Directory>(
 ) -> Result<(), TantivyError>
     requires { has (held directory.old.1.collections) meta_name ≡ false }
     ensures saves { (commit : Commit) → IsInOrder (tracked_commit meta.now) commit
-        → SavesCommit D.Directory directory.old directory.new (tracked_settings meta.now)
-        meta.now.schema commit result }
+        → SavesCommit D.Directory directory.old directory.new (tracked_form meta.now) commit
+        result }
     ensures others { D.told.content → KeepsOtherFiles (D.view directory.old.0).reads
         (D.view directory.new.0).reads meta_name }
     ensures manages { ManagesFile D.Directory directory.old directory.new meta_name result }
@@ -110,7 +110,8 @@ pub fn save_metas<D: Directory>(
         (D.view directory.old.0) (D.view directory.new.0) }
     ensures safe { D.tells_images → (commit : Commit) → IsInOrder (tracked_commit meta.now) commit
         → LeavesSafely D.Directory (SavesStates (D.disk directory.old.0) (D.disk directory.new.0)
-        directory.old.1 meta_name (saved_text (tracked_settings meta.now) meta.now.schema commit)
+        directory.old.1
+        (giving meta_name (saved_text (tracked_settings meta.now) meta.now.schema commit))
         TantivyError.Memory result) directory.old directory.new }
 {
     learn_commit(meta);

@@ -2,6 +2,7 @@
 use Rattle.std.proofs.Common.{◌≡◌, [], refl, codes, ◌∷◌, ◌++◌, Some}
 use Rattle.std.specs.Fmt.{digits}
 use Rattle.hex.specs.Hex.{encode_with}
+use Rattle.json.specs.Print.{escape_byte}
 use Rattle.tv_formats.specs.Footer.{sealed}
 use Rattle.tv_machine.specs.State.{SealedFile, file_at, State, StepResult}
 use Rattle.tv_machine.specs.Machine.{after, step}
@@ -24,11 +25,12 @@ first_store = refl
 
 -- that of an index that was just made
 pub first_list : list_text first_state.managed ≡ codes "[\"meta.json\"]" ++ 10 ∷ []
+unfolding escape_byte
 first_list = refl
 
 -- and after a first commit, in the order of the names
 pub committed_list : list_text (after first_state first_script).managed ≡ codes "[\"a5c4dfcbdfe645089129e308e26d5523.fast\",\"a5c4dfcbdfe645089129e308e26d5523.fieldnorm\",\"a5c4dfcbdfe645089129e308e26d5523.idx\",\"a5c4dfcbdfe645089129e308e26d5523.pos\",\"a5c4dfcbdfe645089129e308e26d5523.store\",\"a5c4dfcbdfe645089129e308e26d5523.term\",\"meta.json\"]" ++ 10 ∷ []
-unfolding encode_with digits
+unfolding encode_with digits escape_byte
 committed_list = refl
 
 -- a commit of one segment of three documents
@@ -47,5 +49,5 @@ payload_told = refl
 
 pub payload_printed : printed default_settings text_schema told.1.catalog.commit ≡
     codes "{\"index_settings\":{\"docstore_compression\":\"none\",\"docstore_blocksize\":16384},\"segments\":[],\"schema\":[{\"name\":\"text\",\"type\":\"text\",\"options\":{\"indexing\":{\"record\":\"position\",\"fieldnorms\":true,\"tokenizer\":\"default\"},\"stored\":false,\"fast\":false}}],\"opstamp\":2,\"payload\":\"hi\"}"
-unfolding encode_with digits
+unfolding encode_with digits escape_byte
 payload_printed = refl

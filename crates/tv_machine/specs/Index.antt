@@ -71,7 +71,7 @@ abbrev pub found_commits : {schema : List ℕ} {reads : Reads} → FoundIndex sc
 found_commits index = index.commit ∷ []
 
 -- What an opening makes of a catalog: live are the segments of the current commit, the next one gets the
--- number after it, and nobody reads. What else is kept stays.
+-- number after it, and nobody reads. The commit stays.
 abbrev pub as_opened : Catalog → Catalog
 as_opened c = record c {
   live = c.commit.segments;

@@ -21,38 +21,38 @@ lines_of [] = []
 lines_of (b ∷ bytes) = if b == 10 then [] ∷ lines_of bytes else onto_first b (lines_of bytes)
 
 -- the kinds of words that a line has
-pub data Kind : Type 0 where
+pub data WordKind : Type 0 where
   -- this word itself
-  Word : List ℕ → Kind
+  Word : List ℕ → WordKind
   -- an id
-  Id : Kind
+  Id : WordKind
   -- a component
-  Component : Kind
+  Component : WordKind
   -- some bytes
-  Bytes : Kind
+  Bytes : WordKind
   -- a number of 32 bits
-  Small : Kind
+  SmallNumber : WordKind
   -- a number of 64 bits
-  Number : Kind
+  Number : WordKind
   -- a payload, or none
-  Payload : Kind
+  Payload : WordKind
   -- when a reader reloads
-  Policy : Kind
+  Policy : WordKind
 
 -- what a word of this kind stands for
-abbrev pub Value : Kind → Type 0
-Value (Word text) = Unit {0}
-Value Id = List ℕ
-Value Component = SegmentComponent
-Value Bytes = List ℕ
-Value Small = ℕ
-Value Number = ℕ
-Value Payload = Option (List ℕ)
-Value Policy = ReloadPolicy
+abbrev pub WordValue : WordKind → Type 0
+WordValue (Word text) = Unit {0}
+WordValue Id = List ℕ
+WordValue Component = SegmentComponent
+WordValue Bytes = List ℕ
+WordValue SmallNumber = ℕ
+WordValue Number = ℕ
+WordValue Payload = Option (List ℕ)
+WordValue Policy = ReloadPolicy
 
 -- a word of a line: its kind, and what it stands for
 abbrev pub LineWord : Type 0
-LineWord = (kind : Kind) × Value kind
+LineWord = (kind : WordKind) × WordValue kind
 
 -- a word that stands for itself
 abbrev pub word : List ℕ → LineWord
@@ -65,8 +65,8 @@ line_of (events.Open id component) = word (codes "open") ∷ (Id, id) ∷ (Compo
 line_of (events.Write id component bytes) =
     word (codes "write") ∷ (Id, id) ∷ (Component, component) ∷ (Bytes, bytes) ∷ []
 line_of (events.Seal id component) = word (codes "seal") ∷ (Id, id) ∷ (Component, component) ∷ []
-line_of (events.Docs id n) = word (codes "docs") ∷ (Id, id) ∷ (Small, n) ∷ []
-line_of (events.Deletes id n) = word (codes "deletes") ∷ (Id, id) ∷ (Small, n) ∷ []
+line_of (events.Docs id n) = word (codes "docs") ∷ (Id, id) ∷ (SmallNumber, n) ∷ []
+line_of (events.Deletes id n) = word (codes "deletes") ∷ (Id, id) ∷ (SmallNumber, n) ∷ []
 line_of (events.Commit payload ids) = word (codes "commit") ∷ (Payload, payload) ∷ map (λ id. (Id, id)) ids
 line_of events.Gc = word (codes "gc") ∷ []
 line_of events.GcBegin = word (codes "gc-begin") ∷ []
@@ -77,7 +77,7 @@ line_of (events.Reload number) = word (codes "reload") ∷ (Number, number) ∷ 
 line_of (events.Searcher number) = word (codes "searcher") ∷ (Number, number) ∷ []
 line_of (events.Show number) = word (codes "show") ∷ (Number, number) ∷ []
 line_of (events.Bytes number ord component) =
-    word (codes "bytes") ∷ (Number, number) ∷ (Small, ord) ∷ (Component, component) ∷ []
+    word (codes "bytes") ∷ (Number, number) ∷ (SmallNumber, ord) ∷ (Component, component) ∷ []
 line_of (events.ReleaseSegment id) = word (codes "release") ∷ word (codes "segment") ∷ (Id, id) ∷ []
 line_of (events.ReleaseReader number) = word (codes "release") ∷ word (codes "reader") ∷ (Number, number) ∷ []
 line_of (events.ReleaseSearcher number) =
@@ -87,12 +87,12 @@ line_of events.Validate = word (codes "validate") ∷ []
 line_of events.Reopen = word (codes "reopen") ∷ []
 
 -- what a word stands for is within its range (so far a reader reloads where it is asked to)
-abbrev pub IsWithin : (kind : Kind) → Value kind → Type 0
+abbrev pub IsWithin : (kind : WordKind) → WordValue kind → Type 0
 IsWithin (Word text) value = Unit {0}
 IsWithin Id id = IsId id
 IsWithin Component component = Unit {0}
 IsWithin Bytes bytes = 0 < length bytes
-IsWithin Small number = number < 2 ^ 32
+IsWithin SmallNumber number = number < 2 ^ 32
 IsWithin Number number = number < 2 ^ 64
 IsWithin Payload payload = IfSome payload IsUtf8
 IsWithin Policy policy = policy ≡ Manual
@@ -104,7 +104,8 @@ NamesEachOnce other = Unit {0}
 
 -- what the words of the event's line stand for is within its range, and no id stands twice in the line
 abbrev pub Fits : Event → Type 0
-Fits event = AllByRecursion (λ meant. IsWithin meant.0 meant.1) (line_of event) × NamesEachOnce event
+Fits event =
+    AllByRecursion (λ spelled. IsWithin spelled.0 spelled.1) (line_of event) × NamesEachOnce event
 
 -- the word spells a payload: `-` where there is none, else `+` and the digits of its bytes, of either case
 abbrev pub SpellsPayload : Option (List ℕ) → List ℕ → Type 0
@@ -112,12 +113,12 @@ SpellsPayload None word = word ≡ codes "-"
 SpellsPayload (Some text) word = (digits : List ℕ) × (decode_of digits ≡ Ok text) × (word ≡ 43 ∷ digits)
 
 -- the word spells this; bytes may be spelled with digits of either case
-abbrev pub Spells : (kind : Kind) → Value kind → List ℕ → Type 0
+abbrev pub Spells : (kind : WordKind) → WordValue kind → List ℕ → Type 0
 Spells (Word text) value word = word ≡ text
 Spells Id id word = word ≡ encode_lower id
 Spells Component component word = word ≡ extension component
 Spells Bytes bytes word = decode_of word ≡ Ok bytes
-Spells Small number word = word ≡ decimal number
+Spells SmallNumber number word = word ≡ decimal number
 Spells Number number word = word ≡ decimal number
 Spells Payload payload word = SpellsPayload payload word
 Spells Policy policy word = word ≡ codes "manual"
@@ -125,9 +126,9 @@ Spells Policy policy word = word ≡ codes "manual"
 -- each word spells what stands at its place
 abbrev pub AllSpell : List LineWord → List (List ℕ) → Type 0
 AllSpell [] [] = Unit {0}
-AllSpell (meant ∷ line) (word ∷ words) = Spells meant.0 meant.1 word × AllSpell line words
+AllSpell (first ∷ line) (word ∷ words) = Spells first.0 first.1 word × AllSpell line words
 AllSpell [] (word ∷ words) = ⊥
-AllSpell (meant ∷ line) [] = ⊥
+AllSpell (first ∷ line) [] = ⊥
 
 -- the text is a line of the event: its words, one space apart
 pub record IsLine (text : List ℕ) (event : Event) : Type 0 where

@@ -38,6 +38,14 @@ impl Answer {
         Ok(Answer { text })
     }
 
+    /// A line of these bytes, among which is no line feed, in the memory that they have.
+    pub fn from_bytes(text: Vec<u8>) -> Answer
+        requires { has_no_feed text.items ≡ true }
+        ensures { result ≡ text.items }
+    {
+        Answer { text }
+    }
+
     /// The line with one more word, after a space.
     pub fn word(self, word: &[u8]) -> Result<Answer, Memory>
         requires { has_no_feed word.now ≡ true }
@@ -121,6 +129,14 @@ impl Answer {
         self.id(id)?
             .more(b"=")?
             .more(digits.format(count).as_bytes())
+    }
+
+    /// Its bytes, among which is no line feed. Takes no memory.
+    pub fn into_bytes(self) -> Vec<u8>
+        ensures bytes { result.items ≡ self }
+        ensures feed { has_no_feed result.items ≡ true }
+    {
+        self.text
     }
 
     /// Its bytes, among which is no line feed.

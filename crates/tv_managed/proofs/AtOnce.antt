@@ -16,7 +16,7 @@ use Rattle.tv_formats.proofs.CollectedNames.{done_within, has_append}
 use Rattle.tv_formats.proofs.Entries.{is_itself, is_text}
 use Rattle.tv_formats.proofs.DiskLaws.{weaker, touches_then}
 use Rattle.tv_formats.proofs.Numbered.{put_found}
-use Rattle.tv_managed.proofs.Results.{on_err}
+use Rattle.tv_formats.proofs.Results.{on_err}
 use Rattle.tv_directory.specs.View.{Kept, OnlyReads}
 use Rattle.tv_directory.specs.declared.directory.Directory.{Ghosts}
 use Rattle.tv_managed.specs.Collecting.{Begins, Ended, EndsCollection, FailsAtMost, Leaves, OnlyDeletes, TellsApart, Tried, Tries, ending, names_of, standing}

@@ -7,6 +7,7 @@ use Rattle.tv_formats.specs.Listed.{ListsEachFile}
 use Rattle.tv_formats.specs.Listing.{IsListOf, list_text}
 use Rattle.tv_formats.specs.Names.{has, is_plain, is_undotted, list_name}
 use Rattle.tv_formats.proofs.DiskLaws.{at_end, fewer_listed, goes_on, goes_on_run, started, weaker}
+use Rattle.tv_formats.proofs.Results.{on_ok}
 use Rattle.tv_base.specs.declared.io.IoError.{IoError}
 use Rattle.tv_directory.specs.Images.{Settles}
 use Rattle.tv_directory.specs.declared.directory.Directory.{Ghosts}
@@ -15,7 +16,6 @@ use Rattle.tv_managed.specs.Names.{ManagedNames, done_names}
 use Rattle.tv_managed.proofs.Listing.{gone_saved}
 use Rattle.tv_managed.proofs.PlainManaged.{plain_undotted}
 use Rattle.tv_managed.proofs.Touching.{adds_run, gained_run, gained_same, gained_then, gained_within}
-use Rattle.tv_managed.proofs.Results.{on_ok}
 use Rattle.tv_managed.proofs.Tracking.{covered_list, covered_saved, isnt_the_list, listed_saved, track_same}
 use Rattle.tv_managed.specs.TrackLaws.{covered_within, listed_within, track_within}
 

@@ -92,7 +92,7 @@ pub changes_none : {D W C : Type 0} (g : Ghosts D W C) (old : D × ManagedNames)
 changes_none g old = record { frame = record { names = refl; below = record { kept = kept_itself g.told (g.view old.0); content = λ tells n. refl } }; faults = refl }
 
 pub steps_wanted : {D W C : Type 0} (g : Ghosts D W C) (number : ℕ) {old new : D × ManagedNames} → ChangesNothing g old new → Steps g number old new (Err errors.Memory)
-steps_wanted g number nothing = record { ok = λ d name left at next. tt; memory = refl; err = nothing }
+steps_wanted g number nothing = record { ok = λ next. tt; memory = refl; err = nothing }
 
 -- whatever it answers, the list reads what it read
 list_stays : {A D W C : Type 0} (g : Ghosts D W C) {old new : D} {name : List ℕ} (result : Result A DeleteError) → name ≢ list_name → Deletes g.told (g.view old) (g.view new) name result → g.told.content → (g.view new).reads list_name ≡ (g.view old).reads list_name

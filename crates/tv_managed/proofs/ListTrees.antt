@@ -1,5 +1,5 @@
 -- The names that the code finds in a tree are those that the tree lists.
-use Rattle.std.proofs.Common.{◌≡◌, ◌⊎◌, ℕ, Bool, true, false, ◌||◌, List, [], ◌∷◌, map, Option, Some, None, refl, sym, ap, subst, ◌∙◌, string_bytes, String, Global, inl, inr}
+use Rattle.std.proofs.Common.{◌≡◌, ◌⊎◌, ℕ, Bool, true, false, ◌||◌, List, [], ◌∷◌, map, Option, Some, None, refl, sym, ap, ap₂, subst, ◌∙◌, string_bytes, String, Global, inl, inr}
 use Rattle.std.specs.Prelude.{IsUtf8, MatchOption, if◌then◌else◌}
 use Rattle.std.specs.List.{list_all, AllByRecursion}
 use Rattle.std.specs.List.Sorted.{IsStrictlySortedBy}
@@ -10,10 +10,12 @@ use Rattle.std.proofs.lemmas.Str.{IsUtf8-string_bytes}
 use Rattle.serde_json.specs.Data.{Data, null, boolean, number, string, array, object, Items, no_items, item}
 use Rattle.serde_json.specs.Find.{as_array}
 use Rattle.serde_json.specs.Read.{read}
+use Rattle.serde_json.specs.View.{items_of}
 use Rattle.tv_formats.specs.Names.{byte_cmp, has, is, is_plain}
-use Rattle.tv_formats.specs.Listing.{AreStrings, IsManagedName, IsListOf, Lists}
+use Rattle.tv_formats.specs.Listing.{IsManagedName, IsListOf, Lists, list_tree}
 use Rattle.tv_formats.proofs.Entries.{has_put, is_itself, is_text, sorted_put}
 use Rattle.tv_formats.proofs.PlainNames.{both}
+use Rattle.tv_formats.proofs.CollectedNames.{or_moved}
 use Rattle.tv_base.specs.Causes.{OpenReadCause}
 use Rattle.tv_base.specs.declared.open_errors.OpenReadError.{OpenReadError}
 use Rattle.tv_base.specs.declared.open_errors.OpenReadError.TheVariants.{FileDoesNotExist}
@@ -44,18 +46,13 @@ array_is (object ms) ds e = absurd cc
 
 -- ---- what was put among the names
 
-or_moved : (a b c : Bool) → ((a || b) || c) ≡ (b || (a || c))
-or_moved true true c = refl
-or_moved true false c = refl
-or_moved false b c = refl
-
 or_none : (b : Bool) → b ≡ (b || false)
 or_none true = refl
 or_none false = refl
 
 record Found (ds : Items) (names all : List (List ℕ)) : Type 0 where
   found : List (List ℕ)
-  strings : AreStrings ds found
+  strings : ds ≡ items_of (map string found)
   plain : list_all is_plain found ≡ true
   same : (n : List ℕ) → has all n ≡ (has names n || has found n)
   ordered : IsStrictlySortedBy byte_cmp names → IsStrictlySortedBy byte_cmp all
@@ -65,7 +62,7 @@ found_in no_items names all e =
     let is : names ≡ all = same_Some names all e in
     record {
       found = [];
-      strings = tt;
+      strings = refl;
       plain = refl;
       same = λ n. ap (λ (ns : List (List ℕ)). has ns n) (sym is) ∙ or_none (has names n);
       ordered = subst (IsStrictlySortedBy byte_cmp) is;
@@ -76,19 +73,18 @@ found_in (item d ds) names all e =
     let more = found_in ds (insert_key byte_cmp names s) all rest in
     record {
       found = s ∷ more.found;
-      strings = (named.0, more.strings);
+      strings = ap₂ item named.0 more.strings;
       plain = rw named.1 more.plain;
       same = λ n. more.same n ∙ ap (λ b. b || has more.found n) (has_put names s n) ∙ or_moved (is s n) (has names n) (has more.found n);
       ordered = λ o. more.ordered (sorted_put names s o);
     })
 
 -- a list of plain texts is no list in which something else was found
-pub none_in : (ds : Items) (names found : List (List ℕ)) → put_items names ds ≡ None → AreStrings ds found → AllByRecursion IsManagedName found → ⊥
-none_in no_items names found e h k = absurd cc
-none_in (item d ds) names [] e h k = absurd h
-none_in (item d ds) names (s ∷ ss) e h k =
-    let step : put_items names (item d ds) ≡ put_items (insert_key byte_cmp names s) ds = rw (h.0, k.0.0) refl in
-    none_in ds (insert_key byte_cmp names s) ss (sym step ∙ e) h.1 k.1
+pub none_in : (names found : List (List ℕ)) → put_items names (items_of (map string found)) ≡ None → AllByRecursion IsManagedName found → ⊥
+none_in names [] e k = absurd cc
+none_in names (s ∷ ss) e k =
+    let step : put_items names (items_of (map string (s ∷ ss))) ≡ put_items (insert_key byte_cmp names s) (items_of (map string ss)) = rw k.0.0 refl in
+    none_in (insert_key byte_cmp names s) ss (sym step ∙ e) k.1
 
 -- ---- texts are UTF-8, and those of a list are plain
 
@@ -128,10 +124,8 @@ names_listed bytes d keys h e =
     let f = found_in ds [] (map string_bytes keys) rest in
     record {
       utf8 = h.0;
-      items = ds;
-      parsed = h.1 ∙ ap (λ (t : Data). Some t) (array_is d ds at);
       found = f.found;
-      strings = f.strings;
+      parsed = h.1 ∙ ap (λ (t : Data). Some t) (array_is d ds at ∙ ap array f.strings);
       each = all_listed f.found f.plain (λ n among. text_utf8 keys n (f.same n ∙ among));
       same = f.same;
       ordered = f.ordered tt;
@@ -140,8 +134,8 @@ names_listed bytes d keys h e =
 -- where none were found there is no list
 pub none_listed : (bytes : List ℕ) (d : Data) → read bytes ≡ Some d → names_in d ≡ None → (names : List (List ℕ)) → IsListOf bytes names → ⊥
 none_listed bytes d is e names l =
-    let tree : d ≡ array l.items = same_Some d (array l.items) (sym is ∙ l.parsed) in
-    none_in l.items [] l.found (ap names_in (sym tree) ∙ e) l.strings l.each
+    let tree : d ≡ list_tree l.found = same_Some d (list_tree l.found) (sym is ∙ l.parsed) in
+    none_in [] l.found (ap names_in (sym tree) ∙ e) l.each
 
 -- the names of a list may be managed
 pub listed_managed : (bytes : List ℕ) (names : List (List ℕ)) → IsListOf bytes names → AreManaged names

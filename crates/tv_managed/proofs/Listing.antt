@@ -1,11 +1,10 @@
 -- How a save of the list keeps track.
 use Rattle.std.proofs.Common.{◌≡◌, ℕ, true, true≢false, List, [], refl, sym, ap, subst, ◌∙◌, Option, None, Some, Result, Ok}
 use Rattle.json.proofs.OnLiterals.{json_on_literals}
-use Rattle.serde_json.specs.Data.{array}
 use Rattle.tv_formats.specs.Disk.{DiskState, Absent, Unsealed, Sealed, IsImage, IsThere, MayRead, Possible, Disk, possible_now, Throughout}
 use Rattle.tv_formats.specs.Collections.{no_collections}
 use Rattle.tv_formats.specs.Listed.{ImagesListTheirFiles, IsAList, IsAlwaysListed, IsListSettled, ListsEachFile}
-use Rattle.tv_formats.specs.Listing.{IsListOf, IsOnList, Listing, Lists, list_text}
+use Rattle.tv_formats.specs.Listing.{IsListOf, IsOnList, Listing, Lists, list_text, list_tree}
 use Rattle.tv_formats.specs.Names.{has, is_undotted, list_name}
 use Rattle.tv_formats.proofs.Entries.{has_inserted}
 use Rattle.tv_formats.proofs.ListTexts.{lists_one}
@@ -114,7 +113,7 @@ not_any : IsAList Unsealed → ⊥
 unfolding json_on_literals
 not_any any =
     let list = (any (Some []) refl).1 in
-    let none : None ≡ Some (array list.items) = list.parsed in
+    let none : None ≡ Some (list_tree list.found) = list.parsed in
     absurd cc
 
 -- a list that stands so reads one thing

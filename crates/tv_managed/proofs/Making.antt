@@ -7,8 +7,8 @@ use Rattle.std.specs.Result.{IsErr}
 use Rattle.tv_formats.specs.Names.{is, has, is_undotted, list_name}
 use Rattle.tv_formats.specs.Files.{Reads, Same, Sets, MaySet, KeepsOthers}
 use Rattle.tv_formats.specs.Listing.{IsOnList, Lists}
-use Rattle.tv_managed.proofs.Results.{on_err, on_ok}
 use Rattle.tv_formats.proofs.Entries.{is_itself, is_text}
+use Rattle.tv_formats.proofs.Results.{on_err, on_ok}
 use Rattle.tv_base.specs.Causes.{IoCause, OpenWriteCause}
 use Rattle.tv_base.specs.declared.io.IoError.{IoError}
 use Rattle.tv_base.specs.declared.io.IoError.TheVariants as io

@@ -1,5 +1,5 @@
 -- Names that are taken out of a list, and names that are tried.
-use Rattle.std.proofs.Common.{◌≡◌, ℕ, suc, ◌+◌, ◌<◌, Bool, true, false, not, cond, ◌||◌, List, [], ◌∷◌, ◌++◌, map, length, get_or, drop, drop-cons, refl, sym, ap, subst, ◌∙◌, arith, string_bytes, String, Global}
+use Rattle.std.proofs.Common.{◌≡◌, ℕ, Bool, true, false, not, cond, ◌||◌, List, [], ◌∷◌, ◌++◌, map, length, refl, sym, ap, subst, ◌∙◌, arith, string_bytes, String, Global}
 use Rattle.std.specs.List.{AllByRecursion}
 use Rattle.std.specs.List.Sorted.{IsStrictlySortedBy}
 use Rattle.std.specs.Cmp.Lexicographic.{texts_ties}
@@ -66,19 +66,6 @@ texts_left keys new name cut h = rw (texts_without keys new name cut h) (still_m
 -- one name more is without
 pub without_more : (done names : List (List ℕ)) (name : List ℕ) (left : List (List ℕ)) (c : Collection) → c.done ≡ done → without (having_tried c name left true).done names ≡ without (name ∷ []) (without done names)
 without_more done names name left c is = rw is (sym (without_twice done (name ∷ []) names))
-
--- one more of some names was taken out of a set
-pub one_out : (gone keys new : List (String Global)) (i : ℕ) (text : String Global) (name : List ℕ) (all : List (List ℕ)) → i < length gone → text ≡ get_or gone i text → name ≡ string_bytes text
-    → new ≡ remove_key (is_at (λ k. byte_cmp name (string_bytes k))) keys → AreManaged (map string_bytes keys)
-    → without (map string_bytes (drop i gone)) (map string_bytes keys) ≡ all → without (map string_bytes (drop (i + 1) gone)) (map string_bytes new) ≡ all
-one_out gone keys new i text name all lt is same cut h k =
-    let rest = map string_bytes (drop (i + 1) gone) in
-    let next : suc i ≡ i + 1 = omega arith in
-    let split : drop i gone ≡ text ∷ drop (i + 1) gone = drop-cons gone i text lt ∙ ap (λ (n : ℕ). get_or gone i text ∷ drop n gone) next ∙ ap (λ (x : String Global). x ∷ drop (i + 1) gone) (sym is) in
-    ap (without rest) (texts_without keys new name cut h)
-    ∙ without_twice (name ∷ []) rest (map string_bytes keys)
-    ∙ ap (λ (n : List ℕ). without (n ∷ rest) (map string_bytes keys)) same
-    ∙ ap (λ (l : List (String Global)). without (map string_bytes l) (map string_bytes keys)) (sym split) ∙ k
 
 -- what was done of some names and of others after them, and what failed
 pub tried_append : (names : List (List ℕ)) (os : List Bool) (more : List (List ℕ)) (others : List Bool) → length os ≡ length names

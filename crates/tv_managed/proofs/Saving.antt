@@ -14,9 +14,10 @@ use Rattle.tv_directory.specs.View.{Frame, OnlyReads}
 use Rattle.tv_directory.specs.ViewLaws.{kept_itself, kept_then}
 use Rattle.tv_directory.specs.Watch.{MayNote, WatchState}
 use Rattle.tv_directory.specs.declared.directory.Directory.{Ghosts}
+use Rattle.tv_directory.specs.TouchLaws.{others_given}
 use Rattle.tv_managed.specs.Crashes.{SavesText}
 use Rattle.tv_managed.specs.Managed.{SavesNames}
-use Rattle.tv_managed.proofs.Touching.{adds_run, gained_one, gained_same, gained_then, gained_within, others_given}
+use Rattle.tv_managed.proofs.Touching.{adds_run, gained_one, gained_same, gained_then, gained_within}
 
 -- ---- what reads
 

@@ -2,19 +2,19 @@
 use Rattle.std.proofs.Common.{◌≡◌, ◌<◌, ◌≤◌, ◌++◌, ◌&&◌, ◌⊎◌, inl, inr, ℕ, true, false, true≢false, not, List, [], ◌∷◌, length, Option, Result, Ok, Err, None, Some, refl, sym, ap, subst, ◌∙◌, ⊎_elim, arith}
 use Rattle.std.specs.Option.{IsSomeAnd}
 use Rattle.std.specs.Prelude.{IfErr, IfOk}
-use Rattle.std.proofs.lemmas.Bool.{or_left, or_right}
+use Rattle.std.proofs.lemmas.Bool.{or_right}
 use Rattle.tv_base.specs.declared.open_errors.OpenWriteError.{OpenWriteError}
 use Rattle.tv_base.specs.declared.open_errors.OpenWriteError.TheVariants as write
 use Rattle.tv_formats.specs.Disk.{Disk, IsImage, MayLeave, MayRead, Possible, Within, possible_now}
 use Rattle.tv_formats.specs.Files.{Reads}
 use Rattle.tv_formats.specs.Names.{has}
-use Rattle.tv_formats.specs.Collections.{Collection, begun, collectable, collection_at, held, with_begun}
+use Rattle.tv_formats.specs.Collections.{Collection, Collections, begun, collectable, collection_at, held, with_begun}
 use Rattle.tv_formats.proofs.CollectedNames.{has_append, has_without}
 use Rattle.tv_formats.proofs.Numbered.{put_found}
 use Rattle.tv_directory.specs.Images.{KeepsDisk}
 use Rattle.tv_directory.specs.View.{Kept, OnlyReads}
 use Rattle.tv_directory.specs.declared.directory.Directory.{Ghosts}
-use Rattle.tv_managed.specs.Collecting.{Among, Begins, Ended, EndsCollection, KeepsFailed, Leaves, Spares, TookNoneOf, Tries, names_of, taken_by}
+use Rattle.tv_managed.specs.Collecting.{Among, Begins, Ended, EndsCollection, KeepsFailed, Leaves, NextName, Spares, TookNoneOf, Tries, names_of, taken_by}
 use Rattle.tv_managed.specs.Crashes.{CollectsNames, IsSettledBut, LeavesWhatMight, StandsFor}
 use Rattle.tv_managed.specs.Frames.{KeepsNames}
 use Rattle.tv_managed.specs.Managed.{CreateFaults, Creates, is_taken}
@@ -35,10 +35,6 @@ spares_taken g (Err write.Memory) tells creates faults kept = λ taken. absurd (
 -- what is needed isn't taken
 untaken : (needed managed : List (List ℕ)) (n : List ℕ) → has needed n ≡ true → has (collectable needed managed) n ≡ false
 untaken needed managed n h = has_without needed managed n ∙ ap (λ b. not b && has managed n) h
-
--- the living names, and those that others have, are needed
-pub living_needed : (living others : List (List ℕ)) (n : List ℕ) → has living n ≡ true → has (living ++ others) n ≡ true
-living_needed living others n h = has_append living others n ∙ or_left (has living n) (has others n) h
 
 pub held_needed : (living others : List (List ℕ)) (n : List ℕ) → has others n ≡ true → has (living ++ others) n ≡ true
 held_needed living others n h = has_append living others n ∙ or_right (has living n) (has others n) h
@@ -95,12 +91,12 @@ pub leaves_what_might : {old new : Disk} → KeepsDisk old new → LeavesWhatMig
 leaves_what_might keeps image left = record { each = λ n. let it = left.each n in (it.0, keeps.states.possible.no_more.each n it.0 it.1, it.2) }
 
 -- a collection that has a name left has a first one
-pub first_left : (o : Option Collection) → IsSomeAnd o (λ c. 0 < length c.untried) → (c : Collection) × (name : List ℕ) × (left : List (List ℕ)) × (o ≡ Some c) × (c.untried ≡ name ∷ left)
-first_left None some = absurd some
-first_left (Some c) some = by c.untried refl where
-  by : (names : List (List ℕ)) → c.untried ≡ names → (d : Collection) × (name : List ℕ) × (left : List (List ℕ)) × (Some c ≡ Some d) × (d.untried ≡ name ∷ left)
+pub first_left : {collections : Collections} {number : ℕ} (o : Option Collection) → collection_at collections number ≡ o → IsSomeAnd o (λ c. 0 < length c.untried) → NextName collections number
+first_left None there some = absurd some
+first_left {collections} {number} (Some c) there some = by c.untried refl where
+  by : (names : List (List ℕ)) → c.untried ≡ names → NextName collections number
   by [] none = absurd (omega (arith, some, ap length none))
-  by (name ∷ left) next = (c, name, left, refl, next)
+  by (name ∷ left) first = record { collection = c; name = name; left = left; there = there; first = first }
 
 -- what is left of the managed names has those that failed
 still_there : (deleted managed : List (List ℕ)) (n : List ℕ) → has deleted n ≡ false → has managed n ≡ true → has (collectable deleted managed) n ≡ true

@@ -9,6 +9,7 @@ use Rattle.tv_formats.specs.Names.{has, is, is_plain, list_name}
 use Rattle.tv_formats.specs.Collections.{Collection, Collections, collection_at, having_tried, with_collection}
 use Rattle.tv_formats.proofs.Entries.{is_text}
 use Rattle.tv_formats.proofs.CollectedNames.{has_append}
+use Rattle.tv_formats.proofs.Results.{on_err}
 use Rattle.tv_directory.specs.declared.directory.Directory.{Ghosts}
 use Rattle.tv_managed.specs.Collecting.{TriesName, is_done}
 use Rattle.tv_managed.specs.Crashes.{KeepsTrack, LeavesSafely, TriesState, TriesStates}
@@ -16,7 +17,6 @@ use Rattle.tv_managed.specs.Names.{ManagedNames, done_names}
 use Rattle.tv_managed.specs.declared.collection.CollectStep.{CollectStep}
 use Rattle.tv_managed.proofs.Collections.{more_done}
 use Rattle.tv_managed.proofs.Giving.{track_deleted}
-use Rattle.tv_managed.proofs.Results.{on_err}
 use Rattle.tv_managed.proofs.Touching.{adds_run, gained_one, gained_same, keeps_same}
 use Rattle.tv_managed.proofs.Tracking.{covered_done, listed_file, track_names, track_same}
 use Rattle.tv_managed.specs.TrackLaws.{track_then}

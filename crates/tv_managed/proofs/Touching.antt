@@ -1,22 +1,18 @@
 -- What each step leaves alone of the files on a disk.
-use Rattle.std.proofs.Common.{◌≡◌, ◌≢◌, ⊎_elim, ℕ, Bool, true, false, List, refl, sym, ap, subst, ◌∙◌, inl, inr, arith, Result, Ok, Err}
-use Rattle.tv_formats.specs.Disk.{DiskState, Absent, Unsealed, Sealed, IsThere, Possible, Disk, possible_now, Within, MayAdd, Elapses, Throughout, TouchesOnly}
+use Rattle.std.proofs.Common.{◌≡◌, ◌≢◌, ⊎_elim, ℕ, Bool, true, false, List, refl, sym, ap, subst, ◌∙◌, inl, inr, arith, Result}
+use Rattle.tv_formats.specs.Disk.{DiskState, IsThere, Possible, Disk, possible_now, Within, MayAdd, Elapses, Throughout}
 use Rattle.tv_formats.specs.Names.{list_name}
-use Rattle.tv_formats.proofs.DiskLaws.{HoldsOfFewer, at_end, goes_on, goes_on_run, same, started, touches_file, touches_none, weaker}
+use Rattle.tv_formats.proofs.DiskLaws.{HoldsOfFewer, at_end, goes_on, goes_on_run, same, started, weaker}
 use Rattle.tv_base.specs.declared.io.IoError.{IoError}
 use Rattle.tv_base.specs.declared.io.IoError.TheVariants as io
 use Rattle.tv_base.specs.declared.open_errors.OpenWriteError.TheVariants as write
-use Rattle.tv_base.specs.declared.open_errors.OpenWriteError.{OpenWriteError}
-use Rattle.tv_directory.specs.Images.{KeepsDisk, KeepsOtherStates, GivesState, OpensState, MayOpen, WritesState}
+use Rattle.tv_directory.specs.Images.{KeepsDisk, KeepsOtherStates, WritesState}
 use Rattle.tv_directory.specs.declared.directory.Directory.{Ghosts}
+use Rattle.tv_directory.specs.TouchLaws.{others_given}
 use Rattle.tv_managed.specs.Crashes.{Gains, IsCovered, IsTracked, KeepsTrack}
 use Rattle.tv_managed.specs.Names.{ManagedNames}
 use Rattle.tv_managed.specs.TrackLaws.{covered_within, track_step}
 use Rattle.tv_managed.proofs.Tracking.{covered_file, not_done}
-
--- a call that only reads
-pub reads_touch : {old new : Disk} (touched : List ℕ → Type 0) → KeepsDisk old new → TouchesOnly touched old new
-reads_touch touched keeps = touches_none touched keeps.time keeps.states.possible.no_more keeps.states.now
 
 -- nothing was done
 pub keeps_same : (disk : Disk) → KeepsDisk disk disk
@@ -26,23 +22,6 @@ keeps_same disk = record {
 }
 
 -- ---- names that a call doesn't touch, whatever it answers
-
-pub others_given : {A : Type 0} {old new : Disk} {name : List ℕ} {state : DiskState} (result : Result A IoError) → GivesState old new name state result → KeepsOtherStates old new name
-others_given (Ok x) gives n ne = gives.ok.others n ne
-others_given (Err (io.Fault fault)) gives n ne = gives.err.1.others n ne
-others_given (Err io.Memory) gives n ne = gives.err.now n
-
-opened_or_not : {old new : Disk} {name : List ℕ} (was : DiskState) → old.now name ≡ was → MayOpen old new name → KeepsOtherStates old new name
-opened_or_not Absent is opens n ne = (opens.absent is).others n ne
-opened_or_not Unsealed is opens n ne = (opens.there (subst IsThere (sym is) tt)).now n
-opened_or_not (Sealed bytes) is opens n ne = (opens.there (subst IsThere (sym is) tt)).now n
-
-pub others_opened : {A : Type 0} {old new : Disk} {name : List ℕ} (result : Result A OpenWriteError) → OpensState old new name result → KeepsOtherStates old new name
-others_opened (Ok x) opens n ne = opens.ok.1.others n ne
-others_opened (Err (write.FileAlreadyExists path)) opens n ne = opens.err.1.1.now n
-others_opened (Err (write.Leaving path)) opens n ne = absurd opens.err
-others_opened {old = old} {name = name} (Err (write.IoError fault path)) opens n ne = opened_or_not (old.now name) refl opens.err.2 n ne
-others_opened (Err write.Memory) opens n ne = opens.err.now n
 
 pub others_written : {A : Type 0} (lives : Bool) {old new : Disk} {name : List ℕ} {state : DiskState} {result : Result A IoError} → WritesState lives old new name state result → KeepsOtherStates old new name
 others_written true {result = result} writes n ne = others_given result (writes.gives refl) n ne
@@ -55,9 +34,6 @@ time_written false writes = (writes.gone refl).time
 pub added_written : {A : Type 0} (lives : Bool) {old new : Disk} {name : List ℕ} {state : DiskState} {result : Result A IoError} → WritesState lives old new name state result → MayAdd (possible_now old) (possible_now new) name state
 added_written true writes = (writes.gives refl).no_more
 added_written false writes = record { each = λ n s is. inl ((writes.gone refl).states.possible.no_more.each n s is) }
-
-pub touches_written : {A : Type 0} (lives : Bool) {old new : Disk} {name : List ℕ} {state : DiskState} {result : Result A IoError} → WritesState lives old new name state result → TouchesOnly (λ n. n ≡ name) old new
-touches_written lives writes = touches_file (time_written lives writes) (added_written lives writes) (others_written lives writes)
 
 -- a file that its writer's call finds is managed, and not done
 pub covered_written : {A : Type 0} (lives : Bool) {old new : Disk} {names : ManagedNames} {name : List ℕ} {state : DiskState} {result : Result A IoError} → WritesState lives old new name state result → ((n : List ℕ) → possible_now old n (old.now n))

@@ -38,11 +38,12 @@ with_standing : ℕ → Collection → ManagedNames → ManagedNames
 with_standing number c names = record names { collections = with_collection names.collections number c }
 
 -- one more was tried
-pub some_more : {D W C : Type 0} (g : Ghosts D W C) (before : ManagedNames) (names : List (List ℕ)) {first old new : D × ManagedNames} (gone : Bool) (name : List ℕ) (left : List (List ℕ)) (t : TriesSafely g before names first old) → t.some.rest ≡ name ∷ left
-    → NotesFirst g before.collections.next (record { untried = t.some.rest; done = t.some.deleted; failed = t.some.failed }) name left old new gone → OnlyDeletes g old new
+pub some_more : {D W C : Type 0} (g : Ghosts D W C) (before : ManagedNames) (names : List (List ℕ)) {first old new : D × ManagedNames} (gone : Bool) (name : List ℕ) (left : List (List ℕ)) (t : TriesSafely g before names first old) (next : t.some.rest ≡ name ∷ left)
+    (at : collection_at old.1.collections before.collections.next ≡ Some (record { untried = t.some.rest; done = t.some.deleted; failed = t.some.failed }))
+    → NotesFirst g old new (record { collection = record { untried = t.some.rest; done = t.some.deleted; failed = t.some.failed }; name = name; left = left; there = at; first = next }) gone → OnlyDeletes g old new
     → (g.tells_images → LeavesSafely g (TriesStates {E = Memory} (λ it. it) (g.disk old.0) (g.disk new.0) name (Ok gone)) old new) → TriesSafely g before names first new
 unfolding with_standing
-some_more g before names {first} {old} {new} gone name left so_far next t only safe =
+some_more g before names {first} {old} {new} gone name left so_far next at t only safe =
     let s = so_far.some in
     let c : Collection = record { untried = s.rest; done = s.deleted; failed = s.failed } in
     let put = tried_as s.rest s.deleted s.failed name left gone in
@@ -92,8 +93,11 @@ some_next g before names number {first} {old} {new} gone same has tries only saf
 
   by : (r : List (List ℕ)) → so_far.some.rest ≡ r → TriesSafely g before names first new
   by [] none = absurd (omega (arith, some has, ap length none))
-  by (name ∷ left) next = some_more g before names gone name left so_far next
-      (subst (λ n. NotesFirst g n c name left old new gone) same (tries c name left at next)) only (λ tells. safe tells c name left at next)
+  by (name ∷ left) next =
+      let now = left_at g before names before.collections.next refl so_far.some in
+      some_more g before names gone name left so_far next now
+      (subst (λ n. NotesNext g n old new gone) same tries (record { collection = c; name = name; left = left; there = now; first = next })) only
+      (λ tells. safe tells (record { collection = c; name = name; left = left; there = at; first = next }))
 
 -- none could be tried, and nothing changed
 pub some_wanted : {D W C : Type 0} (g : Ghosts D W C) (before : ManagedNames) (names : List (List ℕ)) (number : ℕ) {first old new : D × ManagedNames} (e : Memory) → number ≡ before.collections.next → HasLeft old.1.collections number → ChangesNothing g old new
@@ -121,7 +125,7 @@ some_wanted g before names number {first} {old} {new} e same has none safe so_fa
       names = none.frame.names ∙ so_far.some.names;
     };
     safe = λ tells.
-        let one = safe tells c name left at next in
+        let one = safe tells (record { collection = c; name = name; left = left; there = at; first = next }) in
         let was_safe = so_far.safe tells in
         record {
           tracks = λ was. let before = was_safe.tracks was in track_then g before (one.tracks before.tracked);
@@ -136,7 +140,7 @@ fewer_left g number old new gone has tries = by (collection_at old.1.collections
   tried : (d : Collection) (rest : List (List ℕ)) → d.untried ≡ rest → collection_at old.1.collections number ≡ Some d → 0 < length d.untried → suc (left_of (collection_at new.1.collections number)) ≤ length d.untried
   tried d [] none at some = absurd (omega (arith, ap length none))
   tried d (name ∷ left) next at some =
-      let t = tries d name left at next in
+      let t = tries (record { collection = d; name = name; left = left; there = at; first = next }) in
       let now : collection_at new.1.collections number ≡ Some (having_tried d name left gone) = ap (λ v. collection_at v.collections number) t.names ∙ put_found old.1.collections.unfinished number _ in
       omega (arith, ap left_of now, left_tried d name left gone, ap length next)
 

@@ -184,34 +184,42 @@ tried_name (steps.Failed name) = string_bytes name
 abbrev pub HasLeft : Collections → ℕ → Type 0
 HasLeft collections number = IsSomeAnd (collection_at collections number) (λ c. 0 < length c.untried)
 
--- A collection tried this name, its first one left, and noted the outcome: the name is done, or failed and is
--- as it was.
-pub record NotesFirst {D W C : Type 0} (g : Ghosts D W C) (number : ℕ) (c : Collection) (name : List ℕ)
-    (left : List (List ℕ)) (old new : D × ManagedNames) (is_gone : Bool) : Type 0 where
-  pub plain : is_plain name ≡ true
-  pub names : new.1 ≡ record old.1 {
-    collections = with_collection old.1.collections number (having_tried c name left is_gone);
-  }
-  pub tried : TriesName g name old new is_gone
+-- the name that the collection of this number tries next, the first one that it has left, and those
+-- that are left behind it
+pub record NextName (collections : Collections) (number : ℕ) : Type 0 where
+  pub collection : Collection
+  pub name : List ℕ
+  pub left : List (List ℕ)
+  pub there : collection_at collections number ≡ Some collection
+  pub first : collection.untried ≡ name ∷ left
 
--- A collection tried this name, its first one left: the step tells it, and its outcome.
-pub record TriesFirst {D W C : Type 0} (g : Ghosts D W C) (number : ℕ) (c : Collection) (name : List ℕ)
-    (left : List (List ℕ)) (old new : D × ManagedNames) (step : CollectStep) : Type 0 where
-  pub told : tried_name step ≡ name
-  pub noted : NotesFirst g number c name left old new (is_done step)
+-- A collection tried this name, its next one, and noted the outcome: the name is done, or failed and
+-- is as it was.
+pub record NotesFirst {D W C : Type 0} (g : Ghosts D W C) {number : ℕ} (old new : D × ManagedNames)
+    (next : NextName old.1.collections number) (is_gone : Bool) : Type 0 where
+  pub plain : is_plain next.name ≡ true
+  pub names : new.1 ≡ record old.1 {
+    collections = with_collection old.1.collections number
+        (having_tried next.collection next.name next.left is_gone);
+  }
+  pub tried : TriesName g next.name old new is_gone
+
+-- A collection tried this name, its next one: the step tells it, and its outcome.
+pub record TriesFirst {D W C : Type 0} (g : Ghosts D W C) {number : ℕ} (old new : D × ManagedNames)
+    (next : NextName old.1.collections number) (step : CollectStep) : Type 0 where
+  pub told : tried_name step ≡ next.name
+  pub noted : NotesFirst g old new next (is_done step)
 
 -- nothing changed: the names and collections are as they were, and the directory was only read from
 pub record ChangesNothing {D W C : Type 0} (g : Ghosts D W C) (old new : D × ManagedNames) : Type 0 where
   pub frame : KeepsNames (OnlyReads g.told) g.view old new
   pub faults : (g.view new.0).faults ≡ (g.view old.0).faults
 
--- A step of a collection tries its first name left, whatever its names are. It fails where memory was wanted
--- alone, and then nothing changed.
+-- A step of a collection tries its next name. It fails where memory was wanted alone, and then
+-- nothing changed.
 pub record Steps {D W C : Type 0} (g : Ghosts D W C) (number : ℕ) (old new : D × ManagedNames)
     (result : Result CollectStep TantivyError) : Type 0 where
-  pub ok : (c : Collection) (name : List ℕ) (left : List (List ℕ))
-      → collection_at old.1.collections number ≡ Some c → c.untried ≡ name ∷ left
-      → IfOk result (TriesFirst g number c name left old new)
+  pub ok : (next : NextName old.1.collections number) → IfOk result (TriesFirst g old new next)
   pub memory : IfErr result (λ e. e ≡ errors.Memory)
   pub err : OnErr result (ChangesNothing g old new)
 
@@ -403,12 +411,11 @@ pub record TriesSome {D W C : Type 0} (g : Ghosts D W C) (before : ManagedNames)
   pub tried : Tried g front old new deleted failed
   pub names : new.1 ≡ standing before (record { untried = rest; done = deleted; failed = failed })
 
--- a collection tried its first name left, whatever its names are, and noted the outcome
+-- a collection tried its next name, and noted the outcome
 abbrev pub NotesNext : {D W C : Type 0} → Ghosts D W C → (number : ℕ) → (old new : D × ManagedNames)
     → (is_gone : Bool) → Type 0
 NotesNext g number old new is_gone =
-    (c : Collection) (name : List ℕ) (left : List (List ℕ)) → collection_at old.1.collections number ≡ Some c
-    → c.untried ≡ name ∷ left → NotesFirst g number c name left old new is_gone
+    (next : NextName old.1.collections number) → NotesFirst g old new next is_gone
 
 -- at Ok the collection has nothing left
 abbrev pub TriesAll : {A E : Type 0} → ℕ → ManagedNames → Result A E → Type 0

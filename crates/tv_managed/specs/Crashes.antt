@@ -1,5 +1,5 @@
 -- What a crash may leave of a managed directory at each moment of its calls.
-use Rattle.std.specs.Prelude.{ℕ, ◌≡◌, ◌⊎◌, Bool, true, false, List, ◌∷◌, Some, Result, IfErr, IfOk, OnErr, OnOk}
+use Rattle.std.specs.Prelude.{ℕ, ◌≡◌, ◌⊎◌, Bool, true, false, List, Some, Result, IfErr, IfOk, OnErr, OnOk}
 use Rattle.tv_formats.specs.Disk.{DiskState, Absent, Unsealed, Sealed, IsThere, MayLeave, MayRead, Possible, Disk, possible_now, Within, MayAdd, IsSettled, Elapses, Throughout, OnlyMoves, TouchesOnly}
 use Rattle.tv_formats.specs.Files.{Reads}
 use Rattle.tv_formats.specs.Listed.{ImagesListTheirFiles, IsAlwaysListed, IsListSettled, ListsEachFile}
@@ -13,7 +13,7 @@ use Rattle.tv_base.specs.declared.open_errors.OpenWriteError.{OpenWriteError}
 use Rattle.tv_base.specs.declared.open_errors.OpenWriteError.TheVariants as write
 use Rattle.tv_directory.specs.Images.{KeepsDisk, KeepsOtherStates, SameStates}
 use Rattle.tv_directory.specs.declared.directory.Directory.{Ghosts}
-use Rattle.tv_managed.specs.Collecting.{Leaves, SavesNone, Tries, TriesSome, names_of}
+use Rattle.tv_managed.specs.Collecting.{Leaves, NextName, SavesNone, Tries, TriesSome, names_of}
 use Rattle.tv_managed.specs.Managed.{NeedsNoListing, SavesList, registered}
 use Rattle.tv_managed.specs.Names.{ManagedNames, done_names}
 use Rattle.tv_managed.specs.Writers.{IsSummed}
@@ -183,15 +183,14 @@ pub record TriesStates {A E : Type 0} (says_done : A → Bool) (old new : Disk) 
   pub refused : IfOk result (λ answer. says_done answer ≡ false → KeepsDisk old new)
   pub err : OnErr result (KeepsDisk old new)
 
--- A collection tries the first name that it has left: at each moment that file may be absent besides, and is
--- where the answer says that it is done. Where that says that it failed, or no name could be tried, nothing
+-- A collection tries its next name: at each moment that file may be absent besides, and is where the
+-- answer says that it is done. Where that says that it failed, or no name could be tried, nothing
 -- changed. No other name is touched.
 abbrev pub StepsSafely : {A E D W C : Type 0} → (says_done : A → Bool) → Ghosts D W C → (number : ℕ)
     → (old new : D × ManagedNames) → Result A E → Type 0
 StepsSafely says_done g number old new result =
-    (c : Collection) (name : List ℕ) (left : List (List ℕ)) → collection_at old.1.collections number ≡ Some c
-    → c.untried ≡ name ∷ left
-    → LeavesSafely g (TriesStates says_done (g.disk old.0) (g.disk new.0) name result) old new
+    (next : NextName old.1.collections number)
+    → LeavesSafely g (TriesStates says_done (g.disk old.0) (g.disk new.0) next.name result) old new
 
 -- The list may have these names besides. No file is touched. A name that is managed no more has no file after
 -- any crash.

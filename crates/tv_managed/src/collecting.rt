@@ -46,6 +46,9 @@ impl<D: Directory> ManagedDirectory<D> {
     /// where a file was deleted or a delete refused the collection stays unfinished. `LockFailure` comes where the
     /// lock isn't given, `Exhausted` where the collection's number would be the last; then nothing changed.
     ///
+    /// The memory for the answer is taken before the first delete. From then on memory is wanted by the directory, and
+    /// for the shorter list, alone.
+    ///
     /// By the code the device has kept what was written before the first delete; by the clause a crash leaves at
     /// each moment what it might have left before, or each name as it stood, one whose delete is refused too, but
     /// that a name that is done may be absent, and the list may lack what is done. The device has kept what was
@@ -140,7 +143,7 @@ impl<D: Directory> ManagedDirectory<D> {
 
     /// Deletes the first name that a collection has yet to try, and tells it. A file that is absent counts as done.
     /// One whose delete is refused has failed, and a writer of it lives on. The name stays managed. It fails where
-    /// memory was wanted alone, and then nothing changed.
+    /// memory was wanted alone, and then nothing changed. The memory for the answer is taken before the delete.
     pub fn collect_delete(&mut self, id: u64) -> Result<CollectStep, TantivyError>
         requires { HasLeft self.old.1.collections id }
         ensures steps { Steps D.Directory id self.old self.new result }
@@ -156,7 +159,7 @@ impl<D: Directory> ManagedDirectory<D> {
     /// Ends a collection: what is done is managed no more, and what failed or wasn't tried stays managed. At Ok the
     /// list has exactly the managed names that are left, where it had exactly those that were managed; where nothing
     /// is done, each file reads what it read, and the list too. After an error the collection isn't finished, and the
-    /// managed names are as they were.
+    /// managed names are as they were. Memory is wanted by the directory, and for the shorter list, alone.
     ///
     /// The device has kept what was deleted before the shorter list is saved: where track is kept, no crash leaves a
     /// file whose name isn't managed any more.
@@ -258,8 +261,8 @@ impl<D: Directory> ManagedDirectory<D> {
         }
     }
 
-    // Tries the first name that a collection has left, and answers whether it is done. Wants no memory but
-    // what the device does.
+    // Tries the first name that a collection has left, and answers whether it is done. Takes no memory beyond
+    // what the directory's delete takes.
     fn try_next(&mut self, id: u64) -> Result<bool, Memory>
         requires { HasLeft self.old.1.collections id }
         ensures notes { IfOk result (NotesNext D.Directory id self.old self.new) }
@@ -313,7 +316,7 @@ impl<D: Directory> ManagedDirectory<D> {
     }
 }
 
-// Deletes a managed name, and answers whether it is gone, whatever names are kept in memory.
+// Deletes a managed name, and answers whether it is gone.
 fn delete_managed<D: Directory>(directory: &mut D, name: &str) -> Result<bool, Memory>
     requires { is_plain name.now ≡ true }
     ensures tried { (names : ManagedNames) → IfOk result

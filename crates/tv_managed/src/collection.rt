@@ -77,8 +77,7 @@ impl GarbageCollectionResult {
 }
 
 /// A collection: the names that it took, in their order, with a place for the outcome of each, how many were
-/// tried, and an answer with room for each. So nothing is wanted of the memory once a name was tried, not for
-/// the answer either.
+/// tried, and an answer with room for each. So neither noting an outcome nor answering takes memory.
 #[derive(Drop)]
 pub(crate) struct Collection {
     names: Vec<String>,

@@ -1,7 +1,7 @@
 //! The file that lists the managed files.
-ghost use Rattle.std.specs.Prelude.{◌≡◌, [], ◌∷◌, ◌++◌, Some, IfOk, OnOk, map, option_map, string_bytes, if◌then◌else◌};
+ghost use Rattle.std.specs.Prelude.{◌≡◌, Some, IfOk, map, option_map, string_bytes};
 ghost use Rattle.tv_formats.specs.Names.{list_name};
-ghost use Rattle.tv_formats.specs.Listing.{Listing, list_text, in_quotes};
+ghost use Rattle.tv_formats.specs.Listing.{Listing, list_text};
 ghost use Rattle.tv_directory.specs.Images.{KeepsDisk};
 ghost use Rattle.tv_directory.specs.View.{OnlyReads};
 ghost use Rattle.tv_managed.specs.Collecting.{names_of};
@@ -11,38 +11,25 @@ ghost use Rattle.tv_managed.specs.Names.{AreManaged};
 ghost use Rattle.tv_managed.specs.Wrapping.{ListFaults};
 
 use crate::list_json::read_names;
+use json::Writer;
 use std::alloc::Global;
 use std::collections::BTreeSet;
 use tv_base::{DataCorruption, IoError, MANAGED_FILEPATH, OpenReadError, TantivyError};
 use tv_directory::Directory;
 use tv_formats::Memory;
 
-// Adds a name in quotation marks, and a comma before it where it isn't the first.
-fn push_name(text: &mut Vec<u8>, name: &str, is_first: bool) -> Result<(), Memory>
-    ensures { OnOk result (text.new.items
-        ≡ text.old.items ++ ((if is_first then [] else 44 ∷ []) ++ in_quotes name.now)) }
-{
-    if !is_first {
-        text.push(b',')?;
-    }
-    text.push(b'"')?;
-    text.extend_from_slice(name.as_bytes())?;
-    text.push(b'"')?;
-    Ok(())
-}
-
 /// The text of the list of these names.
 fn list_text(alloc: Global, names: &BTreeSet<String>) -> Result<Vec<u8>, Memory>
     ensures { IfOk result (λ text. text.items ≡ list_text (map string_bytes names.now.keys)) }
 {
-    let mut text = Vec::new(alloc);
-    text.push(b'[')?;
-    let mut is_first = true;
+    let mut list = Writer::new(Vec::new(alloc));
+    list.begin_array()?;
     for name in names {
-        push_name(&mut text, name, is_first)?;
-        is_first = false;
+        list.string(name.as_str())?;
     }
-    text.extend_from_slice(b"]\n")?;
+    list.end_array()?;
+    let mut text = list.into_inner();
+    text.push(b'\n')?;
     Ok(text)
 }
 

@@ -73,7 +73,8 @@ impl<D: Directory> ManagedDirectory<D> {
     // The footer of the file, and the body before it.
     fn framed(&mut self, name: &str) -> Result<(Footer, FileSlice), OpenReadError>
         requires { is_file_name name.now ≡ true }
-        ensures framed { IfOk result (λ found. (bytes : List ℕ) × IsFramedAs bytes found.0 found.1) }
+        ensures framed { IfOk result (λ found.
+            (bytes : List ℕ) × IsFramedAs bytes found.0 found.1) }
         ensures read { D.told.content → IfOk result (λ found.
             ReadsSuch ((D.view self.old.0).reads name.now)
             (λ bytes. IsFramedAs bytes found.0 found.1)) }

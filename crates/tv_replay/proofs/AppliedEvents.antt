@@ -55,7 +55,7 @@ use Rattle.tv_index.specs.Standing.{MetaCause, OfRead}
 use Rattle.tv_formats.specs.Meaning.{Means, MeansNothing, MeansOther}
 use Rattle.tv_formats.proofs.MeansOne.{means_no_other, means_something}
 use Rattle.tv_store.specs.Effects.{TakesMetaLock, after_each, length_after, numbers_after, written_by}
-use Rattle.tv_store.specs.ReadCauses.{ReadFault, LoadingCause}
+use Rattle.tv_store.specs.ReadCauses.{ReadFault, LoadingCause, ReadFacts}
 use Rattle.tv_managed.specs.Collecting.{meta_lock_name}
 use Rattle.tv_replay.specs.ScriptCauses.{IsRefused, ScriptCause}
 use Rattle.tv_store.specs.StoreCauses.{WriteFault, IsRefusal}
@@ -329,20 +329,20 @@ fails cause = record { quiet = tt; cause = cause }
 
 module _ (c : Causes) where
   -- an event's
-  pub event_cause : {busy refused quiet spent : Type 0} (given tells : Type 0) (schema : List ℕ) (stands : Option (List ℕ)) (bad : OpenReadError → Type 0) (absent : List ℕ → Type 0) (error : TantivyError)
-      → LoadingCause busy refused quiet spent (λ e. given × MetaCause tells (Some schema) stands refused quiet e) bad absent error → (busy → c.busy) → (refused → c.refused) → (quiet → c.quiet) → (spent → ⊥)
+  pub event_cause : (facts : ReadFacts) (given tells : Type 0) (schema : List ℕ) (stands : Option (List ℕ)) (error : TantivyError)
+      → LoadingCause facts (λ e. given × MetaCause tells (Some schema) stands facts.refused facts.quiet e) error → (facts.busy → c.busy) → (facts.refused → c.refused) → (facts.quiet → c.quiet) → (facts.spent → ⊥)
       → (OfRead tells stands (MeansNothing (Some schema)) ⊎ OfRead tells stands (MeansOther schema) → c.unread) → RunCause c error
-  event_cause given tells schema stands bad absent (errors.IoError fault) h y f q never u = (h.0, f h.1)
-  event_cause given tells schema stands bad absent (errors.OpenWriteError error) h y f q never u = write_fault error f h
-  event_cause given tells schema stands bad absent (errors.OpenReadError error) h y f q never u = read_fault {bad = bad} {worse = λ e. Unit {0}} {absent = absent} {gone = λ path. Unit {0}} error f q (λ e b. tt) (λ path a. tt) h
-  event_cause given tells schema stands bad absent (errors.LockFailure lock.LockBusy text) h y f q never u = (y h.0, h.1)
-  event_cause given tells schema stands bad absent (errors.LockFailure (lock.IoError fault) text) h y f q never u = ((h.0.0, f h.0.1), h.1)
-  event_cause given tells schema stands bad absent (errors.LockFailure lock.Memory text) h y f q never u = absurd h.0
-  event_cause given tells schema stands bad absent (errors.DataCorruption why) h y f q never u = (q h.1.0, h.1.1, u (inl h.1.2))
-  event_cause given tells schema stands bad absent (errors.SchemaError text) h y f q never u = (q h.1.0, h.1.1, u (inr h.1.2))
-  event_cause given tells schema stands bad absent errors.Exhausted h y f q never u = absurd (never h.1)
-  event_cause given tells schema stands bad absent errors.Memory h y f q never u = q h
-  event_cause given tells schema stands bad absent other h y f q never u = absurd h
+  event_cause facts given tells schema stands (errors.IoError fault) h y f q never u = (h.0, f h.1)
+  event_cause facts given tells schema stands (errors.OpenWriteError error) h y f q never u = write_fault error f h
+  event_cause facts given tells schema stands (errors.OpenReadError error) h y f q never u = read_fault {bad = facts.bad} {worse = λ e. Unit {0}} {absent = facts.absent} {gone = λ path. Unit {0}} error f q (λ e b. tt) (λ path a. tt) h
+  event_cause facts given tells schema stands (errors.LockFailure lock.LockBusy text) h y f q never u = (y h.0, h.1)
+  event_cause facts given tells schema stands (errors.LockFailure (lock.IoError fault) text) h y f q never u = ((h.0.0, f h.0.1), h.1)
+  event_cause facts given tells schema stands (errors.LockFailure lock.Memory text) h y f q never u = absurd h.0
+  event_cause facts given tells schema stands (errors.DataCorruption why) h y f q never u = (q h.1.0, h.1.1, u (inl h.1.2))
+  event_cause facts given tells schema stands (errors.SchemaError text) h y f q never u = (q h.1.0, h.1.1, u (inr h.1.2))
+  event_cause facts given tells schema stands errors.Exhausted h y f q never u = absurd (never h.1)
+  event_cause facts given tells schema stands errors.Memory h y f q never u = q h
+  event_cause facts given tells schema stands other h y f q never u = absurd h
 
   -- a refusal's
   refusal_cause : (text : List ℕ) (error : TantivyError) → IsRefusal text error → c.quiet → c.refusal text → RunCause c error

@@ -33,17 +33,16 @@ use Rattle.tv_formats.specs.Schemas.{IsSchema}
 use Rattle.tv_formats.specs.Sound.{FindsCommit, HasFiles, IsSoundImage, IsSoundMeta}
 use Rattle.tv_machine.specs.Index.{FoundIndex, found_commits}
 use Rattle.tv_machine.specs.Script.{line_limit, lines_of, Fits, IsLine, AreLines}
-use Rattle.tv_machine.proofs.Serving.{sound_after}
+use Rattle.tv_machine.proofs.Serving.{sound_after, front_fits}
 use Rattle.tv_replay.specs.ScriptLines.{IsNoEvent, IsTooLong}
 use Rattle.tv_index.specs.Opening.{OfBytes, OpenCause}
 use Rattle.tv_store.specs.StoreCauses.{WriteFault, writer_lock_name}
 use Rattle.tv_store.specs.OpeningCauses.{CallFacts, IndexMissing, IndexRefused, IsFirstBad, OpeningCause}
 use Rattle.tv_store.specs.ReadCauses.{ReadFault}
 use Rattle.tv_managed.specs.Collecting.{meta_lock_name}
-use Rattle.tv_directory.specs.declared.directory.Directory.{Ghosts}
-use Rattle.tv_base.specs.Streams.{SourceView}
+use Rattle.tv_directory.specs.View.{Told}
 use Rattle.tv_store.specs.Applying.{MeetsBadAt}
-use Rattle.tv_replay.specs.Replays.{ReplayCause, told_facts, RefusesOpening, StopsFor, StopsReplay, StopsRunning, StopsAtLine, LineRefusal}
+use Rattle.tv_replay.specs.Replays.{ReplayCall, ReplayCause, told_facts, RefusesOpening, StopsFor, StopsReplay, StopsRunning, StopsAtLine, LineRefusal}
 use Rattle.tv_replay.specs.Completeness.{IsScript, IsReady}
 use Rattle.tv_replay.proofs.Progress.{AreLines-length}
 use Rattle.tv_replay.proofs.AppliedEvents.{mapped}
@@ -166,10 +165,6 @@ module _ (schema form : List ℕ) (reads : Reads) (spelled : IsSchema schema for
 
 -- ---- the run
 
-prefix_fits : (turns ahead : List Turn) → AllByRecursion Fits (events_of (turns ++ ahead)) → AllByRecursion Fits (events_of turns)
-prefix_fits [] ahead h = tt
-prefix_fits (t ∷ turns) ahead h = (h.0, prefix_fits turns ahead h.1)
-
 lines_fit : (texts : List (List ℕ)) (events : List Event) → AreLines texts events → AllByRecursion Fits events
 lines_fit [] [] h = tt
 lines_fit (text ∷ texts) (event ∷ events) h = (h.0.fits, lines_fit texts events h.1)
@@ -205,38 +200,38 @@ no_write_fault : (refused : Type 0) (error : OpenWriteError) → (refused → �
 no_write_fault refused (write.IoError fault path) f h = f h.1
 no_write_fault refused other f h = h
 
-pub only_memory : {O W C : Type 0} (g : Ghosts O W C) (before now : O) (schema : List ℕ) (script script_now : SourceView) (facts : CallFacts) (error : TantivyError) → facts.tells → g.told.content → IsReady schema script.left (g.view before).reads (g.view before).locks → (facts.busy → ⊥) → (facts.refused → ⊥) → (facts.refused_behind → ⊥)
-    → ReplayCause facts schema (g.view before).reads script.left error → StopsReplay g before now schema script script_now error → error ≡ errors.Memory
-only_memory g before now schema script script_now facts (errors.InvalidArgument text) t told ready y f fb (_, inl h) stops = absurd (h.0 ready.form ready.spelled)
-only_memory g before now schema script script_now facts (errors.InvalidArgument text) t told ready y f fb (_, inr h) stops =
-    absurd (no_line_refusal schema script.left (g.view before).reads (g.view before).locks (string_bytes text) ready h.2)
-only_memory g before now schema script script_now facts (errors.DataCorruption why) t told ready y f fb (_, _, inr (_, none)) stops =
-    absurd (none.2 t (sound_index schema ready.form (g.view before).reads ready.spelled ready.sound.image))
-only_memory g before now schema script script_now facts (errors.DataCorruption why) t told ready y f fb (text, is, inl h) stops =
-    absurd (no_damage schema ready.form (g.view before).reads ready.spelled ready.sound.image facts.tells facts.refused_behind facts.quiet_behind why text t (is.text_is ∙ sym ready.spelled.text_is) h)
-only_memory g before now schema script script_now facts (errors.SchemaError text) t told ready y f fb (_, _, inr (_, none)) stops =
-    absurd (none.2 t (sound_index schema ready.form (g.view before).reads ready.spelled ready.sound.image))
-only_memory g before now schema script script_now facts (errors.SchemaError text) t told ready y f fb (own, is, inl h) stops =
-    absurd (no_other_schema schema ready.form (g.view before).reads ready.spelled ready.sound.image facts.tells facts.refused_behind facts.quiet_behind text own t (is.text_is ∙ sym ready.spelled.text_is) h)
-only_memory g before now schema script script_now facts (errors.IoError fault) t told ready y f fb h stops = absurd (fb h.2)
-only_memory g before now schema script script_now facts (errors.OpenWriteError error) t told ready y f fb h stops = absurd (no_write_fault facts.refused error f h.2)
-only_memory g before now schema script script_now facts (errors.OpenReadError error) t told ready y f fb h stops = absurd (met (stops told)) where
-  met : RefusesOpening g.told schema (g.view before) (g.view now) script script_now (errors.OpenReadError error) ⊎ StopsRunning g before now schema script script_now (errors.OpenReadError error) → ⊥
-  met (inl opening) = no_opening_fault schema ready.form (g.view before).reads ready.spelled ready.sound.image facts.refused facts.quiet (g.told.locks → (g.view before).locks writer_lock_name ≡ true) (g.told.locks → (g.view before).locks writer_lock_name ≡ false) error f h.2 opening.cause
+pub only_memory : {W : Type 0} (told : Told) (call : ReplayCall W) (facts : CallFacts) (error : TantivyError) → facts.tells → told.content → IsReady call.schema call.script.left call.before.reads call.before.locks → (facts.busy → ⊥) → (facts.refused → ⊥) → (facts.refused_behind → ⊥)
+    → ReplayCause facts call.schema call.before.reads call.script.left error → StopsReplay told call error → error ≡ errors.Memory
+only_memory told call facts (errors.InvalidArgument text) t content ready y f fb (_, inl h) stops = absurd (h.0 ready.form ready.spelled)
+only_memory told call facts (errors.InvalidArgument text) t content ready y f fb (_, inr h) stops =
+    absurd (no_line_refusal call.schema call.script.left call.before.reads call.before.locks (string_bytes text) ready h.2)
+only_memory told call facts (errors.DataCorruption why) t content ready y f fb (_, _, inr (_, none)) stops =
+    absurd (none.2 t (sound_index call.schema ready.form call.before.reads ready.spelled ready.sound.image))
+only_memory told call facts (errors.DataCorruption why) t content ready y f fb (text, is, inl h) stops =
+    absurd (no_damage call.schema ready.form call.before.reads ready.spelled ready.sound.image facts.tells facts.refused_behind facts.quiet_behind why text t (is.text_is ∙ sym ready.spelled.text_is) h)
+only_memory told call facts (errors.SchemaError text) t content ready y f fb (_, _, inr (_, none)) stops =
+    absurd (none.2 t (sound_index call.schema ready.form call.before.reads ready.spelled ready.sound.image))
+only_memory told call facts (errors.SchemaError text) t content ready y f fb (own, is, inl h) stops =
+    absurd (no_other_schema call.schema ready.form call.before.reads ready.spelled ready.sound.image facts.tells facts.refused_behind facts.quiet_behind text own t (is.text_is ∙ sym ready.spelled.text_is) h)
+only_memory told call facts (errors.IoError fault) t content ready y f fb h stops = absurd (fb h.2)
+only_memory told call facts (errors.OpenWriteError error) t content ready y f fb h stops = absurd (no_write_fault facts.refused error f h.2)
+only_memory told call facts (errors.OpenReadError error) t content ready y f fb h stops = absurd (met (stops content)) where
+  met : RefusesOpening told call (errors.OpenReadError error) ⊎ StopsRunning told call (errors.OpenReadError error) → ⊥
+  met (inl opening) = no_opening_fault call.schema ready.form call.before.reads ready.spelled ready.sound.image facts.refused facts.quiet (told.locks → call.before.locks writer_lock_name ≡ true) (told.locks → call.before.locks writer_lock_name ≡ false) error f h.2 opening.cause
   met (inr run) =
-      let index = sound_index schema ready.form (g.view before).reads ready.spelled ready.sound.image in
+      let index = sound_index call.schema ready.form call.before.reads ready.spelled ready.sound.image in
       let stop = run.stops index in
       let begun = stop.lines ready.text ready.told in
-      let fit : AllByRecursion Fits (events_of stop.turns) = prefix_fits stop.turns stop.ahead (lines_fit begun.texts (events_of (stop.turns ++ stop.ahead)) begun.each) in
-      let as_text : IsSoundImage index.form.schema (g.view before).reads = subst (λ (x : List ℕ). IsSoundImage x (g.view before).reads) (ready.spelled.text_is ∙ sym index.spelled.text_is) ready.sound.image in
-      let start = opens_sound index.form.settings index.form.schema (g.view before).reads index.state as_text index.opens in
-      no_read_fault facts.refused facts.quiet script.left index.state stop.turns (g.told.locks → (g.view before).locks meta_lock_name ≡ true) (g.told.locks → (g.view before).locks meta_lock_name ≡ false) error f
+      let fit : AllByRecursion Fits (events_of stop.turns) = front_fits stop.turns stop.ahead (lines_fit begun.texts (events_of (stop.turns ++ stop.ahead)) begun.each) in
+      let as_text : IsSoundImage index.form.schema call.before.reads = subst (λ (x : List ℕ). IsSoundImage x call.before.reads) (ready.spelled.text_is ∙ sym index.spelled.text_is) ready.sound.image in
+      let start = opens_sound index.form.settings index.form.schema call.before.reads index.state as_text index.opens in
+      no_read_fault facts.refused facts.quiet call.script.left index.state stop.turns (told.locks → call.before.locks meta_lock_name ≡ true) (told.locks → call.before.locks meta_lock_name ≡ false) error f
       (sound_after index.state stop.turns fit start) h.2 stop.cause
-only_memory g before now schema script script_now facts (errors.LockFailure lock.LockBusy text) t told ready y f fb h stops = absurd (y h.2)
-only_memory g before now schema script script_now facts (errors.LockFailure (lock.IoError fault) text) t told ready y f fb h stops = absurd (f h.2)
-only_memory g before now schema script script_now facts (errors.LockFailure lock.Memory text) t told ready y f fb h stops = absurd h
-only_memory g before now schema script script_now facts errors.Exhausted t told ready y f fb h stops =
+only_memory told call facts (errors.LockFailure lock.LockBusy text) t content ready y f fb h stops = absurd (y h.2)
+only_memory told call facts (errors.LockFailure (lock.IoError fault) text) t content ready y f fb h stops = absurd (f h.2)
+only_memory told call facts (errors.LockFailure lock.Memory text) t content ready y f fb h stops = absurd h
+only_memory told call facts errors.Exhausted t content ready y f fb h stops =
     let stop = h.3 ready.text ready.told in
     absurd (no_more_lines ready.text stop.0 ready.valid stop.1 stop.2)
-only_memory g before now schema script script_now facts errors.Memory t told ready y f fb h stops = refl
-only_memory g before now schema script script_now facts other t told ready y f fb h stops = absurd h
+only_memory told call facts errors.Memory t content ready y f fb h stops = refl
+only_memory told call facts other t content ready y f fb h stops = absurd h

@@ -1,5 +1,6 @@
 -- The headline from the clauses of a replay, and of a run.
-use Rattle.std.proofs.Common.{◌≡◌, ℕ, List, Some, None, Option, ◌∙◌, sym, ap, subst}
+use Rattle.std.proofs.Common.{◌≡◌, ℕ, List, Some, Option, ◌∙◌, sym, subst}
+use Rattle.std.proofs.lemmas.Option.{same_Some}
 use Rattle.tv_directory.specs.declared.directory.Directory.{Ghosts}
 use Rattle.tv_formats.specs.Sound.{IsSoundStart}
 use Rattle.tv_formats.specs.Schemas.{IsSchema, stripped}
@@ -30,20 +31,12 @@ derived g before now schema script left tally content heard locks start is frame
       sound = record { image = r.sound content (stripped schema) spelled start.image; free = λ lock. frame.locks locks lock ∙ start.free lock };
     }
 
-value_of : {A : Type 0} → A → Option A → A
-value_of d None = d
-value_of d (Some x) = x
-
-same_value : {A : Type 0} (a b : A) → Some a ≡ Some b → a ≡ b
-unfolding value_of
-same_value a b e = ap (value_of a) e
-
 pub ran : {O W C : Type 0} (g : Ghosts O W C) (told : PlaceTold) (words : List (List ℕ)) (old new : Scene O) (status : ℕ) → EndsRun g told words old new status
     → (start : StartsSoundly g told words old) → status ≡ 0 → RunsSoundly start new
 ran {O = O} g told words old new status ends start zero =
     let s = (ends.replayed start.folder start.path start.words_are).done zero in
-    let lent : s.before ≡ start.before = same_value s.before start.before (sym (s.lent start.place) ∙ start.kept) in
-    let same : s.schema ≡ start.schema = same_value s.schema start.schema (sym (s.schema_is start.place) ∙ start.schema_is) in
+    let lent : s.before ≡ start.before = same_Some s.before start.before (sym (s.lent start.place) ∙ start.kept) in
+    let same : s.schema ≡ start.schema = same_Some s.schema start.schema (sym (s.schema_is start.place) ∙ start.schema_is) in
     let replays : Replays g start.before s.now start.schema old.script.left s.tally =
     subst (λ (o : O). Replays g o s.now start.schema old.script.left s.tally) lent (subst (λ (b : List ℕ). Replays g s.before s.now b old.script.left s.tally) same s.replays)
     in

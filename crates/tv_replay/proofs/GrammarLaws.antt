@@ -7,7 +7,7 @@ use Rattle.std.specs.Char.{is_ascii_digit}
 use Rattle.std.specs.Prelude.{slice_index, find, IfSome, IsUtf8, option_map}
 use Rattle.std.specs.Str.{IsAscii, is_utf8}
 use Rattle.std.specs.Cmp.Lexicographic.{bytes_decides}
-use Rattle.std.proofs.lemmas.Bool.{eqb-true, ltb-true}
+use Rattle.std.proofs.lemmas.Bool.{eqb-true, ltb-true, and_parts, not-true}
 use Rattle.std.proofs.lemmas.Str.{IsUtf8-from_ascii, IsUtf8-from_is_utf8, is_utf8-from_IsUtf8}
 use Rattle.std.proofs.lemmas.Bool.Decides.{nat_tests}
 use Rattle.std.proofs.lemmas.Fmt.{digits_decimal}
@@ -17,15 +17,18 @@ use Rattle.hex.specs.declared.error.FromHexError.{FromHexError}
 use Rattle.hex.proofs.HexLemmas.{decode_sized-encode_lower, decode_sized-ok, decode_sized-twice, decode_of-ok}
 use Rattle.tv_formats.specs.Ids.{IsId, are_distinct}
 use Rattle.tv_formats.specs.Names.{is}
-use Rattle.tv_replay.specs.Fields.{id_at, printed_id, component_at, bytes_at, some_bytes, number_at, payload_at, signed_text_at, some_text, text_at}
-use Rattle.tv_replay.proofs.Numbers.{isnt, chosen, both, number_found, number_again}
+use Rattle.tv_replay.specs.Fields.{id_at, printed_id, component_at, bytes_at, some_bytes, payload_at, signed_text_at, some_text, text_at}
+use Rattle.tv_replay.proofs.Numbers.{chosen, number_found, number_again}
 use Rattle.std.proofs.lemmas.List.Elements.{recursion_from_All}
 use Rattle.tv_formats.specs.declared.segment.SegmentComponent.{SegmentComponent}
 use Rattle.tv_formats.specs.declared.segment.SegmentComponent.TheVariants.{Postings}
 use Rattle.tv_formats.specs.Segments.{components, extension}
-use Rattle.tv_machine.specs.Script.{line_limit, Kind, Word, Id, Component, Bytes, Small, Number, Payload, Policy, Value, LineWord, word, line_of, IsWithin, NamesEachOnce, Fits, IsLine, SpellsPayload, Spells, AllSpell}
-use Rattle.tv_replay.specs.EventWords.{◌>>=◌, value_at, text_in, Makes, are_as_many, event_of, read, ids_in, commit_event, commit_in, released_by, release_in, event_by, event_in}
+use Rattle.tv_formats.proofs.Options.{bound, where_some}
+use Rattle.tv_formats.specs.Framing.{◌>>=◌}
+use Rattle.tv_machine.specs.Script.{line_limit, WordKind, Word, Id, Component, Bytes, SmallNumber, Number, Payload, Policy, WordValue, LineWord, word, line_of, IsWithin, NamesEachOnce, Fits, IsLine, SpellsPayload, Spells, AllSpell}
+use Rattle.tv_replay.specs.EventWords.{value_at, text_in, Makes, are_as_many, event_of, read, ids_in, commit_event, commit_in, release_in, event_by, event_in}
 use Rattle.std.proofs.lemmas.List.Splits.{join_with_byte-slice_split}
+use Rattle.std.proofs.lemmas.Option.{same_Some}
 use Rattle.tv_machine.specs.declared.event.Event.{Event}
 use Rattle.tv_machine.specs.declared.event.Event.TheVariants as events
 use Rattle.tv_machine.specs.declared.reload_policy.ReloadPolicy.TheVariants.{Manual}
@@ -45,14 +48,14 @@ NoSpace word = has_no_space word ≡ true
 split_word : (word rest : List ℕ) → NoSpace word → slice_split is_space (word ++ 32 ∷ rest) ≡ word ∷ slice_split is_space rest
 split_word [] rest h = refl
 split_word (b ∷ word) rest h =
-    let t = both (not (b == 32)) (has_no_space word) h in
-    rw (isnt (b == 32) t.0, split_word word rest t.1) refl
+    let t = and_parts (not (b == 32)) (has_no_space word) h in
+    rw (not-true (b == 32) t.0, split_word word rest t.1) refl
 
 split_last : (word : List ℕ) → NoSpace word → slice_split is_space word ≡ word ∷ []
 split_last [] h = refl
 split_last (b ∷ word) h =
-    let t = both (not (b == 32)) (has_no_space word) h in
-    rw (isnt (b == 32) t.0, split_last word t.1) refl
+    let t = and_parts (not (b == 32)) (has_no_space word) h in
+    rw (not-true (b == 32) t.0, split_last word t.1) refl
 
 pub split_joined : (word : List ℕ) (words : List (List ℕ)) → AllByRecursion NoSpace (word ∷ words) → slice_split is_space (join_with_byte 32 (word ∷ words)) ≡ word ∷ words
 split_joined word [] h = split_last word h.0
@@ -62,8 +65,8 @@ split_joined word (next ∷ words) h = split_word word (join_with_byte 32 (next 
 
 at_any : (xs : List ℕ) (k : ℕ) → has_no_space xs ≡ true → (slice_index xs k == 32) ≡ false
 at_any [] k h = refl
-at_any (x ∷ xs) zero h = isnt (x == 32) (both (not (x == 32)) (has_no_space xs) h).0
-at_any (x ∷ xs) (suc k) h = at_any xs k (both (not (x == 32)) (has_no_space xs) h).1
+at_any (x ∷ xs) zero h = not-true (x == 32) (and_parts (not (x == 32)) (has_no_space xs) h).0
+at_any (x ∷ xs) (suc k) h = at_any xs k (and_parts (not (x == 32)) (has_no_space xs) h).1
 
 pub id_has_no_space : (id : List ℕ) → NoSpace (encode_lower id)
 unfolding encode_with
@@ -76,7 +79,7 @@ digit_has_no_space c h = grind (arith, nat_tests)
 digits_have_no_space : (ds : List ℕ) → all_ascii_digits ds ≡ true → NoSpace ds
 digits_have_no_space [] h = refl
 digits_have_no_space (c ∷ ds) h =
-    let t = both (is_ascii_digit c) (all_ascii_digits ds) h in
+    let t = and_parts (is_ascii_digit c) (all_ascii_digits ds) h in
     rw (digit_has_no_space c t.0) (digits_have_no_space ds t.1)
 
 pub number_has_no_space : (n : ℕ) → n < 2 ^ 64 → NoSpace (decimal n)
@@ -116,18 +119,11 @@ id_again id h =
     let same : is (encode_lower id) (encode_lower id) ≡ true = (bytes_decides (encode_lower id) (encode_lower id)).1 refl in
     rw (decode_sized-encode_lower id 16 h.size h.bytes, same) refl
 
-pub bind_some : {A B : Type 0} (o : Option A) (f : A → Option B) (y : B) → (o >>= f) ≡ Some y → (x : A) × (o ≡ Some x) × (f x ≡ Some y)
-bind_some None f y e = absurd cc
-bind_some (Some x) f y e = (x, refl, e)
-
-pub some_is : {A : Type 0} (x y : A) → ◌≡◌ {A = Option A} (Some x) (Some y) → x ≡ y
-some_is x y e = cc
-
 -- ---- components
 
 -- a component that passed the test, or one of those after it
 pub passing : {P : Type 0} (b : Bool) (first : SegmentComponent) (rest : Option SegmentComponent) (c : SegmentComponent) → cond b (Some first) rest ≡ Some c → (b ≡ true → first ≡ c → P) → (rest ≡ Some c → P) → P
-passing true first rest c e here later = here refl (some_is first c e)
+passing true first rest c e here later = here refl (same_Some first c e)
 passing false first rest c e here later = later e
 
 pub found_among : (all : List SegmentComponent) (word : List ℕ) (c : SegmentComponent) → find (λ component. is (extension component) word) all ≡ Some c → word ≡ extension c
@@ -156,7 +152,7 @@ extension_has_no_space other = refl
 
 pub bytes_found : (r : Result (List ℕ) FromHexError) (bytes : List ℕ) → some_bytes r ≡ Some bytes → (r ≡ Ok bytes) × (0 < length bytes)
 bytes_found (Ok []) bytes e = absurd cc
-bytes_found (Ok (b ∷ bs)) bytes e = let is = some_is (b ∷ bs) bytes e in (ap (λ (x : List ℕ). Ok x) is, rw (← is) (omega arith))
+bytes_found (Ok (b ∷ bs)) bytes e = let is = same_Some (b ∷ bs) bytes e in (ap (λ (x : List ℕ). Ok x) is, rw (← is) (omega arith))
 bytes_found (Err d) bytes e = absurd cc
 
 pub bytes_again : (word bytes : List ℕ) → decode_of word ≡ Ok bytes → 0 < length bytes → bytes_at word ≡ Some bytes
@@ -188,10 +184,10 @@ pub payload_found : (word : List ℕ) (payload : Option (List ℕ)) → payload_
 payload_found word payload e = dash (is word (codes "-")) refl e where
   text : (found : Option (List ℕ)) → signed_text_at word ≡ found → option_map (λ t. Some t) found ≡ Some payload → SpellsPayload payload word × IfSome payload IsUtf8
   text None is e = absurd cc
-  text (Some t) is e = rw (← some_is (Some t) payload e) (signed_found word t is)
+  text (Some t) is e = rw (← same_Some (Some t) payload e) (signed_found word t is)
 
   dash : (b : Bool) → is word (codes "-") ≡ b → cond b (Some None) (option_map (λ t. Some t) (signed_text_at word)) ≡ Some payload → SpellsPayload payload word × IfSome payload IsUtf8
-  dash true is e = rw (← some_is None payload e) ((bytes_decides word (codes "-")).0 is, tt)
+  dash true is e = rw (← same_Some None payload e) ((bytes_decides word (codes "-")).0 is, tt)
   dash false is e = text (signed_text_at word) refl e
 
 pub payload_again : (payload : Option (List ℕ)) (word : List ℕ) → SpellsPayload payload word → IfSome payload IsUtf8 → payload_at word ≡ Some payload
@@ -208,23 +204,23 @@ abbrev Within : List LineWord → Type 0
 Within line = AllByRecursion (λ meant. IsWithin meant.0 meant.1) line
 
 -- a word spells what it is read to stand for, which is within its range
-value_found : (kind : Kind) (word : List ℕ) (value : Value kind) → value_at kind word ≡ Some value → Spells kind value word × IsWithin kind value
+value_found : (kind : WordKind) (word : List ℕ) (value : WordValue kind) → value_at kind word ≡ Some value → Spells kind value word × IsWithin kind value
 value_found (Word text) word value e = ((bytes_decides word text).0 (chosen (is word text) tt value e).0, tt)
 value_found Id word id e = id_found word id e
 value_found Component word c e = (component_found word c e, tt)
 value_found Bytes word bytes e = bytes_found (decode_of word) bytes e
-value_found Small word n e = number_found (2 ^ 32) n word e
+value_found SmallNumber word n e = number_found (2 ^ 32) n word e
 value_found Number word n e = number_found (2 ^ 64) n word e
 value_found Payload word payload e = payload_found word payload e
 value_found Policy word policy e = let h = chosen (is word (codes "manual")) Manual policy e in ((bytes_decides word (codes "manual")).0 h.0, sym h.1)
 
 -- and is read to stand for what it spells, where that is within its range
-value_again : (kind : Kind) (word : List ℕ) (value : Value kind) → IsWithin kind value → Spells kind value word → value_at kind word ≡ Some value
+value_again : (kind : WordKind) (word : List ℕ) (value : WordValue kind) → IsWithin kind value → Spells kind value word → value_at kind word ≡ Some value
 value_again (Word text) word value within spells = rw ((bytes_decides word text).1 spells) refl
 value_again Id word id within spells = rw spells (id_again id within)
 value_again Component word c within spells = rw spells (component_again c)
 value_again Bytes word bytes within spells = bytes_again word bytes spells within
-value_again Small word n within spells = rw spells (number_again (2 ^ 32) n within (omega arith))
+value_again SmallNumber word n within spells = rw spells (number_again (2 ^ 32) n within (omega arith))
 value_again Number word n within spells = rw spells (number_again (2 ^ 64) n within within)
 value_again Payload word payload within spells = payload_again payload word spells within
 value_again Policy word policy within spells = rw (spells, within) refl
@@ -234,12 +230,12 @@ abbrev pub is_plain : LineWord → Bool
 is_plain (Word text, value) = has_no_space text && not (is text [])
 is_plain (other, value) = true
 
-no_space : (kind : Kind) (value : Value kind) (word : List ℕ) → is_plain (kind, value) ≡ true → IsWithin kind value → Spells kind value word → NoSpace word
-no_space (Word text) value word plain within spells = rw spells (both (has_no_space text) (not (is text [])) plain).0
+no_space : (kind : WordKind) (value : WordValue kind) (word : List ℕ) → is_plain (kind, value) ≡ true → IsWithin kind value → Spells kind value word → NoSpace word
+no_space (Word text) value word plain within spells = rw spells (and_parts (has_no_space text) (not (is text [])) plain).0
 no_space Id id word plain within spells = rw spells (id_has_no_space id)
 no_space Component c word plain within spells = rw spells (extension_has_no_space c)
 no_space Bytes bytes word plain within spells = bytes_have_no_space word bytes spells
-no_space Small n word plain within spells = rw spells (number_has_no_space n (omega arith))
+no_space SmallNumber n word plain within spells = rw spells (number_has_no_space n (omega arith))
 no_space Number n word plain within spells = rw spells (number_has_no_space n within)
 no_space Payload payload word plain within spells = payload_has_no_space payload word spells
 no_space Policy policy word plain within spells = rw spells refl
@@ -249,7 +245,7 @@ no_spaces [] [] plain within spell = tt
 no_spaces [] (word ∷ words) plain within spell = absurd spell
 no_spaces (meant ∷ line) [] plain within spell = absurd spell
 no_spaces (meant ∷ line) (word ∷ words) plain within spell =
-    let p = both (is_plain meant) (list_all is_plain line) plain in (
+    let p = and_parts (is_plain meant) (list_all is_plain line) plain in (
       no_space meant.0 meant.1 word p.0 within.0 spell.0,
       no_spaces line words p.1 within.1 spell.1,
     )
@@ -265,13 +261,13 @@ plain_words other = refl
 -- ---- lists of ids
 
 pub ids_found : (words ids : List (List ℕ)) → ids_in words ≡ Some ids → AllSpell (map (λ id. (Id, id)) ids) words × Within (map (λ id. (Id, id)) ids)
-ids_found [] ids e = rw (← some_is [] ids e) (tt, tt)
+ids_found [] ids e = rw (← same_Some [] ids e) (tt, tt)
 ids_found (word ∷ words) ids e =
-    let id = bind_some (id_at word) (λ id. ids_in words >>= λ ids. Some (id ∷ ids)) ids e in
-    let others = bind_some (ids_in words) (λ ids. Some (id.0 ∷ ids)) ids id.2 in
+    let id = bound (id_at word) (λ id. ids_in words >>= λ ids. Some (id ∷ ids)) ids e in
+    let others = bound (ids_in words) (λ ids. Some (id.0 ∷ ids)) ids id.2 in
     let f = id_found word id.0 id.1 in
     let g = ids_found words others.0 others.1 in
-    rw (← some_is (id.0 ∷ others.0) ids others.2) ((f.0, g.0), (f.1, g.1))
+    rw (← same_Some (id.0 ∷ others.0) ids others.2) ((f.0, g.0), (f.1, g.1))
 
 pub ids_again : (ids words : List (List ℕ)) → Within (map (λ id. (Id, id)) ids) → AllSpell (map (λ id. (Id, id)) ids) words → ids_in words ≡ Some ids
 ids_again [] [] within spell = refl
@@ -286,57 +282,53 @@ ids_spell (id ∷ ids) = (refl, ids_spell ids)
 -- ---- words of some kinds
 
 -- what words of these kinds stand for
-abbrev Values : List Kind → Type 0
+abbrev Values : List WordKind → Type 0
 Values [] = Unit {0}
-Values (kind ∷ kinds) = Value kind × Values kinds
+Values (kind ∷ kinds) = WordValue kind × Values kinds
 
 -- the event that is made of it
-abbrev made : (kinds : List Kind) → Makes kinds → Values kinds → Event
+abbrev made : (kinds : List WordKind) → Makes kinds → Values kinds → Event
 made [] event values = event
 made (kind ∷ kinds) make values = made kinds (make values.0) values.1
 
 -- and the words of these kinds
-abbrev meant : (kinds : List Kind) → Values kinds → List LineWord
+abbrev meant : (kinds : List WordKind) → Values kinds → List LineWord
 meant [] values = []
 meant (kind ∷ kinds) values = (kind, values.0) ∷ meant kinds values.1
 
 -- the words spell what an event was made of
-record Reads (kinds : List Kind) (make : Makes kinds) (words : List (List ℕ)) (e : Event) : Type 0 where
+record Reads (kinds : List WordKind) (make : Makes kinds) (words : List (List ℕ)) (e : Event) : Type 0 where
   pub values : Values kinds
   pub is : made kinds make values ≡ e
   pub within : Within (meant kinds values)
   pub spell : AllSpell (meant kinds values) words
 
-passed : {A : Type 0} (b : Bool) (o : Option A) (x : A) → cond b o None ≡ Some x → (b ≡ true) × (o ≡ Some x)
-passed true o x h = (refl, h)
-passed false o x h = absurd cc
-
-event_of_found : (kinds : List Kind) (make : Makes kinds) (words : List (List ℕ)) (e : Event) → are_as_many kinds words ≡ true → event_of kinds make words ≡ Some e → Reads kinds make words e
-event_of_found [] event [] e many h = record { values = tt; is = some_is event e h; within = tt; spell = tt }
+event_of_found : (kinds : List WordKind) (make : Makes kinds) (words : List (List ℕ)) (e : Event) → are_as_many kinds words ≡ true → event_of kinds make words ≡ Some e → Reads kinds make words e
+event_of_found [] event [] e many h = record { values = tt; is = same_Some event e h; within = tt; spell = tt }
 event_of_found [] event (word ∷ words) e many h = absurd cc
 event_of_found (kind ∷ kinds) make [] e many h = absurd cc
 event_of_found (kind ∷ kinds) make (word ∷ words) e many h =
-    let first = bind_some (value_at kind word) (λ value. event_of kinds (make value) words) e h in
+    let first = bound (value_at kind word) (λ value. event_of kinds (make value) words) e h in
     let found = value_found kind word first.0 first.1 in
     let others = event_of_found kinds (make first.0) words e many first.2 in
     record { values = (first.0, others.values); is = others.is; within = (found.1, others.within); spell = (found.0, others.spell) }
 
-read_found : (kinds : List Kind) (make : Makes kinds) (words : List (List ℕ)) (e : Event) → read kinds make words ≡ Some e → Reads kinds make words e
-read_found kinds make words e h = let p = passed (are_as_many kinds words) (event_of kinds make words) e h in event_of_found kinds make words e p.0 p.1
+read_found : (kinds : List WordKind) (make : Makes kinds) (words : List (List ℕ)) (e : Event) → read kinds make words ≡ Some e → Reads kinds make words e
+read_found kinds make words e h = let p = where_some (are_as_many kinds words) (event_of kinds make words) e h in event_of_found kinds make words e p.0 p.1
 
-as_many : (kinds : List Kind) (values : Values kinds) (words : List (List ℕ)) → AllSpell (meant kinds values) words → are_as_many kinds words ≡ true
+as_many : (kinds : List WordKind) (values : Values kinds) (words : List (List ℕ)) → AllSpell (meant kinds values) words → are_as_many kinds words ≡ true
 as_many [] values [] spell = refl
 as_many [] values (word ∷ words) spell = absurd spell
 as_many (kind ∷ kinds) values [] spell = absurd spell
 as_many (kind ∷ kinds) values (word ∷ words) spell = as_many kinds values.1 words spell.1
 
-event_of_again : (kinds : List Kind) (make : Makes kinds) (values : Values kinds) (words : List (List ℕ)) → Within (meant kinds values) → AllSpell (meant kinds values) words → event_of kinds make words ≡ Some (made kinds make values)
+event_of_again : (kinds : List WordKind) (make : Makes kinds) (values : Values kinds) (words : List (List ℕ)) → Within (meant kinds values) → AllSpell (meant kinds values) words → event_of kinds make words ≡ Some (made kinds make values)
 event_of_again [] event values words within spell = refl
 event_of_again (kind ∷ kinds) make values [] within spell = absurd spell
 event_of_again (kind ∷ kinds) make values (word ∷ words) within spell =
     rw (value_again kind word values.0 within.0 spell.0) (event_of_again kinds (make values.0) values.1 words within.1 spell.1)
 
-read_again : (kinds : List Kind) (make : Makes kinds) (values : Values kinds) (words : List (List ℕ)) → Within (meant kinds values) → AllSpell (meant kinds values) words → read kinds make words ≡ Some (made kinds make values)
+read_again : (kinds : List WordKind) (make : Makes kinds) (values : Values kinds) (words : List (List ℕ)) → Within (meant kinds values) → AllSpell (meant kinds values) words → read kinds make words ≡ Some (made kinds make values)
 read_again kinds make values words within spell = rw (as_many kinds values words spell) (event_of_again kinds make values words within spell)
 
 -- ---- events
@@ -356,7 +348,7 @@ names_spell [] line words spell = spell
 names_spell (name ∷ names) line words spell = (refl, names_spell names line words spell)
 
 -- an event whose line is these names, and words of these kinds
-module _ (names : List (List ℕ)) (kinds : List Kind) (make : Makes kinds) (line : (v : Values kinds) → line_of (made kinds make v) ≡ map word names ++ meant kinds v) (once : (v : Values kinds) → NamesEachOnce (made kinds make v)) where
+module _ (names : List (List ℕ)) (kinds : List WordKind) (make : Makes kinds) (line : (v : Values kinds) → line_of (made kinds make v) ≡ map word names ++ meant kinds v) (once : (v : Values kinds) → NamesEachOnce (made kinds make v)) where
   named : (words args : List (List ℕ)) (e : Event) → words ≡ names ++ args → read kinds make args ≡ Some e → IsReadAs words e
   named words args e is h =
       let r = read_found kinds make args e h in
@@ -366,11 +358,11 @@ module _ (names : List (List ℕ)) (kinds : List Kind) (make : Makes kinds) (lin
       })
 
 -- an event with one keyword
-one : {word : List ℕ} {args : List (List ℕ)} {e : Event} (name : List ℕ) (kinds : List Kind) (make : Makes kinds) → ((v : Values kinds) → line_of (made kinds make v) ≡ (Word name, tt) ∷ meant kinds v) → ((v : Values kinds) → NamesEachOnce (made kinds make v)) → is word name ≡ true → read kinds make args ≡ Some e → IsReadAs (word ∷ args) e
+one : {word : List ℕ} {args : List (List ℕ)} {e : Event} (name : List ℕ) (kinds : List WordKind) (make : Makes kinds) → ((v : Values kinds) → line_of (made kinds make v) ≡ (Word name, tt) ∷ meant kinds v) → ((v : Values kinds) → NamesEachOnce (made kinds make v)) → is word name ≡ true → read kinds make args ≡ Some e → IsReadAs (word ∷ args) e
 one {word} {args} {e} name kinds make line once t h = named (name ∷ []) kinds make line once (word ∷ args) args e (ap (λ (w : List ℕ). w ∷ args) ((bytes_decides word name).0 t)) h
 
 -- a release of such a thing
-release : {word kind : List ℕ} {args : List (List ℕ)} {e : Event} → is word (codes "release") ≡ true → (name : List ℕ) (kinds : List Kind) (make : Makes kinds) → ((v : Values kinds) → line_of (made kinds make v) ≡ (Word (codes "release"), tt) ∷ (Word name, tt) ∷ meant kinds v) → ((v : Values kinds) → NamesEachOnce (made kinds make v)) → is kind name ≡ true → read kinds make args ≡ Some e → IsReadAs (word ∷ kind ∷ args) e
+release : {word kind : List ℕ} {args : List (List ℕ)} {e : Event} → is word (codes "release") ≡ true → (name : List ℕ) (kinds : List WordKind) (make : Makes kinds) → ((v : Values kinds) → line_of (made kinds make v) ≡ (Word (codes "release"), tt) ∷ (Word name, tt) ∷ meant kinds v) → ((v : Values kinds) → NamesEachOnce (made kinds make v)) → is kind name ≡ true → read kinds make args ≡ Some e → IsReadAs (word ∷ kind ∷ args) e
 release {word} {kind} {args} {e} released name kinds make line once t h =
     named (codes "release" ∷ name ∷ []) kinds make line once (word ∷ kind ∷ args) args e
     (rw ((bytes_decides word (codes "release")).0 released, (bytes_decides kind name).0 t) refl) h
@@ -386,9 +378,9 @@ text_found word text e = (chosen (is_utf8 word) word text e).1
 commit_found : (word : List ℕ) (args : List (List ℕ)) (e : Event) → is word (codes "commit") ≡ true → commit_in args ≡ Some e → IsReadAs (word ∷ args) e
 commit_found word [] e t h = absurd cc
 commit_found word (first ∷ words) e t h =
-    let payload = bind_some (payload_at first) (λ payload. ids_in words >>= commit_event payload) e h in
+    let payload = bound (payload_at first) (λ payload. ids_in words >>= commit_event payload) e h in
     let p = payload_found first payload.0 payload.1 in
-    let ids = bind_some (ids_in words) (commit_event payload.0) e payload.2 in
+    let ids = bound (ids_in words) (commit_event payload.0) e payload.2 in
     let f = ids_found words ids.0 ids.1 in
     let c = chosen (are_distinct ids.0) (events.Commit payload.0 ids.0) e ids.2 in
     subst (IsReadAs (word ∷ first ∷ words)) c.1 (record {
@@ -409,8 +401,8 @@ event_by_found word args e h =
     either _ _ _ h (one (codes "write") (Id ∷ Component ∷ Bytes ∷ []) events.Write (λ v. refl) (λ v. tt)) (λ h.
     either _ _ _ h (commit_found word args e) (λ h.
     either _ _ _ h (one (codes "segment") (Id ∷ []) events.Segment (λ v. refl) (λ v. tt)) (λ h.
-    either _ _ _ h (one (codes "docs") (Id ∷ Small ∷ []) events.Docs (λ v. refl) (λ v. tt)) (λ h.
-    either _ _ _ h (one (codes "deletes") (Id ∷ Small ∷ []) events.Deletes (λ v. refl) (λ v. tt)) (λ h.
+    either _ _ _ h (one (codes "docs") (Id ∷ SmallNumber ∷ []) events.Docs (λ v. refl) (λ v. tt)) (λ h.
+    either _ _ _ h (one (codes "deletes") (Id ∷ SmallNumber ∷ []) events.Deletes (λ v. refl) (λ v. tt)) (λ h.
     either _ _ _ h (one (codes "open") (Id ∷ Component ∷ []) events.Open (λ v. refl) (λ v. tt)) (λ h.
     either _ _ _ h (one (codes "seal") (Id ∷ Component ∷ []) events.Seal (λ v. refl) (λ v. tt)) (λ h.
     either _ _ _ h (one (codes "gc") [] events.Gc (λ v. refl) (λ v. tt)) (λ h.
@@ -424,14 +416,14 @@ event_by_found word args e h =
     either _ _ _ h (one (codes "reload") (Number ∷ []) events.Reload (λ v. refl) (λ v. tt)) (λ h.
     either _ _ _ h (one (codes "searcher") (Number ∷ []) events.Searcher (λ v. refl) (λ v. tt)) (λ h.
     either _ _ _ h (one (codes "show") (Number ∷ []) events.Show (λ v. refl) (λ v. tt)) (λ h.
-    either _ _ _ h (one (codes "bytes") (Number ∷ Small ∷ Component ∷ []) events.Bytes (λ v. refl) (λ v. tt)) (λ h.
+    either _ _ _ h (one (codes "bytes") (Number ∷ SmallNumber ∷ Component ∷ []) events.Bytes (λ v. refl) (λ v. tt)) (λ h.
     either _ _ _ h (release_found word args e) (λ h.
     absurd cc))))))))))))))))))))
 
 event_found : (words : List (List ℕ)) (e : Event) → event_in words ≡ Some e → IsReadAs words e
 event_found [] e h = absurd cc
 event_found (word ∷ args) e h =
-    let text = bind_some (text_in word) (λ keyword. event_by keyword args) e h in
+    let text = bound (text_in word) (λ keyword. event_by keyword args) e h in
     subst (λ (w : List ℕ). IsReadAs (w ∷ args) e) (sym (text_found word text.0 text.1)) (event_by_found text.0 args e text.2)
 
 no_words : {P : Type 0} (e : Event) → AllSpell (line_of e) [] → P
@@ -443,8 +435,8 @@ event_by_again (events.Segment id) w args fits spell = rw (spell.0, read_again (
 event_by_again (events.Open id c) w args fits spell = rw (spell.0, read_again (Id ∷ Component ∷ []) events.Open (id, (c, tt)) args fits.0.1 spell.1) refl
 event_by_again (events.Write id c bytes) w args fits spell = rw (spell.0, read_again (Id ∷ Component ∷ Bytes ∷ []) events.Write (id, (c, (bytes, tt))) args fits.0.1 spell.1) refl
 event_by_again (events.Seal id c) w args fits spell = rw (spell.0, read_again (Id ∷ Component ∷ []) events.Seal (id, (c, tt)) args fits.0.1 spell.1) refl
-event_by_again (events.Docs id n) w args fits spell = rw (spell.0, read_again (Id ∷ Small ∷ []) events.Docs (id, (n, tt)) args fits.0.1 spell.1) refl
-event_by_again (events.Deletes id n) w args fits spell = rw (spell.0, read_again (Id ∷ Small ∷ []) events.Deletes (id, (n, tt)) args fits.0.1 spell.1) refl
+event_by_again (events.Docs id n) w args fits spell = rw (spell.0, read_again (Id ∷ SmallNumber ∷ []) events.Docs (id, (n, tt)) args fits.0.1 spell.1) refl
+event_by_again (events.Deletes id n) w args fits spell = rw (spell.0, read_again (Id ∷ SmallNumber ∷ []) events.Deletes (id, (n, tt)) args fits.0.1 spell.1) refl
 event_by_again (events.Commit payload ids) w [] fits spell = absurd spell.1
 event_by_again (events.Commit payload ids) w (p ∷ args) fits spell =
     rw (spell.0, payload_again payload p spell.1.0 fits.0.1.0, ids_again ids args fits.0.1.1 spell.1.1, fits.1) refl
@@ -456,7 +448,7 @@ event_by_again (events.Reader policy) w args fits spell = rw (spell.0, read_agai
 event_by_again (events.Reload n) w args fits spell = rw (spell.0, read_again (Number ∷ []) events.Reload (n, tt) args fits.0.1 spell.1) refl
 event_by_again (events.Searcher n) w args fits spell = rw (spell.0, read_again (Number ∷ []) events.Searcher (n, tt) args fits.0.1 spell.1) refl
 event_by_again (events.Show n) w args fits spell = rw (spell.0, read_again (Number ∷ []) events.Show (n, tt) args fits.0.1 spell.1) refl
-event_by_again (events.Bytes n ord c) w args fits spell = rw (spell.0, read_again (Number ∷ Small ∷ Component ∷ []) events.Bytes (n, (ord, (c, tt))) args fits.0.1 spell.1) refl
+event_by_again (events.Bytes n ord c) w args fits spell = rw (spell.0, read_again (Number ∷ SmallNumber ∷ Component ∷ []) events.Bytes (n, (ord, (c, tt))) args fits.0.1 spell.1) refl
 event_by_again (events.ReleaseSegment id) w [] fits spell = absurd spell.1
 event_by_again (events.ReleaseSegment id) w (kind ∷ args) fits spell = rw (spell.0, spell.1.0, read_again (Id ∷ []) events.ReleaseSegment (id, tt) args fits.0.1.1 spell.1.1) refl
 event_by_again (events.ReleaseReader n) w [] fits spell = absurd spell.1
@@ -479,8 +471,8 @@ heading_is other word words spell = sym spell.0
 
 ascii_of : (bs : List ℕ) → list_all (λ b. nat_lt b 128) bs ≡ true → IsAscii bs
 ascii_of [] h k = omega arith
-ascii_of (b ∷ bs) h zero = ltb-true b 128 (both (nat_lt b 128) (list_all (λ b. nat_lt b 128) bs) h).0
-ascii_of (b ∷ bs) h (suc k) = ascii_of bs (both (nat_lt b 128) (list_all (λ b. nat_lt b 128) bs) h).1 k
+ascii_of (b ∷ bs) h zero = ltb-true b 128 (and_parts (nat_lt b 128) (list_all (λ b. nat_lt b 128) bs) h).0
+ascii_of (b ∷ bs) h (suc k) = ascii_of bs (and_parts (nat_lt b 128) (list_all (λ b. nat_lt b 128) bs) h).1 k
 
 heading_is_ascii : (e : Event) → list_all (λ b. nat_lt b 128) (heading (line_of e)) ≡ true
 heading_is_ascii events.Gc = refl

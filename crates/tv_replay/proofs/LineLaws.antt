@@ -6,6 +6,7 @@ use Rattle.std.specs.Fmt.{decimal}
 use Rattle.std.specs.List.{AllByRecursion, join_with_byte, list_all, onto_first, slice_split}
 use Rattle.std.proofs.lemmas.List.Splits.{join_with_byte-slice_split}
 use Rattle.std.proofs.lemmas.Fmt.{decimal_digit, decimal_nonempty, first_decimal}
+use Rattle.std.proofs.lemmas.Bool.{and_parts, not-true}
 use Rattle.hex.specs.Hex.{decode_of, encode_lower, encode_with}
 use Rattle.hex.proofs.HexLemmas.{decode_of-ok}
 use Rattle.tv_machine.specs.declared.event.Event.{Event}
@@ -14,10 +15,9 @@ use Rattle.tv_formats.specs.declared.segment.SegmentComponent.{SegmentComponent}
 use Rattle.tv_formats.specs.declared.segment.SegmentComponent.TheVariants.{Postings}
 use Rattle.tv_formats.specs.Ids.{IsId}
 use Rattle.tv_formats.specs.Names.{has, is}
-use Rattle.tv_machine.specs.Script.{AllSpell, Bytes, Component, Fits, Id, IsLine, IsWithin, Kind, LineWord, Number, Payload, Policy, Small, Spells, SpellsPayload, Value, Word, line_limit, line_of}
+use Rattle.tv_machine.specs.Script.{AllSpell, Bytes, Component, Fits, Id, IsLine, IsWithin, WordKind, LineWord, Number, Payload, Policy, SmallNumber, Spells, SpellsPayload, WordValue, Word, line_limit, line_of}
 use Rattle.tv_formats.specs.Segments.{extension}
 use Rattle.tv_replay.proofs.GrammarLaws.{has_no_space, heading, heading_is, ids_spell, is_plain, is_space, plain_words, words_of_line}
-use Rattle.tv_replay.proofs.Numbers.{both, isnt}
 
 -- what holds of no event's line, its event is none
 pub no_event : (text : List ℕ) (found : Option Event) → ((e : Event) → IsLine text e → ⊥) → IfSome found (IsLine text) → found ≡ None
@@ -86,12 +86,12 @@ some_payload None word h = rw h refl
 some_payload (Some text) word h = rw h.2 refl
 
 -- no word is empty
-some_spelled : (kind : Kind) (value : Value kind) (word : List ℕ) → is_plain (kind, value) ≡ true → IsWithin kind value → Spells kind value word → is word [] ≡ false
-some_spelled (Word text) value word plain within spells = rw spells (isnt (is text []) (both (has_no_space text) (not (is text [])) plain).1)
+some_spelled : (kind : WordKind) (value : WordValue kind) (word : List ℕ) → is_plain (kind, value) ≡ true → IsWithin kind value → Spells kind value word → is word [] ≡ false
+some_spelled (Word text) value word plain within spells = rw spells (not-true (is text []) (and_parts (has_no_space text) (not (is text [])) plain).1)
 some_spelled Id id word plain within spells = rw spells (some_id id within)
 some_spelled Component c word plain within spells = rw spells (some_component c)
 some_spelled Bytes bytes word plain within spells = some_digits word bytes spells within
-some_spelled Small n word plain within spells = rw spells (some_number n (omega arith))
+some_spelled SmallNumber n word plain within spells = rw spells (some_number n (omega arith))
 some_spelled Number n word plain within spells = rw spells (some_number n within)
 some_spelled Payload payload word plain within spells = some_payload payload word spells
 some_spelled Policy policy word plain within spells = rw spells refl
@@ -101,7 +101,7 @@ no_empty_word [] [] plain within spell = refl
 no_empty_word [] (word ∷ words) plain within spell = absurd spell
 no_empty_word (meant ∷ line) [] plain within spell = absurd spell
 no_empty_word (meant ∷ line) (word ∷ words) plain within spell =
-    let p = both (is_plain meant) (list_all is_plain line) plain in
+    let p = and_parts (is_plain meant) (list_all is_plain line) plain in
     rw (some_spelled meant.0 meant.1 word p.0 within.0 spell.0) (no_empty_word line words p.1 within.1 spell.1)
 
 -- the words after the first

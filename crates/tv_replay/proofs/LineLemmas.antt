@@ -2,20 +2,18 @@
 use Rattle.std.proofs.Common.{◌≡◌, ℕ, suc, ◌+◌, ◌≤◌, ◌<◌, ◌==◌, Bool, true, false, not, List, [], ◌∷◌, ◌++◌, length, Option, Some, None, refl, sym, ap, ◌∙◌, arith, append_assoc, length-append}
 use Rattle.std.specs.List.{onto_first}
 use Rattle.std.proofs.lemmas.List.{append-nil}
+use Rattle.std.proofs.lemmas.Bool.{and_parts, not-true}
+use Rattle.std.proofs.lemmas.Option.{same_Some}
 use Rattle.tv_base.specs.Streams.{KeepsLeft}
 use Rattle.tv_formats.specs.Files.{has_no_feed}
 use Rattle.tv_machine.specs.Script.{line_limit, lines_of}
-use Rattle.tv_replay.proofs.Numbers.{isnt, both}
 use Rattle.tv_replay.specs.ScriptLines.{NoFeed, pending, Moves, TakesLine, IsTooLong, BeginsLine, ReadsAhead}
-
-some_is : {A : Type 0} {x y : A} → ◌≡◌ {A = Option A} (Some x) (Some y) → x ≡ y
-some_is e = cc
 
 -- ---- what is left
 
 pub pending_some : (held script : List ℕ) (left : Option (List ℕ)) → pending held left ≡ Some script → (rest : List ℕ) × (left ≡ Some rest) × (script ≡ held ++ rest)
 pending_some held script None e = absurd cc
-pending_some held script (Some rest) e = (rest, refl, sym (some_is e))
+pending_some held script (Some rest) e = (rest, refl, sym (same_Some _ _ e))
 
 pub pending_is : (held rest : List ℕ) (left : Option (List ℕ)) → left ≡ Some rest → pending held left ≡ Some (held ++ rest)
 pending_is held rest left e = rw e refl
@@ -24,21 +22,21 @@ pending_is held rest left e = rw e refl
 
 NoFeed-append : (xs ys : List ℕ) → NoFeed xs → NoFeed ys → NoFeed (xs ++ ys)
 NoFeed-append [] ys h k = k
-NoFeed-append (x ∷ xs) ys h k = let t = both (not (x == 10)) (has_no_feed xs) h in rw t.0 (NoFeed-append xs ys t.1 k)
+NoFeed-append (x ∷ xs) ys h k = let t = and_parts (not (x == 10)) (has_no_feed xs) h in rw t.0 (NoFeed-append xs ys t.1 k)
 
 -- ---- lines
 
 lines_of-line : (line rest : List ℕ) → NoFeed line → lines_of (line ++ 10 ∷ rest) ≡ line ∷ lines_of rest
 lines_of-line [] rest h = refl
 lines_of-line (b ∷ line) rest h =
-    let t = both (not (b == 10)) (has_no_feed line) h in
-    rw (isnt (b == 10) t.0, lines_of-line line rest t.1) refl
+    let t = and_parts (not (b == 10)) (has_no_feed line) h in
+    rw (not-true (b == 10) t.0, lines_of-line line rest t.1) refl
 
 lines_of-last : (b : ℕ) (line : List ℕ) → NoFeed (b ∷ line) → lines_of (b ∷ line) ≡ (b ∷ line) ∷ []
-lines_of-last b [] h = let t = both (not (b == 10)) true h in rw (isnt (b == 10) t.0) refl
+lines_of-last b [] h = let t = and_parts (not (b == 10)) true h in rw (not-true (b == 10) t.0) refl
 lines_of-last b (c ∷ line) h =
-    let t = both (not (b == 10)) (has_no_feed (c ∷ line)) h in
-    rw (isnt (b == 10) t.0, lines_of-last c line t.1) refl
+    let t = and_parts (not (b == 10)) (has_no_feed (c ∷ line)) h in
+    rw (not-true (b == 10) t.0, lines_of-last c line t.1) refl
 
 abbrev FirstIsLong : ℕ → List (List ℕ) → Type 0
 FirstIsLong n all = (line : List ℕ) × (lines : List (List ℕ)) × (all ≡ line ∷ lines) × (n ≤ length line)
@@ -51,10 +49,10 @@ first_of b [] = (b ∷ [], [], refl, omega arith)
 first_of b (line ∷ lines) = (b ∷ line, lines, refl, omega arith)
 
 lines_of-begins : (b : ℕ) (line rest : List ℕ) → NoFeed (b ∷ line) → FirstIsLong (length (b ∷ line)) (lines_of ((b ∷ line) ++ rest))
-lines_of-begins b [] rest h = let t = both (not (b == 10)) true h in rw (isnt (b == 10) t.0) (first_of b (lines_of rest))
+lines_of-begins b [] rest h = let t = and_parts (not (b == 10)) true h in rw (not-true (b == 10) t.0) (first_of b (lines_of rest))
 lines_of-begins b (c ∷ line) rest h =
-    let t = both (not (b == 10)) (has_no_feed (c ∷ line)) h in
-    rw (isnt (b == 10) t.0) (longer b (length (c ∷ line)) (lines_of ((c ∷ line) ++ rest)) (lines_of-begins c line rest t.1))
+    let t = and_parts (not (b == 10)) (has_no_feed (c ∷ line)) h in
+    rw (not-true (b == 10) t.0) (longer b (length (c ∷ line)) (lines_of ((c ∷ line) ++ rest)) (lines_of-begins c line rest t.1))
 
 -- ---- steps of the loop
 

@@ -1,9 +1,9 @@
 -- The number that a word spells, and words that spell none.
-use Rattle.std.proofs.Common.{◌≡◌, ℕ, ◌<◌, ◌^◌, Bool, true, false, cond, not, ◌&&◌, nat_lt, List, Some, None, refl, sym, ap, ◌∙◌}
+use Rattle.std.proofs.Common.{◌≡◌, ℕ, ◌<◌, ◌^◌, Bool, true, false, cond, ◌&&◌, nat_lt, List, Some, None, refl, sym, ap, ◌∙◌}
 use Rattle.std.specs.Cmp.Lexicographic.{bytes_decides}
 use Rattle.std.specs.Fmt.{decimal}
 use Rattle.std.specs.Str.Parse.{digits_value}
-use Rattle.std.proofs.lemmas.Bool.{ltb-true, lt-ltb}
+use Rattle.std.proofs.lemmas.Bool.{ltb-true, lt-ltb, and_parts}
 use Rattle.std.proofs.lemmas.Fmt.{decimal_is_IsNumeral}
 use Rattle.tv_formats.specs.Names.{is}
 use Rattle.tv_replay.specs.Fields.{number_at}
@@ -17,20 +17,12 @@ pub refused : {A : Type 0} (b : Bool) (x : A) → (b ≡ true → ⊥) → cond 
 refused true x h = absurd (h refl)
 refused false x h = refl
 
-pub isnt : (b : Bool) → not b ≡ true → b ≡ false
-isnt true e = absurd cc
-isnt false e = refl
-
-pub both : (a b : Bool) → (a && b) ≡ true → (a ≡ true) × (b ≡ true)
-both true b e = (refl, e)
-both false b e = absurd cc
-
 -- a word that spells a number is its decimal form
 pub number_found : (limit n : ℕ) (word : List ℕ) → number_at limit word ≡ Some n → (word ≡ decimal n) × (n < limit)
 number_found limit n word e =
     let v = digits_value 10 word in
     let h = chosen (is (decimal v) word && nat_lt v limit) v n e in
-    let t = both (is (decimal v) word) (nat_lt v limit) h.0 in
+    let t = and_parts (is (decimal v) word) (nat_lt v limit) h.0 in
     let spelled : decimal v ≡ word = (bytes_decides (decimal v) word).0 t.0 in
     (sym spelled ∙ ap decimal h.1, rw (← h.1) (ltb-true v limit t.1))
 
@@ -46,5 +38,5 @@ pub number_none : (limit : ℕ) (word : List ℕ) → ((n : ℕ) → n < limit �
 number_none limit word h =
     let v = digits_value 10 word in
     refused (is (decimal v) word && nat_lt v limit) v (λ e.
-    let t = both (is (decimal v) word) (nat_lt v limit) e in
+    let t = and_parts (is (decimal v) word) (nat_lt v limit) e in
     h v (ltb-true v limit t.1) (sym ((bytes_decides (decimal v) word).0 t.0)))

@@ -33,7 +33,7 @@ use Rattle.tv_store.specs.StoreCauses.{WriteFault}
 use Rattle.tv_replay.specs.ErrorLines.{argument_line, corrupt_line, io_line, fault_line, format_line, lock_line, read_line, write_line, error_line}
 use Rattle.tv_store.specs.ReadCauses.{ReadFault}
 use Rattle.tv_replay.specs.PlaceView.{PlaceTold, PlaceView, KeepsTexts, KeepsFolders, PlaceKept, LendCause, Says, SayFaults, SaysPart}
-use Rattle.tv_replay.specs.Replays.{ReplayCause, LineRefusal, replay_facts}
+use Rattle.tv_replay.specs.Replays.{ReplayCause, LineRefusal, replay_call, replay_facts}
 use Rattle.tv_replay.specs.Completeness.{IsReady}
 use Rattle.tv_replay.proofs.Complete.{only_memory}
 use Rattle.tv_replay.proofs.Stopping.{none_behind, none_met}
@@ -239,7 +239,7 @@ not_begun asked {error = error} kept why line_is says unread refused = record {
 
 -- a report, told of from an earlier moment at which nothing more had been said and refused
 pub reports_since : {O W C : Type 0} {g : Ghosts O W C} {told : PlaceTold} {stopped : O} {folder : List ℕ} (old : PlaceView O) {mid new : PlaceView O} {line : List ℕ}
-    → KeepsTexts told old mid → mid.faults ≡ old.faults → mid.said ≡ old.said → mid.lent ≡ Some folder → Reports g told stopped mid new line → Reports g told stopped (record old { lent = Some folder }) new line
+    → KeepsTexts told old mid → mid.faults ≡ old.faults → mid.said ≡ old.said → mid.lent ≡ Some folder → Reports g told (record { stopped = stopped; old = mid; new = new }) line → Reports g told (record { stopped = stopped; old = record old { lent = Some folder }; new = new }) line
 reports_since {told = told} old {mid = mid} {new = new} {line = line} texts same silent lent r = record {
   now = r.now;
   given_back = λ tells f is. r.given_back tells f (lent ∙ is);
@@ -257,8 +257,8 @@ reports_since {told = told} old {mid = mid} {new = new} {line = line} texts same
 }
 
 -- a replay that stopped, and the line of its error was reported
-pub stopped_with : {O W C : Type 0} {g : Ghosts O W C} {told : PlaceTold} (asked : AskedReplay O) {stopped : O} {mid : PlaceView O} {error : TantivyError} {status : ℕ} → ReportsError g told stopped mid asked.new.place error status
-    → ((line : List ℕ) → Reports g told stopped mid asked.new.place line → Stops g told asked error line) → EndsReplay g told asked status
+pub stopped_with : {O W C : Type 0} {g : Ghosts O W C} {told : PlaceTold} (asked : AskedReplay O) {stopped : O} {mid : PlaceView O} {error : TantivyError} {status : ℕ} → ReportsError g told (record { stopped = stopped; old = mid; new = asked.new.place }) error status
+    → ((line : List ℕ) → Reports g told (record { stopped = stopped; old = mid; new = asked.new.place }) line → Stops g told asked error line) → EndsReplay g told asked status
 stopped_with asked {error = error} gave stops = record {
   done = λ zero. absurd (not_done _ gave.statuses zero);
   failed = λ one. let said = gave.other one in inr (error, said.0, stops _ said.1);
@@ -300,9 +300,9 @@ module _ {O W C : Type 0} (g : Ghosts O W C) (told : PlaceTold) (words : List (L
       let still : (g.view stop.reports.now).faults ≡ (g.view stop.before).faults = ap (λ (d : O). (g.view d).faults) (sym is_now) ∙ u.still ∙ ap (λ (d : O). (g.view d).faults) is_before in
       let below : (g.view stop.reports.now).faults < 18446744073709551615 = subst (λ (d : O). (g.view d).faults < 18446744073709551615) is_now u.not_last in
       let amiss = none_amiss (g.view stop.before).faults (g.view stop.stopped).faults (g.view stop.reports.now).faults stop.reports.faults still below in
-      other (only_memory g stop.before stop.stopped stop.schema old.script new.script (replay_facts g stop.before (g.view stop.stopped).faults old.script new.script) error u.content u.content ready
+      other (only_memory g.told (replay_call g stop.before stop.stopped stop.schema old.script new.script) (replay_facts g.told (g.view stop.before) (g.view stop.stopped).faults old.script new.script) error u.content u.content ready
       (none_met g.told.locks (g.view stop.before).locks (Rose (g.view stop.before).faults (g.view stop.stopped).faults) u.locks ready.sound.free) amiss
-      (none_behind g stop.before old.script new.script (g.view stop.stopped).faults (Rose old.script.faults new.script.faults) u.locks ready.sound.free amiss) stop.cause stop.stops)
+      (none_behind g.told (g.view stop.before) old.script new.script (g.view stop.stopped).faults (Rose old.script.faults new.script.faults) u.locks ready.sound.free amiss) stop.cause stop.stops)
 
   pub comes_to_end : (status : ℕ) → EndsReplay g told asked status → (status ≡ 0) ⊎ (status ≡ 3)
   comes_to_end status ends = told_of ends.statuses where

@@ -27,7 +27,7 @@ use Rattle.tv_store.specs.Telling.{TellsLine, TellsNoLine}
 use Rattle.tv_store.specs.Applying.{LeavesCommit, LeavesOldOrNew, MeetsBadAt}
 use Rattle.tv_index.specs.Standing.{MetaCause, OfRead}
 use Rattle.tv_store.specs.Effects.{TakesMetaLock}
-use Rattle.tv_store.specs.ReadCauses.{LoadingCause, IsReadError}
+use Rattle.tv_store.specs.ReadCauses.{LoadingCause, IsReadError, ReadFacts}
 use Rattle.tv_index.specs.Opening.{OpenCause}
 use Rattle.tv_store.specs.OpeningCauses.{CallFacts, IndexMissing, IndexRefused, OpeningCause}
 use Rattle.tv_store.specs.StoreCauses.{IsBusy, IsRefusal, RefusedBehind, writer_lock_name}
@@ -184,18 +184,18 @@ nothing_ahead left script told =
 
 module _ (script : Option (List ℕ)) (s : State) (turns : List Turn) (held free : Type 0) where
   -- in an event
-  pub event_stops : (refused quiet given tells : Type 0) (schema : List ℕ) (stood : Option (List ℕ)) {busy spent : Type 0} {bad : OpenReadError → Type 0} {absent : List ℕ → Type 0} (event : Event) (error : TantivyError) → IsNext script turns event
-      → LoadingCause busy refused quiet spent (λ e. given × MetaCause tells (Some schema) stood refused quiet e) bad absent error → (busy → TakesMetaLock (after s turns).catalog event × held) → (spent → ⊥) → (OfRead tells stood (MeansNothing (Some schema)) ⊎ OfRead tells stood (MeansOther schema) → ⊥)
-      → ((error : OpenReadError) → bad error → MeetsBadAt (after s turns) event error) → ((path : List ℕ) → absent path → ⊥) → (IsReadError error → free) → StopsFor script s turns held free error
-  event_stops refused quiet given tells schema stood event (errors.OpenReadError error) next h y never u b a f = read_fault {worse = λ e. (x : Event) × IsNext script turns x × free × MeetsBadAt (after s turns) x e} {gone = λ path. ⊥} error (λ r. tt) (λ q. tt) (λ e bad. (event, next, f tt, b e bad)) a h
-  event_stops refused quiet given tells schema stood event (errors.LockFailure lock.LockBusy text) next h y never u b a f = (event, next, (y h.0).0, (y h.0).1)
-  event_stops refused quiet given tells schema stood event (errors.LockFailure (lock.IoError fault) text) next h y never u b a f = tt
-  event_stops refused quiet given tells schema stood event (errors.LockFailure lock.Memory text) next h y never u b a f = absurd h.0
-  event_stops refused quiet given tells schema stood event (errors.InvalidArgument text) next h y never u b a f = absurd h
-  event_stops refused quiet given tells schema stood event (errors.DataCorruption why) next h y never u b a f = u (inl h.1.2)
-  event_stops refused quiet given tells schema stood event (errors.SchemaError text) next h y never u b a f = u (inr h.1.2)
-  event_stops refused quiet given tells schema stood event errors.Exhausted next h y never u b a f = absurd (never h.1)
-  event_stops refused quiet given tells schema stood event other next h y never u b a f = tt
+  pub event_stops : (facts : ReadFacts) (given tells : Type 0) (schema : List ℕ) (stood : Option (List ℕ)) (event : Event) (error : TantivyError) → IsNext script turns event
+      → LoadingCause facts (λ e. given × MetaCause tells (Some schema) stood facts.refused facts.quiet e) error → (facts.busy → TakesMetaLock (after s turns).catalog event × held) → (facts.spent → ⊥) → (OfRead tells stood (MeansNothing (Some schema)) ⊎ OfRead tells stood (MeansOther schema) → ⊥)
+      → ((error : OpenReadError) → facts.bad error → MeetsBadAt (after s turns) event error) → ((path : List ℕ) → facts.absent path → ⊥) → (IsReadError error → free) → StopsFor script s turns held free error
+  event_stops facts given tells schema stood event (errors.OpenReadError error) next h y never u b a f = read_fault {worse = λ e. (x : Event) × IsNext script turns x × free × MeetsBadAt (after s turns) x e} {gone = λ path. ⊥} error (λ r. tt) (λ q. tt) (λ e bad. (event, next, f tt, b e bad)) a h
+  event_stops facts given tells schema stood event (errors.LockFailure lock.LockBusy text) next h y never u b a f = (event, next, (y h.0).0, (y h.0).1)
+  event_stops facts given tells schema stood event (errors.LockFailure (lock.IoError fault) text) next h y never u b a f = tt
+  event_stops facts given tells schema stood event (errors.LockFailure lock.Memory text) next h y never u b a f = absurd h.0
+  event_stops facts given tells schema stood event (errors.InvalidArgument text) next h y never u b a f = absurd h
+  event_stops facts given tells schema stood event (errors.DataCorruption why) next h y never u b a f = u (inl h.1.2)
+  event_stops facts given tells schema stood event (errors.SchemaError text) next h y never u b a f = u (inr h.1.2)
+  event_stops facts given tells schema stood event errors.Exhausted next h y never u b a f = absurd (never h.1)
+  event_stops facts given tells schema stood event other next h y never u b a f = tt
 
   refusal_stops : (text : List ℕ) (error : TantivyError) → IsRefusal text error
       → ((text ≡ line_refusal (length turns + 1)) × IsRefusedNext script turns IsNoEvent) ⊎ ((text ≡ long_refusal (length turns + 1)) × IsRefusedNext script turns IsTooLong)
@@ -355,11 +355,11 @@ none_met tells_locks start refused t free b = met (b.told t) where
   met (inr held) = true≢false (sym held ∙ free meta_lock_name)
 
 -- where no lock is held, and no call was refused, none was behind the lock of the writer either
-pub none_behind : {O W C : Type 0} (g : Ghosts O W C) (before : O) (script script_now : SourceView) (now : ℕ) (more : Type 0) → g.told.locks → ((lock : List ℕ) → (g.view before).locks lock ≡ false) → (Rose (g.view before).faults now ⊎ more → ⊥)
-    → RefusedBehind (WasLockedOut g before script script_now) (g.view before).faults now ⊎ more → ⊥
-none_behind g before script script_now now more t free quiet (inl (inl rose)) = quiet (inl rose)
-none_behind g before script script_now now more t free quiet (inl (inr held)) = true≢false (sym (held.0.0 t) ∙ free writer_lock_name)
-none_behind g before script script_now now more t free quiet (inr other) = quiet (inr other)
+pub none_behind : {W : Type 0} (told : Told) (before : View W) (script script_now : SourceView) (now : ℕ) (more : Type 0) → told.locks → ((lock : List ℕ) → before.locks lock ≡ false) → (Rose before.faults now ⊎ more → ⊥)
+    → RefusedBehind (WasLockedOut told before script script_now) before.faults now ⊎ more → ⊥
+none_behind told before script script_now now more t free quiet (inl (inl rose)) = quiet (inl rose)
+none_behind told before script script_now now more t free quiet (inl (inr held)) = true≢false (sym (held.0.0 t) ∙ free writer_lock_name)
+none_behind told before script script_now now more t free quiet (inr other) = quiet (inr other)
 
 -- a call that was refused was, whether the lock of the writer was given or not
 pub either_behind : {held more : Type 0} (before now : ℕ) → Rose before now ⊎ more → RefusedBehind held before now ⊎ more

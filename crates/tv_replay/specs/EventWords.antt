@@ -3,45 +3,41 @@ use Rattle.std.specs.Prelude.{ℕ, ◌^◌, Bool, true, false, List, [], ◌∷�
 use Rattle.std.specs.Str.{is_utf8}
 use Rattle.tv_machine.specs.declared.event.Event.{Event}
 use Rattle.tv_machine.specs.declared.event.Event.TheVariants as events
-use Rattle.tv_machine.specs.Script.{Kind, Word, Id, Component, Bytes, Small, Number, Payload, Policy, Value}
+use Rattle.tv_machine.specs.Script.{WordKind, Word, Id, Component, Bytes, SmallNumber, Number, Payload, Policy, WordValue}
 use Rattle.tv_formats.specs.Ids.{are_distinct}
+use Rattle.tv_formats.specs.Framing.{◌>>=◌}
 use Rattle.tv_formats.specs.Names.{is}
 use Rattle.tv_replay.specs.Fields.{id_at, number_at, component_at, bytes_at, payload_at, policy_at}
-
-infixl 10 ◌>>=◌
-abbrev pub ◌>>=◌ : {A B : Type 0} → Option A → (A → Option B) → Option B
-None >>= f = None
-(Some x) >>= f = f x
 
 -- a word that is a text
 abbrev pub text_in : List ℕ → Option (List ℕ)
 text_in word = if is_utf8 word then Some word else None
 
 -- what a word stands for that is read as one of this kind; none where it isn't one
-abbrev pub value_at : (kind : Kind) → List ℕ → Option (Value kind)
+abbrev pub value_at : (kind : WordKind) → List ℕ → Option (WordValue kind)
 value_at (Word text) word = if is word text then Some tt else None
 value_at Id word = id_at word
 value_at Component word = component_at word
 value_at Bytes word = bytes_at word
-value_at Small word = number_at (2 ^ 32) word
+value_at SmallNumber word = number_at (2 ^ 32) word
 value_at Number word = number_at (2 ^ 64) word
 value_at Payload word = payload_at word
 value_at Policy word = policy_at word
 
 -- a function from what words of these kinds stand for to an event
-abbrev pub Makes : List Kind → Type 0
+abbrev pub Makes : List WordKind → Type 0
 Makes [] = Event
-Makes (kind ∷ kinds) = Value kind → Makes kinds
+Makes (kind ∷ kinds) = WordValue kind → Makes kinds
 
 -- there are as many words as kinds
-abbrev pub are_as_many : List Kind → List (List ℕ) → Bool
+abbrev pub are_as_many : List WordKind → List (List ℕ) → Bool
 are_as_many [] [] = true
 are_as_many [] (word ∷ words) = false
 are_as_many (kind ∷ kinds) [] = false
 are_as_many (kind ∷ kinds) (word ∷ words) = are_as_many kinds words
 
 -- the event that the first words make, one word for each kind; none where there are fewer words
-abbrev pub event_of : (kinds : List Kind) → Makes kinds → List (List ℕ) → Option Event
+abbrev pub event_of : (kinds : List WordKind) → Makes kinds → List (List ℕ) → Option Event
 event_of [] event words = Some event
 event_of (kind ∷ kinds) make [] = None
 event_of (kind ∷ kinds) make (word ∷ words) = do
@@ -49,7 +45,7 @@ event_of (kind ∷ kinds) make (word ∷ words) = do
   event_of kinds (make value) words
 
 -- the event that these words make, one word for each kind; none where there are more or fewer words
-abbrev pub read : (kinds : List Kind) → Makes kinds → List (List ℕ) → Option Event
+abbrev pub read : (kinds : List WordKind) → Makes kinds → List (List ℕ) → Option Event
 read kinds make words = if are_as_many kinds words then event_of kinds make words else None
 
 -- the ids that the words spell, where each of them spells one
@@ -92,7 +88,8 @@ reader_event_by keyword words =
     else if is keyword (codes "reload") then read (Number ∷ []) events.Reload words
     else if is keyword (codes "searcher") then read (Number ∷ []) events.Searcher words
     else if is keyword (codes "show") then read (Number ∷ []) events.Show words
-    else if is keyword (codes "bytes") then read (Number ∷ Small ∷ Component ∷ []) events.Bytes words
+    else if is keyword (codes "bytes") then
+    read (Number ∷ SmallNumber ∷ Component ∷ []) events.Bytes words
     else if is keyword (codes "release") then release_in words
     else None
 
@@ -120,8 +117,8 @@ file_event_by keyword words =
 abbrev pub segment_event_by : List ℕ → List (List ℕ) → Option Event
 segment_event_by keyword words =
     if is keyword (codes "segment") then read (Id ∷ []) events.Segment words
-    else if is keyword (codes "docs") then read (Id ∷ Small ∷ []) events.Docs words
-    else if is keyword (codes "deletes") then read (Id ∷ Small ∷ []) events.Deletes words
+    else if is keyword (codes "docs") then read (Id ∷ SmallNumber ∷ []) events.Docs words
+    else if is keyword (codes "deletes") then read (Id ∷ SmallNumber ∷ []) events.Deletes words
     else file_event_by keyword words
 
 -- the event of a keyword and of the words after it

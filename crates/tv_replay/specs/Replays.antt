@@ -1,5 +1,5 @@
 -- A script replayed over a directory.
-use Rattle.std.specs.Prelude.{ℕ, ◌≡◌, ◌≢◌, ◌⊎◌, ◌+◌, ◌≤◌, Bool, true, false, List, [], ◌∷◌, ◌++◌, length, codes, Option, Some, None, IsSome, option_map, IfErr, OnOk, string_bytes}
+use Rattle.std.specs.Prelude.{ℕ, ◌≡◌, ◌≢◌, ◌⊎◌, ◌+◌, ◌≤◌, Bool, true, false, List, [], ◌∷◌, ◌++◌, length, codes, Option, Some, None, IsSome, option_map, Result, IfErr, OnOk, string_bytes}
 use Rattle.std.specs.Fmt.{decimal}
 use Rattle.tv_machine.specs.declared.event.Event.{Event}
 use Rattle.tv_machine.specs.declared.event.Event.TheVariants as events
@@ -27,7 +27,6 @@ use Rattle.tv_managed.specs.Collecting.{meta_lock_name}
 use Rattle.tv_base.specs.declared.open_errors.LockError.TheVariants as lock
 use Rattle.tv_base.specs.declared.error.TantivyError.{TantivyError}
 use Rattle.tv_base.specs.declared.error.TantivyError.TheVariants as errors
-use Rattle.tv_replay.specs.declared.replaying.Replayed.{Replayed}
 use Rattle.tv_replay.specs.declared.replaying.Tally.{Tally}
 use Rattle.tv_replay.specs.ScriptLines.{IsNoEvent, IsTooLong, IsAhead}
 use Rattle.tv_store.specs.Effects.{TakesMetaLock}
@@ -240,6 +239,25 @@ told_facts held free = record {
   quiet_behind = Unit {0};
 }
 
+-- A replay: the directory before and now, the schema, and the script before and now.
+pub record ReplayCall (W : Type 0) : Type 0 where
+  pub before : View W
+  pub now : View W
+  pub schema : List ℕ
+  pub script : SourceView
+  pub script_now : SourceView
+
+-- the replay of this script with this schema, which led from one directory to the other
+abbrev pub replay_call : {O W C : Type 0} → Ghosts O W C → (before now : O) → (schema : List ℕ)
+    → (script script_now : SourceView) → ReplayCall W
+replay_call g before now schema script script_now = record {
+  before = g.view before;
+  now = g.view now;
+  schema = schema;
+  script = script;
+  script_now = script_now;
+}
+
 -- a refusal that writes nothing: that of an argument, of bytes or of the lock, and any while somebody else
 -- holds that lock
 abbrev pub IsUnwritten : {W : Type 0} → Told → (before : View W) → TantivyError → Type 0
@@ -251,37 +269,35 @@ IsUnwritten told before error =
 -- commit of a new index; only of that a notice may have come. An argument, bytes and the lock that were
 -- refused changed nothing, and left no notice, nor did any refusal while somebody else held that lock.
 -- The error is the first that holds, in the order of an opening.
-pub record RefusesOpening {W : Type 0} (told : Told) (schema : List ℕ) (before now : View W)
-    (script script_now : SourceView) (error : TantivyError) : Type 0 where
-  pub silent : told.heard → TellsNoLine before.heard now.heard
-  pub unread : script_now ≡ script
-  pub leaves : LeavesRefused before.reads now.reads schema
-  pub stood : IsSome (before.reads meta_name) → now.watched ≡ before.watched
-  pub unchanged : IsUnwritten told before error → Same before.reads now.reads
-  pub unnoted : IsUnwritten told before error → now.watched ≡ before.watched
-  pub cause : OpeningCause (told_facts (told.locks → before.locks writer_lock_name ≡ true)
-      (told.locks → before.locks writer_lock_name ≡ false)) schema before.reads error
+pub record RefusesOpening {W : Type 0} (told : Told) (call : ReplayCall W)
+    (error : TantivyError) : Type 0 where
+  pub silent : told.heard → TellsNoLine call.before.heard call.now.heard
+  pub unread : call.script_now ≡ call.script
+  pub leaves : LeavesRefused call.before.reads call.now.reads call.schema
+  pub stood : IsSome (call.before.reads meta_name) → call.now.watched ≡ call.before.watched
+  pub unchanged : IsUnwritten told call.before error → Same call.before.reads call.now.reads
+  pub unnoted : IsUnwritten told call.before error → call.now.watched ≡ call.before.watched
+  pub cause : OpeningCause (told_facts (told.locks → call.before.locks writer_lock_name ≡ true)
+      (told.locks → call.before.locks writer_lock_name ≡ false)) call.schema call.before.reads error
 
 -- an index stood there, or was made, whose files can be read; and a run stopped that began at the state of
 -- each index to which the directory opened
-pub record StopsRunning {O W C : Type 0} (g : Ghosts O W C) (before now : O) (schema : List ℕ)
-    (script script_now : SourceView) (error : TantivyError) : Type 0 where
-  pub found : FoundIndex schema (g.view before).reads
-  pub files : HasFiles (g.view before).reads (found_commits found)
-  pub stops : (index : OpenedIndex schema (g.view before).reads)
-      → StopsAt g.told (record {
+pub record StopsRunning {W : Type 0} (told : Told) (call : ReplayCall W)
+    (error : TantivyError) : Type 0 where
+  pub found : FoundIndex call.schema call.before.reads
+  pub files : HasFiles call.before.reads (found_commits found)
+  pub stops : (index : OpenedIndex call.schema call.before.reads)
+      → StopsAt told (record {
         form = index.form;
-        script = script;
+        script = call.script;
         start = index.state;
         lines_of_turns = report index.state;
-      }) (g.view before) (g.view now) script_now error
+      }) call.before call.now call.script_now error
 
 -- where a replay stopped with this error: at its opening (`RefusesOpening`), or in its run (`StopsRunning`)
-abbrev pub StopsReplay : {O W C : Type 0} → Ghosts O W C → (before now : O) → (schema : List ℕ)
-    → (script script_now : SourceView) → TantivyError → Type 0
-StopsReplay g before now schema script script_now error =
-    g.told.content → RefusesOpening g.told schema (g.view before) (g.view now) script script_now error
-    ⊎ StopsRunning g before now schema script script_now error
+abbrev pub StopsReplay : {W : Type 0} → Told → ReplayCall W → TantivyError → Type 0
+StopsReplay told call error =
+    told.content → RefusesOpening told call error ⊎ StopsRunning told call error
 
 -- A reader finds `meta.json` refused: where the content is told, the directory opened to no state, since from
 -- one it means the run's commit.
@@ -332,41 +348,40 @@ IsLockBusy tells_locks locks refused =
 
 -- the opening wasn't given the lock of the writer: where locks are told, it is held; and nothing was read
 -- of the script
-abbrev pub WasLockedOut : {O W C : Type 0} → Ghosts O W C → (before : O)
+abbrev pub WasLockedOut : {W : Type 0} → Told → (before : View W)
     → (script script_now : SourceView) → Type 0
-WasLockedOut g before script script_now =
-    (g.told.locks → (g.view before).locks writer_lock_name ≡ true) × (script_now ≡ script)
+WasLockedOut told before script script_now =
+    (told.locks → before.locks writer_lock_name ≡ true) × (script_now ≡ script)
 
 -- what is known of the calls of a replay: on the directory that was handed in, whose count of refused
 -- calls is this by now, and on the script
-abbrev pub replay_facts : {O W C : Type 0} → Ghosts O W C → (before : O) → (faults : ℕ)
+abbrev pub replay_facts : {W : Type 0} → Told → (before : View W) → (faults : ℕ)
     → (script script_now : SourceView) → CallFacts
-replay_facts g before faults script script_now = record {
-  tells = g.told.content;
-  busy = IsLockBusy g.told.locks (g.view before).locks (Rose (g.view before).faults faults);
-  free = g.told.locks → (g.view before).locks writer_lock_name ≡ false;
-  refused = Rose (g.view before).faults faults ⊎ Rose script.faults script_now.faults;
-  quiet = (faults ≡ (g.view before).faults) × (script_now.faults ≡ script.faults);
-  refused_behind = RefusedBehind (WasLockedOut g before script script_now) (g.view before).faults faults
+replay_facts told before faults script script_now = record {
+  tells = told.content;
+  busy = IsLockBusy told.locks before.locks (Rose before.faults faults);
+  free = told.locks → before.locks writer_lock_name ≡ false;
+  refused = Rose before.faults faults ⊎ Rose script.faults script_now.faults;
+  quiet = (faults ≡ before.faults) × (script_now.faults ≡ script.faults);
+  refused_behind = RefusedBehind (WasLockedOut told before script script_now) before.faults faults
       ⊎ Rose script.faults script_now.faults;
-  quiet_behind = QuietBehind (WasLockedOut g before script script_now) (g.view before).faults faults
+  quiet_behind = QuietBehind (WasLockedOut told before script script_now) before.faults faults
       × (script_now.faults ≡ script.faults);
 }
 
--- Why a replay failed, between these two directories and these two views of the script.
-abbrev pub FailsReplay : {O W C : Type 0} → Ghosts O W C → (before now : O) → (schema : List ℕ)
-    → (script script_now : SourceView) → TantivyError → Type 0
-FailsReplay g before now schema script script_now =
-    ReplayCause (replay_facts g before (g.view now).faults script script_now) schema
-    (g.view before).reads script.left
+-- why a replay failed
+abbrev pub FailsReplay : {W : Type 0} → Told → ReplayCall W → TantivyError → Type 0
+FailsReplay told call =
+    ReplayCause (replay_facts told call.before call.now.faults call.script call.script_now)
+    call.schema call.before.reads call.script.left
 
 -- Where a replay answers Ok no call but deletes was refused, and the lock of the writer was free; and why it
 -- answers an error.
-pub record ReplayFaults {O W C : Type 0} (g : Ghosts O W C) (before : O) (schema : List ℕ)
-    (script script_now : SourceView) (result : Replayed O) : Type 0 where
-  pub quiet : OnOk result.outcome (IsQuietAt (g.view before) (g.view result.outside) script script_now)
-  pub free : g.told.locks → OnOk result.outcome ((g.view before).locks writer_lock_name ≡ false)
-  pub cause : IfErr result.outcome (FailsReplay g before result.outside schema script script_now)
+pub record ReplayFaults {W : Type 0} (told : Told) (call : ReplayCall W)
+    (outcome : Result Tally TantivyError) : Type 0 where
+  pub quiet : OnOk outcome (IsQuietAt call.before call.now call.script call.script_now)
+  pub free : told.locks → OnOk outcome (call.before.locks writer_lock_name ≡ false)
+  pub cause : IfErr outcome (FailsReplay told call)
 
 -- What each replay keeps: writers may still be handed in, the same locks are held, nobody was registered or
 -- called, and no file with a dot in front was changed but the list; a notice of a commit may stand.

@@ -14,12 +14,13 @@ use Rattle.tv_replay.specs.Completeness.{IsReady}
 use Rattle.tv_replay.specs.PlaceView.{PlaceTold, PlaceView, KeepsFolders, KeepsTexts, SaysPart}
 use Rattle.tv_replay.specs.Commands.{generate_words, most_commits, replay_words}
 use Rattle.tv_replay.specs.Summaries.{IsSummaryOf}
-use Rattle.tv_replay.specs.Replays.{Replays, ReplayFrame, IsReadOut, IsQuietAt, FailsReplay, StopsReplay}
+use Rattle.tv_replay.specs.Replays.{Replays, ReplayFrame, IsReadOut, IsQuietAt, FailsReplay, StopsReplay, replay_call}
 
 -- what is said where the words are others
 abbrev pub usage_line : List ℕ
 usage_line =
-    codes "usage: tv replay FOLDER SCHEMA | space FOLDER SCHEMA | generate N | race FOLDER SCHEMA HANDLES SCRIPT.."
+    codes "usage: tv replay FOLDER SCHEMA | space FOLDER SCHEMA | generate N"
+    ++ codes " | race FOLDER SCHEMA HANDLES SCRIPT.."
 
 -- what is said of a schema that the place refused
 abbrev pub schema_line : List ℕ
@@ -146,6 +147,12 @@ WantsMemory told asked =
     OnlySays told asked.old.place asked.new.place memory_line
     ⊎ PlaceRefuses told asked.old.place asked.new.place memory_line
 
+-- a directory that was lent, as its replay left it, and the place before and after its return
+pub record Loan (O : Type 0) : Type 0 where
+  pub stopped : O
+  pub old : PlaceView O
+  pub new : PlaceView O
+
 module _ {O W C : Type 0} (g : Ghosts O W C) (told : PlaceTold) where
   -- The whole script was replayed over the directory that was lent for the folder, with the schema of the
   -- path. It was given back, nothing was said, and no call was refused.
@@ -167,18 +174,20 @@ module _ {O W C : Type 0} (g : Ghosts O W C) (told : PlaceTold) where
   -- The directory that was lent was given back: it reads what it read when the replay stopped, the same locks
   -- are held, and nobody was registered or called. A line was told to it, and nothing was said; or no more
   -- than a part of the line was told, and the line was said.
-  pub record Reports (stopped : O) (old new : PlaceView O) (line : List ℕ) : Type 0 where
+  pub record Reports (loan : Loan O) (line : List ℕ) : Type 0 where
     pub now : O
-    pub given_back : told.content → (folder : List ℕ) → old.lent ≡ Some folder → new.kept folder ≡ Some now
-    pub texts : KeepsTexts told old new
-    pub faults : ((g.view now).faults ≡ (g.view stopped).faults)
-        ⊎ Rose (g.view stopped).faults (g.view now).faults
-    pub frame : OnlyTells g.told (g.view stopped) (g.view now)
+    pub given_back : told.content → (folder : List ℕ) → loan.old.lent ≡ Some folder
+        → loan.new.kept folder ≡ Some now
+    pub texts : KeepsTexts told loan.old loan.new
+    pub faults : ((g.view now).faults ≡ (g.view loan.stopped).faults)
+        ⊎ Rose (g.view loan.stopped).faults (g.view now).faults
+    pub frame : OnlyTells g.told (g.view loan.stopped) (g.view now)
     pub reported :
-        ((g.told.heard → TellsLine (g.view stopped).heard (g.view now).heard (g.view stopped).moment
-        (g.view now).moment line) × SaysNothing old new)
-        ⊎ ((g.told.heard → (told_at : ℕ) × TellsPart (g.view stopped).heard (g.view now).heard told_at line)
-        × SaysLine told old new line)
+        ((g.told.heard → TellsLine (g.view loan.stopped).heard (g.view now).heard
+        (g.view loan.stopped).moment (g.view now).moment line) × SaysNothing loan.old loan.new)
+        ⊎ ((g.told.heard → (told_at : ℕ)
+        × TellsPart (g.view loan.stopped).heard (g.view now).heard told_at line)
+        × SaysLine told loan.old loan.new line)
 
   -- The replay over the directory that was lent for the folder, with the schema of the path, answered this
   -- error, for its cause, and then a line was reported.
@@ -188,12 +197,18 @@ module _ {O W C : Type 0} (g : Ghosts O W C) (told : PlaceTold) where
     pub schema : List ℕ
     pub lent : told.content → asked.old.place.kept asked.folder ≡ Some before
     pub schema_is : told.content → asked.old.place.schemas asked.path ≡ Some schema
-    pub cause : FailsReplay g before stopped schema asked.old.script asked.new.script error
+    pub cause : FailsReplay g.told
+        (replay_call g before stopped schema asked.old.script asked.new.script) error
     -- where it stopped, what was told by then, and which commit stands
-    pub stops : StopsReplay g before stopped schema asked.old.script asked.new.script error
+    pub stops : StopsReplay g.told
+        (replay_call g before stopped schema asked.old.script asked.new.script) error
     pub frame : ReplayFrame g.told (g.view before) (g.view stopped)
     -- seen from the place as it was while the folder's directory was lent
-    pub reports : Reports stopped (record asked.old.place { lent = Some asked.folder }) asked.new.place line
+    pub reports : Reports (record {
+      stopped = stopped;
+      old = record asked.old.place { lent = Some asked.folder };
+      new = asked.new.place;
+    }) line
 
   -- What stands after a replay that ended with this status.
   pub record EndsReplay (asked : AskedReplay O) (status : ℕ) : Type 0 where
@@ -215,11 +230,10 @@ module _ {O W C : Type 0} (g : Ghosts O W C) (told : PlaceTold) where
 
   -- The line of an error was reported, or the one for want of memory, as the status says; and no directory is
   -- lent.
-  pub record ReportsError (stopped : O) (old new : PlaceView O) (error : TantivyError)
-      (status : ℕ) : Type 0 where
-    pub free : new.lent ≡ None
-    pub other : status ≡ 1 → (error ≢ errors.Memory) × Reports stopped old new (error_line error)
-    pub memory : status ≡ 3 → Reports stopped old new memory_line
+  pub record ReportsError (loan : Loan O) (error : TantivyError) (status : ℕ) : Type 0 where
+    pub free : loan.new.lent ≡ None
+    pub other : status ≡ 1 → (error ≢ errors.Memory) × Reports loan (error_line error)
+    pub memory : status ≡ 3 → Reports loan memory_line
     pub statuses : (status ≡ 1) ⊎ (status ≡ 3)
 
   -- What stands after a run of these words: a script was replayed, or one was generated, and that of the

@@ -161,7 +161,8 @@ fn give_back_after<P: Place>(
 ) -> u8
     requires lent { IsSome (P.view place.old).lent }
     requires feed { has_no_feed (error_line error) ≡ true }
-    ensures { ReportsError P.Out.Directory P.told outside (P.view place.old) (P.view place.new)
+    ensures { ReportsError P.Out.Directory P.told
+        (record { stopped = outside; old = P.view place.old; new = P.view place.new })
         error result }
 {
     match error_line(alloc, &error) {
@@ -182,8 +183,8 @@ fn report<P: Place>(place: &mut P, outside: P::Out, line: &[u8])
     requires lent { IsSome (P.view place.old).lent }
     requires feed { has_no_feed line.now ≡ true }
     ensures free { (P.view place.new).lent ≡ None }
-    ensures reports { Reports P.Out.Directory P.told outside (P.view place.old)
-        (P.view place.new) line.now }
+    ensures reports { Reports P.Out.Directory P.told
+        (record { stopped = outside; old = P.view place.old; new = P.view place.new }) line.now }
 {
     let mut outside = outside;
     let told = tell_line(&mut outside, line);

@@ -7,7 +7,7 @@ ghost use Rattle.tv_store.specs.StoreCauses.{IsRefusal};
 ghost use Rattle.tv_replay.specs.AppliedEvents.{Runs, RunFaults, StopsRun, ScriptEndFaults, IsErrorOf};
 ghost use Rattle.tv_replay.specs.Completeness.{IsUndisturbed};
 ghost use Rattle.tv_replay.specs.Replays.{Replays, ReplayFaults, ReplayFrame, StopsReplay, IsReadOut};
-ghost use Rattle.tv_replay.specs.Replays.{line_refusal, long_refusal};
+ghost use Rattle.tv_replay.specs.Replays.{line_refusal, long_refusal, replay_call};
 ghost use Rattle.tv_replay.specs.ScriptLines.{pending, TakesNextEvent, ReadsAhead};
 ghost use Rattle.tv_replay.specs.ScriptCauses.{EndReads};
 
@@ -55,15 +55,18 @@ pub fn replay<O: Outside, R: Source>(
         (Replays O.Directory outside result.outside schema.now (R.view script.old).left) }
     ensures read_out { OnOk result.outcome (IsReadOut (R.view script.old) (R.view script.new)) }
     // Where it stopped with an error, what was told by then, and which commit stands.
-    ensures stops { IfErr result.outcome (StopsReplay O.Directory outside result.outside schema.now
-        (R.view script.old) (R.view script.new)) }
+    ensures stops { IfErr result.outcome (StopsReplay O.told
+        (replay_call O.Directory outside result.outside schema.now
+        (R.view script.old) (R.view script.new))) }
     // Where it is told a valid schema, a valid script and a sound start, no lock is held, and no call but
     // deletes is refused, it comes to its end, or wants memory.
     ensures complete { IsUndisturbed O.Directory outside schema.now (R.view script.old)
         (R.view script.new) result
         → IfErr result.outcome (λ error. error ≡ TantivyError.Memory) }
-    ensures faults { ReplayFaults O.Directory outside schema.now (R.view script.old)
-        (R.view script.new) result }
+    ensures faults { ReplayFaults O.told
+        (replay_call O.Directory outside result.outside schema.now
+        (R.view script.old) (R.view script.new))
+        result.outcome }
     ensures frame { ReplayFrame O.told (O.view outside) (O.view result.outside) }
 {
     let mut store = match IndexStore::open(alloc, outside, schema) {

@@ -13,20 +13,20 @@ use Rattle.tv_formats.specs.Names.{meta_name}
 use Rattle.tv_machine.proofs.Changes.{lifted}
 use Rattle.tv_formats.specs.Files.{Rose}
 use Rattle.tv_formats.specs.Collections.{no_collections}
+use Rattle.tv_formats.proofs.Results.{on_err}
 use Rattle.tv_machine.specs.State.{Catalog, State, StepResult, no_readers, on_catalog}
 use Rattle.tv_machine.specs.CommitEvents.{commit_step}
 use Rattle.tv_machine.specs.Machine.{catalog_step, step}
 use Rattle.tv_machine.specs.Readable.{ReadsGood}
 use Rattle.tv_machine.specs.declared.event.Event.{Event}
 use Rattle.tv_machine.specs.declared.event.Event.TheVariants as events
-use Rattle.tv_store.proofs.Results.{on_err}
 use Rattle.tv_store.specs.Kept.{KeptState, StoreState, Holds, AtMost}
 use Rattle.tv_store.specs.Exhausted.{IsExhausted, SpendsSearcher}
 use Rattle.tv_store.specs.ReaderNumbers.{FewNumbers}
 use Rattle.tv_store.specs.StoreCauses.{IsBusy}
 use Rattle.tv_store.specs.Effects.{TakesMetaLock, written_by}
-use Rattle.tv_store.specs.ReadCauses.{IsReadError}
-use Rattle.tv_store.specs.Applying.{Stepped, ActCause, ApplyFaults, AsksNoFile, GoneAt, LeavesAlone, MayNoteAt, RefusedAt, UnloadedAt, WritesByStep}
+use Rattle.tv_store.specs.ReadCauses.{IsReadError, ReadFacts}
+use Rattle.tv_store.specs.Applying.{Stepped, ActCause, ApplyFaults, AsksNoFile, LeavesAlone, MayNoteAt, UnloadedAt, WritesByStep, event_facts}
 use Rattle.tv_store.specs.Stays.{Asks, Stays, KeepsDotted, KeepsReaders, EventFaults}
 use Rattle.tv_store.specs.Committing.{Commits}
 use Rattle.tv_store.specs.FileCalls.{GcFaults}
@@ -105,8 +105,7 @@ module _ {O W C : Type 0} (g : Ghosts O W C) (old new : StoreState O) (event sho
     free = λ told takes. absurd (free takes);
     reads = λ told. reads_none (List ℕ) RefusedOne RefusedNone spent ((g.view old.outside).locks meta_lock_name ≡ false) result faults.cause;
     cause =
-        cause_in (List ℕ) (TakesMetaLock old.kept.catalog shown × IsBusy g.told.locks ((g.view old.outside).locks meta_lock_name ≡ true) RefusedOne) RefusedOne RefusedNone spent (IsExhausted old.kept shown)
-        (UnloadedAt g old new shown) (RefusedAt g old shown) (λ path. GoneAt g old shown) result faults.cause all.0;
+        cause_in (List ℕ) (event_facts g (IsExhausted old.kept shown) old new shown) spent (UnloadedAt g old new shown) result faults.cause all.0;
   }
 
   -- one that begins a collection
@@ -117,11 +116,14 @@ module _ {O W C : Type 0} (g : Ghosts O W C) (old new : StoreState O) (event sho
     free = λ told takes. faults.free told;
     reads = λ told. locks_none (List ℕ) Busy RefusedOne RefusedNone spent ((g.view old.outside).locks meta_lock_name ≡ false) result faults.cause;
     cause =
-        takes_lock_in (List ℕ) Busy (TakesMetaLock old.kept.catalog shown) RefusedOne RefusedNone (IsExhausted old.kept shown) (UnloadedAt g old new shown) (RefusedAt g old shown) (λ path. GoneAt g old shown) result takes
-        (locking_cause_in (List ℕ) Busy RefusedOne RefusedNone spent (IsExhausted old.kept shown) (UnloadedAt g old new shown) (RefusedAt g old shown) (λ path. GoneAt g old shown) result faults.cause all.0);
+        takes_lock_in (List ℕ) (TakesMetaLock old.kept.catalog shown) facts (UnloadedAt g old new shown) result takes
+        (locking_cause_in (List ℕ) facts spent (UnloadedAt g old new shown) result faults.cause all.0);
   } where
     Busy : Type 0
     Busy = IsBusy g.told.locks ((g.view old.outside).locks meta_lock_name ≡ true) RefusedOne
+
+    facts : ReadFacts
+    facts = record (event_facts g (IsExhausted old.kept shown) old new shown) { busy = Busy }
 
   step_alone : IsNoCommit shown → ((s : State) → ReadsGood s shown) → OnlyReads g.told (g.view old.outside) (g.view new.outside) → StepsTo g old new (λ s. step s shown []) result → Steps
   step_alone none good below h = stepped g old new shown none (λ s. step s shown []) result below.kept.frame.tells_none.deletes_none.refusals (λ s. refl) good (left_alone g below) h

@@ -1,9 +1,22 @@
--- How long the line of a collection is.
-use Rattle.std.proofs.Common.{◌≡◌, ◌≤◌, ◌+◌, ℕ, Bool, true, false, not, cond, List, [], ◌∷◌, ◌++◌, length, codes, refl, arith, length-append}
-use Rattle.tv_formats.specs.Collections.{collectable, done_of, failed_of}
+-- How long the line of a collection is, and how many names it has.
+use Rattle.std.proofs.Common.{◌≡◌, ◌≤◌, ◌<◌, ◌+◌, ◌^◌, ℕ, Bool, true, false, true≢false, not, ◌&&◌, ◌||◌, cond, List, [], ◌∷◌, ◌++◌, filter, length, codes, decimal, string_bytes, refl, sym, ap, ◌∙◌, arith, append_assoc, length-append}
+use Rattle.std.specs.List.Sorted.{IsStrictlySortedBy}
+use Rattle.std.specs.Cmp.Lexicographic.{texts_ties}
+use Rattle.std.proofs.lemmas.Fmt.{length-decimal-le}
+use Rattle.std.proofs.lemmas.List.{length-map}
+use Rattle.std.proofs.lemmas.List.Filters.{length-filter_both}
+use Rattle.tv_formats.specs.Collections.{collectable, done_of, failed_of, held, without}
 use Rattle.tv_machine.specs.CollectionEvents.{collected_line}
 use Rattle.tv_machine.specs.Lines.{line}
-use Rattle.tv_formats.specs.Names.{has}
+use Rattle.tv_formats.specs.Names.{byte_cmp, has, is}
+use Rattle.tv_formats.specs.Files.{has_no_feed}
+use Rattle.tv_formats.proofs.NoFeeds.{no_feed_append}
+use Rattle.tv_formats.proofs.CollectedNames.{has_without}
+use Rattle.tv_formats.proofs.Entries.{at_itself, is_by_order, is_text, below_absent}
+use Rattle.tv_directory.specs.declared.directory.Directory.{Ghosts}
+use Rattle.tv_managed.specs.Collecting.{Tries, taken_by}
+use Rattle.tv_managed.specs.Names.{ManagedNames}
+use Rattle.tv_managed.specs.declared.collection.GarbageCollectionResult.{GarbageCollectionResult}
 
 -- how long words are, each behind a space
 abbrev words_len : List (List ℕ) → ℕ
@@ -13,6 +26,37 @@ words_len (word ∷ words) = (length word + 1) + words_len words
 line_len : (text : List ℕ) (words : List (List ℕ)) → length (line text words) ≡ length text + words_len words
 line_len text [] = omega arith
 line_len text (word ∷ words) = omega (arith, line_len (text ++ 32 ∷ word) words, length-append text (32 ∷ word))
+
+-- what a line begins with is no longer than the line
+pub begun_fits : (text : List ℕ) (words : List (List ℕ)) → length text ≤ length (line text words)
+begun_fits text words = omega (arith, line_len text words)
+
+line_behind : (front text : List ℕ) (words : List (List ℕ)) → line (front ++ text) words ≡ front ++ line text words
+line_behind front text [] = refl
+line_behind front text (word ∷ words) = ap (λ (t : List ℕ). line t words) (append_assoc front text (32 ∷ word)) ∙ line_behind front (text ++ 32 ∷ word) words
+
+-- the line of a collection, as it is written
+pub written_line : (done failed : List (List ℕ)) → line (line (codes "gc deleted") done ++ 32 ∷ codes "failed") failed ≡ collected_line done failed
+written_line done failed =
+    line_behind (line (codes "gc deleted") done) (32 ∷ codes "failed") failed
+    ∙ ap (λ (t : List ℕ). line (codes "gc deleted") done ++ t) (line_behind (32 ∷ []) (codes "failed") failed)
+
+-- so each part of it is no longer than the whole
+pub parts_fit : (done failed : List (List ℕ)) → (length (line (codes "gc deleted") done ++ 32 ∷ codes "failed") ≤ length (collected_line done failed)) × (length (line (codes "gc deleted") done) ≤ length (collected_line done failed))
+parts_fit done failed =
+    let first = line (codes "gc deleted") done in
+    let both : length (first ++ 32 ∷ codes "failed") ≤ length (collected_line done failed) =
+    omega (arith, begun_fits (first ++ 32 ∷ codes "failed") failed, ap (λ (t : List ℕ). length t) (written_line done failed)) in
+    (both, omega (arith, both, length-append first (32 ∷ codes "failed")))
+
+-- a vector without length has nothing in it
+pub nothing_in : (items : List ℕ) → length items ≡ 0 → items ≡ []
+nothing_in [] none = refl
+nothing_in (x ∷ items) none = absurd (omega (arith, none))
+
+-- no line feed comes with one more word
+pub word_feeds : (text word : List ℕ) → has_no_feed text ≡ true → has_no_feed word ≡ true → has_no_feed (text ++ 32 ∷ word) ≡ true
+word_feeds text word h k = no_feed_append text (32 ∷ word) h k
 
 -- each name is told once, as done or as failed
 tried_len : (names : List (List ℕ)) (outcomes : List Bool) → words_len (done_of names outcomes) + words_len (failed_of names outcomes) ≡ words_len names
@@ -48,3 +92,82 @@ collected_len needed managed outcomes =
       tried_len names outcomes,
       taken_len needed managed,
     )
+
+-- ---- the line of a collection that began
+
+-- what is left of names without one of them is shorter by that
+one_less : (x : List ℕ) (names : List (List ℕ)) → has names x ≡ true → (length x + 1) + words_len (without (x ∷ []) names) ≤ words_len names
+one_less x [] h = absurd (true≢false (sym h))
+one_less x (y ∷ names) h =
+    elim (is x y) as (λ b. is x y ≡ b → (length x + 1) + words_len (cond (not (b || false)) (y ∷ without (x ∷ []) names) (without (x ∷ []) names)) ≤ (length y + 1) + words_len names) [
+      | true ↦ λ e.
+          let fewer : words_len (without (x ∷ []) names) ≤ words_len names = taken_len (x ∷ []) names in
+          omega (arith, ap (λ (t : List ℕ). length t) (is_text x y e), fewer)
+      | false ↦ λ e.
+          let other : is y x ≡ false = is_by_order x y ∙ sym (texts_ties x y) ∙ e in
+          let later : has names x ≡ true = ap (λ (b : Bool). b || has names x) (sym other) ∙ h in
+          omega (arith, one_less x names later)
+    ] refl
+
+-- names in their order that are all among others are no longer than those
+words_few : (names all : List (List ℕ)) → IsStrictlySortedBy byte_cmp names → ((n : List ℕ) → has names n ≡ true → has all n ≡ true) → words_len names ≤ words_len all
+unfolding IsStrictlySortedBy
+words_few [] all o within = omega arith
+words_few (x ∷ names) all o within =
+    let itself : has (x ∷ names) x ≡ true = ap (λ (b : Bool). b || has names x) (is_by_order x x ∙ at_itself x) in
+    omega (arith, one_less x all (within x itself), words_few names (without (x ∷ []) all) o.1 (λ n h. has_without (x ∷ []) all n ∙ other n h)) where
+      other : (n : List ℕ) → has names n ≡ true → (not (has (x ∷ []) n) && has all n) ≡ true
+      other n h =
+          elim (is x n) as (λ b. is x n ≡ b → (not (b || false) && has all n) ≡ true) [
+            | true ↦ λ e. absurd (true≢false (sym h ∙ ap (has names) (sym (is_text x n e)) ∙ below_absent names x o.0))
+            | false ↦ λ e. within n (elim (is x n) as (λ b. (b || has names n) ≡ true) [ true ↦ refl | false ↦ h ])
+          ] refl
+
+-- that line too is hardly longer than the one of the managed names
+pub begun_len : (number : ℕ) (needed managed names : List (List ℕ)) → number < 2 ^ 64 → IsStrictlySortedBy byte_cmp names → ((n : List ℕ) → has names n ≡ has (collectable needed managed) n)
+    → length (line (codes "gc") (decimal number ∷ names)) ≤ length (line (codes "managed") managed) + 16
+begun_len number needed managed names small sorted same =
+    let first : length (codes "gc") ≡ 2 = refl in
+    let all : length (codes "managed") ≡ 7 = refl in
+    let few : number < 10 ^ 20 = omega (arith, small) in
+    let digits : length (decimal number) ≤ 20 = length-decimal-le 20 number (omega arith) few small in
+    let text : length (line (codes "gc") (decimal number ∷ names)) ≡ length (codes "gc") + ((length (decimal number) + 1) + words_len names) = line_len (codes "gc") (decimal number ∷ names) in
+    omega (
+      arith,
+      text,
+      digits,
+      line_len (codes "managed") managed,
+      words_few names (collectable needed managed) sorted (λ n h. sym (same n) ∙ h),
+      taken_len needed managed,
+    )
+
+-- ---- how many names there are
+
+done_few : (names : List (List ℕ)) (outcomes : List Bool) → length (done_of names outcomes) ≤ length names
+done_few [] outcomes = omega arith
+done_few (name ∷ names) [] = omega arith
+done_few (name ∷ names) (true ∷ outcomes) = omega (arith, done_few names outcomes)
+done_few (name ∷ names) (false ∷ outcomes) = omega (arith, done_few names outcomes)
+
+failed_few : (names : List (List ℕ)) (outcomes : List Bool) → length (failed_of names outcomes) ≤ length names
+failed_few [] outcomes = omega arith
+failed_few (name ∷ names) [] = omega arith
+failed_few (name ∷ names) (true ∷ outcomes) = omega (arith, failed_few names outcomes)
+failed_few (name ∷ names) (false ∷ outcomes) = omega (arith, failed_few names outcomes)
+
+taken_few : (needed managed : List (List ℕ)) → length (collectable needed managed) ≤ length managed
+taken_few needed managed =
+    let both : length (collectable needed managed) + length (filter (λ name. not (not (has needed name))) managed) ≡ length managed =
+    length-filter_both (λ name. not (has needed name)) (λ name. not (not (has needed name))) (λ name. refl) managed in
+    omega (arith, both)
+
+-- a collection tells no more names of either kind than were managed
+pub told_few : {D W C : Type 0} (g : Ghosts D W C) (living : List (List ℕ)) (old new : D × ManagedNames) (result : GarbageCollectionResult) → Tries g (taken_by living old.1) old new result
+    → (length result.deleted_files.items ≤ length old.1.managed) × (length result.failed_to_delete_files.items ≤ length old.1.managed)
+told_few g living old new result told =
+    let taken : length (taken_by living old.1) ≤ length old.1.managed = taken_few (living ++ held old.1.collections) old.1.managed in
+    let deleted : length result.deleted_files.items ≡ length (done_of (taken_by living old.1) told.outcomes) =
+    sym (length-map result.deleted_files.items string_bytes) ∙ ap (λ (ns : List (List ℕ)). length ns) told.deleted in
+    let failed : length result.failed_to_delete_files.items ≡ length (failed_of (taken_by living old.1) told.outcomes) =
+    sym (length-map result.failed_to_delete_files.items string_bytes) ∙ ap (λ (ns : List (List ℕ)). length ns) told.failed in
+    (omega (arith, taken, deleted, done_few (taken_by living old.1) told.outcomes), omega (arith, taken, failed, failed_few (taken_by living old.1) told.outcomes))

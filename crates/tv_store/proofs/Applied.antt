@@ -3,8 +3,8 @@ use Rattle.std.proofs.Common.{ℕ, ◌≡◌, ◌≤◌, ◌+◌, ◌∙◌, inl
 use Rattle.std.specs.Prelude.{IfErr, IfSome, IsSome, Result, is_ok}
 use Rattle.tv_base.specs.declared.error.TantivyError.{TantivyError}
 use Rattle.tv_base.specs.declared.error.TantivyError.TheVariants as errors
-use Rattle.tv_directory.specs.View.{OnlyReads, OnlyTells, Told as ToldParts, View}
-use Rattle.tv_directory.specs.ViewLaws.{deletes_then, goes_then}
+use Rattle.tv_directory.specs.View.{OnlyReads, OnlyTells}
+use Rattle.tv_directory.specs.ViewLaws.{goes_then}
 use Rattle.tv_directory.specs.Watch.{WatchState}
 use Rattle.tv_directory.specs.declared.directory.Directory.{Ghosts}
 use Rattle.tv_formats.specs.Files.{Heard, Rose, RoseBy}
@@ -37,7 +37,7 @@ use Rattle.tv_store.specs.Telling.{TellsAnswer, TellsFirstPart, TellsNoLine, Tri
 use Rattle.tv_store.proofs.Holding.{same_holds}
 use Rattle.tv_store.proofs.LoadedCommits.{damaged_holds_none, other_holds_none}
 use Rattle.tv_store.proofs.FewNumbers.{few_below}
-use Rattle.tv_store.proofs.CheckedFiles.{reads_tells}
+use Rattle.tv_store.proofs.CheckedFiles.{reads_tells, tells_behind}
 use Rattle.tv_store.proofs.Steps.{longer}
 
 -- a store that isn't open, since an event is being applied to it
@@ -57,15 +57,6 @@ module _ {O W C : Type 0} (g : Ghosts O W C) (old mid : StoreState O) (event : E
   faults_failed = record { quiet = tt; free = λ told takes. tt; fits = tt; reads = acted.faults.reads; cause = acted.faults.cause }
 
 -- ---- what each event keeps
-
--- a call that tells comes after one that only reads
-tells_after : {W : Type 0} {told : ToldParts} {first next last : View W} → OnlyReads told first next → OnlyTells told next last → OnlyTells told first last
-tells_after before after = record {
-  deletes_none = deletes_then before.kept.frame.tells_none.deletes_none after.deletes_none;
-  locks = λ t n. after.locks t n ∙ before.kept.frame.locks t n;
-  watched = after.watched ∙ before.kept.watched;
-  content = λ t n. after.content t n ∙ before.content t n;
-}
 
 module _ {O W C : Type 0} (g : Ghosts O W C) (old mid : StoreState O) (event : Event) (acted_result : Result (List ℕ) TantivyError) (acted : Acts g (closed old) mid event acted_result)
     (alone : IsSome (catalog_step old.kept.catalog old.kept.managed event) → AsksNoFile (OnlyReads g.told) g (closed old) mid acted_result) where
@@ -90,7 +81,7 @@ module _ {O W C : Type 0} (g : Ghosts O W C) (old mid : StoreState O) (event : E
     watched = subst (λ (w : WatchState). MayNoteAt event (g.view old.outside).watched w) (sym told.watched) acted.frame.below.watched;
     form = ap (λ (k : KeptState). k.form) kept ∙ acted.frame.form;
     dotted = λ t n dot other. told.content t n ∙ acted.dotted t n dot other;
-    alone = λ some. record { below = tells_after (alone some).below told; error = unread };
+    alone = λ some. record { below = tells_behind (alone some).below told; error = unread };
     is_open = is_open;
   }
 

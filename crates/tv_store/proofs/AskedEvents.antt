@@ -6,7 +6,7 @@ use Rattle.tv_base.specs.declared.error.TantivyError.TheVariants as errors
 use Rattle.tv_directory.specs.View.{MayDelete, OnlyReads, Told, View}
 use Rattle.tv_directory.specs.declared.directory.Directory.{Ghosts}
 use Rattle.tv_formats.specs.Names.{meta_name}
-use Rattle.tv_store.proofs.Results.{on_err}
+use Rattle.tv_formats.proofs.Results.{on_err}
 use Rattle.tv_store.specs.Acting.{OnFiles}
 use Rattle.tv_store.specs.Kept.{KeptState, StoreState}
 use Rattle.tv_store.specs.Stays.{Asks, AsksOrFails}

@@ -1,6 +1,6 @@
 -- What an event does that reads a commit's files, as far as it only asked its directory.
 use Rattle.std.proofs.Common.{◌≡◌, ◌<◌, List, ℕ, length, Result, Ok, Err, sym, ap, subst}
-use Rattle.std.specs.Prelude.{IfOk, IsErr, IsErrAnd}
+use Rattle.std.specs.Prelude.{IfOk, IsErrAnd}
 use Rattle.tv_base.specs.declared.error.TantivyError.{TantivyError}
 use Rattle.tv_base.specs.declared.error.TantivyError.TheVariants as errors
 use Rattle.tv_directory.specs.View.{OnlyReads}
@@ -10,11 +10,6 @@ use Rattle.tv_store.specs.Acting.{OnReading}
 use Rattle.tv_store.specs.Kept.{AtMost, KeptState, StoreState}
 use Rattle.tv_store.specs.SnapshotCalls.{ReadingFaults}
 use Rattle.tv_store.specs.Stays.{Asks}
-
--- nothing is answered
-pub no_answer : {A E : Type 0} (result : Result A E) (P : A → Type 0) → IsErr result → IfOk result P
-no_answer (Ok a) P h = absurd cc
-no_answer (Err e) P h = tt
 
 pub only_reads : {O W C : Type 0} (g : Ghosts O W C) (old new : StoreState O) (result : Result (List ℕ) TantivyError) → IfOk result (λ answer. length answer < (g.view new.outside).room) → Asks (OnlyReads g.told) g.view old new → OnReading g old new result
 only_reads g old new result room asks = record {

@@ -1,6 +1,7 @@
 -- What two calls leave alone, one after the other.
-use Rattle.std.proofs.Common.{◌≡◌, ◌∙◌}
+use Rattle.std.proofs.Common.{ℕ, ◌≡◌, Result, ◌∙◌}
 use Rattle.tv_machine.specs.State.{Catalog}
+use Rattle.tv_directory.specs.Calls.{MakesRoom}
 use Rattle.tv_directory.specs.View.{View, Told, OnlyReads}
 use Rattle.tv_directory.specs.ViewLaws.{reads_then}
 use Rattle.tv_store.specs.Kept.{FilesState, StoreState, kept_of}
@@ -21,4 +22,11 @@ asks_later before after = record {
   kept = after.kept ∙ before.kept;
   standing = after.standing ∙ before.standing;
   below = reads_then before.below after.below;
+}
+
+-- making room only asks
+pub asked_files : {A E O W : Type 0} {told : Told} {view : O → View W} {len : ℕ} {result : Result A E} {old new : FilesState O} → KeepsFiles (MakesRoom told len result) view old new → KeepsFiles (OnlyReads told) view old new
+asked_files h = record {
+  managed = record { form = h.managed.form; names = h.managed.names; collections = h.managed.collections; left = h.managed.left; below = h.managed.below.frame };
+  open_files = h.open_files;
 }

@@ -18,13 +18,13 @@ use Rattle.tv_formats.proofs.Numbered.{put_found}
 -- ---- files
 
 -- a file that was put is there
-put : (s : State) (name : List ℕ) (file : FileState) → file_at (with_file s name file) name ≡ Some file
-put s name file = lookup_put s.files name name file ∙ ap (λ (here : Bool). cond here (Some file) (file_at s name)) (at_itself name)
+pub file_put : (s : State) (name : List ℕ) (file : FileState) → file_at (with_file s name file) name ≡ Some file
+file_put s name file = lookup_put s.files name name file ∙ ap (λ (here : Bool). cond here (Some file) (file_at s name)) (at_itself name)
 
 -- one that wasn't there is open
 pub opened_anew : (s : State) (name : List ℕ) → is_some (file_at s name) ≡ false → (opened s name).1 ≢ s
 opened_anew s name gone same =
-    let there : is_some (file_at (opened s name).1 name) ≡ true = ap is_some (put s name (Open [])) in
+    let there : is_some (file_at (opened s name).1 name) ≡ true = ap is_some (file_put s name (Open [])) in
     true≢false (sym there ∙ ap (λ (t : State). is_some (file_at t name)) same ∙ gone)
 
 nothing_more : (body bytes : List ℕ) → length bytes + length body ≡ length body → bytes ≡ []
@@ -34,7 +34,7 @@ nothing_more body (b ∷ bytes) e = absurd (omega (arith, e))
 -- one that is open has more bytes, where there are some
 pub wrote_more : (s : State) (name bytes body : List ℕ) → written_to (file_at s name) ≡ Some body → bytes ≢ [] → (wrote s name bytes body).1 ≢ s
 wrote_more s name bytes body opened_is some same =
-    let now : written_to (file_at (wrote s name bytes body).1 name) ≡ Some (body ++ bytes) = ap written_to (put s name (Open (body ++ bytes))) in
+    let now : written_to (file_at (wrote s name bytes body).1 name) ≡ Some (body ++ bytes) = ap written_to (file_put s name (Open (body ++ bytes))) in
     let both : ◌≡◌ {A = Option (List ℕ)} (Some (body ++ bytes)) (Some body) = sym now ∙ ap (λ (t : State). written_to (file_at t name)) same ∙ opened_is in
     let one : body ++ bytes ≡ body = cc in
     some (nothing_more body bytes (omega (arith, ap length one, length-append body bytes)))
@@ -42,7 +42,7 @@ wrote_more s name bytes body opened_is some same =
 -- and one that is sealed isn't open
 pub sealed_now : (s : State) (name body : List ℕ) → written_to (file_at s name) ≡ Some body → (sealed_as s name body).1 ≢ s
 sealed_now s name body opened_is same =
-    let now : written_to (file_at (sealed_as s name body).1 name) ≡ None = ap written_to (put s name (SealedFile (sealed body))) in
+    let now : written_to (file_at (sealed_as s name body).1 name) ≡ None = ap written_to (file_put s name (SealedFile (sealed body))) in
     let both : ◌≡◌ {A = Option (List ℕ)} None (Some body) = sym now ∙ ap (λ (t : State). written_to (file_at t name)) same ∙ opened_is in
     absurd cc
 

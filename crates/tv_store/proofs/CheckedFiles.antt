@@ -20,7 +20,7 @@ use Rattle.tv_store.specs.Bodies.{ReadsGoodFile, RefusesAt}
 use Rattle.tv_store.specs.Kept.{FilesState}
 use Rattle.tv_store.specs.Making.{OpensCommit, ChecksFiles, ReadingCause}
 use Rattle.tv_store.specs.OpeningCauses.{IsFirstBad, MeetsMissing, MeetsRefused}
-use Rattle.tv_store.specs.ReadCauses.{ApplyCause}
+use Rattle.tv_store.specs.ReadCauses.{ApplyCause, reading_facts}
 use Rattle.tv_store.specs.Stays.{KeepsFiles}
 use Rattle.tv_store.specs.StoreCauses.{MakesNoFile}
 use Rattle.tv_store.specs.Telling.{TellsFirstPart, TellsNoLine}
@@ -33,12 +33,11 @@ first_bad first now names i name within at_i so_far = record { front = take i na
 pub unread_here : (tells : Type 0) (first now : Reads) (names : List (List ℕ)) (i : ℕ) (name : List ℕ) (start before after : ℕ) (error : TantivyError)
     → (tells → Same first now) → before ≡ start → i < length names → name ≡ get_or names i name
     → (tells → (n : List ℕ) → has (take i names) n ≡ true → ReadsGoodFile (first n))
-    → ApplyCause ⊥ (Rose before after) (after ≡ before) ⊥ (λ error. tells → RefusesAt now name error) (λ path. (path ≡ name) × (tells → now path ≡ None)) error
-    → ApplyCause ⊥ (Rose start after) (after ≡ start) ⊥ (λ error. tells → MeetsRefused first names error) (λ path. tells → MeetsMissing first names path) error
+    → ApplyCause (reading_facts (Rose before after) (after ≡ before) (λ error. tells → RefusesAt now name error) (λ path. (path ≡ name) × (tells → now path ≡ None))) error
+    → ApplyCause (reading_facts (Rose start after) (after ≡ start) (λ error. tells → MeetsRefused first names error) (λ path. tells → MeetsMissing first names path)) error
 unread_here tells first now names i name start before after error same quiet within at_i so_far h =
-    cause_weaker ⊥ (Rose before after) (after ≡ before) ⊥ ⊥ (Rose start after) (after ≡ start) ⊥
-    (λ error. tells → RefusesAt now name error) (λ error. tells → MeetsRefused first names error)
-    (λ path. (path ≡ name) × (tells → now path ≡ None)) (λ path. tells → MeetsMissing first names path) error
+    cause_weaker (reading_facts (Rose before after) (after ≡ before) (λ error. tells → RefusesAt now name error) (λ path. (path ≡ name) × (tells → now path ≡ None)))
+    (reading_facts (Rose start after) (after ≡ start) (λ error. tells → MeetsRefused first names error) (λ path. tells → MeetsMissing first names path)) error
     (λ never. never) (λ rose. subst (λ (x : ℕ). Rose x after) quiet rose) (λ still. still ∙ quiet) (λ never. never)
     (λ error b t. (name, first_bad first now names i name within at_i (so_far t), record { bytes = (b t).bytes; there = sym (same t name) ∙ (b t).there; why = (b t).why; no_body = (b t).no_body }))
     (λ path a t. (subst (IsFirstBad first names) (sym a.0) (first_bad first now names i name within at_i (so_far t)), sym (same t path) ∙ a.1 t)) h

@@ -29,6 +29,14 @@ all_stay : {X : Type 0} (entries : List (List ℕ × X)) → filter (λ e. not (
 all_stay [] = refl
 all_stay {X} (e ∷ entries) = ap (λ (es : List (List ℕ × X)). e ∷ es) (all_stay entries)
 
+-- the collection that began is there
+pub begun_there : {O : Type 0} (number : ℕ) (needed : List (List ℕ)) (old new : FilesState O) → BeginsCollection number needed old new
+    → collection_at new.collections number ≡ Some (begun (collectable (needed ++ held old.collections) old.managed))
+begun_there number needed old new told =
+    let taken = collectable (needed ++ held old.collections) old.managed in
+    ap (λ (k : Collections). collection_at k number) told.collections ∙ ap (collection_at (with_begun old.collections taken)) told.number_is
+    ∙ put_found old.collections.unfinished old.collections.next (begun taken)
+
 -- other collections, and nothing else
 recollected : (reads : Reads) (kept : KeptState) (s : State) (collections : Collections) → Holds reads kept s → Holds reads (record kept { collections = collections }) (record s { collections = collections })
 recollected reads kept s collections h = record {
@@ -159,7 +167,7 @@ refused_deleting g old new told word (Ok answer) said asks steps = record {
           held = subst (λ (t : StepResult State). Holds (g.view new.outside).reads new.kept t.1) (sym is)
               (same_holds (g.view old.outside).reads (g.view new.outside).reads old.kept new.kept s (asks.frame.below.content tells) asks.frame.kept held);
         };
-        same = λ by_step stays. asks.frame.below.content tells;
+        same = λ stays. asks.frame.below.content tells;
       };
 }
 refused_deleting g old new told word (Err error) said asks steps = tt

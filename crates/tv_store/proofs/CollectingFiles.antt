@@ -13,6 +13,7 @@ use Rattle.tv_machine.specs.Machine.{refused_in}
 use Rattle.tv_formats.specs.Names.{has, is, is_plain, is_undotted, meta_name, at}
 use Rattle.tv_formats.proofs.CollectedNames.{done_within, has_append}
 use Rattle.tv_formats.proofs.Entries.{is_text, isnt_one}
+use Rattle.tv_formats.proofs.Options.{some_value}
 use Rattle.tv_machine.proofs.Collects.{failed_within}
 use Rattle.tv_directory.specs.declared.directory.Directory.{Ghosts}
 use Rattle.tv_managed.specs.Collecting.{EndsCollection as EndsManaged}
@@ -80,10 +81,6 @@ end_cause refused quiet errors.Memory cause free = cause
 end_cause refused quiet errors.Exhausted cause free = absurd cause
 end_cause refused quiet other cause free = absurd cause
 
-some_of : {X : Type 0} (o : Option X) → IsSome o → (x : X) × (o ≡ Some x)
-some_of None h = absurd cc
-some_of (Some x) h = (x, refl)
-
 -- what a collection has done isn't `meta.json`, where that isn't held
 done_spares : (collections : Collections) (number : ℕ) (c : Collection) → collection_at collections number ≡ Some c → has (held collections) meta_name ≡ false → has c.done meta_name ≡ false
 done_spares collections number c there spared =
@@ -94,13 +91,13 @@ module _ {O W C : Type 0} (g : Ghosts O W C) (number : ℕ) (old : FilesState O)
   -- a collection ended, and `meta.json` isn't held
   pub end_spares : (new : O × ManagedNames) (result : GarbageCollectionResult) → EndsManaged {E = TantivyError} g number first new (Ok result) → has (held new.1.collections) meta_name ≡ false
   end_spares new result ends =
-      let c = some_of _ some in
+      let c = some_value _ some in
       let did = (subst (λ o. EndsManaged {E = TantivyError} g number o new (Ok result)) same ends).ok c.0 c.1 in
       ap (λ names. has (held names.collections) meta_name) did.names ∙ never _ (has (held old.collections) meta_name) (held_ended meta_name old.collections number) spared
 
   pub ends_so : (new : FilesState O) (result : GarbageCollectionResult) → EndsManaged {E = TantivyError} g number first (names_below new) (Ok result) → FinishesCollection g number old new
   ends_so new result ends =
-      let c = some_of _ some in
+      let c = some_value _ some in
       let whole = subst (λ o. EndsManaged {E = TantivyError} g number o (names_below new) (Ok result)) same ends in
       let did = whole.ok c.0 c.1 in
       record {
@@ -137,7 +134,7 @@ pub tried_next : {D W C : Type 0} (g : Ghosts D W C) (number : ℕ) (step given 
 tried_next g number step given named old new first same is telling some steps =
     let c = next_of (collection_at first.1.collections number) some in
     let n = first_of c.0.untried c.2 in
-    let did = (subst (λ s. Steps g number first new (Ok s)) is (subst (λ o. Steps g number o new (Ok step)) same steps)).ok c.0 n.0 n.1 c.1 n.2 in
+    let did = (subst (λ s. Steps g number first new (Ok s)) is (subst (λ o. Steps g number o new (Ok step)) same steps)).ok (record { collection = c.0; name = n.0; left = n.1; there = c.1; first = n.2 }) in
     subst (λ (name : List ℕ). Next g number name (is_done given) first new) (sym (telling ∙ did.told)) (record {
       collection = c.0;
       left_names = n.1;

@@ -4,7 +4,7 @@ use Rattle.std.specs.List.{AllByRecursion}
 use Rattle.std.specs.BTreeMap.{is_at}
 use Rattle.tv_formats.specs.declared.segment.LiveSegment.{LiveSegment}
 use Rattle.tv_formats.specs.Names.{byte_cmp, is, has, meta_name, at}
-use Rattle.tv_formats.specs.Files.{Reads, RoseBy}
+use Rattle.tv_formats.specs.Files.{RoseBy}
 use Rattle.tv_formats.specs.Listing.{IsListFile, Listing}
 use Rattle.tv_formats.specs.Collections.{Collections, done_of, failed_of, collectable, held, without}
 use Rattle.tv_machine.specs.Living.{living}
@@ -18,7 +18,7 @@ use Rattle.tv_formats.proofs.CollectedNames.{has_append, has_without, at_without
 use Rattle.tv_machine.proofs.CollectionStates.{living_spared, meta_living, at_left}
 use Rattle.tv_directory.specs.declared.directory.Directory.{Ghosts}
 use Rattle.tv_managed.specs.Collecting.{FailsAtMost}
-use Rattle.tv_store.specs.FileCalls.{Tried, Collects, LeavesFiles}
+use Rattle.tv_store.specs.FileCalls.{TriesNames, Collects, LeavesFiles}
 use Rattle.tv_store.specs.Kept.{FilesState, Holds, FileHolds, is_left, kept_of}
 use Rattle.tv_store.proofs.OpenFiles.{all_left}
 use Rattle.tv_store.proofs.Listings.{undotted_isnt_list}
@@ -177,9 +177,9 @@ module _ {O W C : Type 0} (g : Ghosts O W C) (catalog : Catalog) (old new : File
       (left_holds (segment_names (id, segment)) (without_live s.catalog id) h (all_left IsSegment s.catalog.live (is_at (byte_cmp id)) h.segments) refl others told)
 
 -- how the count of refused deletes rose
-pub refusals_rose : (names before after deleted failed : List (List ℕ)) (tells : Type 0) (old new : Reads) (told : Tried names before after deleted failed tells old new) (start end : ℕ)
+pub refusals_rose : {O W C : Type 0} (g : Ghosts O W C) (names : List (List ℕ)) (old new : FilesState O) (deleted failed : List (List ℕ)) (told : TriesNames g names old new deleted failed) (start end : ℕ)
     → FailsAtMost (length failed) start end → RoseBy (refused_in told.outcomes) start end
-refusals_rose names before after deleted failed tells old new told start end h =
+refusals_rose g names old new deleted failed told start end h =
     let same = refused_is names told.outcomes told.each ∙ ap length (sym told.failed_is) in
     ⊎_elim (λ most. inl (omega (arith, most, same))) (λ full. inr (omega (arith, full))) h
 

@@ -20,12 +20,12 @@ use Rattle.tv_machine.specs.ReaderEvents.{bodies_in, reload_step, reloaded}
 use Rattle.tv_machine.specs.SearcherEvents.{bytes_step}
 use Rattle.tv_formats.specs.Segments.{name_of, num_docs}
 use Rattle.tv_machine.specs.SoundStates.{IsWhole}
-use Rattle.tv_machine.specs.State.{Catalog, FileState, Open, Reader, SealedFile, Snapshot, State, StepResult, file_at, live_at, on_catalog, reader_at, with_file}
+use Rattle.tv_machine.specs.State.{Catalog, FileState, Open, Reader, SealedFile, Snapshot, State, StepResult, live_at, on_catalog, reader_at, with_file}
 use Rattle.tv_machine.specs.declared.event.Event.{Event}
 use Rattle.tv_machine.specs.declared.event.Event.TheVariants as events
 use Rattle.tv_formats.specs.declared.segment.LiveSegment.{LiveSegment}
 use Rattle.tv_formats.specs.declared.segment.SegmentComponent.{SegmentComponent}
-use Rattle.tv_formats.proofs.Entries.{at_itself, lookup_put, text_at}
+use Rattle.tv_formats.proofs.Entries.{text_at}
 use Rattle.tv_formats.proofs.Numbered.{put_found}
 use Rattle.tv_machine.proofs.Required.{name_is_file}
 use Rattle.tv_machine.proofs.WholeStates.{after_whole}
@@ -33,8 +33,9 @@ use Rattle.tv_store.specs.Applying.{LeavesAlone, Stepped, WritesByStep}
 use Rattle.tv_store.specs.EventLaws.{HasLiving, HoldsSome}
 use Rattle.tv_store.specs.Kept.{FileHolds, Holds, StoreState}
 use Rattle.tv_store.specs.SnapshotCalls.{ShowsMeta}
-use Rattle.tv_store.proofs.FileEvents.{body_step, file_known}
+use Rattle.tv_store.proofs.FilesHeld.{body_step, file_known}
 use Rattle.tv_store.proofs.OpenFiles.{all_found}
+use Rattle.tv_store.proofs.Changed.{file_put}
 
 -- ---- a delete name that is taken
 
@@ -139,9 +140,6 @@ reload_shows c number bodies reader found =
 
 sealed_is : (read written : Option (List ℕ)) (bytes : List ℕ) (file : Option FileState) → file ≡ Some (SealedFile bytes) → FileHolds file read written → read ≡ Some bytes
 sealed_is read written bytes file is h = (subst (λ (o : Option FileState). FileHolds o read written) is h).0
-
-file_put : (s : State) (name : List ℕ) (file : FileState) → file_at (with_file s name file) name ≡ Some file
-file_put s name file = lookup_put s.files name name file ∙ ap (λ (is : Bool). cond is (Some file) (file_at s name)) (at_itself name)
 
 -- ---- the laws
 

@@ -1,5 +1,5 @@
 -- The index that an opening found is each one to which the directory opens, and its files hold that one's state.
-use Rattle.std.proofs.Common.{◌≡◌, ℕ, ◌<◌, ◌^◌, false, true, List, [], ◌∷◌, Option, Some, None, refl, sym, ap, ap₂, subst, ◌∙◌, arith}
+use Rattle.std.proofs.Common.{◌≡◌, ℕ, false, true, List, [], ◌∷◌, Option, Some, None, refl, sym, ap, ap₂, subst, ◌∙◌, arith}
 use Rattle.std.specs.Prelude.{IsSome, is_some, option_map}
 use Rattle.std.specs.List.Sorted.{IsStrictlySortedBy}
 use Rattle.std.specs.List.{AllByRecursion}
@@ -25,7 +25,6 @@ use Rattle.tv_formats.proofs.ReadPrinted.{printed_means}
 use Rattle.tv_formats.proofs.Required.{has_files_from}
 use Rattle.tv_machine.proofs.Required.{required_is_file}
 use Rattle.tv_machine.proofs.SoundOpenings.{opened_alike, opens_catalog}
-use Rattle.tv_formats.proofs.SpelledCommits as spelled_commits
 use Rattle.tv_store.specs.Bodies.{ReadsGoodFile}
 use Rattle.tv_store.specs.Kept.{FilesState, FileHolds, Holds, is_left, kept_of}
 use Rattle.tv_store.specs.Making.{FindsFiles}
@@ -163,7 +162,3 @@ module _ {O W C : Type 0} (g : Ghosts O W C) (locked : O) (schema text : List �
       },
       tt,
     )
-
--- what is meant is a commit, under settings that fit
-pub means_commit : (settings : Settings) (schema bytes : List ℕ) (commit : Commit) → Means settings schema bytes commit → IsCommit commit × (settings.blocksize < 2 ^ 64)
-means_commit = spelled_commits.means_commit

@@ -4,9 +4,9 @@ use Rattle.tv_formats.specs.Names.{is_undotted, meta_name, at}
 use Rattle.tv_formats.specs.Files.{Reads, Same}
 use Rattle.tv_machine.specs.State.{State, file_at}
 use Rattle.tv_managed.specs.Managed.{KeepsOtherFiles}
-use Rattle.tv_store.proofs.Listings.{listing_same}
 use Rattle.tv_store.specs.Kept.{KeptState, FileHolds, Holds}
 use Rattle.tv_store.specs.Stays.{KeepsDotted}
+use Rattle.tv_store.proofs.Listings.{listing_kept}
 
 -- where the same is read and kept, the same state is held
 pub same_holds : (old new : Reads) (was now : KeptState) (s : State) → Same old new → now ≡ was → Holds old was s → Holds new now s
@@ -20,7 +20,7 @@ same_holds old new was now s same is h =
       files = λ n file. subst (λ (read : Option (List ℕ)). FileHolds (file_at s n) read (at was.open_files n)) (sym (same n)) (h.files n file);
       left = h.left;
       meta = (h.meta.0, same meta_name ∙ h.meta.1, h.meta.2);
-      listing = listing_same old new s.managed same h.listing;
+      listing = listing_kept old new s.managed (λ n is. same n) h.listing;
       listed = h.listed;
     })
 

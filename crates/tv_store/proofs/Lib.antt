@@ -1,4 +1,3 @@
-pub mod Results
 pub mod Listings
 pub mod CollectionEvents
 pub mod OpenFiles
@@ -9,7 +8,10 @@ pub mod Held
 pub mod FileNames
 pub mod Named
 pub mod Changed
-pub mod FileEvents
+pub mod FilesHeld
+pub mod Planned
+pub mod Performing
+pub mod ActsPlanned
 pub mod ChosenSegments
 pub mod CommitEvents
 pub mod Lifting

@@ -1,6 +1,6 @@
 -- What the files of the list of managed files tell, and which names aren't theirs.
 use Rattle.std.proofs.Common.{◌≡◌, ◌≢◌, ℕ, List, Option, true, false, true≢false, refl, sym, ap, subst, ◌∙◌}
-use Rattle.tv_formats.specs.Files.{Reads, Same, KeepsOthers}
+use Rattle.tv_formats.specs.Files.{Reads, KeepsOthers}
 use Rattle.tv_machine.specs.Index.{IsFileOf}
 use Rattle.tv_formats.specs.Listing.{IsListFile, Listing, Lists}
 use Rattle.tv_formats.specs.Names.{is_undotted}
@@ -8,10 +8,6 @@ use Rattle.tv_formats.specs.Names.{is_undotted}
 -- where they read what they read, they tell the same names
 pub listing_kept : (old new : Reads) (names : List (List ℕ)) → ((n : List ℕ) → IsListFile n → new n ≡ old n) → Listing old names → Listing new names
 listing_kept old new names same h = subst (λ (read : Option (List ℕ)). Lists read names) (sym (same _ refl)) h
-
--- so it is where each name does
-pub listing_same : (old new : Reads) (names : List (List ℕ)) → Same old new → Listing old names → Listing new names
-listing_same old new names same h = listing_kept old new names (λ n is. same n) h
 
 -- their names have a dot in front
 pub list_is_dotted : (n : List ℕ) → IsListFile n → is_undotted n ≡ false

@@ -19,7 +19,7 @@ use Rattle.tv_formats.proofs.MeansOne.{means_no_other, means_one, means_somethin
 use Rattle.tv_store.specs.Applying.{HoldsNone, LacksIn}
 use Rattle.tv_store.specs.Bodies.{ReadsSegments}
 use Rattle.tv_store.specs.Kept.{KeptState, Holds}
-use Rattle.tv_store.specs.ReadCauses.{LoadingCause}
+use Rattle.tv_store.specs.ReadCauses.{LoadingCause, reading_facts}
 
 pub loaded_commit : {O W C : Type 0} (g : Ghosts O W C) (outside : O) (kept : KeptState) (s : State) (meta : UntrackedIndexMeta) → g.told.content
     → LoadsMeta g outside (Some kept.form.schema) meta → Holds (g.view outside).reads kept s → commit_of meta ≡ s.catalog.commit
@@ -56,7 +56,7 @@ module _ (tells : Type 0) (reads : Reads) (kept : KeptState) where
 
   -- why it isn't loaded, as a cause of an event
   pub loads_none : (refused quiet : Type 0) (error : TantivyError) → MetaCause tells (Some kept.form.schema) (reads meta_name) refused quiet error
-      → LoadingCause ⊥ refused quiet ⊥ (MetaCause tells (Some kept.form.schema) (reads meta_name) refused quiet) (LacksIn tells reads kept) (λ path. HoldsNone tells reads kept) error
+      → LoadingCause (reading_facts refused quiet (LacksIn tells reads kept) (λ path. HoldsNone tells reads kept)) (MetaCause tells (Some kept.form.schema) (reads meta_name) refused quiet) error
   loads_none refused quiet (errors.OpenReadError (read.FileDoesNotExist path)) h = (
     h.1.0,
     subst (λ (p : List ℕ). is_file_name p ≡ true) (sym h.0) refl,

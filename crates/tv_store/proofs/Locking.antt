@@ -21,11 +21,11 @@ use Rattle.tv_formats.specs.Sound.{FindsCommit}
 use Rattle.tv_machine.specs.Index.{FoundIndex}
 use Rattle.tv_formats.specs.Names.{meta_name}
 use Rattle.tv_formats.specs.Schemas.{IsSchema}
-use Rattle.tv_store.proofs.Listings.{listing_same}
 use Rattle.tv_store.specs.OpeningCauses.{IsLockedOut, OpeningCause, opening_facts}
 use Rattle.tv_store.specs.StoreCauses.{QuietBehind, RefusedBehind, writer_lock_name}
 use Rattle.tv_store.specs.UnderLock.{IsUnderLock, LockedOut, LockedOutCause, NotUnderLock, RefusesLock, Syncs}
 use Rattle.tv_store.proofs.Unfound.{found_cause, open_cause_at}
+use Rattle.tv_store.proofs.Listings.{listing_kept}
 
 -- ---- counts, where the call of the lock may be counted as refused
 
@@ -62,7 +62,7 @@ found_before schema now before same f = record {
   commit = f.commit;
   listed = f.listed;
   spelled = f.spelled;
-  listing = listing_same now before f.listed (λ n. sym (same n)) f.listing;
+  listing = listing_kept now before f.listed (λ n is. sym (same n)) f.listing;
   found = subst (λ read. FindsCommit f.form.schema read f.form.settings f.commit) (same meta_name) f.found;
 }
 

@@ -13,7 +13,7 @@ use Rattle.tv_machine.specs.Lines.{line}
 use Rattle.tv_formats.specs.Files.{has_no_feed}
 use Rattle.tv_formats.specs.Segments.{fresh_segment}
 use Rattle.tv_formats.proofs.Entries.{text_at}
-use Rattle.tv_formats.proofs.PlainNames.{both}
+use Rattle.tv_formats.proofs.PlainNames.{plain_head}
 use Rattle.tv_formats.proofs.NoFeeds.{no_feed_plain}
 
 -- ---- lines of names
@@ -25,14 +25,6 @@ line_more text (w ∷ words) word = line_more (text ++ 32 ∷ w) words word
 
 pub line_of_more : {X : Type 0} (f : X → List ℕ) (text : List ℕ) (xs : List X) (x : X) → line text (map f (xs ++ x ∷ [])) ≡ line text (map f xs) ++ 32 ∷ f x
 line_of_more f text xs x = ap (λ (ws : List (List ℕ)). line text ws) (map_push f xs x) ∙ line_more text (map f xs) (f x)
-
-pub map_twice : {X Y Z : Type 0} (f : Y → Z) (g : X → Y) (xs : List X) → map f (map g xs) ≡ map (λ x. f (g x)) xs
-map_twice f g [] = refl
-map_twice {Z = Z} f g (x ∷ xs) = ap (λ (l : List Z). f (g x) ∷ l) (map_twice f g xs)
-
--- the first of some plain names is one, and so are the others
-pub plain_head : (keys rest : List (String Global)) (name : String Global) → keys ≡ name ∷ rest → list_all is_plain (map string_bytes keys) ≡ true → (is_plain (string_bytes name) ≡ true) × (list_all is_plain (map string_bytes rest) ≡ true)
-plain_head keys rest name e h = both (is_plain (string_bytes name)) (list_all is_plain (map string_bytes rest)) (subst (λ (ks : List (String Global)). list_all is_plain (map string_bytes ks) ≡ true) e h)
 
 -- the first of some plain names has no line feed
 pub plain_first : (keys rest : List (String Global)) (name : String Global) → keys ≡ name ∷ rest → list_all is_plain (map string_bytes keys) ≡ true → (has_no_feed (string_bytes name) ≡ true) × (list_all is_plain (map string_bytes rest) ≡ true)

@@ -34,12 +34,12 @@ use Rattle.tv_store.specs.Kept.{KeptState, FilesState, Holds, StoreState, kept_o
 use Rattle.tv_store.specs.Making.{OpensCommit, FindsFiles, IsRefusedFirst, WritesNone}
 use Rattle.tv_store.specs.Opening.{LeavesIndex, Opens, OpeningFaults, OpeningFrame, OpensSafely, TakesWriterLock, TellsOpening}
 use Rattle.tv_store.specs.OpeningCauses.{CallFacts, IndexMissing, IndexRefused, IsFirstBad, IsSomeSchema, MeetsMissing, MeetsRefused, OpeningCause, opening_facts}
-use Rattle.tv_store.specs.ReadCauses.{ApplyCause, ReadFault}
+use Rattle.tv_store.specs.ReadCauses.{ApplyCause, ReadFault, reading_facts}
 use Rattle.tv_store.specs.Stays.{MayNotify}
 use Rattle.tv_store.specs.StoreCauses.{MakesNoFile, writer_lock_name}
 use Rattle.tv_store.specs.Telling.{TellsLine, TellsFirstPart, TellsNoLine}
 use Rattle.tv_store.specs.UnderLock.{FindsUnderLock, IsUnderLock}
-use Rattle.tv_formats.proofs.CollectedNames.{has_append}
+use Rattle.tv_formats.proofs.CollectedNames.{has_front}
 use Rattle.tv_formats.proofs.Required.{required_by_one}
 use Rattle.tv_machine.proofs.Required.{required_is_file}
 use Rattle.tv_store.proofs.Asking.{kept_by_files}
@@ -58,7 +58,7 @@ same_unopened old mid new schema h same = record {
 -- why the line wasn't told, as a cause of an opening
 begun_cause : (facts : CallFacts) (schema : List ℕ) (reads : Reads) (bad : OpenReadError → Type 0) (absent : List ℕ → Type 0) (error : TantivyError)
     → IsSomeSchema schema → (facts.tells → FoundIndex schema reads) → facts.free → ((e : OpenReadError) → bad e → facts.tells → IndexRefused schema reads e) → ((path : List ℕ) → absent path → facts.tells → IndexMissing schema reads path)
-    → (facts.refused → facts.refused_behind) → (facts.quiet → facts.quiet_behind) → MakesNoFile error → TakesNoLock error → ApplyCause ⊥ facts.refused facts.quiet ⊥ bad absent error → OpeningCause facts schema reads error
+    → (facts.refused → facts.refused_behind) → (facts.quiet → facts.quiet_behind) → MakesNoFile error → TakesNoLock error → ApplyCause (reading_facts facts.refused facts.quiet bad absent) error → OpeningCause facts schema reads error
 begun_cause facts schema reads bad absent (errors.OpenReadError error) is found free b a r q file lock h = (is, found, free, fault error h) where
   fault : (e : OpenReadError) → ReadFault facts.refused facts.quiet bad absent e → ReadFault facts.refused facts.quiet (λ e. facts.tells → IndexRefused schema reads e) (λ path. facts.tells → IndexMissing schema reads path) e
   fault (read.IoError why path) (inl k) = inl k
@@ -73,11 +73,8 @@ begun_cause facts schema reads bad absent errors.Exhausted is found free b a r q
 begun_cause facts schema reads bad absent errors.Memory is found free b a r q file lock h = q h
 begun_cause facts schema reads bad absent other is found free b a r q file lock h = absurd h
 
-has_front : (front rest : List (List ℕ)) (n : List ℕ) → has front n ≡ true → has (front ++ rest) n ≡ true
-has_front front rest n h = has_append front rest n ∙ rw h refl
-
 -- no argument and no bytes are refused behind the lock
-not_first : (refused quiet : Type 0) (bad : OpenReadError → Type 0) (absent : List ℕ → Type 0) (error : TantivyError) → IsRefusedFirst error → TakesNoLock error → ApplyCause ⊥ refused quiet ⊥ bad absent error → ⊥
+not_first : (refused quiet : Type 0) (bad : OpenReadError → Type 0) (absent : List ℕ → Type 0) (error : TantivyError) → IsRefusedFirst error → TakesNoLock error → ApplyCause (reading_facts refused quiet bad absent) error → ⊥
 not_first refused quiet bad absent (errors.InvalidArgument text) r l h = h
 not_first refused quiet bad absent (errors.DataCorruption why) r l h = h
 not_first refused quiet bad absent (errors.SchemaError text) r l h = h
@@ -246,7 +243,7 @@ module _ {O W C : Type 0} (g : Ghosts O W C) (outside : O) (schema : List ℕ) (
 
     pub opened_safely : g.tells_images → OpensSafely g outside schema (Ok begun)
     opened_safely t = record {
-      ok = makes_behind g (first_text begun.kept.form.schema) (LacksMeta g locked) (LacksMeta g outside) (lacked g under) (under.looks t) (made_begun t);
+      ok = makes_behind g (first_text begun.kept.form.schema) (lacked g under) (under.looks t) (made_begun t);
       tracks =
           subst (λ (k : KeptState). TracksFrom g outside (started.outside, record { managed = k.managed; collections = k.collections })) (sym kept_is)
           (tracks_then g (record { managed = files.managed; collections = files.collections }) (tracks_behind g (under.looks t) (f.makes t).1) (s.looks t));
@@ -314,8 +311,8 @@ module _ {O W C : Type 0} (g : Ghosts O W C) (outside : O) (schema : List ℕ) (
 
     -- why, as it is counted from before the opening on
     abbrev Counted : (before after : ℕ) → Type 0
-    Counted before after = ApplyCause ⊥ (Rose before after) (after ≡ before) ⊥ (λ e. g.told.content → MeetsRefused (g.view files.outside).reads (all_required catalog.commit.segments) e)
-        (λ path. g.told.content → MeetsMissing (g.view files.outside).reads (all_required catalog.commit.segments) path) error
+    Counted before after = ApplyCause (reading_facts (Rose before after) (after ≡ before) (λ e. g.told.content → MeetsRefused (g.view files.outside).reads (all_required catalog.commit.segments) e)
+        (λ path. g.told.content → MeetsMissing (g.view files.outside).reads (all_required catalog.commit.segments) path)) error
 
     counted : Counted (g.view outside).faults (g.view now).faults
     counted = subst (λ (n : ℕ). Counted n (g.view now).faults) quiet_yet (subst (Counted (g.view files.outside).faults) (sym frees.faults) failed.cause)
@@ -361,7 +358,7 @@ module _ {O W C : Type 0} (g : Ghosts O W C) (outside : O) (schema : List ℕ) (
       tracks = tt;
       err = λ text is.
           subst (λ (x : List ℕ). MayMake g (LacksMeta g outside) (first_text x) outside now) (u.spelled.text_is ∙ sym is.text_is)
-          (makes_behind g (first_text files.form.schema) (LacksMeta g locked) (LacksMeta g outside) (lacked g under) (under.looks t)
+          (makes_behind g (first_text files.form.schema) (lacked g under) (under.looks t)
           (makes_then g (first_text files.form.schema) (LacksMeta g locked) (f.makes t).0 (looks_then g (failed.looks t) (looks_kept g (keeps t)))));
       looks = λ none. absurd (never_late none);
     }

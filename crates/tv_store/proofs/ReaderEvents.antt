@@ -22,7 +22,7 @@ use Rattle.tv_machine.specs.Readable.{AreGoodFiles, CanRead, IsGoodFile, ReadsGo
 use Rattle.tv_machine.specs.ReaderEvents.{body_in, reload_step, reloaded, with_new_reader, with_reloaded}
 use Rattle.tv_formats.proofs.Entries.{is_itself, is_text}
 use Rattle.tv_formats.proofs.Bodies.{body_of_good}
-use Rattle.tv_formats.proofs.CollectedNames.{has_append}
+use Rattle.tv_formats.proofs.CollectedNames.{has_append, has_front}
 use Rattle.tv_formats.proofs.Required.{by_one}
 use Rattle.tv_machine.proofs.SoundStates.{sealed_is_some}
 use Rattle.tv_base.specs.Errors.{of_open_read}
@@ -39,7 +39,7 @@ use Rattle.tv_base.specs.declared.error.TantivyError.TheVariants as errors
 use Rattle.tv_framing.specs.Footers.{Refuses}
 use Rattle.tv_managed.specs.Reading.{HasNoBody, NamesFile, ReadsBody, OpenBodyCause, ReadsOther, ReadsRefused, ReadsSuch, SomeOther, SomeRefused}
 use Rattle.tv_store.specs.StoreCauses.{IsBusy, MakesNoFile, WriteFault}
-use Rattle.tv_store.specs.ReadCauses.{ReadFault, ApplyCause, LoadingCause}
+use Rattle.tv_store.specs.ReadCauses.{ReadFault, ApplyCause, LoadingCause, ReadFacts, reading_facts}
 use Rattle.tv_store.specs.Bodies.{RefusesAt, RefusesFile, RefusesFirst, ReadsGoodFile, AreBodies, AreSealed, ReadsSegment, ReadsSegments, FailsAt, AreGood}
 use Rattle.tv_index.specs.Standing.{MetaCause}
 use Rattle.tv_store.specs.Kept.{KeptState, FileHolds, Holds}
@@ -86,7 +86,7 @@ body_cause : (tells : Type 0) (reads : Reads) (name : List ℕ) (refused quiet :
     → is_file_name name ≡ true → OpenBodyCause quiet (λ fault. SomeRefused fault × quiet) (λ why. SomeOther why × quiet) refused quiet error → NamesFile name error
     → (tells → OpenBodyCause (reads name ≡ None) (ReadsRefused (reads name)) (ReadsOther (reads name)) (Unit {0}) (Unit {0}) error)
     → (tells → OpenBodyCause (Unit {0}) (λ _. ReadsSuch (reads name) HasNoBody) (λ _. ReadsSuch (reads name) HasNoBody) (Unit {0}) (Unit {0}) error)
-    → ApplyCause ⊥ refused quiet ⊥ (λ error. tells → RefusesAt reads name error) (λ path. (path ≡ name) × (tells → reads path ≡ None)) (of_open_read error)
+    → ApplyCause (reading_facts refused quiet (λ error. tells → RefusesAt reads name error) (λ path. (path ≡ name) × (tells → reads path ≡ None))) (of_open_read error)
 body_cause tells reads name refused quiet (read.FileDoesNotExist path) fits cause is_name err outside =
     (cause, subst (λ (p : List ℕ). is_file_name p ≡ true) (sym is_name) fits, (is_name, λ t. subst (λ (p : List ℕ). reads p ≡ None) (sym is_name) (err t)))
 body_cause tells reads name refused quiet (read.IoError fault path) fits (inl device) is_name err outside = inl device
@@ -108,10 +108,10 @@ pub body_fails : {D : Type 0} (tells : Type 0) (reads : D → Reads) (faults : D
     → OpenBodyCause (faults after ≡ faults inside) (λ fault. SomeRefused fault × (faults after ≡ faults inside)) (λ why. SomeOther why × (faults after ≡ faults inside)) (Rose (faults inside) (faults after)) (faults after ≡ faults inside) error → NamesFile given error
     → (tells → OpenBodyCause (reads inside given ≡ None) (ReadsRefused (reads inside given)) (ReadsOther (reads inside given)) (Unit {0}) (Unit {0}) error)
     → (tells → OpenBodyCause (Unit {0}) (λ _. ReadsSuch (reads inside given) HasNoBody) (λ _. ReadsSuch (reads inside given) HasNoBody) (Unit {0}) (Unit {0}) error)
-    → ApplyCause ⊥ (Rose (faults value) (faults after)) (faults after ≡ faults value) ⊥ (λ error. tells → RefusesAt (reads value) name error) (λ path. (path ≡ name) × (tells → reads value path ≡ None)) (of_open_read error)
+    → ApplyCause (reading_facts (Rose (faults value) (faults after)) (faults after ≡ faults value) (λ error. tells → RefusesAt (reads value) name error) (λ path. (path ≡ name) × (tells → reads value path ≡ None))) (of_open_read error)
 body_fails {D} tells reads faults inside value after name given error is_value text fits cause is_name err outside =
-    subst (λ (n : List ℕ). ApplyCause ⊥ (Rose (faults value) (faults after)) (faults after ≡ faults value) ⊥ (λ error. tells → RefusesAt (reads value) n error) (λ path. (path ≡ n) × (tells → reads value path ≡ None)) (of_open_read error)) text
-    (subst (λ (d : D). ApplyCause ⊥ (Rose (faults d) (faults after)) (faults after ≡ faults d) ⊥ (λ error. tells → RefusesAt (reads d) given error) (λ path. (path ≡ given) × (tells → reads d path ≡ None)) (of_open_read error)) is_value
+    subst (λ (n : List ℕ). ApplyCause (reading_facts (Rose (faults value) (faults after)) (faults after ≡ faults value) (λ error. tells → RefusesAt (reads value) n error) (λ path. (path ≡ n) × (tells → reads value path ≡ None))) (of_open_read error)) text
+    (subst (λ (d : D). ApplyCause (reading_facts (Rose (faults d) (faults after)) (faults after ≡ faults d) (λ error. tells → RefusesAt (reads d) given error) (λ path. (path ≡ given) × (tells → reads d path ≡ None))) (of_open_read error)) is_value
     (body_cause tells (reads inside) given (Rose (faults inside) (faults after)) (faults after ≡ faults inside) error fits cause is_name err outside))
 
 write_weaker : (refused more : Type 0) (error : OpenWriteError) → (refused → more) → WriteFault refused error → WriteFault more error
@@ -128,34 +128,30 @@ read_weaker refused quiet refused2 quiet2 bad bad2 absent absent2 (read.Incompat
 read_weaker refused quiet refused2 quiet2 bad bad2 absent absent2 other f g b a h = absurd h
 
 -- a cause that says more
-pub cause_weaker : (busy refused quiet spent busy2 refused2 quiet2 spent2 : Type 0) (bad bad2 : OpenReadError → Type 0) (absent absent2 : List ℕ → Type 0) (error : TantivyError)
-    → (busy → busy2) → (refused → refused2) → (quiet → quiet2) → (spent → spent2) → ((error : OpenReadError) → bad error → bad2 error) → ((path : List ℕ) → absent path → absent2 path)
-    → ApplyCause busy refused quiet spent bad absent error → ApplyCause busy2 refused2 quiet2 spent2 bad2 absent2 error
-cause_weaker busy refused quiet spent busy2 refused2 quiet2 spent2 bad bad2 absent absent2 (errors.IoError fault) y f g k b a h = (h.0, f h.1)
-cause_weaker busy refused quiet spent busy2 refused2 quiet2 spent2 bad bad2 absent absent2 (errors.OpenWriteError error) y f g k b a h = write_weaker refused refused2 error f h
-cause_weaker busy refused quiet spent busy2 refused2 quiet2 spent2 bad bad2 absent absent2 (errors.OpenReadError error) y f g k b a h = read_weaker refused quiet refused2 quiet2 bad bad2 absent absent2 error f g b a h
-cause_weaker busy refused quiet spent busy2 refused2 quiet2 spent2 bad bad2 absent absent2 (errors.LockFailure lock.LockBusy text) y f g k b a h = (y h.0, h.1)
-cause_weaker busy refused quiet spent busy2 refused2 quiet2 spent2 bad bad2 absent absent2 (errors.LockFailure (lock.IoError fault) text) y f g k b a h = ((h.0.0, f h.0.1), h.1)
-cause_weaker busy refused quiet spent busy2 refused2 quiet2 spent2 bad bad2 absent absent2 (errors.LockFailure lock.Memory text) y f g k b a h = absurd h.0
-cause_weaker busy refused quiet spent busy2 refused2 quiet2 spent2 bad bad2 absent absent2 errors.Exhausted y f g k b a h = (g h.0, k h.1)
-cause_weaker busy refused quiet spent busy2 refused2 quiet2 spent2 bad bad2 absent absent2 errors.Memory y f g k b a h = g h
-cause_weaker busy refused quiet spent busy2 refused2 quiet2 spent2 bad bad2 absent absent2 other y f g k b a h = absurd h
+pub cause_weaker : (facts more : ReadFacts) (error : TantivyError) → (facts.busy → more.busy) → (facts.refused → more.refused) → (facts.quiet → more.quiet) → (facts.spent → more.spent)
+    → ((error : OpenReadError) → facts.bad error → more.bad error) → ((path : List ℕ) → facts.absent path → more.absent path) → ApplyCause facts error → ApplyCause more error
+cause_weaker facts more (errors.IoError fault) y f g k b a h = (h.0, f h.1)
+cause_weaker facts more (errors.OpenWriteError error) y f g k b a h = write_weaker facts.refused more.refused error f h
+cause_weaker facts more (errors.OpenReadError error) y f g k b a h = read_weaker facts.refused facts.quiet more.refused more.quiet facts.bad more.bad facts.absent more.absent error f g b a h
+cause_weaker facts more (errors.LockFailure lock.LockBusy text) y f g k b a h = (y h.0, h.1)
+cause_weaker facts more (errors.LockFailure (lock.IoError fault) text) y f g k b a h = ((h.0.0, f h.0.1), h.1)
+cause_weaker facts more (errors.LockFailure lock.Memory text) y f g k b a h = absurd h.0
+cause_weaker facts more errors.Exhausted y f g k b a h = (g h.0, k h.1)
+cause_weaker facts more errors.Memory y f g k b a h = g h
+cause_weaker facts more other y f g k b a h = absurd h
 
 -- the same of one that loads the commit
-pub loading_weaker : (busy refused quiet spent busy2 refused2 quiet2 spent2 : Type 0) (load load2 : TantivyError → Type 0) (bad bad2 : OpenReadError → Type 0) (absent absent2 : List ℕ → Type 0) (error : TantivyError)
-    → (busy → busy2) → (refused → refused2) → (quiet → quiet2) → (spent → spent2) → ((error : TantivyError) → load error → load2 error) → ((error : OpenReadError) → bad error → bad2 error) → ((path : List ℕ) → absent path → absent2 path)
-    → LoadingCause busy refused quiet spent load bad absent error → LoadingCause busy2 refused2 quiet2 spent2 load2 bad2 absent2 error
-loading_weaker busy refused quiet spent busy2 refused2 quiet2 spent2 load load2 bad bad2 absent absent2 (errors.DataCorruption why) y f g k u b a h = u (errors.DataCorruption why) h
-loading_weaker busy refused quiet spent busy2 refused2 quiet2 spent2 load load2 bad bad2 absent absent2 (errors.SchemaError text) y f g k u b a h = u (errors.SchemaError text) h
-loading_weaker busy refused quiet spent busy2 refused2 quiet2 spent2 load load2 bad bad2 absent absent2 other y f g k u b a h =
-    cause_weaker busy refused quiet spent busy2 refused2 quiet2 spent2 bad bad2 absent absent2 other y f g k b a h
+pub loading_weaker : (facts more : ReadFacts) (load load2 : TantivyError → Type 0) (error : TantivyError) → (facts.busy → more.busy) → (facts.refused → more.refused) → (facts.quiet → more.quiet) → (facts.spent → more.spent)
+    → ((error : TantivyError) → load error → load2 error) → ((error : OpenReadError) → facts.bad error → more.bad error) → ((path : List ℕ) → facts.absent path → more.absent path) → LoadingCause facts load error → LoadingCause more load2 error
+loading_weaker facts more load load2 (errors.DataCorruption why) y f g k u b a h = u (errors.DataCorruption why) h
+loading_weaker facts more load load2 (errors.SchemaError text) y f g k u b a h = u (errors.SchemaError text) h
+loading_weaker facts more load load2 other y f g k u b a h = cause_weaker facts more other y f g k b a h
 
 -- one that read files alone
-pub loading_of : (busy refused quiet spent : Type 0) (load : TantivyError → Type 0) (bad : OpenReadError → Type 0) (absent : List ℕ → Type 0) (error : TantivyError)
-    → ApplyCause busy refused quiet spent bad absent error → LoadingCause busy refused quiet spent load bad absent error
-loading_of busy refused quiet spent load bad absent (errors.DataCorruption why) h = absurd h
-loading_of busy refused quiet spent load bad absent (errors.SchemaError text) h = absurd h
-loading_of busy refused quiet spent load bad absent other h = h
+pub loading_of : (facts : ReadFacts) (load : TantivyError → Type 0) (error : TantivyError) → ApplyCause facts error → LoadingCause facts load error
+loading_of facts load (errors.DataCorruption why) h = absurd h
+loading_of facts load (errors.SchemaError text) h = absurd h
+loading_of facts load other h = h
 
 -- ---- names of a list
 
@@ -245,13 +241,12 @@ good_before first now n same h = (h.0, sym (same n) ∙ h.1, h.2)
 pub fails_here : (tells : Type 0) (first now : Reads) (names : List (List ℕ)) (i : ℕ) (name : List ℕ) (start before after : ℕ) (error : TantivyError)
     → (tells → Same first now) → before ≡ start → i < length names → name ≡ get_or names i name
     → (tells → (n : List ℕ) → has (take i names) n ≡ true → ReadsGoodFile (first n))
-    → ApplyCause ⊥ (Rose before after) (after ≡ before) ⊥ (λ error. tells → RefusesAt now name error) (λ path. (path ≡ name) × (tells → now path ≡ None)) error
+    → ApplyCause (reading_facts (Rose before after) (after ≡ before) (λ error. tells → RefusesAt now name error) (λ path. (path ≡ name) × (tells → now path ≡ None))) error
     → FailsAt tells first names (Rose start after) (after ≡ start) error
 fails_here tells first now names i name start before after error same quiet within at_i so_far h =
     let there : has names name ≡ true = has_at names i name within at_i in
-    cause_weaker ⊥ (Rose before after) (after ≡ before) ⊥ ⊥ (Rose start after) (after ≡ start) ⊥
-    (λ error. tells → RefusesAt now name error) (RefusesFirst tells first names)
-    (λ path. (path ≡ name) × (tells → now path ≡ None)) (λ path. (has names path ≡ true) × (tells → first path ≡ None)) error
+    cause_weaker (reading_facts (Rose before after) (after ≡ before) (λ error. tells → RefusesAt now name error) (λ path. (path ≡ name) × (tells → now path ≡ None)))
+    (reading_facts (Rose start after) (after ≡ start) (RefusesFirst tells first names) (λ path. (has names path ≡ true) × (tells → first path ≡ None))) error
     (λ never. never) (λ rose. subst (λ (x : ℕ). Rose x after) quiet rose) (λ still. still ∙ quiet) (λ never. never)
     (λ error b. record { front = take i names; path = name; rest = drop (i + 1) names; split = split_there names i name within at_i; good = so_far; refuses = λ t. refused_before first now name error (same t) (b t) })
     (λ path a. (subst (λ (p : List ℕ). has names p ≡ true) (sym a.0) there, λ t. sym (same t path) ∙ a.1 t)) h
@@ -319,9 +314,6 @@ between before front rest after names path e =
     ∙ ap (λ (ns : List (List ℕ)). before ++ ns) (append_assoc front (path ∷ rest) after)
     ∙ sym (append_assoc before front (path ∷ (rest ++ after)))
 
-has_front : (names front rest : List (List ℕ)) (path n : List ℕ) → names ≡ front ++ path ∷ rest → has front n ≡ true → has names n ≡ true
-has_front names front rest path n e h = ap (λ (ns : List (List ℕ)). has ns n) e ∙ has_append front (path ∷ rest) n ∙ or_left (has front n) (has (path ∷ rest) n) h
-
 pub has_middle : (names front rest : List (List ℕ)) (path : List ℕ) → names ≡ front ++ path ∷ rest → has names path ≡ true
 has_middle names front rest path e =
     ap (λ (ns : List (List ℕ)). has ns path) e ∙ has_append front (path ∷ rest) path
@@ -333,9 +325,8 @@ pub segments_fail : (tells : Type 0) (first now : Reads) (segments : List (List 
     → FailsAt tells now (required_names entry.0 entry.1) (Rose before after) (after ≡ before) error
     → FailsAt tells first (all_required segments) (Rose start after) (after ≡ start) error
 segments_fail tells first now segments i entry start before after error same quiet within at_i so_far h =
-    cause_weaker ⊥ (Rose before after) (after ≡ before) ⊥ ⊥ (Rose start after) (after ≡ start) ⊥
-    (RefusesFirst tells now (required_names entry.0 entry.1)) (RefusesFirst tells first (all_required segments))
-    (λ path. (has (required_names entry.0 entry.1) path ≡ true) × (tells → now path ≡ None)) (λ path. (has (all_required segments) path ≡ true) × (tells → first path ≡ None)) error
+    cause_weaker (reading_facts (Rose before after) (after ≡ before) (RefusesFirst tells now (required_names entry.0 entry.1)) (λ path. (has (required_names entry.0 entry.1) path ≡ true) × (tells → now path ≡ None)))
+    (reading_facts (Rose start after) (after ≡ start) (RefusesFirst tells first (all_required segments)) (λ path. (has (all_required segments) path ≡ true) × (tells → first path ≡ None))) error
     (λ never. never) (λ rose. subst (λ (x : ℕ). Rose x after) quiet rose) (λ still. still ∙ quiet) (λ never. never)
     (λ error b. record {
       front = all_required (take i segments) ++ b.front;
@@ -363,14 +354,13 @@ segments_good first now segments i entry same within at_i so_far more =
 pub commit_fails : (tells : Type 0) (first now : Reads) (kept : KeptState) (load : TantivyError → Type 0) (segments : List (List ℕ × LiveSegment)) (start before after : ℕ) (error : TantivyError)
     → (tells → Same first now) → before ≡ start → (tells → (s : State) → Holds first kept s → segments ≡ s.catalog.commit.segments)
     → FailsAt tells now (all_required segments) (Rose before after) (after ≡ before) error
-    → LoadingCause ⊥ (Rose start after) (after ≡ start) ⊥ load (LacksIn tells first kept) (λ path. HoldsNone tells first kept) error
+    → LoadingCause (reading_facts (Rose start after) (after ≡ start) (LacksIn tells first kept) (λ path. HoldsNone tells first kept)) load error
 commit_fails tells first now kept load segments start before after error same quiet are h =
     let sealed : (t : tells) (s : State) → Holds first kept s → IsWhole s → (n : List ℕ) → has (all_required segments) n ≡ true → is_sealed (file_at s n) ≡ true =
     λ t s held whole n among. whole.each.0 n (subst (λ (es : List (List ℕ × LiveSegment)). has (all_required es) n ≡ true) (are t s held) among) in
-    loading_of ⊥ (Rose start after) (after ≡ start) ⊥ load (LacksIn tells first kept) (λ path. HoldsNone tells first kept) error
-    (cause_weaker ⊥ (Rose before after) (after ≡ before) ⊥ ⊥ (Rose start after) (after ≡ start) ⊥
-    (RefusesFirst tells now (all_required segments)) (LacksIn tells first kept)
-    (λ path. (has (all_required segments) path ≡ true) × (tells → now path ≡ None)) (λ path. HoldsNone tells first kept) error
+    let facts = reading_facts (Rose start after) (after ≡ start) (LacksIn tells first kept) (λ path. HoldsNone tells first kept) in
+    loading_of facts load error
+    (cause_weaker (reading_facts (Rose before after) (after ≡ before) (RefusesFirst tells now (all_required segments)) (λ path. (has (all_required segments) path ≡ true) × (tells → now path ≡ None))) facts error
     (λ never. never) (λ rose. subst (λ (x : ℕ). Rose x after) quiet rose) (λ still. still ∙ quiet) (λ never. never)
     (λ error b t s held whole.
     let no : RefusesAt first b.path error = refused_before first now b.path error (same t) (b.refuses t) in
@@ -382,7 +372,7 @@ commit_fails tells first now kept load segments start before after error same qu
       good = record {
         each = λ n among.
             let good = good_before first now n (same t) (b.good t n among) in
-            (good.0, read_is_sealed first kept s n good.0 held (sealed t s held whole n (has_front (all_required segments) b.front b.rest b.path n b.split among)) good.1, good.2);
+            (good.0, read_is_sealed first kept s n good.0 held (sealed t s held whole n (subst (λ (ns : List (List ℕ)). has ns n ≡ true) (sym b.split) (has_front b.front (b.path ∷ b.rest) n among))) good.1, good.2);
       };
       bytes = no.bytes;
       sealed = read_is_sealed first kept s b.path no.bytes held (sealed t s held whole b.path (has_middle (all_required segments) b.front b.rest b.path b.split)) no.there;
@@ -409,11 +399,12 @@ meta_before tells kept later stands then refused quiet refused2 quiet2 error kep
 -- a read of the commit's files that failed, seen from before a call that changed nothing and after another one
 pub read_later : (tells : Type 0) (first now : Reads) (kept later : KeptState) (busy : Type 0) (start before after end : ℕ) (error : TantivyError)
     → (tells → Same first now) → later ≡ kept → before ≡ start → end ≡ after
-    → LoadingCause ⊥ (Rose before after) (after ≡ before) ⊥ (MetaCause tells (Some later.form.schema) (now meta_name) (Rose before after) (after ≡ before)) (LacksIn tells now later) (λ path. HoldsNone tells now later) error
-    → LoadingCause busy (Rose start end) (end ≡ start) ⊥ (MetaCause tells (Some kept.form.schema) (first meta_name) (Rose start end) (end ≡ start)) (LacksIn tells first kept) (λ path. HoldsNone tells first kept) error
+    → LoadingCause (reading_facts (Rose before after) (after ≡ before) (LacksIn tells now later) (λ path. HoldsNone tells now later)) (MetaCause tells (Some later.form.schema) (now meta_name) (Rose before after) (after ≡ before)) error
+    → LoadingCause (record (reading_facts (Rose start end) (end ≡ start) (LacksIn tells first kept) (λ path. HoldsNone tells first kept)) { busy = busy }) (MetaCause tells (Some kept.form.schema) (first meta_name) (Rose start end) (end ≡ start)) error
 read_later tells first now kept later busy start before after end error same kept_is quiet last h =
-    loading_weaker ⊥ (Rose before after) (after ≡ before) ⊥ busy (Rose start end) (end ≡ start) ⊥ (MetaCause tells (Some later.form.schema) (now meta_name) (Rose before after) (after ≡ before)) (MetaCause tells (Some kept.form.schema) (first meta_name) (Rose start end) (end ≡ start))
-    (LacksIn tells now later) (LacksIn tells first kept) (λ path. HoldsNone tells now later) (λ path. HoldsNone tells first kept) error
+    loading_weaker (reading_facts (Rose before after) (after ≡ before) (LacksIn tells now later) (λ path. HoldsNone tells now later))
+    (record (reading_facts (Rose start end) (end ≡ start) (LacksIn tells first kept) (λ path. HoldsNone tells first kept)) { busy = busy })
+    (MetaCause tells (Some later.form.schema) (now meta_name) (Rose before after) (after ≡ before)) (MetaCause tells (Some kept.form.schema) (first meta_name) (Rose start end) (end ≡ start)) error
     (λ never. absurd never) (λ rose. subst (λ (x : ℕ). Rose start x) (sym last) (subst (λ (x : ℕ). Rose x after) quiet rose)) (λ still. last ∙ still ∙ quiet) (λ never. never)
     (λ e load. meta_before tells kept later (now meta_name) (first meta_name) (Rose before after) (after ≡ before) (Rose start end) (end ≡ start) e kept_is (λ t. sym (same t meta_name)) (λ rose. subst (λ (x : ℕ). Rose start x) (sym last) (subst (λ (x : ℕ). Rose x after) quiet rose)) (λ still. last ∙ still ∙ quiet) load)
     (λ error b t s held whole. b t s (same_holds first now kept later s (same t) kept_is held) whole)
@@ -430,12 +421,12 @@ busy_before tells_locks held held2 start before {after} same quiet h = record {
 -- the same at an event that reads, seen from before a call that changed nothing
 pub later_fails : (tells : Type 0) (first now : Reads) (kept later : KeptState) (event : Event) (reading : (s : State) → Holds first kept s → read_by s event ≡ Some s.catalog.commit) (more busy busy2 loads files : Type 0) (start before after : ℕ) (error : TantivyError)
     → loads → files → (busy → busy2) → (tells → Same first now) → later ≡ kept → before ≡ start
-    → LoadingCause busy (Rose before after) (after ≡ before) ⊥ (MetaCause tells (Some later.form.schema) (now meta_name) (Rose before after) (after ≡ before)) (LacksIn tells now later) (λ path. HoldsNone tells now later) error
-    → LoadingCause busy2 (Rose start after) (after ≡ start) more (λ e. loads × MetaCause tells (Some kept.form.schema) (first meta_name) (Rose start after) (after ≡ start) e) (λ e. files × BadIn tells first kept event e) (λ path. files × HoldsNone tells first kept) error
+    → LoadingCause (record (reading_facts (Rose before after) (after ≡ before) (LacksIn tells now later) (λ path. HoldsNone tells now later)) { busy = busy }) (MetaCause tells (Some later.form.schema) (now meta_name) (Rose before after) (after ≡ before)) error
+    → LoadingCause (record (reading_facts (Rose start after) (after ≡ start) (λ e. files × BadIn tells first kept event e) (λ path. files × HoldsNone tells first kept)) { busy = busy2; spent = more }) (λ e. loads × MetaCause tells (Some kept.form.schema) (first meta_name) (Rose start after) (after ≡ start) e) error
 later_fails tells first now kept later event reading more busy busy2 loads files start before after error loaded taken locks same kept_is quiet h =
-    loading_weaker busy (Rose before after) (after ≡ before) ⊥ busy2 (Rose start after) (after ≡ start) more
-    (MetaCause tells (Some later.form.schema) (now meta_name) (Rose before after) (after ≡ before)) (λ e. loads × MetaCause tells (Some kept.form.schema) (first meta_name) (Rose start after) (after ≡ start) e)
-    (LacksIn tells now later) (λ e. files × BadIn tells first kept event e) (λ path. HoldsNone tells now later) (λ path. files × HoldsNone tells first kept) error
+    loading_weaker (record (reading_facts (Rose before after) (after ≡ before) (LacksIn tells now later) (λ path. HoldsNone tells now later)) { busy = busy })
+    (record (reading_facts (Rose start after) (after ≡ start) (λ e. files × BadIn tells first kept event e) (λ path. files × HoldsNone tells first kept)) { busy = busy2; spent = more })
+    (MetaCause tells (Some later.form.schema) (now meta_name) (Rose before after) (after ≡ before)) (λ e. loads × MetaCause tells (Some kept.form.schema) (first meta_name) (Rose start after) (after ≡ start) e) error
     locks (λ rose. subst (λ (x : ℕ). Rose x after) quiet rose) (λ still. still ∙ quiet) (λ never. absurd never)
     (λ e load. (
       loaded,

@@ -11,7 +11,7 @@ use Rattle.std.specs.BTreeMap.{is_at}
 use Rattle.std.specs.BTreeSet.{insert_key}
 use Rattle.tv_formats.specs.Listing.{IsListFile}
 use Rattle.tv_formats.specs.Names.{byte_cmp, is, has, is_plain, is_undotted, at}
-use Rattle.tv_formats.specs.Collections.{Collections, done_of, failed_of, held}
+use Rattle.tv_formats.specs.Collections.{Collections, done_of, failed_of, held, without}
 use Rattle.tv_formats.proofs.Entries.{same_at, text_at, at_itself, is_text, is_by_order, has_put}
 use Rattle.tv_formats.proofs.PlainNames.{both, plain_is_undotted}
 use Rattle.tv_formats.proofs.CollectedNames.{has_append, has_without}
@@ -22,8 +22,8 @@ use Rattle.tv_managed.specs.Crashes.{CollectsNames}
 use Rattle.tv_managed.specs.Names.{ManagedNames}
 use Rattle.tv_managed.specs.declared.collection.GarbageCollectionResult.{GarbageCollectionResult}
 use Rattle.tv_formats.specs.Commits.{IndexForm}
-use Rattle.tv_store.specs.Kept.{FilesState}
-use Rattle.tv_store.specs.FileCalls.{Tried}
+use Rattle.tv_store.specs.Kept.{FilesState, names_below}
+use Rattle.tv_store.specs.FileCalls.{TriesNames}
 use Rattle.tv_store.specs.declared.files.OpenFile.{OpenFile}
 use Rattle.tv_store.specs.OpenFiles.{IsOpenFile}
 use Rattle.tv_store.proofs.OpenFiles.{all_left, AreOpen, bodies, at_seen}
@@ -229,23 +229,22 @@ told_plain g living old new result told h =
     (ap (list_all is_plain) told.deleted ∙ done_plain is_plain (taken_by living old.1) told.outcomes tried, ap (list_all is_plain) told.failed ∙ failed_plain is_plain (taken_by living old.1) told.outcomes tried)
 
 -- what a collection told, of the names that it gave
-pub tried_as : {D W C : Type 0} (g : Ghosts D W C) (living others : List (List ℕ)) (old new first : D × ManagedNames) (result : GarbageCollectionResult) (deleted failed : List (List ℕ))
-    → old ≡ first → living ≡ others → deleted ≡ names_of result.deleted_files.items → failed ≡ names_of result.failed_to_delete_files.items
-    → Tries g (taken_by living old.1) old new result → Tried (taken_by others first.1) first.1.managed new.1.managed deleted failed g.told.content (g.view first.0).reads (g.view new.0).reads
-tried_as g living others old new first result deleted failed same answered done not_done told =
-    subst (λ (ns : List (List ℕ)). Tried (taken_by ns first.1) first.1.managed new.1.managed deleted failed g.told.content (g.view first.0).reads (g.view new.0).reads) answered
-    (subst (λ (ns : List (List ℕ)). Tried (taken_by living first.1) first.1.managed new.1.managed ns failed g.told.content (g.view first.0).reads (g.view new.0).reads) (sym done)
-    (subst (λ (ns : List (List ℕ)). Tried (taken_by living first.1) first.1.managed new.1.managed (names_of result.deleted_files.items) ns g.told.content (g.view first.0).reads (g.view new.0).reads) (sym not_done)
-    (subst (λ f. Tried (taken_by living f.1) f.1.managed new.1.managed (names_of result.deleted_files.items) (names_of result.failed_to_delete_files.items) g.told.content (g.view f.0).reads (g.view new.0).reads) same
-    (record {
-      outcomes = told.outcomes;
-      each = told.each;
-      deleted_is = told.deleted;
-      failed_is = told.failed;
-      managed = ap (λ names. names.managed) told.managed;
-      gone = told.gone;
-      others = told.others;
-    }))))
+pub tried_as : {D W C : Type 0} (g : Ghosts D W C) (living others : List (List ℕ)) (old new : D × ManagedNames) (first last : FilesState D) (result : GarbageCollectionResult) (deleted failed : List (List ℕ))
+    → old ≡ names_below first → new ≡ names_below last → living ≡ others → deleted ≡ names_of result.deleted_files.items → failed ≡ names_of result.failed_to_delete_files.items
+    → Tries g (taken_by living old.1) old new result → TriesNames g (taken_by others (names_below first).1) first last deleted failed
+tried_as g living others old new first last result deleted failed same later answered done not_done tries =
+    as_told (subst (λ (ns : List (List ℕ)). Tries g (taken_by ns (names_below first).1) (names_below first) (names_below last) result) answered
+    (subst (λ n. Tries g (taken_by living (names_below first).1) (names_below first) n result) later (subst (λ f. Tries g (taken_by living f.1) f new result) same tries))) where
+      as_told : Tries g (taken_by others (names_below first).1) (names_below first) (names_below last) result → TriesNames g (taken_by others (names_below first).1) first last deleted failed
+      as_told told = record {
+        outcomes = told.outcomes;
+        each = told.each;
+        deleted_is = done ∙ told.deleted;
+        failed_is = not_done ∙ told.failed;
+        managed = ap (λ names. names.managed) told.managed ∙ ap (λ (ns : List (List ℕ)). without ns first.managed) (sym done);
+        gone = λ t n h. told.gone t n (subst (λ (ns : List (List ℕ)). has ns n ≡ true) done h);
+        others = λ t n h. told.others t n (subst (λ (ns : List (List ℕ)). has ns n ≡ false) done h);
+      }
 
 -- a collection takes no living name
 pub living_spared : (living : List (List ℕ)) (names : ManagedNames) (n : List ℕ) → has living n ≡ true → has (taken_by living names) n ≡ false

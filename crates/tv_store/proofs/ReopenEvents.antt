@@ -7,11 +7,11 @@ use Rattle.tv_machine.specs.CollectionEvents.{left}
 use Rattle.tv_machine.specs.ReopenEvents.{reopened}
 use Rattle.tv_machine.specs.State.{Catalog, State, FileState, SealedFile, Open, Left, file_at}
 use Rattle.tv_formats.specs.Names.{at}
+use Rattle.tv_formats.proofs.SpelledCommits.{means_commit}
 use Rattle.tv_directory.specs.declared.directory.Directory.{Ghosts}
 use Rattle.tv_store.specs.Kept.{FilesState, FileHolds, Holds, is_left, kept_of}
 use Rattle.tv_store.specs.Reopening.{Reopens}
 use Rattle.tv_store.proofs.OpenFiles.{at_seen}
-use Rattle.tv_store.proofs.FoundStates.{means_commit}
 
 -- a file that is left holds what its name reads
 left_file : (file : Option FileState) (read written : Option (List ℕ)) → FileHolds file read written → FileHolds (option_map left file) read None

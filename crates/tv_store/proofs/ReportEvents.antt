@@ -21,10 +21,10 @@ use Rattle.tv_machine.specs.State.{State, FileState, SealedFile, Open, Left, fil
 use Rattle.tv_formats.proofs.Entries.{is_text}
 use Rattle.tv_formats.proofs.Framing.{intact_again, intact_none}
 use Rattle.tv_formats.proofs.Required.{by_one}
+use Rattle.tv_formats.proofs.SpelledCommits.{means_commit}
 use Rattle.tv_store.specs.FileCalls.{intact_in}
 use Rattle.tv_store.specs.Kept.{KeptState, FileHolds, Holds, is_left}
 use Rattle.tv_store.proofs.CommitEvents.{all_joined, files_named}
-use Rattle.tv_store.proofs.FoundStates.{means_commit}
 
 -- ---- by what the directory answers
 

@@ -17,7 +17,7 @@ only_numbers (inl p) = p
 only_numbers (inr (n, is, much)) = absurd cc
 
 -- and one that gives no number none of these
-only_length : {P : Type 0} → ⊥ ⊎ P → P
+pub only_length : {P : Type 0} → ⊥ ⊎ P → P
 only_length (inl never) = absurd never
 only_length (inr p) = p
 

@@ -4,7 +4,6 @@ use Rattle.std.specs.Prelude.{IfOk, OnOk, OnErr}
 use Rattle.std.specs.List.{AllByRecursion}
 use Rattle.tv_machine.specs.declared.event.Event.{Event}
 use Rattle.tv_machine.specs.declared.event.Event.TheVariants as events
-use Rattle.tv_base.specs.declared.open_errors.OpenReadError.{OpenReadError}
 use Rattle.tv_base.specs.declared.open_errors.LockError.TheVariants as lock
 use Rattle.tv_base.specs.declared.error.TantivyError.{TantivyError}
 use Rattle.tv_base.specs.declared.error.TantivyError.TheVariants as errors
@@ -12,7 +11,7 @@ use Rattle.tv_store.specs.Kept.{KeptState, StoreState, Holds, AtMost}
 use Rattle.tv_store.specs.ReaderNumbers.{FewNumbers}
 use Rattle.tv_store.specs.Applying.{Stepped, StepsHeld, LeavesAlone, LeavesOldOrNew, MayNoteAt, SavesAt, WritesByStep}
 use Rattle.tv_store.specs.Committing.{CommitStep}
-use Rattle.tv_store.specs.ReadCauses.{LoadingCause, IsReadError}
+use Rattle.tv_store.specs.ReadCauses.{LoadingCause, IsReadError, ReadFacts}
 use Rattle.tv_store.proofs.FewNumbers.{few_more}
 use Rattle.tv_formats.specs.Collections.{Collections}
 use Rattle.tv_formats.specs.Commits.{IndexForm}
@@ -31,16 +30,16 @@ use Rattle.tv_store.specs.StoreCauses.{EventCause, LockingCause}
 -- ---- what an event did, by what its method says
 
 -- a cause of an event that reads no commit's files
-plain_cause : (busy refused quiet spent more : Type 0) (load : TantivyError → Type 0) (bad : OpenReadError → Type 0) (absent : List ℕ → Type 0) (error : TantivyError) → EventCause refused quiet spent error → (spent → more) → LoadingCause busy refused quiet more load bad absent error
-plain_cause busy refused quiet spent more load bad absent (errors.IoError fault) h f = h
-plain_cause busy refused quiet spent more load bad absent (errors.OpenWriteError error) h f = h
-plain_cause busy refused quiet spent more load bad absent errors.Exhausted h f = (h.0, f h.1)
-plain_cause busy refused quiet spent more load bad absent errors.Memory h f = h
-plain_cause busy refused quiet spent more load bad absent other h f = absurd h
+plain_cause : (facts : ReadFacts) (spent : Type 0) (load : TantivyError → Type 0) (error : TantivyError) → EventCause facts.refused facts.quiet spent error → (spent → facts.spent) → LoadingCause facts load error
+plain_cause facts spent load (errors.IoError fault) h f = h
+plain_cause facts spent load (errors.OpenWriteError error) h f = h
+plain_cause facts spent load errors.Exhausted h f = (h.0, f h.1)
+plain_cause facts spent load errors.Memory h f = h
+plain_cause facts spent load other h f = absurd h
 
-pub cause_in : (A busy refused quiet spent more : Type 0) (load : TantivyError → Type 0) (bad : OpenReadError → Type 0) (absent : List ℕ → Type 0) (result : Result A TantivyError) → IfErr result (λ error. EventCause refused quiet spent error) → (spent → more) → IfErr result (λ error. LoadingCause busy refused quiet more load bad absent error)
-cause_in A busy refused quiet spent more load bad absent (Ok answer) h f = h
-cause_in A busy refused quiet spent more load bad absent (Err error) h f = plain_cause busy refused quiet spent more load bad absent error h f
+pub cause_in : (A : Type 0) (facts : ReadFacts) (spent : Type 0) (load : TantivyError → Type 0) (result : Result A TantivyError) → IfErr result (EventCause facts.refused facts.quiet spent) → (spent → facts.spent) → IfErr result (LoadingCause facts load)
+cause_in A facts spent load (Ok answer) h f = h
+cause_in A facts spent load (Err error) h f = plain_cause facts spent load error h f
 
 -- such an event reads no file
 pub reads_none : (A refused quiet spent P : Type 0) (result : Result A TantivyError) → IfErr result (EventCause refused quiet spent) → IfErr result (λ error. IsReadError error → P)
@@ -63,51 +62,51 @@ locks_none A busy refused quiet spent P (Err error) h = never error h where
   never other h r = absurd r
 
 -- and of one that does
-pub read_cause : (busy refused quiet spent more : Type 0) (load : TantivyError → Type 0) (bad : OpenReadError → Type 0) (absent : List ℕ → Type 0) (error : TantivyError) → LoadingCause busy refused quiet spent load bad absent error → (spent → more) → LoadingCause busy refused quiet more load bad absent error
-read_cause busy refused quiet spent more load bad absent (errors.DataCorruption why) h f = h
-read_cause busy refused quiet spent more load bad absent (errors.SchemaError text) h f = h
-read_cause busy refused quiet spent more load bad absent (errors.IoError fault) h f = h
-read_cause busy refused quiet spent more load bad absent (errors.OpenWriteError error) h f = h
-read_cause busy refused quiet spent more load bad absent (errors.OpenReadError error) h f = h
-read_cause busy refused quiet spent more load bad absent (errors.LockFailure why text) h f = h
-read_cause busy refused quiet spent more load bad absent errors.Exhausted h f = (h.0, f h.1)
-read_cause busy refused quiet spent more load bad absent errors.Memory h f = h
-read_cause busy refused quiet spent more load bad absent other h f = absurd h
+pub read_cause : (facts : ReadFacts) (more : Type 0) (load : TantivyError → Type 0) (error : TantivyError) → LoadingCause facts load error → (facts.spent → more) → LoadingCause (record facts { spent = more }) load error
+read_cause facts more load (errors.DataCorruption why) h f = h
+read_cause facts more load (errors.SchemaError text) h f = h
+read_cause facts more load (errors.IoError fault) h f = h
+read_cause facts more load (errors.OpenWriteError error) h f = h
+read_cause facts more load (errors.OpenReadError error) h f = h
+read_cause facts more load (errors.LockFailure why text) h f = h
+read_cause facts more load errors.Exhausted h f = (h.0, f h.1)
+read_cause facts more load errors.Memory h f = h
+read_cause facts more load other h f = absurd h
 
-pub read_cause_in : (A busy refused quiet spent more : Type 0) (load : TantivyError → Type 0) (bad : OpenReadError → Type 0) (absent : List ℕ → Type 0) (result : Result A TantivyError) → IfErr result (λ error. LoadingCause busy refused quiet spent load bad absent error) → (spent → more) → IfErr result (λ error. LoadingCause busy refused quiet more load bad absent error)
-read_cause_in A busy refused quiet spent more load bad absent (Ok answer) h f = h
-read_cause_in A busy refused quiet spent more load bad absent (Err error) h f = read_cause busy refused quiet spent more load bad absent error h f
+pub read_cause_in : (A : Type 0) (facts : ReadFacts) (more : Type 0) (load : TantivyError → Type 0) (result : Result A TantivyError) → IfErr result (LoadingCause facts load) → (facts.spent → more) → IfErr result (LoadingCause (record facts { spent = more }) load)
+read_cause_in A facts more load (Ok answer) h f = h
+read_cause_in A facts more load (Err error) h f = read_cause facts more load error h f
 
 -- the lock that isn't given is one that the event takes
-takes_lock : (busy takes refused quiet spent : Type 0) (load : TantivyError → Type 0) (bad : OpenReadError → Type 0) (absent : List ℕ → Type 0) (error : TantivyError) → takes → LoadingCause busy refused quiet spent load bad absent error → LoadingCause (takes × busy) refused quiet spent load bad absent error
-takes_lock busy takes refused quiet spent load bad absent (errors.LockFailure lock.LockBusy text) t h = ((t, h.0), h.1)
-takes_lock busy takes refused quiet spent load bad absent (errors.LockFailure (lock.IoError fault) text) t h = h
-takes_lock busy takes refused quiet spent load bad absent (errors.LockFailure lock.Memory text) t h = absurd h.0
-takes_lock busy takes refused quiet spent load bad absent (errors.OpenReadError error) t h = h
-takes_lock busy takes refused quiet spent load bad absent (errors.OpenWriteError error) t h = h
-takes_lock busy takes refused quiet spent load bad absent (errors.DataCorruption why) t h = h
-takes_lock busy takes refused quiet spent load bad absent (errors.SchemaError error) t h = h
-takes_lock busy takes refused quiet spent load bad absent (errors.IoError fault) t h = h
-takes_lock busy takes refused quiet spent load bad absent errors.Exhausted t h = h
-takes_lock busy takes refused quiet spent load bad absent errors.Memory t h = h
-takes_lock busy takes refused quiet spent load bad absent other t h = absurd h
+takes_lock : (takes : Type 0) (facts : ReadFacts) (load : TantivyError → Type 0) (error : TantivyError) → takes → LoadingCause facts load error → LoadingCause (record facts { busy = takes × facts.busy }) load error
+takes_lock takes facts load (errors.LockFailure lock.LockBusy text) t h = ((t, h.0), h.1)
+takes_lock takes facts load (errors.LockFailure (lock.IoError fault) text) t h = h
+takes_lock takes facts load (errors.LockFailure lock.Memory text) t h = absurd h.0
+takes_lock takes facts load (errors.OpenReadError error) t h = h
+takes_lock takes facts load (errors.OpenWriteError error) t h = h
+takes_lock takes facts load (errors.DataCorruption why) t h = h
+takes_lock takes facts load (errors.SchemaError error) t h = h
+takes_lock takes facts load (errors.IoError fault) t h = h
+takes_lock takes facts load errors.Exhausted t h = h
+takes_lock takes facts load errors.Memory t h = h
+takes_lock takes facts load other t h = absurd h
 
-pub takes_lock_in : (A busy takes refused quiet spent : Type 0) (load : TantivyError → Type 0) (bad : OpenReadError → Type 0) (absent : List ℕ → Type 0) (result : Result A TantivyError) → takes → IfErr result (LoadingCause busy refused quiet spent load bad absent) → IfErr result (LoadingCause (takes × busy) refused quiet spent load bad absent)
-takes_lock_in A busy takes refused quiet spent load bad absent (Ok answer) t h = h
-takes_lock_in A busy takes refused quiet spent load bad absent (Err error) t h = takes_lock busy takes refused quiet spent load bad absent error t h
+pub takes_lock_in : (A takes : Type 0) (facts : ReadFacts) (load : TantivyError → Type 0) (result : Result A TantivyError) → takes → IfErr result (LoadingCause facts load) → IfErr result (LoadingCause (record facts { busy = takes × facts.busy }) load)
+takes_lock_in A takes facts load (Ok answer) t h = h
+takes_lock_in A takes facts load (Err error) t h = takes_lock takes facts load error t h
 
 -- and of one that takes a lock
-locking_cause : (busy refused quiet spent more : Type 0) (load : TantivyError → Type 0) (bad : OpenReadError → Type 0) (absent : List ℕ → Type 0) (error : TantivyError) → LockingCause busy refused quiet spent error → (spent → more) → LoadingCause busy refused quiet more load bad absent error
-locking_cause busy refused quiet spent more load bad absent (errors.IoError fault) h f = h
-locking_cause busy refused quiet spent more load bad absent (errors.OpenWriteError error) h f = h
-locking_cause busy refused quiet spent more load bad absent (errors.LockFailure why text) h f = h
-locking_cause busy refused quiet spent more load bad absent errors.Exhausted h f = (h.0, f h.1)
-locking_cause busy refused quiet spent more load bad absent errors.Memory h f = h
-locking_cause busy refused quiet spent more load bad absent other h f = absurd h
+locking_cause : (facts : ReadFacts) (spent : Type 0) (load : TantivyError → Type 0) (error : TantivyError) → LockingCause facts.busy facts.refused facts.quiet spent error → (spent → facts.spent) → LoadingCause facts load error
+locking_cause facts spent load (errors.IoError fault) h f = h
+locking_cause facts spent load (errors.OpenWriteError error) h f = h
+locking_cause facts spent load (errors.LockFailure why text) h f = h
+locking_cause facts spent load errors.Exhausted h f = (h.0, f h.1)
+locking_cause facts spent load errors.Memory h f = h
+locking_cause facts spent load other h f = absurd h
 
-pub locking_cause_in : (A busy refused quiet spent more : Type 0) (load : TantivyError → Type 0) (bad : OpenReadError → Type 0) (absent : List ℕ → Type 0) (result : Result A TantivyError) → IfErr result (λ error. LockingCause busy refused quiet spent error) → (spent → more) → IfErr result (λ error. LoadingCause busy refused quiet more load bad absent error)
-locking_cause_in A busy refused quiet spent more load bad absent (Ok answer) h f = h
-locking_cause_in A busy refused quiet spent more load bad absent (Err error) h f = locking_cause busy refused quiet spent more load bad absent error h f
+pub locking_cause_in : (A : Type 0) (facts : ReadFacts) (spent : Type 0) (load : TantivyError → Type 0) (result : Result A TantivyError) → IfErr result (LockingCause facts.busy facts.refused facts.quiet spent) → (spent → facts.spent) → IfErr result (LoadingCause facts load)
+locking_cause_in A facts spent load (Ok answer) h f = h
+locking_cause_in A facts spent load (Err error) h f = locking_cause facts spent load error h f
 
 -- ---- an event that doesn't commit
 
@@ -150,7 +149,7 @@ module _ {O W C : Type 0} (g : Ghosts O W C) (old new : StoreState O) (event : E
 
   -- from a state, by a step that is told in other words
   held_as : (outcomes : List Bool) (answer : List ℕ) (s : State) (did : StepResult State) → step s event outcomes ≡ did → IsStep g new did answer → ReadsGood s event
-      → (WritesByStep old.kept event → did.1 ≡ s → Alone) → StepsHeld g old new s event outcomes answer
+      → (WritesByStep old.kept event → did.1 ≡ s → Alone) → StepsHeld g old new s (event, outcomes) answer
   held_as outcomes answer s did is k good alone = record {
     told = k.told ∙ ap (λ (x : StepResult State). x.0) (sym is);
     held = subst (λ (x : StepResult State). Holds (g.view new.outside).reads new.kept x.1) (sym is) k.held;
@@ -192,12 +191,12 @@ module _ {O W C : Type 0} (g : Ghosts O W C) (old new : StoreState O) (event : E
     -- one that writes
     pub stepped_writing : {E : Type 0} (given : Type 0) (told : State → StepResult State) (result : Result (List ℕ) E)
         → (WritesByStep old.kept event → given) → (g.view new.outside).refusals ≡ (g.view old.outside).refusals → ((s : State) → step s event [] ≡ told s) → ((s : State) → ReadsGood s event)
-        → (g.told.content → (s : State) → Holds (g.view old.outside).reads old.kept s → IsWhole s → IfOk result (IsWritingStep g given old new s (told s)))
+        → (g.told.content → (s : State) → Holds (g.view old.outside).reads old.kept s → IsWhole s → IfOk result (IsWritingStep g (given × ((told s).1 ≡ s)) old new (told s)))
         → IfOk result (Stepped g old new event)
     stepped_writing given told (Ok answer) so quiet is good h = record {
       outcomes = [];
       refused = inl (omega (arith, quiet));
-      each = λ t s held whole. let k = h t s held whole in held_as [] answer s (told s) (is s) k.step (good s) (λ by_step same. alone_so (k.same (so by_step) same));
+      each = λ t s held whole. let k = h t s held whole in held_as [] answer s (told s) (is s) k.step (good s) (λ by_step same. alone_so (k.same (so by_step, same)));
     }
     stepped_writing given told (Err error) so quiet is good h = tt
 
@@ -210,7 +209,7 @@ module _ {O W C : Type 0} (g : Ghosts O W C) (old new : StoreState O) (event : E
       refused = h.refused;
       each = λ t s held whole.
           let k = h.each t s held in
-          held_as h.outcomes answer s (told s h.outcomes) (is s h.outcomes) k.step (good s) (λ by_step same. alone_so (k.same tt same));
+          held_as h.outcomes answer s (told s h.outcomes) (is s h.outcomes) k.step (good s) (λ by_step same. alone_so (k.same same));
     }
     stepped_deleting told (Err error) is good h = tt
 

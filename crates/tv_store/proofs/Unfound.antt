@@ -22,9 +22,9 @@ use Rattle.tv_store.specs.OpeningCauses.{CallFacts, OpeningCause, opening_facts}
 use Rattle.tv_store.specs.StoreCauses.{writer_lock_name}
 use Rattle.tv_store.specs.UnderLock.{IsUnderLock, NotFound, NotUnderLock}
 use Rattle.tv_store.proofs.Holding.{dotted_others}
-use Rattle.tv_store.proofs.Listings.{listing_same}
 use Rattle.tv_store.proofs.Opened.{from_lock, lacked}
 use Rattle.tv_store.proofs.StoreLocks.{freed_after}
+use Rattle.tv_store.proofs.Listings.{listing_kept}
 
 -- ---- causes
 
@@ -43,12 +43,12 @@ bytes_unrefused other bytes = tt
 
 -- a list that stands is one still where each name reads the same
 has_list : {now before : Reads} → Same before now → HasList now → HasList before
-has_list {now} {before} same (names, lists) = (names, listing_same now before names (λ n. sym (same n)) lists)
+has_list {now} {before} same (names, lists) = (names, listing_kept now before names (λ n is. sym (same n)) lists)
 
 -- a directory that reads the same isn't opened for the same cause
 pub open_cause_at : (tells : Type 0) (schema : List ℕ) (now before : Reads) (refused quiet more all : Type 0) (error : TantivyError) → (tells → Same before now) → (refused → more) → (quiet → all)
     → OpenCause tells schema now refused quiet error → OpenCause tells schema before more all error
-open_cause_at tells schema now before refused quiet more all (errors.DataCorruption why) same r q (inl h) = inl (q h.0, h.1, λ t names lists. h.2 t names (listing_same before now names (same t) lists))
+open_cause_at tells schema now before refused quiet more all (errors.DataCorruption why) same r q (inl h) = inl (q h.0, h.1, λ t names lists. h.2 t names (listing_kept before now names (λ n is. same t n) lists))
 open_cause_at tells schema now before refused quiet more all (errors.DataCorruption why) same r q (inr h) =
     inr ((λ t. has_list (same t) (h.0 t)), (q h.1.0, h.1.1, λ t. subst (OfBytes (MeansNothing (Some schema))) (same t meta_name) (h.1.2 t)))
 open_cause_at tells schema now before refused quiet more all (errors.SchemaError text) same r q h =
@@ -169,7 +169,7 @@ module _ {O W C : Type 0} (g : Ghosts O W C) (outside : O) (schema : List ℕ) w
       unnoted = λ first. back.frees.frame.watched ∙ none.unnoted (of_bytes first) ∙ under.only.watched;
       makes = λ t own same.
           subst (λ (x : List ℕ). MayMake g (LacksMeta g outside) (first_text x) outside now) (is.text_is ∙ sym same.text_is)
-          (makes_behind g (first_text text) (LacksMeta g locked) (LacksMeta g outside) (lacked g under) (under.looks t)
+          (makes_behind g (first_text text) (lacked g under) (under.looks t)
           (makes_then g (first_text text) (LacksMeta g locked) (none.makes t) (looks_kept g (back.keeps t))));
       looks = λ t first. looks_then g (under.looks t) (looks_then g (none.spares t (of_bytes first)) (looks_kept g (back.keeps t)));
     }

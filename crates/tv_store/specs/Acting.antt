@@ -26,12 +26,12 @@ pub record IsStep {O W C : Type 0} (g : Ghosts O W C) (new : StoreState O) (did 
   pub told : answer ≡ did.0
   pub held : IsHeld g new did.1
 
--- This is the step's answer, and the state after it is held; and where the step leaves the state as it
--- was, each name reads what it read, if `given` is so.
-pub record IsWritingStep {O W C : Type 0} (g : Ghosts O W C) (given : Type 0) (old new : StoreState O)
-    (s : State) (did : StepResult State) (answer : List ℕ) : Type 0 where
+-- This is the step's answer, and the state after it is held; and where `given` is so, each name
+-- reads what it read.
+pub record IsWritingStep {O W C : Type 0} (g : Ghosts O W C) (given : Type 0)
+    (old new : StoreState O) (did : StepResult State) (answer : List ℕ) : Type 0 where
   pub step : IsStep g new did answer
-  pub same : given → did.1 ≡ s → Same (g.view old.outside).reads (g.view new.outside).reads
+  pub same : given → Same (g.view old.outside).reads (g.view new.outside).reads
 
 -- from each state that was held, this step's answer is given, and the state after it is held
 abbrev pub StepsTo : {O W C : Type 0} (g : Ghosts O W C) (old new : StoreState O)
@@ -54,7 +54,7 @@ abbrev pub StepsWriting : {O W C : Type 0} (g : Ghosts O W C) (given : Type 0) (
     (told : State → StepResult State) (result : Result (List ℕ) TantivyError) → Type 0
 StepsWriting g given old new told result =
     g.told.content → (s : State) → IsHeld g old s → IsWhole s
-    → IfOk result (IsWritingStep g given old new s (told s))
+    → IfOk result (IsWritingStep g (given × ((told s).1 ≡ s)) old new (told s))
 
 -- The step was made with some outcomes of its deletes, of which no more were refused than their
 -- count rose: from each state that was held, its answer is given, and the state after it is held;
@@ -65,7 +65,7 @@ pub record StepsDeleting {O W C : Type 0} (g : Ghosts O W C) (old new : StoreSta
   pub refused : RoseBy (refused_in outcomes)
       (g.view old.outside).refusals (g.view new.outside).refusals
   pub each : g.told.content → (s : State) → IsHeld g old s
-      → IsWritingStep g (Unit {0}) old new s (told s outcomes) answer
+      → IsWritingStep g ((told s outcomes).1 ≡ s) old new (told s outcomes) answer
 
 -- the step of a new reader, which reads the files of the current commit
 abbrev pub reader_event : ReloadPolicy → State → StepResult State

@@ -1,5 +1,5 @@
 -- An event, applied to a store that is open.
-use Rattle.std.specs.Prelude.{ℕ, ◌≡◌, ◌≢◌, ◌≤◌, ◌+◌, ◌⊎◌, Bool, true, false, List, [], length, Option, Some, None, IsSome, Result, IfErr, OnOk, OnErr, is_ok}
+use Rattle.std.specs.Prelude.{ℕ, ◌≡◌, ◌≢◌, ◌≤◌, ◌+◌, ◌⊎◌, Bool, true, false, List, [], Option, Some, None, IsSome, Result, IfErr, OnOk, OnErr, is_ok}
 use Rattle.tv_base.specs.declared.error.TantivyError.{TantivyError}
 use Rattle.tv_base.specs.declared.error.TantivyError.TheVariants as errors
 use Rattle.tv_base.specs.declared.open_errors.OpenReadError.{OpenReadError}
@@ -19,7 +19,7 @@ use Rattle.tv_machine.specs.State.{State}
 use Rattle.tv_machine.specs.declared.event.Event.{Event}
 use Rattle.tv_machine.specs.declared.event.Event.TheVariants as events
 use Rattle.tv_machine.specs.SoundStates.{IsWhole}
-use Rattle.tv_machine.specs.Machine.{catalog_step, step, refused_in}
+use Rattle.tv_machine.specs.Machine.{Turn, catalog_step, step, refused_in}
 use Rattle.tv_machine.specs.Readable.{ReadsGood, read_by}
 use Rattle.tv_managed.specs.Collecting.{meta_lock_name}
 use Rattle.tv_store.specs.Kept.{KeptState, StoreState, Holds, AtMost, IsHeld}
@@ -27,7 +27,7 @@ use Rattle.tv_store.specs.Effects.{LoadsCommit, TakesMetaLock, length_after, wri
 use Rattle.tv_store.specs.Exhausted.{IsExhausted}
 use Rattle.tv_store.specs.ReaderNumbers.{FewNumbers}
 use Rattle.tv_store.specs.Bodies.{MeetsBadFile}
-use Rattle.tv_store.specs.ReadCauses.{LoadingCause, IsReadError}
+use Rattle.tv_store.specs.ReadCauses.{LoadingCause, IsReadError, ReadFacts}
 use Rattle.tv_store.specs.StoreCauses.{IsBusy}
 use Rattle.tv_store.specs.Stays.{KeepsDotted}
 use Rattle.tv_store.specs.Telling.{TellsFirstPart}
@@ -64,19 +64,19 @@ WritesByStep kept (events.Write id component bytes) =
     (bytes ≢ []) ⊎ (length_after kept (events.Write id component bytes) ≡ None)
 WritesByStep kept other = Unit {0}
 
--- The state after this event's step is held, and this is the step's answer; where the event reads a
+-- The state after this turn's step is held, and this is the step's answer; where its event reads a
 -- commit's files it could do so; where the step leaves the state as it was, each name reads what it read,
 -- and no notice came, but perhaps by a write of no bytes to an open file; and a commit is saved unless it
 -- is refused.
 pub record StepsHeld {O W C : Type 0} (g : Ghosts O W C) (old new : StoreState O) (s : State)
-    (event : Event) (outcomes : List Bool) (answer : List ℕ) : Type 0 where
-  pub told : answer ≡ (step s event outcomes).0
-  pub held : IsHeld g new (step s event outcomes).1
-  pub readable : ReadsGood s event
-  pub unchanged : WritesByStep old.kept event → (step s event outcomes).1 ≡ s
+    (turn : Turn) (answer : List ℕ) : Type 0 where
+  pub told : answer ≡ (step s turn.0 turn.1).0
+  pub held : IsHeld g new (step s turn.0 turn.1).1
+  pub readable : ReadsGood s turn.0
+  pub unchanged : WritesByStep old.kept turn.0 → (step s turn.0 turn.1).1 ≡ s
       → LeavesAlone (g.view old.outside) (g.view new.outside)
-  pub saves : SavesAt event old.kept.form (g.view old.outside) (g.view new.outside)
-      s (step s event outcomes).1
+  pub saves : SavesAt turn.0 old.kept.form (g.view old.outside) (g.view new.outside)
+      s (step s turn.0 turn.1).1
 
 -- One event was applied, with some outcomes of its deletes, of which no more were refused than
 -- their count rose: each whole state that was held has made its step.
@@ -86,7 +86,7 @@ pub record Stepped {O W C : Type 0} (g : Ghosts O W C) (old new : StoreState O) 
   pub refused : RoseBy (refused_in outcomes)
       (g.view old.outside).refusals (g.view new.outside).refusals
   pub each : g.told.content → (s : State) → IsHeld g old s → IsWhole s
-      → StepsHeld g old new s event outcomes answer
+      → StepsHeld g old new s (event, outcomes) answer
 
 -- what `meta.json` reads after an error: what it read before; or, where this is so, a text that means this
 -- commit
@@ -122,13 +122,19 @@ BadIn tells reads kept event error =
 abbrev pub HoldsNone : (tells : Type 0) → Reads → KeptState → Type 0
 HoldsNone tells reads kept = tells → (s : State) → Holds reads kept s → IsWhole s → ⊥
 
+-- `meta.json` isn't loaded, for this cause
+abbrev pub UnloadedFor : {O W C : Type 0} → Ghosts O W C → (old new : StoreState O)
+    → TantivyError → Type 0
+UnloadedFor g old new =
+    MetaCause g.told.content (Some old.kept.form.schema) ((g.view old.outside).reads meta_name)
+    (Rose (g.view old.outside).faults (g.view new.outside).faults)
+    ((g.view new.outside).faults ≡ (g.view old.outside).faults)
+
 -- the event loads `meta.json`, which isn't loaded, for this cause
 abbrev pub UnloadedAt : {O W C : Type 0} → Ghosts O W C → (old new : StoreState O)
     → Event → TantivyError → Type 0
 UnloadedAt g old new event error =
-    LoadsCommit old.kept.catalog event × MetaCause g.told.content (Some old.kept.form.schema)
-    ((g.view old.outside).reads meta_name) (Rose (g.view old.outside).faults (g.view new.outside).faults)
-    ((g.view new.outside).faults ≡ (g.view old.outside).faults) error
+    LoadsCommit old.kept.catalog event × UnloadedFor g old new error
 
 -- the event reads the files of a commit, of which one is refused with this error
 abbrev pub RefusedAt : {O W C : Type 0} → Ghosts O W C → (old : StoreState O) → Event → OpenReadError → Type 0
@@ -140,6 +146,21 @@ abbrev pub GoneAt : {O W C : Type 0} → Ghosts O W C → (old : StoreState O) �
 GoneAt g old event =
     LoadsCommit old.kept.catalog event × HoldsNone g.told.content (g.view old.outside).reads old.kept
 
+-- what is known of an event, by which its error is explained; `spent` says that a number or the
+-- length of a file would pass 64 bits
+abbrev pub event_facts : {O W C : Type 0} → Ghosts O W C → (spent : Type 0)
+    → (old new : StoreState O) → Event → ReadFacts
+event_facts g spent old new event = record {
+  busy = TakesMetaLock old.kept.catalog event × IsBusy g.told.locks
+      ((g.view old.outside).locks meta_lock_name ≡ true)
+      (Rose (g.view old.outside).faults (g.view new.outside).faults);
+  refused = Rose (g.view old.outside).faults (g.view new.outside).faults;
+  quiet = (g.view new.outside).faults ≡ (g.view old.outside).faults;
+  spent = spent;
+  bad = RefusedAt g old event;
+  absent = λ path. GoneAt g old event;
+}
+
 -- An event fails where it takes a lock that isn't given; where it loads `meta.json`, which isn't there, or
 -- means no commit of this index; where it reads the files of a commit, and one can't be read; where the
 -- device refused a call, where memory was wanted, or where a number or the length of a file would pass 64
@@ -147,12 +168,8 @@ GoneAt g old event =
 abbrev pub ActCause : {O W C : Type 0} → Ghosts O W C → (old new : StoreState O)
     → Event → TantivyError → Type 0
 ActCause g old new event =
-    LoadingCause (TakesMetaLock old.kept.catalog event
-    × IsBusy g.told.locks ((g.view old.outside).locks meta_lock_name ≡ true)
-    (Rose (g.view old.outside).faults (g.view new.outside).faults))
-    (Rose (g.view old.outside).faults (g.view new.outside).faults)
-    ((g.view new.outside).faults ≡ (g.view old.outside).faults) (IsExhausted old.kept event)
-    (UnloadedAt g old new event) (RefusedAt g old event) (λ path. GoneAt g old event)
+    LoadingCause (event_facts g (IsExhausted old.kept event) old new event)
+    (UnloadedAt g old new event)
 
 -- At Ok the device refused no call but deletes, the lock that the event takes was free, and no number and no
 -- length passes 64 bits; the lock was free too where a file wasn't read, or `meta.json` was refused; and why

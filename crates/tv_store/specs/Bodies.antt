@@ -14,7 +14,7 @@ use Rattle.tv_base.specs.declared.open_errors.OpenReadError.TheVariants as read
 use Rattle.tv_base.specs.declared.error.TantivyError.{TantivyError}
 use Rattle.tv_framing.specs.Footers.{Refuses}
 use Rattle.tv_managed.specs.Reading.{HasNoBody, HasOtherFormat}
-use Rattle.tv_store.specs.ReadCauses.{ApplyCause}
+use Rattle.tv_store.specs.ReadCauses.{ApplyCause, reading_facts}
 
 -- Why the bytes of the file of this path are refused, which the error says: they end in no footer, for the
 -- first reason that holds, or in one of a format that isn't read.
@@ -92,5 +92,5 @@ pub record RefusesFirst (tells : Type 0) (reads : Reads) (names : List (List ℕ
 abbrev pub FailsAt : (tells : Type 0) → Reads → List (List ℕ)
     → (refused quiet : Type 0) → TantivyError → Type 0
 FailsAt tells reads names refused quiet =
-    ApplyCause ⊥ refused quiet ⊥ (RefusesFirst tells reads names)
-    (λ path. (has names path ≡ true) × (tells → reads path ≡ None))
+    ApplyCause (reading_facts refused quiet (RefusesFirst tells reads names)
+    (λ path. (has names path ≡ true) × (tells → reads path ≡ None)))

@@ -1,4 +1,5 @@
--- What an event does beside its step: what it reads, which lock it takes, which numbers it gives, and how many bytes it adds.
+-- What an event does beside its step: what it reads, which lock it takes, which numbers it gives,
+-- and how many bytes it adds.
 use Rattle.std.specs.Prelude.{ℕ, ◌≡◌, ◌+◌, ◌++◌, false, List, [], ◌∷◌, length, Option, Some, None, IsSome, option_map, option_and_then, if◌then◌else◌}
 use Rattle.tv_formats.specs.Collections.{Collections}
 use Rattle.tv_formats.specs.Names.{at}

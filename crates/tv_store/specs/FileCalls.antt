@@ -12,14 +12,14 @@ use Rattle.tv_managed.specs.Collecting.{FailsAtMost, TakesNoLock, meta_lock_name
 use Rattle.tv_managed.specs.Crashes.{LeavesSafely}
 use Rattle.tv_managed.specs.Managed.{MakesFile}
 use Rattle.tv_formats.specs.Collections.{collectable, done_of, failed_of, held, without}
-use Rattle.tv_formats.specs.Files.{Reads, Rose, Same}
+use Rattle.tv_formats.specs.Files.{Rose, Same}
 use Rattle.tv_formats.specs.Framing.{is_intact}
 use Rattle.tv_formats.specs.Listing.{IsListFile, Listing}
 use Rattle.tv_formats.specs.Names.{byte_cmp, has, meta_name, at}
 use Rattle.tv_store.specs.Bodies.{RefusesAt}
 use Rattle.tv_store.specs.Kept.{FilesState, names_below}
-use Rattle.tv_store.specs.ReadCauses.{ApplyCause}
-use Rattle.tv_index.specs.Crashes.{SavesStates}
+use Rattle.tv_store.specs.ReadCauses.{ApplyCause, reading_facts}
+use Rattle.tv_index.specs.Crashes.{SavesStates, giving}
 use Rattle.tv_index.specs.Saving.{FrameNotes}
 use Rattle.tv_store.specs.StoreCauses.{IsBusy, LockingCause, MakesNoFile}
 
@@ -69,26 +69,28 @@ pub record FindsFile {O W C : Type 0} (g : Ghosts O W C) (old new : FilesState O
 pub record ReadBodyFaults {A O W C : Type 0} (g : Ghosts O W C) (old new : O) (name : List ℕ)
     (result : Result A TantivyError) : Type 0 where
   pub quiet : OnOk result ((g.view new).faults ≡ (g.view old).faults)
-  pub cause : IfErr result (ApplyCause ⊥ (Rose (g.view old).faults (g.view new).faults)
-      ((g.view new).faults ≡ (g.view old).faults) ⊥
+  pub cause : IfErr result (ApplyCause (reading_facts (Rose (g.view old).faults (g.view new).faults)
+      ((g.view new).faults ≡ (g.view old).faults)
       (λ error. g.told.content → RefusesAt (g.view old).reads name error)
-      (λ path. (path ≡ name) × (g.told.content → (g.view old).reads path ≡ None)))
+      (λ path. (path ≡ name) × (g.told.content → (g.view old).reads path ≡ None))))
   pub file : IfErr result MakesNoFile
   pub lock : IfErr result TakesNoLock
 
 -- What trying these names gave: each is told as done or as failed, in their order.
-pub record Tried (names before after deleted failed : List (List ℕ)) (tells : Type 0)
-    (old new : Reads) : Type 0 where
+pub record TriesNames {O W C : Type 0} (g : Ghosts O W C) (names : List (List ℕ))
+    (old new : FilesState O) (deleted failed : List (List ℕ)) : Type 0 where
   pub outcomes : List Bool
   pub each : length outcomes ≡ length names
   pub deleted_is : deleted ≡ done_of names outcomes
   pub failed_is : failed ≡ failed_of names outcomes
   -- the managed names are those that were, without the deleted ones
-  pub managed : after ≡ without deleted before
+  pub managed : new.managed ≡ without deleted old.managed
   -- a deleted name doesn't read
-  pub gone : tells → (n : List ℕ) → has deleted n ≡ true → new n ≡ None
+  pub gone : g.told.content → (n : List ℕ) → has deleted n ≡ true
+      → (g.view new.outside).reads n ≡ None
   -- every other name but those of the list reads what it read
-  pub others : tells → (n : List ℕ) → has deleted n ≡ false → (IsListFile n → ⊥) → new n ≡ old n
+  pub others : g.told.content → (n : List ℕ) → has deleted n ≡ false → (IsListFile n → ⊥)
+      → (g.view new.outside).reads n ≡ (g.view old.outside).reads n
 
 -- The managed files were tried that aren't among these, and that no unfinished collection holds. Those that
 -- were deleted are neither open nor left any more, no more deletes failed than were refused, and the
@@ -97,10 +99,7 @@ pub record Tried (names before after deleted failed : List (List ℕ)) (tells : 
 pub record Collects {O W C : Type 0} (g : Ghosts O W C) (living : List (List ℕ)) (old new : FilesState O)
     (deleted failed : List (List ℕ)) : Type 0 where
   pub tried :
-      Tried
-      (collectable
-      (living ++ held old.collections) old.managed) old.managed new.managed deleted failed g.told.content
-      (g.view old.outside).reads (g.view new.outside).reads
+      TriesNames g (collectable (living ++ held old.collections) old.managed) old new deleted failed
   pub counted : FailsAtMost (length failed) (g.view old.outside).refusals (g.view new.outside).refusals
   pub open_files : (n : List ℕ) → at new.open_files n ≡ cond (has deleted n) None (at old.open_files n)
   pub left : (n : List ℕ) → has new.left n ≡ (not (has deleted n) && has old.left n)
@@ -135,7 +134,7 @@ abbrev pub SavesSafely : {A O W C : Type 0} → Ghosts O W C → (old new : File
 SavesSafely g old new text result =
     LeavesSafely g
     (SavesStates (g.disk old.outside) (g.disk new.outside)
-    (names_below old).1 meta_name text errors.Memory result)
+    (names_below old).1 (giving meta_name text) errors.Memory result)
     (names_below old) (names_below new)
 
 -- The settings and the schema stay, and the unfinished collections; no file was opened, written, closed or

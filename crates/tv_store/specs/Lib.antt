@@ -17,6 +17,9 @@ pub mod FileCalls
 pub mod CollectingCalls
 pub mod Reopening
 pub mod SnapshotCalls
+pub mod Actions
+pub mod Plans
+pub mod Performing
 pub mod Acting
 pub mod OpeningCauses
 pub mod Making

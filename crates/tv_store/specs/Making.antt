@@ -25,7 +25,7 @@ use Rattle.tv_machine.specs.State.{Catalog}
 use Rattle.tv_store.specs.Bodies.{ReadsGoodFile}
 use Rattle.tv_store.specs.Kept.{FilesState, names_below}
 use Rattle.tv_store.specs.OpeningCauses.{MeetsMissing, MeetsRefused}
-use Rattle.tv_store.specs.ReadCauses.{ApplyCause}
+use Rattle.tv_store.specs.ReadCauses.{ApplyCause, reading_facts}
 use Rattle.tv_store.specs.Stays.{KeepsFiles}
 use Rattle.tv_store.specs.StoreCauses.{MakesNoFile, writer_lock_name}
 use Rattle.tv_store.specs.Telling.{TellsLine, TellsFirstPart, TellsNoLine}
@@ -69,10 +69,10 @@ WritesNone g outside error =
 abbrev pub ReadingCause : {O W C : Type 0} → Ghosts O W C → (old new : O) → (names : List (List ℕ))
     → TantivyError → Type 0
 ReadingCause g old new names =
-    ApplyCause ⊥ (Rose (g.view old).faults (g.view new).faults)
-    ((g.view new).faults ≡ (g.view old).faults) ⊥
+    ApplyCause (reading_facts (Rose (g.view old).faults (g.view new).faults)
+    ((g.view new).faults ≡ (g.view old).faults)
     (λ error. g.told.content → MeetsRefused (g.view old).reads names error)
-    (λ path. g.told.content → MeetsMissing (g.view old).reads names path)
+    (λ path. g.told.content → MeetsMissing (g.view old).reads names path))
 
 -- The index that stands in this directory was found, or a new one was made, of which a notice stands:
 -- its settings and its schema, its catalog, and its files, none of them open; no collection was begun.

@@ -28,20 +28,40 @@ ReadFault refused quiet bad absent (read.FileDoesNotExist path) =
 ReadFault refused quiet bad absent (read.IncompatibleIndex why) = quiet × bad (read.IncompatibleIndex why)
 ReadFault refused quiet bad absent other = ⊥
 
--- an event fails as others do, or because a lock isn't given, which is `busy`, or because it can't read a
--- file
-abbrev pub ApplyCause : (busy refused quiet spent : Type 0) (bad : OpenReadError → Type 0)
-    (absent : List ℕ → Type 0) → TantivyError → Type 0
-ApplyCause busy refused quiet spent bad absent (errors.OpenReadError error) =
-    ReadFault refused quiet bad absent error
-ApplyCause busy refused quiet spent bad absent other = LockingCause busy refused quiet spent other
+-- What is known of a call, or of an event, that may read files, by which an error is explained.
+pub record ReadFacts : Type 1 where
+  -- the lock that it takes isn't given
+  pub busy : Type 0
+  -- the device refused a call; it refused none
+  pub refused : Type 0
+  pub quiet : Type 0
+  -- a number or the length of a file would pass 64 bits
+  pub spent : Type 0
+  -- what a file reads is refused with this error
+  pub bad : OpenReadError → Type 0
+  -- this file isn't there
+  pub absent : List ℕ → Type 0
+
+-- what is known of a call that takes no lock, and by which no number and no length grows
+abbrev pub reading_facts : (refused quiet : Type 0) → (bad : OpenReadError → Type 0)
+    → (absent : List ℕ → Type 0) → ReadFacts
+reading_facts refused quiet bad absent = record {
+  busy = ⊥;
+  refused = refused;
+  quiet = quiet;
+  spent = ⊥;
+  bad = bad;
+  absent = absent;
+}
+
+-- an event fails as others do, or because a lock isn't given, or because it can't read a file
+abbrev pub ApplyCause : ReadFacts → TantivyError → Type 0
+ApplyCause facts (errors.OpenReadError error) =
+    ReadFault facts.refused facts.quiet facts.bad facts.absent error
+ApplyCause facts other = LockingCause facts.busy facts.refused facts.quiet facts.spent other
 
 -- or because the bytes of `meta.json` are refused, for this cause: `load`
-abbrev pub LoadingCause : (busy refused quiet spent : Type 0) (load : TantivyError → Type 0)
-    (bad : OpenReadError → Type 0) (absent : List ℕ → Type 0) → TantivyError → Type 0
-LoadingCause busy refused quiet spent load bad absent (errors.DataCorruption why) =
-    load (errors.DataCorruption why)
-LoadingCause busy refused quiet spent load bad absent (errors.SchemaError text) =
-    load (errors.SchemaError text)
-LoadingCause busy refused quiet spent load bad absent other =
-    ApplyCause busy refused quiet spent bad absent other
+abbrev pub LoadingCause : ReadFacts → (load : TantivyError → Type 0) → TantivyError → Type 0
+LoadingCause facts load (errors.DataCorruption why) = load (errors.DataCorruption why)
+LoadingCause facts load (errors.SchemaError text) = load (errors.SchemaError text)
+LoadingCause facts load other = ApplyCause facts other

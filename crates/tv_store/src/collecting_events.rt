@@ -1,8 +1,10 @@
 //! The events of a collection in steps.
-ghost use Rattle.std.specs.Prelude.{◌≡◌, ◌<◌, ◌+◌, [], ◌∷◌, ℕ, Bool, length, codes, cond, IfOk, OnOk};
+ghost use Rattle.std.specs.Prelude.{◌≡◌, ◌<◌, ◌≤◌, ◌+◌, [], ◌∷◌, ℕ, Bool, true, length, codes, cond, map, string_bytes, vec_len, vec_capacity, IfOk, OnOk};
+ghost use Rattle.std.specs.List.{list_all};
 ghost use Rattle.std.specs.Fmt.{decimal};
 ghost use Rattle.tv_machine.specs.CollectionEvents.{gc_begin_step, gc_end_step, gc_step_step};
 ghost use Rattle.tv_machine.specs.Lines.{line};
+ghost use Rattle.tv_formats.specs.Names.{is_plain};
 ghost use Rattle.tv_directory.specs.View.{Kept, MayDelete, OnlyReads};
 ghost use Rattle.tv_machine.specs.declared.event.Event.TheVariants as events;
 ghost use Rattle.tv_store.specs.Acting.{OnCollecting, OnFiles, StepsDeleting, StepsTo, StepsWriting};
@@ -11,7 +13,7 @@ ghost use Rattle.tv_store.specs.Exhausted.{SomePassesEnd};
 ghost use Rattle.tv_store.specs.Kept.{AtMost};
 ghost use Rattle.tv_store.specs.Stays.{AsksQuietly};
 
-use crate::collection_events::with_names;
+use crate::collection_events::{push_texts, push_word};
 use crate::index_store::IndexStore;
 use std::alloc::Global;
 use tv_base::TantivyError;
@@ -19,13 +21,21 @@ use tv_directory::Outside;
 use tv_formats::{FileName, Memory};
 use tv_machine::Answer;
 
-// The line of a collection of these names that began.
-fn begun_line(alloc: Global, number: u64, names: &[FileName]) -> Result<Answer, Memory>
-    ensures { IfOk result (λ answer. answer
-        ≡ line (codes "gc") (decimal number ∷ names.entry.now)) }
+// The line of a collection of these names that began, in a vector that is empty and has room for it. Takes no
+// memory.
+fn begun_line(room: Vec<u8>, number: u64, names: &[String]) -> Answer
+    requires empty { vec_len room ≡ 0 }
+    requires room { length (line (codes "gc") (decimal number ∷ map string_bytes names.now))
+        ≤ vec_capacity room }
+    requires plain { list_all is_plain (map string_bytes names.now) ≡ true }
+    ensures { result ≡ line (codes "gc") (decimal number ∷ map string_bytes names.entry.now) }
 {
-    let answer = Answer::new(alloc, "gc")?.number(number)?;
-    with_names(answer, names)
+    let mut digits = itoa::Buffer::new();
+    let mut text = room;
+    text.extend_from_slice(b"gc").unwrap();
+    push_word(&mut text, digits.format(number).as_bytes());
+    push_texts(&mut text, names);
+    Answer::from_bytes(text)
 }
 
 // The line of a name that a collection tried.
@@ -87,12 +97,9 @@ impl<O: Outside> IndexStore<O> {
             self.old self.new result }
     {
         let living = self.catalog.living()?;
-        self.ready_for_all()?;
+        let room = self.room_for_all()?;
         let number = self.files.collect_begin(&living)?;
-        let names = self.files.collect_names(self.alloc, number)?;
-        let answer = begun_line(self.alloc, number, names.as_slice())?;
-        let answer = self.ready(answer)?;
-        Ok(answer)
+        Ok(begun_line(room, number, self.files.collect_names(number)))
     }
 
     // Makes room for the answer to a step of a collection, whichever it is.

@@ -1,5 +1,5 @@
 //! Collections of files, and the end of open ones.
-ghost use Rattle.std.specs.Prelude.{◌≡◌, ◌≢◌, ◌&&◌, ◌||◌, not, ◌≤◌, [], ◌∷◌, List, ℕ, true, length, None, Some, IsSome, is_some, cond, option_map, Contains, IfOk, OnOk, OnErr, map, string_bytes};
+ghost use Rattle.std.specs.Prelude.{◌≡◌, ◌≢◌, ◌&&◌, ◌||◌, not, ◌≤◌, [], ◌∷◌, List, ℕ, true, length, vec_len, vec_capacity, None, Some, IsSome, is_some, cond, option_map, Contains, IfOk, OnOk, OnErr, map, string_bytes};
 ghost use Rattle.std.specs.List.{list_all, AllByRecursion};
 ghost use Rattle.std.specs.List.Sorted.{IsStrictlySortedBy};
 ghost use Rattle.tv_formats.specs.Names.{byte_cmp, has, is_plain, meta_name, at};
@@ -21,8 +21,7 @@ use std::mem;
 use tv_base::TantivyError;
 use tv_directory::Outside;
 use tv_formats::{FileName, Memory};
-use tv_index::naming::push_text;
-use tv_managed::{CollectStep, GarbageCollectionResult};
+use tv_managed::CollectStep;
 
 /// A name that a collection tried, and whether it is done.
 #[derive(Drop)]
@@ -37,43 +36,18 @@ pub(crate) struct Collected {
     pub(crate) failed: Vec<FileName>,
 }
 
-// Names of files, from their texts.
-fn file_names(alloc: Global, texts: Vec<String>) -> Result<Vec<FileName>, Memory>
-    requires { list_all is_plain (map string_bytes texts.items) ≡ true }
-    ensures { IfOk result (λ names. names.items ≡ map string_bytes texts.items) }
+// Names of files, from their texts, in a vector that is empty and has room for them. Takes no memory.
+fn file_names(room: Vec<FileName>, texts: Vec<String>) -> Vec<FileName>
+    requires empty { vec_len room ≡ 0 }
+    requires room { length texts.items ≤ vec_capacity room }
+    requires plain { list_all is_plain (map string_bytes texts.items) ≡ true }
+    ensures { result.items ≡ map string_bytes texts.items }
 {
-    let mut names = Vec::new(alloc);
+    let mut names = room;
     for text in texts {
-        names.push(FileName::new(text))?;
+        names.push_reserved(FileName::new(text));
     }
-    Ok(names)
-}
-
-// What became of a collection, from what it answered.
-fn collected_from(alloc: Global, told: GarbageCollectionResult) -> Result<Collected, Memory>
-    requires deleted { list_all is_plain (map string_bytes told.deleted_files.items) ≡ true }
-    requires failed { list_all is_plain
-        (map string_bytes told.failed_to_delete_files.items) ≡ true }
-    ensures deleted { IfOk result (λ c. c.deleted.items
-        ≡ map string_bytes told.deleted_files.items) }
-    ensures failed { IfOk result (λ c. c.failed.items
-        ≡ map string_bytes told.failed_to_delete_files.items) }
-{
-    let deleted = file_names(alloc, told.deleted_files)?;
-    let failed = file_names(alloc, told.failed_to_delete_files)?;
-    Ok(Collected { deleted, failed })
-}
-
-// Names of files, from copies of their texts.
-fn copied_names(alloc: Global, texts: &[String]) -> Result<Vec<FileName>, Memory>
-    requires { list_all is_plain (map string_bytes texts.now) ≡ true }
-    ensures { IfOk result (λ names. names.items ≡ map string_bytes texts.now) }
-{
-    let mut names = Vec::new(alloc);
-    for text in texts {
-        push_text(alloc, &mut names, text)?;
-    }
-    Ok(names)
+    names
 }
 
 // Takes the entries of these names out of a map.
@@ -148,19 +122,15 @@ impl<O: Outside> StoreFiles<O> {
         Ok(FileName::new(String::from_str(alloc, name)?))
     }
 
-    /// The names that an unfinished collection took, in their order; none where no such collection is
-    /// unfinished.
-    pub(crate) fn collect_names(&self, alloc: Global, number: u64) -> Result<Vec<FileName>, Memory>
-        ensures absent { collection_at self.now.collections number ≡ None
-            → IfOk result (λ names. names.items ≡ []) }
+    /// The names that an unfinished collection took, in their order. Takes no memory.
+    pub(crate) fn collect_names(&self, number: u64) -> &[String]
+        requires { IsSome (collection_at self.now.collections number) }
+        ensures plain { list_all is_plain (map string_bytes result.now) ≡ true }
         ensures names { (c : Collection) → collection_at self.now.collections number ≡ Some c
-            → IfOk result (λ names. IsStrictlySortedBy byte_cmp names.items
-            × ((n : List ℕ) → has names.items n ≡ has (taken c) n)) }
+            → IsStrictlySortedBy byte_cmp (map string_bytes result.now)
+            × ((n : List ℕ) → has (map string_bytes result.now) n ≡ has (taken c) n) }
     {
-        match self.index.directory().collect_names(number) {
-            Some(names) => copied_names(alloc, names),
-            None => Ok(Vec::new(alloc)),
-        }
+        self.index.directory().collect_names(number).unwrap()
     }
 
     /// Begins a collection of the managed files that aren't among these, and answers its number.
@@ -222,7 +192,8 @@ impl<O: Outside> StoreFiles<O> {
     }
 
     /// Tries to delete the managed files that aren't among these, and that no unfinished collection
-    /// holds. At Ok one that was deleted is neither open nor left any more.
+    /// holds. At Ok one that was deleted is neither open nor left any more. The memory for the answer is
+    /// taken before the first delete.
     pub(crate) fn collect(
         &mut self,
         alloc: Global,
@@ -247,16 +218,19 @@ impl<O: Outside> StoreFiles<O> {
             self.old.outside self.new.outside result }
         ensures frame { KeepsForm (MayDelete O.told) O.view self.old self.new }
     {
-        // A contract learns from the managed names that they are plain.
-        let _names = self.index.directory().list_managed_files();
+        // All names that the answer may have are managed, so there is room for them.
+        let count = self.index.directory().list_managed_files().len();
+        let deleted = Vec::with_capacity(alloc, count)?;
+        let failed = Vec::with_capacity(alloc, count)?;
         // No writer is kept beside an error, since nobody could tell which files are gone.
         let mut files = mem::replace(&mut self.files, BTreeMap::new(alloc));
         let result = self.index.directory_mut().garbage_collect(move || living)?;
-        let collected = collected_from(alloc, result)?;
-        remove_all(&mut files, collected.deleted.as_slice());
+        let deleted = file_names(deleted, result.deleted_files);
+        let failed = file_names(failed, result.failed_to_delete_files);
+        remove_all(&mut files, deleted.as_slice());
         self.files = files;
-        remove_names(&mut self.left, collected.deleted.as_slice());
-        Ok(collected)
+        remove_names(&mut self.left, deleted.as_slice());
+        Ok(Collected { deleted, failed })
     }
 
     /// The open files are left, and no collection is unfinished any more.

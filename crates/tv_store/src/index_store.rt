@@ -9,12 +9,15 @@ ghost use Rattle.tv_store.specs.Acting.{Acts};
 ghost use Rattle.tv_store.specs.Applying.{Stepped, LeavesMeta, Grows, ApplyFaults, AppliesFrame, AsksNoFile, IsUndisturbedEvent};
 ghost use Rattle.tv_store.specs.Kept.{Holds, IsHeld};
 ghost use Rattle.tv_store.specs.Opening.{Opens, LeavesIndex, TellsOpening, TakesWriterLock, OpeningFaults, OpeningFrame, OpensSafely};
+ghost use Rattle.tv_store.specs.Plans.{IsPlanned};
 ghost use Rattle.tv_store.specs.StoreCauses.{writer_lock_name};
 ghost use Rattle.tv_store.specs.Telling.{TellsAnswer, TriesLine};
 
 use crate::catalog::Catalog;
 use crate::files::StoreFiles;
 use crate::opening::{Found, begin, find};
+use crate::perform::{line_of, perform};
+use crate::plan::{Planned, plan};
 use std::alloc::Global;
 use std::marker::Model;
 use tv_base::{IoFault, TantivyError};
@@ -152,9 +155,7 @@ impl<O: Outside> IndexStore<O> {
         ensures { Acts O.Directory self.old self.new event.now result }
     {
         match event {
-            Event::Open(id, component) => self.open_file(*id, *component),
-            Event::Write(id, component, bytes) => self.write_file(*id, *component, bytes),
-            Event::Seal(id, component) => self.seal_file(*id, *component),
+            Event::Open(..) | Event::Write(..) | Event::Seal(..) => self.act_by_plan(event),
             Event::Deletes(id, n) => self.deletes(*id, *n),
             Event::Commit(payload, ids) => self.commit(payload, ids),
             Event::Gc => self.gc(),
@@ -168,6 +169,17 @@ impl<O: Outside> IndexStore<O> {
             Event::Reopen => self.reopen(),
             _ => unreachable!(),
         }
+    }
+
+    // An event is planned, its action performed, and answered in room that was made before.
+    fn act_by_plan(&mut self, event: &Event) -> Result<Answer, TantivyError>
+        requires { IsPlanned event.now }
+        ensures { Acts O.Directory self.old self.new event.now result }
+    {
+        let Planned { action, line } = plan(self.alloc, &self.catalog, &self.files, event)?;
+        self.files.ready(line.capacity())?;
+        let reply = perform(&mut self.files, action)?;
+        Ok(line_of(line, &reply))
     }
 
     /// Whether the next event may be applied: false after an error. Takes no memory.

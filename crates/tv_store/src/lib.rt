@@ -6,6 +6,7 @@
 //! writers of open files.
 #![tactic(auto)]
 
+mod action;
 mod answers;
 mod catalog;
 mod catalog_events;
@@ -15,13 +16,14 @@ mod collection_events;
 mod commit;
 mod commit_events;
 mod delete_events;
-mod file_events;
 mod files;
 mod files_collecting;
 mod index_store;
 pub mod laws;
 mod names;
 mod opening;
+mod perform;
+mod plan;
 mod reader_events;
 mod readers;
 mod reopen_events;

@@ -1,10 +1,10 @@
 //! Ids, and the names of a segment's files.
-use crate::compare::{is_made, is_text};
+use crate::compare::{are_bytes, is_made, is_text};
 use crate::told::{prints, told};
 use std::alloc::Global;
 use std::process::Abort;
 use tv_formats::{DeleteMeta, SegmentComponent, SegmentId, segment_file_name};
-use tv_machine::{IdList, laws};
+use tv_machine::{Answer, IdList, laws};
 
 // More ids than the longest line of a script can name.
 const MANY: u64 = 31_775;
@@ -62,6 +62,13 @@ fn are_told_apart<R: Abort>(rt: &R, alloc: Global, last: SegmentId) -> bool {
 fn many_ids_are_told_apart(rt: HostRuntime) {
     assert!(rt; are_told_apart(&rt, rt.alloc(), id()));
     assert!(rt; !are_told_apart(&rt, rt.alloc(), SegmentId::from_bytes([0; 16])));
+}
+
+#[test]
+fn an_answer_has_its_bytes(rt: HostRuntime) {
+    let text = Vec::from_slice(rt.alloc(), b"gc deleted failed").expect(&rt, "memory");
+    let answer = Answer::from_bytes(text);
+    are_bytes(&rt, answer.as_slice(), b"gc deleted failed");
 }
 
 #[test]

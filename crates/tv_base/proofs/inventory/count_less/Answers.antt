@@ -10,7 +10,7 @@ returns-in_default-clause-below g c = λ n below. below
 
 pub returns-then-index-lt2-clause-released : goal.returns-then-index-lt2-clause-released
 returns-then-index-lt2-clause-released g c =
-    c.remove.ensures.items ∙ taken_out c.args.number c.args.entries.now.items c.in-Some.i c.index.result.now c.in-Some.ensures c.index.ensures c.if-index-lt2.true
+    c.remove.ensures.items ∙ taken_out c.args.number c.in-Some.ensures c.index.ensures c.if-index-lt2.true
 
 pub returns-then-index-lt2-clause-below : goal.returns-then-index-lt2-clause-below
 returns-then-index-lt2-clause-below g c = λ n below.
@@ -18,8 +18,8 @@ returns-then-index-lt2-clause-below g c = λ n below.
 
 pub returns-clause-released : goal.returns-clause-released
 returns-clause-released g c =
-    lessened c.args.number c.args.entries.now.items c.in-Some.i c.index.result.now c.index_mut-entry.result.now c.in-Some.ensures c.index.ensures c.if-index-lt2.false c.index_mut-entry.ensures.value
+    lessened c.args.number c.in-Some.ensures c.index.ensures c.if-index-lt2.false c.index_mut-entry.ensures.value
 
 pub returns-clause-below : goal.returns-clause-below
 returns-clause-below g c = λ n below.
-    below_lessened n c.args.entries.now.items c.in-Some.i c.index_mut-entry.result.now c.in-Some.ensures.inside c.index_mut-entry.ensures.value below
+    below_lessened n c.args.entries.now.items c.in-Some.i c.in-Some.ensures.inside c.index_mut-entry.ensures.value below

@@ -1,8 +1,9 @@
 use Rattle.std.proofs.Common.{◌∙◌, ap}
 use Rattle.tv_directory.specs.ViewLaws.{kept_then}
 use Rattle.tv_formats.proofs.DiskLaws.{touches_then}
-use Rattle.tv_directory.proofs.TouchedNames.{reads_touch, touches_opened, touches_written}
+use Rattle.tv_directory.proofs.TouchedNames.{touches_opened, touches_written}
 use Rattle.tv_directory.proofs.persist.persist_file.Goals as goal
+use Rattle.tv_directory.specs.TouchLaws.{reads_touch}
 
 pub returns-in_err-writer-clause-images : goal.returns-in_err-writer-clause-images
 returns-in_err-writer-clause-images g c = λ tells. touches_opened (c.in_err-writer.ensures.images tells)

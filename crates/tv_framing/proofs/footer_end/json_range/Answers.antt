@@ -1,7 +1,7 @@
-use Rattle.std.proofs.Common.{inl, inr, sym, ◌++◌, subst, ◌∙◌, ap, arith, codes, ◌+◌}
-use Rattle.std.specs.Fmt.{decimal}
+use Rattle.std.proofs.Common.{inl, inr, sym, subst, ◌∙◌, ap, arith, ◌+◌}
 use Rattle.tv_base.specs.declared.io.IoKind.TheVariants.{InvalidData, UnexpectedEof}
 use Rattle.tv_framing.specs.Faults.{IsFault}
+use Rattle.tv_framing.specs.Footers.{cut_off_text, too_long_text}
 use Rattle.tv_framing.proofs.FooterEnds.{has_end, last_is, of_fault, other_magic, stated_is}
 use Rattle.tv_formats.specs.Footer.{four_bytes}
 use Rattle.tv_framing.proofs.footer_end.json_range.Goals as goal
@@ -21,7 +21,7 @@ returns-then-len-gt-MAX_LEN c =
       large = omega (arith, e.size);
       magic = last_is _ _ _ _ e ∙ ap four_bytes c.if-magic-ne-FOOTER_MAGIC_NUMBER.false;
       long = omega (arith, n, c.if-len-gt-MAX_LEN.true);
-      is = subst (λ k. IsFault InvalidData (codes "Footer seems invalid as it suggests a footer len of " ++ (decimal k ++ codes ". File is corrupted, or the index was created with a different & old version of tantivy.")) f) (sym n) is;
+      is = subst (λ k. IsFault InvalidData (too_long_text k) f) (sym n) is;
     }))))
 
 pub returns-then-front-len : goal.returns-then-front-len
@@ -34,7 +34,7 @@ returns-then-front-len c =
       magic = last_is _ _ _ _ e ∙ ap four_bytes c.if-magic-ne-FOOTER_MAGIC_NUMBER.false;
       short = omega (arith, n, c.if-len-gt-MAX_LEN.false);
       cut = omega (arith, n, e.size, c.if-front-len.true);
-      is = subst (λ k. IsFault UnexpectedEof (codes "File corrupted. The file is smaller than it's footer bytes (len=" ++ (decimal (k + 8) ++ codes ").")) f) (sym n) is;
+      is = subst (λ k. IsFault UnexpectedEof (cut_off_text (k + 8)) f) (sym n) is;
     })))))
 
 pub returns : goal.returns

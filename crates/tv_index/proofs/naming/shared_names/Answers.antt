@@ -3,8 +3,8 @@ use Rattle.std.proofs.lemmas.List.{map-append}
 use Rattle.std.proofs.lemmas.Map.Iter.{iter_end}
 use Rattle.std.proofs.lemmas.Simd.{map-map}
 use Rattle.tv_formats.specs.Names.{has}
+use Rattle.tv_formats.proofs.PlainNames.{plain_head}
 use Rattle.tv_index.proofs.Damages.{shared_last}
-use Rattle.tv_index.proofs.PlainFiles.{plain_head}
 use Rattle.tv_index.proofs.naming.shared_names.Goals as goal
 
 pub push_shared-requires : goal.push_shared-requires

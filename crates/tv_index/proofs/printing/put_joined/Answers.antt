@@ -1,11 +1,12 @@
 use Rattle.std.proofs.Common.{◌≡◌, ◌+◌, ◌∷◌, [], ◌++◌, List, ℕ, map, take, sym, ap, ◌∙◌, arith}
 use Rattle.std.specs.List.{join_with_byte}
 use Rattle.std.proofs.lemmas.List.{take_all, take_more}
+use Rattle.std.proofs.lemmas.Simd.{map-map}
 use Rattle.tv_formats.specs.Commits.{segment_text}
 use Rattle.tv_formats.proofs.JoinedTexts.{is_nil, is_nil_append}
 use Rattle.tv_index.specs.declared.segment_meta.InnerSegmentMeta.{InnerSegmentMeta}
 use Rattle.tv_index.specs.Segments.{entry_of}
-use Rattle.tv_index.proofs.JoinedTexts.{join_added, map_map}
+use Rattle.tv_index.proofs.JoinedTexts.{join_added}
 use Rattle.tv_index.proofs.printing.put_joined.Goals as goal
 
 abbrev text_of : InnerSegmentMeta → List ℕ
@@ -30,4 +31,4 @@ returns c =
     c.loop-segment.invariant.text
     ∙ ap (λ (l : List InnerSegmentMeta). c.args.out.now.items ++ join_with_byte 44 (map text_of l))
     (take_all c.loop-segment.segment-index c.args.segments.now c.loop-segment-test.false)
-    ∙ ap (λ (l : List (List ℕ)). c.args.out.now.items ++ join_with_byte 44 l) (sym (map_map segment_text entry_of c.args.segments.now))
+    ∙ ap (λ (l : List (List ℕ)). c.args.out.now.items ++ join_with_byte 44 l) (sym (map-map segment_text entry_of c.args.segments.now))

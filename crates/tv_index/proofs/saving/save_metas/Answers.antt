@@ -1,7 +1,7 @@
 use Rattle.std.proofs.Common.{◌∙◌, refl}
 use Rattle.tv_formats.specs.Names.{meta_name}
 use Rattle.tv_base.specs.declared.error.TantivyError.TheVariants as errors
-use Rattle.tv_index.specs.TrackedMetas.{tracked_settings}
+use Rattle.tv_index.specs.TrackedMetas.{tracked_form}
 use Rattle.tv_index.proofs.Managing.{manages_err, manages_none, manages_ok}
 use Rattle.tv_index.proofs.Openings.{notes_unless, same_memory}
 use Rattle.tv_index.proofs.SavedSafely.{saves_err, saves_none, saves_ok}
@@ -12,21 +12,21 @@ pub returns-in_err-text-clause-saves : goal.returns-in_err-text-clause-saves
 returns-in_err-text-clause-saves g c commit order =
     let meta = c.args.meta.now in
     let learned = c.learn_commit.ensures in
-    unprinted g.D.Directory c.args.directory.now c.args.directory.now (tracked_settings meta) meta.schema commit learned.schema learned.blocksize (learned.commit commit order) c.from_residual.result c.from_residual.ensures.1 refl
+    unprinted g.D.Directory c.args.directory.now c.args.directory.now (tracked_form meta) commit learned.schema learned.blocksize (learned.commit commit order) c.from_residual.result c.from_residual.ensures.1 refl
 
 pub returns-in_err-save_meta_text-clause-saves : goal.returns-in_err-save_meta_text-clause-saves
 returns-in_err-save_meta_text-clause-saves g c commit order =
     let meta = c.args.meta.now in
     let learned = c.learn_commit.ensures in
     let saving = c.from_residual-in_err-save_meta_text in
-    unsaved g.D.Directory c.args.directory.now c.save_meta_text.new.directory (tracked_settings meta) meta.schema commit learned.schema learned.blocksize (learned.commit commit order) saving.result c.as_slice.result.now
+    unsaved g.D.Directory c.args.directory.now c.save_meta_text.new.directory (tracked_form meta) commit learned.schema learned.blocksize (learned.commit commit order) saving.result c.as_slice.result.now
     c.in_err-save_meta_text.field-0.0 saving.ensures.1 (c.as_slice.ensures.value ∙ c.in_ok-text.ensures commit order) c.in_err-save_meta_text.ensures.leaves
 
 pub returns-clause-saves : goal.returns-clause-saves
 returns-clause-saves g c commit order =
     let meta = c.args.meta.now in
     let learned = c.learn_commit.ensures in
-    saved g.D.Directory c.args.directory.now c.save_meta_text.new.directory (tracked_settings meta) meta.schema commit learned.schema learned.blocksize (learned.commit commit order) _ c.as_slice.result.now
+    saved g.D.Directory c.args.directory.now c.save_meta_text.new.directory (tracked_form meta) commit learned.schema learned.blocksize (learned.commit commit order) _ c.as_slice.result.now
     (c.as_slice.ensures.value ∙ c.in_ok-text.ensures commit order) tt c.in_ok-save_meta_text.ensures.saves
 
 pub returns-in_err-text-clause-manages : goal.returns-in_err-text-clause-manages

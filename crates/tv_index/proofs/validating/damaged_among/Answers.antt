@@ -1,12 +1,13 @@
 use Rattle.std.proofs.Common.{◌<◌, ◌≤◌, ◌∙◌, ◌++◌, ◌∷◌, [], ℕ, List, Bool, Err, length, map, take, string_bytes, sym, ap, subst, arith}
 use Rattle.std.proofs.lemmas.List.{take_all, take_more}
+use Rattle.tv_formats.proofs.Results.{no_answer}
 use Rattle.tv_base.specs.Errors.{of_open_read}
 use Rattle.tv_base.specs.declared.error.TantivyError.TheVariants as errors
 use Rattle.tv_managed.specs.Reading.{FooterFaults}
 use Rattle.tv_managed.specs.TrackLaws.{keeps_then}
 use Rattle.tv_directory.specs.ViewLaws.{reads_then}
 use Rattle.tv_index.specs.Checksums.{AreDamaged}
-use Rattle.tv_index.proofs.Damages.{one_further, unread_cause, unread_faults, untold}
+use Rattle.tv_index.proofs.Damages.{one_further, unread_cause, unread_faults}
 use Rattle.tv_index.proofs.validating.damaged_among.Goals as goal
 
 pub returns-in_err-is_right : goal.returns-in_err-is_right
@@ -18,7 +19,7 @@ returns-in_err-is_right g c =
     let within : c.loop-name.name-index < length c.args.names.now = omega arith in
     let why = c.in_err-is_right.field-0.0 in
     record {
-      damaged = λ t. untold c.from_residual.result _ c.from_residual.ensures.0;
+      damaged = λ t. no_answer c.from_residual.result _ c.from_residual.ensures.0;
       faults =
           unread_faults D c.args.directory.now.0 c.validate_checksum.new.self.0 names c.from_residual.result (of_open_read why) c.from_residual.ensures.1
           (unread_cause D c.args.directory.now.0 c.loop-name.directory.0 c.validate_checksum.new.self.0 names (map string_bytes c.loop-name.damaged.keys) c.loop-name.name-index c.name-item.result
@@ -35,7 +36,7 @@ returns-in_err-put_damaged g c =
     let asked = c.in_ok-is_right.ensures in
     let answer = c.from_residual-in_err-put_damaged in
     record {
-      damaged = λ t. untold answer.result _ answer.ensures.0;
+      damaged = λ t. no_answer answer.result _ answer.ensures.0;
       faults = unread_faults D c.args.directory.now.0 c.validate_checksum.new.self.0 c.args.names.now answer.result errors.Memory answer.ensures.1 (asked.faults.quiet ∙ so_far.quiet);
       frame = record { names = asked.frame.names ∙ so_far.frame.names; below = reads_then so_far.frame.below asked.frame.below };
       images = λ t. keeps_then (so_far.images t) (asked.images t);

@@ -1,4 +1,4 @@
-use Rattle.std.proofs.Common.{arith, ◌≡◌, ◌≤◌, ◌<◌, ◌+◌, ◌-◌, ◌∷◌, ℕ, List, Bool, String, Global, false, true, sym, ap, subst, ◌∙◌, get_or, drop, drop-cons, suc, take, string_bytes, length}
+use Rattle.std.proofs.Common.{arith, ◌≡◌, ◌≤◌, ◌<◌, ◌+◌, ◌-◌, ◌∷◌, ℕ, List, String, Global, false, sym, ap, subst, ◌∙◌, get_or, drop, drop-cons, suc, take, string_bytes, length}
 use Rattle.std.proofs.lemmas.List.{length-map, get_or-map}
 use Rattle.tv_managed.specs.Answers.{HasRoom}
 use Rattle.tv_managed.specs.Collecting.{names_of}

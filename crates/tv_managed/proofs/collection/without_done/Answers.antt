@@ -1,4 +1,4 @@
-use Rattle.std.proofs.Common.{arith, ◌≡◌, ◌≤◌, ◌+◌, [], ◌∷◌, ℕ, List, Bool, false, true, refl, String, Global, sym, ap, subst, ◌∙◌, get_or, drop, suc, take, string_bytes, length}
+use Rattle.std.proofs.Common.{arith, ◌≡◌, ◌≤◌, [], ◌∷◌, ℕ, List, Bool, false, true, refl, String, Global, sym, ap, subst, ◌∙◌, get_or, drop, suc, take, string_bytes, length}
 use Rattle.std.proofs.lemmas.List.{length-map, get_or-map}
 use Rattle.tv_formats.specs.Collections.{having_tried, without}
 use Rattle.tv_managed.specs.Collecting.{names_of}

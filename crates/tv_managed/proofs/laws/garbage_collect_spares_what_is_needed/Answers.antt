@@ -1,7 +1,8 @@
 use Rattle.std.proofs.lemmas.Result.{IfOk-weaker}
 use Rattle.tv_formats.specs.Collections.{held}
+use Rattle.tv_formats.proofs.CollectedNames.{has_front}
 use Rattle.tv_managed.specs.Collecting.{names_of}
-use Rattle.tv_managed.proofs.Spared.{held_needed, living_needed, spares_needed, tries_keeps}
+use Rattle.tv_managed.proofs.Spared.{held_needed, spares_needed, tries_keeps}
 use Rattle.tv_managed.proofs.laws.garbage_collect_spares_what_is_needed.Goals as goal
 
 pub returns-clause-living : goal.returns-clause-living
@@ -9,7 +10,7 @@ returns-clause-living g c =
     let living = names_of c.args.living.keys in
     let others = held c.args.directory.now.1.collections in
     let did = c.garbage_collect.ensures.collects in
-    spares_needed g.D.Directory living _ (λ set. names_of set.keys) did.0 (λ set answered n h. living_needed (names_of set.keys) others n (search)) did.1.leaves did.2
+    spares_needed g.D.Directory living _ (λ set. names_of set.keys) did.0 (λ set answered n h. has_front (names_of set.keys) others n (search)) did.1.leaves did.2
 
 pub returns-clause-held : goal.returns-clause-held
 returns-clause-held g c =

@@ -25,7 +25,7 @@ give_back_after-requires-clause-feed g c =
     let now = D.view c.replay-outside.result.outside in
     let script = g.R.Source.view c.args.script.now in
     let script_now = g.R.Source.view c.replay-outside.new.script in
-    error_no_feed (replay_facts D c.in-Ok-lend.outside now.faults script script_now) c.as_slice.result.now before.reads script.left c.in-Err-outcome.error
+    error_no_feed (replay_facts D.told before now.faults script script_now) c.as_slice.result.now before.reads script.left c.in-Err-outcome.error
     (rw c.in-Err-outcome.is at c.replay-outside.ensures.faults.cause)
 
 pub returns-clause-ends : goal.returns-clause-ends

@@ -3,11 +3,11 @@ use Rattle.tv_machine.specs.State.{Catalog}
 use Rattle.tv_machine.specs.Machine.{after}
 use Rattle.tv_formats.specs.Names.{meta_name}
 use Rattle.tv_formats.specs.Files.{Rose}
-use Rattle.tv_store.specs.Applying.{GoneAt, RefusedAt}
+use Rattle.tv_store.specs.Applying.{event_facts}
+use Rattle.tv_store.specs.Exhausted.{IsExhausted}
 use Rattle.tv_machine.specs.Living.{is_busy}
 use Rattle.tv_replay.proofs.KeptLocks.{same_locks}
 use Rattle.tv_store.specs.Effects.{LoadsCommit, TakesMetaLock}
-use Rattle.tv_store.specs.StoreCauses.{IsBusy}
 use Rattle.tv_replay.specs.ScriptLines.{IsNoEvent, IsTooLong, pending}
 use Rattle.std.proofs.lemmas.Result.{err_from_is_err_and, IfErr-weaker, on_ok_weaker}
 use Rattle.tv_machine.specs.Script.{line_limit}
@@ -72,8 +72,8 @@ returns-in_err-_answer-clause-faults g c =
     let e = err_from_is_err_and c.from_residual-in_err-_answer.result c.from_residual-in_err-_answer.ensures.1 in
     let script = g.R.Source.view c.args.script.now in
     rw (e.1, e.2) (fails (event_cause (run_causes g.O.Directory c.args.store.now c.apply.new.self script (g.R.Source.view c.next_event.new.source))
-    (LoadsCommit c.loop-events.store.kept.catalog event) g.O.Directory.told.content c.loop-events.store.kept.form.schema ((g.O.Directory.view c.loop-events.store.outside).reads meta_name)
-    (RefusedAt g.O.Directory c.loop-events.store event) (λ path. GoneAt g.O.Directory c.loop-events.store event) c.in_err-_answer.field-0.0 c.in_err-_answer.ensures.faults.cause
+    (event_facts g.O.Directory (IsExhausted c.loop-events.store.kept event) c.loop-events.store c.apply.new.self event)
+    (LoadsCommit c.loop-events.store.kept.catalog event) g.O.Directory.told.content c.loop-events.store.kept.form.schema ((g.O.Directory.view c.loop-events.store.outside).reads meta_name) c.in_err-_answer.field-0.0 c.in_err-_answer.ensures.faults.cause
     (λ b. busy_since _ _ _ _ _ (λ told held. sym (before.frame.locks told meta_lock_name) ∙ held) before.quiet.0 b.1)
     (λ rose. inl (rose_from _ _ _ before.quiet.0 rose)) (λ quiet. (quiet ∙ before.quiet.0, c.in-Ok-Some.ensures.faults.quiet ∙ before.quiet.1))
     (never_spent c.loop-events.store.kept event c.loop-events.events few line.small before.short before.few)
@@ -128,10 +128,8 @@ returns-in_err-_answer-clause-stops g c =
     let e = err_from_is_err_and c.from_residual-in_err-_answer.result c.from_residual-in_err-_answer.ensures.1 in
     let failed = c.in_err-_answer.ensures in
     rw (e.1, e.2) (stops_in g.O.Directory c.args.store.now c.loop-events.store c.apply.new.self (g.R.Source.view c.args.script.now) (g.R.Source.view c.next_event.new.source) _ _ c.in_err-_answer.field-0.0 run _ event taken (λ quiet. c.in-Ok-Some.ensures.ahead.ok) before.quiet.0 failed.frame.goes_on failed.tells.err failed.leaves.meta failed.leaves.memory
-    (λ tells s held whole. event_stops text s run.turns _ _ (Rose (g.O.Directory.view c.loop-events.store.outside).faults (g.O.Directory.view c.apply.new.self.outside).faults) ((g.O.Directory.view c.apply.new.self.outside).faults ≡ (g.O.Directory.view c.loop-events.store.outside).faults)
+    (λ tells s held whole. event_stops text s run.turns _ _ (event_facts g.O.Directory (IsExhausted c.loop-events.store.kept event) c.loop-events.store c.apply.new.self event)
     (LoadsCommit c.loop-events.store.kept.catalog event) g.O.Directory.told.content c.loop-events.store.kept.form.schema ((g.O.Directory.view c.loop-events.store.outside).reads meta_name)
-    {busy = TakesMetaLock c.loop-events.store.kept.catalog event × IsBusy g.O.Directory.told.locks ((g.O.Directory.view c.loop-events.store.outside).locks meta_lock_name ≡ true) (Rose (g.O.Directory.view c.loop-events.store.outside).faults (g.O.Directory.view c.apply.new.self.outside).faults)}
-    {bad = RefusedAt g.O.Directory c.loop-events.store event} {absent = λ path. GoneAt g.O.Directory c.loop-events.store event}
     event c.in_err-_answer.field-0.0 (begins_next text _ _ run.turns event run.read taken) failed.faults.cause
     (λ b. (subst (λ (k : Catalog). TakesMetaLock k event) held.catalog b.0, λ told. sym (before.frame.locks told meta_lock_name) ∙ b.1.told told))
     (never_spent c.loop-events.store.kept event c.loop-events.events few line.small before.short before.few)

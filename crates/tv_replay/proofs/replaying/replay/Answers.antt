@@ -10,7 +10,7 @@ use Rattle.tv_store.specs.Telling.{TellsLine}
 use Rattle.tv_store.specs.OpeningCauses.{opening_facts}
 use Rattle.tv_store.specs.StoreCauses.{writer_lock_name}
 use Rattle.tv_replay.specs.AppliedEvents.{Runs, FailsRun, StopsRun}
-use Rattle.tv_replay.specs.Replays.{Replays, ReplayCause, IsQuietAt, IsReadOut, FailsReplay, StopsReplay, replay_facts}
+use Rattle.tv_replay.specs.Replays.{Replays, ReplayCause, IsQuietAt, IsReadOut, FailsReplay, StopsReplay, replay_call, replay_facts}
 use Rattle.tv_replay.proofs.AppliedEvents.{replays, run_cause, either_rose, reads_whole, if_err_both}
 use Rattle.tv_replay.proofs.Complete.{only_memory}
 use Rattle.tv_replay.proofs.ReplayFrames.{noted_since, run_frame}
@@ -44,7 +44,7 @@ returns-in-Err-clause-faults g c =
       quiet = tt;
       free = λ t. tt;
       cause =
-          opening_cause (opening_facts D c.args.outside c.in-Err.field-0.directory) (replay_facts D c.args.outside now.faults script script) c.args.schema.now before.reads script.left c.in-Err.field-0.error
+          opening_cause (opening_facts D c.args.outside c.in-Err.field-0.directory) (replay_facts D.told before now.faults script script) c.args.schema.now before.reads script.left c.in-Err.field-0.error
           (record {
             tells = λ t. t;
             busy = λ busy. record { told = λ t. inl (busy.told t); untold = busy.untold };
@@ -62,9 +62,9 @@ returns-in-Err-clause-complete g c all =
     let before = D.view c.args.outside in
     let now = D.view c.in-Err.field-0.directory in
     let script = g.R.Source.view c.args.script.now in
-    only_memory D c.args.outside c.in-Err.field-0.directory c.args.schema.now script script (replay_facts D c.args.outside now.faults script script) c.in-Err.field-0.error
+    only_memory D.told (replay_call D c.args.outside c.in-Err.field-0.directory c.args.schema.now script script) (replay_facts D.told before now.faults script script) c.in-Err.field-0.error
     all.content all.content all.ready (none_met D.told.locks before.locks (Rose before.faults now.faults) all.locks all.ready.sound.free) all.quiet
-    (none_behind D c.args.outside script script now.faults (Rose script.faults script.faults) all.locks all.ready.sound.free all.quiet)
+    (none_behind D.told before script script now.faults (Rose script.faults script.faults) all.locks all.ready.sound.free all.quiet)
     (returns-in-Err-clause-faults g c).cause (returns-in-Err-clause-stops g c)
 
 pub returns-clause-frame : goal.returns-clause-frame
@@ -87,10 +87,10 @@ returns-clause-faults g c =
       quiet = IfOk-weaker c.apply_all-outcome.result (λ tally. IsQuietAt mid new script script_now) (λ tally. IsQuietAt before now script script_now) (λ tally quiet. (faults ∙ quiet.0 ∙ opened.faults.quiet, quiet.1)) c.apply_all-outcome.ensures.faults.quiet;
       free = λ told. IfOk-weaker c.apply_all-outcome.result (λ tally. IsQuietAt mid new script script_now) (λ tally. before.locks writer_lock_name ≡ false) (λ tally quiet. (opened.locks.ok told).was_free) c.apply_all-outcome.ensures.faults.quiet;
       cause =
-          IfErr-weaker c.apply_all-outcome.result (FailsRun D c.in-Ok.store c.apply_all-outcome.new.store script script_now) (FailsReplay D c.args.outside c.into_outside.result c.args.schema.now script script_now)
+          IfErr-weaker c.apply_all-outcome.result (FailsRun D c.in-Ok.store c.apply_all-outcome.new.store script script_now) (FailsReplay D.told (replay_call D c.args.outside c.into_outside.result c.args.schema.now script script_now))
           (λ error cause.
-          subst (λ (n : ℕ). ReplayCause (replay_facts D c.args.outside n script script_now) c.args.schema.now before.reads script.left error) (sym faults)
-          (run_cause D c.in-Ok.store c.apply_all-outcome.new.store script script_now (replay_facts D c.args.outside new.faults script script_now) c.args.schema.now before.reads error cause
+          subst (λ (n : ℕ). ReplayCause (replay_facts D.told before n script script_now) c.args.schema.now before.reads script.left error) (sym faults)
+          (run_cause D c.in-Ok.store c.apply_all-outcome.new.store script script_now (replay_facts D.told before new.faults script script_now) c.args.schema.now before.reads error cause
           (c.in-Ok.store.kept.form.schema, opened.opens.spelled) (λ tells. (opened.opens.found tells).0)
           (busy_since_opening D.told.locks before.locks mid.locks before.faults mid.faults new.faults opened.locks.ok opened.faults.quiet)
           (either_rose before.faults mid.faults new.faults more opened.faults.quiet)
@@ -134,7 +134,7 @@ returns-clause-stops g c =
     let script = g.R.Source.view c.args.script.now in
     let script_now = g.R.Source.view c.apply_all-outcome.new.script in
     let freed = c.into_outside.ensures in
-    IfErr-weaker c.apply_all-outcome.result (StopsRun D store c.apply_all-outcome.new.store script script_now) (StopsReplay D c.args.outside c.into_outside.result c.args.schema.now script script_now)
+    IfErr-weaker c.apply_all-outcome.result (StopsRun D store c.apply_all-outcome.new.store script script_now) (StopsReplay D.told (replay_call D c.args.outside c.into_outside.result c.args.schema.now script script_now))
     (λ error stopped tells. inr (record {
       found = (opened.opens.found tells).0;
       files = (opened.opens.found tells).1;
@@ -156,7 +156,7 @@ returns-clause-complete g c all =
     let script_now = g.R.Source.view c.apply_all-outcome.new.script in
     if_err_both c.apply_all-outcome.result
     (λ error cause stops.
-    only_memory D c.args.outside c.into_outside.result c.args.schema.now script script_now (replay_facts D c.args.outside now.faults script script_now) error
+    only_memory D.told (replay_call D c.args.outside c.into_outside.result c.args.schema.now script script_now) (replay_facts D.told before now.faults script script_now) error
     all.content all.content all.ready (none_met D.told.locks before.locks (Rose before.faults now.faults) all.locks all.ready.sound.free) all.quiet
-    (none_behind D c.args.outside script script_now now.faults (Rose script.faults script_now.faults) all.locks all.ready.sound.free all.quiet) cause stops)
+    (none_behind D.told before script script_now now.faults (Rose script.faults script_now.faults) all.locks all.ready.sound.free all.quiet) cause stops)
     (returns-clause-faults g c).cause (returns-clause-stops g c)

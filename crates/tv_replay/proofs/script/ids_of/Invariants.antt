@@ -1,5 +1,6 @@
 use Rattle.std.proofs.Common.{◌≡◌, ℕ, List, ◌++◌, map, drop, Some, Option}
-use Rattle.tv_replay.specs.EventWords.{◌>>=◌, ids_in}
+use Rattle.tv_formats.specs.Framing.{◌>>=◌}
+use Rattle.tv_replay.specs.EventWords.{ids_in}
 use Rattle.tv_replay.proofs.script.ids_of.Given as goal
 
 -- these ids, and what was read after them

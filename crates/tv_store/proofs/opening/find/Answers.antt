@@ -1,6 +1,6 @@
 use Rattle.std.proofs.lemmas.Result.{IfErr-weaker}
+use Rattle.tv_formats.proofs.Results.{handed_on}
 use Rattle.tv_store.specs.UnderLock.{NotFound}
-use Rattle.tv_store.proofs.Results.{handed_on}
 use Rattle.tv_store.proofs.Unfound.{given_back, not_locked, unspelled}
 use Rattle.tv_store.proofs.opening.find.Goals as goal
 

@@ -1,6 +1,6 @@
 use Rattle.std.proofs.Common.{refl, rules, sym, subst}
+use Rattle.tv_formats.proofs.Results.{handed_on}
 use Rattle.tv_store.specs.Making.{FindsNone}
-use Rattle.tv_store.proofs.Results.{handed_on}
 use Rattle.tv_store.proofs.Unfound.{finds_none, wants_catalog}
 use Rattle.tv_store.proofs.opening.find_files.Goals as goal
 

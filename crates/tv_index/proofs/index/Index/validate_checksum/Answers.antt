@@ -9,11 +9,12 @@ use Rattle.tv_managed.specs.Names.{ManagedNames}
 use Rattle.tv_managed.specs.TrackLaws.{keeps_then}
 use Rattle.tv_formats.specs.Segments.{segment_names}
 use Rattle.tv_formats.specs.Names.{has, meta_name}
+use Rattle.tv_formats.proofs.Results.{no_answer}
 use Rattle.tv_index.specs.Checksums.{AreDamaged, ValidateFaults, looked_at}
 use Rattle.tv_index.specs.Indexes.{IndexState, KeepsIndex, MeansSuch}
 use Rattle.tv_index.specs.Segments.{entry_of}
 use Rattle.tv_index.specs.declared.segment_meta.InnerSegmentMeta.{InnerSegmentMeta}
-use Rattle.tv_index.proofs.Damages.{damaged_files, untold, validate_fails, validate_faults}
+use Rattle.tv_index.proofs.Damages.{damaged_files, validate_fails, validate_faults}
 use Rattle.tv_index.proofs.Indexes.{keeps_index}
 use Rattle.tv_index.proofs.index.Index.validate_checksum.Goals as goal
 
@@ -23,7 +24,7 @@ returns-in_err-meta g c =
     let failed = c.in_err-meta.ensures in
     let now = c.load_meta.new.directory in
     record {
-      damaged = λ t. untold c.from_residual.result _ c.from_residual.ensures.0;
+      damaged = λ t. no_answer c.from_residual.result _ c.from_residual.ensures.0;
       faults = subst (λ (index : IndexState g.row.D.Denot). ValidateFaults D index.directory now.0 index.schema c.from_residual.result) c.self.view_is
           (validate_fails D c.self.inside.directory now.0 c.self.inside.schema c.from_residual.result c.in_err-meta.field-0.0 c.from_residual.ensures.1 failed.faults.cause);
       frame = subst (λ (index : IndexState g.row.D.Denot). KeepsIndex (OnlyReads D.told) D.view index (record { directory = now; settings = c.self.inside.settings; schema = c.self.inside.schema; kept = c.self.inside.inventory })) c.self.view_is (keeps_index c.self.inside.settings c.self.inside.schema c.self.inside.inventory failed.frame);
@@ -37,7 +38,7 @@ returns-in_err-names g c =
     let now = c.load_meta.new.directory in
     let answer = c.from_residual-in_err-names in
     record {
-      damaged = λ t. untold answer.result _ answer.ensures.0;
+      damaged = λ t. no_answer answer.result _ answer.ensures.0;
       faults = subst (λ (index : IndexState g.row.D.Denot). ValidateFaults D index.directory now.0 index.schema answer.result) c.self.view_is
           (validate_fails D c.self.inside.directory now.0 c.self.inside.schema answer.result errors.Memory answer.ensures.1 loaded.faults.quiet);
       frame = subst (λ (index : IndexState g.row.D.Denot). KeepsIndex (OnlyReads D.told) D.view index (record { directory = now; settings = c.self.inside.settings; schema = c.self.inside.schema; kept = c.self.inside.inventory })) c.self.view_is (keeps_index c.self.inside.settings c.self.inside.schema c.self.inside.inventory loaded.frame);

@@ -2,9 +2,9 @@ use Rattle.tv_managed.proofs.SetsOfTexts.{managed_inserted}
 use Rattle.std.proofs.Common.{ap, map, string_bytes, ◌∙◌, refl, List, ℕ}
 use Rattle.tv_formats.proofs.TextSets.{texts_inserted}
 use Rattle.tv_formats.specs.Names.{byte_cmp}
+use Rattle.tv_formats.proofs.Results.{on_err}
 use Rattle.std.specs.BTreeSet.{insert_key}
 use Rattle.tv_managed.specs.Names.{ManagedNames}
-use Rattle.tv_managed.proofs.Results.{on_err}
 use Rattle.tv_managed.proofs.managed_directory.ManagedDirectory.add.Goals as goal
 
 pub invariant_of-self-2 : goal.invariant_of-self-2

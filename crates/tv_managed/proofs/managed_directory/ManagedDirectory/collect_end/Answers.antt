@@ -1,10 +1,10 @@
 use Rattle.std.proofs.Common.{rules, ◌≡◌, ℕ, Some, Ok, refl, ap, sym, subst, ◌∙◌, map, string_bytes}
 use Rattle.std.specs.Prelude.{IsSome}
-use Rattle.tv_managed.proofs.Results.{is_there}
 use Rattle.tv_formats.specs.Names.{has, list_name}
 use Rattle.tv_formats.specs.Collections.{Collection, Collections, collection_at, without, without_collection}
 use Rattle.tv_formats.specs.Files.{Same}
 use Rattle.tv_formats.specs.Listing.{Lists}
+use Rattle.tv_formats.proofs.Options.{some_value}
 use Rattle.tv_base.specs.declared.error.TantivyError.{TantivyError}
 use Rattle.tv_managed.specs.Collecting.{EndsCollection, Shortens, ending, names_of}
 use Rattle.tv_managed.specs.Crashes.{ShortensSafely, ShortensStates}
@@ -20,7 +20,7 @@ finished number names = record names { collections = without_collection names.co
 pub returns-in_err-take_out_done-clause-ends : goal.returns-in_err-take_out_done-clause-ends
 returns-in_err-take_out_done-clause-ends g c =
     let D = g.D.Directory in
-    let some = is_there _ c.requires in
+    let some = some_value _ c.requires in
     let d = some.0 in
     let cut = c.take_out_done.ensures.shortens d some.1 in
     let same : c.take_out_done.new.self.1 ≡ c.args.self.now.1 = (c.in_err-take_out_done.ensures.shortens d some.1).err in
@@ -36,7 +36,7 @@ returns-in_err-take_out_done-clause-ends g c =
 
 pub finish-requires : goal.finish-requires
 finish-requires g c =
-    let some = is_there _ c.requires in
+    let some = some_value _ c.requires in
     let ok = (c.in_ok-take_out_done.ensures.shortens some.0 some.1).ok in
     subst (λ cs. IsSome (collection_at cs c.args.id)) (sym (ap (λ v. v.1.collections) c.self.view_is ∙ ap (λ v. v.collections) ok)) c.requires
 
@@ -46,7 +46,7 @@ returns-clause-ends g c =
     let D = g.D.Directory in
     let old = c.args.self.now.1 in
     let reads = (D.view c.take_out_done.new.self.0).reads list_name in
-    let some = is_there _ c.requires in
+    let some = some_value _ c.requires in
     let d = some.0 in
     let With : Collections → ManagedNames = λ cs. record { managed = map string_bytes c.self.inside.managed.keys; collections = cs } in
     let cut : (e : Collection) → collection_at old.collections c.args.id ≡ Some e → Shortens D (without e.done old.managed) c.args.self.now c.take_out_done.new.self (Ok (tt {0})) = c.in_ok-take_out_done.ensures.shortens in

@@ -1,6 +1,6 @@
 use Rattle.std.proofs.Common.{rules}
+use Rattle.tv_formats.proofs.Results.{handed_on}
 use Rattle.tv_base.specs.declared.open_errors.OpenReadError.TheVariants.{IncompatibleIndex}
-use Rattle.tv_managed.proofs.Results.{handed_on}
 use Rattle.tv_managed.proofs.Endings.{less_known, one_body, other_format}
 use Rattle.tv_managed.proofs.managed_directory.ManagedDirectory.open_read.Goals as goal
 

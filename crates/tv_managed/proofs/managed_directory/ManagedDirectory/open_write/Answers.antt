@@ -2,17 +2,19 @@ use Rattle.std.proofs.Common.{Err, ap, subst, ◌∙◌}
 use Rattle.std.proofs.lemmas.Result.{IfOk-from_err}
 use Rattle.tv_formats.specs.Disk.{Unsealed}
 use Rattle.tv_formats.specs.Files.{KeepsOthers}
+use Rattle.tv_formats.proofs.Results.{any_err, handed_on}
 use Rattle.tv_managed.specs.Managed.{registering, CreateFaults, Creates}
 use Rattle.tv_managed.proofs.Collections.{done_held}
 use Rattle.tv_managed.proofs.Making.{manages_by, manages_none, manages_unlisted, others_of_refused}
 use Rattle.tv_managed.proofs.Listing.{lists_asked}
 use Rattle.tv_managed.proofs.Giving.{absent_unread, creates_safely, gains_still, given_safely, listed_safely, wanted_opened}
 use Rattle.tv_managed.specs.TrackLaws.{listed_read, track_read}
-use Rattle.tv_managed.proofs.Touching.{gained_none, others_opened}
+use Rattle.tv_managed.proofs.Touching.{gained_none}
 use Rattle.tv_directory.specs.ViewLaws.{kept_then}
 use Rattle.tv_directory.specs.View.{Kept}
+use Rattle.tv_directory.specs.TouchLaws.{others_opened}
 use Rattle.tv_managed.proofs.Creating.{StaysAbsent, creates_asked, creates_listed, creates_made, creates_refused, faults_made, faults_opened, is_free}
-use Rattle.tv_managed.proofs.Results.{any_err, handed, handed_on}
+use Rattle.tv_managed.proofs.Results.{handed}
 use Rattle.tv_managed.proofs.managed_directory.ManagedDirectory.open_write.Goals as goal
 
 pub returns-in_err-refuse_taken-clause-manages : goal.returns-in_err-refuse_taken-clause-manages

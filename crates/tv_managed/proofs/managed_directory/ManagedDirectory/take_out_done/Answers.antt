@@ -1,10 +1,10 @@
-use Rattle.std.proofs.Common.{rules, ◌≡◌, ap, sym, subst, ◌∙◌, Ok}
-use Rattle.tv_formats.specs.Collections.{Collection, collection_at, without}
+use Rattle.std.proofs.Common.{◌≡◌, ap, sym, subst, ◌∙◌, Ok}
+use Rattle.tv_formats.specs.Collections.{collection_at, without}
+use Rattle.tv_formats.proofs.Options.{some_value}
 use Rattle.tv_managed.specs.Collecting.{names_of}
 use Rattle.tv_managed.specs.Crashes.{CutsList}
 use Rattle.tv_managed.specs.Names.{AreManaged}
 use Rattle.tv_managed.proofs.Cutting.{cuts_none}
-use Rattle.tv_managed.proofs.Results.{is_there}
 use Rattle.tv_managed.proofs.Shortening.{cloned, shortens_as, shortens_none}
 use Rattle.tv_managed.proofs.managed_directory.ManagedDirectory.take_out_done.Goals as goal
 
@@ -23,7 +23,7 @@ returns-in_err-managed-clause-safe g c = λ tells d at. cuts_none g.D.Directory 
 
 pub save_shorter-requires : goal.save_shorter-requires
 save_shorter-requires g c =
-    let some = is_there _ c.requires in
+    let some = some_value _ c.requires in
     let d = some.0 in
     (d.done, c.without_done-left.ensures d (ap (λ v. collection_at v.1.collections c.args.id) c.self.view_is ∙ some.1) ∙ ap (without d.done) (cloned _ _ c.in_ok-managed.ensures.cases ∙ ap (λ v. v.1.managed) c.self.view_is))
 

@@ -12,9 +12,10 @@ use Rattle.tv_managed.specs.Names.{ManagedNames}
 use Rattle.tv_managed.specs.TrackLaws.{keeps_then, track_read, track_then}
 use Rattle.tv_managed.proofs.Tracking.{listed_by_within, listed_file, track_from, track_same}
 use Rattle.tv_formats.proofs.DiskLaws.{touches_more, touches_same, touches_then}
-use Rattle.tv_managed.proofs.Touching.{added_written, adds_run, gained_more, gained_none, gained_one, gained_same, gained_then, keeps_same, reads_touch, time_written, touches_written, track_written}
+use Rattle.tv_managed.proofs.Touching.{added_written, adds_run, gained_more, gained_none, gained_one, gained_same, gained_then, keeps_same, time_written, track_written}
 use Rattle.tv_directory.specs.Calls.{IoFaults}
 use Rattle.tv_directory.specs.ViewLaws.{kept_itself, kept_then}
+use Rattle.tv_directory.specs.TouchLaws.{reads_touch, touches_by}
 use Rattle.tv_managed.specs.Managed.{SealsBody}
 use Rattle.tv_managed.proofs.Writing.{io_none, io_on, io_then, names_kept, seals_none, seals_unwritten}
 use Rattle.tv_managed.proofs.Results.{handed}
@@ -86,7 +87,7 @@ returns-clause-safe g c = λ tells other.
       listed = λ was. listed_file D (c.write.new.self, names) c.terminate.new.self names refl (added_written _ seals) (λ e. other (sym same ∙ e))
           (listed_by_within D {new = c.write.new.self} c.self.view_is keeps.states.possible.no_more was);
       states = subst (λ v. SealsStates D v.0 c.terminate.new.self w c.terminate.result) c.self.view_is (record {
-        touches = touches_then (reads_touch _ keeps) (touches_more (λ n it. it ∙ same) (touches_written _ seals));
+        touches = touches_then (reads_touch _ keeps) (touches_more (λ n it. it ∙ same) (touches_by _ seals));
         moments = λ summed. adds_run (gained_then (gained_none _ keeps) (gained_more (λ n s it. (it.0 ∙ same, it.1 ∙ ap Sealed (text summed))) (gained_one (time_written _ seals) (added_written _ seals))));
         stands = λ lives summed. on_ok_weaker c.terminate.result (λ sets. ap (D.disk c.terminate.new.self).now (sym same) ∙ sets.now ∙ ap Sealed (text summed)) (seals.gives (c.in_ok-write.ensures.hands_back.lives content ∙ lives)).ok;
         gone = λ lives. keeps_then keeps (seals.gone (c.in_ok-write.ensures.hands_back.lives content ∙ lives));

@@ -1,7 +1,8 @@
 use Rattle.std.proofs.Common.{rules, ◌≡◌, ◌∷◌, ◌++◌, List, ℕ, codes, map, string_bytes, sym, ap, ◌∙◌}
 use Rattle.std.proofs.lemmas.Map.Iter.{iter_end}
+use Rattle.std.proofs.lemmas.Simd.{map-map}
 use Rattle.tv_machine.specs.Lines.{line}
-use Rattle.tv_store.proofs.Named.{plain_first, line_of_more, map_twice}
+use Rattle.tv_store.proofs.Named.{plain_first, line_of_more}
 use Rattle.tv_store.proofs.catalog.Catalog.managed.Goals as goal
 
 pub word-requires : goal.word-requires
@@ -22,4 +23,4 @@ pub returns : goal.returns
 returns c =
     let all : map (λ name. name.now) c.loop-name.yielded ≡ c.args.names.now.keys = search (rules, iter_end) in
     ap (λ (answer : List ℕ). (answer, c.args.self.now))
-    (c.loop-name.invariant.text ∙ ap (λ (names : List (List ℕ)). line (codes "managed") names) (sym (map_twice string_bytes (λ name. name.now) c.loop-name.yielded) ∙ ap (map string_bytes) all))
+    (c.loop-name.invariant.text ∙ ap (λ (names : List (List ℕ)). line (codes "managed") names) (sym (map-map string_bytes (λ name. name.now) c.loop-name.yielded) ∙ ap (map string_bytes) all))

@@ -1,20 +1,40 @@
 use Rattle.std.specs.List.{list_all}
-use Rattle.std.proofs.Common.{◌≡◌, ℕ, List, [], None, refl, cond, not, ◌&&◌, sym, ap, subst, ◌∙◌, map, string_bytes, rules, true}
+use Rattle.std.proofs.Common.{arith, length, ◌≡◌, ℕ, List, [], None, refl, cond, not, ◌&&◌, sym, ap, subst, ◌∙◌, map, string_bytes, rules, true}
 use Rattle.tv_formats.specs.Collections.{held}
 use Rattle.tv_formats.specs.Names.{has, is_plain, meta_name, at}
 use Rattle.tv_managed.specs.Collecting.{SparesWriters}
 use Rattle.tv_store.specs.Kept.{names_below}
+use Rattle.std.proofs.lemmas.List.{length-map}
+use Rattle.tv_store.proofs.AnswerRoom.{told_few}
 use Rattle.tv_store.proofs.Changed.{no_texts}
 use Rattle.tv_store.proofs.CollectingFiles.{collected_spares, gc_fails, gc_faults}
 use Rattle.tv_store.proofs.Removals.{told_plain, tried_as, tried_of, collected_open, bodies_gone, lens_left, living_stands, dotted_stands}
 use Rattle.tv_store.proofs.OpenFiles.{AreOpen, bodies, same_open}
 use Rattle.tv_store.proofs.files.StoreFiles.collect.Goals as goal
 
-pub collected_from-requires-clause-deleted : goal.collected_from-requires-clause-deleted
-collected_from-requires-clause-deleted g c = let left = c.in_ok-result.ensures.collects in (told_plain g.O.Directory _ _ _ _ (tried_of g.O.Directory _ _ (map string_bytes c.args.living.keys) (λ set answer. search) left.1 left.2) (subst (λ d. list_all is_plain d.1.managed ≡ true) (c.directory.ensures ∙ sym c.directory_mut.ensures.value) c.list_managed_files-names.ensures.plain)).0
+pub file_names-deleted-requires-clause-room : goal.file_names-deleted-requires-clause-room
+file_names-deleted-requires-clause-room g c =
+    let left = c.in_ok-result.ensures.collects in
+    let told = tried_of g.O.Directory _ _ (map string_bytes c.args.living.keys) (λ set answer. search) left.1 left.2 in
+    let managed : length c.list_managed_files.result.now.keys ≡ length c.directory_mut.result.now.1.managed =
+    sym (length-map c.list_managed_files.result.now.keys string_bytes) ∙ ap (λ (ns : List (List ℕ)). length ns) c.list_managed_files.ensures.names
+    ∙ ap (λ d. length d.1.managed) (c.directory.ensures ∙ sym c.directory_mut.ensures.value) in
+    omega (arith, (told_few g.O.Directory _ _ _ _ told).0, managed, c.len-count.ensures.len, c.in_ok-deleted.ensures.capacity)
 
-pub collected_from-requires-clause-failed : goal.collected_from-requires-clause-failed
-collected_from-requires-clause-failed g c = let left = c.in_ok-result.ensures.collects in (told_plain g.O.Directory _ _ _ _ (tried_of g.O.Directory _ _ (map string_bytes c.args.living.keys) (λ set answer. search) left.1 left.2) (subst (λ d. list_all is_plain d.1.managed ≡ true) (c.directory.ensures ∙ sym c.directory_mut.ensures.value) c.list_managed_files-names.ensures.plain)).1
+pub file_names-deleted-requires-clause-plain : goal.file_names-deleted-requires-clause-plain
+file_names-deleted-requires-clause-plain g c = let left = c.in_ok-result.ensures.collects in (told_plain g.O.Directory _ _ _ _ (tried_of g.O.Directory _ _ (map string_bytes c.args.living.keys) (λ set answer. search) left.1 left.2) (subst (λ d. list_all is_plain d.1.managed ≡ true) (c.directory.ensures ∙ sym c.directory_mut.ensures.value) c.list_managed_files.ensures.plain)).0
+
+pub file_names-failed-requires-clause-room : goal.file_names-failed-requires-clause-room
+file_names-failed-requires-clause-room g c =
+    let left = c.in_ok-result.ensures.collects in
+    let told = tried_of g.O.Directory _ _ (map string_bytes c.args.living.keys) (λ set answer. search) left.1 left.2 in
+    let managed : length c.list_managed_files.result.now.keys ≡ length c.directory_mut.result.now.1.managed =
+    sym (length-map c.list_managed_files.result.now.keys string_bytes) ∙ ap (λ (ns : List (List ℕ)). length ns) c.list_managed_files.ensures.names
+    ∙ ap (λ d. length d.1.managed) (c.directory.ensures ∙ sym c.directory_mut.ensures.value) in
+    omega (arith, (told_few g.O.Directory _ _ _ _ told).1, managed, c.len-count.ensures.len, c.in_ok-failed.ensures.capacity)
+
+pub file_names-failed-requires-clause-plain : goal.file_names-failed-requires-clause-plain
+file_names-failed-requires-clause-plain g c = let left = c.in_ok-result.ensures.collects in (told_plain g.O.Directory _ _ _ _ (tried_of g.O.Directory _ _ (map string_bytes c.args.living.keys) (λ set answer. search) left.1 left.2) (subst (λ d. list_all is_plain d.1.managed ≡ true) (c.directory.ensures ∙ sym c.directory_mut.ensures.value) c.list_managed_files.ensures.plain)).1
 
 pub invariant_of-self : goal.invariant_of-self
 invariant_of-self g c =
@@ -25,7 +45,7 @@ pub invariant_of-self-2 : goal.invariant_of-self-2
 invariant_of-self-2 g c =
     let D = g.O.Directory in
     let old = c.directory_mut.result.now.0 in
-    let deleted : c.as_slice.result.now ≡ map string_bytes c.in_ok-result.result.deleted_files.items = c.as_slice.ensures.value ∙ c.in_ok-collected.ensures.deleted in (
+    let deleted : c.as_slice.result.now ≡ map string_bytes c.in_ok-result.result.deleted_files.items = c.as_slice.ensures.value ∙ c.file_names-deleted.ensures in (
       collected_open D old c.garbage_collect.new.self.0 c.as_slice.result.now c.replace-files.result.entries c.remove_all.new.map.entries
           c.garbage_collect.ensures.frame.goes_on
           (λ tells. subst (λ (ns : List (List ℕ)). SparesWriters ns D.state_of (D.view old).lives (D.view c.garbage_collect.new.self.0).lives) (sym deleted) (c.in_ok-result.ensures.collects.1.tries.alive tells))
@@ -39,8 +59,8 @@ returns-clause-collects g c = record {
   tried =
       let left = c.in_ok-result.ensures.collects in
       let told = tried_of g.O.Directory _ _ (map string_bytes c.args.living.keys) (λ set answer. search) left.1 left.2 in
-      tried_as g.O.Directory _ (map string_bytes c.args.living.keys) c.directory_mut.result.now c.garbage_collect.new.self (names_below c.args.self.now) c.in_ok-result.result _ _
-      (c.directory_mut.ensures.value ∙ ap names_below c.self.view_is) refl c.in_ok-collected.ensures.deleted c.in_ok-collected.ensures.failed told;
+      tried_as g.O.Directory _ (map string_bytes c.args.living.keys) c.directory_mut.result.now c.garbage_collect.new.self c.args.self.now _ c.in_ok-result.result _ _
+      (c.directory_mut.ensures.value ∙ ap names_below c.self.view_is) refl refl c.file_names-deleted.ensures c.file_names-failed.ensures told;
   counted = search rules;
   collections = ap (λ names. names.collections) c.in_ok-result.ensures.collects.1.tries.managed ∙ ap (λ d. d.1.collections) c.directory_mut.ensures.value ∙ ap (λ v. v.collections) c.self.view_is;
   open_files = λ n.
@@ -50,7 +70,7 @@ returns-clause-collects g c = record {
       c.remove_names.ensures n ∙ ap (λ v. not (has c.as_slice-2.result.now n) && has v.left n) c.self.view_is
       ∙ ap (λ (ns : List (List ℕ)). not (has ns n) && has c.args.self.now.left n) c.as_slice-2.ensures.value;
   same = λ tells none n.
-      (c.in_ok-result.ensures.collects.1.saves_none tells (no_texts c.in_ok-result.result.deleted_files.items (sym c.in_ok-collected.ensures.deleted ∙ none)) n)
+      (c.in_ok-result.ensures.collects.1.saves_none tells (no_texts c.in_ok-result.result.deleted_files.items (sym c.file_names-deleted.ensures ∙ none)) n)
       ∙ ap (λ d. (g.O.Directory.view d.0).reads n) c.directory_mut.ensures.value ∙ ap (λ v. (g.O.Directory.view v.outside).reads n) c.self.view_is;
 }
 
@@ -64,12 +84,6 @@ returns-in_err-result-clause-spared g c tells n living other =
     living_stands g.O.Directory _ _ (map string_bytes c.args.living.keys) left.0 c.directory_mut.result.now c.garbage_collect.new.self c.garbage_collect.result n (λ set answer. search) left.2 left.1.leaves tells living other
     ∙ ap (λ d. (g.O.Directory.view d.0).reads n) c.directory_mut.ensures.value ∙ ap (λ v. (g.O.Directory.view v.outside).reads n) c.self.view_is
 
-pub returns-in_err-collected-clause-spared : goal.returns-in_err-collected-clause-spared
-returns-in_err-collected-clause-spared g c tells n living other =
-    let left = c.garbage_collect.ensures.collects in
-    living_stands g.O.Directory _ _ (map string_bytes c.args.living.keys) left.0 c.directory_mut.result.now c.garbage_collect.new.self c.garbage_collect.result n (λ set answer. search) left.2 left.1.leaves tells living other
-    ∙ ap (λ d. (g.O.Directory.view d.0).reads n) c.directory_mut.ensures.value ∙ ap (λ v. (g.O.Directory.view v.outside).reads n) c.self.view_is
-
 pub returns-clause-spared : goal.returns-clause-spared
 returns-clause-spared g c tells n living other =
     let left = c.garbage_collect.ensures.collects in
@@ -79,22 +93,16 @@ returns-clause-spared g c tells n living other =
 pub returns-in_err-result-clause-dotted : goal.returns-in_err-result-clause-dotted
 returns-in_err-result-clause-dotted g c tells n dot other =
     let left = c.garbage_collect.ensures.collects in
-    dotted_stands g.O.Directory _ _ left.0 _ _ _ n (subst (λ d. list_all is_plain d.1.managed ≡ true) (c.directory.ensures ∙ sym c.directory_mut.ensures.value) c.list_managed_files-names.ensures.plain) left.2 left.1.leaves tells dot other
-    ∙ ap (λ d. (g.O.Directory.view d.0).reads n) c.directory_mut.ensures.value ∙ ap (λ v. (g.O.Directory.view v.outside).reads n) c.self.view_is
-
-pub returns-in_err-collected-clause-dotted : goal.returns-in_err-collected-clause-dotted
-returns-in_err-collected-clause-dotted g c tells n dot other =
-    let left = c.garbage_collect.ensures.collects in
-    dotted_stands g.O.Directory _ _ left.0 _ _ _ n (subst (λ d. list_all is_plain d.1.managed ≡ true) (c.directory.ensures ∙ sym c.directory_mut.ensures.value) c.list_managed_files-names.ensures.plain) left.2 left.1.leaves tells dot other
+    dotted_stands g.O.Directory _ _ left.0 _ _ _ n (subst (λ d. list_all is_plain d.1.managed ≡ true) (c.directory.ensures ∙ sym c.directory_mut.ensures.value) c.list_managed_files.ensures.plain) left.2 left.1.leaves tells dot other
     ∙ ap (λ d. (g.O.Directory.view d.0).reads n) c.directory_mut.ensures.value ∙ ap (λ v. (g.O.Directory.view v.outside).reads n) c.self.view_is
 
 pub returns-clause-dotted : goal.returns-clause-dotted
 returns-clause-dotted g c tells n dot other =
     let left = c.garbage_collect.ensures.collects in
-    dotted_stands g.O.Directory _ _ left.0 _ _ _ n (subst (λ d. list_all is_plain d.1.managed ≡ true) (c.directory.ensures ∙ sym c.directory_mut.ensures.value) c.list_managed_files-names.ensures.plain) left.2 left.1.leaves tells dot other
+    dotted_stands g.O.Directory _ _ left.0 _ _ _ n (subst (λ d. list_all is_plain d.1.managed ≡ true) (c.directory.ensures ∙ sym c.directory_mut.ensures.value) c.list_managed_files.ensures.plain) left.2 left.1.leaves tells dot other
     ∙ ap (λ d. (g.O.Directory.view d.0).reads n) c.directory_mut.ensures.value ∙ ap (λ v. (g.O.Directory.view v.outside).reads n) c.self.view_is
 
 pub returns-in_err-result-clause-faults : goal.returns-in_err-result-clause-faults
 returns-in_err-result-clause-faults g c =
-    gc_fails g.O.Directory _ c.args.self.now.outside c.garbage_collect.new.self.0 c.from_residual.result c.in_err-result.field-0.0 c.from_residual.ensures.1
+    gc_fails g.O.Directory _ c.args.self.now.outside c.garbage_collect.new.self.0 c.from_residual-in_err-result.result c.in_err-result.field-0.0 c.from_residual-in_err-result.ensures.1
     (gc_faults g.O.Directory c.args.self.now c.directory_mut.result.now c.garbage_collect.new.self _ (c.directory_mut.ensures.value ∙ ap names_below c.self.view_is) c.in_err-result.ensures.faults)

@@ -2,7 +2,7 @@ use Rattle.std.proofs.Common.{◌≡◌, rules, sym, ap, subst, ◌∙◌}
 use Rattle.tv_formats.specs.Collections.{held}
 use Rattle.tv_formats.specs.Files.{Rose}
 use Rattle.tv_formats.specs.Names.{has, meta_name}
-use Rattle.tv_store.proofs.Results.{handed_on}
+use Rattle.tv_formats.proofs.Results.{handed_on}
 use Rattle.tv_store.specs.StoreCauses.{EventCause}
 use Rattle.tv_store.specs.Kept.{names_below}
 use Rattle.tv_store.proofs.CollectingFiles.{end_cause, end_spares, ends_so}

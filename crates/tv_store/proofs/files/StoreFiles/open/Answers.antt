@@ -1,5 +1,5 @@
 use Rattle.std.proofs.Common.{ap, [], refl, sym, subst, ◌∙◌}
-use Rattle.tv_store.proofs.Results.{on_err}
+use Rattle.tv_formats.proofs.Results.{on_err}
 use Rattle.tv_directory.specs.View.{Kept, WriterState}
 use Rattle.tv_managed.specs.Writers.{IsNewManaged}
 use Rattle.tv_store.specs.Kept.{names_below}

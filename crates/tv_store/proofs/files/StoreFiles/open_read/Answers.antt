@@ -2,10 +2,10 @@ use Rattle.std.proofs.Common.{◌≡◌, None, ap, rules, sym, subst, ◌∙◌}
 use Rattle.tv_base.specs.Errors.{of_open_read}
 use Rattle.tv_managed.specs.Collecting.{TakesNoLock}
 use Rattle.tv_formats.specs.Files.{Rose}
+use Rattle.tv_formats.proofs.Results.{handed_on}
 use Rattle.tv_store.proofs.CheckedFiles.{reads_take_none}
-use Rattle.tv_store.proofs.Results.{handed_on}
 use Rattle.tv_store.specs.Bodies.{RefusesAt}
-use Rattle.tv_store.specs.ReadCauses.{ApplyCause}
+use Rattle.tv_store.specs.ReadCauses.{ApplyCause, reading_facts}
 use Rattle.tv_store.proofs.OpenFiles.{still_files, AreFiles}
 use Rattle.tv_store.specs.StoreCauses.{MakesNoFile}
 use Rattle.tv_store.proofs.ReaderEvents.{body_fails, reads_make_none}
@@ -23,7 +23,7 @@ returns-in_err-body-clause-faults g c =
       quiet = search rules;
       cause =
           handed_on c.from_residual.result (of_open_read c.in_err-body.field-0.0)
-          (ApplyCause ⊥ (Rose (D.view value).faults (D.view after).faults) ((D.view after).faults ≡ (D.view value).faults) ⊥ (λ error. D.told.content → RefusesAt (D.view value).reads c.args.name.now error) (λ path. (path ≡ c.args.name.now) × (D.told.content → (D.view value).reads path ≡ None)))
+          (ApplyCause (reading_facts (Rose (D.view value).faults (D.view after).faults) ((D.view after).faults ≡ (D.view value).faults) (λ error. D.told.content → RefusesAt (D.view value).reads c.args.name.now error) (λ path. (path ≡ c.args.name.now) × (D.told.content → (D.view value).reads path ≡ None))))
           c.from_residual.ensures.1
           (body_fails D.told.content (λ d. (D.view d).reads) (λ d. (D.view d).faults) c.directory_mut.result.now.0 value after c.args.name.now c.as_str.result.now c.in_err-body.field-0.0
           (ap (λ d. d.0) c.directory_mut.ensures.value ∙ ap (λ v. v.outside) c.self.view_is) c.as_str.ensures.text c.as_str.ensures.name why.cause why.path why.err why.outside);

@@ -1,5 +1,5 @@
 use Rattle.std.proofs.Common.{ap, ◌∙◌, length, ◌+◌, ◌<◌, arith, sym, subst}
-use Rattle.tv_store.proofs.Results.{on_err}
+use Rattle.tv_formats.proofs.Results.{on_err}
 use Rattle.tv_directory.specs.View.{Kept}
 use Rattle.tv_store.proofs.KeptFiles.{io_fails, kept_managed, wants_then}
 use Rattle.tv_store.proofs.OpenFiles.{still_files, put_files, left_files, found_open, same_files, written_open, must_be_open, body_is, same_body_is, bodies_put, bodies_left, longer_fits, others_kept, there_is, more_is, AreFiles}

@@ -1,14 +1,11 @@
-use Rattle.std.proofs.Common.{◌≡◌, true, refl, inl}
+use Rattle.std.proofs.Common.{refl, inl}
 use Rattle.std.proofs.lemmas.Result.{on_ok_weaker}
-use Rattle.tv_managed.specs.Collecting.{meta_lock_name}
-use Rattle.tv_formats.specs.Files.{Rose}
 use Rattle.tv_machine.specs.declared.event.Event.{Event}
 use Rattle.tv_machine.specs.declared.event.Event.TheVariants.{Gc, GcBegin, GcStep, Reader, Reload}
-use Rattle.tv_store.specs.Effects.{TakesMetaLock, numbers_after}
+use Rattle.tv_store.specs.Effects.{numbers_after}
 use Rattle.tv_store.specs.Exhausted.{IsExhausted, SomePassesEnd}
-use Rattle.tv_store.specs.StoreCauses.{IsBusy}
-use Rattle.tv_store.specs.Applying.{GoneAt, RefusedAt, UnloadedAt}
-use Rattle.tv_store.proofs.Spending.{only_numbers, spends_length, spends_none, spends_numbers}
+use Rattle.tv_store.specs.Applying.{UnloadedAt, event_facts}
+use Rattle.tv_store.proofs.Spending.{only_numbers, spends_none, spends_numbers}
 use Rattle.tv_store.proofs.Steps.{at_most, read_cause_in}
 use Rattle.tv_store.proofs.Acting.{acts_anew, acts_beginning, faults_alone, faults_collecting, acts_on_files, acts_writing, acts_reading, acts_deleting, acts_committing}
 use Rattle.tv_store.proofs.index_store.IndexStore.act_on_files.Goals as goal
@@ -36,23 +33,6 @@ returns-in-Reopen g c =
     let did = c.reopen.ensures in
     acts_anew g.O.Directory c.args.self.now c.reopen.new.self c.args.event.now _ c.in-Reopen.is c.reopen.result tt (λ s. tt) (λ takes. takes) (λ spent. only_numbers spent)
     did.step did.does.room (λ bound h. at_most bound 0 c.reopen.new.self.kept (did.does.lens bound h)) did.anew did.faults did.does.frame
-
-pub returns-in-Open : goal.returns-in-Open
-returns-in-Open g c =
-    let did = c.open_file.ensures in
-    acts_writing g.O.Directory c.args.self.now c.open_file.new.self c.args.event.now _ c.in-Open.is c.open_file.result tt _ (λ by_step. by_step) ⊥ spends_none (λ s. tt) (λ takes. takes)
-    did.step (λ bound h. at_most bound 0 c.open_file.new.self.kept (did.lens bound h)) did.does
-
-pub returns-in-Seal : goal.returns-in-Seal
-returns-in-Seal g c =
-    let did = c.seal_file.ensures in
-    acts_writing g.O.Directory c.args.self.now c.seal_file.new.self c.args.event.now _ c.in-Seal.is c.seal_file.result tt _ (λ by_step. by_step) ⊥ spends_none (λ s. tt) (λ takes. takes)
-    did.step (λ bound h. at_most bound 0 c.seal_file.new.self.kept (did.lens bound h)) did.does
-
-pub returns-in-Write : goal.returns-in-Write
-returns-in-Write g c =
-    let did = c.write_file.ensures in
-    acts_writing g.O.Directory c.args.self.now c.write_file.new.self c.args.event.now _ c.in-Write.is c.write_file.result tt _ (λ by_step. by_step) _ spends_length (λ s. tt) (λ takes. takes) did.step did.lens did.does
 
 pub returns-in-Commit : goal.returns-in-Commit
 returns-in-Commit g c =
@@ -99,9 +79,6 @@ returns-in-Reader g c =
     let old = c.args.self.now in
     let new = c.reader.new.self in
     let event : Event = Reader c.in-Reader.policy in
-    let refused : Type 0 = Rose (d.view old.outside).faults (d.view new.outside).faults in
-    let quiet : Type 0 = (d.view new.outside).faults ≡ (d.view old.outside).faults in
-    let busy : Type 0 = IsBusy d.told.locks ((d.view old.outside).locks meta_lock_name ≡ true) refused in
     acts_reading d old new c.args.event.now event c.in-Reader.is c.reader.result tt _ (λ s good. good.0)
     did.step did.does.room (λ bound h. at_most bound 1 new.kept (did.does.lens bound h)) did.numbers
     (record {
@@ -110,8 +87,7 @@ returns-in-Reader g c =
       fits = on_ok_weaker c.reader.result (λ unspent spent. unspent (only_numbers spent)) did.faults.fits;
       reads = did.faults.reads;
       cause =
-          read_cause_in _ (TakesMetaLock old.kept.catalog event × busy) refused quiet (SomePassesEnd (numbers_after old.kept event)) (IsExhausted old.kept event) (UnloadedAt d old new event)
-          (RefusedAt d old event) (λ path. GoneAt d old event) c.reader.result did.faults.cause inl;
+          read_cause_in _ (event_facts d (SomePassesEnd (numbers_after old.kept event)) old new event) (IsExhausted old.kept event) (UnloadedAt d old new event) c.reader.result did.faults.cause inl;
     })
     did.does.frame
 
@@ -122,9 +98,6 @@ returns-in-Reload g c =
     let old = c.args.self.now in
     let new = c.reload.new.self in
     let event : Event = Reload c.in-Reload.number in
-    let refused : Type 0 = Rose (d.view old.outside).faults (d.view new.outside).faults in
-    let quiet : Type 0 = (d.view new.outside).faults ≡ (d.view old.outside).faults in
-    let busy : Type 0 = IsBusy d.told.locks ((d.view old.outside).locks meta_lock_name ≡ true) refused in
     acts_reading d old new c.args.event.now event c.in-Reload.is c.reload.result tt _ (λ s good. good)
     did.step did.does.room (λ bound h. at_most bound 1 new.kept (did.does.lens bound h)) did.numbers
     (record {
@@ -133,7 +106,6 @@ returns-in-Reload g c =
       fits = on_ok_weaker c.reload.result (λ unspent spent. unspent (only_numbers spent)) did.faults.fits;
       reads = did.faults.reads;
       cause =
-          read_cause_in _ (TakesMetaLock old.kept.catalog event × busy) refused quiet (SomePassesEnd (numbers_after old.kept event)) (IsExhausted old.kept event) (UnloadedAt d old new event)
-          (RefusedAt d old event) (λ path. GoneAt d old event) c.reload.result did.faults.cause inl;
+          read_cause_in _ (event_facts d (SomePassesEnd (numbers_after old.kept event)) old new event) (IsExhausted old.kept event) (UnloadedAt d old new event) c.reload.result did.faults.cause inl;
     })
     did.does.frame

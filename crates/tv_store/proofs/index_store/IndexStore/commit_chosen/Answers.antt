@@ -1,7 +1,7 @@
 use Rattle.std.proofs.Common.{ℕ, List, ◌++◌, ◌∷◌, [], ap, ◌∙◌}
 use Rattle.std.specs.List.{AllByRecursion}
 use Rattle.tv_formats.specs.Commits.{Commit, IndexForm, IsSegment, Settings, printed}
-use Rattle.tv_store.proofs.FoundStates.{means_commit}
+use Rattle.tv_formats.proofs.SpelledCommits.{means_commit}
 use Rattle.tv_store.specs.Committing.{PrintsNext, commit_sealed}
 use Rattle.tv_store.proofs.Committing.{commits_as}
 use Rattle.tv_store.proofs.index_store.IndexStore.commit_chosen.Goals as goal

@@ -1,4 +1,4 @@
-use Rattle.std.proofs.Common.{rules, arith, ◌≡◌, ◌≤◌, ◌<◌, ◌+◌, [], ◌++◌, ℕ, List, map, length, codes, sym, ap, subst, ◌∙◌, string_bytes}
+use Rattle.std.proofs.Common.{rules, arith, ◌≡◌, ◌≤◌, ◌<◌, ◌+◌, [], ◌++◌, ℕ, List, map, length, codes, sym, ap, subst, ◌∙◌, string_bytes, vec_capacity}
 use Rattle.std.proofs.lemmas.Grind.{common_steps}
 use Rattle.tv_formats.specs.Names.{has}
 use Rattle.tv_formats.specs.Collections.{collectable, done_of, failed_of, held}
@@ -15,13 +15,24 @@ use Rattle.tv_store.proofs.CollectionEvents.{collected, refusals_rose, takes_gar
 use Rattle.tv_store.proofs.index_store.IndexStore.gc.Goals as goal
 
 pub returns-in_err-deleted-clause-lens : goal.returns-in_err-deleted-clause-lens
-returns-in_err-deleted-clause-lens g c bound h = c.collect.ensures.lens bound (subst (λ v. AtMost bound v.kept) (sym c.self-2.view_is) (subst (AtMost bound) (sym c.ready_for_all.ensures.asks.frame.kept) h))
-
-pub returns-in_err-answer-clause-lens : goal.returns-in_err-answer-clause-lens
-returns-in_err-answer-clause-lens g c bound h = c.collect.ensures.lens bound (subst (λ v. AtMost bound v.kept) (sym c.self-2.view_is) (subst (AtMost bound) (sym c.ready_for_all.ensures.asks.frame.kept) h))
+returns-in_err-deleted-clause-lens g c bound h = c.collect.ensures.lens bound (subst (λ v. AtMost bound v.kept) (sym c.self-2.view_is) (subst (AtMost bound) (sym c.room_for_all.ensures.asks.frame.kept) h))
 
 pub returns-clause-lens : goal.returns-clause-lens
-returns-clause-lens g c bound h = c.collect.ensures.lens bound (subst (λ v. AtMost bound v.kept) (sym c.self-2.view_is) (subst (AtMost bound) (sym c.ready_for_all.ensures.asks.frame.kept) h))
+returns-clause-lens g c bound h = c.collect.ensures.lens bound (subst (λ v. AtMost bound v.kept) (sym c.self-2.view_is) (subst (AtMost bound) (sym c.room_for_all.ensures.asks.frame.kept) h))
+
+pub collected-requires-clause-room : goal.collected-requires-clause-room
+collected-requires-clause-room g c =
+    let inside = c.self-2.inside.files in
+    let needed = map string_bytes c.in_ok-living.living.keys ++ held inside.collections in
+    let told = c.in_ok-deleted.ensures.collects.tried in
+    let names = collectable needed inside.managed in
+    let managed : inside.managed ≡ c.args.self.now.kept.managed = ap (λ v. v.kept.managed) c.self-2.view_is ∙ ap (λ (k : KeptState). k.managed) c.room_for_all.ensures.asks.frame.kept in
+    let made : length (line (codes "managed") c.args.self.now.kept.managed) + 16 ≤ vec_capacity c.in_ok-room.room = c.in_ok-room.ensures.memory in
+    let long : collected_line c.as_slice.result.now c.as_slice-2.result.now ≡ collected_line (done_of names told.outcomes) (failed_of names told.outcomes) = ap (λ (ns : List (List ℕ)). collected_line ns c.as_slice-2.result.now) (c.as_slice.ensures.value ∙ told.deleted_is)
+    ∙ ap (λ (ns : List (List ℕ)). collected_line (done_of names told.outcomes) ns) (c.as_slice-2.ensures.value ∙ told.failed_is) in
+    let answer_len : length (collected_line c.as_slice.result.now c.as_slice-2.result.now) ≡ length (collected_line (done_of names told.outcomes) (failed_of names told.outcomes)) = ap (λ (l : List ℕ). length l) long in
+    let line_len : length (line (codes "managed") inside.managed) ≡ length (line (codes "managed") c.args.self.now.kept.managed) = ap (λ (ns : List (List ℕ)). length (line (codes "managed") ns)) managed in
+    omega (arith, made, answer_len, line_len, collected_len needed inside.managed told.outcomes)
 
 pub returns-clause-does : goal.returns-clause-does
 returns-clause-does g c =
@@ -32,13 +43,13 @@ returns-clause-does g c =
     let failed = c.in_ok-deleted.field-0.failed.items in
     let told = c.in_ok-deleted.ensures.collects.tried in
     let names = collectable needed inside.managed in
-    let managed : inside.managed ≡ c.args.self.now.kept.managed = ap (λ v. v.kept.managed) c.self-2.view_is ∙ ap (λ (k : KeptState). k.managed) c.ready_for_all.ensures.asks.frame.kept in
-    let made : length (line (codes "managed") c.args.self.now.kept.managed) + 16 < (D.view c.ready_for_all.new.self.outside).room = c.in_ok-ready_for_all.ensures.room in
-    let same : (D.view inside.outside).room ≡ (D.view c.ready_for_all.new.self.outside).room = ap (λ v. (D.view v.outside).room) c.self-2.view_is in
+    let managed : inside.managed ≡ c.args.self.now.kept.managed = ap (λ v. v.kept.managed) c.self-2.view_is ∙ ap (λ (k : KeptState). k.managed) c.room_for_all.ensures.asks.frame.kept in
+    let made : length (line (codes "managed") c.args.self.now.kept.managed) + 16 < (D.view c.room_for_all.new.self.outside).room = c.in_ok-room.ensures.room in
+    let same : (D.view inside.outside).room ≡ (D.view c.room_for_all.new.self.outside).room = ap (λ v. (D.view v.outside).room) c.self-2.view_is in
     let kept : (D.view inside.outside).room ≤ (D.view c.collect.new.self.outside).room = c.collect.ensures.frame.below.room in
-    let long : c.in_ok-answer.answer ≡ collected_line (done_of names told.outcomes) (failed_of names told.outcomes) = c.in_ok-answer.ensures ∙ ap (λ (ns : List (List ℕ)). collected_line ns c.as_slice-2.result.now) (c.as_slice.ensures.value ∙ told.deleted_is)
+    let long : c.collected.result ≡ collected_line (done_of names told.outcomes) (failed_of names told.outcomes) = c.collected.ensures ∙ ap (λ (ns : List (List ℕ)). collected_line ns c.as_slice-2.result.now) (c.as_slice.ensures.value ∙ told.deleted_is)
     ∙ ap (λ (ns : List (List ℕ)). collected_line (done_of names told.outcomes) ns) (c.as_slice-2.ensures.value ∙ told.failed_is) in
-    let answer_len : length c.in_ok-answer.answer ≡ length (collected_line (done_of names told.outcomes) (failed_of names told.outcomes)) = ap (λ (l : List ℕ). length l) long in
+    let answer_len : length c.collected.result ≡ length (collected_line (done_of names told.outcomes) (failed_of names told.outcomes)) = ap (λ (l : List ℕ). length l) long in
     let line_len : length (line (codes "managed") inside.managed) ≡ length (line (codes "managed") c.args.self.now.kept.managed) = ap (λ (ns : List (List ℕ)). length (line (codes "managed") ns)) managed in
     let most = collected_len needed inside.managed told.outcomes in
     record {
@@ -53,19 +64,19 @@ pub returns-clause-step : goal.returns-clause-step
 returns-clause-step g c =
     let D = g.O.Directory in
     let old = c.args.self.now in
-    let mid = c.ready_for_all.new.self in
+    let mid = c.room_for_all.new.self in
     let inside = c.self-2.inside in
     let new = c.collect.new.self in
     let needed = map string_bytes c.in_ok-living.living.keys in
     let deleted = c.in_ok-deleted.field-0.deleted.items in
     let failed = c.in_ok-deleted.field-0.failed.items in
     let told = c.in_ok-deleted.ensures.collects in
-    let asked = c.ready_for_all.ensures.asks.frame in
+    let asked = c.room_for_all.ensures.asks.frame in
     let first : (D.view inside.files.outside).refusals ≡ (D.view old.outside).refusals = ap (λ v. (D.view v.outside).refusals) c.self-2.view_is ∙ asked.below.kept.frame.tells_none.deletes_none.refusals in
     let catalog : c.self.inside.catalog ≡ inside.catalog = ap (λ v. v.kept.catalog) c.self.view_is ∙ sym (ap (λ (k : KeptState). k.catalog) asked.kept) ∙ sym (ap (λ v. v.kept.catalog) c.self-2.view_is) in
     record {
       outcomes = told.tried.outcomes;
-      refused = refusals_rose (collectable (needed ++ held inside.files.collections) inside.files.managed) inside.files.managed new.managed deleted failed D.told.content (D.view inside.files.outside).reads (D.view new.outside).reads told.tried (D.view old.outside).refusals (D.view new.outside).refusals
+      refused = refusals_rose D (collectable (needed ++ held inside.files.collections) inside.files.managed) inside.files new deleted failed told.tried (D.view old.outside).refusals (D.view new.outside).refusals
           (subst (λ (n : ℕ). FailsAtMost (length failed) n (D.view new.outside).refusals) first told.counted);
       each = λ tells s held.
           let now = same_holds (D.view old.outside).reads (D.view mid.outside).reads old.kept mid.kept s (asked.below.content tells) asked.kept held in
@@ -77,11 +88,11 @@ returns-clause-step g c =
           let step = collected D inside.catalog inside.files new form s needed deleted failed tells here needs told (c.in_ok-deleted.ensures.list tells) in
           record {
             step = record {
-              told = c.in_ok-answer.ensures ∙ ap (λ (ns : List (List ℕ)). collected_line ns c.as_slice-2.result.now) c.as_slice.ensures.value
+              told = c.collected.ensures ∙ ap (λ (ns : List (List ℕ)). collected_line ns c.as_slice-2.result.now) c.as_slice.ensures.value
                   ∙ ap (λ (ns : List (List ℕ)). collected_line deleted ns) c.as_slice-2.ensures.value ∙ step.0;
               held = step.1;
             };
-            same = λ by_step stays n.
+            same = λ stays n.
                 let none : deleted ≡ [] = done ∙ none_done s told.tried.outcomes stays in
                 told.same tells none n ∙ ap (λ v. (D.view v.outside).reads n) c.self-2.view_is ∙ asked.below.content tells n;
           };

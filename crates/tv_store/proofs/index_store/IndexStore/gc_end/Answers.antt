@@ -30,5 +30,5 @@ returns-clause-step g c tells s held whole =
         held = subst (λ (t : StepResult State). Holds (D.view new.outside).reads (kept_of inside.catalog new) t.1) (sym step)
             (ended_holds D inside.catalog inside.files new form s now number tells told (done.others tells) done.frame.rest);
       };
-      same = λ by_step stays. absurd (ended_now s number told.collection there (sym (ap (λ (t : StepResult State). t.1) step) ∙ stays));
+      same = λ stays. absurd (ended_now s number told.collection there (sym (ap (λ (t : StepResult State). t.1) step) ∙ stays.1));
     }

@@ -4,6 +4,7 @@ use Rattle.std.specs.Fmt.{decimal}
 use Rattle.tv_machine.specs.CollectionEvents.{gc_step_step}
 use Rattle.tv_formats.specs.Collections.{Collections, collection_at}
 use Rattle.tv_formats.specs.Files.{RoseBy}
+use Rattle.tv_formats.proofs.Results.{on_ok}
 use Rattle.tv_machine.specs.Lines.{line}
 use Rattle.tv_machine.specs.Machine.{refused_in}
 use Rattle.tv_machine.specs.State.{State, StepResult}
@@ -11,7 +12,6 @@ use Rattle.tv_store.specs.Kept.{AtMost, Holds, KeptState, kept_of}
 use Rattle.tv_store.proofs.CollectingEvents.{found_there, nothing_step, refused_deleting, stepped_holds, tried_step, unknown_step}
 use Rattle.tv_store.proofs.Changed.{tried_less}
 use Rattle.tv_store.proofs.Holding.{same_holds}
-use Rattle.tv_store.proofs.Results.{on_ok}
 use Rattle.tv_store.proofs.AskedEvents.{may_delete, only_asked, wants}
 use Rattle.tv_store.proofs.index_store.IndexStore.gc_step.Goals as goal
 
@@ -67,7 +67,7 @@ returns-clause-step g c =
                   ∙ ap (λ (n : List ℕ). line (codes "gc") (decimal number ∷ cond done (codes "done") (codes "failed") ∷ n ∷ [])) found ∙ sym (ap (λ (t : StepResult State). t.0) step);
               held = subst (λ (t : StepResult State). Holds (D.view new.outside).reads (kept_of inside.catalog new) t.1) (sym step) (stepped_holds D inside.catalog inside.files new form s now number name done tells told);
             };
-            same = λ by_step stays. absurd (
+            same = λ stays. absurd (
                 tried_less s number told.collection name told.left_names done (found_there D inside.catalog inside.files new form s now number told.collection told.there) told.first
                 (sym (ap (λ (t : StepResult State). t.1) step) ∙ stays)
                 );

@@ -1,7 +1,7 @@
 use Rattle.std.proofs.Common.{◌≡◌, ◌<◌, length, sym, subst, ◌∙◌, arith, rules}
 use Rattle.std.proofs.lemmas.List.{take_all}
 use Rattle.tv_formats.specs.Files.{Rose}
-use Rattle.tv_store.proofs.Results.{handed_on}
+use Rattle.tv_formats.proofs.Results.{handed_on}
 use Rattle.tv_store.specs.Bodies.{AreBodies, AreGood, FailsAt}
 use Rattle.tv_store.proofs.Asking.{asks_later}
 use Rattle.tv_store.proofs.Holding.{same_holds}

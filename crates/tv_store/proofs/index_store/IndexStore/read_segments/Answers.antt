@@ -4,7 +4,7 @@ use Rattle.tv_index.specs.Segments.{entry_of}
 use Rattle.tv_formats.specs.Files.{Rose}
 use Rattle.tv_formats.specs.Segments.{all_required, required_names}
 use Rattle.tv_formats.specs.declared.segment.LiveSegment.{LiveSegment}
-use Rattle.tv_store.proofs.Results.{handed_on}
+use Rattle.tv_formats.proofs.Results.{handed_on}
 use Rattle.tv_store.specs.Bodies.{AreGood, AreSealed, FailsAt, ReadsSegment, ReadsSegments}
 use Rattle.tv_store.specs.declared.snapshot.SegmentReader.{SegmentReader}
 use Rattle.tv_store.proofs.Asking.{asks_later}

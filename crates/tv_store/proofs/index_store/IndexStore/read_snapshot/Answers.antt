@@ -1,18 +1,18 @@
-use Rattle.std.proofs.Common.{◌≡◌, ◌∙◌, ℕ, List, Option, Some, ap, map, subst, sym, string_bytes, true, rules}
+use Rattle.std.proofs.Common.{◌≡◌, ◌∙◌, ℕ, List, Option, ap, map, subst, sym, string_bytes, true, rules}
 use Rattle.std.specs.Prelude.{option_map}
 use Rattle.tv_index.specs.Metas.{commit_of, settings_of}
 use Rattle.tv_index.specs.Segments.{entry_of}
-use Rattle.tv_index.specs.Standing.{MetaCause}
 use Rattle.tv_formats.specs.Commits.{Commit}
 use Rattle.tv_formats.specs.Files.{Rose}
 use Rattle.tv_formats.specs.Meaning.{Means}
-use Rattle.tv_formats.specs.Names.{has, meta_name}
+use Rattle.tv_formats.specs.Names.{has}
 use Rattle.tv_machine.specs.Readable.{AreGoodFiles}
 use Rattle.tv_formats.specs.Segments.{all_required}
 use Rattle.tv_machine.specs.State.{Snapshot}
 use Rattle.tv_formats.specs.declared.segment.LiveSegment.{LiveSegment}
-use Rattle.tv_store.proofs.Results.{handed_on}
-use Rattle.tv_store.specs.Applying.{HoldsNone, LacksIn}
+use Rattle.tv_formats.proofs.Results.{handed_on}
+use Rattle.tv_store.specs.Applying.{UnloadedFor}
+use Rattle.tv_store.specs.SnapshotCalls.{loading_facts}
 use Rattle.tv_index.specs.declared.segment_meta.InnerSegmentMeta.{InnerSegmentMeta}
 use Rattle.tv_store.specs.Bodies.{AreSealed}
 use Rattle.tv_store.specs.ReadCauses.{LoadingCause}
@@ -32,7 +32,7 @@ returns-in_err-meta-clause-faults g c =
       quiet = search rules;
       cause =
           handed_on c.from_residual.result c.in_err-meta.field-0.0
-          (LoadingCause ⊥ (Rose start end) (end ≡ start) ⊥ (MetaCause tells (Some old.kept.form.schema) ((D.view old.outside).reads meta_name) (Rose start end) (end ≡ start)) (LacksIn tells (D.view old.outside).reads old.kept) (λ path. HoldsNone tells (D.view old.outside).reads old.kept))
+          (LoadingCause (loading_facts D old c.load_commit.new.self) (UnloadedFor D old c.load_commit.new.self))
           c.from_residual.ensures.1
           (loads_none tells (D.view old.outside).reads old.kept (Rose start end) (end ≡ start) c.in_err-meta.field-0.0 c.in_err-meta.ensures.faults.cause);
     }
@@ -46,12 +46,12 @@ returns-in_err-segments-clause-faults g c =
     let end = (D.view c.read_segments.new.self.outside).faults in
     let start = (D.view old.outside).faults in
     let loaded = c.in_ok-meta.ensures in
-    let load = MetaCause tells (Some old.kept.form.schema) ((D.view old.outside).reads meta_name) (Rose start end) (end ≡ start) in
+    let load = UnloadedFor D old c.read_segments.new.self in
     record {
       quiet = search rules;
       cause =
           handed_on c.from_residual-in_err-segments.result c.in_err-segments.field-0.0
-          (LoadingCause ⊥ (Rose start end) (end ≡ start) ⊥ load (LacksIn tells (D.view old.outside).reads old.kept) (λ path. HoldsNone tells (D.view old.outside).reads old.kept))
+          (LoadingCause (loading_facts D old c.read_segments.new.self) load)
           c.from_residual-in_err-segments.ensures.1
           (commit_fails tells (D.view old.outside).reads (D.view mid.outside).reads old.kept load (map entry_of c.as_slice.result.now) start (D.view mid.outside).faults end c.in_err-segments.field-0.0
           loaded.frame.below.content loaded.faults.quiet (λ t s held. ap (map entry_of) c.as_slice.ensures.value ∙ ap (λ (k : Commit). k.segments) (loaded_commit D old.outside old.kept s c.in_ok-meta.meta t loaded.meta held)) c.in_err-segments.ensures.faults.cause);

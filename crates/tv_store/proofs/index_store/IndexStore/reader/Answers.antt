@@ -1,19 +1,19 @@
 use Rattle.std.proofs.Common.{◌≡◌, true, false, refl, sym, ap, subst, ◌∙◌, rules}
 use Rattle.tv_formats.specs.Files.{Rose}
+use Rattle.tv_formats.proofs.Results.{handed_on, no_answer}
 use Rattle.tv_machine.specs.declared.event.Event.{Event}
 use Rattle.tv_machine.specs.declared.event.Event.TheVariants as events
-use Rattle.tv_store.proofs.Results.{handed_on}
 use Rattle.tv_managed.specs.Collecting.{meta_lock_name}
 use Rattle.tv_store.specs.Kept.{KeptState}
 use Rattle.tv_store.specs.Effects.{LoadsCommit, TakesMetaLock, numbers_after}
 use Rattle.tv_store.specs.Exhausted.{SomePassesEnd}
 use Rattle.tv_store.specs.ReaderNumbers.{FewNumbers}
-use Rattle.tv_store.specs.Applying.{GoneAt, RefusedAt, UnloadedAt}
+use Rattle.tv_store.specs.Applying.{UnloadedAt, event_facts}
 use Rattle.tv_store.specs.StoreCauses.{IsBusy}
 use Rattle.tv_store.specs.ReadCauses.{IsReadError, LoadingCause}
 use Rattle.tv_store.proofs.ReaderEvents.{busy_before, few_with_new, later_fails}
 use Rattle.tv_store.proofs.Asking.{asks_later}
-use Rattle.tv_store.proofs.AskedReads.{no_answer, only_reads, wants_memory}
+use Rattle.tv_store.proofs.AskedReads.{only_reads, wants_memory}
 use Rattle.tv_store.proofs.KeptFiles.{asked_nothing}
 use Rattle.tv_store.proofs.index_store.IndexStore.reader.Goals as goal
 
@@ -35,7 +35,7 @@ returns-in_err-shown-clause-faults g c =
           (λ r. sym (room.frame.below.kept.frame.locks told meta_lock_name) ∙ c.in_err-shown.ensures.faults.reads told r);
       cause =
           handed_on c.from_residual-in_err-shown.result c.in_err-shown.field-0.0
-          (LoadingCause busy (Rose start end) (end ≡ start) (SomePassesEnd (numbers_after old.kept event)) (UnloadedAt D old c.snapshot.new.self event) (RefusedAt D old event) (λ path. GoneAt D old event))
+          (LoadingCause (event_facts D (SomePassesEnd (numbers_after old.kept event)) old c.snapshot.new.self event) (UnloadedAt D old c.snapshot.new.self event))
           c.from_residual-in_err-shown.ensures.1
           (later_fails tells (D.view old.outside).reads (D.view c.ready.new.self.outside).reads old.kept c.ready.new.self.kept event (λ s held. refl) (SomePassesEnd (numbers_after old.kept event)) _ busy (LoadsCommit old.kept.catalog event) (LoadsCommit old.kept.catalog event)
           start (D.view c.ready.new.self.outside).faults end c.in_err-shown.field-0.0 refl refl

@@ -1,11 +1,11 @@
 use Rattle.std.proofs.Common.{◌≡◌, Some, refl, sym, ap, subst, ◌∙◌}
+use Rattle.tv_formats.proofs.Results.{on_ok}
 use Rattle.tv_machine.specs.State.{Catalog, State, StepResult, live_at}
 use Rattle.tv_machine.specs.CollectionEvents.{release_segment_step, released}
 use Rattle.tv_store.specs.FileCalls.{LeavesFiles}
 use Rattle.tv_store.specs.Kept.{AtMost, Holds, kept_of}
 use Rattle.tv_store.proofs.Holding.{same_holds}
 use Rattle.tv_store.proofs.CollectionEvents.{released_holds}
-use Rattle.tv_store.proofs.Results.{on_ok}
 use Rattle.tv_store.proofs.AskedEvents.{only_asked, wants, wants_first}
 use Rattle.tv_store.proofs.index_store.IndexStore.release_segment.Goals as goal
 

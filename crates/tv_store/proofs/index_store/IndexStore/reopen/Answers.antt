@@ -1,12 +1,13 @@
 use Rattle.std.proofs.Common.{rules, sym, ap, subst, ◌∙◌}
 use Rattle.tv_formats.specs.Commits.{Commit}
+use Rattle.tv_formats.proofs.Results.{no_answer}
 use Rattle.tv_machine.specs.Lines.{opening_of}
 use Rattle.tv_machine.specs.ReopenEvents.{reopened}
 use Rattle.tv_machine.specs.State.{Catalog}
 use Rattle.tv_store.specs.Kept.{AtMost, Holds, kept_of}
 use Rattle.tv_store.proofs.Holding.{same_holds}
 use Rattle.tv_store.proofs.ReopenEvents.{reopened_holds}
-use Rattle.tv_store.proofs.AskedReads.{no_answer, only_reads}
+use Rattle.tv_store.proofs.AskedReads.{only_reads}
 use Rattle.tv_store.proofs.KeptFiles.{asked_nothing}
 use Rattle.tv_store.proofs.index_store.IndexStore.reopen.Goals as goal
 

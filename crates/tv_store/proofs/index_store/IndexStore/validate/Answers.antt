@@ -1,13 +1,13 @@
 use Rattle.std.proofs.Common.{◌≡◌, ℕ, List, map, string_bytes, sym, ap, subst, ◌∙◌}
 use Rattle.std.specs.List.{AllByRecursion}
 use Rattle.std.proofs.lemmas.Result.{IfOk-weaker}
+use Rattle.tv_formats.proofs.Results.{on_ok}
 use Rattle.tv_machine.specs.Index.{IsFileOf}
 use Rattle.tv_machine.specs.ReportEvents.{committed_names, validated}
 use Rattle.tv_machine.specs.State.{Catalog, State}
 use Rattle.tv_store.specs.Kept.{AtMost, Holds}
 use Rattle.tv_store.proofs.Holding.{same_holds}
 use Rattle.tv_store.proofs.ReportEvents.{committed_are_files, validated_same}
-use Rattle.tv_store.proofs.Results.{on_ok}
 use Rattle.tv_store.proofs.AskedEvents.{only_asked, wants_first}
 use Rattle.tv_store.proofs.index_store.IndexStore.validate.Goals as goal
 

@@ -1,0 +1,14 @@
+use Rattle.std.proofs.Common.{rules, inl, refl}
+use Rattle.tv_store.proofs.FilesHeld.{file_made, short_opened, short_same}
+use Rattle.tv_store.proofs.Performing.{on_one_file}
+use Rattle.tv_store.proofs.perform.make.Goals as goal
+
+pub returns-then-branch : goal.returns-then-branch
+returns-then-branch g c =
+    let D = g.O.Directory in
+    let old = c.args.files.now in
+    let new = c.open.new.self in
+    let opens = c.in_ok-open.ensures.opened c.if-branch.true in
+    on_one_file D _ old new _ c.args.name c.requires (inl refl)
+    (λ tells s h whole suits. file_made D old new s c.args.name c.requires.file h tells c.open.ensures.frame.form c.open.ensures.frame.collections opens)
+    c.open.ensures.others (λ bound short. short_same bound 0 new.open_files new.open_files refl (short_opened bound old.open_files new.open_files c.args.name opens.open_files short)) (search rules) c.open.ensures.frame
