@@ -3,13 +3,14 @@ use Rattle.std.proofs.Common.{◌≡◌, ℕ, List, [], refl, codes, ◌∷◌, 
 use Rattle.tv_formats.specs.Checksum.{crc32}
 use Rattle.std.specs.Fmt.{digits}
 use Rattle.hex.specs.Hex.{encode_with}
-use Rattle.json.specs.Print.{escape_byte}
+use Rattle.json.specs.Print.{escape_byte, quoted}
+use Rattle.serde_json.specs.Written.{compact_text}
 use Rattle.tv_formats.specs.Footer.{footer, sealed}
 use Rattle.tv_formats.proofs.Samples.{id_b}
 use Rattle.tv_formats.specs.declared.segment.SegmentComponent.TheVariants.{Delete}
 use Rattle.tv_formats.specs.Segments.{name_of, required_names}
 use Rattle.uuid.specs.Text.{by_index}
-use Rattle.tv_formats.specs.Commits.{printed, segment_text, settings_text, first_commit, default_settings, payload_text}
+use Rattle.tv_formats.specs.Commits.{printed, segment_tree, settings_tree, first_commit, default_settings}
 
 -- a schema with one field
 abbrev pub text_schema : List ℕ
@@ -29,25 +30,25 @@ abc_crc = refl
 
 -- a footer: its JSON, the length of that, and the number 1337, each number in four bytes
 pub footer_of_123 : footer 123 ≡ codes "{\"version\":{\"major\":0,\"minor\":26,\"patch\":2,\"index_format_version\":7},\"crc\":123}" ++ 79 ∷ 0 ∷ 0 ∷ 0 ∷ 57 ∷ 5 ∷ 0 ∷ 0 ∷ []
-unfolding digits
+unfolding digits escape_byte
 footer_of_123 = refl
 
 -- a file without a body
 pub sealed_empty : sealed [] ≡ codes "{\"version\":{\"major\":0,\"minor\":26,\"patch\":2,\"index_format_version\":7},\"crc\":0}" ++ 77 ∷ 0 ∷ 0 ∷ 0 ∷ 57 ∷ 5 ∷ 0 ∷ 0 ∷ []
-unfolding digits
+unfolding digits escape_byte
 sealed_empty = refl
 
 -- a file of nine bytes
 pub sealed_digits : sealed (codes "123456789") ≡ codes "123456789" ++ codes "{\"version\":{\"major\":0,\"minor\":26,\"patch\":2,\"index_format_version\":7},\"crc\":3421780262}" ++ 86 ∷ 0 ∷ 0 ∷ 0 ∷ 57 ∷ 5 ∷ 0 ∷ 0 ∷ []
-unfolding digits
+unfolding digits escape_byte
 sealed_digits = refl
 
 pub length_empty : length (sealed []) ≡ 85
-unfolding digits
+unfolding digits escape_byte
 length_empty = refl
 
 pub length_digits : length (sealed (codes "123456789")) ≡ 103
-unfolding digits
+unfolding digits escape_byte
 length_digits = refl
 
 -- the delete file of a segment by whose delete, with the number 7, no documents are deleted
@@ -75,23 +76,23 @@ no_delete_name = refl
 -- the commit of an index that was just made
 pub first_printed : printed default_settings text_schema first_commit ≡
     codes "{\"index_settings\":{\"docstore_compression\":\"none\",\"docstore_blocksize\":16384},\"segments\":[],\"schema\":[{\"name\":\"text\",\"type\":\"text\",\"options\":{\"indexing\":{\"record\":\"position\",\"fieldnorms\":true,\"tokenizer\":\"default\"},\"stored\":false,\"fast\":false}}],\"opstamp\":0}"
-unfolding digits
+unfolding digits escape_byte
 first_printed = refl
 
 -- a segment of three documents, one of which is deleted
-pub deleted_printed : segment_text (id_b, record { max_doc = 3; deletes = Some (record { num_deleted_docs = 1; opstamp = 7 }) }) ≡
+pub deleted_printed : compact_text (segment_tree (id_b, record { max_doc = 3; deletes = Some (record { num_deleted_docs = 1; opstamp = 7 }) })) ≡
     codes "{\"segment_id\":\"00000000-0000-0000-0000-000000000001\",\"max_doc\":3,\"deletes\":{\"num_deleted_docs\":1,\"opstamp\":7}}"
-unfolding digits by_index
+unfolding digits by_index escape_byte
 deleted_printed = refl
 
 -- a setting that differs from the default
-pub settings_printed : settings_text (record { dedicated_thread = false; blocksize = 16384 }) ≡
+pub settings_printed : compact_text (settings_tree (record { dedicated_thread = false; blocksize = 16384 })) ≡
     codes "{\"docstore_compression\":\"none\",\"docstore_compress_dedicated_thread\":false,\"docstore_blocksize\":16384}"
-unfolding digits
+unfolding digits escape_byte
 settings_printed = refl
 
 -- what isn't printed as it is: `"`, `\` and the control characters
-pub payload_escaped : payload_text (Some (34 ∷ 92 ∷ 8 ∷ 12 ∷ 10 ∷ 13 ∷ 9 ∷ 1 ∷ 31 ∷ 32 ∷ 47 ∷ 127 ∷ 195 ∷ 169 ∷ [])) ≡
-    codes ",\"payload\":\"\\\"\\\\\\b\\f\\n\\r\\t\\u0001\\u001f /" ++ 127 ∷ 195 ∷ 169 ∷ 34 ∷ []
+pub payload_escaped : quoted (34 ∷ 92 ∷ 8 ∷ 12 ∷ 10 ∷ 13 ∷ 9 ∷ 1 ∷ 31 ∷ 32 ∷ 47 ∷ 127 ∷ 195 ∷ 169 ∷ []) ≡
+    codes "\"\\\"\\\\\\b\\f\\n\\r\\t\\u0001\\u001f /" ++ 127 ∷ 195 ∷ 169 ∷ 34 ∷ []
 unfolding escape_byte
 payload_escaped = refl

@@ -1,25 +1,32 @@
 -- A printed form is cut apart at its first closing bracket: what stands before it is that of the settings and the segments, and the schema's text stands behind it.
-use Rattle.std.proofs.Common.{◌≡◌, ℕ, ◌==◌, Bool, true, false, true≢false, not, List, [], ◌∷◌, ◌++◌, map, Option, Some, None, codes, decimal, refl, sym, ap, ap₂, ◌∙◌, subst, arith, append_assoc}
-use Rattle.std.specs.List.{list_all, join_with_byte}
+use Rattle.std.proofs.Common.{◌≡◌, if◌then◌else◌, nat_lt, ℕ, zero, suc, ◌+◌, ◌-◌, ◌<◌, ◌==◌, ◌&&◌, Bool, true, false, true≢false, not, List, [], ◌∷◌, ◌++◌, map, Option, Some, None, codes, decimal, refl, sym, ap, ap₂, ◌∙◌, subst, arith, append_assoc}
+use Rattle.std.specs.List.{list_all}
 use Rattle.std.proofs.lemmas.Bool.{and_parts}
 use Rattle.std.proofs.lemmas.List.Folds.{list_all-append}
 use Rattle.std.proofs.lemmas.Bool.Decides.{nat_tests}
 use Rattle.std.proofs.lemmas.List.{append_cancel_left}
 use Rattle.json.specs.Lex.{lex, punctuate, tokens}
+use Rattle.json.specs.Print.{escape, escape_byte}
 use Rattle.json.specs.Json as json
 use Rattle.json.specs.Tree.{json_tokens}
+use Rattle.serde_json.specs.Data.{Items, no_items, item}
 use Rattle.serde_json.specs.Data as trees
-use Rattle.uuid.specs.Text.{hyphenated_text, lower}
+use Rattle.serde_json.specs.View.{items_of}
+use Rattle.serde_json.specs.Written.{comma_if, compact_text, items_text, members_text}
+use Rattle.uuid.specs.Text.{hyphenated_text, lower, hyphen, nibble, digit_place, is_hyphen_place, by_index}
+use Rattle.uuid.specs.Text as uuid
+use Rattle.uuid.proofs.TextLemmas.{nibble_small}
 use Rattle.json.proofs.Printed.Utf8.{IsUtf8-are_ascii}
 use Rattle.tv_formats.specs.declared.segment.DeleteMeta.{DeleteMeta}
 use Rattle.tv_formats.specs.Names.{is_name_byte}
 use Rattle.tv_formats.specs.Schemas.{IsSchemaText}
 use Rattle.tv_formats.specs.MetaJson.{SpellsMeta}
 use Rattle.tv_formats.specs.Meaning.{IsPrinted}
-use Rattle.tv_formats.specs.Commits.{Commit, Settings, thread_text, settings_text, deletes_text, segment_text, payload_text, printed}
+use Rattle.tv_formats.specs.Commits.{Commit, Settings, deletes_tree, last_members, printed, segment_tree, settings_tree}
 use Rattle.tv_formats.proofs.PlainNames.{all-append, all_more, both, decimal_all}
 use Rattle.tv_formats.proofs.JsonReadBack.{Spelled, read_of_tokens}
-use Rattle.tv_formats.proofs.PrintedTrees.{Entry, id_bytes, is_id_byte, printed_form}
+use Rattle.tv_formats.proofs.JsonTrees.{name_itself}
+use Rattle.tv_formats.proofs.PrintedTrees.{Entry}
 use Rattle.tv_formats.proofs.ReadPrinted.{shallow_spells}
 use Rattle.tv_formats.proofs.OneMeaning.{one_meaning}
 
@@ -37,57 +44,102 @@ free_both = all-append not_close
 free_number : (n : ℕ) → is_free (decimal n) ≡ true
 free_number n = decimal_all not_close n (λ c e. grind (arith, nat_tests))
 
-free_id : (id : List ℕ) → is_free (hyphenated_text lower id) ≡ true
+-- an id has no byte that is escaped, and no closing bracket
+abbrev is_id_byte : ℕ → Bool
+is_id_byte b = is_name_byte b && not (b == 93)
+
+each_byte : (n : ℕ) (f : ℕ → ℕ) → ((k : ℕ) → is_id_byte (f k) ≡ true) → list_all is_id_byte (by_index n f) ≡ true
+unfolding by_index
+each_byte zero f h = refl
+each_byte (suc n) f h = all-append is_id_byte (by_index n f) (f n ∷ []) (each_byte n f h) (rw (h n) refl)
+
+digit_by : (d : ℕ) (b : Bool) → nat_lt d 10 ≡ b → d < 16 → is_id_byte (if b then 48 + d else (97 + d - 10)) ≡ true
+digit_by d true is h = grind (arith, nat_tests)
+digit_by d false is h = grind (arith, nat_tests)
+
+hyphen_or : (b : Bool) (x : ℕ) → is_id_byte x ≡ true → is_id_byte (if b then hyphen else x) ≡ true
+hyphen_or true x h = refl
+hyphen_or false x h = h
+
+id_bytes : (id : List ℕ) → list_all is_id_byte (hyphenated_text lower id) ≡ true
+id_bytes id =
+    each_byte 36 (λ k. if is_hyphen_place k then hyphen else uuid.hex_digit lower (nibble id (digit_place k)))
+    (λ k. let n = nibble id (digit_place k) in hyphen_or (is_hyphen_place k) (uuid.hex_digit lower n) (digit_by n (nat_lt n 10) refl (nibble_small id (digit_place k))))
+
+id_escapes : (id : List ℕ) → escape (hyphenated_text lower id) ≡ hyphenated_text lower id
+id_escapes id =
+    name_itself (hyphenated_text lower id) (all_more is_id_byte is_name_byte (hyphenated_text lower id) (λ b h. (both (is_name_byte b) (not (b == 93)) h).0) (id_bytes id))
+
+free_id : (id : List ℕ) → is_free (escape (hyphenated_text lower id)) ≡ true
 free_id id =
-    all_more is_id_byte not_close (hyphenated_text lower id) (λ b h. (both (is_name_byte b) (not_close b) h).1) (id_bytes id)
+    ap is_free (id_escapes id)
+    ∙ all_more is_id_byte not_close (hyphenated_text lower id) (λ b h. (both (is_name_byte b) (not_close b) h).1) (id_bytes id)
 
-free_thread : (b : Bool) → is_free (thread_text b) ≡ true
-free_thread true = refl
-free_thread false = refl
+free_settings : (b : Bool) (n : ℕ) → is_free (compact_text (settings_tree (record { dedicated_thread = b; blocksize = n }))) ≡ true
+unfolding escape_byte
+free_settings true n = simp (list_all-append, free_number)
+free_settings false n = simp (list_all-append, free_number)
 
-free_settings : (settings : Settings) → is_free (settings_text settings) ≡ true
-free_settings settings = simp (list_all-append, free_thread, free_number)
-
-free_deletes : (o : Option DeleteMeta) → is_free (deletes_text o) ≡ true
+free_deletes : (o : Option DeleteMeta) → is_free (compact_text (deletes_tree o)) ≡ true
+unfolding escape_byte
 free_deletes None = refl
 free_deletes (Some meta) = simp (list_all-append, free_number)
 
-free_segment : (e : Entry) → is_free (segment_text e) ≡ true
+free_segment : (e : Entry) → is_free (compact_text (segment_tree e)) ≡ true
+unfolding escape_byte
 free_segment e = simp (list_all-append, free_id, free_number, free_deletes)
 
-free_segments : (es : List Entry) → is_free (join_with_byte 44 (map segment_text es)) ≡ true
-free_segments [] = refl
-free_segments (e ∷ []) = free_segment e
-free_segments (e ∷ f ∷ es) =
-    free_both (segment_text e) (44 ∷ join_with_byte 44 (map segment_text (f ∷ es))) (free_segment e) (free_segments (f ∷ es))
+-- the items of an array, without its closing bracket
+abbrev open_text : Bool → Items → List ℕ
+open_text later no_items = []
+open_text later (item d ds) = comma_if later ++ (compact_text d ++ open_text true ds)
+
+closed : (later : Bool) (ds : Items) → items_text later ds ≡ open_text later ds ++ 93 ∷ []
+closed later no_items = refl
+closed later (item d ds) =
+    ap (λ (l : List ℕ). comma_if later ++ (compact_text d ++ l)) (closed true ds) ∙ within (comma_if later) (compact_text d) (open_text true ds)
+  where
+    within : (c t l : List ℕ) → c ++ (t ++ (l ++ 93 ∷ [])) ≡ (c ++ (t ++ l)) ++ 93 ∷ []
+    within c t l = simp append_assoc
+
+free_comma : (later : Bool) → is_free (comma_if later) ≡ true
+free_comma true = refl
+free_comma false = refl
+
+free_segments : (later : Bool) (es : List Entry) → is_free (open_text later (items_of (map segment_tree es))) ≡ true
+free_segments later [] = refl
+free_segments later (e ∷ es) =
+    free_both (comma_if later) _ (free_comma later) (free_both (compact_text (segment_tree e)) _ (free_segment e) (free_segments true es))
 
 -- what stands before the bracket that ends the segments
 abbrev pub before_close : Settings → Commit → List ℕ
 before_close settings commit =
-    (codes "{\"index_settings\":" ++ settings_text settings) ++ (codes ",\"segments\":[" ++ join_with_byte 44 (map segment_text commit.segments))
+    codes "{\"index_settings\":" ++ compact_text (settings_tree settings) ++ codes ",\"segments\":[" ++ open_text false (items_of (map segment_tree commit.segments))
 
 -- what stands behind the schema
 abbrev pub after_schema : Commit → List ℕ
-after_schema commit = codes ",\"opstamp\":" ++ (decimal commit.opstamp ++ (payload_text commit.payload ++ (codes "}" ++ 10 ∷ [])))
+after_schema commit = members_text true (last_members commit.opstamp commit.payload) ++ 10 ∷ []
 
 pub free_before : (settings : Settings) (commit : Commit) → list_all (λ b. not (b == 93)) (before_close settings commit) ≡ true
 free_before settings commit =
-    let list = join_with_byte 44 (map segment_text commit.segments) in
-    free_both (codes "{\"index_settings\":" ++ settings_text settings) (codes ",\"segments\":[" ++ list)
-    (free_both (codes "{\"index_settings\":") (settings_text settings) refl (free_settings settings))
-    (free_both (codes ",\"segments\":[") list refl (free_segments commit.segments))
+    let s = compact_text (settings_tree settings) in
+    free_both (codes "{\"index_settings\":" ++ s ++ codes ",\"segments\":[") (open_text false (items_of (map segment_tree commit.segments)))
+    (free_both (codes "{\"index_settings\":" ++ s) (codes ",\"segments\":[")
+    (free_both (codes "{\"index_settings\":") s refl (free_settings settings.dedicated_thread settings.blocksize)) refl)
+    (free_segments false commit.segments)
 
-parted : (a b l c s d n p e f : List ℕ) → (a ++ (b ++ (l ++ (c ++ (s ++ (d ++ (n ++ (p ++ e)))))))) ++ f
-    ≡ (a ++ (b ++ l)) ++ (c ++ (s ++ (d ++ (n ++ (p ++ (e ++ f))))))
-parted a b l c s d n p e f = simp append_assoc
+parted : (a s b l c t e f : List ℕ) → (a ++ s ++ b ++ (91 ∷ (l ++ 93 ∷ [])) ++ c ++ t ++ e) ++ f ≡ (a ++ s ++ (b ++ 91 ∷ []) ++ l) ++ (93 ∷ (c ++ (t ++ (e ++ f))))
+parted a s b l c t e f = simp append_assoc
 
 pub printed_cut : (settings : Settings) (schema : List ℕ) (commit : Commit)
     → printed settings schema commit ++ 10 ∷ []
     ≡ before_close settings commit ++ (93 ∷ (codes ",\"schema\":" ++ (schema ++ after_schema commit)))
 printed_cut settings schema commit =
-    ap (λ (l : List ℕ). l ++ 10 ∷ []) (printed_form settings schema commit)
-    ∙ parted (codes "{\"index_settings\":" ++ settings_text settings) (codes ",\"segments\":[") (join_with_byte 44 (map segment_text commit.segments))
-    (codes "],\"schema\":") schema (codes ",\"opstamp\":") (decimal commit.opstamp) (payload_text commit.payload) (codes "}") (10 ∷ [])
+    let s = compact_text (settings_tree settings) in
+    let last = members_text true (last_members commit.opstamp commit.payload) in
+    let items = items_of (map segment_tree commit.segments) in
+    ap (λ (l : List ℕ). (codes "{\"index_settings\":" ++ s ++ codes ",\"segments\":" ++ (91 ∷ l) ++ codes ",\"schema\":" ++ schema ++ last) ++ 10 ∷ []) (closed false items)
+    ∙ parted (codes "{\"index_settings\":") s (codes ",\"segments\":") (open_text false items) (codes ",\"schema\":") schema last (10 ∷ [])
 
 -- ---- texts that are cut apart at the first bracket
 

@@ -1,38 +1,16 @@
 -- A footer as it is written is read back.
-use Rattle.std.proofs.Common.{◌≡◌, ◌≤◌, ◌<◌, ◌+◌, ◌^◌, ℕ, List, ◌++◌, length, Some, codes, refl, sym, ap, ◌∙◌, subst, arith, append_assoc, length-append}
-use Rattle.std.specs.Prelude.{IsUtf8}
+use Rattle.std.proofs.Common.{◌≡◌, ◌≤◌, ◌<◌, ◌+◌, ◌^◌, ℕ, List, ◌++◌, length, Some, refl, ap, arith, append_assoc, length-append}
 use Rattle.std.specs.Fmt.{decimal}
 use Rattle.std.proofs.lemmas.Bool.{lt-ltb}
 use Rattle.std.proofs.lemmas.Fmt.{length-decimal-le}
-use Rattle.json.specs.Print.{print}
-use Rattle.json.specs.Tree.{json_tokens}
-use Rattle.json.proofs.OnLiterals.{json_on_literals}
-use Rattle.serde_json.specs.Data.{Data, unsigned, number, object, member, no_members}
-use Rattle.serde_json.specs.Read.{read}
-use Rattle.serde_json.specs.Written.{compact_text, outline}
-use Rattle.serde_json.proofs.Texts.{print-outline}
-use Rattle.tv_formats.specs.FooterForm.{FooterFits, FooterNumbers, Spells, if_u32, written_json}
+use Rattle.json.specs.Print.{escape_byte}
+use Rattle.tv_formats.specs.FooterForm.{FooterFits, FooterNumbers, Spells, footer_tree, if_u32, version_tree, written_json}
 use Rattle.tv_formats.specs.Footer.{IsFramed, footer, footer_json, four_bytes, footer_magic, own_footer}
 use Rattle.tv_formats.proofs.JsonTrees.{Fits, compact_read, known, ordered}
 
 -- ---- the JSON reads as its tree
 
-abbrev version_tree : FooterNumbers → Data
-version_tree f =
-    object (member (codes "major") (number (unsigned f.major)) (member (codes "minor") (number (unsigned f.minor))
-    (member (codes "patch") (number (unsigned f.patch)) (member (codes "index_format_version") (number (unsigned f.format)) no_members))))
-
-abbrev tree_of : FooterNumbers → Data
-tree_of f = object (member (codes "version") (version_tree f) (member (codes "crc") (number (unsigned f.crc)) no_members))
-
-printed : (f : FooterNumbers) → print (json_tokens (outline (tree_of f))) ≡ written_json f
-unfolding json_on_literals
-printed f = refl
-
-text_is : (f : FooterNumbers) → compact_text (tree_of f) ≡ written_json f
-text_is f = sym (print-outline (tree_of f)) ∙ printed f
-
-tree_fits : (f : FooterNumbers) → FooterFits f → Fits (tree_of f)
+tree_fits : (f : FooterNumbers) → FooterFits f → Fits (footer_tree f)
 tree_fits f h = (
   refl,
   (refl, omega (arith, h.major), (refl, omega (arith, h.minor), (refl, omega (arith, h.patch), (refl, omega (arith, h.format), tt)))),
@@ -45,9 +23,9 @@ fits_at n lt = rw (lt-ltb n (2 ^ 32) lt) refl
 pub spells_itself : (f : FooterNumbers) (n : ℕ) → FooterFits f → Spells (written_json f) n f
 spells_itself f n h =
     record {
-      text = subst IsUtf8 (text_is f) (known (tree_of f) (tree_fits f h)).2;
-      tree = ordered (tree_of f);
-      parsed = ap read (sym (text_is f)) ∙ compact_read (tree_of f) (tree_fits f h) (omega arith);
+      text = (known (footer_tree f) (tree_fits f h)).2;
+      tree = ordered (footer_tree f);
+      parsed = compact_read (footer_tree f) (tree_fits f h) (omega arith);
       form = record {
         version = ordered (version_tree f);
         version_at = refl;
@@ -64,6 +42,7 @@ few_digits n lt = length-decimal-le 10 n (omega arith) (omega (arith, lt)) (omeg
 
 text_length : (f : FooterNumbers) → length (written_json f)
     ≡ 71 + length (decimal f.major) + length (decimal f.minor) + length (decimal f.patch) + length (decimal f.format) + length (decimal f.crc)
+unfolding escape_byte
 text_length f = simp length-append (omega arith)
 
 pub json_short : (f : FooterNumbers) → FooterFits f → length (written_json f) ≤ 50000

@@ -1,8 +1,8 @@
 -- A JSON tree whose members may stand in any order: its text without blanks is UTF-8, and is read as the tree with
 -- its members by their keys.
-use Rattle.std.proofs.Common.{◌≡◌, ◌<◌, ◌≤◌, ◌^◌, Bool, true, false, List, [], ◌∷◌, ◌++◌, map, Option, Some, option_map, option_and_then, decimal, refl, sym, ap, ap₂, ◌∙◌, arith, append_assoc}
+use Rattle.std.proofs.Common.{◌≡◌, ◌<◌, ◌≤◌, ◌^◌, Bool, true, false, List, [], ◌∷◌, ◌++◌, Option, Some, option_map, option_and_then, decimal, refl, sym, ap, ap₂, ◌∙◌, arith}
 use Rattle.std.specs.Prelude.{⊤, ℕ, IsUtf8}
-use Rattle.std.specs.List.{join_with_byte, list_all}
+use Rattle.std.specs.List.{list_all}
 use Rattle.std.proofs.lemmas.Bool.Decides.{nat_tests}
 use Rattle.std.proofs.lemmas.Fmt.{IsAscii-decimal}
 use Rattle.std.proofs.lemmas.Str.{IsUtf8-append, IsUtf8-from_ascii}
@@ -16,7 +16,6 @@ use Rattle.json.proofs.Printed.Trees.{ArePrintable-json_tokens}
 use Rattle.json.proofs.Printed.Utf8.{are_ascii, IsUtf8-are_ascii, IsUtf8-boolean, IsUtf8-quoted}
 use Rattle.serde_json.specs.Data.{Data, unsigned, negative, float, null, boolean, number, string, array, object, Items, no_items, item, Members, no_members, member, put}
 use Rattle.serde_json.specs.Read.{read, of_json, of_items, of_members}
-use Rattle.serde_json.specs.View.{items_of}
 use Rattle.serde_json.specs.Written.{outline, items_outline, members_outline, comma_if, compact_text, items_text, members_text}
 use Rattle.serde_json.proofs.Numbers.{number_of-decimal}
 use Rattle.serde_json.proofs.Texts.{print-outline}
@@ -126,19 +125,6 @@ line_read d h shallow =
 
 pub line_utf8 : (d : Data) → Fits d → IsUtf8 (compact_text d ++ 10 ∷ [])
 line_utf8 d h = IsUtf8-append (compact_text d) (10 ∷ []) (known d h).2 (IsUtf8-are_ascii _ refl)
-
--- ---- the text of an array whose items have these texts
-
-module _ {A : Type 0} (f : A → Data) (text : A → List ℕ) (is : (a : A) → compact_text (f a) ≡ text a) where
-  joined_from : (first : List ℕ) (xs : List A) → first ++ items_text true (items_of (map f xs)) ≡ join_with_byte 44 (first ∷ map text xs) ++ 93 ∷ []
-  joined_from first [] = refl
-  joined_from first (x ∷ xs) =
-      ap (λ (l : List ℕ). first ++ 44 ∷ (l ++ items_text true (items_of (map f xs)))) (is x) ∙ ap (λ (l : List ℕ). first ++ 44 ∷ l) (joined_from (text x) xs)
-      ∙ sym (append_assoc first (44 ∷ join_with_byte 44 (text x ∷ map text xs)) (93 ∷ []))
-
-  pub joined : (xs : List A) → items_text false (items_of (map f xs)) ≡ join_with_byte 44 (map text xs) ++ 93 ∷ []
-  joined [] = refl
-  joined (x ∷ xs) = ap (λ (l : List ℕ). l ++ items_text true (items_of (map f xs))) (is x) ∙ joined_from (text x) xs
 
 -- ---- the bytes of a name are not escaped
 

@@ -6,7 +6,6 @@ pub mod HeldNames
 pub mod Entries
 pub mod FooterTexts
 pub mod Framing
-pub mod JoinedTexts
 pub mod JsonStrings
 pub mod JsonWords
 pub mod JsonSplice

@@ -23,10 +23,10 @@ use Rattle.tv_formats.specs.JsonFields.{if_u64, IsOptional}
 use Rattle.tv_formats.specs.Schemas.{IsSchemaTree, IsSchemaText}
 use Rattle.tv_formats.specs.MetaJson.{AreSettings, IsDeleteMeta, SpellsSegment, SpellEach, SpellSegments, IsMetaTree, SpellsMeta}
 use Rattle.tv_formats.specs.Meaning.{Means}
-use Rattle.tv_formats.specs.Commits.{Commit, Settings, IsSegment, IsCommit, printed}
+use Rattle.tv_formats.specs.Commits.{Commit, Settings, IsSegment, IsCommit, deletes_tree, printed, segment_tree, settings_tree}
 use Rattle.tv_formats.proofs.JsonReadBack.{Spelled, spelled, read_of_tokens, inside_shallow}
 use Rattle.tv_formats.proofs.JsonTrees.{items_ordered, ordered}
-use Rattle.tv_formats.proofs.PrintedTrees.{Entry, settings_tree, deletes_tree, segment_tree, meta_json, meta_tree, meta_depth, meta_reads, line_tokens, printed_utf8}
+use Rattle.tv_formats.proofs.PrintedTrees.{Entry, meta_json, meta_tree, meta_depth, meta_reads, line_tokens, printed_utf8}
 use Rattle.tv_formats.proofs.Options.{some_value}
 
 -- ---- what the tree spells
@@ -39,7 +39,7 @@ fits n h =
     let wide : n < 2 ^ 64 = omega arith in
     ap (option_and_then if_u32) (fits_wide n wide) ∙ ap (λ b. cond b (Some n) None) (lt-ltb n (2 ^ 32) h)
 
-settings_are : (b : Bool) (n : ℕ) → n < 2 ^ 64 → AreSettings (ordered (settings_tree b n)) (record { dedicated_thread = b; blocksize = n })
+settings_are : (b : Bool) (n : ℕ) → n < 2 ^ 64 → AreSettings (ordered (settings_tree (record { dedicated_thread = b; blocksize = n }))) (record { dedicated_thread = b; blocksize = n })
 settings_are true n h = record { members = _; is_object = refl; compression = refl; thread = refl; blocksize = fits_wide n h }
 settings_are false n h = record { members = _; is_object = refl; compression = refl; thread = refl; blocksize = fits_wide n h }
 

@@ -1,10 +1,11 @@
 -- Commits, and what `meta.json` says.
-use Rattle.std.specs.Prelude.{ℕ, ◌≤◌, ◌<◌, ◌^◌, Bool, true, false, List, [], ◌++◌, map, codes, Option, Some, None, IfSome}
-use Rattle.std.specs.Fmt.{decimal}
-use Rattle.std.specs.List.{flat_map, join_with_byte, AllByRecursion}
+use Rattle.std.specs.Prelude.{ℕ, ◌≤◌, ◌<◌, ◌^◌, Bool, true, false, if◌then◌else◌, List, [], ◌++◌, map, codes, Option, Some, None, IfSome}
+use Rattle.std.specs.List.{flat_map, AllByRecursion}
 use Rattle.std.specs.List.Sorted.{IsStrictlySortedBy}
 use Rattle.std.specs.Str.{IsUtf8}
-use Rattle.json.specs.Print.{quoted}
+use Rattle.serde_json.specs.Data.{Data, unsigned, null, boolean, number, string, array, object, Members, no_members, member}
+use Rattle.serde_json.specs.View.{items_of}
+use Rattle.serde_json.specs.Written.{compact_text, members_text}
 use Rattle.uuid.specs.Text.{hyphenated_text, lower}
 use Rattle.tv_formats.specs.declared.segment.DeleteMeta.{DeleteMeta}
 use Rattle.tv_formats.specs.declared.segment.LiveSegment.{LiveSegment}
@@ -55,44 +56,50 @@ pub record IndexForm : Type 0 where
 abbrev pub new_form : List ℕ → IndexForm
 new_form schema = record { settings = default_settings; schema = schema }
 
--- whether documents are compressed on a thread of their own; printed only where they are not
-abbrev pub thread_text : Bool → List ℕ
-thread_text true = []
-thread_text false = codes ",\"docstore_compress_dedicated_thread\":false"
+-- the settings as JSON; where documents are compressed on a thread of their own, nothing is said of threads
+abbrev pub settings_tree : Settings → Data
+settings_tree settings =
+    let size = member (codes "docstore_blocksize") (number (unsigned settings.blocksize)) no_members in
+    object (member (codes "docstore_compression") (string (codes "none"))
+    (if settings.dedicated_thread then size
+    else member (codes "docstore_compress_dedicated_thread") (boolean false) size))
 
--- the settings, as `meta.json` has them
-abbrev pub settings_text : Settings → List ℕ
-settings_text settings =
-    codes "{\"docstore_compression\":\"none\"" ++ thread_text settings.dedicated_thread
-    ++ codes ",\"docstore_blocksize\":" ++ decimal settings.blocksize ++ codes "}"
+-- the deletes of a segment as JSON
+abbrev pub deletes_tree : Option DeleteMeta → Data
+deletes_tree None = null
+deletes_tree (Some meta) =
+    object (member (codes "num_deleted_docs") (number (unsigned meta.num_deleted_docs))
+    (member (codes "opstamp") (number (unsigned meta.opstamp)) no_members))
 
--- the deletes of a segment, as `meta.json` has them
-abbrev pub deletes_text : Option DeleteMeta → List ℕ
-deletes_text None = codes "null"
-deletes_text (Some meta) =
-    codes "{\"num_deleted_docs\":" ++ decimal meta.num_deleted_docs ++ codes ",\"opstamp\":"
-    ++ decimal meta.opstamp ++ codes "}"
+-- a segment with its id as JSON
+abbrev pub segment_tree : List ℕ × LiveSegment → Data
+segment_tree e =
+    object (member (codes "segment_id") (string (hyphenated_text lower e.0))
+    (member (codes "max_doc") (number (unsigned e.1.max_doc))
+    (member (codes "deletes") (deletes_tree e.1.deletes) no_members)))
 
--- a segment with its id, as `meta.json` has it
-abbrev pub segment_text : List ℕ × LiveSegment → List ℕ
-segment_text e =
-    codes "{\"segment_id\":\"" ++ hyphenated_text lower e.0 ++ codes "\",\"max_doc\":" ++ decimal e.1.max_doc
-    ++ codes ",\"deletes\":" ++ deletes_text e.1.deletes ++ codes "}"
+-- the segments as JSON
+abbrev pub segments_tree : List (List ℕ × LiveSegment) → Data
+segments_tree segments = array (items_of (map segment_tree segments))
 
--- the payload, as `meta.json` has it: left out where there is none
-abbrev pub payload_text : Option (List ℕ) → List ℕ
-payload_text None = []
-payload_text (Some text) = codes ",\"payload\":" ++ quoted text
+-- the payload as a member, which is left out where there is none
+abbrev pub payload_members : Option (List ℕ) → Members
+payload_members None = no_members
+payload_members (Some text) = member (codes "payload") (string text) no_members
 
--- the printed form of a commit under a schema of this text
+-- the members behind the schema: the number and the payload of a commit
+abbrev pub last_members : ℕ → Option (List ℕ) → Members
+last_members opstamp payload =
+    member (codes "opstamp") (number (unsigned opstamp)) (payload_members payload)
+
+-- The printed form of a commit: a JSON object without blanks, of the settings, the segments, the schema,
+-- whose text stands in it as it is, and the last members.
 abbrev pub printed : Settings → List ℕ → Commit → List ℕ
 printed settings schema commit =
-    codes "{\"index_settings\":" ++ settings_text settings
-    ++ codes ",\"segments\":[" ++ join_with_byte 44 (map segment_text commit.segments)
-    ++ codes "],\"schema\":" ++ schema
-    ++ codes ",\"opstamp\":" ++ decimal commit.opstamp
-    ++ payload_text commit.payload
-    ++ codes "}"
+    codes "{\"index_settings\":" ++ compact_text (settings_tree settings)
+    ++ codes ",\"segments\":" ++ compact_text (segments_tree commit.segments)
+    ++ codes ",\"schema\":" ++ schema
+    ++ members_text true (last_members commit.opstamp commit.payload)
 
 -- the files that these commits require: those of the first one in the order of its segments, then those
 -- of the others

@@ -1,9 +1,9 @@
 -- The JSON of a footer, in any spelling.
-use Rattle.std.specs.Prelude.{ℕ, ◌≡◌, ◌<◌, ◌^◌, List, ◌++◌, codes, IsUtf8, nat_lt, if◌then◌else◌, Option, Some, None, option_and_then}
-use Rattle.std.specs.Fmt.{decimal}
-use Rattle.serde_json.specs.Data.{Data}
+use Rattle.std.specs.Prelude.{ℕ, ◌≡◌, ◌<◌, ◌^◌, List, codes, IsUtf8, nat_lt, if◌then◌else◌, Option, Some, None, option_and_then}
+use Rattle.serde_json.specs.Data.{Data, unsigned, number, object, no_members, member}
 use Rattle.serde_json.specs.Find.{get, as_number, as_u64}
 use Rattle.serde_json.specs.Read.{read}
+use Rattle.serde_json.specs.Written.{compact_text}
 
 -- the numbers of a footer: the version of the library that wrote the file, the format of the file, and the
 -- checksum of its body
@@ -49,10 +49,20 @@ pub record FooterFits (footer : FooterNumbers) : Type 0 where
   pub format : footer.format < 2 ^ 32
   pub crc : footer.crc < 2 ^ 32
 
--- the JSON of these numbers as it is written
+-- the numbers of a version as JSON
+abbrev pub version_tree : FooterNumbers → Data
+version_tree footer =
+    object (member (codes "major") (number (unsigned footer.major))
+    (member (codes "minor") (number (unsigned footer.minor))
+    (member (codes "patch") (number (unsigned footer.patch))
+    (member (codes "index_format_version") (number (unsigned footer.format)) no_members))))
+
+-- these numbers as JSON
+abbrev pub footer_tree : FooterNumbers → Data
+footer_tree footer =
+    object (member (codes "version") (version_tree footer)
+    (member (codes "crc") (number (unsigned footer.crc)) no_members))
+
+-- the JSON of these numbers as it is written, without blanks
 abbrev pub written_json : FooterNumbers → List ℕ
-written_json footer =
-    codes "{\"version\":{\"major\":" ++ (decimal footer.major ++ (codes ",\"minor\":" ++ (decimal footer.minor
-    ++ (codes ",\"patch\":"
-    ++ (decimal footer.patch ++ (codes ",\"index_format_version\":" ++ (decimal footer.format
-    ++ (codes "},\"crc\":" ++ (decimal footer.crc ++ codes "}")))))))))
+written_json footer = compact_text (footer_tree footer)

@@ -7,6 +7,7 @@ ghost use Rattle.tv_framing.specs.Footers.{HasFooterFields, SpellsFooter, footer
 ghost use Rattle.tv_framing.specs.FooterTrees.{IsVersion};
 
 use crate::footer::Footer;
+use json::Writer;
 use serde_json::Value;
 use std::alloc::Global;
 use tv_base::{Memory, Version};
@@ -67,15 +68,22 @@ fn number_at(tree: &Value, key: &str) -> Option<u32>
 pub(crate) fn write_json(alloc: Global, footer: &Footer) -> Result<Vec<u8>, Memory>
     ensures { IfOk result (λ json. json.items ≡ footer_json footer.now) }
 {
-    let Version {
-        major,
-        minor,
-        patch,
-        index_format_version,
-    } = footer.version;
-    let crc = footer.crc;
-    let json = format!(in alloc;
-        "{{\"version\":{{\"major\":{major},\"minor\":{minor},\"patch\":{patch},\"index_format_version\":{index_format_version}}},\"crc\":{crc}}}"
-    )?;
-    Ok(json.into_bytes())
+    let version = footer.version;
+    let mut json = Writer::new(Vec::new(alloc));
+    json.begin_object()?;
+    json.key("version")?;
+    json.begin_object()?;
+    json.key("major")?;
+    json.u64(u64::from(version.major))?;
+    json.key("minor")?;
+    json.u64(u64::from(version.minor))?;
+    json.key("patch")?;
+    json.u64(u64::from(version.patch))?;
+    json.key("index_format_version")?;
+    json.u64(u64::from(version.index_format_version))?;
+    json.end_object()?;
+    json.key("crc")?;
+    json.u64(u64::from(footer.crc))?;
+    json.end_object()?;
+    Ok(json.into_inner())
 }

@@ -14,7 +14,6 @@ pub mod PutAll
 pub mod MetaForms
 pub mod Parsed
 pub mod PrintedForms
-pub mod JoinedTexts
 pub mod Openings
 pub mod Untracked
 pub mod NameSets

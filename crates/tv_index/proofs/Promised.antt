@@ -1,22 +1,25 @@
 -- What the laws follow from.
-use Rattle.std.proofs.Common.{◌≡◌, inl, inr, ℕ, zero, suc, ◌<◌, ◌^◌, false, List, [], ◌∷◌, ◌++◌, codes, length, map, Option, Some, None, Result, Ok, Err, refl, sym, ap, ◌∙◌, subst, arith, append_assoc, append-nil}
+use Rattle.std.proofs.Common.{◌≡◌, inl, inr, ℕ, zero, suc, ◌<◌, ◌^◌, Bool, true, false, List, [], ◌∷◌, ◌++◌, codes, length, map, Option, Some, None, Result, Ok, Err, refl, sym, ap, ◌∙◌, subst, arith, append_assoc, append-nil}
 use Rattle.std.specs.Prelude.{Contains, IfErr, IfOk, IsErrAnd, IsSome, MatchResult, OnOk, is_some}
 use Rattle.std.specs.Fmt.{decimal}
-use Rattle.std.specs.List.{join_with_byte, slice_index_or}
+use Rattle.std.specs.List.{slice_index_or}
 use Rattle.std.specs.Str.Iter.{HasSubslice}
 use Rattle.std.proofs.lemmas.Bool.{or_parts, true≢false, false_from_ne_true}
 use Rattle.std.proofs.lemmas.Option.{same_Some}
 use Rattle.hex.specs.Hex.{encode_lower}
+use Rattle.json.specs.Print.{escape_byte}
 use Rattle.serde_json.specs.Data.{Data, null, array, Items, no_items, item}
 use Rattle.serde_json.specs.Find.{as_array, get, get_item}
 use Rattle.serde_json.specs.Read.{read}
+use Rattle.serde_json.specs.View.{items_of}
+use Rattle.serde_json.specs.Written.{comma_if, compact_text, items_text, members_text}
 use Rattle.tv_base.specs.declared.error.TantivyError.{TantivyError}
 use Rattle.tv_base.specs.declared.error.TantivyError.TheVariants as errors
 use Rattle.tv_directory.specs.declared.directory.Directory.{Ghosts}
 use Rattle.tv_managed.specs.declared.managed_directory.Refused.{Refused}
 use Rattle.tv_formats.specs.declared.segment.DeleteMeta.{DeleteMeta}
 use Rattle.tv_formats.specs.declared.segment.LiveSegment.{LiveSegment}
-use Rattle.tv_formats.specs.Commits.{Commit, IndexForm, IsCommit, Settings, payload_text, printed, segment_text, settings_text}
+use Rattle.tv_formats.specs.Commits.{Commit, IndexForm, IsCommit, Settings, last_members, printed, segment_tree, segments_tree, settings_tree}
 use Rattle.tv_formats.specs.Files.{Same}
 use Rattle.tv_formats.specs.JsonFields.{IsOptional, field, u32_of}
 use Rattle.tv_formats.specs.Meaning.{Means, SpellsNothing}
@@ -115,51 +118,47 @@ in_back text front back (a, b, is) = (front ++ a, b, ap (λ (l : List ℕ). fron
 in_part : (text part whole : List ℕ) → HasSubslice part text → HasSubslice whole part → HasSubslice whole text
 in_part text part whole (a, b, is) (front, back, within) = (front ++ a, b ++ back, within ∙ ap (λ (l : List ℕ). front ++ (l ++ back)) is ∙ simp append_assoc)
 
-in_commit : (text front segments b schema c opstamp payload end : List ℕ) → HasSubslice segments text → HasSubslice (front ++ segments ++ b ++ schema ++ c ++ opstamp ++ payload ++ end) text
-in_commit text front segments b schema c opstamp payload end (before, after, is) = (
-  front ++ before,
-  after ++ b ++ schema ++ c ++ opstamp ++ payload ++ end,
-  ap (λ (l : List ℕ). front ++ l ++ b ++ schema ++ c ++ opstamp ++ payload ++ end) is ∙ simp append_assoc,
-)
+in_commit : (text front segments b schema last : List ℕ) → HasSubslice segments text → HasSubslice (front ++ segments ++ b ++ schema ++ last) text
+in_commit text front segments b schema last (before, after, is) =
+    (front ++ before, after ++ b ++ schema ++ last, ap (λ (l : List ℕ). front ++ l ++ b ++ schema ++ last) is ∙ simp append_assoc)
 
 abbrev Entry : Type 0
 Entry = List ℕ × LiveSegment
 
 -- the text of a segment among those of all
-joined_at : (es : List Entry) (e : Entry) (k : ℕ) → k < length es → slice_index_or es k e ≡ e → HasSubslice (join_with_byte 44 (map segment_text es)) (segment_text e)
-joined_at [] e k lt is = absurd (omega (arith, lt))
-joined_at (x ∷ []) e zero lt is = ([], [], ap segment_text is ∙ sym (append-nil (segment_text e)))
-joined_at (x ∷ []) e (suc k) lt is = absurd (omega (arith, lt))
-joined_at (x ∷ y ∷ es) e zero lt is =
-    let rest = join_with_byte 44 (map segment_text (y ∷ es)) in ([], 44 ∷ rest, ap (λ (z : Entry). segment_text z ++ (44 ∷ rest)) is)
-joined_at (x ∷ y ∷ es) e (suc k) lt is =
-    in_back (segment_text e) (segment_text x) (44 ∷ join_with_byte 44 (map segment_text (y ∷ es)))
-    (in_back (segment_text e) (44 ∷ []) (join_with_byte 44 (map segment_text (y ∷ es))) (joined_at (y ∷ es) e k (omega (arith, lt)) is))
+segment_in : (later : Bool) (es : List Entry) (e : Entry) (k : ℕ) → k < length es → slice_index_or es k e ≡ e
+    → HasSubslice (items_text later (items_of (map segment_tree es))) (compact_text (segment_tree e))
+segment_in later [] e k lt is = absurd (omega (arith, lt))
+segment_in later (x ∷ es) e zero lt is =
+    let rest = items_text true (items_of (map segment_tree es)) in
+    (comma_if later, rest, ap (λ (z : Entry). comma_if later ++ (compact_text (segment_tree z) ++ rest)) is)
+segment_in later (x ∷ es) e (suc k) lt is =
+    in_back (compact_text (segment_tree e)) (comma_if later) _
+    (in_back (compact_text (segment_tree e)) (compact_text (segment_tree x)) _ (segment_in true es e k (omega (arith, lt)) is))
 
-pieces : (front quote name number word value end : List ℕ)
-    → ((((front ++ (quote ++ name)) ++ number) ++ word) ++ value) ++ end ≡ (front ++ quote) ++ (((name ++ number) ++ (word ++ (value ++ end))) ++ [])
-pieces front quote name number word value end = simp (append_assoc, append-nil)
+pieces : (front name word number end : List ℕ) → front ++ (name ++ (word ++ (number ++ end))) ≡ (front ++ name) ++ ((word ++ number ++ end) ++ [])
+pieces front name word number end = simp (append_assoc, append-nil)
 
-null_among : (id number : List ℕ)
-    → HasSubslice (codes "{\"segment_id\":\"" ++ id ++ codes "\",\"max_doc\":" ++ number ++ codes ",\"deletes\":" ++ codes "null" ++ codes "}") (codes ",\"max_doc\":" ++ number ++ codes ",\"deletes\":null}")
-null_among id number = (
-  codes "{\"segment_id\":\"" ++ id ++ codes "\"",
-  [],
-  pieces (codes "{\"segment_id\":\"" ++ id) (codes "\"") (codes ",\"max_doc\":") number (codes ",\"deletes\":") (codes "null") (codes "}"),
-)
+null_among : (id number : List ℕ) → HasSubslice (codes "{\"segment_id\":\"" ++ ((id ++ codes "\"") ++ (codes ",\"max_doc\":" ++ (number ++ codes ",\"deletes\":null}"))))
+    (codes ",\"max_doc\":" ++ number ++ codes ",\"deletes\":null}")
+null_among id number =
+    (codes "{\"segment_id\":\"" ++ (id ++ codes "\""), [], pieces (codes "{\"segment_id\":\"") (id ++ codes "\"") (codes ",\"max_doc\":") number (codes ",\"deletes\":null}"))
 
 -- without deletes it has `null`
-null_in : (e : Entry) → e.1.deletes ≡ None → HasSubslice (segment_text e) (codes ",\"max_doc\":" ++ decimal e.1.max_doc ++ codes ",\"deletes\":null}")
-null_in e none =
-    subst (λ (deletes : Option DeleteMeta). HasSubslice (segment_text (e.0, record e.1 { deletes = deletes })) (codes ",\"max_doc\":" ++ decimal e.1.max_doc ++ codes ",\"deletes\":null}")) (sym none) (null_among _ (decimal e.1.max_doc))
+null_in : (e : Entry) (deletes : Option DeleteMeta) → deletes ≡ None
+    → HasSubslice (compact_text (segment_tree (e.0, record e.1 { deletes = deletes }))) (codes ",\"max_doc\":" ++ decimal e.1.max_doc ++ codes ",\"deletes\":null}")
+unfolding escape_byte
+null_in e (Some meta) none = absurd cc
+null_in e None none = null_among _ (decimal e.1.max_doc)
 
 -- so has what is printed of a commit with such a segment
 pub printed_null : (settings : Settings) (schema : List ℕ) (commit : Commit) (e : Entry) → Contains commit.segments e → e.1.deletes ≡ None
     → HasSubslice (printed settings schema commit) (codes ",\"max_doc\":" ++ decimal e.1.max_doc ++ codes ",\"deletes\":null}")
 printed_null settings schema commit e (k, lt, is) none =
-    in_part (codes ",\"max_doc\":" ++ decimal e.1.max_doc ++ codes ",\"deletes\":null}") (segment_text e) (printed settings schema commit) (null_in e none)
-    (in_commit (segment_text e) (codes "{\"index_settings\":" ++ settings_text settings ++ codes ",\"segments\":[") (join_with_byte 44 (map segment_text commit.segments))
-    (codes "],\"schema\":") schema (codes ",\"opstamp\":") (decimal commit.opstamp) (payload_text commit.payload) (codes "}") (joined_at commit.segments e k lt is))
+    in_part (codes ",\"max_doc\":" ++ decimal e.1.max_doc ++ codes ",\"deletes\":null}") (compact_text (segment_tree e)) (printed settings schema commit) (null_in e e.1.deletes none)
+    (in_commit (compact_text (segment_tree e)) (codes "{\"index_settings\":" ++ compact_text (settings_tree settings) ++ codes ",\"segments\":")
+    (compact_text (segments_tree commit.segments)) (codes ",\"schema\":") schema (members_text true (last_members commit.opstamp commit.payload))
+    (in_back (compact_text (segment_tree e)) (91 ∷ []) _ (segment_in false commit.segments e k lt is)))
 
 -- why the text of a commit is refused: for want of memory alone
 only_memory : (settings : Settings) (schema bytes : List ℕ) (commit : Commit) (error : TantivyError) → Means settings schema bytes commit → ParseCause (Some schema) bytes error → error ≡ errors.Memory

@@ -9,6 +9,7 @@ pub mod MetaReading
 pub mod Parsing
 pub mod Choosing
 pub mod Printed
+pub mod Printing
 pub mod Opening
 pub mod Openable
 pub mod Saving

@@ -4,6 +4,7 @@ use Rattle.std.specs.Fmt.{digits}
 use Rattle.tv_machine.specs.Machine.{report, answers, after, Turn}
 use Rattle.tv_machine.specs.Index.{first_state, as_opened, first_catalog, next_after}
 use Rattle.hex.specs.Hex.{encode_with}
+use Rattle.json.specs.Print.{escape_byte}
 use Rattle.tv_machine.proofs.Samples.{first_script, unrefused}
 use Rattle.tv_formats.proofs.Samples.{id_a, id_b, id_c}
 use Rattle.tv_machine.specs.declared.event.Event.TheVariants as events
@@ -236,7 +237,7 @@ pub snapshot_told : answers (after first_state first_script) (unrefused (
     ∷ codes "released"
     ∷ codes "refused unknown-searcher"
     ∷ []
-unfolding encode_with digits
+unfolding encode_with digits escape_byte
 snapshot_told = refl
 
 -- a collection takes no name that another one holds, and the next one takes what was left untried

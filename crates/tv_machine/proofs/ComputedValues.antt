@@ -36,7 +36,7 @@ committed_list = refl
 -- a commit of one segment of three documents
 pub committed_printed : printed default_settings text_schema (after first_state first_script).catalog.commit ≡
     codes "{\"index_settings\":{\"docstore_compression\":\"none\",\"docstore_blocksize\":16384},\"segments\":[{\"segment_id\":\"a5c4dfcb-dfe6-4508-9129-e308e26d5523\",\"max_doc\":3,\"deletes\":null}],\"schema\":[{\"name\":\"text\",\"type\":\"text\",\"options\":{\"indexing\":{\"record\":\"position\",\"fieldnorms\":true,\"tokenizer\":\"default\"},\"stored\":false,\"fast\":false}}],\"opstamp\":1}"
-unfolding encode_with digits by_index
+unfolding encode_with digits by_index escape_byte
 committed_printed = refl
 
 -- a commit of no segments, after a first one

@@ -3,6 +3,7 @@ use Rattle.std.proofs.Common.{◌≡◌, ◌+◌, ◌<◌, ◌≤◌, ◌||◌, 
 use Rattle.std.specs.declared.cmp.Ordering.{Ordering}
 use Rattle.std.specs.declared.cmp.Ordering.TheVariants.{Less, Equal, Greater}
 use Rattle.std.specs.Ordering.{is_eq, is_lt, match_ordering, ordering_index, ordering_reverse}
+use Rattle.std.specs.Borrow.{Bor}
 use Rattle.std.specs.Result.{is_ok}
 use Rattle.std.specs.Cmp.Lexicographic.{nat_list_cmp_total, texts_ties}
 use Rattle.std.specs.List.{list_all, list_any, AllByRecursion, HoldsAt}
@@ -19,10 +20,11 @@ use Rattle.std.proofs.lemmas.Map.Keys.{Less-from_sorted}
 use Rattle.std.proofs.lemmas.Str.{IsUtf8-string_bytes}
 use Rattle.tv_formats.specs.Names.{byte_cmp, has, is, is_plain}
 use Rattle.tv_formats.specs.Listing.{IsManagedName, IsListOf, list_text}
-use Rattle.tv_formats.proofs.Entries.{sorted_put}
+use Rattle.tv_formats.proofs.Entries.{has_put, is_by_order, sorted_put}
 use Rattle.tv_formats.proofs.ListTexts.{written_is_list}
 use Rattle.tv_formats.proofs.PlainNames.{both}
 use Rattle.tv_formats.proofs.TextSets.{bytes_had, texts_inserted}
+use Rattle.tv_managed.specs.Collecting.{texts_of}
 use Rattle.tv_managed.specs.Names.{AreManaged}
 
 cut : (b : Bool) (x : String Global) (xs rest : List (String Global)) (rest' : List (List ℕ)) → map string_bytes rest ≡ rest'
@@ -56,6 +58,26 @@ managed_inserted keys new copy name put is plain h =
 -- whether a text is in the set
 pub had_is : (keys : List (String Global)) (old : List (List ℕ)) (name : List ℕ) (b : Bool) → b ≡ list_any (is_at (λ k. byte_cmp name (string_bytes k))) keys → map string_bytes keys ≡ old → has old name ≡ b
 had_is keys old name b e f = ap (λ (ns : List (List ℕ)). has ns name) (sym f) ∙ sym (bytes_had keys name) ∙ sym e
+
+-- a set of lent texts has one more
+lent_inserted : (keys : List (Bor (List ℕ))) (k : Bor (List ℕ)) → texts_of (insert_key (λ x y. byte_cmp x.now y.now) keys k) ≡ insert_key byte_cmp (texts_of keys) k.now
+lent_inserted [] k = refl
+lent_inserted (x ∷ keys) k =
+    elim (byte_cmp k.now x.now) as (λ r. texts_of (match_ordering r (k ∷ x ∷ keys) (x ∷ keys) (x ∷ insert_key (λ a b. byte_cmp a.now b.now) keys k))
+    ≡ match_ordering r (k.now ∷ x.now ∷ texts_of keys) (x.now ∷ texts_of keys) (x.now ∷ insert_key byte_cmp (texts_of keys) k.now)) [
+      | Less ↦ refl
+      | Equal ↦ refl
+      | Greater ↦ ap (λ (t : List (List ℕ)). x.now ∷ t) (lent_inserted keys k)
+    ]
+
+-- which texts it has then
+pub lent_put : (keys : List (Bor (List ℕ))) (k : Bor (List ℕ)) (n : List ℕ) → has (texts_of (insert_key (λ x y. byte_cmp x.now y.now) keys k)) n ≡ (is k.now n || has (texts_of keys) n)
+lent_put keys k n = ap (λ (ns : List (List ℕ)). has ns n) (lent_inserted keys k) ∙ has_put (texts_of keys) k.now n
+
+-- whether a text is in a set of lent texts
+pub lent_had : (keys : List (Bor (List ℕ))) (name : List ℕ) → list_any (is_at (λ k. byte_cmp name k.now)) keys ≡ has (texts_of keys) name
+lent_had [] name = refl
+lent_had (x ∷ keys) name = rw (is_by_order name x.now, lent_had keys name) refl
 
 -- the text of the list stands for the names
 pub list_of : (keys : List (String Global)) (names : List (List ℕ)) → map string_bytes keys ≡ names → AreManaged (map string_bytes keys) → IsListOf (list_text names) names

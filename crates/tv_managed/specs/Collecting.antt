@@ -1,5 +1,6 @@
 -- What a collection does to a directory and its list.
 use Rattle.std.specs.Prelude.{ℕ, ◌≡◌, ◌≢◌, ◌<◌, ◌≤◌, ◌+◌, ◌^◌, ◌⊎◌, Bool, true, false, List, [], ◌∷◌, ◌++◌, String, Some, None, IsSome, codes, length, map, string_bytes, Result, IfErr, IfOk, OnOk, OnErr}
+use Rattle.std.specs.Borrow.{Bor}
 use Rattle.std.specs.Option.{IsSomeAnd}
 use Rattle.std.specs.Result.{IsErr}
 use Rattle.std.specs.BTreeMap.{insert_entry}
@@ -26,6 +27,10 @@ use Rattle.tv_managed.specs.declared.collection.GarbageCollectionResult.{Garbage
 -- texts, as names
 abbrev pub names_of : {X : Type 0} → List (String X) → List (List ℕ)
 names_of texts = map string_bytes texts
+
+-- lent texts, as names
+abbrev pub texts_of : List (Bor (List ℕ)) → List (List ℕ)
+texts_of texts = map (λ text. text.now) texts
 
 -- no more names failed than the count of refused deletes rose, or the count stands at the end of its 64 bits
 abbrev pub FailsAtMost : (failed before now : ℕ) → Type 0

@@ -8,9 +8,9 @@ ghost use Rattle.tv_directory.specs.Calls.{DeleteFaults, Deletes, EndsWriters, I
 ghost use Rattle.tv_managed.specs.Crashes.{AreListed, CollectsNames, EndsSafely, IsTracked, LeavesSafely, CutsList, SettlesStates, StepsSafely, TriesSafely, TriesState};
 ghost use Rattle.tv_managed.specs.Frames.{KeepsNames, OnlyAsks};
 ghost use Rattle.tv_managed.specs.Names.{AreManaged, ManagedNames};
-ghost use Rattle.tv_managed.specs.Collecting.{Among, BeginFaults, Begins, BeginsBeside, ChangesNothing, CollectFaults, EndFaults, EndsCollection, HasLeft, LockedFaults, NotesNext, OnlyDeletes, Shortens, Steps, TriesAll, TriesName, is_done, names_of, standing, taken_by};
+ghost use Rattle.tv_managed.specs.Collecting.{Among, BeginFaults, Begins, BeginsBeside, ChangesNothing, CollectFaults, EndFaults, EndsCollection, HasLeft, LockedFaults, NotesNext, OnlyDeletes, Shortens, Steps, TriesAll, TriesName, is_done, names_of, standing, taken_by, texts_of};
 
-use crate::collection::{CollectStep, Collections, GarbageCollectionResult};
+use crate::collection::{CollectStep, Collection, Collections, GarbageCollectionResult};
 use crate::list::save_managed_paths;
 use crate::managed_directory::ManagedDirectory;
 use std::alloc::Global;
@@ -90,6 +90,9 @@ impl<D: Directory> ManagedDirectory<D> {
     /// answers its number. At Ok the meta lock was free, as it is again, and the device has kept what was written
     /// before. `LockFailure` comes where the lock isn't given, `Exhausted` where the number would be the last; then
     /// nothing changed. After any error none was begun.
+    ///
+    /// The memory for the names and for the answer is taken before the directory is asked for anything. From
+    /// then on memory is wanted by the directory, and for the collection's place beside the others, alone.
     pub fn collect_begin(&mut self, living: &BTreeSet<String>) -> Result<u64, TantivyError>
         ensures begins { IfOk result (Begins (taken_by (names_of living.now.keys) self.old.1)
             self.old.1 self.new.1) }
@@ -99,8 +102,26 @@ impl<D: Directory> ManagedDirectory<D> {
         ensures safe { D.tells_images → LeavesSafely D.Directory
             (SettlesStates (D.disk self.old.0) (D.disk self.new.0) result) self.old self.new }
     {
+        let collection = self.collection_of(living)?;
         self.under_meta_lock(|| ())?;
-        self.begin(living)
+        self.begin(collection)
+    }
+
+    /// The number that the next collection gets. Takes no memory.
+    pub fn next_collection(&self) -> u64
+        ensures { result ≡ self.now.1.collections.next }
+    {
+        self.collections.next_number()
+    }
+
+    /// The names that a collection takes which begins now beside these living names, in their order: the
+    /// managed ones that are neither living nor of an unfinished collection. No name is copied.
+    pub fn collectable(&self, living: &BTreeSet<String>) -> Result<Vec<&str>, Memory>
+        ensures { IfOk result (λ names. texts_of names.items
+            ≡ taken_by (names_of living.now.keys) self.now.1) }
+    {
+        let held = self.collections.held(self.alloc)?;
+        names_to_collect(self.alloc, living, &self.managed, &held)
     }
 
     /// The names that a collection took, in their order, and nothing where no such collection is unfinished.
@@ -214,13 +235,36 @@ impl<D: Directory> ManagedDirectory<D> {
             (SettlesStates (D.disk self.old.0) (D.disk self.new.0) result) self.old self.new }
     {
         let living = self.under_meta_lock(living)?;
-        self.begin(&living)
+        self.begin_beside(&living)
     }
 
-    // Begins a collection, where there is a number for it, once the device has kept what was written.
-    fn begin(&mut self, living: &BTreeSet<String>) -> Result<u64, TantivyError>
+    // The collection that begins now beside these living names.
+    fn collection_of(&self, living: &BTreeSet<String>) -> Result<Collection, Memory>
+        ensures { IfOk result (λ c. c ≡ begun (taken_by (names_of living.now.keys) self.now.1)) }
+    {
+        let names = self.collectable(living)?;
+        Collection::new(self.alloc, names.as_slice())
+    }
+
+    // Begins a collection of the names that aren't living. The memory for these is taken before the device is
+    // waited for.
+    fn begin_beside(&mut self, living: &BTreeSet<String>) -> Result<u64, TantivyError>
         ensures begins { IfOk result (Begins (taken_by (names_of living.now.keys) self.old.1)
             self.old.1 self.new.1) }
+        ensures err { OnErr result (self.new.1 ≡ self.old.1) }
+        ensures faults { BeginFaults D.Directory self.old self.new result }
+        ensures frame { OnlyReads D.told (D.view self.old.0) (D.view self.new.0) }
+        ensures images { D.tells_images
+            → SettlesStates (D.disk self.old.0) (D.disk self.new.0) result }
+    {
+        let collection = self.collection_of(living)?;
+        self.begin(collection)
+    }
+
+    // A collection begins, where there is a number for it, once the device has kept what was written.
+    fn begin(&mut self, collection: Collection) -> Result<u64, TantivyError>
+        requires { collection ≡ begun collection.untried }
+        ensures begins { IfOk result (Begins collection.untried self.old.1 self.new.1) }
         ensures err { OnErr result (self.new.1 ≡ self.old.1) }
         ensures faults { BeginFaults D.Directory self.old self.new result }
         ensures frame { OnlyReads D.told (D.view self.old.0) (D.view self.new.0) }
@@ -231,8 +275,7 @@ impl<D: Directory> ManagedDirectory<D> {
             return Err(TantivyError::Exhausted);
         }
         self.sync_directory()?;
-        let names = names_to_collect(self.alloc, living, &self.managed, &self.collections)?;
-        Ok(self.collections.begin(self.alloc, names)?)
+        Ok(self.collections.begin(collection)?)
     }
 
     // Tries each name that the collection has left.
@@ -341,29 +384,29 @@ fn delete_managed<D: Directory>(directory: &mut D, name: &str) -> Result<bool, M
     }
 }
 
-// Whether a name is living, or an unfinished collection has it.
+// Whether a name is living, or an unfinished collection holds it.
 #[tactic(auto, using(crate::proofs::SetsOfTexts::had_is))]
-fn is_needed(living: &BTreeSet<String>, collections: &Collections, name: &str) -> bool
-    ensures { result ≡ has (names_of living.now.keys ++ held collections.now) name.now }
+fn is_needed(living: &BTreeSet<String>, held: &BTreeSet<&str>, name: &str) -> bool
+    ensures { result ≡ has (names_of living.now.keys ++ texts_of held.now.keys) name.now }
 {
-    living.contains(name) || collections.holds(name)
+    living.contains(name) || held.contains(name)
 }
 
-// The managed names that are neither living nor of an unfinished collection, in their order.
-fn names_to_collect(
+// The managed names that are neither living nor held, in their order.
+fn names_to_collect<'a>(
     alloc: Global,
     living: &BTreeSet<String>,
-    managed: &BTreeSet<String>,
-    collections: &Collections,
-) -> Result<Vec<String>, Memory>
-    ensures { IfOk result (λ names. names_of names.items
-        ≡ collectable (names_of living.now.keys ++ held collections.now)
+    managed: &'a BTreeSet<String>,
+    held: &BTreeSet<&str>,
+) -> Result<Vec<&'a str>, Memory>
+    ensures { IfOk result (λ names. texts_of names.items
+        ≡ collectable (names_of living.now.keys ++ texts_of held.now.keys)
         (names_of managed.now.keys)) }
 {
     let mut names = Vec::new(alloc);
     for name in managed {
-        if !is_needed(living, collections, name.as_str()) {
-            names.push(String::from_str(alloc, name.as_str())?)?;
+        if !is_needed(living, held, name.as_str()) {
+            names.push(name.as_str())?;
         }
     }
     Ok(names)

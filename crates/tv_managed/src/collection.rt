@@ -3,7 +3,7 @@ ghost use Rattle.std.specs.Prelude.{◌≡◌, ◌≢◌, ◌≤◌, ◌<◌, �
 ghost use Rattle.tv_formats.specs.Names.{has, is_plain};
 ghost use Rattle.tv_formats.specs.Collections.{Collection as CollectionState, begun, collection_at, having_tried, held, no_collections, taken, with_begun, with_collection, without, without_collection};
 ghost use Rattle.tv_managed.specs.Answers.{HasRoom, IsReady};
-ghost use Rattle.tv_managed.specs.Collecting.{HasLeft, IsLast, is_done, names_of, tried_name};
+ghost use Rattle.tv_managed.specs.Collecting.{HasLeft, IsLast, is_done, names_of, texts_of, tried_name};
 ghost use Rattle.tv_managed.specs.Names.{AreManaged, tried_so};
 
 use std::alloc::Global;
@@ -102,11 +102,12 @@ impl Model for Collection {
 }
 
 impl Collection {
-    // A collection of these names, which has tried none.
-    fn new(alloc: Global, names: Vec<String>) -> Result<Collection, Memory>
-        requires { AreManaged (names_of names.items) }
-        ensures { IfOk result (λ c. c ≡ begun (names_of names.items)) }
+    /// A collection of these names, which has tried none.
+    pub(crate) fn new(alloc: Global, names: &[&str]) -> Result<Collection, Memory>
+        requires { AreManaged (texts_of names.now) }
+        ensures { IfOk result (λ c. c ≡ begun (texts_of names.now)) }
     {
+        let names = copies_of(alloc, names)?;
         let outcomes = vec![in alloc; false; names.len()]?;
         let answer = GarbageCollectionResult::with_room(alloc, names.len())?;
         Ok(Collection {
@@ -190,6 +191,28 @@ impl Collection {
         } = self;
         told_in(answer, names, &outcomes[..tried])
     }
+}
+
+// Copies of these texts.
+fn copies_of(alloc: Global, texts: &[&str]) -> Result<Vec<String>, Memory>
+    ensures { IfOk result (λ copies. names_of copies.items ≡ texts_of texts.now) }
+{
+    let mut copies = Vec::with_capacity(alloc, texts.len())?;
+    for text in texts {
+        copies.push(String::from_str(alloc, text)?)?;
+    }
+    Ok(copies)
+}
+
+// Puts names into a set.
+fn put_names<'a>(set: &mut BTreeSet<&'a str>, names: &'a [String]) -> Result<(), Memory>
+    ensures { OnOk result ((n : List ℕ)
+        → has (texts_of set.new.keys) n ≡ has (texts_of set.old.keys ++ names_of names.now) n) }
+{
+    for name in names {
+        set.insert(name.as_str())?;
+    }
+    Ok(())
 }
 
 // These names without those that were tried and are done.
@@ -278,16 +301,34 @@ impl Collections {
             .any(|collection| collection.took(name))
     }
 
-    /// Begins a collection of these names.
-    pub(crate) fn begin(&mut self, alloc: Global, names: Vec<String>) -> Result<u64, Memory>
-        requires managed { AreManaged (names_of names.items) }
+    /// The names that unfinished collections hold.
+    pub(crate) fn held<'a>(&'a self, alloc: Global) -> Result<BTreeSet<&'a str>, Memory>
+        ensures { IfOk result (λ set. (n : List ℕ)
+            → has (texts_of set.keys) n ≡ has (held self.now) n) }
+    {
+        let mut names = BTreeSet::new(alloc);
+        for collection in self.unfinished.values() {
+            put_names(&mut names, collection.names())?;
+        }
+        Ok(names)
+    }
+
+    /// The number that the next collection gets. Takes no memory.
+    pub(crate) fn next_number(&self) -> u64
+        ensures { result ≡ self.now.next }
+    {
+        self.next
+    }
+
+    /// A collection begins, which has tried none of its names.
+    pub(crate) fn begin(&mut self, collection: Collection) -> Result<u64, Memory>
+        requires begun { collection ≡ begun collection.untried }
         requires numbered { IsLast self.old.next → ⊥ }
         ensures number { IfOk result (λ number. number ≡ self.old.next) }
         ensures free { OnOk result (collection_at self.old self.old.next ≡ None) }
-        ensures begun { OnOk result (self.new ≡ with_begun self.old (names_of names.items)) }
+        ensures begun { OnOk result (self.new ≡ with_begun self.old collection.untried) }
         ensures err { OnErr result (self.new ≡ self.old) }
     {
-        let collection = Collection::new(alloc, names)?;
         let number = self.next;
         self.unfinished.insert(number, collection)?;
         self.next = number + 1;

@@ -1,13 +1,13 @@
 //! Laws of managed directories: what one may rely on, whatever the directory is. Each makes the calls of which it
 //! speaks, and its contract is the law.
-ghost use Rattle.std.specs.Prelude.{◌≡◌, ◌≢◌, ◌≤◌, ◌<◌, ◌⊎◌, ℕ, List, Option, true, false, IsSome, IfOk, IfErr, OnErr};
-ghost use Rattle.tv_formats.specs.Names.{is_file_name, list_name};
+ghost use Rattle.std.specs.Prelude.{◌≡◌, ◌≢◌, ◌≤◌, ◌<◌, ◌⊎◌, ◌&&◌, not, ℕ, List, Option, true, false, IsSome, IfOk, IfErr, OnErr};
+ghost use Rattle.tv_formats.specs.Names.{has, is_file_name, list_name};
 ghost use Rattle.tv_formats.specs.Collections.{collection_at, held};
 ghost use Rattle.tv_formats.specs.Disk.{IsThere, MayLeave};
 ghost use Rattle.tv_formats.specs.Files.{Reads};
 ghost use Rattle.tv_formats.specs.Listed.{ListsItsFiles};
 ghost use Rattle.tv_directory.specs.View.{OnlyReads};
-ghost use Rattle.tv_managed.specs.Collecting.{HasLeft, KeepsFailed, Spares, TookNoneOf, is_done, names_of};
+ghost use Rattle.tv_managed.specs.Collecting.{HasLeft, KeepsFailed, Spares, TookNoneOf, is_done, names_of, texts_of};
 ghost use Rattle.tv_managed.specs.Crashes.{IsTracked, LeavesWhatMight, StandsFor};
 ghost use Rattle.tv_managed.specs.Frames.{KeepsNames};
 ghost use Rattle.tv_managed.specs.Managed.{is_taken};
@@ -19,6 +19,7 @@ use crate::writer::ManagedWriter;
 use std::collections::BTreeSet;
 use tv_base::{OpenWriteError, OwnedBytes, TantivyError};
 use tv_directory::Directory;
+use tv_formats::Memory;
 
 /// Where track is kept, a crash at any moment of `open_write`, whatever that answers, leaves no undotted file but
 /// those on the list that it leaves.
@@ -94,6 +95,20 @@ pub fn collect_begin_spares_what_is_needed<D: Directory>(
     ensures held { IfOk result (TookNoneOf (held directory.old.1.collections) directory.new.1) }
 {
     directory.collect_begin(living)
+}
+
+/// The names that are told before a collection begins are the managed ones that are neither living nor of an
+/// unfinished collection.
+pub fn collectable_names_are_spare<'a, D: Directory>(
+    directory: &'a ManagedDirectory<D>,
+    living: &BTreeSet<String>,
+) -> Result<Vec<&'a str>, Memory>
+    ensures { IfOk result (λ names. (n : List ℕ) → has (texts_of names.items) n
+        ≡ (not (has (names_of living.now.keys) n)
+        && not (has (held directory.now.1.collections) n)
+        && has directory.now.1.managed n)) }
+{
+    directory.collectable(living)
 }
 
 /// The number of a collection that is begun is below the one that the next collection gets.

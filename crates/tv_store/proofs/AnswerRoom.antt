@@ -1,8 +1,7 @@
 -- How long the line of a collection is, and how many names it has.
-use Rattle.std.proofs.Common.{◌≡◌, ◌≤◌, ◌<◌, ◌+◌, ◌^◌, ℕ, Bool, true, false, true≢false, not, ◌&&◌, ◌||◌, cond, List, [], ◌∷◌, ◌++◌, filter, length, codes, decimal, string_bytes, refl, sym, ap, ◌∙◌, arith, append_assoc, length-append}
+use Rattle.std.proofs.Common.{◌≡◌, ◌≤◌, ◌+◌, ℕ, Bool, true, false, true≢false, not, ◌&&◌, ◌||◌, cond, List, [], ◌∷◌, ◌++◌, filter, length, codes, string_bytes, refl, sym, ap, ◌∙◌, arith, append_assoc, length-append}
 use Rattle.std.specs.List.Sorted.{IsStrictlySortedBy}
 use Rattle.std.specs.Cmp.Lexicographic.{texts_ties}
-use Rattle.std.proofs.lemmas.Fmt.{length-decimal-le}
 use Rattle.std.proofs.lemmas.List.{length-map}
 use Rattle.std.proofs.lemmas.List.Filters.{length-filter_both}
 use Rattle.tv_formats.specs.Collections.{collectable, done_of, failed_of, held, without}
@@ -19,11 +18,11 @@ use Rattle.tv_managed.specs.Names.{ManagedNames}
 use Rattle.tv_managed.specs.declared.collection.GarbageCollectionResult.{GarbageCollectionResult}
 
 -- how long words are, each behind a space
-abbrev words_len : List (List ℕ) → ℕ
+abbrev pub words_len : List (List ℕ) → ℕ
 words_len [] = 0
 words_len (word ∷ words) = (length word + 1) + words_len words
 
-line_len : (text : List ℕ) (words : List (List ℕ)) → length (line text words) ≡ length text + words_len words
+pub line_len : (text : List ℕ) (words : List (List ℕ)) → length (line text words) ≡ length text + words_len words
 line_len text [] = omega arith
 line_len text (word ∷ words) = omega (arith, line_len (text ++ 32 ∷ word) words, length-append text (32 ∷ word))
 
@@ -49,11 +48,6 @@ parts_fit done failed =
     omega (arith, begun_fits (first ++ 32 ∷ codes "failed") failed, ap (λ (t : List ℕ). length t) (written_line done failed)) in
     (both, omega (arith, both, length-append first (32 ∷ codes "failed")))
 
--- a vector without length has nothing in it
-pub nothing_in : (items : List ℕ) → length items ≡ 0 → items ≡ []
-nothing_in [] none = refl
-nothing_in (x ∷ items) none = absurd (omega (arith, none))
-
 -- no line feed comes with one more word
 pub word_feeds : (text word : List ℕ) → has_no_feed text ≡ true → has_no_feed word ≡ true → has_no_feed (text ++ 32 ∷ word) ≡ true
 word_feeds text word h k = no_feed_append text (32 ∷ word) h k
@@ -73,22 +67,22 @@ taken_len needed (name ∷ managed) = taken (has needed name) (taken_len needed 
   taken true h = omega (arith, h)
   taken false h = omega (arith, h)
 
--- the line is hardly longer than the one of the managed names
-pub collected_len : (needed managed : List (List ℕ)) (outcomes : List Bool)
-    → length (collected_line (done_of (collectable needed managed) outcomes) (failed_of (collectable needed managed) outcomes)) ≤ length (line (codes "managed") managed) + 16
-collected_len needed managed outcomes =
+-- so the line is no longer than one of its words and all managed names
+pub collected_fits : (needed managed : List (List ℕ)) (outcomes : List Bool)
+    → length (collected_line (done_of (collectable needed managed) outcomes) (failed_of (collectable needed managed) outcomes)) ≤ length (line (codes "gc deleted failed") managed)
+collected_fits needed managed outcomes =
     let names = collectable needed managed in
     let done = done_of names outcomes in
     let failed = failed_of names outcomes in
     let first : length (codes "gc deleted") ≡ 10 = refl in
     let second : length (codes "failed") ≡ 6 = refl in
-    let all : length (codes "managed") ≡ 7 = refl in
+    let words : length (codes "gc deleted failed") ≡ 17 = refl in
     omega (
       arith,
       length-append (line (codes "gc deleted") done) (32 ∷ line (codes "failed") failed),
       line_len (codes "gc deleted") done,
       line_len (codes "failed") failed,
-      line_len (codes "managed") managed,
+      line_len (codes "gc deleted failed") managed,
       tried_len names outcomes,
       taken_len needed managed,
     )
@@ -96,7 +90,7 @@ collected_len needed managed outcomes =
 -- ---- the line of a collection that began
 
 -- what is left of names without one of them is shorter by that
-one_less : (x : List ℕ) (names : List (List ℕ)) → has names x ≡ true → (length x + 1) + words_len (without (x ∷ []) names) ≤ words_len names
+pub one_less : (x : List ℕ) (names : List (List ℕ)) → has names x ≡ true → (length x + 1) + words_len (without (x ∷ []) names) ≤ words_len names
 one_less x [] h = absurd (true≢false (sym h))
 one_less x (y ∷ names) h =
     elim (is x y) as (λ b. is x y ≡ b → (length x + 1) + words_len (cond (not (b || false)) (y ∷ without (x ∷ []) names) (without (x ∷ []) names)) ≤ (length y + 1) + words_len names) [
@@ -122,24 +116,6 @@ words_few (x ∷ names) all o within =
             | true ↦ λ e. absurd (true≢false (sym h ∙ ap (has names) (sym (is_text x n e)) ∙ below_absent names x o.0))
             | false ↦ λ e. within n (elim (is x n) as (λ b. (b || has names n) ≡ true) [ true ↦ refl | false ↦ h ])
           ] refl
-
--- that line too is hardly longer than the one of the managed names
-pub begun_len : (number : ℕ) (needed managed names : List (List ℕ)) → number < 2 ^ 64 → IsStrictlySortedBy byte_cmp names → ((n : List ℕ) → has names n ≡ has (collectable needed managed) n)
-    → length (line (codes "gc") (decimal number ∷ names)) ≤ length (line (codes "managed") managed) + 16
-begun_len number needed managed names small sorted same =
-    let first : length (codes "gc") ≡ 2 = refl in
-    let all : length (codes "managed") ≡ 7 = refl in
-    let few : number < 10 ^ 20 = omega (arith, small) in
-    let digits : length (decimal number) ≤ 20 = length-decimal-le 20 number (omega arith) few small in
-    let text : length (line (codes "gc") (decimal number ∷ names)) ≡ length (codes "gc") + ((length (decimal number) + 1) + words_len names) = line_len (codes "gc") (decimal number ∷ names) in
-    omega (
-      arith,
-      text,
-      digits,
-      line_len (codes "managed") managed,
-      words_few names (collectable needed managed) sorted (λ n h. sym (same n) ∙ h),
-      taken_len needed managed,
-    )
 
 -- ---- how many names there are
 
@@ -171,3 +147,7 @@ told_few g living old new result told =
     let failed : length result.failed_to_delete_files.items ≡ length (failed_of (taken_by living old.1) told.outcomes) =
     sym (length-map result.failed_to_delete_files.items string_bytes) ∙ ap (λ (ns : List (List ℕ)). length ns) told.failed in
     (omega (arith, taken, deleted, done_few (taken_by living old.1) told.outcomes), omega (arith, taken, failed, failed_few (taken_by living old.1) told.outcomes))
+
+-- a line with those that are taken is no longer than one with all
+pub taken_fits : (text : List ℕ) (needed managed : List (List ℕ)) → length (line text (collectable needed managed)) ≤ length (line text managed)
+taken_fits text needed managed = omega (arith, line_len text (collectable needed managed), line_len text managed, taken_len needed managed)

@@ -1,11 +1,10 @@
 -- What two calls leave alone, one after the other.
-use Rattle.std.proofs.Common.{ℕ, ◌≡◌, Result, ◌∙◌}
+use Rattle.std.proofs.Common.{ℕ, ◌≡◌, Result}
 use Rattle.tv_machine.specs.State.{Catalog}
 use Rattle.tv_directory.specs.Calls.{MakesRoom}
 use Rattle.tv_directory.specs.View.{View, Told, OnlyReads}
-use Rattle.tv_directory.specs.ViewLaws.{reads_then}
-use Rattle.tv_store.specs.Kept.{FilesState, StoreState, kept_of}
-use Rattle.tv_store.specs.Stays.{Asks, KeepsFiles}
+use Rattle.tv_store.specs.Kept.{FilesState, kept_of}
+use Rattle.tv_store.specs.Stays.{KeepsFiles}
 
 -- what is kept stays where the files do
 pub kept_by_files : {O W : Type 0} {keeps : View W → View W → Type 0} {view : O → View W} {old new : FilesState O} (catalog : Catalog) → KeepsFiles keeps view old new → kept_of catalog new ≡ kept_of catalog old
@@ -16,13 +15,6 @@ kept_by_files {O} {W} {keeps} {view} {old} {new} catalog frame =
     let open_files : new.open_files ≡ old.open_files = frame.open_files in
     let left : new.left ≡ old.left = frame.managed.left in
     cc
-
-pub asks_later : {O W : Type 0} {told : Told} {view : O → View W} {first now next : StoreState O} → Asks (OnlyReads told) view first now → Asks (OnlyReads told) view now next → Asks (OnlyReads told) view first next
-asks_later before after = record {
-  kept = after.kept ∙ before.kept;
-  standing = after.standing ∙ before.standing;
-  below = reads_then before.below after.below;
-}
 
 -- making room only asks
 pub asked_files : {A E O W : Type 0} {told : Told} {view : O → View W} {len : ℕ} {result : Result A E} {old new : FilesState O} → KeepsFiles (MakesRoom told len result) view old new → KeepsFiles (OnlyReads told) view old new

@@ -1,5 +1,5 @@
 -- The first of some files that can't be read, and an opening line that wasn't told.
-use Rattle.std.proofs.Common.{◌≡◌, ℕ, ◌+◌, ◌<◌, List, take, drop, length, get_or, inl, true, None, Result, Ok, Err, refl, sym, subst, ◌∙◌}
+use Rattle.std.proofs.Common.{◌≡◌, ℕ, List, [], ◌∷◌, ◌++◌, append_assoc, inl, true, None, Result, Ok, Err, refl, sym, ap, subst, ◌∙◌}
 use Rattle.std.specs.Result.{IsErrAnd}
 use Rattle.tv_base.specs.Errors.{of_open_read}
 use Rattle.tv_base.specs.declared.error.TantivyError.{TantivyError}
@@ -24,23 +24,35 @@ use Rattle.tv_store.specs.ReadCauses.{ApplyCause, reading_facts}
 use Rattle.tv_store.specs.Stays.{KeepsFiles}
 use Rattle.tv_store.specs.StoreCauses.{MakesNoFile}
 use Rattle.tv_store.specs.Telling.{TellsFirstPart, TellsNoLine}
-use Rattle.tv_store.proofs.ReaderEvents.{cause_weaker, split_there}
+use Rattle.tv_store.proofs.ReaderEvents.{all_pushed, cause_weaker}
 
--- each before it was read
-first_bad : (first now : Reads) (names : List (List ℕ)) (i : ℕ) (name : List ℕ) → i < length names → name ≡ get_or names i name → ((n : List ℕ) → has (take i names) n ≡ true → ReadsGoodFile (first n)) → IsFirstBad first names name
-first_bad first now names i name within at_i so_far = record { front = take i names; rest = drop (i + 1) names; split = split_there names i name within at_i; good = so_far }
+-- Some first ones of these names were read, and these are left.
+pub record ReadsFirst (tells : Type 0) (reads : Reads) (names left : List (List ℕ)) : Type 0 where
+  pub front : List (List ℕ)
+  pub split : names ≡ front ++ left
+  pub good : tells → (n : List ℕ) → has front n ≡ true → ReadsGoodFile (reads n)
 
-pub unread_here : (tells : Type 0) (first now : Reads) (names : List (List ℕ)) (i : ℕ) (name : List ℕ) (start before after : ℕ) (error : TantivyError)
-    → (tells → Same first now) → before ≡ start → i < length names → name ≡ get_or names i name
-    → (tells → (n : List ℕ) → has (take i names) n ≡ true → ReadsGoodFile (first n))
+-- one more was
+pub reads_more : (tells : Type 0) (reads : Reads) (names left rest : List (List ℕ)) (name : List ℕ) → left ≡ name ∷ rest → (tells → ReadsGoodFile (reads name)) → ReadsFirst tells reads names left → ReadsFirst tells reads names rest
+reads_more tells reads names left rest name begins good h = record {
+  front = h.front ++ name ∷ [];
+  split = h.split ∙ ap (λ (ns : List (List ℕ)). h.front ++ ns) begins ∙ sym (append_assoc h.front (name ∷ []) rest);
+  good = λ t. all_pushed (λ m. ReadsGoodFile (reads m)) h.front name (h.good t) (good t);
+}
+
+-- the next one isn't
+pub unread_next : (tells : Type 0) (first now : Reads) (names left rest : List (List ℕ)) (name : List ℕ) (start before after : ℕ) (error : TantivyError)
+    → (tells → Same first now) → before ≡ start → left ≡ name ∷ rest → ReadsFirst tells first names left
     → ApplyCause (reading_facts (Rose before after) (after ≡ before) (λ error. tells → RefusesAt now name error) (λ path. (path ≡ name) × (tells → now path ≡ None))) error
     → ApplyCause (reading_facts (Rose start after) (after ≡ start) (λ error. tells → MeetsRefused first names error) (λ path. tells → MeetsMissing first names path)) error
-unread_here tells first now names i name start before after error same quiet within at_i so_far h =
+unread_next tells first now names left rest name start before after error same quiet begins so_far h =
     cause_weaker (reading_facts (Rose before after) (after ≡ before) (λ error. tells → RefusesAt now name error) (λ path. (path ≡ name) × (tells → now path ≡ None)))
     (reading_facts (Rose start after) (after ≡ start) (λ error. tells → MeetsRefused first names error) (λ path. tells → MeetsMissing first names path)) error
     (λ never. never) (λ rose. subst (λ (x : ℕ). Rose x after) quiet rose) (λ still. still ∙ quiet) (λ never. never)
-    (λ error b t. (name, first_bad first now names i name within at_i (so_far t), record { bytes = (b t).bytes; there = sym (same t name) ∙ (b t).there; why = (b t).why; no_body = (b t).no_body }))
-    (λ path a t. (subst (IsFirstBad first names) (sym a.0) (first_bad first now names i name within at_i (so_far t)), sym (same t path) ∙ a.1 t)) h
+    (λ error b t. (name, bad t, record { bytes = (b t).bytes; there = sym (same t name) ∙ (b t).there; why = (b t).why; no_body = (b t).no_body }))
+    (λ path a t. (subst (IsFirstBad first names) (sym a.0) (bad t), sym (same t path) ∙ a.1 t)) h where
+      bad : tells → IsFirstBad first names name
+      bad t = record { front = so_far.front; rest = rest; split = so_far.split ∙ ap (λ (ns : List (List ℕ)). so_far.front ++ ns) begins; good = so_far.good t }
 
 -- a call that reads takes no lock
 pub reads_take_none : (error : OpenReadError) → TakesNoLock (of_open_read error)

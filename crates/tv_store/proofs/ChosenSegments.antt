@@ -65,21 +65,26 @@ put_after : (l : Bool) (e : Entry) (fs : List Entry) (id : List ℕ) (segment : 
 put_after true e fs id segment r = rw r refl
 put_after false e fs id segment r = refl
 
+-- a segment that was found, put in its place where it has living documents
+abbrev with_found : List Entry → List ℕ → Option LiveSegment → List Entry
+with_found segments id None = segments
+with_found segments id (Some segment) = with_living segments id segment
+
 put_further : (b : Bool) (e : Entry) (fs : List Entry) (id : List ℕ) (o : Option LiveSegment) → byte_cmp id e.0 ≡ Greater
-    → with_living (cond b (e ∷ fs) fs) id o ≡ cond b (e ∷ with_living fs id o) (with_living fs id o)
+    → with_found (cond b (e ∷ fs) fs) id o ≡ cond b (e ∷ with_found fs id o) (with_found fs id o)
 put_further false e fs id o r = refl
 put_further true e fs id None r = refl
 put_further true e fs id (Some segment) r = put_after (living segment) e fs id segment r
 
 -- one segment more, found in the sorted list
-one_more : (p q : Entry → Bool) (es : List Entry) (id : List ℕ) → IsStrictlySortedBy byte_cmp (map (λ e. e.0) es) → TakesOneMore p q id → with_living (filter p es) id (at es id) ≡ filter q es
+one_more : (p q : Entry → Bool) (es : List Entry) (id : List ℕ) → IsStrictlySortedBy byte_cmp (map (λ e. e.0) es) → TakesOneMore p q id → with_found (filter p es) id (at es id) ≡ filter q es
 unfolding IsStrictlySortedBy
 one_more p q [] id o more = refl
 one_more p q (e ∷ es) id o more =
-    elim (byte_cmp id e.0) as (λ r. byte_cmp id e.0 ≡ r → with_living (filter p (e ∷ es)) id (cond (is_eq r) (Some e.1) (at es id)) ≡ filter q (e ∷ es)) [
+    elim (byte_cmp id e.0) as (λ r. byte_cmp id e.0 ≡ r → with_found (filter p (e ∷ es)) id (cond (is_eq r) (Some e.1) (at es id)) ≡ filter q (e ∷ es)) [
       | Less ↦ λ r.
           let before : IsBefore id es = below_all (map (λ (x : Entry). x.0) es) id e.0 r o.0 in
-          ap (with_living (filter p (e ∷ es)) id) (absent es id before) ∙ sym (same_filtered p q (e ∷ es) id (r, before) more)
+          ap (with_found (filter p (e ∷ es)) id) (absent es id before) ∙ sym (same_filtered p q (e ∷ es) id (r, before) more)
       | Equal ↦ λ r.
           let key : id ≡ e.0 = text_at id e.0 (ap is_eq r) in
           let before : IsBefore id es = subst (λ (k : List ℕ). IsBefore k es) (sym key) o.0 in
@@ -104,10 +109,11 @@ apart true false false = refl
 apart false b l = refl
 
 -- one name further in the loop
-pub chosen_further : (es : List Entry) (ids : List (List ℕ)) (i : ℕ) (id : List ℕ) → IsStrictlySortedBy byte_cmp (map (λ e. e.0) es) → i < length ids → id ≡ get_or ids i id
-    → with_living (named_living (take i ids) es) id (at es id) ≡ named_living (take (i + 1) ids) es
-chosen_further es ids i id o inside is_id =
-    one_more (λ e. has (take i ids) e.0 && living e.1) (λ e. has (take (i + 1) ids) e.0 && living e.1) es id o (λ e.
+pub chosen_further : (es : List Entry) (ids : List (List ℕ)) (i : ℕ) (id : List ℕ) (segment : LiveSegment) → IsStrictlySortedBy byte_cmp (map (λ e. e.0) es) → i < length ids → id ≡ get_or ids i id → at es id ≡ Some segment
+    → with_living (named_living (take i ids) es) id segment ≡ named_living (take (i + 1) ids) es
+chosen_further es ids i id segment o inside is_id found =
+    ap (with_found (named_living (take i ids) es) id) (sym found)
+    ∙ one_more (λ e. has (take i ids) e.0 && living e.1) (λ e. has (take (i + 1) ids) e.0 && living e.1) es id o (λ e.
     let this : is (get_or ids i id) e.0 ≡ is_at (byte_cmp id) e.0 = ap (λ (k : List ℕ). is k e.0) (sym is_id) ∙ is_by_order e.0 id ∙ same_at e.0 id in
     let more : has (take (i + 1) ids) e.0 ≡ (has (take i ids) e.0 || is_at (byte_cmp id) e.0) = list_any_more (λ (k : List ℕ). is k e.0) ids i id inside ∙ ap (λ (b : Bool). has (take i ids) e.0 || b) this in
     ap (λ (b : Bool). b && living e.1) more ∙ apart (has (take i ids) e.0) (is_at (byte_cmp id) e.0) (living e.1))

@@ -1,16 +1,13 @@
 -- What is held after a collection, and after the end of a segment; and which files are sealed.
 use Rattle.std.proofs.Common.{◌≡◌, filter, ℕ, inl, inr, ⊎_elim, Bool, true, false, true≢false, cond, not, ◌&&◌, ◌||◌, List, [], ◌∷◌, ◌++◌, length, Option, Some, None, option_map, is_some, refl, sym, ap, subst, ◌∙◌, arith}
 use Rattle.std.specs.List.{AllByRecursion}
-use Rattle.std.specs.BTreeMap.{is_at}
-use Rattle.tv_formats.specs.declared.segment.LiveSegment.{LiveSegment}
-use Rattle.tv_formats.specs.Names.{byte_cmp, is, has, meta_name, at}
+use Rattle.tv_formats.specs.Names.{is, has, meta_name, at}
 use Rattle.tv_formats.specs.Files.{RoseBy}
 use Rattle.tv_formats.specs.Listing.{IsListFile, Listing}
 use Rattle.tv_formats.specs.Collections.{Collections, done_of, failed_of, collectable, held, without}
 use Rattle.tv_machine.specs.Living.{living}
-use Rattle.tv_formats.specs.Segments.{segment_names}
 use Rattle.tv_machine.specs.State.{Catalog, State, FileState, SealedFile, Open, Left, file_at}
-use Rattle.tv_machine.specs.CollectionEvents.{garbage, without_files, without_live, collected_line, gc_step, left, released, with_left}
+use Rattle.tv_machine.specs.CollectionEvents.{garbage, without_files, collected_line, gc_step, left, with_left}
 use Rattle.tv_machine.specs.Machine.{refused_in}
 use Rattle.tv_formats.specs.Meaning.{Means}
 use Rattle.tv_formats.specs.Commits.{Commit, IsSegment, IndexForm}
@@ -20,18 +17,17 @@ use Rattle.tv_directory.specs.declared.directory.Directory.{Ghosts}
 use Rattle.tv_managed.specs.Collecting.{FailsAtMost}
 use Rattle.tv_store.specs.FileCalls.{TriesNames, Collects, LeavesFiles}
 use Rattle.tv_store.specs.Kept.{FilesState, Holds, FileHolds, is_left, kept_of}
-use Rattle.tv_store.proofs.OpenFiles.{all_left}
 use Rattle.tv_store.proofs.Listings.{undotted_isnt_list}
 
 -- ---- a collection
 
 -- names that are among others alike are spared alike
-same_collectable : (needed others managed : List (List ℕ)) → ((n : List ℕ) → has needed n ≡ has others n) → collectable needed managed ≡ collectable others managed
+pub same_collectable : (needed others managed : List (List ℕ)) → ((n : List ℕ) → has needed n ≡ has others n) → collectable needed managed ≡ collectable others managed
 same_collectable needed others [] h = refl
 same_collectable needed others (x ∷ managed) h = rw (h x, same_collectable needed others managed h) refl
 
 -- what is needed, and what is held, by the state
-same_needs : (needed : List (List ℕ)) (collections held_by : Collections) (catalog : Catalog) → collections ≡ held_by → ((n : List ℕ) → has needed n ≡ has (living catalog) n)
+pub same_needs : (needed : List (List ℕ)) (collections held_by : Collections) (catalog : Catalog) → collections ≡ held_by → ((n : List ℕ) → has needed n ≡ has (living catalog) n)
     → (n : List ℕ) → has (needed ++ held collections) n ≡ has (living catalog ++ held held_by) n
 same_needs needed collections held_by catalog same needs n =
     has_append needed (held collections) n ∙ ap (λ (b : Bool). b || has (held collections) n) (needs n) ∙ ap (λ (c : Collections). has (living catalog) n || has (held c) n) same
@@ -168,19 +164,9 @@ module _ {O W C : Type 0} (g : Ghosts O W C) (catalog : Catalog) (old new : File
         listed = h.listed;
       })
 
-  -- such is that after the end of a segment
-  pub released_holds : (id : List ℕ) (segment : LiveSegment) → Holds (g.view old.outside).reads (kept_of catalog old) s
-      → new ≡ record old { open_files = new.open_files; left = new.left } → LeavesFiles (segment_names (id, segment)) old new
-      → Holds (g.view new.outside).reads (kept_of (without_live catalog id) new) (released s id segment).1
-  released_holds id segment h others told =
-      subst (λ (c : Catalog). Holds (g.view new.outside).reads (kept_of (without_live c id) new) (released s id segment).1) (sym h.catalog)
-      (left_holds (segment_names (id, segment)) (without_live s.catalog id) h (all_left IsSegment s.catalog.live (is_at (byte_cmp id)) h.segments) refl others told)
-
 -- how the count of refused deletes rose
 pub refusals_rose : {O W C : Type 0} (g : Ghosts O W C) (names : List (List ℕ)) (old new : FilesState O) (deleted failed : List (List ℕ)) (told : TriesNames g names old new deleted failed) (start end : ℕ)
     → FailsAtMost (length failed) start end → RoseBy (refused_in told.outcomes) start end
 refusals_rose g names old new deleted failed told start end h =
     let same = refused_is names told.outcomes told.each ∙ ap length (sym told.failed_is) in
     ⊎_elim (λ most. inl (omega (arith, most, same))) (λ full. inr (omega (arith, full))) h
-
--- ---- which files are sealed

@@ -22,7 +22,7 @@ few_below small large reading collections le h = record {
 pub few_more : (bound n : ℕ) (reading : Readers) (collections : Collections) → FewNumbers bound reading collections → FewNumbers (bound + n) reading collections
 few_more bound n reading collections h = few_below bound (bound + n) reading collections (omega arith) h
 
--- the same collections give no number
-pub none_given : {A E : Type 0} {before now : Collections} (result : Result A E) → now ≡ before → OnOk result (now.next ≤ before.next)
-none_given (Ok a) same = omega (arith, ap (λ (c : Collections). c.next) same)
-none_given (Err e) same = tt
+-- so no more than some
+pub few_given : {A E : Type 0} {before now : Collections} (n : ℕ) (result : Result A E) → now ≡ before → OnOk result (now.next ≤ before.next + n)
+few_given n (Ok a) same = omega (arith, ap (λ (c : Collections). c.next) same)
+few_given n (Err e) same = tt

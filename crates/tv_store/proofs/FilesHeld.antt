@@ -1,7 +1,7 @@
 -- What is held after an action on a file.
 use Rattle.std.proofs.Common.{◌≡◌, ◌≢◌, ℕ, ◌+◌, ◌≤◌, Bool, true, false, true≢false, ⊎_elim, cond, List, [], ◌∷◌, ◌++◌, length, length-append, codes, Option, Some, None, option_map, is_some, Bor, refl, sym, ap, subst, ◌∙◌, arith}
 use Rattle.std.specs.Prelude.{IsSome}
-use Rattle.std.specs.Map.{remove_entry}
+use Rattle.std.specs.Map.{remove_entry, set_value}
 use Rattle.std.specs.BTreeMap.{is_at, insert_entry}
 use Rattle.std.specs.BTreeSet.{insert_key}
 use Rattle.tv_formats.specs.declared.segment.LiveSegment.{LiveSegment}
@@ -34,7 +34,7 @@ use Rattle.tv_store.specs.declared.action.Reply.TheVariants as replies
 use Rattle.tv_store.specs.Stays.{KeepsManaged}
 use Rattle.tv_store.proofs.Changed.{opened_anew, sealed_now, wrote_more}
 use Rattle.tv_store.proofs.Holding.{same_holds}
-use Rattle.tv_store.proofs.OpenFiles.{all_put, all_left, all_found}
+use Rattle.tv_store.proofs.OpenFiles.{all_put, all_left, all_found, all_set, at_set}
 use Rattle.tv_store.proofs.Removals.{at_removed}
 
 -- ---- steps of files
@@ -47,10 +47,6 @@ pub file_known : (s : State) (id name : List ℕ) (component : SegmentComponent)
     → live_at s.catalog id ≡ Some segment → name ≡ name_of id segment.deletes component → file_step s id component step ≡ step segment name
 file_known s id name component segment step found is =
     ap (λ (o : Option LiveSegment). given s o (codes "unknown-segment") (λ x. step x (name_of id x.deletes component))) found ∙ ap (step segment) (sym is)
-
--- the live segment that is found is that of the state
-pub live_found : {result found : Option LiveSegment} (c : Catalog) (s : State) (id : List ℕ) → c ≡ s.catalog → result ≡ live_at c id → result ≡ found → live_at s.catalog id ≡ found
-live_found c s id same looked is = sym (ap (λ (k : Catalog). live_at k id) same) ∙ sym looked ∙ is
 
 -- what was written to a file of the state is what was written to it here
 pub written_is : (file : Option FileState) (read written : Option (List ℕ)) → FileHolds file read written → written_to file ≡ written
@@ -143,10 +139,10 @@ some_body None there = absurd (true≢false (sym there))
 some_body (Some body) there = (body, refl)
 
 -- a file of a segment, by its name
-module _ {O W C : Type 0} (g : Ghosts O W C) (old new : FilesState O) (s : State) (name : List ℕ) (fits : IsFileOf name) (h : FilesHold g old s) where
+module _ {O W C : Type 0} (g : Ghosts O W C) (old new : FilesState O) (s : State) (name : List ℕ) (fits : IsFileOf name) (watched : (g.view new.outside).watched ≡ (g.view old.outside).watched) (deletes : List Bool) (h : FilesHold g old s) where
   -- that is there, since no collection holds a file of a live segment
   pub name_taken : g.told.content → IsWhole s → has (living s.catalog) name ≡ true → new.form ≡ old.form → new.collections ≡ old.collections → FindsFile g old new name
-      → Performed g (actions.Make name) old new s replies.Taken
+      → Performed g (actions.Make name) old new (s, deletes) replies.Taken
   name_taken tells whole needed made still finds =
       let reads : IsSome ((g.view old.outside).reads name) =
       ⊎_elim (λ some. some) (λ holds. absurd (true≢false (sym needed ∙ whole.collecting.spared name (ap (λ (c : Collections). has (held c) name) (sym h.collections) ∙ holds)))) (finds.there tells) in
@@ -155,11 +151,12 @@ module _ {O W C : Type 0} (g : Ghosts O W C) (old new : FilesState O) (s : State
       record {
         reply_is = rw there refl;
         held = same_holds (g.view old.outside).reads (g.view new.outside).reads (kept_of s.catalog old) (kept_of s.catalog new) s (finds.same tells) kept h;
-        same = λ some stays. finds.same tells;
+        same = λ some stays. record { reads = finds.same tells; watched = watched };
+        saves = λ commit e. absurd cc;
       }
 
   -- that was made
-  pub file_made : g.told.content → new.form ≡ old.form → new.collections ≡ old.collections → OpensFile g old new name → Performed g (actions.Make name) old new s replies.Done
+  pub file_made : g.told.content → new.form ≡ old.form → new.collections ≡ old.collections → OpensFile g old new name → Performed g (actions.Make name) old new (s, deletes) replies.Done
   file_made tells made still opens =
       let makes = opens.makes tells in
       let gone : is_some (file_at s name) ≡ false = isnt_there (file_at s name) ((g.view old.outside).reads name) (at old.open_files name) (h.files name fits) makes.absent in
@@ -174,6 +171,7 @@ module _ {O W C : Type 0} (g : Ghosts O W C) (old new : FilesState O) (s : State
             (ap is_some makes.empty, looks name ∙ ap (λ (b : Bool). cond b (Some []) (at old.open_files name)) (at_itself name))
             (λ n e. looks n ∙ ap (λ (b : Bool). cond b (Some []) (at old.open_files n)) e) opens.left made still (absent_isnt_left (file_at s name) gone) refl h;
         same = λ some stays. absurd (opened_anew s name gone stays);
+        saves = λ commit e. absurd cc;
       }
 
   -- that is open with this body
@@ -189,27 +187,27 @@ module _ {O W C : Type 0} (g : Ghosts O W C) (old new : FilesState O) (s : State
 
     -- to which bytes were added
     pub bytes_added : (bytes : Bor (List ℕ)) → KeepsOthers (g.view old.outside).reads (g.view new.outside).reads name → IsSome ((g.view new.outside).reads name) → KeepsManaged (KeptView g.told) g.view old new
-        → new.open_files ≡ insert_entry byte_cmp (remove_entry (is_at (byte_cmp name)) old.open_files) name (body ++ bytes.now)
-        → Performed g (actions.Append name bytes) old new s replies.Done
+        → new.open_files ≡ set_value (is_at (byte_cmp name)) old.open_files (body ++ bytes.now)
+        → Performed g (actions.Append name bytes) old new (s, deletes) replies.Done
     bytes_added bytes others there frame puts =
         let text = bytes.now in
-        let rest = remove_entry (is_at (byte_cmp name)) old.open_files in
-        let looks : (n : List ℕ) → at new.open_files n ≡ cond (is_at (byte_cmp name) n) (Some (body ++ text)) (at rest n) =
-        λ n. ap (λ (es : List (List ℕ × List ℕ)). at es n) puts ∙ lookup_put rest name n (body ++ text) in
+        let looks : (n : List ℕ) → at new.open_files n ≡ cond (is_at (byte_cmp name) n) (Some (body ++ text)) (at old.open_files n) =
+        λ n. ap (λ (es : List (List ℕ × List ℕ)). at es n) puts ∙ at_set old.open_files name n (body ++ text) (ap is_some is_open) in
         record {
           reply_is = refl;
           held = by_body (FilesHold g new) (wrote s name text)
               (changed s.catalog (g.view old.outside).reads (g.view new.outside).reads old new s name (Open (body ++ text)) s.managed fits (λ n isnt _. others n isnt) (frame.names ∙ h.managed)
               (listing_beside (g.view old.outside).reads (g.view new.outside).reads name s.managed fits others h.listing) h.listed
-              (there, looks name ∙ ap (λ (b : Bool). cond b (Some (body ++ text)) (at rest name)) (at_itself name))
-              (λ n e. looks n ∙ ap (λ (b : Bool). cond b (Some (body ++ text)) (at rest n)) e ∙ at_removed old.open_files name n e) frame.left frame.form frame.collections isnt_left refl h);
+              (there, looks name ∙ ap (λ (b : Bool). cond b (Some (body ++ text)) (at old.open_files name)) (at_itself name))
+              (λ n e. looks n ∙ ap (λ (b : Bool). cond b (Some (body ++ text)) (at old.open_files n)) e) frame.left frame.form frame.collections isnt_left refl h);
           same = λ some stays. absurd (by_body (λ t. t ≢ s) (wrote s name text) (wrote_more s name text body body_is some) stays);
+          saves = λ commit e. absurd cc;
         }
 
     -- that was sealed
     pub file_sealed : Sets (g.view old.outside).reads (g.view new.outside).reads name (Some (sealed body)) → KeepsManaged (KeptView g.told) g.view old new
         → new.open_files ≡ remove_entry (is_at (byte_cmp name)) old.open_files → at new.open_files name ≡ None
-        → Performed g (actions.Seal name) old new s replies.Done
+        → Performed g (actions.Seal name) old new (s, deletes) replies.Done
     file_sealed sets frame cut closed = record {
       reply_is = refl;
       held = by_body (FilesHold g new) (sealed_as s name)
@@ -217,6 +215,7 @@ module _ {O W C : Type 0} (g : Ghosts O W C) (old new : FilesState O) (s : State
           (listing_beside (g.view old.outside).reads (g.view new.outside).reads name s.managed fits sets.others h.listing) h.listed
           (sets.changed, closed) (λ n e. ap (λ (es : List (List ℕ × List ℕ)). at es n) cut ∙ at_removed old.open_files name n e) frame.left frame.form frame.collections isnt_left refl h);
       same = λ some stays. absurd (by_body (λ t. t ≢ s) (sealed_as s name) (sealed_now s name body body_is) stays);
+      saves = λ commit e. absurd cc;
     }
 
 -- ---- how many bytes are open
@@ -239,12 +238,11 @@ short_closed bound es new name cut h = subst (Short bound) (sym cut) (all_left (
 
 -- and those of one to which bytes were written, with these bytes
 pub short_written : (bound len : ℕ) (bytes : List ℕ) (es new : List (List ℕ × List ℕ)) (name : List ℕ) → Some len ≡ option_map length (at es name)
-    → ((body : List ℕ) → at es name ≡ Some body → new ≡ insert_entry byte_cmp (remove_entry (is_at (byte_cmp name)) es) name (body ++ bytes)) → Short bound es → Short (bound + length bytes) new
+    → ((body : List ℕ) → at es name ≡ Some body → new ≡ set_value (is_at (byte_cmp name)) es (body ++ bytes)) → Short bound es → Short (bound + length bytes) new
 short_written bound len bytes es new name has_len puts h =
     let it = has_body (at es name) len has_len in
     let body : List ℕ = it.0 in
     let short : length body ≤ bound = all_found (λ e. length e.1 ≤ bound) es name body h it.1 in
     let fits : length (body ++ bytes) ≤ bound + length bytes = omega (arith, length-append body bytes) in
-    let rest = remove_entry (is_at (byte_cmp name)) es in
     subst (Short (bound + length bytes)) (sym (puts body it.1))
-    (all_put (λ e. length e.1 ≤ bound + length bytes) rest name (body ++ bytes) fits (short_same bound (length bytes) rest rest refl (short_closed bound es rest name refl h)))
+    (all_set (λ e. length e.1 ≤ bound + length bytes) es name (body ++ bytes) fits (short_same bound (length bytes) es es refl h))

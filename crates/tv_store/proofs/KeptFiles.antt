@@ -1,6 +1,6 @@
 -- What a call leaves of a store and its files, and why one fails that comes after another.
-use Rattle.std.proofs.Common.{◌≡◌, ℕ, List, Result, Ok, Err, refl, sym, ap, subst, ◌∙◌}
-use Rattle.std.specs.Prelude.{IfErr, IsErrAnd, OnOk}
+use Rattle.std.proofs.Common.{◌≡◌, ℕ, List, Result, Ok, Err, sym, ap, subst, ◌∙◌}
+use Rattle.std.specs.Prelude.{IsErrAnd}
 use Rattle.tv_base.specs.Causes.{IoCause}
 use Rattle.tv_base.specs.Errors.{of_io}
 use Rattle.tv_base.specs.declared.error.TantivyError.{TantivyError}
@@ -8,17 +8,15 @@ use Rattle.tv_base.specs.declared.error.TantivyError.TheVariants as errors
 use Rattle.tv_base.specs.declared.io.IoError.{IoError}
 use Rattle.tv_base.specs.declared.io.IoError.TheVariants as io
 use Rattle.tv_directory.specs.Calls.{IoFaults}
-use Rattle.tv_directory.specs.View.{OnlyReads, Told, View}
-use Rattle.tv_directory.specs.ViewLaws.{kept_itself}
+use Rattle.tv_directory.specs.View.{View}
 use Rattle.tv_directory.specs.declared.directory.Directory.{Ghosts}
 use Rattle.tv_managed.specs.Frames.{KeepsNames}
 use Rattle.tv_managed.specs.Names.{ManagedNames}
 use Rattle.tv_formats.specs.Commits.{IndexForm}
 use Rattle.tv_formats.specs.Files.{Rose}
-use Rattle.tv_store.specs.Kept.{FilesState, StoreState}
-use Rattle.tv_store.specs.Stays.{Asks, AsksOrFails, EventFaults, KeepsFiles, KeepsMade, KeepsManaged}
+use Rattle.tv_store.specs.Kept.{FilesState}
+use Rattle.tv_store.specs.Stays.{EventFaults, KeepsFiles, KeepsMade, KeepsManaged}
 use Rattle.tv_store.specs.StoreCauses.{EventCause}
-use Rattle.tv_store.proofs.Asking.{asks_later}
 
 module _ {O W : Type 0} (keeps : View W → View W → Type 0) (view : O → View W) (form : IndexForm) (open_files : List (List ℕ × List ℕ)) (left : List (List ℕ)) (d now new : O × ManagedNames) (old : FilesState O) (same : now ≡ d)
     (is : record { outside = d.0; form = form; managed = d.1.managed; collections = d.1.collections; open_files = open_files; left = left } ≡ old) where
@@ -77,17 +75,3 @@ io_fails g old now new result error same is h =
 -- it succeeds, and then memory is wanted
 pub wants_then : {A O W C : Type 0} (g : Ghosts O W C) (old now new : O) (result : Result A TantivyError) → now ≡ old → IsErrAnd result (λ e. e ≡ errors.Memory) → (g.view new).faults ≡ (g.view now).faults → EventFaults ⊥ (g.view old) (g.view new) result
 wants_then g old now new result same is quiet = fails_after g old now new result errors.Memory is (ap (λ o. (g.view o).faults) same) quiet
-
--- a call that only asks comes after another
-pub asks_after : {A O W C : Type 0} (g : Ghosts O W C) (old mid new : StoreState O) (result : Result A TantivyError) → Asks (OnlyReads g.told) g.view old mid → (g.view mid.outside).faults ≡ (g.view old.outside).faults
-    → AsksOrFails g mid new result → AsksOrFails g old new result
-asks_after g old mid new result asks quiet h = record {
-  faults = subst
-      (λ (n : ℕ). OnOk result ((g.view new.outside).faults ≡ n) → IfErr result (EventCause (Rose n (g.view new.outside).faults) ((g.view new.outside).faults ≡ n) ⊥) → EventFaults ⊥ (g.view old.outside) (g.view new.outside) result)
-      (sym quiet) (λ q c. record { quiet = q; fits = h.faults.fits; cause = c }) h.faults.quiet h.faults.cause;
-  frame = asks_later asks h.frame;
-}
-
--- no call was made
-pub asked_nothing : {O W : Type 0} (told : Told) (view : O → View W) (store : StoreState O) → Asks (OnlyReads told) view store store
-asked_nothing told view store = record { kept = refl; standing = refl; below = record { kept = kept_itself told (view store.outside); content = λ t n. refl } }

@@ -1,25 +1,21 @@
 -- The commit that is loaded from `meta.json` is that of each state that is held.
-use Rattle.std.proofs.Common.{◌≡◌, ℕ, List, true, Option, Some, None, refl, sym, ap, subst, ◌∙◌}
-use Rattle.tv_base.specs.declared.open_errors.OpenReadError.TheVariants as read
-use Rattle.tv_base.specs.declared.error.TantivyError.{TantivyError}
-use Rattle.tv_base.specs.declared.error.TantivyError.TheVariants as errors
+use Rattle.std.proofs.Common.{◌≡◌, ℕ, List, Option, Some, sym, ap, subst, ◌∙◌}
 use Rattle.tv_directory.specs.declared.directory.Directory.{Ghosts}
 use Rattle.tv_index.specs.Metas.{commit_of, settings_of}
 use Rattle.tv_index.specs.Parsing.{MeansOtherThan}
-use Rattle.tv_index.specs.Standing.{LoadsMeta, MetaCause, OfRead}
+use Rattle.tv_index.specs.Standing.{LoadsMeta, OfRead}
 use Rattle.tv_index.specs.declared.index_meta.UntrackedIndexMeta.{UntrackedIndexMeta}
 use Rattle.tv_formats.specs.Commits.{Commit}
 use Rattle.tv_formats.specs.Files.{Reads}
 use Rattle.tv_formats.specs.Meaning.{Means, MeansNothing}
-use Rattle.tv_formats.specs.Names.{is_file_name, meta_name}
+use Rattle.tv_formats.specs.Names.{meta_name}
 use Rattle.tv_machine.specs.ReaderEvents.{bodies_in, snapshot_in}
 use Rattle.tv_machine.specs.State.{State}
 use Rattle.tv_formats.specs.declared.segment.LiveSegment.{LiveSegment}
 use Rattle.tv_formats.proofs.MeansOne.{means_no_other, means_one, means_something}
-use Rattle.tv_store.specs.Applying.{HoldsNone, LacksIn}
+use Rattle.tv_store.specs.Applying.{HoldsNone}
 use Rattle.tv_store.specs.Bodies.{ReadsSegments}
 use Rattle.tv_store.specs.Kept.{KeptState, Holds}
-use Rattle.tv_store.specs.ReadCauses.{LoadingCause, reading_facts}
 
 pub loaded_commit : {O W C : Type 0} (g : Ghosts O W C) (outside : O) (kept : KeptState) (s : State) (meta : UntrackedIndexMeta) → g.told.content
     → LoadsMeta g outside (Some kept.form.schema) meta → Holds (g.view outside).reads kept s → commit_of meta ≡ s.catalog.commit
@@ -53,22 +49,6 @@ module _ (tells : Type 0) (reads : Reads) (kept : KeptState) where
 
   pub other_holds_none : OfRead tells (reads meta_name) (MeansOtherThan (Some kept.form.schema)) → HoldsNone tells reads kept
   other_holds_none = of_text (MeansOtherThan (Some kept.form.schema)) other_never
-
-  -- why it isn't loaded, as a cause of an event
-  pub loads_none : (refused quiet : Type 0) (error : TantivyError) → MetaCause tells (Some kept.form.schema) (reads meta_name) refused quiet error
-      → LoadingCause (reading_facts refused quiet (LacksIn tells reads kept) (λ path. HoldsNone tells reads kept)) (MetaCause tells (Some kept.form.schema) (reads meta_name) refused quiet) error
-  loads_none refused quiet (errors.OpenReadError (read.FileDoesNotExist path)) h = (
-    h.1.0,
-    subst (λ (p : List ℕ). is_file_name p ≡ true) (sym h.0) refl,
-    λ t s held whole. let text = held.meta in let none : None ≡ Some text.0 = sym (h.1.1 t) ∙ text.1 in absurd cc,
-  )
-  loads_none refused quiet (errors.OpenReadError (read.IoError fault path)) h = absurd h.2
-  loads_none refused quiet (errors.OpenReadError other) h = absurd h
-  loads_none refused quiet (errors.DataCorruption why) h = h
-  loads_none refused quiet (errors.SchemaError text) h = h
-  loads_none refused quiet (errors.IoError fault) h = h
-  loads_none refused quiet errors.Memory h = h
-  loads_none refused quiet other h = absurd h
 
 -- what is shown of it
 pub shown_is : (s : State) (generation opstamp : ℕ) (payload : Option (List ℕ)) (segments shown : List (List ℕ × LiveSegment)) (bodies : List (List (List ℕ)))

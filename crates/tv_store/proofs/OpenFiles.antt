@@ -5,7 +5,7 @@ use Rattle.std.specs.Ordering.{is_eq, match_ordering}
 use Rattle.std.specs.declared.cmp.Ordering.{Ordering}
 use Rattle.std.specs.declared.cmp.Ordering.TheVariants.{Less, Equal, Greater}
 use Rattle.std.specs.List.{AllByRecursion}
-use Rattle.std.specs.Map.{remove_entry}
+use Rattle.std.specs.Map.{remove_entry, set_value}
 use Rattle.std.specs.BTreeMap.{is_at, insert_entry}
 use Rattle.std.specs.BTreeSet.{insert_key}
 use Rattle.tv_formats.specs.Names.{byte_cmp, has, is_plain, meta_name, at}
@@ -13,7 +13,7 @@ use Rattle.tv_formats.specs.Collections.{Collections, held}
 use Rattle.tv_formats.specs.Files.{Reads, KeepsOthers, Sets}
 use Rattle.tv_formats.specs.Footer.{sealed}
 use Rattle.tv_machine.proofs.Changes.{none_is}
-use Rattle.tv_formats.proofs.Entries.{text_at}
+use Rattle.tv_formats.proofs.Entries.{same_at, text_at}
 use Rattle.tv_formats.proofs.PlainNames.{plain_is_undotted}
 use Rattle.tv_directory.specs.View.{DeletesNone, WriterState}
 use Rattle.tv_directory.specs.declared.directory.Directory.{Ghosts}
@@ -25,7 +25,8 @@ use Rattle.tv_formats.specs.Commits.{IndexForm}
 use Rattle.tv_store.specs.declared.files.OpenFile.{OpenFile}
 use Rattle.tv_store.specs.Kept.{FilesState}
 use Rattle.tv_store.specs.FileCalls.{Asked}
-use Rattle.tv_store.specs.OpenFiles.{IsOpenFile}
+use Rattle.tv_store.specs.OpenFiles.{AreThere, IsOpenFile}
+use Rattle.tv_store.proofs.KnownFiles.{KeepsThere, still_there}
 
 found : {X Y : Type 0} (f : X → Y) (b : Bool) (x : X) (rest : Option X) (seen : Option Y) → seen ≡ option_map f rest → cond b (Some (f x)) seen ≡ option_map f (cond b (Some x) rest)
 found f true x rest seen e = refl
@@ -57,6 +58,59 @@ cut {X} {Y} f false e es rest seen h = ap (λ (t : List (List ℕ × Y)). (e.0, 
 pub cut_seen : {X Y : Type 0} (f : X → Y) (es : List (List ℕ × X)) (test : List ℕ → Bool) → map (λ e. (e.0, f e.1)) (remove_entry test es) ≡ remove_entry test (map (λ e. (e.0, f e.1)) es)
 cut_seen f [] test = refl
 cut_seen f (e ∷ es) test = cut f (test e.0) e es (remove_entry test es) _ (cut_seen f es test)
+
+reset : {X Y : Type 0} (f : X → Y) (b : Bool) (e : List ℕ × X) (v : X) (es rest : List (List ℕ × X)) (seen : List (List ℕ × Y)) → map (λ e. (e.0, f e.1)) rest ≡ seen
+    → map (λ e. (e.0, f e.1)) (cond b ((e.0, v) ∷ es) (e ∷ rest)) ≡ cond b ((e.0, f v) ∷ map (λ e. (e.0, f e.1)) es) ((e.0, f e.1) ∷ seen)
+reset f true e v es rest seen h = refl
+reset {X} {Y} f false e v es rest seen h = ap (λ (t : List (List ℕ × Y)). (e.0, f e.1) ∷ t) h
+
+-- entries of which one was changed, seen through a function
+pub set_seen : {X Y : Type 0} (f : X → Y) (es : List (List ℕ × X)) (test : List ℕ → Bool) (v : X) → map (λ e. (e.0, f e.1)) (set_value test es v) ≡ set_value test (map (λ e. (e.0, f e.1)) es) (f v)
+set_seen f [] test v = refl
+set_seen f (e ∷ es) test v = reset f (test e.0) e v es (set_value test es v) _ (set_seen f es test v)
+
+cut_reset : {X : Type 0} (test : List ℕ → Bool) (b : Bool) (e : List ℕ × X) (v : X) (es rest : List (List ℕ × X)) → test e.0 ≡ b → remove_entry test rest ≡ remove_entry test es
+    → remove_entry test (cond b ((e.0, v) ∷ es) (e ∷ rest)) ≡ cond b es (e ∷ remove_entry test es)
+cut_reset {X} test true e v es rest is h = ap (λ (b : Bool). cond b es ((e.0, v) ∷ remove_entry test es)) is
+cut_reset {X} test false e v es rest is h = ap (λ (b : Bool). cond b rest (e ∷ remove_entry test rest)) is ∙ ap (λ (t : List (List ℕ × X)). e ∷ t) h
+
+-- one that is taken out may have been changed before
+pub cut_set : {X : Type 0} (es : List (List ℕ × X)) (test : List ℕ → Bool) (v : X) → remove_entry test (set_value test es v) ≡ remove_entry test es
+cut_set [] test v = refl
+cut_set (e ∷ es) test v = cut_reset test (test e.0) e v es (set_value test es v) refl (cut_set es test v)
+
+-- what is true of each entry, and of one that is changed
+pub all_set : {X : Type 0} (P : List ℕ × X → Type 0) (es : List (List ℕ × X)) (n : List ℕ) (v : X) → P (n, v) → AllByRecursion P es → AllByRecursion P (set_value (is_at (byte_cmp n)) es v)
+all_set P [] n v here h = tt
+all_set {X} P (e ∷ es) n v here h =
+    elim (is_at (byte_cmp n) e.0) as (λ b. is_at (byte_cmp n) e.0 ≡ b → AllByRecursion P (cond b ((e.0, v) ∷ es) (e ∷ set_value (is_at (byte_cmp n)) es v))) [
+      | true ↦ λ is. (subst (λ (k : List ℕ). P (k, v)) (text_at n e.0 is) here, h.1)
+      | false ↦ λ is. (h.0, all_set P es n v here h.1)
+    ] refl
+
+other_way : {X : Type 0} (a b : Bool) (v w : X) (o : Option X) → (a ≡ true → b ≡ true → ⊥) → cond a (Some w) (cond b (Some v) o) ≡ cond b (Some v) (cond a (Some w) o)
+other_way true true v w o apart = absurd (apart refl refl)
+other_way true false v w o apart = refl
+other_way false b v w o apart = refl
+
+same_way : {X : Type 0} (b : Bool) (v w : X) (o : Option X) → cond b (Some v) o ≡ cond b (Some v) (cond b (Some w) o)
+same_way true v w o = refl
+same_way false v w o = refl
+
+-- what stands at a name after an entry was changed
+pub at_set : {X : Type 0} (es : List (List ℕ × X)) (k q : List ℕ) (v : X) → IsSome (at es k) → at (set_value (is_at (byte_cmp k)) es v) q ≡ cond (is_at (byte_cmp k) q) (Some v) (at es q)
+at_set [] k q v there = absurd (true≢false (sym there))
+at_set {X} (e ∷ es) k q v there =
+    elim (is_at (byte_cmp k) e.0) as (λ b. is_at (byte_cmp k) e.0 ≡ b → IsSome (cond b (Some e.1) (at es k)) → at (cond b ((e.0, v) ∷ es) (e ∷ set_value (is_at (byte_cmp k)) es v)) q ≡ cond (is_at (byte_cmp k) q) (Some v) (at (e ∷ es) q)) [
+      | true ↦ λ is some.
+          let it : is_at (byte_cmp q) e.0 ≡ is_at (byte_cmp k) q = subst (λ (n : List ℕ). is_at (byte_cmp q) n ≡ is_at (byte_cmp k) q) (text_at k e.0 is) (same_at q k) in
+          ap (λ (b : Bool). cond b (Some v) (at es q)) it ∙ same_way (is_at (byte_cmp k) q) v e.1 (at es q)
+          ∙ ap (λ (b : Bool). cond (is_at (byte_cmp k) q) (Some v) (cond b (Some e.1) (at es q))) (sym it)
+      | false ↦ λ is some.
+          ap (λ (o : Option X). cond (is_at (byte_cmp q) e.0) (Some e.1) o) (at_set es k q v some)
+          ∙ other_way (is_at (byte_cmp q) e.0) (is_at (byte_cmp k) q) v e.1 (at es q)
+          (λ here same. true≢false (sym (subst (λ (n : List ℕ). is_at (byte_cmp k) n ≡ true) (text_at q e.0 here) same) ∙ is))
+    ] refl there
 
 -- what is true of each entry, and of one that is put
 pub all_put : {X : Type 0} (P : List ℕ × X → Type 0) (es : List (List ℕ × X)) (n : List ℕ) (v : X) → P (n, v) → AllByRecursion P es → AllByRecursion P (insert_entry byte_cmp es n v)
@@ -111,6 +165,11 @@ pub put_open : {D W C : Type 0} (g : Ghosts D W C) (directory : D) (es new : Lis
     → IsOpenFile g directory n file.writer file.len → AreOpen g directory es → AreOpen g directory new
 put_open g directory es new n file put here h = subst (λ fs. AreOpen g directory fs) (sym put) (all_put (λ e. IsOpenFile g directory e.0 e.1.writer e.1.len) es n file here h)
 
+-- one that was written
+pub set_open : {D W C : Type 0} (g : Ghosts D W C) (directory : D) (es new : List (List ℕ × OpenFile D W C)) (n : List ℕ) (file : OpenFile D W C) → new ≡ set_value (is_at (byte_cmp n)) es file
+    → IsOpenFile g directory n file.writer file.len → AreOpen g directory es → AreOpen g directory new
+set_open g directory es new n file put here h = subst (λ fs. AreOpen g directory fs) (sym put) (all_set (λ e. IsOpenFile g directory e.0 e.1.writer e.1.len) es n file here h)
+
 -- one less
 pub left_open : {D W C : Type 0} (g : Ghosts D W C) (directory : D) (es new : List (List ℕ × OpenFile D W C)) (test : List ℕ → Bool) → new ≡ remove_entry test es → AreOpen g directory es → AreOpen g directory new
 left_open g directory es new test cut h = subst (λ fs. AreOpen g directory fs) (sym cut) (all_left (λ e. IsOpenFile g directory e.0 e.1.writer e.1.len) es test h)
@@ -119,24 +178,33 @@ left_open g directory es new test cut h = subst (λ fs. AreOpen g directory fs) 
 pub found_open : {D W C : Type 0} (g : Ghosts D W C) (directory : D) (es : List (List ℕ × OpenFile D W C)) (n : List ℕ) (file : OpenFile D W C) → Some file ≡ at es n → AreOpen g directory es → IsOpenFile g directory n file.writer file.len
 found_open g directory es n file it h = all_found (λ e. IsOpenFile g directory e.0 e.1.writer e.1.len) es n file h (sym it)
 
--- these files are open, and no unfinished collection has `meta.json`
-abbrev pub AreFiles : {D W C : Type 0} (g : Ghosts D W C) (directory : D × ManagedNames) → List (List ℕ × OpenFile D W C) → Type 0
-AreFiles g directory es = AreOpen g directory.0 es × (has (held directory.1.collections) meta_name ≡ false)
+-- these files are open, no unfinished collection has `meta.json`, and the known files are there
+abbrev pub AreFiles : {D W C : Type 0} (g : Ghosts D W C) (directory : D × ManagedNames) → List (List ℕ × OpenFile D W C) → (known : List (List ℕ)) → Type 0
+AreFiles g directory es known = AreOpen g directory.0 es × (has (held directory.1.collections) meta_name ≡ false) × (g.told.content → AreThere (g.view directory.0).reads known)
 
 -- that goes on where no file is deleted, and the collections stay
-pub still_files : {D W C : Type 0} (g : Ghosts D W C) (old new : D × ManagedNames) (es : List (List ℕ × OpenFile D W C)) → DeletesNone g.told (g.view old.0) (g.view new.0) → new.1.collections ≡ old.1.collections
-    → AreFiles g old es → AreFiles g new es
-still_files g old new es frame same h = (still_open g old.0 new.0 es frame h.0, ap (λ (cs : Collections). has (held cs) meta_name) same ∙ h.1)
+pub still_files : {D W C : Type 0} (g : Ghosts D W C) (old new : D × ManagedNames) (es : List (List ℕ × OpenFile D W C)) (known : List (List ℕ)) → DeletesNone g.told (g.view old.0) (g.view new.0) → new.1.collections ≡ old.1.collections
+    → (g.told.content → KeepsThere (g.view old.0).reads (g.view new.0).reads) → AreFiles g old es known → AreFiles g new es known
+still_files g old new es known frame same there h =
+    (still_open g old.0 new.0 es frame h.0, ap (λ (cs : Collections). has (held cs) meta_name) same ∙ h.1, λ tells. still_there (g.view old.0).reads (g.view new.0).reads known (there tells) (h.2 tells))
 
-pub put_files : {D W C : Type 0} (g : Ghosts D W C) (directory : D × ManagedNames) (es new : List (List ℕ × OpenFile D W C)) (n : List ℕ) (file : OpenFile D W C) → new ≡ insert_entry byte_cmp es n file
-    → IsOpenFile g directory.0 n file.writer file.len → AreFiles g directory es → AreFiles g directory new
-put_files g directory es new n file put here h = (put_open g directory.0 es new n file put here h.0, h.1)
+-- with other open files
+pub with_open : {D W C : Type 0} (g : Ghosts D W C) (directory : D × ManagedNames) (es new : List (List ℕ × OpenFile D W C)) (known : List (List ℕ)) → AreOpen g directory.0 new → AreFiles g directory es known → AreFiles g directory new known
+with_open g directory es new known files h = (files, h.1, h.2)
 
-pub left_files : {D W C : Type 0} (g : Ghosts D W C) (directory : D × ManagedNames) (es new : List (List ℕ × OpenFile D W C)) (test : List ℕ → Bool) → new ≡ remove_entry test es → AreFiles g directory es → AreFiles g directory new
-left_files g directory es new test cut h = (left_open g directory.0 es new test cut h.0, h.1)
+-- with other known ones
+pub with_known : {D W C : Type 0} (g : Ghosts D W C) (directory : D × ManagedNames) (es : List (List ℕ × OpenFile D W C)) (known new : List (List ℕ)) → (g.told.content → AreThere (g.view directory.0).reads new) → AreFiles g directory es known → AreFiles g directory es new
+with_known g directory es known new there h = (h.0, h.1, there)
 
-pub same_files : {D W C : Type 0} (g : Ghosts D W C) (directory : D × ManagedNames) (es new : List (List ℕ × OpenFile D W C)) → new ≡ es → AreFiles g directory es → AreFiles g directory new
-same_files g directory es new same h = subst (λ fs. AreFiles g directory fs) (sym same) h
+pub put_files : {D W C : Type 0} (g : Ghosts D W C) (directory : D × ManagedNames) (es new : List (List ℕ × OpenFile D W C)) (known : List (List ℕ)) (n : List ℕ) (file : OpenFile D W C) → new ≡ insert_entry byte_cmp es n file
+    → IsOpenFile g directory.0 n file.writer file.len → AreFiles g directory es known → AreFiles g directory new known
+put_files g directory es new known n file put here h = with_open g directory es new known (put_open g directory.0 es new n file put here h.0) h
+
+pub left_files : {D W C : Type 0} (g : Ghosts D W C) (directory : D × ManagedNames) (es new : List (List ℕ × OpenFile D W C)) (known : List (List ℕ)) (test : List ℕ → Bool) → new ≡ remove_entry test es → AreFiles g directory es known → AreFiles g directory new known
+left_files g directory es new known test cut h = with_open g directory es new known (left_open g directory.0 es new test cut h.0) h
+
+pub same_files : {D W C : Type 0} (g : Ghosts D W C) (directory : D × ManagedNames) (es new : List (List ℕ × OpenFile D W C)) (known : List (List ℕ)) → new ≡ es → AreFiles g directory es known → AreFiles g directory new known
+same_files g directory es new known same h = subst (λ fs. AreFiles g directory fs known) (sym same) h
 
 -- the collections stay where a file is made, or given its bytes
 pub kept_collections : {A E D W C : Type 0} (g : Ghosts D W C) (old new : D × ManagedNames) (name : List ℕ) (r : Result A E) → ManagesFile g old new name r → new.1.collections ≡ old.1.collections
@@ -196,6 +264,13 @@ bodies_put {D} {W} {C} written es new old n file body put is here =
     ap (λ (fs : List (List ℕ × OpenFile D W C)). bodies written fs) put ∙ put_seen (λ (file : OpenFile D W C). written file.writer.writer) es n file
     ∙ ap (λ (bs : List (List ℕ × List ℕ)). insert_entry byte_cmp bs n (written file.writer.writer)) is ∙ ap (λ (b : List ℕ). insert_entry byte_cmp old n b) here
 
+-- after one was written
+pub bodies_set : {D W C : Type 0} (written : W → List ℕ) (es new : List (List ℕ × OpenFile D W C)) (old : List (List ℕ × List ℕ)) (test : List ℕ → Bool) (file : OpenFile D W C) (body : List ℕ)
+    → new ≡ set_value test es file → bodies written es ≡ old → written file.writer.writer ≡ body → bodies written new ≡ set_value test old body
+bodies_set {D} {W} {C} written es new old test file body put is here =
+    ap (λ (fs : List (List ℕ × OpenFile D W C)). bodies written fs) put ∙ set_seen (λ (file : OpenFile D W C). written file.writer.writer) es test file
+    ∙ ap (λ (bs : List (List ℕ × List ℕ)). set_value test bs (written file.writer.writer)) is ∙ ap (λ (b : List ℕ). set_value test old b) here
+
 -- and after one was taken out
 pub bodies_left : {D W C : Type 0} (written : W → List ℕ) (es new : List (List ℕ × OpenFile D W C)) (old : List (List ℕ × List ℕ)) (test : List ℕ → Bool)
     → new ≡ remove_entry test es → bodies written es ≡ old → bodies written new ≡ remove_entry test old
@@ -218,6 +293,10 @@ pub sealed_answer : {S : Type 0} (reads : S → Reads) (inside old : S) (asked n
 sealed_answer {S} reads inside old asked name found left o same text answer none stays =
     let it : found ≡ is_some (reads old name) = answer ∙ ap (λ (s : S). is_some (reads s asked)) same ∙ ap (λ (n : List ℕ). is_some (reads old n)) text in
     record { yes = λ e. (sym it ∙ e, none_is o none, stays); no = λ e. inl (none_is (reads old name) (sym it ∙ e)) }
+
+-- one that is known is
+pub known_answer : (before o : Option (List ℕ)) (left : Bool) → IsSome before → is_some o ≡ false → left ≡ false → Asked before o left true
+known_answer before o left some none stays = record { yes = λ e. (some, none_is o none, stays); no = λ e. absurd (true≢false e) }
 
 -- an open file isn't sealed, and neither is one that was left
 pub open_answer : (before o : Option (List ℕ)) (left : Bool) → is_some o ≡ true → Asked before o left false

@@ -17,6 +17,7 @@ use Rattle.tv_store.specs.Exhausted.{PassesEnd}
 use Rattle.tv_store.specs.Actions.{after, step_by, line_of, of_body}
 use Rattle.tv_store.specs.declared.action.Action.TheVariants as actions
 use Rattle.tv_store.specs.declared.action.Reply.TheVariants as replies
+use Rattle.tv_store.specs.declared.action.Change.TheVariants as changes
 use Rattle.tv_store.proofs.FilesHeld.{file_known, has_body}
 
 -- ---- steps
@@ -30,8 +31,8 @@ open_by s segment component name lacks there a b =
 
 -- a file of a live segment is made
 pub planned_open : (s : State) (id name : List ℕ) (component : SegmentComponent) (segment : LiveSegment) (answer : List ℕ) → live_at s.catalog id ≡ Some segment → lacks_deletes segment component ≡ false → name ≡ name_of id segment.deletes component
-    → answer ≡ line (codes "opened") (name ∷ []) → open_step s id component ≡ step_by s (actions.Make name) answer
-planned_open s id name component segment answer live lacks is told =
+    → answer ≡ line (codes "opened") (name ∷ []) → (deletes : List Bool) → open_step s id component ≡ step_by s (actions.Make name) changes.Nothing answer deletes
+planned_open s id name component segment answer live lacks is told deletes =
     file_known s id name component segment (λ x n. open_name s x component n) live is ∙ open_by s segment component name false (is_some (file_at s name)) lacks refl ∙ taken_or_made (is_some (file_at s name)) where
       taken_or_made : (there : Bool) → unless s ((false, codes "no-deletes" ∷ []) ∷ (there, codes "exists" ∷ []) ∷ []) (opened s name)
           ≡ (line_of answer (if there then replies.Taken else replies.Done), after s (actions.Make name) (if there then replies.Taken else replies.Done))
@@ -80,12 +81,6 @@ written_there : {P : Type 0} (found : Option LiveSegment) (body_of : LiveSegment
     → ((segment : LiveSegment) (body : List ℕ) → found ≡ Some segment → body_of segment ≡ Some body → length (body ++ bytes) ≡ n → P) → P
 written_there None body_of bytes n e k = absurd cc
 written_there (Some segment) body_of bytes n e k = length_there (body_of segment) bytes n e (λ body there sum. k segment body refl there sum)
-
--- so that it fits where there is no such segment
-pub unknown_fits : (kept : KeptState) (id : List ℕ) (component : SegmentComponent) (bytes : List ℕ) → live_at kept.catalog id ≡ None → PassesEnd (length_after kept (events.Write id component bytes)) → ⊥
-unknown_fits kept id component bytes none (n, is, much) =
-    written_there (live_at kept.catalog id) (λ (segment : LiveSegment). at kept.open_files (name_of id segment.deletes component)) bytes n is
-    (λ segment body live there sum. let never : None ≡ Some segment = sym none ∙ live in absurd cc)
 
 -- and where the file isn't open, or its length fits
 pub sum_fits : (kept : KeptState) (id : List ℕ) (component : SegmentComponent) (segment : LiveSegment) (name bytes : List ℕ) (len : Option ℕ) → live_at kept.catalog id ≡ Some segment → name ≡ name_of id segment.deletes component

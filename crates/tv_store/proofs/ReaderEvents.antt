@@ -1,28 +1,25 @@
 -- The events of readers: which files are read, why a read fails, and what is held afterwards.
 use Rattle.std.proofs.Common.{◌≡◌, ◌≢◌, inl, inr, ℕ, zero, suc, ◌+◌, ◌<◌, Bool, true, false, true≢false, List, [], ◌∷◌, ◌++◌, map, length, take, drop, get_or, string_bytes, Option, Some, None, refl, sym, ap, subst, ◌∙◌, arith, append_assoc}
 use Rattle.std.proofs.Math.Logic.{⊎_map}
-use Rattle.std.specs.Prelude.{IfSome, IsSome, option_map, String}
+use Rattle.std.specs.Prelude.{IsSome, option_map, String}
 use Rattle.std.specs.Global.{Global}
 use Rattle.std.proofs.lemmas.List.{take_more, map_push, take-append-drop, drop_more}
 use Rattle.std.proofs.lemmas.Grind.{flat_map-append}
 use Rattle.std.proofs.lemmas.Bool.{or_left, or_right}
-use Rattle.tv_machine.specs.declared.reload_policy.ReloadPolicy.{ReloadPolicy}
-use Rattle.tv_machine.specs.declared.event.Event.{Event}
 use Rattle.tv_machine.specs.declared.event.Event.TheVariants as events
 use Rattle.tv_formats.specs.declared.segment.LiveSegment.{LiveSegment}
-use Rattle.tv_formats.specs.Names.{is, has, is_file_name, meta_name, at}
+use Rattle.tv_formats.specs.Names.{is, has, is_file_name, at}
 use Rattle.tv_formats.specs.Files.{Reads, Same, Rose}
 use Rattle.tv_formats.specs.Footer.{HasBody}
 use Rattle.tv_formats.specs.Segments.{required_names, all_required}
-use Rattle.tv_machine.specs.State.{Catalog, State, FileState, SealedFile, Open, Left, Reader, Readers, Snapshot, file_at, on_catalog, reader_at}
+use Rattle.tv_machine.specs.State.{State, FileState, SealedFile, Open, Left, Reader, file_at, on_catalog, reader_at}
 use Rattle.tv_machine.specs.Lines.{given}
 use Rattle.tv_machine.specs.CommitEvents.{is_sealed}
-use Rattle.tv_machine.specs.SoundStates.{IsWhole}
-use Rattle.tv_machine.specs.Readable.{AreGoodFiles, CanRead, IsGoodFile, ReadsGood, read_by}
-use Rattle.tv_machine.specs.ReaderEvents.{body_in, reload_step, reloaded, with_new_reader, with_reloaded}
+use Rattle.tv_machine.specs.Readable.{IsGoodFile, read_by}
+use Rattle.tv_machine.specs.ReaderEvents.{body_in, reload_step, reloaded}
 use Rattle.tv_formats.proofs.Entries.{is_itself, is_text}
 use Rattle.tv_formats.proofs.Bodies.{body_of_good}
-use Rattle.tv_formats.proofs.CollectedNames.{has_append, has_front}
+use Rattle.tv_formats.proofs.CollectedNames.{has_append}
 use Rattle.tv_formats.proofs.Required.{by_one}
 use Rattle.tv_machine.proofs.SoundStates.{sealed_is_some}
 use Rattle.tv_base.specs.Errors.{of_open_read}
@@ -41,15 +38,7 @@ use Rattle.tv_managed.specs.Reading.{HasNoBody, NamesFile, ReadsBody, OpenBodyCa
 use Rattle.tv_store.specs.StoreCauses.{IsBusy, MakesNoFile, WriteFault}
 use Rattle.tv_store.specs.ReadCauses.{ReadFault, ApplyCause, LoadingCause, ReadFacts, reading_facts}
 use Rattle.tv_store.specs.Bodies.{RefusesAt, RefusesFile, RefusesFirst, ReadsGoodFile, AreBodies, AreSealed, ReadsSegment, ReadsSegments, FailsAt, AreGood}
-use Rattle.tv_index.specs.Standing.{MetaCause}
 use Rattle.tv_store.specs.Kept.{KeptState, FileHolds, Holds}
-use Rattle.tv_store.specs.Applying.{LacksIn, BadIn, HoldsNone}
-use Rattle.tv_store.specs.Effects.{after_each, numbers_after}
-use Rattle.tv_store.specs.Exhausted.{SomePassesEnd}
-use Rattle.tv_formats.specs.Collections.{Collections}
-use Rattle.tv_store.specs.ReaderNumbers.{FewNumbers}
-use Rattle.tv_store.proofs.Holding.{same_holds}
-use Rattle.tv_store.proofs.ReaderNumbers.{few_added, few_published}
 
 -- ---- why the body of a file isn't read
 
@@ -162,7 +151,7 @@ has_at (x ∷ xs) zero name within at_i = or_left (is x name) (has xs name) (sub
 has_at (x ∷ xs) (suc i) name within at_i = or_right (is x name) (has xs name) (has_at xs i name (omega arith) at_i)
 
 -- what is true of some names and of one more
-all_pushed : (P : List ℕ → Type 0) (names : List (List ℕ)) (name : List ℕ) → ((n : List ℕ) → has names n ≡ true → P n) → P name → (n : List ℕ) → has (names ++ name ∷ []) n ≡ true → P n
+pub all_pushed : (P : List ℕ → Type 0) (names : List (List ℕ)) (name : List ℕ) → ((n : List ℕ) → has names n ≡ true → P n) → P name → (n : List ℕ) → has (names ++ name ∷ []) n ≡ true → P n
 all_pushed P names name h p n among =
     by_one {P = P n} (has names n) (has (name ∷ []) n) (sym (has_append names (name ∷ []) n) ∙ among) (h n)
     (λ one. by_one {P = P n} (is name n) false one (λ same. subst P (is_text name n same) p) (λ never. absurd (true≢false (sym never))))
@@ -189,11 +178,11 @@ sealed_reads (Some (SealedFile other)) written h holds = let never : None ≡ So
 sealed_holds : (reads : Reads) (kept : KeptState) (s : State) (n : List ℕ) → Holds reads kept s → is_sealed (file_at s n) ≡ true → FileHolds (file_at s n) (reads n) (at kept.open_files n)
 sealed_holds reads kept s n held h = held.files n (held.names n (sealed_is_some (file_at s n) h))
 
-read_is_sealed : (reads : Reads) (kept : KeptState) (s : State) (n bytes : List ℕ) → Holds reads kept s → is_sealed (file_at s n) ≡ true → reads n ≡ Some bytes → file_at s n ≡ Some (SealedFile bytes)
+pub read_is_sealed : (reads : Reads) (kept : KeptState) (s : State) (n bytes : List ℕ) → Holds reads kept s → is_sealed (file_at s n) ≡ true → reads n ≡ Some bytes → file_at s n ≡ Some (SealedFile bytes)
 read_is_sealed reads kept s n bytes held h e =
     sealed_bytes (file_at s n) bytes (at kept.open_files n) h (subst (λ (r : Option (List ℕ)). FileHolds (file_at s n) r (at kept.open_files n)) e (sealed_holds reads kept s n held h))
 
-sealed_is_there : (reads : Reads) (kept : KeptState) (s : State) (n : List ℕ) → Holds reads kept s → is_sealed (file_at s n) ≡ true → reads n ≡ None → ⊥
+pub sealed_is_there : (reads : Reads) (kept : KeptState) (s : State) (n : List ℕ) → Holds reads kept s → is_sealed (file_at s n) ≡ true → reads n ≡ None → ⊥
 sealed_is_there reads kept s n held h e =
     sealed_reads (file_at s n) (at kept.open_files n) h (subst (λ (r : Option (List ℕ)). FileHolds (file_at s n) r (at kept.open_files n)) e (sealed_holds reads kept s n held h))
 
@@ -219,7 +208,7 @@ bodies_more reads kept s names i name body bodies more within at_i sealed held r
       good = all_pushed (IsGoodFile s) (take i names) name so_far.good (good_file s name reads_body.0 body file reads_body.2);
     })
 
-refused_before : (first now : Reads) (path : List ℕ) (error : OpenReadError) → Same first now → RefusesAt now path error → RefusesAt first path error
+pub refused_before : (first now : Reads) (path : List ℕ) (error : OpenReadError) → Same first now → RefusesAt now path error → RefusesAt first path error
 refused_before first now path error same h = record { bytes = h.bytes; there = sym (same path) ∙ h.there; why = h.why; no_body = h.no_body }
 
 -- what stands at a place of a list, between what is before it and after it
@@ -350,66 +339,6 @@ segments_good first now segments i entry same within at_i so_far more =
     subst (λ (es : List (List ℕ × LiveSegment)). AreGood first (all_required es)) (sym front)
     (required_pushed (λ n. ReadsGoodFile (first n)) (take i segments) entry so_far (λ n h. good_before first now n same (more n h)))
 
--- a file of the current commit isn't read, which these segments are in each state that is held
-pub commit_fails : (tells : Type 0) (first now : Reads) (kept : KeptState) (load : TantivyError → Type 0) (segments : List (List ℕ × LiveSegment)) (start before after : ℕ) (error : TantivyError)
-    → (tells → Same first now) → before ≡ start → (tells → (s : State) → Holds first kept s → segments ≡ s.catalog.commit.segments)
-    → FailsAt tells now (all_required segments) (Rose before after) (after ≡ before) error
-    → LoadingCause (reading_facts (Rose start after) (after ≡ start) (LacksIn tells first kept) (λ path. HoldsNone tells first kept)) load error
-commit_fails tells first now kept load segments start before after error same quiet are h =
-    let sealed : (t : tells) (s : State) → Holds first kept s → IsWhole s → (n : List ℕ) → has (all_required segments) n ≡ true → is_sealed (file_at s n) ≡ true =
-    λ t s held whole n among. whole.each.0 n (subst (λ (es : List (List ℕ × LiveSegment)). has (all_required es) n ≡ true) (are t s held) among) in
-    let facts = reading_facts (Rose start after) (after ≡ start) (LacksIn tells first kept) (λ path. HoldsNone tells first kept) in
-    loading_of facts load error
-    (cause_weaker (reading_facts (Rose before after) (after ≡ before) (RefusesFirst tells now (all_required segments)) (λ path. (has (all_required segments) path ≡ true) × (tells → now path ≡ None))) facts error
-    (λ never. never) (λ rose. subst (λ (x : ℕ). Rose x after) quiet rose) (λ still. still ∙ quiet) (λ never. never)
-    (λ error b t s held whole.
-    let no : RefusesAt first b.path error = refused_before first now b.path error (same t) (b.refuses t) in
-    record {
-      front = b.front;
-      path = b.path;
-      rest = b.rest;
-      split = ap all_required (sym (are t s held)) ∙ b.split;
-      good = record {
-        each = λ n among.
-            let good = good_before first now n (same t) (b.good t n among) in
-            (good.0, read_is_sealed first kept s n good.0 held (sealed t s held whole n (subst (λ (ns : List (List ℕ)). has ns n ≡ true) (sym b.split) (has_front b.front (b.path ∷ b.rest) n among))) good.1, good.2);
-      };
-      bytes = no.bytes;
-      sealed = read_is_sealed first kept s b.path no.bytes held (sealed t s held whole b.path (has_middle (all_required segments) b.front b.rest b.path b.split)) no.there;
-      why = no.why;
-      no_body = no.no_body;
-    })
-    (λ path a t s held whole. sealed_is_there first kept s path held (sealed t s held whole path a.0) (sym (same t path) ∙ a.1 t)) h)
-
--- why `meta.json` isn't loaded, seen from before a call that changed nothing
-pub meta_before : (tells : Type 0) (kept later : KeptState) (stands then : Option (List ℕ)) (refused quiet refused2 quiet2 : Type 0) (error : TantivyError) → later ≡ kept → (tells → then ≡ stands) → (refused → refused2) → (quiet → quiet2)
-    → MetaCause tells (Some later.form.schema) stands refused quiet error → MetaCause tells (Some kept.form.schema) then refused2 quiet2 error
-meta_before tells kept later stands then refused quiet refused2 quiet2 error kept_is same f q h =
-    seen error (subst (λ (k : KeptState). MetaCause tells (Some k.form.schema) stands refused quiet error) kept_is h) where
-      seen : (e : TantivyError) → MetaCause tells (Some kept.form.schema) stands refused quiet e → MetaCause tells (Some kept.form.schema) then refused2 quiet2 e
-      seen (errors.OpenReadError (read.FileDoesNotExist path)) h = (h.0, (q h.1.0, λ t. same t ∙ h.1.1 t))
-      seen (errors.OpenReadError (read.IoError fault path)) h = absurd h.2
-      seen (errors.OpenReadError other) h = absurd h
-      seen (errors.DataCorruption why) h = (q h.0, h.1, (h.2.0, λ t. same t ∙ h.2.1 t, h.2.2))
-      seen (errors.SchemaError text) h = (q h.0, h.1, (h.2.0, λ t. same t ∙ h.2.1 t, h.2.2))
-      seen (errors.IoError fault) h = (h.0, f h.1)
-      seen errors.Memory h = q h
-      seen other h = absurd h
-
--- a read of the commit's files that failed, seen from before a call that changed nothing and after another one
-pub read_later : (tells : Type 0) (first now : Reads) (kept later : KeptState) (busy : Type 0) (start before after end : ℕ) (error : TantivyError)
-    → (tells → Same first now) → later ≡ kept → before ≡ start → end ≡ after
-    → LoadingCause (reading_facts (Rose before after) (after ≡ before) (LacksIn tells now later) (λ path. HoldsNone tells now later)) (MetaCause tells (Some later.form.schema) (now meta_name) (Rose before after) (after ≡ before)) error
-    → LoadingCause (record (reading_facts (Rose start end) (end ≡ start) (LacksIn tells first kept) (λ path. HoldsNone tells first kept)) { busy = busy }) (MetaCause tells (Some kept.form.schema) (first meta_name) (Rose start end) (end ≡ start)) error
-read_later tells first now kept later busy start before after end error same kept_is quiet last h =
-    loading_weaker (reading_facts (Rose before after) (after ≡ before) (LacksIn tells now later) (λ path. HoldsNone tells now later))
-    (record (reading_facts (Rose start end) (end ≡ start) (LacksIn tells first kept) (λ path. HoldsNone tells first kept)) { busy = busy })
-    (MetaCause tells (Some later.form.schema) (now meta_name) (Rose before after) (after ≡ before)) (MetaCause tells (Some kept.form.schema) (first meta_name) (Rose start end) (end ≡ start)) error
-    (λ never. absurd never) (λ rose. subst (λ (x : ℕ). Rose start x) (sym last) (subst (λ (x : ℕ). Rose x after) quiet rose)) (λ still. last ∙ still ∙ quiet) (λ never. never)
-    (λ e load. meta_before tells kept later (now meta_name) (first meta_name) (Rose before after) (after ≡ before) (Rose start end) (end ≡ start) e kept_is (λ t. sym (same t meta_name)) (λ rose. subst (λ (x : ℕ). Rose start x) (sym last) (subst (λ (x : ℕ). Rose x after) quiet rose)) (λ still. last ∙ still ∙ quiet) load)
-    (λ error b t s held whole. b t s (same_holds first now kept later s (same t) kept_is held) whole)
-    (λ path a t s held whole. a t s (same_holds first now kept later s (same t) kept_is held) whole) h
-
 -- a lock that isn't given, seen from before a call that changed nothing
 pub busy_before : (tells_locks : Type 0) (held held2 : Bool) (start before : ℕ) {after : ℕ} → (tells_locks → held ≡ held2) → before ≡ start
     → IsBusy tells_locks (held ≡ true) (Rose before after) → IsBusy tells_locks (held2 ≡ true) (Rose start after)
@@ -417,23 +346,6 @@ busy_before tells_locks held held2 start before {after} same quiet h = record {
   told = λ t. sym (same t) ∙ h.told t;
   untold = ⊎_map (λ t. t) (λ rose. subst (λ (x : ℕ). Rose x after) quiet rose) h.untold;
 }
-
--- the same at an event that reads, seen from before a call that changed nothing
-pub later_fails : (tells : Type 0) (first now : Reads) (kept later : KeptState) (event : Event) (reading : (s : State) → Holds first kept s → read_by s event ≡ Some s.catalog.commit) (more busy busy2 loads files : Type 0) (start before after : ℕ) (error : TantivyError)
-    → loads → files → (busy → busy2) → (tells → Same first now) → later ≡ kept → before ≡ start
-    → LoadingCause (record (reading_facts (Rose before after) (after ≡ before) (LacksIn tells now later) (λ path. HoldsNone tells now later)) { busy = busy }) (MetaCause tells (Some later.form.schema) (now meta_name) (Rose before after) (after ≡ before)) error
-    → LoadingCause (record (reading_facts (Rose start after) (after ≡ start) (λ e. files × BadIn tells first kept event e) (λ path. files × HoldsNone tells first kept)) { busy = busy2; spent = more }) (λ e. loads × MetaCause tells (Some kept.form.schema) (first meta_name) (Rose start after) (after ≡ start) e) error
-later_fails tells first now kept later event reading more busy busy2 loads files start before after error loaded taken locks same kept_is quiet h =
-    loading_weaker (record (reading_facts (Rose before after) (after ≡ before) (LacksIn tells now later) (λ path. HoldsNone tells now later)) { busy = busy })
-    (record (reading_facts (Rose start after) (after ≡ start) (λ e. files × BadIn tells first kept event e) (λ path. files × HoldsNone tells first kept)) { busy = busy2; spent = more })
-    (MetaCause tells (Some later.form.schema) (now meta_name) (Rose before after) (after ≡ before)) (λ e. loads × MetaCause tells (Some kept.form.schema) (first meta_name) (Rose start after) (after ≡ start) e) error
-    locks (λ rose. subst (λ (x : ℕ). Rose x after) quiet rose) (λ still. still ∙ quiet) (λ never. absurd never)
-    (λ e load. (
-      loaded,
-      meta_before tells kept later (now meta_name) (first meta_name) (Rose before after) (after ≡ before) (Rose start after) (after ≡ start) e kept_is (λ t. sym (same t meta_name)) (λ rose. subst (λ (x : ℕ). Rose x after) quiet rose) (λ still. still ∙ quiet) load,
-    ))
-    (λ e b. (taken, λ t s held whole. (s.catalog.commit, reading s held, b t s (same_holds first now kept later s (same t) kept_is held) whole)))
-    (λ path a. (taken, λ t s held whole. a t s (same_holds first now kept later s (same t) kept_is held) whole)) h
 
 -- ---- the steps
 
@@ -448,44 +360,6 @@ reload_reads s number there = told (reader_at s.catalog number) there where
   told None h = absurd (true≢false (sym h))
   told (Some reader) h = refl
 
--- a reader whose next snapshot gets the last number of 64 bits
-pub reload_passes : (kept : KeptState) (number : ℕ) → ((reader : Reader) × (reader_at kept.catalog number ≡ Some reader) × (reader.next ≡ 18446744073709551615)) → SomePassesEnd (numbers_after kept (events.Reload number))
-reload_passes kept number h = subst (λ (found : Option Reader). SomePassesEnd (after_each (λ (r : Reader). r.next) found)) (sym h.1) (inl (omega (arith, h.2)))
-
-pub few_with_new : (bound : ℕ) (collections : Collections) (old now : Catalog) (policy : ReloadPolicy) (shown : Snapshot) → now ≡ with_new_reader old policy shown → FewNumbers bound old.reading collections → FewNumbers (bound + 1) now.reading collections
-few_with_new bound collections old now policy shown put few =
-    subst (λ (c : Catalog). FewNumbers (bound + 1) c.reading collections) (sym put) (few_added bound old.reading collections _ old.reading.next_reader (record { policy = policy; next = 1; shown = shown }) refl (omega arith) few)
-
-pub few_with_reloaded : (bound : ℕ) (collections : Collections) (old now : Catalog) (number : ℕ) (reader : Reader) (shown : Snapshot) → reader_at old number ≡ Some reader → now ≡ with_reloaded old number reader shown
-    → FewNumbers bound old.reading collections → FewNumbers (bound + 1) now.reading collections
-few_with_reloaded bound collections old now number reader shown there put few =
-    subst (λ (c : Catalog). FewNumbers (bound + 1) c.reading collections) (sym put) (few_published bound old.reading collections _ number reader (record reader { next = reader.next + 1; shown = shown }) there refl refl few)
-
--- what is held where readers show something else
-pub shown_holds : (before now : Reads) (kept after : KeptState) (s : State) (readers : Readers) → Same before now → after ≡ record kept { catalog = record kept.catalog { reading = readers } } → Holds before kept s
-    → Holds now after (record s { catalog = record s.catalog { reading = readers } })
-shown_holds before now kept after s readers same is h =
-    let k = same_holds before now kept kept s same refl h in
-    subst (λ (x : KeptState). Holds now x (record s { catalog = record s.catalog { reading = readers } })) (sym is) (record {
-      catalog = ap (λ (c : Catalog). record c { reading = readers }) k.catalog;
-      managed = k.managed;
-      collections = k.collections;
-      segments = k.segments;
-      names = k.names;
-      files = k.files;
-      left = k.left;
-      meta = k.meta;
-      listing = k.listing;
-      listed = k.listed;
-    })
-
 -- the step of a reload of a reader that is there
 pub reloaded_step : (s : State) (number : ℕ) (reader : Reader) (bodies : List (List (List ℕ))) → reader_at s.catalog number ≡ Some reader → on_catalog s (reload_step s.catalog number bodies) ≡ on_catalog s (reloaded s.catalog number bodies reader)
 reloaded_step s number reader bodies there = rw there refl
-
--- a reload reads files that can be read, where those of the current commit can be
-pub reload_good : (s : State) (number : ℕ) → CanRead s → ReadsGood s (events.Reload number)
-reload_good s number can = told (reader_at s.catalog number) where
-  told : (found : Option Reader) → IfSome (option_map (λ (r : Reader). s.catalog.commit) found) (λ commit. AreGoodFiles s (all_required commit.segments))
-  told None = tt
-  told (Some reader) = can.0

@@ -9,6 +9,7 @@ use Rattle.std.proofs.lemmas.List.Sums.{AllPass-from_list_all, list_all-from_All
 use Rattle.std.specs.Map.{remove_entry}
 use Rattle.std.specs.BTreeMap.{is_at}
 use Rattle.std.specs.BTreeSet.{insert_key}
+use Rattle.tv_formats.specs.Files.{Reads}
 use Rattle.tv_formats.specs.Listing.{IsListFile}
 use Rattle.tv_formats.specs.Names.{byte_cmp, is, has, is_plain, is_undotted, at}
 use Rattle.tv_formats.specs.Collections.{Collections, done_of, failed_of, held, without}
@@ -25,8 +26,9 @@ use Rattle.tv_formats.specs.Commits.{IndexForm}
 use Rattle.tv_store.specs.Kept.{FilesState, names_below}
 use Rattle.tv_store.specs.FileCalls.{TriesNames}
 use Rattle.tv_store.specs.declared.files.OpenFile.{OpenFile}
-use Rattle.tv_store.specs.OpenFiles.{IsOpenFile}
-use Rattle.tv_store.proofs.OpenFiles.{all_left, AreOpen, bodies, at_seen}
+use Rattle.tv_store.specs.OpenFiles.{AreThere, IsOpenFile}
+use Rattle.tv_store.proofs.KnownFiles.{left_there}
+use Rattle.tv_store.proofs.OpenFiles.{all_left, AreFiles, AreOpen, bodies, at_seen, with_known}
 use Rattle.tv_store.proofs.CommitEvents.{all_at}
 
 -- ---- entries
@@ -118,6 +120,11 @@ one_out keys new x names rest n all split cut h =
     sym (had new n) ∙ cut ∙ ap (λ (b : Bool). cond b false (list_any (is_at (byte_cmp n)) keys)) (test_is x n) ∙ ap (λ (o : Bool). cond (is x n) false o) (had keys n) in
     ap (λ (b : Bool). not (has rest n) && b) now ∙ out_twice (is x n) (has rest n) (has keys n) ∙ ap (λ (ns : List (List ℕ)). not (has ns n) && has keys n) (sym split) ∙ h
 
+-- files that are known are there when one is known no more
+pub forgotten : (reads : Reads) (known new : List (List ℕ)) (name : List ℕ) → ((n : List ℕ) → list_any (is_at (byte_cmp n)) new ≡ cond (is_at (byte_cmp name) n) false (list_any (is_at (byte_cmp n)) known))
+    → AreThere reads known → AreThere reads new
+forgotten reads known new name cut h = left_there reads reads known new (name ∷ []) (λ n. one_out known new name (name ∷ []) [] n _ refl (cut n) refl) (λ n file other. refl) h
+
 -- the first entry stands at its key
 key_at : {X : Type 0} (e : List ℕ × X) (es : List (List ℕ × X)) → at (e ∷ es) e.0 ≡ Some e.1
 key_at e es = rw (at_itself e.0) refl
@@ -139,6 +146,12 @@ keys_away {X} gone (e ∷ es) h = (
 -- so are the entries that are left
 others_away : {X : Type 0} (gone : List (List ℕ)) (es new : List (List ℕ × X)) → ((n : List ℕ) → at new n ≡ cond (has gone n) None (at es n)) → AllByRecursion (λ e. has gone e.0 ≡ false) new
 others_away {X} gone es new h = keys_away gone new (λ n g. h n ∙ ap (λ (b : Bool). cond b None (at es n)) g)
+
+-- nothing more is said of the files of a directory when one is known no more
+pub one_forgotten : {D W C : Type 0} (g : Ghosts D W C) (directory now : D × ManagedNames) (es : List (List ℕ × OpenFile D W C)) (known new : List (List ℕ)) (name : List ℕ) → now ≡ directory
+    → ((n : List ℕ) → list_any (is_at (byte_cmp n)) new ≡ cond (is_at (byte_cmp name) n) false (list_any (is_at (byte_cmp n)) known)) → AreFiles g directory es known → AreFiles g now es new
+one_forgotten g directory now es known new name same cut h =
+    subst (λ d. AreFiles g d es new) (sym same) (with_known g directory es known new (λ tells. forgotten (g.view directory.0).reads known new name cut (h.2 tells)) h)
 
 -- ---- open files after a collection
 

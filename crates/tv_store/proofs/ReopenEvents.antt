@@ -1,10 +1,11 @@
 -- What is held after an index was opened again, where it stands.
 use Rattle.std.proofs.Common.{◌≡◌, ℕ, Bool, ◌||◌, List, Option, Some, None, option_map, is_some, refl, sym, ap, subst, ◌∙◌}
 use Rattle.tv_formats.specs.Commits.{IndexForm}
+use Rattle.tv_formats.specs.Collections.{no_collections}
 use Rattle.tv_formats.specs.Meaning.{Means}
 use Rattle.tv_machine.specs.Index.{as_opened}
 use Rattle.tv_machine.specs.CollectionEvents.{left}
-use Rattle.tv_machine.specs.ReopenEvents.{reopened}
+use Rattle.tv_machine.specs.ReopenEvents.{all_left, reopened}
 use Rattle.tv_machine.specs.State.{Catalog, State, FileState, SealedFile, Open, Left, file_at}
 use Rattle.tv_formats.specs.Names.{at}
 use Rattle.tv_formats.proofs.SpelledCommits.{means_commit}
@@ -59,3 +60,22 @@ module _ {O W C : Type 0} (g : Ghosts O W C) (catalog : Catalog) (old new : File
         listing = h.listing;
         listed = h.listed;
       })
+
+  -- and with the catalog that was
+  pub left_all_holds : Holds (g.view old.outside).reads (kept_of catalog old) s
+      → new ≡ record old { collections = new.collections; open_files = new.open_files; left = new.left } → Reopens old new
+      → Holds (g.view new.outside).reads (kept_of catalog new) (record s { files = all_left s.files; collections = no_collections })
+  left_all_holds h others told =
+      let all = reopened_holds h others told in
+      record {
+        catalog = h.catalog;
+        managed = all.managed;
+        collections = all.collections;
+        segments = h.segments;
+        names = all.names;
+        files = all.files;
+        left = all.left;
+        meta = all.meta;
+        listing = all.listing;
+        listed = all.listed;
+      }

@@ -1,8 +1,7 @@
 -- The event that reports on files: whether a file is intact, by what the directory answers and by what is held, and which files are looked at.
-use Rattle.std.proofs.Common.{◌≡◌, ◌≢◌, inl, inr, ℕ, ◌+◌, ◌<◌, Bool, true, false, true≢false, cond, not, List, [], ◌∷◌, ◌++◌, length, take, get_or, filter, codes, Option, Some, None, is_some, refl, sym, ap, subst, ◌∙◌, Ok, Err, ◌⊎◌}
-use Rattle.std.specs.Prelude.{find, is_none, option_and_then, Result, IfOk, OnOk}
+use Rattle.std.proofs.Common.{◌≡◌, ◌≢◌, inl, inr, ℕ, Bool, true, false, true≢false, cond, List, [], ◌∷◌, ◌++◌, filter, Option, Some, None, is_some, refl, sym, ap, subst, ◌∙◌, Ok, Err, ◌⊎◌}
+use Rattle.std.specs.Prelude.{option_and_then, Result, IfOk, OnOk}
 use Rattle.std.specs.List.{flat_map, AllByRecursion}
-use Rattle.std.proofs.lemmas.List.{take_more}
 use Rattle.tv_base.specs.Causes.{IsDevice}
 use Rattle.tv_base.specs.declared.error.TantivyError.{TantivyError}
 use Rattle.tv_base.specs.declared.io.IoFault.{IoFault}
@@ -13,15 +12,13 @@ use Rattle.tv_formats.specs.Commits.{IsSegment}
 use Rattle.tv_formats.specs.Files.{Reads}
 use Rattle.tv_formats.specs.Framing.{is_intact}
 use Rattle.tv_machine.specs.Index.{IsFileOf}
-use Rattle.tv_machine.specs.Lines.{line}
 use Rattle.tv_formats.specs.Segments.{segment_names, components}
 use Rattle.tv_formats.specs.Names.{has, is, at}
-use Rattle.tv_machine.specs.ReportEvents.{committed_names, damaged_files, intact_at, is_damaged, validated}
+use Rattle.tv_machine.specs.ReportEvents.{intact_at}
 use Rattle.tv_machine.specs.State.{State, FileState, SealedFile, Open, Left, file_at}
 use Rattle.tv_formats.proofs.Entries.{is_text}
 use Rattle.tv_formats.proofs.Framing.{intact_again, intact_none}
 use Rattle.tv_formats.proofs.Required.{by_one}
-use Rattle.tv_formats.proofs.SpelledCommits.{means_commit}
 use Rattle.tv_store.specs.FileCalls.{intact_in}
 use Rattle.tv_store.specs.Kept.{KeptState, FileHolds, Holds, is_left}
 use Rattle.tv_store.proofs.CommitEvents.{all_joined, files_named}
@@ -94,7 +91,7 @@ filter_more p (x ∷ names) name =
       | false ↦ filter_more p names name
     ]
 
-all_had : (P : List ℕ → Type 0) (names : List (List ℕ)) (n : List ℕ) → AllByRecursion P names → has names n ≡ true → P n
+pub all_had : (P : List ℕ → Type 0) (names : List (List ℕ)) (n : List ℕ) → AllByRecursion P names → has names n ≡ true → P n
 all_had P [] n h e = absurd cc
 all_had P (x ∷ names) n h e = by_one (is x n) (has names n) e (λ t. subst P (is_text x n t) h.0) (λ t. all_had P names n h.1 t)
 
@@ -102,52 +99,10 @@ passed : (P : List ℕ → Type 0) (b : Bool) (x : List ℕ) (xs : List (List �
 passed P true x xs here h = (here refl, h)
 passed P false x xs here h = h
 
-all_passed : (P : List ℕ → Type 0) (test : List ℕ → Bool) (names : List (List ℕ)) → ((n : List ℕ) → test n ≡ true → P n) → AllByRecursion P (filter test names)
+pub all_passed : (P : List ℕ → Type 0) (test : List ℕ → Bool) (names : List (List ℕ)) → ((n : List ℕ) → test n ≡ true → P n) → AllByRecursion P (filter test names)
 all_passed P test [] h = tt
 all_passed P test (x ∷ names) h = passed P (test x) x (filter test names) (h x) (all_passed P test names h)
 
-names_are_files : (segments : List (List ℕ × LiveSegment)) → AllByRecursion IsSegment segments → AllByRecursion IsFileOf (flat_map segment_names segments)
+pub names_are_files : (segments : List (List ℕ × LiveSegment)) → AllByRecursion IsSegment segments → AllByRecursion IsFileOf (flat_map segment_names segments)
 names_are_files [] h = tt
 names_are_files (e ∷ segments) h = all_joined IsFileOf (segment_names e) (flat_map segment_names segments) (files_named e.0 e.1.deletes components h.0.id) (names_are_files segments h.1)
-
--- the managed names of the commit's segments are those of files
-pub committed_are_files : (reads : Reads) (kept : KeptState) (s : State) → Holds reads kept s → AllByRecursion IsFileOf (committed_names s.catalog s.managed)
-committed_are_files reads kept s h =
-    let segments = s.catalog.commit.segments in
-    let means = h.meta.2 in
-    let is_commit = (means_commit kept.form.settings kept.form.schema h.meta.0 s.catalog.commit means).0 in
-    all_passed IsFileOf (λ name. has (flat_map segment_names segments) name) s.managed (λ n e. all_had IsFileOf (flat_map segment_names segments) n (names_are_files segments is_commit.segments) e)
-
--- ---- a validation, one file further
-
-abbrev pub unread : State → List ℕ → Bool
-unread s name = is_none (intact_at (file_at s name))
-
--- the line with one name more, where that file is damaged
-pub damaged_more : (s : State) (names : List (List ℕ)) (i : ℕ) (name : List ℕ) (intact : Bool) → i < length names → name ≡ get_or names i name → Some intact ≡ intact_at (file_at s name)
-    → line (line (codes "damaged") (damaged_files s (take i names))) (cond intact [] (name ∷ [])) ≡ line (codes "damaged") (damaged_files s (take (i + 1) names))
-damaged_more s names i name intact within is said =
-    let test = λ (n : List ℕ). is_damaged (intact_at (file_at s n)) in
-    let here : cond (test name) (name ∷ []) [] ≡ cond intact [] (name ∷ []) = ap (λ (o : Option Bool). cond (is_damaged o) (name ∷ []) []) (sym said) ∙ swapped intact in
-    line_joined (codes "damaged") (damaged_files s (take i names)) (cond intact [] (name ∷ []))
-    ∙ ap (line (codes "damaged")) (ap (λ (more : List (List ℕ)). damaged_files s (take i names) ++ more) (sym here) ∙ sym (filter_more test (take i names) name)
-    ∙ ap (filter test) (sym (take_more names i name within ∙ ap (λ (n : List ℕ). take i names ++ n ∷ []) (sym is)))) where
-      swapped : (b : Bool) → cond (not b) (name ∷ []) [] ≡ cond b [] (name ∷ [])
-      swapped true = refl
-      swapped false = refl
-
-      line_joined : (text : List ℕ) (words more : List (List ℕ)) → line (line text words) more ≡ line text (words ++ more)
-      line_joined text [] more = refl
-      line_joined text (word ∷ words) more = line_joined (text ++ 32 ∷ word) words more
-
-pub validated_none : (s : State) (names : List (List ℕ)) (name : List ℕ) → find (unread s) names ≡ Some name → (validated s names).0 ≡ line (codes "refused") (codes "unreadable" ∷ name ∷ [])
-validated_none s names name e = rw e refl
-
-pub validated_all : (s : State) (names : List (List ℕ)) → find (unread s) names ≡ None → (validated s names).0 ≡ line (codes "damaged") (damaged_files s names)
-validated_all s names e = rw e refl
-
-pub validated_same : (s : State) (names : List (List ℕ)) → (validated s names).1 ≡ s
-validated_same s names = by_found (find (unread s) names) refl where
-  by_found : (found : Option (List ℕ)) → find (unread s) names ≡ found → (validated s names).1 ≡ s
-  by_found None e = rw e refl
-  by_found (Some name) e = rw e refl

@@ -21,15 +21,6 @@ pub only_length : {P : Type 0} → ⊥ ⊎ P → P
 only_length (inl never) = absurd never
 only_length (inr p) = p
 
-pub spends_none : IsSpentBy ⊥ (⊥ ⊎ PassesEnd None)
-spends_none = ((λ never. absurd never), λ spent. only_numbers spent)
-
-pub spends_numbers : {P : Type 0} → IsSpentBy P (P ⊎ PassesEnd None)
-spends_numbers = ((λ spent. inl spent), λ spent. only_numbers spent)
-
-pub spends_length : {P : Type 0} → IsSpentBy P (⊥ ⊎ P)
-spends_length = ((λ spent. inr spent), λ spent. only_length spent)
-
 -- an event whose searcher would get the last number is exhausted
 pub spends_searcher : (kept : KeptState) (event : Event) → SpendsSearcher kept.catalog event → IsExhausted kept event
 spends_searcher kept (events.Searcher number) h = inl h

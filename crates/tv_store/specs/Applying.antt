@@ -43,13 +43,6 @@ pub record SavesPrinted {W : Type 0} (form : IndexForm) (old new : View W) (comm
   pub text : new.reads meta_name ≡ Some (saved_text form.settings form.schema commit)
   pub notice : new.watched ≡ noted meta_name old.watched
 
--- What a commit does whose step leads from one state to another. One that leaves the state as it was, as
--- a refusal does, leaves what the directory reads, and no notice; any other is saved.
-pub record SavesUnlessRefused {W : Type 0} (form : IndexForm) (old new : View W) (before after : State)
-    : Type 0 where
-  pub refused : after ≡ before → LeavesAlone old new
-  pub saved : after ≢ before → SavesPrinted form old new after.catalog.commit
-
 -- what an event does that commits, and whose step leads from one state to another: where that is another
 -- one, the commit is saved; of any other event nothing is said
 abbrev pub SavesAt : {W : Type 0} → Event → IndexForm → (old new : View W) → (before after : State)
@@ -102,12 +95,6 @@ abbrev pub LeavesOldOrNew : (refused : Type 0) (before now : Option (List ℕ))
 LeavesOldOrNew refused before now form s event =
     (outcomes : List Bool) × LeavesCommit refused before now form (step s event outcomes).1.catalog.commit
 
--- where the content is told, the commit of each state that is held requires a file that can't be read
-abbrev pub LacksIn : (tells : Type 0) → Reads → KeptState → OpenReadError → Type 0
-LacksIn tells reads kept error =
-    tells → (s : State) → Holds reads kept s → IsWhole s
-    → MeetsBadFile s (all_required s.catalog.commit.segments) error
-
 -- the event reads the files of a commit, and the first of them that can't be read is refused with this error
 abbrev pub MeetsBadAt : State → Event → OpenReadError → Type 0
 MeetsBadAt s event error =
@@ -122,19 +109,19 @@ BadIn tells reads kept event error =
 abbrev pub HoldsNone : (tells : Type 0) → Reads → KeptState → Type 0
 HoldsNone tells reads kept = tells → (s : State) → Holds reads kept s → IsWhole s → ⊥
 
--- `meta.json` isn't loaded, for this cause
-abbrev pub UnloadedFor : {O W C : Type 0} → Ghosts O W C → (old new : StoreState O)
+-- `meta.json` of an index with this schema isn't loaded, for this cause
+abbrev pub UnloadedFor : {O W C : Type 0} → Ghosts O W C → (schema : List ℕ) → (old new : O)
     → TantivyError → Type 0
-UnloadedFor g old new =
-    MetaCause g.told.content (Some old.kept.form.schema) ((g.view old.outside).reads meta_name)
-    (Rose (g.view old.outside).faults (g.view new.outside).faults)
-    ((g.view new.outside).faults ≡ (g.view old.outside).faults)
+UnloadedFor g schema old new =
+    MetaCause g.told.content (Some schema) ((g.view old).reads meta_name)
+    (Rose (g.view old).faults (g.view new).faults) ((g.view new).faults ≡ (g.view old).faults)
 
 -- the event loads `meta.json`, which isn't loaded, for this cause
 abbrev pub UnloadedAt : {O W C : Type 0} → Ghosts O W C → (old new : StoreState O)
     → Event → TantivyError → Type 0
 UnloadedAt g old new event error =
-    LoadsCommit old.kept.catalog event × UnloadedFor g old new error
+    LoadsCommit old.kept.catalog event
+    × UnloadedFor g old.kept.form.schema old.outside new.outside error
 
 -- the event reads the files of a commit, of which one is refused with this error
 abbrev pub RefusedAt : {O W C : Type 0} → Ghosts O W C → (old : StoreState O) → Event → OpenReadError → Type 0

@@ -97,3 +97,8 @@ IsHeld g store s = Holds (g.view store.outside).reads store.kept s
 -- no open file has more bytes than this
 abbrev pub AtMost : ℕ → KeptState → Type 0
 AtMost bound kept = AllByRecursion (λ e. length e.1 ≤ bound) kept.open_files
+
+-- what became of a collection: the names that are gone, and those whose delete was refused
+pub record CollectedNames : Type 0 where
+  pub deleted : List (List ℕ)
+  pub failed : List (List ℕ)

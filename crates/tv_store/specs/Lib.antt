@@ -16,10 +16,10 @@ pub mod Committing
 pub mod FileCalls
 pub mod CollectingCalls
 pub mod Reopening
-pub mod SnapshotCalls
 pub mod Actions
 pub mod Plans
 pub mod Performing
+pub mod SnapshotCalls
 pub mod Acting
 pub mod OpeningCauses
 pub mod Making

@@ -1,6 +1,9 @@
--- The files of a store that are open.
-use Rattle.std.specs.Prelude.{ℕ, ◌≡◌, true, List, length}
+-- The files of a store that are open, and those that are known to be there.
+use Rattle.std.specs.Prelude.{ℕ, ◌≡◌, true, List, IsSome, length}
 use Rattle.tv_directory.specs.declared.directory.Directory.{Ghosts}
+use Rattle.tv_formats.specs.Files.{Reads}
+use Rattle.tv_formats.specs.Names.{has}
+use Rattle.tv_machine.specs.Index.{IsFileOf}
 use Rattle.tv_managed.specs.Writers.{IsSummed}
 use Rattle.tv_managed.specs.declared.writer.ManagedWriter.{ManagedWriter}
 
@@ -13,3 +16,7 @@ pub record IsOpenFile {O W C : Type 0} (g : Ghosts O W C) (directory : O) (name 
   pub name_is : (g.state_of w.writer).name ≡ name
   pub len_is : len ≡ length (g.state_of w.writer).written
   pub summed_is : IsSummed g.state_of w
+
+-- each of these names is that of a segment's file, and reads something
+abbrev pub AreThere : Reads → (names : List (List ℕ)) → Type 0
+AreThere reads names = (n : List ℕ) → has names n ≡ true → IsFileOf n × IsSome (reads n)

@@ -48,12 +48,6 @@ pub record Stays {O W : Type 0} (keeps : View W → View W → Type 0) (view : O
   pub standing : new.standing ≡ old.standing
   pub below : keeps (view old.outside) (view new.outside)
 
--- And so do those who read, and what they are shown.
-pub record KeepsReaders {O W : Type 0} (keeps : View W → View W → Type 0) (view : O → View W)
-    (old new : StoreState O) : Type 0 where
-  pub stays : Stays keeps view old new
-  pub reading : new.kept.catalog.reading ≡ old.kept.catalog.reading
-
 -- And so does all that is kept.
 pub record Asks {O W : Type 0} (keeps : View W → View W → Type 0) (view : O → View W)
     (old new : StoreState O) : Type 0 where

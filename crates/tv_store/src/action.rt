@@ -1,6 +1,11 @@
-//! What a planned event does to the files, and what came of it.
-use tv_formats::FileName;
-use tv_machine::Blob;
+//! What a planned event does to the files, what came of it, and what it changes beside them.
+use crate::commit::Commit;
+use crate::files_collecting::{Collected, TriedName};
+use crate::snapshot::Snapshot;
+use std::collections::{BTreeMap, BTreeSet};
+use std::marker::Model;
+use tv_formats::{FileName, LiveSegment, SegmentId};
+use tv_machine::{Blob, ReloadPolicy};
 
 /// What a planned event does to the files.
 #[derive(Drop)]
@@ -13,6 +18,25 @@ pub(crate) enum Action<'a> {
     Append(FileName, &'a Blob),
     /// An open file is sealed.
     Seal(FileName),
+    /// The open ones of these files are left: they are written no more.
+    Leave(Vec<FileName>),
+    /// A commit becomes the current one, whose text this is, if these files are sealed.
+    Save(Commit, Vec<u8>, Vec<FileName>),
+    /// The managed files are deleted that aren't among these, and that no unfinished collection holds.
+    Collect(BTreeSet<String>),
+    /// A collection begins of the managed files that aren't among these, and that no unfinished one holds.
+    Begin(BTreeSet<String>),
+    /// The first name that a collection has left is tried.
+    Try(u64),
+    /// A collection is finished.
+    End(u64),
+    /// The checksums of these files are compared with those of their bodies.
+    Validate(Vec<FileName>),
+    /// The commit that `meta.json` means is loaded with the bodies of its files, under this number, while the
+    /// meta lock is held.
+    Load(u64),
+    /// The open files are left, and no collection is unfinished any more.
+    Reopen,
 }
 
 /// What came of an action.
@@ -22,4 +46,49 @@ pub(crate) enum Reply {
     Done,
     /// The name was taken.
     Taken,
+    /// This file isn't sealed.
+    Unsealed(FileName),
+    /// This commit was saved.
+    Saved(Commit),
+    /// These names were tried.
+    Collected(Collected),
+    /// This name was tried.
+    Tried(TriedName),
+    /// These files have another checksum than that of their body.
+    Damaged(FileNames),
+    /// This file can't be read.
+    Unreadable(FileName),
+    /// This commit was loaded.
+    Loaded(Snapshot),
+}
+
+/// Names of files. To a contract it is a list.
+#[derive(Drop)]
+pub(crate) struct FileNames {
+    pub(crate) names: Vec<FileName>,
+}
+
+impl Model for FileNames {
+    ghost use Rattle.std.specs.Prelude.{List, ℕ};
+
+    ghost Value = { List (List ℕ) };
+
+    ghost view = { λ a. a.names.items };
+}
+
+/// What an event changes of what is known beside the files, where its action is done.
+#[derive(Drop)]
+pub(crate) enum Change {
+    /// Nothing.
+    Nothing,
+    /// So many documents of a live segment are deleted, and a stamp is drawn for them.
+    Deletes(SegmentId, LiveSegment, u32),
+    /// A live segment is live no more.
+    Release(SegmentId),
+    /// These segments, those of the current commit, are live, and nobody reads.
+    Reopen(BTreeMap<SegmentId, LiveSegment>),
+    /// There is a new reader, which shows the commit that was loaded.
+    AddReader(ReloadPolicy),
+    /// The reader of this number shows the commit that was loaded.
+    Publish(u64),
 }

@@ -40,16 +40,4 @@ impl<O: Outside> IndexStore<O> {
         let ready = self.ready(answer)?;
         Ok(ready)
     }
-
-    // The answer to an event that is refused, in room that is made for it.
-    pub(crate) fn refuse(&mut self, word: &str) -> Result<Answer, TantivyError>
-        requires { has_no_feed word.now ≡ true }
-        ensures answer { IfOk result (λ answer. answer ≡ line (codes "refused") (word.now ∷ [])) }
-        ensures room { IfOk result (λ answer. length answer < (O.view self.new.outside).room) }
-        ensures quiet { (O.view self.new.outside).faults ≡ (O.view self.old.outside).faults }
-        ensures asks { AsksOrFails O.Directory self.old self.new result }
-    {
-        let answer = refused(self.alloc, word)?;
-        self.told(answer)
-    }
 }

@@ -1,14 +1,19 @@
 //! What is known of an index without asking its directory.
-ghost use Rattle.std.specs.Prelude.{◌≡◌, ◌<◌, ◌+◌, List, ℕ, IfOk, IsSome, OnOk, option_map, map, string_bytes, Some, true};
-ghost use Rattle.std.specs.List.{list_all};
+ghost use Rattle.std.specs.Prelude.{◌≡◌, ◌<◌, ◌+◌, List, ℕ, IfErr, IfOk, IsSome, None, OnOk, option_map, map, string_bytes, Some, true};
+ghost use Rattle.std.specs.List.{AllByRecursion, list_all};
 ghost use Rattle.tv_machine.specs.CollectionEvents.{without_live};
 ghost use Rattle.tv_machine.specs.CommitEvents.{chosen, first_unknown, last_stamp};
 ghost use Rattle.tv_machine.specs.Living.{living};
 ghost use Rattle.tv_formats.specs.Names.{has, is_plain};
 ghost use Rattle.tv_machine.specs.ReaderEvents.{with_new_reader, with_reloaded};
 ghost use Rattle.tv_machine.specs.ReportEvents.{committed_names};
+ghost use Rattle.tv_formats.specs.Commits.{Commit as CommitState, IsSegment};
+ghost use Rattle.tv_store.specs.Actions.{catalog_after, settled};
+ghost use Rattle.tv_store.specs.Plans.{CanChange};
+ghost use Rattle.tv_store.specs.declared.action.Reply.TheVariants as replies;
 ghost use Rattle.tv_machine.specs.State.{Reader as ReaderState, live_at, no_readers, reader_at};
 
+use crate::action::{Change, Reply};
 use crate::chosen::choose;
 use crate::commit::{Commit, listed};
 use crate::names::{names_among, needed_names};
@@ -98,6 +103,58 @@ impl Catalog {
         self.next += 1;
     }
 
+    // Makes a change, where nothing was loaded. Only deletes take memory.
+    fn change(&mut self, change: Change) -> Result<(), Memory>
+        requires { CanChange self.old change }
+        ensures changed { OnOk result (self.new ≡ catalog_after self.old change None) }
+    {
+        match change {
+            Change::Nothing => Ok(()),
+            Change::Deletes(id, segment, n) => self.set_deletes(id, segment, n),
+            Change::Release(id) => {
+                self.remove(id);
+                Ok(())
+            }
+            Change::Reopen(segments) => {
+                self.reopen(segments);
+                Ok(())
+            }
+            Change::AddReader(_) | Change::Publish(_) => Ok(()),
+        }
+    }
+
+    // Makes a change, where this was loaded.
+    fn change_with(&mut self, change: Change, shown: Snapshot) -> Result<(), Memory>
+        requires { CanChange self.old change }
+        ensures changed { OnOk result (self.new ≡ catalog_after self.old change (Some shown)) }
+    {
+        match change {
+            Change::AddReader(policy) => self.add_reader(policy, shown),
+            Change::Publish(number) => self.publish(number, shown),
+            other => self.change(other),
+        }
+    }
+
+    /// What is known beside the files once this came of an action: a commit that was saved is the current
+    /// one, else the change is made. Nothing takes memory after a save.
+    pub(crate) fn settle(&mut self, change: Change, reply: Reply) -> Result<(), Memory>
+        requires change { CanChange self.old change }
+        requires next { (commit : CommitState) → reply ≡ replies.Saved commit
+            → self.old.next < last_stamp }
+        ensures settled { OnOk result (self.new ≡ settled self.old change reply) }
+        ensures saved { (commit : CommitState) → reply ≡ replies.Saved commit
+            → IfErr result (λ error. ⊥) }
+    {
+        match reply {
+            Reply::Saved(commit) => {
+                self.set_commit(commit);
+                Ok(())
+            }
+            Reply::Loaded(shown) => self.change_with(change, shown),
+            _ => self.change(change),
+        }
+    }
+
     /// The segment of this id is live no more. Takes no memory.
     pub(crate) fn remove(&mut self, id: SegmentId)
         ensures { self.new ≡ without_live self.old id }
@@ -105,19 +162,19 @@ impl Catalog {
         self.live.remove(&id);
     }
 
-    /// The first of some ids that isn't live. Takes no memory.
-    pub(crate) fn first_unknown(&self, ids: &[SegmentId]) -> Option<SegmentId>
-        ensures { result ≡ first_unknown self.now ids.now }
-    {
-        ids.iter().copied().find(|id| !self.live.contains_key(id))
-    }
-
-    /// The named live segments that have living documents.
+    /// The named live segments that have living documents, or the first name that isn't live.
     pub(crate) fn chosen(
         &self,
         ids: &[SegmentId],
-    ) -> Result<BTreeMap<SegmentId, LiveSegment>, Memory>
-        ensures { IfOk result (λ segments. segments.entries ≡ chosen self.now ids.now) }
+    ) -> Result<Result<BTreeMap<SegmentId, LiveSegment>, SegmentId>, Memory>
+        ensures segments { IfOk result (λ found. IfOk found
+            (λ segments. segments.entries ≡ chosen self.now ids.now)) }
+        ensures sound { IfOk result (λ found. IfOk found
+            (λ segments. AllByRecursion IsSegment segments.entries)) }
+        ensures known { IfOk result (λ found. OnOk found
+            (first_unknown self.now ids.now ≡ None)) }
+        ensures unknown { IfOk result (λ found. IfErr found
+            (λ id. first_unknown self.now ids.now ≡ Some id)) }
     {
         choose(self.alloc, &self.live, ids)
     }

@@ -1,5 +1,5 @@
 //! The current commit, and how it is printed.
-ghost use Rattle.std.specs.Prelude.{◌≡◌, ◌++◌, [], ◌∷◌, IfOk, is_some, length, option_map, string_bytes};
+ghost use Rattle.std.specs.Prelude.{◌≡◌, ◌<◌, ◌^◌, ◌++◌, [], ◌∷◌, IfOk, is_some, length, option_map, string_bytes};
 ghost use Rattle.std.specs.Option.{option_copied};
 ghost use Rattle.tv_formats.specs.Commits.{printed};
 ghost use Rattle.tv_formats.specs.Names.{at};
@@ -121,9 +121,11 @@ impl Commit {
         settings: &IndexSettings,
         schema: &Schema,
     ) -> Result<Vec<u8>, Memory>
-        ensures { IfOk result (λ text. text.items
+        ensures text { IfOk result (λ text. text.items
             ≡ printed (settings_view settings.now) schema.now self.now ++ 10 ∷ []) }
+        ensures blocksize { (settings_view settings.now).blocksize < 2 ^ 64 }
     {
+        let _blocksize = settings.docstore_blocksize;
         let metas = metas_of(alloc, &self.segments)?;
         let payload = self.payload_text();
         let segments = metas.as_slice();

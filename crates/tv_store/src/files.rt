@@ -2,7 +2,7 @@
 //! that were left.
 ghost use Rattle.std.specs.Prelude.{◌≡◌, ◌≢◌, ◌≤◌, ◌<◌, ◌+◌, ◌^◌, ◌++◌, [], List, ℕ, true, false, length, Option, Some, None, IsSome, is_some, option_map, IfErr, IfOk, OnOk, OnErr, map, string_bytes};
 ghost use Rattle.std.specs.List.{list_all, AllByRecursion};
-ghost use Rattle.std.specs.Map.{remove_entry};
+ghost use Rattle.std.specs.Map.{remove_entry, set_value};
 ghost use Rattle.std.specs.BTreeMap.{is_at, insert_entry};
 ghost use Rattle.tv_base.specs.declared.io.IoKind.TheVariants.{Device};
 ghost use Rattle.tv_formats.specs.Names.{byte_cmp, has, is_plain, is_file_name, meta_name, at};
@@ -12,6 +12,7 @@ ghost use Rattle.tv_formats.specs.Files.{Sets, KeepsOthers, has_no_feed};
 ghost use Rattle.tv_directory.specs.Calls.{DeviceFaults, Frees, LockFaults, Acquires, MakesRoom, TellsLineTo};
 ghost use Rattle.tv_directory.specs.Images.{KeepsDisk};
 ghost use Rattle.tv_directory.specs.View.{Kept, OnlyReads, OnlyLocks, OnlyTells};
+ghost use Rattle.tv_machine.specs.Index.{IsFileOf};
 ghost use Rattle.tv_managed.specs.Managed.{KeepsOtherFiles};
 ghost use Rattle.tv_managed.specs.Reading.{ReadsBody};
 ghost use Rattle.tv_store.specs.FileCalls.{Asked, intact_in, LeavesFiles, OpensFile, FindsFile, ReadBodyFaults, LeavesText, KeepsOpenFiles, SavesSafely, unless_taken};
@@ -46,6 +47,8 @@ pub(crate) struct StoreFiles<O: Outside> {
     pub(crate) files: BTreeMap<FileName, OpenFile<O>>,
     // Neither sealed nor written any more.
     pub(crate) left: BTreeSet<FileName>,
+    // Found to be there, and not deleted since: the device isn't asked for them again. Some may be missing.
+    pub(crate) known: BTreeSet<FileName>,
 }
 
 impl<O: Outside> Model for StoreFiles<O> {
@@ -56,7 +59,7 @@ impl<O: Outside> Model for StoreFiles<O> {
     ghost use Rattle.tv_formats.specs.Names.{has, meta_name};
     ghost use Rattle.tv_store.specs.Kept.{FilesState};
     ghost use Rattle.tv_index.specs.NewForms.{form_with};
-    ghost use Rattle.tv_store.specs.OpenFiles.{IsOpenFile};
+    ghost use Rattle.tv_store.specs.OpenFiles.{AreThere, IsOpenFile};
 
     ghost Value = { FilesState O };
 
@@ -73,7 +76,8 @@ impl<O: Outside> Model for StoreFiles<O> {
     ghost invariant = { λ a. AllByRecursion
         (λ e. IsOpenFile O.Directory a.index.directory.0 e.0 e.1.writer e.1.len)
         a.files.entries
-        × (has (held a.index.directory.1.collections) meta_name ≡ false) };
+        × (has (held a.index.directory.1.collections) meta_name ≡ false)
+        × (O.told.content → AreThere (O.view a.index.directory.0).reads a.known.keys) };
 }
 
 // Nothing is known of a checksum where the bytes of its file are refused.
@@ -101,6 +105,13 @@ fn unless_taken<W: Drop>(opened: Result<W, OpenWriteError>) -> Result<Option<W>,
     }
 }
 
+// Takes the entry of a name out of a map.
+fn take_out<V: Drop>(map: &mut BTreeMap<FileName, V>, name: &FileName)
+    ensures { map.new.entries ≡ remove_entry (is_at (byte_cmp name.now)) map.old.entries }
+{
+    let _entry = map.remove(name);
+}
+
 impl<O: Outside> StoreFiles<O> {
     /// The files of an index, none of them open.
     pub(crate) fn new(alloc: Global, index: Index<O>) -> StoreFiles<O>
@@ -118,6 +129,7 @@ impl<O: Outside> StoreFiles<O> {
             index,
             files: BTreeMap::new(alloc),
             left: BTreeSet::new(alloc),
+            known: BTreeSet::new(alloc),
         }
     }
 
@@ -129,6 +141,7 @@ impl<O: Outside> StoreFiles<O> {
             index,
             files: _,
             left: _,
+            known: _,
         } = self;
         index.into_directory()
     }
@@ -222,7 +235,7 @@ impl<O: Outside> StoreFiles<O> {
         self.index.directory_mut().release(lock);
     }
 
-    /// Whether a file is there, isn't open and wasn't left.
+    /// Whether a file is there, isn't open and wasn't left. The device isn't asked for one that is known.
     pub(crate) fn is_sealed(&mut self, name: &FileName) -> Result<bool, TantivyError>
         ensures answer { O.told.content → IfOk result
             (Asked ((O.view self.old.outside).reads name.now)
@@ -233,6 +246,9 @@ impl<O: Outside> StoreFiles<O> {
         if self.files.contains_key(name) || self.left.contains(name) {
             return Ok(false);
         }
+        if self.known.contains(name) {
+            return Ok(true);
+        }
         match self.index.directory_mut().exists(name.as_str()) {
             Ok(found) => Ok(found),
             Err(OpenReadError::Memory) => Err(TantivyError::Memory),
@@ -240,6 +256,14 @@ impl<O: Outside> StoreFiles<O> {
             Err(OpenReadError::FileDoesNotExist(_)) => unreachable!(),
             Err(OpenReadError::IncompatibleIndex(_)) => unreachable!(),
         }
+    }
+
+    /// Keeps in mind that a file of a segment is there, if there is memory for that.
+    pub(crate) fn remember(&mut self, name: FileName)
+        requires { O.told.content → IsFileOf name × IsSome ((O.view self.old.outside).reads name) }
+        ensures { self.new ≡ self.old }
+    {
+        let _added = self.known.insert(name);
     }
 
     /// Makes an empty file, unless the name reads, or an unfinished collection holds it. None holds a file
@@ -256,6 +280,8 @@ impl<O: Outside> StoreFiles<O> {
         ensures faults { EventFaults ⊥ (O.view self.old.outside) (O.view self.new.outside) result }
         ensures frame { KeepsMade (Kept O.told) O.view self.old self.new }
     {
+        // A file that is made anew isn't sealed, whatever was known of its name.
+        let _known = self.known.remove(&name);
         let opened = self.index.directory_mut().open_write(name.as_str());
         let Some(writer) = unless_taken(opened)? else {
             return Ok(false);
@@ -264,51 +290,58 @@ impl<O: Outside> StoreFiles<O> {
         Ok(true)
     }
 
-    /// Adds bytes to an open file.
-    pub(crate) fn write(&mut self, name: FileName, bytes: &[u8]) -> Result<(), TantivyError>
-        requires is_open { IsSome (at self.old.open_files name) }
-        requires fits { (body : List ℕ) → at self.old.open_files name ≡ Some body
+    /// Adds bytes to an open file. After an error it is open no more.
+    pub(crate) fn write(&mut self, name: &FileName, bytes: &[u8]) -> Result<(), TantivyError>
+        requires is_open { IsSome (at self.old.open_files name.now) }
+        requires fits { (body : List ℕ) → at self.old.open_files name.now ≡ Some body
             → length body + length bytes.now < 2 ^ 64 }
-        ensures written { (body : List ℕ) → at self.old.open_files name ≡ Some body
-            → OnOk result (self.new.open_files ≡ insert_entry byte_cmp
-            (remove_entry (is_at (byte_cmp name)) self.old.open_files) name (body ++ bytes.now)) }
+        ensures written { (body : List ℕ) → at self.old.open_files name.now ≡ Some body
+            → OnOk result (self.new.open_files
+            ≡ set_value (is_at (byte_cmp name.now)) self.old.open_files (body ++ bytes.now)) }
         ensures closed { OnErr result (self.new.open_files
-            ≡ remove_entry (is_at (byte_cmp name)) self.old.open_files) }
+            ≡ remove_entry (is_at (byte_cmp name.now)) self.old.open_files) }
+        ensures others { O.told.content → KeepsOthers (O.view self.old.outside).reads
+            (O.view self.new.outside).reads name.now }
+        ensures there { O.told.content
+            → OnOk result (IsSome ((O.view self.new.outside).reads name.now)) }
+        ensures rest { OnlyWrites O.Directory self.old self.new result }
+    {
+        let Some(file) = self.files.get_mut(name) else {
+            unreachable!()
+        };
+        match self.index.directory_mut().write(&mut file.writer, bytes) {
+            Ok(()) => {
+                file.len += bytes.len() as u64;
+                Ok(())
+            }
+            Err(error) => {
+                take_out(&mut self.files, name);
+                Err(TantivyError::from(error))
+            }
+        }
+    }
+
+    /// Seals an open file of a segment.
+    pub(crate) fn seal(&mut self, name: FileName) -> Result<(), TantivyError>
+        requires file { IsFileOf name }
+        requires is_open { IsSome (at self.old.open_files name) }
+        ensures sealed { O.told.content
+            → (body : List ℕ) → at self.old.open_files name ≡ Some body
+            → OnOk result (Sets (O.view self.old.outside).reads (O.view self.new.outside).reads
+            name (Some (sealed body))) }
         ensures others { O.told.content → KeepsOthers (O.view self.old.outside).reads
             (O.view self.new.outside).reads name }
-        ensures there { O.told.content
-            → OnOk result (IsSome ((O.view self.new.outside).reads name)) }
+        ensures open_files { self.new.open_files
+            ≡ remove_entry (is_at (byte_cmp name)) self.old.open_files }
+        ensures closed { at self.new.open_files name ≡ None }
         ensures rest { OnlyWrites O.Directory self.old self.new result }
     {
         let Some(file) = self.files.remove(&name) else {
             unreachable!()
         };
-        let OpenFile { mut writer, len } = file;
-        self.index.directory_mut().write(&mut writer, bytes)?;
-        let len = len + bytes.len() as u64;
-        self.files.insert(name, OpenFile { writer, len })?;
-        Ok(())
-    }
-
-    /// Seals an open file.
-    pub(crate) fn seal(&mut self, name: &FileName) -> Result<(), TantivyError>
-        requires { IsSome (at self.old.open_files name.now) }
-        ensures sealed { O.told.content
-            → (body : List ℕ) → at self.old.open_files name.now ≡ Some body
-            → OnOk result (Sets (O.view self.old.outside).reads (O.view self.new.outside).reads
-            name.now (Some (sealed body))) }
-        ensures others { O.told.content → KeepsOthers (O.view self.old.outside).reads
-            (O.view self.new.outside).reads name.now }
-        ensures open_files { self.new.open_files
-            ≡ remove_entry (is_at (byte_cmp name.now)) self.old.open_files }
-        ensures closed { at self.new.open_files name.now ≡ None }
-        ensures rest { OnlyWrites O.Directory self.old self.new result }
-    {
-        let Some(file) = self.files.remove(name) else {
-            unreachable!()
-        };
         let OpenFile { writer, len: _ } = file;
         self.index.directory_mut().terminate(writer)?;
+        let _added = self.known.insert(name);
         Ok(())
     }
 

@@ -1,12 +1,12 @@
 //! Collections of files, and the end of open ones.
-ghost use Rattle.std.specs.Prelude.{◌≡◌, ◌≢◌, ◌&&◌, ◌||◌, not, ◌≤◌, [], ◌∷◌, List, ℕ, true, length, vec_len, vec_capacity, None, Some, IsSome, is_some, cond, option_map, Contains, IfOk, OnOk, OnErr, map, string_bytes};
+ghost use Rattle.std.specs.Prelude.{◌≡◌, ◌++◌, ◌&&◌, ◌||◌, not, ◌≤◌, [], ◌∷◌, List, ℕ, true, length, vec_len, vec_capacity, None, Some, IsSome, is_some, cond, option_map, Contains, IfOk, OnOk, OnErr, map, string_bytes};
 ghost use Rattle.std.specs.List.{list_all, AllByRecursion};
-ghost use Rattle.std.specs.List.Sorted.{IsStrictlySortedBy};
-ghost use Rattle.tv_formats.specs.Names.{byte_cmp, has, is_plain, meta_name, at};
-ghost use Rattle.tv_formats.specs.Collections.{Collection, collection_at, held, taken};
+ghost use Rattle.tv_formats.specs.Names.{has, is_plain, meta_name, at};
+ghost use Rattle.tv_formats.specs.Collections.{Collection, collectable, collection_at, held};
 ghost use Rattle.tv_formats.specs.Files.{Same};
 ghost use Rattle.tv_formats.specs.Listing.{IsListFile, Listing};
 ghost use Rattle.tv_directory.specs.View.{Kept, MayDelete, OnlyReads};
+ghost use Rattle.tv_managed.specs.Collecting.{texts_of};
 ghost use Rattle.tv_store.specs.CollectingCalls.{BeginsCollection, FinishesCollection, HasUntried, KeepsUncollected, KeepsUnlisted, TriesNext};
 ghost use Rattle.tv_store.specs.Effects.{collection_after};
 ghost use Rattle.tv_store.specs.Exhausted.{SomePassesEnd};
@@ -17,6 +17,7 @@ ghost use Rattle.tv_store.specs.Stays.{EventFaults, KeepsAllButList, KeepsDotted
 use crate::files::StoreFiles;
 use std::alloc::Global;
 use std::collections::{BTreeMap, BTreeSet};
+use std::marker::Model;
 use std::mem;
 use tv_base::TantivyError;
 use tv_directory::Outside;
@@ -31,9 +32,18 @@ pub(crate) struct TriedName {
 }
 
 /// What became of a collection: the names that are gone, and those whose delete was refused.
+#[derive(Drop)]
 pub(crate) struct Collected {
     pub(crate) deleted: Vec<FileName>,
     pub(crate) failed: Vec<FileName>,
+}
+
+impl Model for Collected {
+    ghost use Rattle.tv_store.specs.Kept.{CollectedNames};
+
+    ghost Value = { CollectedNames };
+
+    ghost view = { λ a. record { deleted = a.deleted.items; failed = a.failed.items } };
 }
 
 // Names of files, from their texts, in a vector that is empty and has room for them. Takes no memory.
@@ -111,26 +121,31 @@ impl<O: Outside> StoreFiles<O> {
         self.index.directory().collect_left(number)
     }
 
-    /// The name that an unfinished collection tries next.
-    pub(crate) fn collect_next(&self, alloc: Global, number: u64) -> Result<FileName, Memory>
-        requires { HasUntried self.now.collections number }
-        ensures { (c : Collection) (name : List ℕ) (left : List (List ℕ))
-            → collection_at self.now.collections number ≡ Some c → c.untried ≡ name ∷ left
-            → IfOk result (λ found. found ≡ name) }
+    /// The number that the next collection gets. Takes no memory.
+    pub(crate) fn next_collection(&self) -> u64
+        ensures { result ≡ self.now.collections.next }
     {
-        let name = self.index.directory().collect_next(number);
-        Ok(FileName::new(String::from_str(alloc, name)?))
+        self.index.directory().next_collection()
     }
 
-    /// The names that an unfinished collection took, in their order. Takes no memory.
-    pub(crate) fn collect_names(&self, number: u64) -> &[String]
-        requires { IsSome (collection_at self.now.collections number) }
-        ensures plain { list_all is_plain (map string_bytes result.now) ≡ true }
-        ensures names { (c : Collection) → collection_at self.now.collections number ≡ Some c
-            → IsStrictlySortedBy byte_cmp (map string_bytes result.now)
-            × ((n : List ℕ) → has (map string_bytes result.now) n ≡ has (taken c) n) }
+    /// The managed names that are neither among these nor held by an unfinished collection, in their order.
+    pub(crate) fn collectable(&self, living: &BTreeSet<String>) -> Result<Vec<&str>, Memory>
+        ensures { IfOk result (λ names. texts_of names.items
+            ≡ collectable (map string_bytes living.now.keys ++ held self.now.collections)
+            self.now.managed) }
     {
-        self.index.directory().collect_names(number).unwrap()
+        self.index.directory().collectable(living)
+    }
+
+    /// How long the name is that an unfinished collection tries next. Takes no memory.
+    pub(crate) fn next_len(&self, number: u64) -> usize
+        requires { HasUntried self.now.collections number }
+        ensures len { (c : Collection) (name : List ℕ) (left : List (List ℕ))
+            → collection_at self.now.collections number ≡ Some c → c.untried ≡ name ∷ left
+            → result ≡ length name }
+        ensures few { result ≤ 255 }
+    {
+        self.index.directory().collect_next(number).len()
     }
 
     /// Begins a collection of the managed files that aren't among these, and answers its number.
@@ -166,6 +181,7 @@ impl<O: Outside> StoreFiles<O> {
                 let name = FileName::new(text);
                 remove_one(&mut self.files, &name);
                 let _left = self.left.remove(&name);
+                let _known = self.known.remove(&name);
                 Ok(TriedName {
                     name,
                     is_done: true,
@@ -201,7 +217,7 @@ impl<O: Outside> StoreFiles<O> {
     ) -> Result<Collected, TantivyError>
         requires { has (map string_bytes living.keys) meta_name ≡ true }
         ensures collects { IfOk result (λ c. Collects O.Directory
-            (map string_bytes living.keys) self.old self.new c.deleted.items c.failed.items) }
+            (map string_bytes living.keys) self.old self.new c.deleted c.failed) }
         // What is living reads what it read.
         ensures spared { O.told.content → (n : List ℕ) → has (map string_bytes living.keys) n ≡ true
             → (IsListFile n → ⊥)
@@ -222,13 +238,16 @@ impl<O: Outside> StoreFiles<O> {
         let count = self.index.directory().list_managed_files().len();
         let deleted = Vec::with_capacity(alloc, count)?;
         let failed = Vec::with_capacity(alloc, count)?;
-        // No writer is kept beside an error, since nobody could tell which files are gone.
+        // No writer is kept beside an error, and no file is known, since nobody could tell which are gone.
         let mut files = mem::replace(&mut self.files, BTreeMap::new(alloc));
+        let mut known = mem::replace(&mut self.known, BTreeSet::new(alloc));
         let result = self.index.directory_mut().garbage_collect(move || living)?;
         let deleted = file_names(deleted, result.deleted_files);
         let failed = file_names(failed, result.failed_to_delete_files);
         remove_all(&mut files, deleted.as_slice());
         self.files = files;
+        remove_names(&mut known, deleted.as_slice());
+        self.known = known;
         remove_names(&mut self.left, deleted.as_slice());
         Ok(Collected { deleted, failed })
     }

@@ -9,14 +9,14 @@ ghost use Rattle.tv_store.specs.Acting.{Acts};
 ghost use Rattle.tv_store.specs.Applying.{Stepped, LeavesMeta, Grows, ApplyFaults, AppliesFrame, AsksNoFile, IsUndisturbedEvent};
 ghost use Rattle.tv_store.specs.Kept.{Holds, IsHeld};
 ghost use Rattle.tv_store.specs.Opening.{Opens, LeavesIndex, TellsOpening, TakesWriterLock, OpeningFaults, OpeningFrame, OpensSafely};
-ghost use Rattle.tv_store.specs.Plans.{IsPlanned};
 ghost use Rattle.tv_store.specs.StoreCauses.{writer_lock_name};
 ghost use Rattle.tv_store.specs.Telling.{TellsAnswer, TriesLine};
 
 use crate::catalog::Catalog;
 use crate::files::StoreFiles;
+use crate::lines::line_of;
 use crate::opening::{Found, begin, find};
-use crate::perform::{line_of, perform};
+use crate::perform::perform;
 use crate::plan::{Planned, plan};
 use std::alloc::Global;
 use std::marker::Model;
@@ -145,41 +145,25 @@ impl<O: Outside> IndexStore<O> {
     {
         match self.catalog.act(self.files.managed(), event)? {
             Some(answer) => self.told(answer),
-            None => self.act_on_files(event),
-        }
-    }
-
-    // The step of an event that touches files.
-    fn act_on_files(&mut self, event: &Event) -> Result<Answer, TantivyError>
-        requires { catalog_step self.old.kept.catalog self.old.kept.managed event.now ≡ None }
-        ensures { Acts O.Directory self.old self.new event.now result }
-    {
-        match event {
-            Event::Open(..) | Event::Write(..) | Event::Seal(..) => self.act_by_plan(event),
-            Event::Deletes(id, n) => self.deletes(*id, *n),
-            Event::Commit(payload, ids) => self.commit(payload, ids),
-            Event::Gc => self.gc(),
-            Event::GcBegin => self.gc_begin(),
-            Event::GcStep(number) => self.gc_step(*number),
-            Event::GcEnd(number) => self.gc_end(*number),
-            Event::Reader(policy) => self.reader(*policy),
-            Event::Reload(number) => self.reload(*number),
-            Event::ReleaseSegment(id) => self.release_segment(*id),
-            Event::Validate => self.validate(),
-            Event::Reopen => self.reopen(),
-            _ => unreachable!(),
+            None => self.act_by_plan(event),
         }
     }
 
     // An event is planned, its action performed, and answered in room that was made before.
     fn act_by_plan(&mut self, event: &Event) -> Result<Answer, TantivyError>
-        requires { IsPlanned event.now }
+        requires { catalog_step self.old.kept.catalog self.old.kept.managed event.now ≡ None }
         ensures { Acts O.Directory self.old self.new event.now result }
     {
-        let Planned { action, line } = plan(self.alloc, &self.catalog, &self.files, event)?;
+        let Planned {
+            action,
+            change,
+            line,
+        } = plan(self.alloc, &self.catalog, &self.files, event)?;
         self.files.ready(line.capacity())?;
-        let reply = perform(&mut self.files, action)?;
-        Ok(line_of(line, &reply))
+        let reply = perform(self.alloc, &mut self.files, action)?;
+        let answer = line_of(line, &reply);
+        self.catalog.settle(change, reply)?;
+        Ok(answer)
     }
 
     /// Whether the next event may be applied: false after an error. Takes no memory.

@@ -1,7 +1,9 @@
 //! How the index is found that stands in a directory, or is made where there is none: all of it under
 //! the lock of the one who writes the index, so that nobody else's commit is overwritten unread.
 ghost use Rattle.std.specs.Prelude.{◌≡◌, ◌<◌, true, ℕ, List, length, IfOk, IfErr, map, option_map, string_bytes};
-ghost use Rattle.tv_machine.specs.Index.{as_opened, next_after};
+ghost use Rattle.std.specs.List.{AllByRecursion};
+ghost use Rattle.tv_formats.specs.Commits.{IsCommit};
+ghost use Rattle.tv_machine.specs.Index.{IsFileOf, as_opened, next_after};
 ghost use Rattle.tv_machine.specs.Lines.{opening_of};
 ghost use Rattle.tv_directory.specs.Calls.{DeviceFaults};
 ghost use Rattle.tv_directory.specs.Images.{KeepsDisk};
@@ -245,15 +247,17 @@ pub(crate) fn find<O: Outside>(
     find_under_lock(alloc, locked, &schema)
 }
 
-// Sees that each of these files can be read.
+// Sees that each of these files can be read. Those that can are known from then on.
 fn check_files<O: Outside>(
     files: &mut StoreFiles<O>,
-    names: &[FileName],
+    names: Vec<FileName>,
 ) -> Result<(), TantivyError>
-    ensures { ChecksFiles O.Directory files.old files.new names.now result }
+    requires { AllByRecursion IsFileOf names.items }
+    ensures { ChecksFiles O.Directory files.old files.new names.items result }
 {
     for name in names {
-        let _body = files.open_read(name)?;
+        let _body = files.open_read(&name)?;
+        files.remember(name);
     }
     Ok(())
 }
@@ -277,11 +281,12 @@ pub(crate) fn begin<O: Outside>(
     commit: &Commit,
     files: &mut StoreFiles<O>,
 ) -> Result<(), TantivyError>
+    requires { IsCommit commit.now }
     ensures { OpensCommit O.Directory commit.now files.old files.new result }
 {
     let names = required_files(alloc, commit.by_id())?;
     let line = opening_line(alloc, commit)?;
-    check_files(files, names.as_slice())?;
+    check_files(files, names)?;
     files.ready(line.as_slice().len())?;
     tell_opening(files, &line)?;
     Ok(())

@@ -1,19 +1,26 @@
 //! What is to be done for an event, by what is known without asking the device.
-ghost use Rattle.std.specs.Prelude.{◌≡◌, ◌≤◌, ◌∷◌, [], codes, length, true, vec_capacity, IfOk, IfErr};
+ghost use Rattle.std.specs.Prelude.{◌≡◌, ◌≤◌, ◌∷◌, [], codes, None, true, vec_capacity, IfOk, IfErr};
 ghost use Rattle.std.specs.Fmt.{decimal};
 ghost use Rattle.tv_formats.specs.Files.{has_no_feed};
 ghost use Rattle.tv_machine.specs.FileEvents.{lacks_deletes};
 ghost use Rattle.tv_machine.specs.Lines.{line};
+ghost use Rattle.tv_machine.specs.Machine.{catalog_step};
 ghost use Rattle.tv_machine.specs.declared.event.Event.TheVariants as events;
 ghost use Rattle.tv_store.specs.Kept.{kept_of};
-ghost use Rattle.tv_store.specs.Plans.{IsPlanned, Plans, PlanCause};
+ghost use Rattle.tv_store.specs.Plans.{Plans, PlanCause};
 ghost use Rattle.tv_store.specs.declared.action.Action.TheVariants as actions;
+ghost use Rattle.tv_store.specs.declared.action.Change.TheVariants as changes;
 
-use crate::action::Action;
+use crate::action::{Action, Change};
 use crate::answers::refused;
 use crate::catalog::Catalog;
 use crate::files::StoreFiles;
 use crate::names::file_of;
+use crate::plan_collections::{plan_gc, plan_gc_begin, plan_gc_end, plan_gc_step};
+use crate::plan_commit::plan_commit;
+use crate::plan_readers::{plan_reader, plan_reload};
+use crate::plan_reports::plan_validate;
+use crate::plan_segments::{plan_deletes, plan_release, plan_reopen};
 use std::alloc::Global;
 use tv_base::TantivyError;
 use tv_directory::Outside;
@@ -28,11 +35,12 @@ const TAKEN_LEN: usize = 14;
 #[derive(Drop)]
 pub(crate) struct Planned<'a> {
     pub(crate) action: Action<'a>,
+    pub(crate) change: Change,
     pub(crate) line: Vec<u8>,
 }
 
 // A line in a vector that has room for this many bytes.
-fn with_room(answer: Answer, len: usize) -> Result<Vec<u8>, Memory>
+pub(crate) fn with_room(answer: Answer, len: usize) -> Result<Vec<u8>, Memory>
     ensures line { IfOk result (λ line. line.items ≡ answer) }
     ensures feed { IfOk result (λ line. has_no_feed line.items ≡ true) }
     ensures room { IfOk result (λ line. len ≤ vec_capacity line) }
@@ -42,16 +50,18 @@ fn with_room(answer: Answer, len: usize) -> Result<Vec<u8>, Memory>
     Ok(line)
 }
 
-// What refuses an event: nothing is done.
-fn refusal<'a>(alloc: Global, word: &str) -> Result<Planned<'a>, Memory>
+/// What refuses an event: nothing is done.
+pub(crate) fn refusal<'a>(alloc: Global, word: &str) -> Result<Planned<'a>, Memory>
     requires { has_no_feed word.now ≡ true }
     ensures action { IfOk result (λ p. p.action ≡ actions.Nothing) }
+    ensures change { IfOk result (λ p. p.change ≡ changes.Nothing) }
     ensures line { IfOk result (λ p. p.line.items ≡ line (codes "refused") (word.now ∷ [])) }
     ensures feed { IfOk result (λ p. has_no_feed p.line.items ≡ true) }
 {
     let answer = refused(alloc, word)?;
     Ok(Planned {
         action: Action::Nothing,
+        change: Change::Nothing,
         line: answer.into_bytes(),
     })
 }
@@ -104,6 +114,7 @@ fn plan_open<'a, O: Outside>(
     let line = with_room(answer, TAKEN_LEN)?;
     Ok(Planned {
         action: Action::Make(name),
+        change: Change::Nothing,
         line,
     })
 }
@@ -137,6 +148,7 @@ fn plan_write<'a, O: Outside>(
     let answer = sized_line(alloc, "wrote", &name, len)?;
     Ok(Planned {
         action: Action::Append(name, bytes),
+        change: Change::Nothing,
         line: answer.into_bytes(),
     })
 }
@@ -166,18 +178,19 @@ fn plan_seal<'a, O: Outside>(
     let answer = sized_line(alloc, "sealed", &name, len)?;
     Ok(Planned {
         action: Action::Seal(name),
+        change: Change::Nothing,
         line: answer.into_bytes(),
     })
 }
 
-/// What is to be done for an event.
+/// What is to be done for an event that isn't one of the catalog alone.
 pub(crate) fn plan<'a, O: Outside>(
     alloc: Global,
     catalog: &Catalog,
     files: &StoreFiles<O>,
     event: &'a Event,
 ) -> Result<Planned<'a>, TantivyError>
-    requires { IsPlanned event.now }
+    requires { catalog_step catalog.now files.now.managed event.now ≡ None }
     ensures plans { IfOk result (Plans (kept_of catalog.now files.now) event.now) }
     ensures cause { IfErr result (PlanCause (kept_of catalog.now files.now) event.now) }
 {
@@ -187,6 +200,17 @@ pub(crate) fn plan<'a, O: Outside>(
             plan_write(alloc, catalog, files, *id, *component, bytes)
         }
         Event::Seal(id, component) => plan_seal(alloc, catalog, files, *id, *component),
+        Event::Deletes(id, n) => plan_deletes(alloc, catalog, files, *id, *n),
+        Event::Commit(payload, ids) => plan_commit(alloc, catalog, files, payload, ids),
+        Event::Gc => plan_gc(alloc, catalog, files),
+        Event::GcBegin => plan_gc_begin(alloc, catalog, files),
+        Event::GcStep(number) => plan_gc_step(alloc, catalog, files, *number),
+        Event::GcEnd(number) => plan_gc_end(alloc, catalog, files, *number),
+        Event::Reader(policy) => plan_reader(alloc, catalog, files, *policy),
+        Event::Reload(number) => plan_reload(alloc, catalog, files, *number),
+        Event::ReleaseSegment(id) => plan_release(alloc, catalog, files, *id),
+        Event::Validate => plan_validate(alloc, catalog, files),
+        Event::Reopen => plan_reopen(alloc, catalog, files),
         _ => unreachable!(),
     }
 }

@@ -1,22 +1,37 @@
-use Rattle.std.proofs.Common.{◌++◌, List, ℕ, map, codes, ap, ◌∙◌}
-use Rattle.std.specs.Prelude.{option_map}
-use Rattle.std.specs.Fmt.{decimal}
-use Rattle.std.specs.List.{join_with_byte}
-use Rattle.tv_formats.specs.Commits.{settings_text, segment_text, payload_text}
+use Rattle.std.proofs.Common.{rules, ◌≡◌, ◌++◌, ℕ, true, List, [], map, option_map, ap, ap₂, ◌∙◌, append_assoc}
+use Rattle.std.proofs.lemmas.Result.{IfOk-weaker}
+use Rattle.json.specs.Print.{print}
+use Rattle.json.specs.Token.{Token}
+use Rattle.serde_json.specs.Written.{members_text}
+use Rattle.tv_formats.specs.Commits.{last_members}
+use Rattle.tv_formats.proofs.PrintedTrees.{front, front_print}
 use Rattle.tv_index.specs.Segments.{entry_of}
 use Rattle.tv_index.specs.Settings.{settings_view}
-use Rattle.tv_index.proofs.JoinedTexts.{print_pieces}
 use Rattle.tv_index.proofs.meta_text.print_meta.Goals as goal
 
 pub returns : goal.returns
 returns c =
     let settings = settings_view c.args.settings.now in
+    let segments = map entry_of c.args.segments.now in
+    let before : c.key-3.new.self.before ≡ [] = search rules in
+    let tokens : c.key-3.new.self.tokens ≡ front settings segments =
+    rw (
+      c.in_ok-key-3.ensures.ok,
+      c.in_ok-write_segments.ensures.1,
+      c.in_ok-key-2.ensures.ok,
+      c.in_ok-write_settings.ensures.1,
+      c.in_ok-key.ensures.ok,
+      c.in_ok-begin_object.ensures.ok,
+      c.new-out.ensures.tokens,
+    )
+    (simp append_assoc) in
     record {
       text =
-          print_pieces (codes "{\"index_settings\":") (settings_text settings) (codes ",\"segments\":[") (join_with_byte 44 (map segment_text (map entry_of c.args.segments.now)))
-          (codes "],\"schema\":") c.args.schema.now (codes ",\"opstamp\":") (decimal c.args.opstamp) (payload_text (option_map (λ s. s.now) c.args.payload)) (codes "}")
-          c.put_settings.new.out.items c.put_segments.new.out.items c.put_schema.new.out.items c.put_opstamp.new.out.items c.put_payload.new.out.items c.put.new.out.items
-          (c.in_ok-put_settings.ensures ∙ ap (λ (l : List ℕ). l ++ (codes "{\"index_settings\":" ++ settings_text settings)) c.new-text.ensures.items)
-          c.in_ok-put_segments.ensures
-          c.in_ok-put_schema.ensures c.in_ok-put_opstamp.ensures c.in_ok-put_payload.ensures c.in_ok-put.ensures;
+          IfOk-weaker c.ended.result _ _
+          (λ text is. is
+          ∙ ap (λ (l : List ℕ). l ++ members_text true (last_members c.args.opstamp (option_map (λ s. s.now) c.args.payload)))
+          (c.in_ok-extend_from_slice.ensures.items
+          ∙ ap₂ (λ (f s : List ℕ). f ++ s)
+          (c.into_inner-text.ensures.items ∙ ap₂ (λ (b : List ℕ) (ts : List Token). b ++ print ts) before tokens ∙ front_print settings segments) c.text.ensures.text))
+          c.ended.ensures;
     }

@@ -4,7 +4,10 @@ use Rattle.tv_directory.specs.View.{OnlyReads}
 use Rattle.tv_directory.specs.ViewLaws.{reads_then}
 use Rattle.tv_index.specs.CrashLaws.{looks_kept, looks_none, looks_then}
 use Rattle.tv_formats.specs.Files.{Heard, Rose}
+use Rattle.std.specs.List.{AllByRecursion}
+use Rattle.tv_machine.specs.Index.{IsFileOf}
 use Rattle.tv_machine.specs.Lines.{opening_of}
+use Rattle.tv_store.proofs.CommitEvents.{all_required_are_files}
 use Rattle.tv_formats.specs.Names.{has}
 use Rattle.tv_formats.specs.Segments.{all_required}
 use Rattle.tv_store.specs.Making.{ChecksFiles}
@@ -29,7 +32,7 @@ pub returns-in_err-check_files : goal.returns-in_err-check_files
 returns-in_err-check_files g c =
     let D = g.O.Directory in
     let error = c.in_err-check_files.field-0.0 in
-    let names = c.as_slice.ensures.value ∙ c.in_ok-names.ensures ∙ ap all_required c.by_id.ensures in
+    let names = c.in_ok-names.ensures ∙ ap all_required c.by_id.ensures in
     let checked = subst (λ ns. ChecksFiles D c.args.files.now c.check_files.new.files ns (Err error)) names c.in_err-check_files.ensures in
     unasked D c.args.files.now c.check_files.new.files c.from_residual-in_err-check_files.result error c.from_residual-in_err-check_files.ensures.1 checked.file checked.lock checked.looks c.args.commit.now checked.cause checked.frame
 
@@ -65,7 +68,7 @@ returns g c =
     let before = D.view c.args.files.now.outside in
     let mid = D.view c.ready.new.self.outside in
     let after = D.view c.tell_opening.new.files.outside in
-    let names = c.as_slice.ensures.value ∙ c.in_ok-names.ensures ∙ ap all_required c.by_id.ensures in
+    let names = c.in_ok-names.ensures ∙ ap all_required c.by_id.ensures in
     let checked = c.in_ok-check_files.ensures in
     let ready = c.in_ok-ready.ensures in
     let told = c.in_ok-tell_opening.ensures in
@@ -86,3 +89,6 @@ returns g c =
       frame = files_then tells_behind read told.frame;
       looks = λ t. looks_then D (looks_then D (checked.looks t) (looks_kept D (ready.images t))) (looks_kept D (told.images t));
     }
+
+pub check_files-requires : goal.check_files-requires
+check_files-requires g c = subst (AllByRecursion IsFileOf) (sym (c.in_ok-names.ensures ∙ ap all_required c.by_id.ensures)) (all_required_are_files c.args.commit.now.segments c.requires.segments)

@@ -1,4 +1,4 @@
-use Rattle.std.proofs.Common.{rules, ◌≡◌, ◌+◌, ◌<◌, ◌≤◌, ℕ, List, Some, length, is_some, inr, sym, ap, subst, ◌∙◌}
+use Rattle.std.proofs.Common.{rules, ◌≡◌, ◌+◌, ◌<◌, ◌≤◌, ℕ, List, Some, length, is_some, inl, inr, refl, sym, ap, subst, ◌∙◌}
 use Rattle.tv_formats.specs.Names.{at}
 use Rattle.tv_machine.specs.State.{live_at}
 use Rattle.tv_store.specs.Kept.{kept_of}
@@ -29,10 +29,19 @@ returns-clause-plans g c =
     let sum : c.in-Some-checked_add.len ≡ len + length bytes =
     sum_is c.checked_add.result _ c.in-Some-checked_add.len _ c.checked_add.ensures c.in-Some-checked_add.is ∙ ap (λ (bs : List ℕ). len + length bs) c.as_slice.ensures in
     record {
-      steps = λ s m.
+      steps = λ s m deletes.
           planned_write s c.args.id name c.args.component c.in-Some.segment bytes it.0 c.in-Some-checked_add.len c.into_bytes.result.items (ap (λ k. live_at k c.args.id) (sym m.catalog) ∙ live) c.in_ok-name.ensures.name
           (sym (m.written name c.in_ok-name.ensures.file) ∙ it.1) (sum ∙ ap (λ n. n + length bytes) it.2) (c.into_bytes.ensures.bytes ∙ c.in_ok-answer.ensures);
       suits = λ s m. tt;
+      change = tt;
+      segments = λ s m reply. search rules;
+      beside = inl refl;
+      locks = search rules;
+      unlocked = search rules;
+      loads = λ s m. refl;
+      numbers = search rules;
+      notes = λ old new h. h;
+      spends = search rules;
       ready = (
         record { plain = c.in_ok-name.ensures.plain; file = c.in_ok-name.ensures.file },
         (
@@ -47,7 +56,7 @@ returns-clause-plans g c =
       room = search rules;
       adds = search rules;
       changes = λ by_step. wrote_some kept c.args.id c.args.component c.in-Some.segment name bytes len live c.in_ok-name.ensures.name has_len by_step;
-      fits = λ spent.
+      fits = λ spent. absurd (
           sum_fits kept c.args.id c.args.component c.in-Some.segment name bytes (Some len) live c.in_ok-name.ensures.name has_len
-          (λ l same. let one : len ≡ l = cc in subst (λ (k : ℕ). k + length bytes < 18446744073709551616) one fits) (only_length spent);
+          (λ l same. let one : len ≡ l = cc in subst (λ (k : ℕ). k + length bytes < 18446744073709551616) one fits) (only_length spent));
     }

@@ -16,13 +16,13 @@ returns-in_err-living-clause-safe g c = λ tells.
 pub returns-clause-begins : goal.returns-clause-begins
 returns-clause-begins g c =
     let names = c.in_ok-living.ensures.asks.frame.names in
-    IfOk-weaker c.begin.result _ _ (λ number begins. (c.in_ok-living.living, c.in_ok-living.ensures.answer, begins)) (rw names at c.begin.ensures.begins)
+    IfOk-weaker c.begin_beside.result _ _ (λ number begins. (c.in_ok-living.living, c.in_ok-living.ensures.answer, begins)) (rw names at c.begin_beside.ensures.begins)
 
 pub returns-clause-safe : goal.returns-clause-safe
 returns-clause-safe g c = λ tells.
     let asks = c.in_ok-living.ensures.asks in
-    let settles = settles_asked (asks.images tells) (c.begin.ensures.images tells) in
-    begun_safely g.D.Directory (taken_by (names_of c.in_ok-living.living.keys) c.args.self.now.1) {old = c.args.self.now} {new = c.begin.new.self} c.begin.result settles (rw asks.frame.names at c.begin.ensures.begins) (rw asks.frame.names at c.begin.ensures.err)
+    let settles = settles_asked (asks.images tells) (c.begin_beside.ensures.images tells) in
+    begun_safely g.D.Directory (taken_by (names_of c.in_ok-living.living.keys) c.args.self.now.1) {old = c.args.self.now} {new = c.begin_beside.new.self} c.begin_beside.result settles (rw asks.frame.names at c.begin_beside.ensures.begins) (rw asks.frame.names at c.begin_beside.ensures.err)
 
 pub returns-in_err-living-clause-faults : goal.returns-in_err-living-clause-faults
 returns-in_err-living-clause-faults g c =
@@ -35,7 +35,7 @@ returns-in_err-living-clause-frame g c = c.in_err-living.ensures.asks.frame.belo
 pub returns-clause-faults : goal.returns-clause-faults
 returns-clause-faults g c =
     let asks = c.in_ok-living.ensures.asks in
-    collect_begun g.D.Directory c.begin.result asks.frame asks.faults c.begin.ensures.faults c.begin.ensures.err c.begin.ensures.frame
+    collect_begun g.D.Directory c.begin_beside.result asks.frame asks.faults c.begin_beside.ensures.faults c.begin_beside.ensures.err c.begin_beside.ensures.frame
 
 pub returns-clause-frame : goal.returns-clause-frame
-returns-clause-frame g c = reads_then c.in_ok-living.ensures.asks.frame.below c.begin.ensures.frame
+returns-clause-frame g c = reads_then c.in_ok-living.ensures.asks.frame.below c.begin_beside.ensures.frame

@@ -1,19 +1,11 @@
-use Rattle.std.proofs.Common.{◌++◌, subst, sym, refl, rules, ℕ, Ok}
-use Rattle.tv_formats.specs.Collections.{held}
+use Rattle.std.proofs.Common.{subst, sym, refl, rules, ℕ, Ok}
 use Rattle.tv_directory.specs.View.{OnlyReads}
 use Rattle.tv_directory.specs.ViewLaws.{kept_itself}
 use Rattle.tv_base.specs.declared.error.TantivyError.{TantivyError}
-use Rattle.tv_managed.specs.Collecting.{names_of}
 use Rattle.tv_managed.specs.Crashes.{SettlesStates}
-use Rattle.tv_managed.specs.Names.{AreManaged}
 use Rattle.tv_managed.proofs.Giving.{settled_so, settles_none}
-use Rattle.tv_managed.proofs.Removals.{still_managed}
 use Rattle.tv_managed.proofs.Touching.{keeps_same}
 use Rattle.tv_managed.proofs.managed_directory.ManagedDirectory.begin.Goals as goal
-
-pub begin-requires-clause-managed : goal.begin-requires-clause-managed
-begin-requires-clause-managed g c =
-    subst AreManaged (sym c.in_ok-names.ensures) (still_managed _ (names_of c.args.living.now.keys ++ held c.self-2.inside.collections) c.self-2.invariant)
 
 pub returns-then-is_spent-clause-frame : goal.returns-then-is_spent-clause-frame
 returns-then-is_spent-clause-frame g c = record { kept = kept_itself _ _; content = λ t n. refl }
@@ -26,12 +18,6 @@ returns-in_err-sync_directory-clause-frame g c = c.sync_directory.ensures.frame.
 
 pub returns-in_err-sync_directory-clause-images : goal.returns-in_err-sync_directory-clause-images
 returns-in_err-sync_directory-clause-images g c = λ tells. settled_so (c.sync_directory.ensures.safe tells).states (search rules)
-
-pub returns-in_err-names-clause-frame : goal.returns-in_err-names-clause-frame
-returns-in_err-names-clause-frame g c = c.sync_directory.ensures.frame.below
-
-pub returns-in_err-names-clause-images : goal.returns-in_err-names-clause-images
-returns-in_err-names-clause-images g c = λ tells. settled_so (c.sync_directory.ensures.safe tells).states (search rules)
 
 pub returns-in_err-begin-clause-frame : goal.returns-in_err-begin-clause-frame
 returns-in_err-begin-clause-frame g c =

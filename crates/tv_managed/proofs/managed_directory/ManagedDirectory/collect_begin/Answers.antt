@@ -1,5 +1,6 @@
-use Rattle.std.proofs.Common.{rules}
-use Rattle.tv_managed.specs.Collecting.{names_of, taken_by, CollectFaults}
+use Rattle.std.proofs.Common.{rules, ℕ, List, ap, subst}
+use Rattle.std.specs.Prelude.{IfOk}
+use Rattle.tv_managed.specs.Collecting.{names_of, taken_by, Begins, CollectFaults}
 use Rattle.tv_managed.proofs.Beginning.{begun_safely}
 use Rattle.tv_managed.proofs.Giving.{settles_asked, settles_none}
 use Rattle.tv_managed.specs.TrackLaws.{listed_read, track_read}
@@ -17,12 +18,12 @@ pub returns-clause-safe : goal.returns-clause-safe
 returns-clause-safe g c = λ tells.
     let asks = c.in_ok-under_meta_lock.ensures.asks in
     let settles = settles_asked (asks.images tells) (c.begin.ensures.images tells) in
-    begun_safely g.D.Directory (taken_by (names_of c.args.living.now.keys) c.args.self.now.1) {old = c.args.self.now} {new = c.begin.new.self} c.begin.result settles (rw asks.frame.names at c.begin.ensures.begins) (rw asks.frame.names at c.begin.ensures.err)
+    begun_safely g.D.Directory (taken_by (names_of c.args.living.now.keys) c.args.self.now.1) {old = c.args.self.now} {new = c.begin.new.self} c.begin.result settles (subst (λ (taken : List (List ℕ)). IfOk c.begin.result (Begins taken c.args.self.now.1 c.begin.new.self.1)) (ap (λ d. d.untried) c.in_ok-collection.ensures) (rw asks.frame.names at c.begin.ensures.begins)) (rw asks.frame.names at c.begin.ensures.err)
 
 pub returns-in_err-under_meta_lock-clause-faults : goal.returns-in_err-under_meta_lock-clause-faults
 returns-in_err-under_meta_lock-clause-faults g c =
     let asks = c.in_err-under_meta_lock.ensures.asks in
-    handed (CollectFaults g.D.Directory c.args.self.now c.under_meta_lock.new.self) c.from_residual.result _ c.from_residual.ensures.1 (collect_locked g.D.Directory asks.frame asks.faults)
+    handed (CollectFaults g.D.Directory c.args.self.now c.under_meta_lock.new.self) c.from_residual-in_err-under_meta_lock.result _ c.from_residual-in_err-under_meta_lock.ensures.1 (collect_locked g.D.Directory asks.frame asks.faults)
 
 pub returns-in_err-under_meta_lock-clause-frame : goal.returns-in_err-under_meta_lock-clause-frame
 returns-in_err-under_meta_lock-clause-frame g c = c.in_err-under_meta_lock.ensures.asks.frame.below

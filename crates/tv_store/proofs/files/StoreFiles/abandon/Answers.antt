@@ -4,7 +4,7 @@ use Rattle.tv_store.proofs.OpenFiles.{left_files, is_open, isnt_open, one_less}
 use Rattle.tv_store.proofs.files.StoreFiles.abandon.Goals as goal
 
 pub invariant_of-self : goal.invariant_of-self
-invariant_of-self g c = left_files g.O.Directory c.self.inside.index.directory c.self.inside.files.entries c.remove.new.self.entries _ c.remove.ensures.entries c.self.invariant
+invariant_of-self g c = left_files g.O.Directory c.self.inside.index.directory c.self.inside.files.entries c.remove.new.self.entries c.self.inside.known.keys _ c.remove.ensures.entries c.self.invariant
 
 pub returns-clause-found : goal.returns-clause-found
 returns-clause-found g c =

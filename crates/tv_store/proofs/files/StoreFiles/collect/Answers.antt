@@ -9,6 +9,9 @@ use Rattle.tv_store.proofs.AnswerRoom.{told_few}
 use Rattle.tv_store.proofs.Changed.{no_texts}
 use Rattle.tv_store.proofs.CollectingFiles.{collected_spares, gc_fails, gc_faults}
 use Rattle.tv_store.proofs.Removals.{told_plain, tried_as, tried_of, collected_open, bodies_gone, lens_left, living_stands, dotted_stands}
+use Rattle.tv_store.specs.OpenFiles.{AreThere}
+use Rattle.tv_store.proofs.KnownFiles.{left_there, none_there}
+use Rattle.tv_store.proofs.Listings.{undotted_isnt_list}
 use Rattle.tv_store.proofs.OpenFiles.{AreOpen, bodies, same_open}
 use Rattle.tv_store.proofs.files.StoreFiles.collect.Goals as goal
 
@@ -38,8 +41,11 @@ file_names-failed-requires-clause-plain g c = let left = c.in_ok-result.ensures.
 
 pub invariant_of-self : goal.invariant_of-self
 invariant_of-self g c =
-    let D = g.O.Directory in
-    (same_open D c.garbage_collect.new.self.0 [] c.replace-files.new.dest.entries (ap (λ m. m.entries) c.replace-files.ensures.after ∙ c.new.ensures.empty) tt, (let left = c.garbage_collect.ensures.collects in collected_spares D _ _ (map string_bytes c.args.living.keys) left.0 c.directory_mut.result.now c.garbage_collect.new.self _ (λ set answer. search) left.2 left.1.leaves c.requires (ap (λ d. has (held d.1.collections) meta_name) c.directory_mut.ensures.value ∙ c.self.invariant.1)))
+    let D = g.O.Directory in (
+      same_open D c.garbage_collect.new.self.0 [] c.replace-files.new.dest.entries (ap (λ m. m.entries) c.replace-files.ensures.after ∙ c.new.ensures.empty) tt,
+      (let left = c.garbage_collect.ensures.collects in collected_spares D _ _ (map string_bytes c.args.living.keys) left.0 c.directory_mut.result.now c.garbage_collect.new.self _ (λ set answer. search) left.2 left.1.leaves c.requires (ap (λ d. has (held d.1.collections) meta_name) c.directory_mut.ensures.value ∙ c.self.invariant.1)),
+      λ tells. none_there _ c.replace-known.new.dest.keys (ap (λ m. m.keys) c.replace-known.ensures.after ∙ c.new-2.ensures.empty),
+    )
 
 pub invariant_of-self-2 : goal.invariant_of-self-2
 invariant_of-self-2 g c =
@@ -52,6 +58,10 @@ invariant_of-self-2 g c =
           c.remove_all.ensures.names c.remove_all.ensures.left
           (subst (λ m. AreOpen D old m.entries) (sym c.replace-files.ensures.value) (subst (λ d. AreOpen g.O.Directory d.0 c.self.inside.files.entries) (sym c.directory_mut.ensures.value) c.self.invariant.0)),
       (let left = c.garbage_collect.ensures.collects in collected_spares D _ _ (map string_bytes c.args.living.keys) left.0 c.directory_mut.result.now c.garbage_collect.new.self _ (λ set answer. search) left.2 left.1.leaves c.requires (ap (λ d. has (held d.1.collections) meta_name) c.directory_mut.ensures.value ∙ c.self.invariant.1)),
+      λ tells.
+          left_there (D.view old).reads (D.view c.garbage_collect.new.self.0).reads c.replace-known.result.keys c.remove_names.new.set.keys c.as_slice-2.result.now c.remove_names.ensures
+          (λ n file other. c.in_ok-result.ensures.collects.1.tries.others tells n (ap (λ (ns : List (List ℕ)). has ns n) (sym (c.as_slice-2.ensures.value ∙ c.file_names-deleted.ensures)) ∙ other) (undotted_isnt_list n file.0))
+          (subst (λ m. AreThere (D.view old).reads m.keys) (sym c.replace-known.ensures.value) (subst (λ d. AreThere (D.view d.0).reads c.self.inside.known.keys) (sym c.directory_mut.ensures.value) (c.self.invariant.2 tells))),
     )
 
 pub returns-clause-collects : goal.returns-clause-collects
@@ -67,8 +77,8 @@ returns-clause-collects g c = record {
       bodies_gone (λ w. (g.O.Directory.state_of w).written) c.replace-files.result.entries c.remove_all.new.map.entries c.args.self.now.open_files c.as_slice.result.now n (ap (λ m. bodies (λ w. (g.O.Directory.state_of w).written) m.entries) c.replace-files.ensures.value ∙ ap (λ v. v.open_files) c.self.view_is) (c.remove_all.ensures.names n)
       ∙ ap (λ (ns : List (List ℕ)). cond (has ns n) None (at c.args.self.now.open_files n)) c.as_slice.ensures.value;
   left = λ n.
-      c.remove_names.ensures n ∙ ap (λ v. not (has c.as_slice-2.result.now n) && has v.left n) c.self.view_is
-      ∙ ap (λ (ns : List (List ℕ)). not (has ns n) && has c.args.self.now.left n) c.as_slice-2.ensures.value;
+      c.remove_names-2.ensures n ∙ ap (λ v. not (has c.as_slice-3.result.now n) && has v.left n) c.self.view_is
+      ∙ ap (λ (ns : List (List ℕ)). not (has ns n) && has c.args.self.now.left n) c.as_slice-3.ensures.value;
   same = λ tells none n.
       (c.in_ok-result.ensures.collects.1.saves_none tells (no_texts c.in_ok-result.result.deleted_files.items (sym c.file_names-deleted.ensures ∙ none)) n)
       ∙ ap (λ d. (g.O.Directory.view d.0).reads n) c.directory_mut.ensures.value ∙ ap (λ v. (g.O.Directory.view v.outside).reads n) c.self.view_is;

@@ -7,6 +7,8 @@ use Rattle.tv_managed.specs.declared.collection.CollectStep.TheVariants as steps
 use Rattle.tv_store.specs.CollectingCalls.{HasUntried}
 use Rattle.tv_store.specs.Kept.{names_below}
 use Rattle.tv_store.proofs.CollectingFiles.{next_keeps_dotted, next_others, next_spares, next_writers, tried_next, tries_so}
+use Rattle.tv_store.specs.OpenFiles.{AreThere}
+use Rattle.tv_store.proofs.KnownFiles.{left_there, same_there, still_there}
 use Rattle.tv_store.proofs.OpenFiles.{AreOpen}
 use Rattle.tv_store.proofs.Removals.{bodies_gone, collected_open, contains_itself, lens_left, one_out}
 use Rattle.tv_store.proofs.files.StoreFiles.collect_delete.Goals as goal
@@ -31,6 +33,10 @@ invariant_of-self-in-Done g c =
           (next_writers D c.args.number name true old c.collect_delete.new.self next) c.remove_one.ensures.name c.remove_one.ensures.left
           (subst (λ d. AreOpen D d.0 c.self.inside.files.entries) (sym c.directory_mut.ensures.value) c.self.invariant.0),
       next_spares D c.args.number name true old c.collect_delete.new.self next (ap (λ d. has (held d.1.collections) meta_name) c.directory_mut.ensures.value ∙ c.self.invariant.1),
+      λ tells.
+          left_there _ _ c.self.inside.known.keys c.remove-known.new.self.keys (name ∷ []) (λ n. one_out c.self.inside.known.keys c.remove-known.new.self.keys name (name ∷ []) [] n _ refl (c.remove-known.ensures.updates.0 n) refl)
+          (λ n file other. next_others D c.args.number name true old c.collect_delete.new.self next tells n other)
+          (subst (λ d. AreThere (D.view d.0).reads c.self.inside.known.keys) (sym c.directory_mut.ensures.value) (c.self.invariant.2 tells)),
     )
 
 pub invariant_of-self-in-Failed : goal.invariant_of-self-in-Failed
@@ -42,6 +48,9 @@ invariant_of-self-in-Failed g c =
           (next_writers D c.args.number _ false old c.collect_delete.new.self next) (λ n. refl) (contains_itself c.self.inside.files.entries)
           (subst (λ d. AreOpen D d.0 c.self.inside.files.entries) (sym c.directory_mut.ensures.value) c.self.invariant.0),
       next_spares D c.args.number _ false old c.collect_delete.new.self next (ap (λ d. has (held d.1.collections) meta_name) c.directory_mut.ensures.value ∙ c.self.invariant.1),
+      λ tells.
+          still_there _ _ c.self.inside.known.keys (same_there _ _ (λ n. next_others D c.args.number _ false old c.collect_delete.new.self next tells n refl))
+          (subst (λ d. AreThere (D.view d.0).reads c.self.inside.known.keys) (sym c.directory_mut.ensures.value) (c.self.invariant.2 tells)),
     )
 
 pub returns-in-Done-clause-tries : goal.returns-in-Done-clause-tries

@@ -6,6 +6,8 @@ use Rattle.tv_formats.proofs.Results.{handed_on}
 use Rattle.tv_store.specs.StoreCauses.{EventCause}
 use Rattle.tv_store.specs.Kept.{names_below}
 use Rattle.tv_store.proofs.CollectingFiles.{end_cause, end_spares, ends_so}
+use Rattle.tv_store.specs.OpenFiles.{AreThere}
+use Rattle.tv_store.proofs.KnownFiles.{beside_list, still_there}
 use Rattle.tv_store.proofs.OpenFiles.{still_open, AreOpen}
 use Rattle.tv_store.proofs.files.StoreFiles.collect_end.Goals as goal
 
@@ -27,6 +29,7 @@ pub invariant_of-self-2 : goal.invariant_of-self-2
 invariant_of-self-2 g c = (
   still_open g.O.Directory c.directory_mut.result.now.0 c.collect_end.new.self.0 c.self.inside.files.entries c.collect_end.ensures.frame.frame.tells_none.deletes_none (subst (λ d. AreOpen g.O.Directory d.0 c.self.inside.files.entries) (sym c.directory_mut.ensures.value) c.self.invariant.0),
   end_spares g.O.Directory c.args.number c.args.self.now c.directory_mut.result.now (c.directory_mut.ensures.value ∙ ap names_below c.self.view_is) c.requires (sym (ap (λ v. has (held v.collections) meta_name) c.self.view_is) ∙ c.self.invariant.1) c.collect_end.new.self _ c.in_ok-_result.ensures.ends,
+  λ tells. still_there _ _ c.self.inside.known.keys (beside_list _ _ (c.collect_end.ensures.ends.others tells)) (subst (λ d. AreThere (g.O.Directory.view d.0).reads c.self.inside.known.keys) (sym c.directory_mut.ensures.value) (c.self.invariant.2 tells)),
 )
 
 pub returns-clause-ends : goal.returns-clause-ends

@@ -2,6 +2,7 @@ use Rattle.std.proofs.Common.{Some, sym, ap, subst, ◌∙◌}
 use Rattle.tv_base.specs.declared.open_errors.OpenReadError.{OpenReadError}
 use Rattle.tv_managed.specs.Reading.{HasNoFooter, OpenBodyCause, ReadsSuch}
 use Rattle.tv_formats.specs.Names.{has, at}
+use Rattle.tv_store.proofs.KnownFiles.{same_there}
 use Rattle.tv_store.proofs.OpenFiles.{is_open, still_files, AreFiles}
 use Rattle.tv_store.proofs.Removals.{had}
 use Rattle.tv_store.proofs.ReportEvents.{fault_intact, intact_answer, left_intact, open_intact, tells_intact}
@@ -23,16 +24,16 @@ returns-then-contains_key-clause-answer g c tells =
     ]
 
 pub invariant_of-self : goal.invariant_of-self
-invariant_of-self g c = still_files g.O.Directory c.directory_mut.result.now c.validate_checksum.new.self c.self.inside.files.entries c.validate_checksum.ensures.frame.below.kept.frame.tells_none.deletes_none (ap (λ n. n.collections) c.validate_checksum.ensures.frame.names) (subst (λ d. AreFiles g.O.Directory d c.self.inside.files.entries) (sym c.directory_mut.ensures.value) c.self.invariant)
+invariant_of-self g c = still_files g.O.Directory c.directory_mut.result.now c.validate_checksum.new.self c.self.inside.files.entries c.self.inside.known.keys c.validate_checksum.ensures.frame.below.kept.frame.tells_none.deletes_none (ap (λ n. n.collections) c.validate_checksum.ensures.frame.names) (λ tells. same_there _ _ (c.validate_checksum.ensures.frame.below.content tells)) (subst (λ d. AreFiles g.O.Directory d c.self.inside.files.entries c.self.inside.known.keys) (sym c.directory_mut.ensures.value) c.self.invariant)
 
 pub invariant_of-self-in-Err-FileDoesNotExist : goal.invariant_of-self-in-Err-FileDoesNotExist
-invariant_of-self-in-Err-FileDoesNotExist g c = still_files g.O.Directory c.directory_mut.result.now c.validate_checksum.new.self c.self.inside.files.entries c.validate_checksum.ensures.frame.below.kept.frame.tells_none.deletes_none (ap (λ n. n.collections) c.validate_checksum.ensures.frame.names) (subst (λ d. AreFiles g.O.Directory d c.self.inside.files.entries) (sym c.directory_mut.ensures.value) c.self.invariant)
+invariant_of-self-in-Err-FileDoesNotExist g c = still_files g.O.Directory c.directory_mut.result.now c.validate_checksum.new.self c.self.inside.files.entries c.self.inside.known.keys c.validate_checksum.ensures.frame.below.kept.frame.tells_none.deletes_none (ap (λ n. n.collections) c.validate_checksum.ensures.frame.names) (λ tells. same_there _ _ (c.validate_checksum.ensures.frame.below.content tells)) (subst (λ d. AreFiles g.O.Directory d c.self.inside.files.entries c.self.inside.known.keys) (sym c.directory_mut.ensures.value) c.self.invariant)
 
 pub invariant_of-self-in-Err-IoError : goal.invariant_of-self-in-Err-IoError
-invariant_of-self-in-Err-IoError g c = still_files g.O.Directory c.directory_mut.result.now c.validate_checksum.new.self c.self.inside.files.entries c.validate_checksum.ensures.frame.below.kept.frame.tells_none.deletes_none (ap (λ n. n.collections) c.validate_checksum.ensures.frame.names) (subst (λ d. AreFiles g.O.Directory d c.self.inside.files.entries) (sym c.directory_mut.ensures.value) c.self.invariant)
+invariant_of-self-in-Err-IoError g c = still_files g.O.Directory c.directory_mut.result.now c.validate_checksum.new.self c.self.inside.files.entries c.self.inside.known.keys c.validate_checksum.ensures.frame.below.kept.frame.tells_none.deletes_none (ap (λ n. n.collections) c.validate_checksum.ensures.frame.names) (λ tells. same_there _ _ (c.validate_checksum.ensures.frame.below.content tells)) (subst (λ d. AreFiles g.O.Directory d c.self.inside.files.entries c.self.inside.known.keys) (sym c.directory_mut.ensures.value) c.self.invariant)
 
 pub invariant_of-self-in-Err-Memory : goal.invariant_of-self-in-Err-Memory
-invariant_of-self-in-Err-Memory g c = still_files g.O.Directory c.directory_mut.result.now c.validate_checksum.new.self c.self.inside.files.entries c.validate_checksum.ensures.frame.below.kept.frame.tells_none.deletes_none (ap (λ n. n.collections) c.validate_checksum.ensures.frame.names) (subst (λ d. AreFiles g.O.Directory d c.self.inside.files.entries) (sym c.directory_mut.ensures.value) c.self.invariant)
+invariant_of-self-in-Err-Memory g c = still_files g.O.Directory c.directory_mut.result.now c.validate_checksum.new.self c.self.inside.files.entries c.self.inside.known.keys c.validate_checksum.ensures.frame.below.kept.frame.tells_none.deletes_none (ap (λ n. n.collections) c.validate_checksum.ensures.frame.names) (λ tells. same_there _ _ (c.validate_checksum.ensures.frame.below.content tells)) (subst (λ d. AreFiles g.O.Directory d c.self.inside.files.entries c.self.inside.known.keys) (sym c.directory_mut.ensures.value) c.self.invariant)
 
 pub returns-in-Ok-clause-answer : goal.returns-in-Ok-clause-answer
 returns-in-Ok-clause-answer g c tells =

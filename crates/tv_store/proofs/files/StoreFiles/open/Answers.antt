@@ -1,15 +1,20 @@
-use Rattle.std.proofs.Common.{ap, [], refl, sym, subst, ◌∙◌}
+use Rattle.std.proofs.Common.{ap, [], refl, ◌∙◌}
 use Rattle.tv_formats.proofs.Results.{on_err}
 use Rattle.tv_directory.specs.View.{Kept, WriterState}
 use Rattle.tv_managed.specs.Writers.{IsNewManaged}
 use Rattle.tv_store.specs.Kept.{names_below}
 use Rattle.tv_store.proofs.KeptFiles.{kept_made, wants_then}
 use Rattle.tv_store.proofs.NewFiles.{failed_then, found_faults, found_so, made_so, made_then, opened_so, others_then, quiet_then, was_made}
-use Rattle.tv_store.proofs.OpenFiles.{still_files, put_files, same_files, kept_collections, new_open, bodies, bodies_put, AreFiles}
+use Rattle.tv_store.proofs.KnownFiles.{created_there}
+use Rattle.tv_store.proofs.Removals.{one_forgotten}
+use Rattle.tv_store.proofs.OpenFiles.{still_files, put_files, same_files, kept_collections, new_open, bodies, bodies_put}
 use Rattle.tv_store.proofs.files.StoreFiles.open.Goals as goal
 
 pub invariant_of-self : goal.invariant_of-self
-invariant_of-self g c = still_files g.O.Directory c.directory_mut.result.now c.open_write-opened.new.self c.self.inside.files.entries c.open_write-opened.ensures.frame.frame.tells_none.deletes_none (kept_collections g.O.Directory c.directory_mut.result.now c.open_write-opened.new.self c.as_str.result.now _ c.open_write-opened.ensures.manages) (subst (λ d. AreFiles g.O.Directory d c.self.inside.files.entries) (sym c.directory_mut.ensures.value) c.self.invariant)
+invariant_of-self g c = still_files g.O.Directory c.directory_mut.result.now c.open_write-opened.new.self c.self.inside.files.entries c.remove-known.new.self.keys c.open_write-opened.ensures.frame.frame.tells_none.deletes_none (kept_collections g.O.Directory c.directory_mut.result.now c.open_write-opened.new.self c.as_str.result.now _ c.open_write-opened.ensures.manages) (created_there g.O.Directory c.directory_mut.result.now c.open_write-opened.new.self _ _ c.open_write-opened.ensures.creates) (one_forgotten g.O.Directory c.self.inside.index.directory c.directory_mut.result.now c.self.inside.files.entries c.self.inside.known.keys c.remove-known.new.self.keys c.args.name c.directory_mut.ensures.value c.remove-known.ensures.updates.0 c.self.invariant)
+
+pub invariant_of-self-in_default : goal.invariant_of-self-in_default
+invariant_of-self-in_default g c = still_files g.O.Directory c.directory_mut.result.now c.open_write-opened.new.self c.self.inside.files.entries c.remove-known.new.self.keys c.open_write-opened.ensures.frame.frame.tells_none.deletes_none (kept_collections g.O.Directory c.directory_mut.result.now c.open_write-opened.new.self c.as_str.result.now _ c.open_write-opened.ensures.manages) (created_there g.O.Directory c.directory_mut.result.now c.open_write-opened.new.self _ _ c.open_write-opened.ensures.creates) (one_forgotten g.O.Directory c.self.inside.index.directory c.directory_mut.result.now c.self.inside.files.entries c.self.inside.known.keys c.remove-known.new.self.keys c.args.name c.directory_mut.ensures.value c.remove-known.ensures.updates.0 c.self.invariant)
 
 pub returns-in_err-writer-clause-others : goal.returns-in_err-writer-clause-others
 returns-in_err-writer-clause-others g c = others_then g.O.Directory c.directory_mut.result.now c.open_write-opened.new.self c.args.self.now (c.directory_mut.ensures.value ∙ ap names_below c.self.view_is) c.as_str.result.now c.args.name c.as_str.ensures.text c.open_write-opened.ensures.creates.others
@@ -46,7 +51,7 @@ returns-in_default-clause-frame g c =
     (kept_collections g.O.Directory c.directory_mut.result.now c.open_write-opened.new.self c.as_str.result.now _ c.open_write-opened.ensures.manages) c.open_write-opened.ensures.frame
 
 pub invariant_of-self-in_err-insert : goal.invariant_of-self-in_err-insert
-invariant_of-self-in_err-insert g c = same_files g.O.Directory c.open_write-opened.new.self c.self.inside.files.entries c.insert.new.self.entries c.in_err-insert.ensures.err (still_files g.O.Directory c.directory_mut.result.now c.open_write-opened.new.self c.self.inside.files.entries c.open_write-opened.ensures.frame.frame.tells_none.deletes_none (kept_collections g.O.Directory c.directory_mut.result.now c.open_write-opened.new.self c.as_str.result.now _ c.open_write-opened.ensures.manages) (subst (λ d. AreFiles g.O.Directory d c.self.inside.files.entries) (sym c.directory_mut.ensures.value) c.self.invariant))
+invariant_of-self-in_err-insert g c = same_files g.O.Directory c.open_write-opened.new.self c.self.inside.files.entries c.insert.new.self.entries c.remove-known.new.self.keys c.in_err-insert.ensures.err (still_files g.O.Directory c.directory_mut.result.now c.open_write-opened.new.self c.self.inside.files.entries c.remove-known.new.self.keys c.open_write-opened.ensures.frame.frame.tells_none.deletes_none (kept_collections g.O.Directory c.directory_mut.result.now c.open_write-opened.new.self c.as_str.result.now _ c.open_write-opened.ensures.manages) (created_there g.O.Directory c.directory_mut.result.now c.open_write-opened.new.self _ _ c.open_write-opened.ensures.creates) (one_forgotten g.O.Directory c.self.inside.index.directory c.directory_mut.result.now c.self.inside.files.entries c.self.inside.known.keys c.remove-known.new.self.keys c.args.name c.directory_mut.ensures.value c.remove-known.ensures.updates.0 c.self.invariant))
 
 pub returns-in_err-insert-clause-others : goal.returns-in_err-insert-clause-others
 returns-in_err-insert-clause-others g c = others_then g.O.Directory c.directory_mut.result.now c.open_write-opened.new.self c.args.self.now (c.directory_mut.ensures.value ∙ ap names_below c.self.view_is) c.as_str.result.now c.args.name c.as_str.ensures.text c.open_write-opened.ensures.creates.others
@@ -67,9 +72,9 @@ returns-in_err-insert-clause-frame g c =
 pub invariant_of-self-2 : goal.invariant_of-self-2
 invariant_of-self-2 g c =
     let made = was_made c.open_write-opened.result _ c.in-Some.writer c.in_ok-writer.ensures c.in-Some.is in
-    put_files g.O.Directory c.open_write-opened.new.self c.self.inside.files.entries c.insert.new.self.entries c.args.name _ c.in_ok-insert.ensures.entries
+    put_files g.O.Directory c.open_write-opened.new.self c.self.inside.files.entries c.insert.new.self.entries c.remove-known.new.self.keys c.args.name _ c.in_ok-insert.ensures.entries
     (new_open g.O.Directory c.open_write-opened.new.self.0 c.as_str.result.now c.args.name c.in-Some.writer c.as_str.ensures.text (made_so c.open_write-opened.result c.in-Some.writer (IsNewManaged g.O.Directory c.open_write-opened.new.self.0 c.as_str.result.now) made c.open_write-opened.ensures.writer))
-    (still_files g.O.Directory c.directory_mut.result.now c.open_write-opened.new.self c.self.inside.files.entries c.open_write-opened.ensures.frame.frame.tells_none.deletes_none (kept_collections g.O.Directory c.directory_mut.result.now c.open_write-opened.new.self c.as_str.result.now _ c.open_write-opened.ensures.manages) (subst (λ d. AreFiles g.O.Directory d c.self.inside.files.entries) (sym c.directory_mut.ensures.value) c.self.invariant))
+    (still_files g.O.Directory c.directory_mut.result.now c.open_write-opened.new.self c.self.inside.files.entries c.remove-known.new.self.keys c.open_write-opened.ensures.frame.frame.tells_none.deletes_none (kept_collections g.O.Directory c.directory_mut.result.now c.open_write-opened.new.self c.as_str.result.now _ c.open_write-opened.ensures.manages) (created_there g.O.Directory c.directory_mut.result.now c.open_write-opened.new.self _ _ c.open_write-opened.ensures.creates) (one_forgotten g.O.Directory c.self.inside.index.directory c.directory_mut.result.now c.self.inside.files.entries c.self.inside.known.keys c.remove-known.new.self.keys c.args.name c.directory_mut.ensures.value c.remove-known.ensures.updates.0 c.self.invariant))
 
 pub returns-clause-opened : goal.returns-clause-opened
 returns-clause-opened g c is_made =

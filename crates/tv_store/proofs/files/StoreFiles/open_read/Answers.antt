@@ -6,6 +6,7 @@ use Rattle.tv_formats.proofs.Results.{handed_on}
 use Rattle.tv_store.proofs.CheckedFiles.{reads_take_none}
 use Rattle.tv_store.specs.Bodies.{RefusesAt}
 use Rattle.tv_store.specs.ReadCauses.{ApplyCause, reading_facts}
+use Rattle.tv_store.proofs.KnownFiles.{same_there}
 use Rattle.tv_store.proofs.OpenFiles.{still_files, AreFiles}
 use Rattle.tv_store.specs.StoreCauses.{MakesNoFile}
 use Rattle.tv_store.proofs.ReaderEvents.{body_fails, reads_make_none}
@@ -32,7 +33,7 @@ returns-in_err-body-clause-faults g c =
     }
 
 pub invariant_of-self-2 : goal.invariant_of-self-2
-invariant_of-self-2 g c = still_files g.O.Directory c.directory_mut.result.now c.open_read.new.self c.self.inside.files.entries c.open_read.ensures.frame.below.kept.frame.tells_none.deletes_none (ap (λ n. n.collections) c.open_read.ensures.frame.names) (subst (λ d. AreFiles g.O.Directory d c.self.inside.files.entries) (sym c.directory_mut.ensures.value) c.self.invariant)
+invariant_of-self-2 g c = still_files g.O.Directory c.directory_mut.result.now c.open_read.new.self c.self.inside.files.entries c.self.inside.known.keys c.open_read.ensures.frame.below.kept.frame.tells_none.deletes_none (ap (λ n. n.collections) c.open_read.ensures.frame.names) (λ tells. same_there _ _ (c.open_read.ensures.frame.below.content tells)) (subst (λ d. AreFiles g.O.Directory d c.self.inside.files.entries c.self.inside.known.keys) (sym c.directory_mut.ensures.value) c.self.invariant)
 
 pub returns-in_err-body-clause-frame : goal.returns-in_err-body-clause-frame
 returns-in_err-body-clause-frame g c = kept_files (OnlyReads g.O.Directory.told) g.O.Directory.view _ _ _ _ _ _ _ c.directory_mut.ensures.value c.self.view_is c.open_read.ensures.frame

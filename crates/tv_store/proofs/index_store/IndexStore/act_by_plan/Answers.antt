@@ -1,9 +1,10 @@
-use Rattle.std.proofs.Common.{◌<◌, ◌≤◌, Err, Ok, length, rules, subst, arith}
+use Rattle.std.proofs.Common.{◌<◌, ◌≤◌, Err, Ok, length, rules, sym, subst, arith}
 use Rattle.std.proofs.lemmas.Result.{err_from_is_err_and}
 use Rattle.tv_base.specs.declared.error.TantivyError.TheVariants as errors
 use Rattle.tv_store.specs.Acting.{Acts}
-use Rattle.tv_store.proofs.ActsPlanned.{answered, store_of, unperformed, unplanned, unready}
-use Rattle.tv_store.proofs.Asking.{asked_files}
+use Rattle.tv_store.specs.Plans.{CanPerform}
+use Rattle.tv_store.proofs.ActsPlanned.{answered, saved_none, store_of, unperformed, unplanned, unready, unsettled}
+use Rattle.tv_store.proofs.Asking.{asked_files, kept_by_files}
 use Rattle.tv_store.proofs.index_store.IndexStore.act_by_plan.Goals as goal
 
 pub returns-in_err-action : goal.returns-in_err-action
@@ -12,7 +13,7 @@ returns-in_err-action g c =
     let e = err_from_is_err_and c.from_residual.result c.from_residual.ensures.1 in
     rw (e.1, e.2)
     (subst (λ v. Acts D v v c.args.event.now (Err c.in_err-action.field-0.0)) c.self.view_is
-    (unplanned D c.self.inside.catalog (record { is_open = c.self.inside.is_open }) c.self.inside.files c.args.event.now c.requires c.in_err-action.field-0.0 c.in_err-action.ensures.cause))
+    (unplanned D c.self.inside.catalog (record { is_open = c.self.inside.is_open }) c.self.inside.files c.args.event.now c.in_err-action.field-0.0 c.in_err-action.ensures.cause))
 
 pub returns-in_err-ready : goal.returns-in_err-ready
 returns-in_err-ready g c =
@@ -20,7 +21,14 @@ returns-in_err-ready g c =
     let e = err_from_is_err_and c.from_residual-in_err-ready.result c.from_residual-in_err-ready.ensures.1 in
     rw (e.1, e.2)
     (subst (λ v. Acts D v (store_of c.self.inside.catalog c.ready.new.self (record { is_open = c.self.inside.is_open })) c.args.event.now (Err errors.Memory)) c.self.view_is
-    (unready D c.self.inside.catalog (record { is_open = c.self.inside.is_open }) c.self.inside.files c.args.event.now c.requires c.ready.new.self (asked_files c.ready.ensures.room) c.ready.ensures.room.managed.below.faults))
+    (unready D c.self.inside.catalog (record { is_open = c.self.inside.is_open }) c.self.inside.files c.args.event.now c.in_ok-action.field-0 c.in_ok-action.ensures.plans c.ready.new.self (asked_files c.ready.ensures.room)
+    c.ready.ensures.room.managed.below.faults))
+
+pub perform-requires : goal.perform-requires
+perform-requires g c = (
+  c.self.inside.catalog,
+  subst (λ kept. CanPerform kept c.in_ok-action.field-0.action) (sym (kept_by_files c.self.inside.catalog (asked_files c.ready.ensures.room))) c.in_ok-action.ensures.plans.ready,
+)
 
 pub returns-in_err-reply : goal.returns-in_err-reply
 returns-in_err-reply g c =
@@ -28,16 +36,25 @@ returns-in_err-reply g c =
     let e = err_from_is_err_and c.from_residual-in_err-reply.result c.from_residual-in_err-reply.ensures.1 in
     rw (e.1, e.2)
     (subst (λ v. Acts D v (store_of c.self.inside.catalog c.perform.new.files (record { is_open = c.self.inside.is_open })) c.args.event.now (Err c.in_err-reply.field-0.0)) c.self.view_is
-    (unperformed D c.self.inside.catalog (record { is_open = c.self.inside.is_open }) c.self.inside.files c.args.event.now c.requires c.ready.new.self (asked_files c.ready.ensures.room) c.ready.ensures.room.managed.below.faults
-    c.in_ok-action.field-0 c.in_ok-action.ensures.plans c.perform.new.files c.in_err-reply.field-0.0 c.in_err-reply.ensures))
+    (unperformed D c.self.inside.catalog (record { is_open = c.self.inside.is_open }) c.self.inside.files c.args.event.now c.in_ok-action.field-0 c.in_ok-action.ensures.plans c.ready.new.self (asked_files c.ready.ensures.room)
+    c.ready.ensures.room.managed.below.faults c.perform.new.files c.in_err-reply.field-0.0 c.in_err-reply.ensures))
+
+pub returns-in_err-settle : goal.returns-in_err-settle
+returns-in_err-settle g c =
+    let D = g.O.Directory in
+    let e = err_from_is_err_and c.from_residual-in_err-settle.result c.from_residual-in_err-settle.ensures.1 in
+    rw (e.1, e.2)
+    (subst (λ v. Acts D v (store_of c.settle.new.self c.perform.new.files (record { is_open = c.self.inside.is_open })) c.args.event.now (Err errors.Memory)) c.self.view_is
+    (unsettled D c.self.inside.catalog (record { is_open = c.self.inside.is_open }) c.self.inside.files c.args.event.now c.in_ok-action.field-0 c.in_ok-action.ensures.plans c.ready.new.self (asked_files c.ready.ensures.room)
+    c.ready.ensures.room.managed.below.faults c.perform.new.files c.settle.new.self c.in_ok-reply.reply c.in_ok-reply.ensures (saved_none c.in_ok-reply.reply c.in_err-settle.ensures.saved)))
 
 pub returns : goal.returns
 returns g c =
     let D = g.O.Directory in
-    let plans = c.in_ok-action.ensures.plans in
-    let small : length c.line_of.result ≤ c.capacity.result = search rules in
+    let small : length c.line_of-answer.result ≤ c.capacity.result = search rules in
     let made : c.capacity.result < (D.view c.ready.new.self.outside).room = c.in_ok-ready.ensures.room.managed.below.made in
-    let stays : (D.view c.ready.new.self.outside).room ≤ (D.view c.perform.new.files.outside).room = c.in_ok-reply.ensures.frame.below.frame.tells_none.room in
-    subst (λ v. Acts D v (store_of c.self.inside.catalog c.perform.new.files (record { is_open = c.self.inside.is_open })) c.args.event.now (Ok c.line_of.result)) c.self.view_is
-    (answered D c.self.inside.catalog (record { is_open = c.self.inside.is_open }) c.self.inside.files c.args.event.now c.requires c.ready.new.self (asked_files c.ready.ensures.room) c.ready.ensures.room.managed.below.faults
-    c.in_ok-action.field-0 plans c.perform.new.files c.in_ok-reply.reply c.line_of.result c.in_ok-reply.ensures c.line_of.ensures (omega (arith, small, made, stays)))
+    let stays : (D.view c.ready.new.self.outside).room ≤ (D.view c.perform.new.files.outside).room = c.in_ok-reply.ensures.frame.room in
+    subst (λ v. Acts D v (store_of c.settle.new.self c.perform.new.files (record { is_open = c.self.inside.is_open })) c.args.event.now (Ok c.line_of-answer.result)) c.self.view_is
+    (subst (λ k. Acts D (store_of c.self.inside.catalog c.self.inside.files (record { is_open = c.self.inside.is_open })) (store_of k c.perform.new.files (record { is_open = c.self.inside.is_open })) c.args.event.now (Ok c.line_of-answer.result)) (sym c.in_ok-settle.ensures.settled)
+    (answered D c.self.inside.catalog (record { is_open = c.self.inside.is_open }) c.self.inside.files c.args.event.now c.in_ok-action.field-0 c.in_ok-action.ensures.plans c.ready.new.self (asked_files c.ready.ensures.room)
+    c.ready.ensures.room.managed.below.faults c.perform.new.files c.in_ok-reply.reply c.line_of-answer.result c.in_ok-reply.ensures c.line_of-answer.ensures (omega (arith, small, made, stays))))

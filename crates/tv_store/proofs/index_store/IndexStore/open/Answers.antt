@@ -4,7 +4,6 @@ use Rattle.tv_store.proofs.Opened.{opened_faults, opened_frame, opened_locks, op
 use Rattle.tv_store.proofs.Opened.{unbegun_faults, unbegun_frame, unbegun_leaves, unbegun_locks, unbegun_safely, unbegun_tells}
 use Rattle.tv_store.proofs.Unopened.{unopened_leaves, unopened_tells, unopened_locks, unopened_fails, unopened_stays, unopened_safely}
 use Rattle.tv_store.proofs.index_store.IndexStore.open.Goals as goal
-use Rattle.tv_store.proofs.index_store.IndexStore.open.Goals.{In-Err}
 
 pub returns-in_err-catalog-clause-leaves : goal.returns-in_err-catalog-clause-leaves
 returns-in_err-catalog-clause-leaves g c =

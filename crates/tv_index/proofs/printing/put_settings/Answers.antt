@@ -1,6 +1,0 @@
-use Rattle.std.proofs.Common.{append_assoc}
-use Rattle.tv_index.proofs.printing.put_settings.Goals as goal
-
-pub returns : goal.returns
-returns c =
-    rw (c.in_ok-put-3.ensures, c.in_ok-put_number.ensures, c.in_ok-put-2.ensures, c.in_ok-put_thread.ensures, c.in_ok-put.ensures) (simp append_assoc)

@@ -1,0 +1,34 @@
+use Rattle.std.proofs.Common.{rules, ◌≡◌, Ok, Some, Option, refl, ap, sym, subst, ◌∙◌, arith}
+use Rattle.tv_formats.specs.Collections.{Collection, collection_at}
+use Rattle.tv_formats.specs.Names.{meta_name}
+use Rattle.tv_store.proofs.Changed.{ended_now}
+use Rattle.tv_store.proofs.CollectingEvents.{ended_holds, found_there}
+use Rattle.tv_store.proofs.FilesHeld.{short_same}
+use Rattle.tv_store.proofs.Listings.{undotted_isnt_list}
+use Rattle.tv_store.proofs.Performing.{came_undeleted, kept_by, on_files}
+use Rattle.tv_store.specs.Actions.{after_end}
+use Rattle.tv_store.specs.Performing.{FilesHold}
+use Rattle.tv_store.specs.declared.action.Action.TheVariants as actions
+use Rattle.tv_store.specs.declared.action.Reply.TheVariants as replies
+use Rattle.tv_store.proofs.perform.end.Goals as goal
+
+pub returns : goal.returns
+returns g c =
+    let D = g.O.Directory in
+    let old = c.args.files.now in
+    let new = c.collect_end.new.self in
+    let done = c.in_ok-collect_end.ensures in
+    let told = done.ends in
+    let form : new.form ≡ old.form = ap (λ v. v.form) done.frame.rest in
+    on_files D (actions.End c.args.number) old new (Ok replies.Done) refl
+    (came_undeleted D (actions.End c.args.number) old new (Ok replies.Done) done.frame.below (λ tells s h whole suits.
+    let there : collection_at s.collections c.args.number ≡ Some told.collection = found_there D s.catalog old new form s h c.args.number told.collection told.there in
+    record {
+      reply_is = refl;
+      held = subst (λ (o : Option Collection). FilesHold D new (after_end s c.args.number o)) (sym there) (ended_holds D s.catalog old new form s h c.args.number tells told (done.others tells) done.frame.rest);
+      same = λ some stays. absurd (ended_now s c.args.number told.collection there (sym (ap (λ (o : Option Collection). after_end s c.args.number o) there) ∙ stays));
+      saves = λ commit e. absurd cc;
+    }))
+    (λ tells. done.others tells meta_name (undotted_isnt_list meta_name refl)) (λ tells n dot other. done.others tells n other)
+    (λ bound short. short_same bound 0 old.open_files new.open_files (ap (λ v. v.open_files) done.frame.rest) short) (omega (arith, ap (λ v. v.next) told.collections)) (search rules) form
+    (kept_by D.told _ (D.view old.outside) (D.view new.outside) done.frame.below.watched done.frame.below) (λ spent. spent) (λ takes. takes) (λ only. only)

@@ -1,0 +1,22 @@
+use Rattle.std.proofs.Common.{◌≡◌, List, ℕ, true}
+use Rattle.std.specs.List.{AllByRecursion}
+use Rattle.std.specs.Vec.Iter.{into_iter_items}
+use Rattle.tv_directory.specs.View.{OnlyReads}
+use Rattle.tv_formats.specs.Names.{has}
+use Rattle.tv_machine.specs.Index.{IsFileOf}
+use Rattle.tv_machine.specs.State.{State}
+use Rattle.tv_store.specs.Actions.{first_open}
+use Rattle.tv_store.specs.Performing.{FilesHold}
+use Rattle.tv_store.specs.Stays.{KeepsFiles}
+use Rattle.tv_store.proofs.perform.first_unsealed.Given as goal
+
+abbrev pub invariant-loop-name : goal.invariant-loop-name
+invariant-loop-name g l = record {
+  next : (goal.iterator-loop-name g).can_next l.name-iterator;
+  finite : (goal.iterator-loop-name g).is_finite l.name-iterator;
+  found : g.O.Directory.told.content → (s : State) → FilesHold g.O.Directory l.initial.files s → AllByRecursion IsFileOf l.fn.names.items → first_open s (into_iter_items l.name-iterator) ≡ first_open s l.fn.names.items;
+  each : AllByRecursion IsFileOf l.fn.names.items → AllByRecursion IsFileOf (into_iter_items l.name-iterator);
+  among : (n : List ℕ) → has (into_iter_items l.name-iterator) n ≡ true → has l.fn.names.items n ≡ true;
+  frame : KeepsFiles (OnlyReads g.O.Directory.told) g.O.Directory.view l.initial.files l.files;
+  quiet : (g.O.Directory.view l.files.outside).faults ≡ (g.O.Directory.view l.initial.files.outside).faults;
+}

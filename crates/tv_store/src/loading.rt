@@ -1,0 +1,133 @@
+//! The current commit is loaded, with the bodies of its files.
+ghost use Rattle.std.specs.Prelude.{◌≡◌, map, IfOk, OnOk};
+ghost use Rattle.tv_directory.specs.View.{OnlyReads};
+ghost use Rattle.tv_formats.specs.Segments.{all_required, required_names};
+ghost use Rattle.tv_index.specs.Segments.{entry_of};
+ghost use Rattle.tv_machine.specs.Readable.{CanRead};
+ghost use Rattle.tv_machine.specs.ReaderEvents.{snapshot_in};
+ghost use Rattle.tv_machine.specs.SoundStates.{IsWhole};
+ghost use Rattle.tv_machine.specs.State.{State};
+ghost use Rattle.tv_store.specs.Bodies.{AreBodies, AreGood, AreSealed, ReadsSegment, ReadsSegments};
+ghost use Rattle.tv_store.specs.Performing.{FilesHold, LoadFaults};
+ghost use Rattle.tv_store.specs.SnapshotCalls.{BodiesFaults, CommitFaults};
+ghost use Rattle.tv_store.specs.Stays.{KeepsFiles};
+
+use crate::commit::text_of;
+use crate::files::StoreFiles;
+use crate::names::required_of;
+use crate::snapshot::{SegmentReader, Snapshot};
+use std::alloc::Global;
+use tv_base::{FileSlice, TantivyError};
+use tv_directory::{Outside, meta_lock};
+use tv_formats::{FileName, LiveSegment, SegmentId};
+use tv_index::InnerSegmentMeta;
+
+// The bodies of some sealed files, in their order.
+fn read_bodies<O: Outside>(
+    alloc: Global,
+    files: &mut StoreFiles<O>,
+    names: &[FileName],
+) -> Result<Vec<FileSlice>, TantivyError>
+    ensures bodies { O.told.content → (s : State)
+        → FilesHold O.Directory files.old s
+        → AreSealed s names.entry.now
+        → IfOk result (λ bodies. AreBodies s names.entry.now bodies.items) }
+    ensures good { O.told.content
+        → OnOk result (AreGood (O.view files.old.outside).reads names.entry.now) }
+    ensures faults { BodiesFaults O.Directory files.old.outside files.new.outside
+        names.entry.now result }
+    ensures frame { KeepsFiles (OnlyReads O.told) O.view files.old files.new }
+{
+    let mut bodies = Vec::new(alloc);
+    for name in names {
+        let body = files.open_read(name)?;
+        bodies.push(body)?;
+    }
+    Ok(bodies)
+}
+
+// A segment, with the bodies of its files.
+fn read_segment<O: Outside>(
+    alloc: Global,
+    files: &mut StoreFiles<O>,
+    id: SegmentId,
+    segment: LiveSegment,
+) -> Result<SegmentReader, TantivyError>
+    ensures reader { O.told.content → (s : State)
+        → FilesHold O.Directory files.old s
+        → AreSealed s (required_names id segment)
+        → IfOk result (λ reader.
+        ReadsSegment s id segment reader.id reader.segment reader.bodies.items) }
+    ensures good { O.told.content → OnOk result (AreGood
+        (O.view files.old.outside).reads (required_names id segment)) }
+    ensures faults { BodiesFaults O.Directory files.old.outside files.new.outside
+        (required_names id segment) result }
+    ensures frame { KeepsFiles (OnlyReads O.told) O.view files.old files.new }
+{
+    let names = required_of(alloc, id, segment)?;
+    let bodies = read_bodies(alloc, files, names.as_slice())?;
+    Ok(SegmentReader::new(id, segment, bodies))
+}
+
+// Some segments, with the bodies of their files.
+fn read_segments<O: Outside>(
+    alloc: Global,
+    files: &mut StoreFiles<O>,
+    segments: &[InnerSegmentMeta],
+) -> Result<Vec<SegmentReader>, TantivyError>
+    ensures readers { O.told.content → (s : State)
+        → FilesHold O.Directory files.old s
+        → AreSealed s (all_required (map entry_of segments.now))
+        → IfOk result (λ readers. ReadsSegments s (map entry_of segments.now)
+        (map (λ r. (r.id, r.segment)) readers.items)
+        (map (λ r. r.bodies.items) readers.items)) }
+    ensures good { O.told.content → OnOk result (AreGood
+        (O.view files.old.outside).reads (all_required (map entry_of segments.now))) }
+    ensures faults { BodiesFaults O.Directory files.old.outside files.new.outside
+        (all_required (map entry_of segments.now)) result }
+    ensures frame { KeepsFiles (OnlyReads O.told) O.view files.old files.new }
+{
+    let mut readers = Vec::new(alloc);
+    for segment in segments {
+        let reader = read_segment(alloc, files, segment.segment_id, segment.live())?;
+        readers.push(reader)?;
+    }
+    Ok(readers)
+}
+
+// The commit that `meta.json` means with the bodies of its files, under this number, as they read now.
+fn read_snapshot<O: Outside>(
+    alloc: Global,
+    files: &mut StoreFiles<O>,
+    generation: u64,
+) -> Result<Snapshot, TantivyError>
+    ensures shown { O.told.content → (s : State)
+        → FilesHold O.Directory files.old s → IsWhole s
+        → IfOk result (λ shown. (shown ≡ snapshot_in s generation) × CanRead s) }
+    ensures faults { CommitFaults O.Directory files.old files.new result }
+    ensures frame { KeepsFiles (OnlyReads O.told) O.view files.old files.new }
+{
+    let meta = files.load_untracked_metas(alloc)?;
+    let segments = read_segments(alloc, files, meta.segments.as_slice())?;
+    let payload = text_of(meta.payload);
+    Ok(Snapshot::new(generation, meta.opstamp, payload, segments))
+}
+
+/// The commit that `meta.json` means with the bodies of its files, under this number. All is read while
+/// the meta lock is held.
+pub(crate) fn load<O: Outside>(
+    alloc: Global,
+    files: &mut StoreFiles<O>,
+    generation: u64,
+) -> Result<Snapshot, TantivyError>
+    ensures shown { O.told.content → (s : State)
+        → FilesHold O.Directory files.old s → IsWhole s
+        → IfOk result (λ shown. (shown ≡ snapshot_in s generation) × CanRead s) }
+    ensures faults { LoadFaults O.Directory files.old files.new result }
+    ensures frame { KeepsFiles (OnlyReads O.told) O.view files.old files.new }
+{
+    let lock = files.acquire_lock(&meta_lock())?;
+    let shown = read_snapshot(alloc, files, generation);
+    files.release(lock);
+    shown
+}

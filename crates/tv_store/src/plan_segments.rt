@@ -1,0 +1,110 @@
+//! What is to be done for the events that change which segments are live, or which of their documents.
+ghost use Rattle.std.specs.Prelude.{◌≡◌, codes, IfErr, IfOk};
+ghost use Rattle.tv_machine.specs.declared.event.Event.TheVariants as events;
+ghost use Rattle.tv_store.specs.Kept.{kept_of};
+ghost use Rattle.tv_store.specs.Plans.{Plans, PlanCause};
+
+use crate::action::{Action, Change};
+use crate::catalog::Catalog;
+use crate::delete_events::{deletes_line, former_name};
+use crate::files::StoreFiles;
+use crate::names::{file_of, names_of};
+use crate::opening::opening_line;
+use crate::plan::{Planned, refusal};
+use std::alloc::Global;
+use tv_base::TantivyError;
+use tv_directory::Outside;
+use tv_formats::{Memory, Opstamp, SegmentComponent, SegmentId};
+use tv_machine::Answer;
+
+// The line of a segment that is live no more.
+fn released_line(alloc: Global) -> Result<Answer, Memory>
+    ensures { IfOk result (λ answer. answer ≡ codes "released") }
+{
+    Answer::new(alloc, "released")
+}
+
+/// So many documents of a live segment are deleted, and an open file of its former deletes is left.
+pub(crate) fn plan_deletes<'a, O: Outside>(
+    alloc: Global,
+    catalog: &Catalog,
+    files: &StoreFiles<O>,
+    id: SegmentId,
+    n: u32,
+) -> Result<Planned<'a>, TantivyError>
+    ensures plans { IfOk result (Plans (kept_of catalog.now files.now) (events.Deletes id n)) }
+    ensures cause { IfErr result (PlanCause (kept_of catalog.now files.now) (events.Deletes id n)) }
+{
+    let Some(segment) = catalog.live_segment(id) else {
+        let refused = refusal(alloc, "unknown-segment")?;
+        return Ok(refused);
+    };
+    if segment.max_doc < n {
+        let refused = refusal(alloc, "wrong-docs")?;
+        return Ok(refused);
+    }
+    if catalog.next_opstamp() == Opstamp::MAX {
+        let refused = refusal(alloc, "stamps-spent")?;
+        return Ok(refused);
+    }
+    let deletes = Some(catalog.next_deletes(n));
+    let name = file_of(alloc, id, deletes, SegmentComponent::Delete)?;
+    if files.is_held(&name) {
+        let refused = refusal(alloc, "leaving")?;
+        return Ok(refused);
+    }
+    if catalog.is_name_in_use(files.managed(), id, &name)? {
+        let refused = refusal(alloc, "name-in-use")?;
+        return Ok(refused);
+    }
+    let names = former_name(alloc, id, segment)?;
+    let answer = deletes_line(alloc, id, n, catalog.next_opstamp())?;
+    Ok(Planned {
+        action: Action::Leave(names),
+        change: Change::Deletes(id, segment, n),
+        line: answer.into_bytes(),
+    })
+}
+
+/// A live segment is live no more, and its open files are left.
+pub(crate) fn plan_release<'a, O: Outside>(
+    alloc: Global,
+    catalog: &Catalog,
+    files: &StoreFiles<O>,
+    id: SegmentId,
+) -> Result<Planned<'a>, TantivyError>
+    ensures plans { IfOk result (Plans (kept_of catalog.now files.now)
+        (events.ReleaseSegment id)) }
+    ensures cause { IfErr result (PlanCause (kept_of catalog.now files.now)
+        (events.ReleaseSegment id)) }
+{
+    let Some(segment) = catalog.live_segment(id) else {
+        let refused = refusal(alloc, "unknown-segment")?;
+        return Ok(refused);
+    };
+    let names = names_of(alloc, id, segment)?;
+    let answer = released_line(alloc)?;
+    Ok(Planned {
+        action: Action::Leave(names),
+        change: Change::Release(id),
+        line: answer.into_bytes(),
+    })
+}
+
+/// The index is opened again: open files are left, nobody reads, and no collection is unfinished.
+pub(crate) fn plan_reopen<'a, O: Outside>(
+    alloc: Global,
+    catalog: &Catalog,
+    files: &StoreFiles<O>,
+) -> Result<Planned<'a>, TantivyError>
+    ensures plans { IfOk result (Plans (kept_of catalog.now files.now) events.Reopen) }
+    ensures cause { IfErr result (PlanCause (kept_of catalog.now files.now) events.Reopen) }
+{
+    let segments = catalog.committed()?;
+    let answer = opening_line(alloc, catalog.commit())?;
+    Ok(Planned {
+        action: Action::Reopen,
+        change: Change::Reopen(segments),
+        line: answer.into_bytes(),
+    })
+}
